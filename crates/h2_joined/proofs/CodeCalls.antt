@@ -1,5 +1,5 @@
 -- Calls of an end are acts of two joined ends.
-use Rattle.std.proofs.Common.{◌≡◌, ℕ, Result, false, refl, sym, subst}
+use Rattle.std.proofs.Common.{◌≡◌, ℕ, Result, refl, sym, subst}
 use Rattle.h2_log.specs.Acts.{Act, Answer, IsTypedAct}
 use Rattle.h2_log.specs.LogCalls.{with_call}
 use Rattle.h2_ends.specs.declared.refusal.EndRefusal.{EndRefusal}
@@ -22,13 +22,12 @@ answered_as side old new doing one other same acts =
     subst (λ (answer : Acted). MakesAct old (made side doing answer) new) (sym same) acts
 
 pub pump_acts : (side : Side) (old new : Joined) (result : Result ℕ EndRefusal) (answer : Acted)
-    → answer ≡ acted_by acted.Count result → old.stopped ≡ false → ChangesEnd side old new
-    → EndPumps (end_at side old) result (end_at side new)
+    → answer ≡ acted_by acted.Count result
+    → ChangesEnd side old new → EndPumps (end_at side old) result (end_at side new)
     → MakesAct old (made side Pumps answer) new
-pump_acts side old new result answer same goes changes does =
+pump_acts side old new result answer same changes does =
     answered_as side old new Pumps answer _ same
-    (acts_on_end side old new Pumps (acted_by acted.Count result) goes
-    (λ stops. let no = stops.1 in cc) changes
+    (acts_on_end side old new Pumps (acted_by acted.Count result) changes
     (λ values one other represents.
     let (after, may, now) = does values one.happened represents in
     let says = pumped_says one.happened result after may in
@@ -41,13 +40,12 @@ pump_acts side old new result answer same goes changes does =
     }))
 
 pub release_acts : (side : Side) (old new : Joined) (result : Result (Unit {0}) EndRefusal)
-    (answer : Acted) → answer ≡ acted_by (λ done. acted.Done) result → old.stopped ≡ false
+    (answer : Acted) → answer ≡ acted_by (λ done. acted.Done) result
     → ChangesEnd side old new → EndReleases (end_at side old) result (end_at side new)
     → MakesAct old (made side ReleasesAll answer) new
-release_acts side old new result answer same goes changes does =
+release_acts side old new result answer same changes does =
     answered_as side old new ReleasesAll answer _ same
-    (acts_on_end side old new ReleasesAll (acted_by (λ done. acted.Done) result) goes
-    (λ stops. let no = stops.1 in cc) changes
+    (acts_on_end side old new ReleasesAll (acted_by (λ done. acted.Done) result) changes
     (λ values one other represents.
     let (after, may, now) = does values one.happened represents in
     let says = released_says one.happened result after may in
@@ -60,13 +58,12 @@ release_acts side old new result answer same goes changes does =
     }))
 
 pub call_acts : (side : Side) (old new : Joined) (act : Act) (answered : Answer) (answer : Acted)
-    → answer ≡ acted_as answered → IsCall act → IsTypedAct act → old.stopped ≡ false
+    → answer ≡ acted_as answered → IsCall act → IsTypedAct act
     → ChangesEnd side old new → EndAnswers (end_at side old) act answered (end_at side new)
     → MakesAct old (made side (Calls act) answer) new
-call_acts side old new act answered answer same is typed goes changes does =
+call_acts side old new act answered answer same is typed changes does =
     answered_as side old new (Calls act) answer _ same
-    (acts_on_end side old new (Calls act) (acted_as answered) goes
-    (λ stops. let no = stops.1 in cc) changes
+    (acts_on_end side old new (Calls act) (acted_as answered) changes
     (λ values one other represents.
     let (may, now) = does values one.happened represents in
     record {

@@ -1,5 +1,5 @@
 -- A request and a response are acts of two joined ends.
-use Rattle.std.proofs.Common.{◌≡◌, ℕ, ◌<◌, ◌^◌, Ok, Err, false}
+use Rattle.std.proofs.Common.{◌≡◌, ℕ, ◌<◌, ◌^◌, Ok, Err}
 use Rattle.hpack.specs.Written.{AreOctets}
 use Rattle.h2_message.specs.declared.message.Message.{Message}
 use Rattle.h2_message.specs.Messages.{SentMessage}
@@ -16,13 +16,12 @@ use Rattle.h2_joined.proofs.KeptEnds.{request_refused, respond_refused, request_
 use Rattle.h2_joined.proofs.KeptEnds.{respond_accepted}
 
 pub request_is_refused : (old new : Joined) (message : SentMessage) (back : Message)
-    (refusal : EndRefusal) → old.stopped ≡ false
+    (refusal : EndRefusal)
     → ChangesEnd Client old new → AreOctets message.head
     → EndRequests old.client.end message (Err (back, refusal)) new.client.end
     → MakesAct old (made Client (Requests message) (acted.Refused refusal)) new
-request_is_refused old new message back refusal goes changes typed does =
-    acts_on_end Client old new (Requests message) (acted.Refused refusal) goes
-    (λ stops. let no = stops.1 in cc) changes
+request_is_refused old new message back refusal changes typed does =
+    acts_on_end Client old new (Requests message) (acted.Refused refusal) changes
     (λ values one other represents.
     let (after, may, now) = does.1 values one.happened represents in
     let says = request_refused one.happened message refusal after may in
@@ -35,13 +34,12 @@ request_is_refused old new message back refusal goes changes typed does =
     })
 
 pub request_is_accepted : (old new : Joined) (message : SentMessage) (id : ℕ)
-    (accepted : Accepted) → old.stopped ≡ false → AcceptsAt Client old new accepted
+    (accepted : Accepted) → AcceptsAt Client old new accepted
     → accepted_value accepted ≡ (id, message) → AreOctets message.head
     → EndRequests old.client.end message (Ok id) new.client.end
     → MakesAct old (made Client (Requests message) (acted.Id id)) new
-request_is_accepted old new message id accepted goes accepts is typed does =
-    acts_accepting Client old new (Requests message) (acted.Id id) accepted goes
-    (λ stops. let no = stops.1 in cc) accepts
+request_is_accepted old new message id accepted accepts is typed does =
+    acts_accepting Client old new (Requests message) (acted.Id id) accepted accepts
     (λ values one other represents.
     let (after, may, now) = does.1 values one.happened represents in
     let says = request_accepted one.happened message id after may in
@@ -54,13 +52,12 @@ request_is_accepted old new message id accepted goes accepts is typed does =
     })
 
 pub respond_is_refused : (old new : Joined) (id : ℕ) (message : SentMessage) (back : Message)
-    (refusal : EndRefusal) → old.stopped ≡ false
+    (refusal : EndRefusal)
     → ChangesEnd Server old new → id < 2 ^ 32 → AreOctets message.head
     → EndResponds old.server.end id message (Err (back, refusal)) new.server.end
     → MakesAct old (made Server (Responds id message) (acted.Refused refusal)) new
-respond_is_refused old new id message back refusal goes changes fits typed does =
-    acts_on_end Server old new (Responds id message) (acted.Refused refusal) goes
-    (λ stops. let no = stops.1 in cc) changes
+respond_is_refused old new id message back refusal changes fits typed does =
+    acts_on_end Server old new (Responds id message) (acted.Refused refusal) changes
     (λ values one other represents.
     let (after, may, now) = does.1 values one.happened represents in
     let says = respond_refused one.happened id message refusal after may in
@@ -73,13 +70,12 @@ respond_is_refused old new id message back refusal goes changes fits typed does 
     })
 
 pub respond_is_accepted : (old new : Joined) (id : ℕ) (message : SentMessage) (done : Unit {0})
-    (accepted : Accepted) → old.stopped ≡ false → AcceptsAt Server old new accepted
+    (accepted : Accepted) → AcceptsAt Server old new accepted
     → accepted_value accepted ≡ (id, message) → id < 2 ^ 32 → AreOctets message.head
     → EndResponds old.server.end id message (Ok done) new.server.end
     → MakesAct old (made Server (Responds id message) acted.Done) new
-respond_is_accepted old new id message done accepted goes accepts is fits typed does =
-    acts_accepting Server old new (Responds id message) acted.Done accepted goes
-    (λ stops. let no = stops.1 in cc) accepts
+respond_is_accepted old new id message done accepted accepts is fits typed does =
+    acts_accepting Server old new (Responds id message) acted.Done accepted accepts
     (λ values one other represents.
     let (after, may, now) = does.1 values one.happened represents in
     let says = respond_accepted one.happened id message done after may in

@@ -1,7 +1,7 @@
 -- Octets of an output that are put on a pipe.
 use Rattle.std.proofs.Common.{◌≡◌, ℕ, ◌+◌, ◌<◌, ◌^◌, List, [], ◌++◌, take, drop}
 use Rattle.std.proofs.Common.{Result, Ok, Err, IfOk, refl, sym, ap, ◌∙◌, subst, append_assoc}
-use Rattle.std.proofs.Common.{false, append-nil, arith}
+use Rattle.std.proofs.Common.{append-nil, arith}
 use Rattle.std.specs.Result.{OnErr}
 use Rattle.std.proofs.lemmas.List.{length-take, drop_all}
 use Rattle.h2_log.specs.declared.refusal.Refusal.{Refusal}
@@ -18,8 +18,7 @@ use Rattle.h2_joined.specs.declared.pipe.Pipe.{Pipe}
 use Rattle.h2_joined.specs.declared.joined.Joined.{Joined}
 use Rattle.h2_joined.specs.Joints.{Moves, acted_as, moves, with_answer, with_given}
 use Rattle.h2_joined.specs.Kept.{HoldsOctets, MakesAct, made, end_at, kept_of, other_side}
-use Rattle.h2_joined.proofs.KeptActs.{acts_by, goes_on_after, keeps_same, same_kept}
-use Rattle.h2_joined.proofs.KeptStops.{keeps_also}
+use Rattle.h2_joined.proofs.KeptActs.{acts_by, keeps_same, same_kept}
 
 -- More octets are on a pipe.
 pub record PipesMore (old new : Pipe) (more : List ℕ) : Type 0 where
@@ -48,7 +47,8 @@ pub record MovesAt (side : Side) (old : Joined) (count : ℕ) (result : Result �
   pub handed : (kept_of (other_side side) new).handed ≡ (kept_of (other_side side) old).handed
   pub used : (kept_of (other_side side) new).incoming.used
       ≡ (kept_of (other_side side) old).incoming.used
-  pub stopped : new.stopped ≡ old.stopped
+  pub unfinished : (kept_of (other_side side) new).unfinished
+      ≡ (kept_of (other_side side) old).unfinished
   pub gives : IfOk result (λ given. GivesOut (end_at side old).conn count given
       (kept_of (other_side side) old).incoming.octets.items
       (kept_of (other_side side) new).incoming.octets.items)
@@ -92,15 +92,13 @@ moved values side old new count one (Err refusal) at represents =
 
 pub moves_acts : (side : Side) (old new : Joined) (count : ℕ) (result : Result ℕ Refusal)
     (answer : Acted) → answer ≡ acted_as (answer_by (λ given. Count given) result)
-    → count < 2 ^ 64 → old.stopped ≡ false → MovesAt side old count result new
+    → count < 2 ^ 64 → MovesAt side old count result new
     → MakesAct old (made side (Moves count) answer) new
 unfolding IsTypedAct
-moves_acts side old new count result answer same fits goes at =
+moves_acts side old new count result answer same fits at =
     let answered = answer_by (λ given. Count given) result in
     subst (λ (a : Acted). MakesAct old (made side (Moves count) a) new) (sym same)
-    (acts_by side old new (Moves count) (acted_as answered) at.other_end goes
-    (goes_on_after old new (Moves count) (acted_as answered) goes at.stopped
-    (λ stops. let no = stops.1 in cc))
+    (acts_by side old new (Moves count) (acted_as answered) at.other_end
     (λ values one other represents keeps other_keeps.
     let (may, now) = at.answers values one.happened represents in
     let ours = kept_of side old in
@@ -111,17 +109,16 @@ moves_acts side old new count result answer same fits goes at =
     (record {
       incoming = refl;
       accepted = ap (λ a. a.items) at.accepted;
-      handed = ap (λ h. h.items) at.handed;
-    }) refl refl refl in
+      handed = at.handed;
+      unfinished = at.unfinished;
+    }) refl refl refl refl in
     record {
       new_one = with_answer one (PutOut count) answered;
       new_other = with_given other one (PutOut count) answered;
       may = moves count answered fits may;
       represents = now;
-      kept = keeps_also (kept_of side new) (with_answer one (PutOut count) answered)
-          (λ no. absurd no)
-          (keeps_same ours (kept_of side new) one (with_answer one (PutOut count) answered) keeps
-          (same_kept ours (kept_of side new) at.kept) refl refl refl);
+      kept = keeps_same ours (kept_of side new) one (with_answer one (PutOut count) answered) keeps
+          (same_kept ours (kept_of side new) at.kept) refl refl refl refl;
       happened = refl;
       other_kept = record {
         incoming = holds_more theirs.incoming after.incoming other.incoming _
@@ -129,5 +126,6 @@ moves_acts side old new count result answer same fits goes at =
             other_keeps.incoming;
         accepted = stays.accepted;
         handed = stays.handed;
+        unfinished = stays.unfinished;
       };
     }))

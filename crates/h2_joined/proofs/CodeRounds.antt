@@ -1,23 +1,18 @@
 -- Octets that are handed to `take` again and again.
-use Rattle.std.proofs.Common.{◌≡◌, ℕ, suc, ◌+◌, ◌≤◌, ◌<◌, List, length, drop, true, false}
+use Rattle.std.proofs.Common.{◌≡◌, ℕ, suc, ◌+◌, ◌≤◌, ◌<◌, List, length, drop}
 use Rattle.std.proofs.Common.{refl, sym, ◌∙◌, subst, arith}
 use Rattle.std.proofs.lemmas.List.{drop-drop, length-drop}
 use Rattle.h2_frame.specs.declared.code.Code.{Code}
 use Rattle.h2_log.specs.Acts.{Values}
-use Rattle.h2_ends.specs.declared.end.End.{End}
 use Rattle.h2_ends.specs.Ends.{EndLog}
-use Rattle.h2_ends.specs.Represents.{EndRepresents}
 use Rattle.h2_joined.specs.declared.act.Side.{Side}
 use Rattle.h2_joined.specs.declared.octets.Next.TheVariants as nexts
 use Rattle.h2_joined.specs.declared.octets.Delivered.TheVariants as delivered
-use Rattle.h2_joined.specs.declared.kept.Kept.{Kept}
 use Rattle.h2_joined.specs.declared.joined.Joined.{Joined}
 use Rattle.h2_joined.specs.Joints.{Delivery, IsDelivered, Whole, Fails, Stops, is_whole, goes_on}
-use Rattle.h2_joined.specs.Joints.{fails, stops, no_call_is_left, most_calls}
-use Rattle.h2_joined.specs.Kept.{KeepsHanded, kept_of}
+use Rattle.h2_joined.specs.Joints.{fails, stops, most_calls}
 use Rattle.h2_joined.specs.Delivering.{ChangesOnly, IsKeptAt, TakesNext, TakesOctets}
-use Rattle.h2_joined.proofs.KeptStops.{handed_also}
-use Rattle.h2_joined.proofs.CodeTakes.{both_only, stopped_there, only_stops, stops_only}
+use Rattle.h2_joined.proofs.CodeTakes.{both_only}
 
 -- So many octets were delivered so far, by so many calls: the rest goes on from there.
 pub record TakesSome (values : Values) (side : Side) (end : EndLog) (octets : List ℕ)
@@ -33,18 +28,22 @@ pub record TakesSome (values : Values) (side : Side) (end : EndLog) (octets : Li
 pub record TakesSoFar (side : Side) (old : Joined) (octets : List ℕ) (calls taken : ℕ)
     (now : Joined) : Type 0 where
   pub within : taken ≤ length octets
-  pub goes : now.stopped ≡ false
   pub only : ChangesOnly side old now
   pub takes : (values : Values) (end : EndLog) → IsKeptAt values side old end
       → TakesSome values side end octets calls taken now
 
-pub takes_first : (side : Side) (old : Joined) (octets : List ℕ) → old.stopped ≡ false
+pub takes_first : (side : Side) (old : Joined) (octets : List ℕ)
     → TakesSoFar side old octets 0 0 old
-takes_first side old octets goes =
+takes_first side old octets =
     record {
       within = omega arith;
-      goes = goes;
-      only = record { other_end = refl; other_kept = refl; accepted = refl; incoming = refl };
+      only = record {
+        other_end = refl;
+        other_kept = refl;
+        accepted = refl;
+        incoming = refl;
+        unfinished = refl;
+      };
       takes = λ values end keeps.
           record {
             between = end;
@@ -64,7 +63,6 @@ module _ (side : Side) (old now new : Joined) (octets : List ℕ) (calls taken :
       let left = length-drop taken octets in
       record {
         within = omega (arith, sofar.within, next.within, left);
-        goes = next.stops;
         only = both_only side old now new sofar.only next.only;
         takes = λ values end keeps.
             let some = sofar.takes values end keeps in
@@ -87,7 +85,6 @@ module _ (side : Side) (old now new : Joined) (octets : List ℕ) (calls taken :
       record {
         within = tt;
         only = both_only side old now new sofar.only next.only;
-        stops = next.stops;
         takes = λ values end keeps.
             let some = sofar.takes values end keeps in
             let more = next.takes values some.between some.kept in
@@ -107,7 +104,6 @@ module _ (side : Side) (old now new : Joined) (octets : List ℕ) (calls taken :
       record {
         within = tt;
         only = both_only side old now new sofar.only next.only;
-        stops = next.stops;
         takes = λ values end keeps.
             let some = sofar.takes values end keeps in
             let more = next.takes values some.between some.kept in
@@ -120,54 +116,44 @@ module _ (side : Side) (old now new : Joined) (octets : List ℕ) (calls taken :
             };
       }
 
-  pub takes_stopped : (used : ℕ)
-      → TakesNext side now (drop taken octets) (nexts.Stopped used) new
-      → TakesOctets side old octets (delivered.Stopped (taken + used)) new
-  takes_stopped used next =
-      let rest = drop-drop used taken octets in
-      let left = length-drop taken octets in
-      record {
-        within = omega (arith, sofar.within, next.within, left);
-        only = both_only side old now new sofar.only next.only;
-        stops = next.stops;
-        takes = λ values end keeps.
-            let some = sofar.takes values end keeps in
-            let more = next.takes values some.between some.kept in
-            let (handed, may) = more.goes_on in
-            record {
-              after = more.after;
-              delivers = subst (λ (o : List ℕ). IsDelivered 0 end octets (Stops o) more.after)
-                  rest (some.delivers (Stops (drop used (drop taken octets))) more.after
-                  (stops calls (drop taken octets) used handed few may));
-              accepted = more.accepted ∙ some.accepted;
-              kept = more.kept;
-            };
-      }
+-- There is no room for what the next call may hand out.
+pub takes_stopped : (side : Side) (old now new : Joined) (octets : List ℕ) (calls taken : ℕ)
+    → TakesSoFar side old octets calls taken now
+    → TakesNext side now (drop taken octets) nexts.Stopped new
+    → TakesOctets side old octets (delivered.Stopped taken) new
+takes_stopped side old now new octets calls taken sofar next =
+    record {
+      within = sofar.within;
+      only = both_only side old now new sofar.only next.only;
+      takes = λ values end keeps.
+          let some = sofar.takes values end keeps in
+          let more = next.takes values some.between some.kept in
+          record {
+            after = more.after;
+            delivers = subst (λ (after : EndLog).
+                IsDelivered 0 end octets (Stops (drop taken octets)) after) (sym more.goes_on)
+                (some.delivers (Stops (drop taken octets)) some.between
+                (stops calls (drop taken octets)));
+            accepted = more.accepted ∙ some.accepted;
+            kept = more.kept;
+          };
+    }
 
 -- No call is left.
 pub takes_no_more : (side : Side) (old now : Joined) (octets : List ℕ) (calls taken : ℕ)
-    → TakesSoFar side old octets calls taken now → calls ≡ most_calls
-    → TakesOctets side old octets (delivered.Stopped taken) (stopped_there now)
-takes_no_more side old now octets calls taken sofar all =
-    let only = only_stops side now in
+    → TakesSoFar side old octets calls taken now
+    → TakesOctets side old octets (delivered.Stopped taken) now
+takes_no_more side old now octets calls taken sofar =
     record {
       within = sofar.within;
-      only = both_only side old now (stopped_there now) sofar.only (stops_only side now);
-      stops = refl;
+      only = sofar.only;
       takes = λ values end keeps.
           let some = sofar.takes values end keeps in
           record {
             after = some.between;
             delivers = some.delivers (Stops (drop taken octets)) some.between
-                (rw all (no_call_is_left (drop taken octets)));
+                (stops calls (drop taken octets));
             accepted = some.accepted;
-            kept = record {
-              represents = subst (λ (e : End). EndRepresents values e some.between)
-                  (sym only.one_end) some.kept.represents;
-              handed = subst (λ (k : Kept). KeepsHanded (true ≡ true) k.handed.items
-                  some.between.handed) (sym only.kept) (handed_also
-                  (kept_of side now).handed.items some.between.handed (λ stopped. refl)
-                  some.kept.handed);
-            };
+            kept = some.kept;
           };
     }

@@ -1,5 +1,5 @@
 -- What delivering octets makes of an end: call after call of `take`, until all octets are used and
--- nothing is handed out, the connection has failed, or what was handed out cannot be kept.
+-- nothing is handed out, the connection has failed, or there is no room before a call.
 use Rattle.std.proofs.Common.{◌≡◌, ℕ, suc, List, ◌++◌, drop, length, Option}
 use Rattle.std.proofs.Common.{Some, None, refl, subst}
 use Rattle.std.proofs.Math.Seq.{drop-length}
@@ -66,7 +66,4 @@ delivery_leads around _ end _ later _ after order is
     (take_leads around end octets later (EndTook count handed) between order is may) delivered
 delivery_leads around _ end _ later _ after order is (joints.fails calls octets code few may) =
     take_leads around end octets later (EndFailed code) after order is may
-delivery_leads around _ end _ later _ after order is
-    (joints.stops calls octets count handed few may) =
-    take_leads around end octets later (EndTook count (Some handed)) after order is may
-delivery_leads around _ end _ later _ after order is (joints.no_call_is_left octets) = is
+delivery_leads around _ end _ later _ _ order is (joints.stops calls octets) = is

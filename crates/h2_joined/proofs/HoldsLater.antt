@@ -1,5 +1,6 @@
 -- What holds of two joined ends is kept where octets are delivered.
-use Rattle.std.proofs.Common.{ℕ, List, [], ◌∷◌, ◌++◌, length, take, drop, refl, ap}
+use Rattle.std.proofs.Common.{ℕ, Bool, true, false, List, [], ◌∷◌, ◌++◌, length, take, drop}
+use Rattle.std.proofs.Common.{ap}
 use Rattle.std.proofs.lemmas.List.{take-append-drop}
 use Rattle.std.proofs.lemmas.List.Elements.{Contains-append_right}
 use Rattle.h2_log.specs.Acts.{Values}
@@ -32,6 +33,12 @@ abbrev pub left_of_delivery : Delivery → List ℕ
 left_of_delivery Whole = []
 left_of_delivery (Fails code) = []
 left_of_delivery (Stops unused) = unused
+
+-- whether it has stopped
+abbrev pub is_unfinished : Delivery → Bool
+is_unfinished Whole = false
+is_unfinished (Fails code) = false
+is_unfinished (Stops unused) = true
 
 -- What holds of an end holds with one act more.
 end_holds_more : (act : Made) (made : List Made) (side : Side) (end : EndLog)
@@ -105,7 +112,11 @@ client_made : (client_values server_values : Values) (made : List Made)
     → DeliversIn (client_around client_values server_values made server) later delivery after
     → JointHolds client_values server_values
     (delivered_at_client count (answer_of_delivery octets delivery) ∷ made)
-    (record { happened = after; incoming = left_of_delivery delivery ++ later }) server
+    (record {
+      happened = after;
+      incoming = left_of_delivery delivery ++ later;
+      unfinished = is_unfinished delivery;
+    }) server
 client_made client_values server_values made client server count octets later Whole after holds
     order leads =
     record {
@@ -120,7 +131,7 @@ client_made client_values server_values made client server count octets later Wh
         server_holds = end_holds_more _ made Server server.happened
             (holds.calm had.1).server_holds;
         accepted = (leads.0.calm had.1).accepted;
-        all_reported = leads.1;
+        all_reported = λ finished. leads.1;
       };
     }
 client_made client_values server_values made client server count octets later (Fails code) after
@@ -142,7 +153,14 @@ client_made client_values server_values made client server count octets later (S
       pair = leads.pair.0;
       client_order = order;
       server_order = holds.server_order;
-      calm = λ had. absurd (had.0.kept Client count refl);
+      calm = λ had. record {
+        undisturbed = leads.pair.1 had.1;
+        client_holds = end_holds_more _ made Client after (leads.calm had.1).holds;
+        server_holds = end_holds_more _ made Server server.happened
+            (holds.calm had.1).server_holds;
+        accepted = (leads.calm had.1).accepted;
+        all_reported = λ finished. absurd (cc);
+      };
     }
 
 -- So is one at the server.
@@ -153,7 +171,11 @@ server_made : (client_values server_values : Values) (made : List Made)
     → DeliversIn (server_around client_values server_values made client) later delivery after
     → JointHolds client_values server_values
     (delivered_at_server count (answer_of_delivery octets delivery) ∷ made) client
-    (record { happened = after; incoming = left_of_delivery delivery ++ later })
+    (record {
+      happened = after;
+      incoming = left_of_delivery delivery ++ later;
+      unfinished = is_unfinished delivery;
+    })
 server_made client_values server_values made client server count octets later Whole after holds
     order leads =
     record {
@@ -190,7 +212,14 @@ server_made client_values server_values made client server count octets later (S
       pair = leads.pair.0;
       client_order = holds.client_order;
       server_order = order;
-      calm = λ had. absurd (had.0.kept Server count refl);
+      calm = λ had. record {
+        undisturbed = leads.pair.1 had.1;
+        client_holds = end_holds_more _ made Client client.happened
+            (holds.calm had.1).client_holds;
+        server_holds = end_holds_more _ made Server after (leads.calm had.1).holds;
+        accepted = (leads.calm had.1).accepted;
+        all_reported = (holds.calm had.1).all_reported;
+      };
     }
 
 -- A delivery at the client keeps what holds.
@@ -204,6 +233,7 @@ pub client_delivered : (client_values server_values : Values) (made : List Made)
     (record {
       happened = after;
       incoming = left_of_delivery delivery ++ drop count client.incoming;
+      unfinished = is_unfinished delivery;
     })
     server
 client_delivered client_values server_values made client server count delivery after holds delivered
@@ -226,6 +256,7 @@ pub server_delivered : (client_values server_values : Values) (made : List Made)
     (record {
       happened = after;
       incoming = left_of_delivery delivery ++ drop count server.incoming;
+      unfinished = is_unfinished delivery;
     })
 server_delivered client_values server_values made client server count delivery after holds delivered
     order =

@@ -23,7 +23,7 @@ use Rattle.h2_joined.specs.Joints.{Doing, Calls, JointEnd, with_happened, with_a
 use Rattle.h2_joined.specs.Joints.{acted_as, IsCall, Whole, Fails, Stops, MayDo, requests, responds}
 use Rattle.h2_joined.specs.Joints.{pumps, releases_all, calls, moves, delivers, delivery_fails}
 use Rattle.h2_joined.specs.Joints.{has_failed, delivery_stops, KeepsOrder, Made}
-use Rattle.h2_joined.specs.Joints.{no_copy_of_a_request, no_copy_of_a_response, stands_still}
+use Rattle.h2_joined.specs.Joints.{no_copy_of_a_request, no_copy_of_a_response}
 use Rattle.h2_joined.specs.Joints.{IsNextAct, at_client, at_server, continues}
 use Rattle.h2_joined.specs.Joints.{IsJoint, begins, half_of}
 use Rattle.h2_joined.proofs.JointHolds.{JointHolds, EndHolds}
@@ -379,19 +379,16 @@ server_acted client_values server_values made client server _ _ _ _ holds
 next_holds : (client_values server_values : Values) (made : List Made)
     (client server new_client new_server : JointEnd) (act : Made)
     → JointHolds client_values server_values made client server
-    → IsNextAct made client server act new_client new_server
+    → IsNextAct client server act new_client new_server
     → JointHolds client_values server_values (act ∷ made) new_client new_server
 next_holds client_values server_values made client server new_client new_server _ holds
-    (at_client goes_on doing answer may order) =
+    (at_client doing answer may order) =
     client_acted client_values server_values made client server new_client new_server doing answer
     holds may order
 next_holds client_values server_values made client server new_client new_server _ holds
-    (at_server goes_on doing answer may order) =
+    (at_server doing answer may order) =
     server_acted client_values server_values made client server new_client new_server doing answer
     holds may order
-next_holds client_values server_values made client server _ _ _ holds
-    (stands_still stopped side doing) =
-    nothing_done client_values server_values made _ client server holds
 
 -- and whatever acts were made it holds.
 pub joint_holds : (client_values server_values : Values) (made : List Made)

@@ -33,7 +33,8 @@ pub record JointStays (client_values server_values : Values) (made : List Made)
   pub server_lost : List ℕ
   pub pair : IsPair client_values server_values (half_of client client_lost)
       (half_of server server_lost)
-  pub calm : AllHadMemory made → IsCalm pair made client.happened server.happened
+  pub calm : AllHadMemory made
+      → IsCalm pair made client.unfinished client.happened server.happened
 
 -- the end after a call of its connection, where these messages are accepted
 abbrev pub end_called : EndLog → Act → Answer → List (ℕ × SentMessage) → EndLog
@@ -184,7 +185,8 @@ client_called client_values server_values made client server act answer accepted
                 calm.client_holds of_act;
             server_holds = calm.server_holds;
             accepted = well had;
-            all_reported = call_reports_all client.happened.log act answer may calm.all_reported;
+            all_reported = λ finished.
+                call_reports_all client.happened.log act answer may (calm.all_reported finished);
           };
     }
 

@@ -1,5 +1,5 @@
 -- What holds of two joined ends, whatever acts were made.
-use Rattle.std.specs.Prelude.{◌≡◌, ◌≢◌, ℕ, List, Some, None}
+use Rattle.std.specs.Prelude.{◌≡◌, ◌≢◌, ℕ, Bool, false, List, Some, None}
 use Rattle.h2_frame.specs.declared.code.Code.TheVariants.{InternalError}
 use Rattle.std.specs.List.{AllByRecursion, Contains}
 use Rattle.h2_log.specs.Acts.{Values}
@@ -15,13 +15,11 @@ use Rattle.h2_ends.specs.Ends.{tokens_handed}
 use Rattle.h2_joined.specs.declared.act.Side.{Side}
 use Rattle.h2_joined.specs.declared.act.Side.TheVariants.{Client, Server}
 use Rattle.h2_joined.specs.declared.act.Acted.TheVariants.{Failed}
-use Rattle.h2_joined.specs.Joints.{JointEnd, KeepsOrder, Made, stopping, half_of}
+use Rattle.h2_joined.specs.Joints.{JointEnd, KeepsOrder, Made, half_of}
 use Rattle.h2_joined.specs.Headline.{WasResetAt}
 
--- The act is no delivery that has stopped, and no connection has failed in it since memory was
--- refused.
+-- No connection has failed in the act since memory was refused.
 pub record ActHadMemory (made : Made) : Type 0 where
-  pub kept : (side : Side) (count : ℕ) → made ≢ stopping side count
   pub connection : made.acted ≢ Failed InternalError
 
 abbrev pub AllHadMemory : List Made → Type 0
@@ -52,15 +50,16 @@ pub record AcceptWell (client server : EndLog) : Type 0 where
   pub answers : (i : ℕ) (message : SentMessage) → message_for i server.accepted ≡ Some message
       → IsAnswer client i message
 
--- What holds as long as memory was not refused.
+-- What holds as long as memory was not refused to a connection. `unfinished`: whether the last
+-- delivery to the client has stopped, after which a stream may wait to be reported as unprocessed.
 pub record IsCalm {client_values server_values : Values} {client server : Half}
     (pair : IsPair client_values server_values client server) (made : List Made)
-    (at_client at_server : EndLog) : Type 0 where
+    (unfinished : Bool) (at_client at_server : EndLog) : Type 0 where
   pub undisturbed : IsUndisturbed pair
   pub client_holds : EndHolds made Client at_client
   pub server_holds : EndHolds made Server at_server
   pub accepted : AcceptWell at_client at_server
-  pub all_reported : next_unprocessed at_client.log ≡ 0
+  pub all_reported : unfinished ≡ false → next_unprocessed at_client.log ≡ 0
 
 pub record JointHolds (client_values server_values : Values) (made : List Made)
     (client server : JointEnd) : Type 0 where
@@ -70,4 +69,5 @@ pub record JointHolds (client_values server_values : Values) (made : List Made)
       (half_of server server_lost)
   pub client_order : KeepsOrder client.happened
   pub server_order : KeepsOrder server.happened
-  pub calm : AllHadMemory made → IsCalm pair made client.happened server.happened
+  pub calm : AllHadMemory made
+      → IsCalm pair made client.unfinished client.happened server.happened

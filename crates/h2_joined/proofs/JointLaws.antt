@@ -74,7 +74,7 @@ quiet_pair client_values server_values made client server holds had quiet =
         none_owed = quiet.quiet_client.none_owed;
         none_unreturned = quiet.quiet_client.none_unreturned;
       };
-      all_reported = (holds.calm had).all_reported;
+      all_reported = (holds.calm had).all_reported quiet.finished_client;
     }
 
 -- What an unprocessed stream is reported by is no part of a message.

@@ -1,9 +1,8 @@
 -- A connection that has failed stays failed. So where memory was not refused where it counts, it
 -- was not in any act.
-use Rattle.std.proofs.Common.{◌≡◌, ◌≢◌, ℕ, suc, Bool, true, false, if◌then◌else◌, List, ◌∷◌}
+use Rattle.std.proofs.Common.{◌≡◌, ◌≢◌, ℕ, suc, Bool, true, false, if◌then◌else◌, List}
 use Rattle.std.proofs.Common.{take, drop}
 use Rattle.std.proofs.Common.{Option, Some, None, Result, Ok, Err, refl, sym, ap, subst, ◌∙◌}
-use Rattle.std.specs.List.{Contains}
 use Rattle.h2_frame.specs.declared.code.Code.{Code}
 use Rattle.h2_frame.specs.declared.code.Code.TheVariants.{InternalError}
 use Rattle.h2_log.specs.Acts.{Values, Act, Answer, IsTypedAct, Number, Count, Done, OutOfMemory}
@@ -19,7 +18,6 @@ use Rattle.h2_end_laws.specs.Takes.{Took, Failed}
 use Rattle.h2_log.specs.Events.{FieldsEvent}
 use Rattle.h2_message.specs.Messages.{SentMessage}
 use Rattle.h2_pair.specs.Tokens.{is_head_alone}
-use Rattle.h2_pair.proofs.FaultsInvariant.{first_in, later_in}
 use Rattle.h2_ends.specs.declared.refusal.EndRefusal.{EndRefusal}
 use Rattle.h2_ends.specs.Ends.{EndLog, EndAnswer, EndTook, EndFailed}
 use Rattle.h2_ends.specs.EndTakes.{EndMayTake, AnswersRefused, end_with_log, fails, hands_nothing}
@@ -31,9 +29,8 @@ use Rattle.h2_joined.specs.declared.act.Side.TheVariants.{Client, Server}
 use Rattle.h2_joined.specs.declared.act.Acted.{Acted}
 use Rattle.h2_joined.specs.declared.act.Acted.TheVariants as acted
 use Rattle.h2_joined.specs.Joints as joints
-use Rattle.h2_joined.specs.Joints.{Doing, Delivers, JointEnd, Made, Delivery, Whole, Fails, Stops}
-use Rattle.h2_joined.specs.Joints.{IsDelivered, MayDo, IsCall, IsJoint, IsNextAct, HasStopped}
-use Rattle.h2_joined.specs.Joints.{MemorySufficed}
+use Rattle.h2_joined.specs.Joints.{Doing, JointEnd, Made, Delivery, Whole, Fails, Stops}
+use Rattle.h2_joined.specs.Joints.{IsDelivered, MayDo, IsCall, IsJoint, IsNextAct, MemorySufficed}
 use Rattle.h2_joined.specs.Joints.{acted_by, acted_as}
 use Rattle.h2_joined.proofs.JointHolds.{ActHadMemory, AllHadMemory}
 use Rattle.h2_joined.proofs.JointCalls.{IsOrdinary, answers_in_memory}
@@ -109,29 +106,28 @@ respond_keeps code end after id message (Err refusal) may failed =
 -- Where an act is done with an end that has failed, it stays failed,
 act_keeps : (one other new_one new_other : JointEnd) (doing : Doing) (answer : Acted) (code : Code)
     → MayDo one other doing answer new_one new_other
-    → ((count : ℕ) → doing ≡ Delivers count → answer ≢ acted.Memory)
     → HasFailed code one.happened → HasFailed code new_one.happened
-act_keeps one other _ _ _ _ code (joints.requests message result after typed may) goes_on failed =
+act_keeps one other _ _ _ _ code (joints.requests message result after typed may) failed =
     request_keeps code one.happened after message result may failed
-act_keeps one other _ _ _ _ code (joints.responds id message result after small typed may) goes_on
+act_keeps one other _ _ _ _ code (joints.responds id message result after small typed may)
     failed = respond_keeps code one.happened after id message result may failed
-act_keeps one other _ _ _ _ code (joints.pumps result after may) goes_on failed =
+act_keeps one other _ _ _ _ code (joints.pumps result after may) failed =
     holds_by_pump (HasFailed code) (failed_kept code) one.happened after result may failed
-act_keeps one other _ _ _ _ code (joints.releases_all result after may) goes_on failed =
+act_keeps one other _ _ _ _ code (joints.releases_all result after may) failed =
     holds_by_release (HasFailed code) (failed_kept code) one.happened after result may failed
-act_keeps one other _ _ _ _ code (joints.calls act answer call typed may) goes_on failed =
+act_keeps one other _ _ _ _ code (joints.calls act answer call typed may) failed =
     call_stays one.happened.log act answer (λ id c is. absurd (subst IsCall is call)) may ∙ failed
-act_keeps one other _ _ _ _ code (joints.moves count answer typed may) goes_on failed =
+act_keeps one other _ _ _ _ code (joints.moves count answer typed may) failed =
     call_stays one.happened.log (PutOut count) answer (λ id c is. cc) may ∙ failed
-act_keeps one other _ _ _ _ code (joints.delivers count after up delivered) goes_on failed =
+act_keeps one other _ _ _ _ code (joints.delivers count after up delivered) failed =
     absurd (cc)
-act_keeps one other _ _ _ _ code (joints.delivery_fails count fault after up delivered) goes_on
+act_keeps one other _ _ _ _ code (joints.delivery_fails count fault after up delivered)
     failed = absurd (cc)
-act_keeps one other _ _ _ _ code (joints.has_failed count fault is) goes_on failed = failed
-act_keeps one other _ _ _ _ code (joints.delivery_stops count unused after up delivered) goes_on
-    failed = absurd (goes_on count refl refl)
-act_keeps one other _ _ _ _ code (joints.no_copy_of_a_request message) goes_on failed = failed
-act_keeps one other _ _ _ _ code (joints.no_copy_of_a_response id message) goes_on failed = failed
+act_keeps one other _ _ _ _ code (joints.has_failed count fault is) failed = failed
+act_keeps one other _ _ _ _ code (joints.delivery_stops count unused after up delivered)
+    failed = absurd (cc)
+act_keeps one other _ _ _ _ code (joints.no_copy_of_a_request message) failed = failed
+act_keeps one other _ _ _ _ code (joints.no_copy_of_a_response id message) failed = failed
 
 -- and at the other nothing happens.
 other_stays : (one other new_one new_other : JointEnd) (doing : Doing) (answer : Acted)
@@ -202,9 +198,7 @@ delivery_fails _ end after _ _ code
 delivery_fails _ end after _ _ code (joints.fails calls octets fault few may) is =
     let same : EndFailed fault ≡ EndFailed code = cc in
     take_fails end after octets (EndFailed fault) code may same
-delivery_fails _ end after _ _ code (joints.stops calls octets count handed few may) is =
-    absurd (cc)
-delivery_fails _ end after _ _ code (joints.no_call_is_left octets) is = absurd (cc)
+delivery_fails _ end _ _ _ code (joints.stops calls octets) is = absurd (cc)
 
 -- No call answers a failure.
 id_is_none : (result : Result ℕ EndRefusal) (code : Code)
@@ -255,86 +249,48 @@ act_fails one other _ _ _ _ code (joints.delivery_stops count unused after up de
 act_fails one other _ _ _ _ code (joints.no_copy_of_a_request message) is = absurd (cc)
 act_fails one other _ _ _ _ code (joints.no_copy_of_a_response id message) is = absurd (cc)
 
--- an act that was made
-abbrev made_so : Side → Doing → Acted → Made
-made_so side doing answer = record { side = side; doing = doing; acted = answer }
-
--- It is no delivery that has stopped.
-goes_on_by : (side : Side) (doing : Doing) (answer : Acted) (made : List Made)
-    → (HasStopped (made_so side doing answer ∷ made) → ⊥) → (count : ℕ) → doing ≡ Delivers count
-    → answer ≢ acted.Memory
-goes_on_by side doing answer made kept count is memory =
-    kept (
-      side,
-      count,
-      subst (λ (one : Made). Contains (made_so side doing answer ∷ made) one)
-          (ap (λ (d : Doing). made_so side d answer) is
-          ∙ ap (λ (a : Acted). made_so side (Delivers count) a) memory)
-          (first_in (made_so side doing answer) made),
-    )
-
-had_memory_in : (side : Side) (made : List Made) (one other new_one new_other : JointEnd)
-    (doing : Doing) (answer : Acted) → MayDo one other doing answer new_one new_other
-    → (HasStopped (made_so side doing answer ∷ made) → ⊥)
+-- So memory was not refused to the connection in an act after which it has not failed so.
+had_memory_in : (side : Side) (one other new_one new_other : JointEnd) (doing : Doing)
+    (answer : Acted) → MayDo one other doing answer new_one new_other
     → new_one.happened.log.failed ≢ Some InternalError
-    → ActHadMemory (made_so side doing answer)
-had_memory_in side made one other new_one new_other doing answer may kept went_on =
+    → ActHadMemory (record { side = side; doing = doing; acted = answer })
+had_memory_in side one other new_one new_other doing answer may went_on =
     record {
-      kept = λ at count is. kept (
-        at,
-        count,
-        subst (λ (act : Made). Contains (made_so side doing answer ∷ made) act) is
-            (first_in (made_so side doing answer) made),
-      );
       connection = λ is. went_on
           (act_fails one other new_one new_other doing answer InternalError may is);
     }
 
 -- So was it before an act, and in the act.
-had_before : (made : List Made) (client server new_client new_server : JointEnd) (act : Made)
-    → IsNextAct made client server act new_client new_server
-    → MemorySufficed (act ∷ made) new_client new_server
-    → ActHadMemory act × MemorySufficed made client server
-had_before made client server new_client new_server _
-    (joints.at_client goes_on doing answer may order) had = (
-      had_memory_in Client made client server new_client new_server doing answer may had.kept
-          had.client_went_on,
-      record {
-        kept = goes_on;
-        client_went_on = λ failed. had.client_went_on (act_keeps client server new_client new_server
-            doing answer InternalError may (goes_on_by Client doing answer made had.kept) failed);
-        server_went_on = λ failed. had.server_went_on
-            (ap (λ (e : EndLog). e.log.failed)
-            (other_stays client server new_client new_server doing answer may) ∙ failed);
-      },
-    )
-had_before made client server new_client new_server _
-    (joints.at_server goes_on doing answer may order) had = (
-      had_memory_in Server made server client new_server new_client doing answer may had.kept
-          had.server_went_on,
-      record {
-        kept = goes_on;
-        client_went_on = λ failed. had.client_went_on
-            (ap (λ (e : EndLog). e.log.failed)
-            (other_stays server client new_server new_client doing answer may) ∙ failed);
-        server_went_on = λ failed. had.server_went_on (act_keeps server client new_server new_client
-            doing answer InternalError may (goes_on_by Server doing answer made had.kept) failed);
-      },
-    )
-had_before made client server _ _ _ (joints.stands_still stopped side doing) had =
-    let (at, count, here) = stopped in
-    absurd (had.kept (
-      at,
-      count,
-      later_in (made_so side doing acted.Memory) made (joints.stopping at count) here,
-    ))
+had_before : (client server new_client new_server : JointEnd) (act : Made)
+    → IsNextAct client server act new_client new_server
+    → MemorySufficed new_client new_server → ActHadMemory act × MemorySufficed client server
+had_before client server new_client new_server _ (joints.at_client doing answer may order) had = (
+  had_memory_in Client client server new_client new_server doing answer may had.client_went_on,
+  record {
+    client_went_on = λ failed. had.client_went_on (act_keeps client server new_client new_server
+        doing answer InternalError may failed);
+    server_went_on = λ failed. had.server_went_on
+        (ap (λ (e : EndLog). e.log.failed)
+        (other_stays client server new_client new_server doing answer may) ∙ failed);
+  },
+)
+had_before client server new_client new_server _ (joints.at_server doing answer may order) had = (
+  had_memory_in Server server client new_server new_client doing answer may had.server_went_on,
+  record {
+    client_went_on = λ failed. had.client_went_on
+        (ap (λ (e : EndLog). e.log.failed)
+        (other_stays server client new_server new_client doing answer may) ∙ failed);
+    server_went_on = λ failed. had.server_went_on (act_keeps server client new_server new_client
+        doing answer InternalError may failed);
+  },
+)
 
 -- So memory was not refused in any act.
 pub had_memory : (client_values server_values : Values) (made : List Made)
     (client server : JointEnd) → IsJoint client_values server_values made client server
-    → MemorySufficed made client server → AllHadMemory made
+    → MemorySufficed client server → AllHadMemory made
 had_memory client_values server_values _ _ _ (joints.begins client_range server_range) had = tt
 had_memory client_values server_values _ new_client new_server
     (joints.continues {history = made} {client = client} {server = server} is act next) had =
-    let before = had_before made client server new_client new_server act next had in
+    let before = had_before client server new_client new_server act next had in
     (before.0, had_memory client_values server_values made client server is before.1)

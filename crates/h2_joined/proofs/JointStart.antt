@@ -75,6 +75,6 @@ new_ends_hold client_values server_values client_range server_range =
         client_holds = new_holds _ roles.Client client_values;
         server_holds = new_holds _ roles.Server server_values;
         accepted = new_accepted client_values server_values;
-        all_reported = new_reported client_values;
+        all_reported = λ finished. new_reported client_values;
       };
     }

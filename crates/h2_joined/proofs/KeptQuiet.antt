@@ -1,6 +1,6 @@
 -- Two joined ends are quiet where both are, and both pipes are empty.
 use Rattle.std.proofs.Common.{◌≡◌, ℕ, ◌≤◌, ◌<◌, Bool, true, false, List, [], ◌∷◌, length, refl}
-use Rattle.std.proofs.Common.{ap, arith}
+use Rattle.std.proofs.Common.{sym, ap, arith, ◌∙◌}
 use Rattle.std.specs.Prelude.{◌↔◌}
 use Rattle.std.proofs.lemmas.Bool.{both_ways}
 use Rattle.h2_log.specs.Acts.{Values}
@@ -57,6 +57,24 @@ waits_for_server joined to_server counts some client_values server_values made c
           (counts server.incoming is.server_kept.incoming) some quiet.to_server),
     )
 
+-- A delivery to the client has stopped,
+pub stopped_at_client : (joined : Joined) → joined.at_client.unfinished ≡ true
+    → TellsBoth joined false
+stopped_at_client joined stopped client_values server_values made client server is = (
+  λ never. absurd (both_ways false refl never),
+  λ quiet. absurd (both_ways client.unfinished quiet.finished_client
+      (sym is.client_kept.unfinished ∙ stopped)),
+)
+
+-- or one to the server.
+pub stopped_at_server : (joined : Joined) → joined.at_server.unfinished ≡ true
+    → TellsBoth joined false
+stopped_at_server joined stopped client_values server_values made client server is = (
+  λ never. absurd (both_ways false refl never),
+  λ quiet. absurd (both_ways server.unfinished quiet.finished_server
+      (sym is.server_kept.unfinished ∙ stopped)),
+)
+
 pub busy_client : (joined : Joined) (one : Bool) → TellsQuiet joined.client.end one
     → one ≡ false → TellsBoth joined one
 busy_client joined one tells busy client_values server_values made client server is = (
@@ -68,10 +86,11 @@ pub both_quiet : (joined : Joined) (to_client to_server : ℕ) (one other : Bool
     → CountsPipe joined.at_client.incoming to_client
     → CountsPipe joined.at_server.incoming to_server
     → TellsQuiet joined.client.end one → TellsQuiet joined.server.end other
-    → to_client ≤ 0 → to_server ≤ 0 → one ≡ true → TellsBoth joined other
+    → to_client ≤ 0 → to_server ≤ 0 → joined.at_client.unfinished ≡ false
+    → joined.at_server.unfinished ≡ false → one ≡ true → TellsBoth joined other
 both_quiet joined to_client to_server one other counts_client counts_server tells_client
-    tells_server none_client none_server quiet_client client_values server_values made client
-    server is = (
+    tells_server none_client none_server finished_client finished_server quiet_client
+    client_values server_values made client server is = (
       λ quiet. record {
         quiet_client =
             (tells_client client_values client.happened is.client_represents).0 quiet_client;
@@ -80,6 +99,8 @@ both_quiet joined to_client to_server one other counts_client counts_server tell
             (omega (arith, none_client, counts_client client.incoming is.client_kept.incoming));
         to_server = no_octets server.incoming
             (omega (arith, none_server, counts_server server.incoming is.server_kept.incoming));
+        finished_client = sym is.client_kept.unfinished ∙ finished_client;
+        finished_server = sym is.server_kept.unfinished ∙ finished_server;
       },
       λ quiet. (tells_server server_values server.happened is.server_represents).1
           quiet.quiet_server,

@@ -20,7 +20,9 @@ pub mod RunLaws
 pub mod RunHeadline
 pub mod RunActs
 pub mod KeptPipe
-pub mod KeptStops
+pub mod KeptPlaces
+pub mod KeptStore
+pub mod TakenSizes
 pub mod KeptActs
 pub mod KeptEnds
 pub mod KeptQuiet

@@ -1,11 +1,9 @@
 -- A list of acts that is made, act by act.
-use Rattle.std.proofs.Common.{map as each, ◌≡◌, ◌≢◌, inl, inr, ℕ, ◌+◌, ◌<◌, ◌≤◌, List, []}
+use Rattle.std.proofs.Common.{map as each, ◌≡◌, ℕ, ◌+◌, ◌<◌, ◌≤◌, List, []}
 use Rattle.std.proofs.Common.{◌∷◌, ◌++◌, length}
 use Rattle.std.proofs.Common.{take, refl, sym, ap, subst, ◌∙◌, add-one}
 use Rattle.std.proofs.Math.Seq.{take-suc}
 use Rattle.std.specs.Prelude.{reverse}
-use Rattle.std.specs.List.{Contains}
-use Rattle.h2_pair.proofs.FaultsInvariant.{first_or_later, none_in}
 use Rattle.std.specs.Prelude.{get_or}
 use Rattle.std.proofs.lemmas.List.{reverse-append, map-append, take_all}
 use Rattle.h2_log.specs.Acts.{Values}
@@ -13,18 +11,10 @@ use Rattle.h2_joined.specs.declared.act.Side.{Side}
 use Rattle.h2_joined.specs.declared.act.Acted.{Acted}
 use Rattle.h2_joined.specs.declared.act.JointAct.{JointAct}
 use Rattle.h2_joined.specs.declared.joined.Joined.{Joined}
-use Rattle.h2_joined.specs.Joints.{Doing, JointEnd, Made, stopping}
+use Rattle.h2_joined.specs.Joints.{Doing, JointEnd, Made}
 use Rattle.h2_joined.specs.Kept.{MakesAct, JoinedRepresents, made_of}
 use Rattle.h2_joined.specs.Runs.{RunsActs, Runs, GotMemory, act_made, act_value}
 use Rattle.h2_joined.proofs.RunHeadline.{has_headline}
-
--- What is not first is later.
-not_stopped_more : (made : List Made) (one act : Made) → (one ≢ act) → (Contains made act → ⊥)
-    → Contains (one ∷ made) act → ⊥
-not_stopped_more made one act first later here = elim (first_or_later one made act here) [
-  | inl is ↦ first is
-  | inr older ↦ later older
-]
 
 -- None was made yet.
 pub runs_none : (client_values server_values : Values) (joined : Joined)
@@ -38,7 +28,6 @@ runs_none client_values server_values joined client server is = record {
   represents = is;
   acts_are = refl;
   memory = tt;
-  not_stopped = λ stopped. let (side, count, here) = stopped in none_in (stopping side count) here;
 }
 
 -- One act more.
@@ -63,10 +52,6 @@ runs_one client_values server_values acts act answer old new before does memory 
       acts_are = ap (λ (values : List (Side × Doing)). act_value act ∷ values) before.acts_are
           ∙ sym (more_acts acts act);
       memory = (memory, before.memory);
-      not_stopped = λ stopped. let (side, count, here) = stopped in
-          not_stopped_more before.made (made_of act answer) (stopping side count)
-          (λ is. memory.act (ap (λ (one : Made). one.acted) is))
-          (λ older. before.not_stopped (side, count, older)) here;
     }
 
 -- The next act of a list, by its place.

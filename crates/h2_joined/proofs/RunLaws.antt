@@ -5,7 +5,7 @@ use Rattle.h2_log.specs.Acts.{Values}
 use Rattle.h2_pair.specs.Tokens.{IsPrefixOfTokens}
 use Rattle.h2_ends.specs.Ends.{tokens_handed, tokens_said}
 use Rattle.h2_joined.specs.declared.act.Side.TheVariants as sides
-use Rattle.h2_joined.specs.Joints.{JointEnd, Made, IsJoint, HasStopped, MemorySufficed, half_of}
+use Rattle.h2_joined.specs.Joints.{JointEnd, Made, IsJoint, MemorySufficed}
 use Rattle.h2_joined.specs.Headline.{AreQuiet, WasResetIn, ReportsNoFault}
 use Rattle.h2_joined.proofs.JointActs.{joint_holds}
 use Rattle.h2_joined.proofs.JointLaws.{client_faultless, server_faultless}
@@ -29,7 +29,7 @@ prefix_at_client client_values server_values made client server i joint =
 
 pub client_no_fault : (client_values server_values : Values) (made : List Made)
     (client server : JointEnd) → IsJoint client_values server_values made client server
-    → MemorySufficed made client server → ReportsNoFault made client.happened sides.Server
+    → MemorySufficed client server → ReportsNoFault made client.happened sides.Server
 client_no_fault client_values server_values made client server joint had =
     client_faultless client_values server_values made client server
     (joint_holds client_values server_values made client server joint)
@@ -37,40 +37,36 @@ client_no_fault client_values server_values made client server joint had =
 
 pub server_no_fault : (client_values server_values : Values) (made : List Made)
     (client server : JointEnd) → IsJoint client_values server_values made client server
-    → MemorySufficed made client server → ReportsNoFault made server.happened sides.Client
+    → MemorySufficed client server → ReportsNoFault made server.happened sides.Client
 server_no_fault client_values server_values made client server joint had =
     server_faultless client_values server_values made client server
     (joint_holds client_values server_values made client server joint)
     (had_memory client_values server_values made client server joint had)
 
 -- Two quiet ends are up, so that memory was not refused to their connections.
-quiet_had_memory : (made : List Made) (client server : JointEnd) → (HasStopped made → ⊥)
-    → AreQuiet client server → MemorySufficed made client server
-quiet_had_memory made client server kept quiet =
+quiet_had_memory : (client server : JointEnd) → AreQuiet client server
+    → MemorySufficed client server
+quiet_had_memory client server quiet =
     let client_up = quiet.quiet_client.up in
     let server_up = quiet.quiet_server.up in
-    record {
-      kept = kept;
-      client_went_on = λ failed. cc;
-      server_went_on = λ failed. cc;
-    }
+    record { client_went_on = λ failed. cc; server_went_on = λ failed. cc }
 
 pub whole_at_server : (client_values server_values : Values) (made : List Made)
     (client server : JointEnd) (i : ℕ) → IsJoint client_values server_values made client server
-    → (HasStopped made → ⊥) → AreQuiet client server → (WasResetIn made client i → ⊥)
+    → AreQuiet client server → (WasResetIn made client i → ⊥)
     → tokens_handed server.happened i ≡ tokens_said client.happened i
-whole_at_server client_values server_values made client server i joint kept quiet =
+whole_at_server client_values server_values made client server i joint quiet =
     server_has_all client_values server_values made client server i
     (joint_holds client_values server_values made client server joint)
     (had_memory client_values server_values made client server joint
-    (quiet_had_memory made client server kept quiet)) quiet
+    (quiet_had_memory client server quiet)) quiet
 
 pub whole_at_client : (client_values server_values : Values) (made : List Made)
     (client server : JointEnd) (i : ℕ) → IsJoint client_values server_values made client server
-    → (HasStopped made → ⊥) → AreQuiet client server → (WasResetIn made client i → ⊥)
+    → AreQuiet client server → (WasResetIn made client i → ⊥)
     → tokens_handed client.happened i ≡ tokens_said server.happened i
-whole_at_client client_values server_values made client server i joint kept quiet =
+whole_at_client client_values server_values made client server i joint quiet =
     client_has_all client_values server_values made client server i
     (joint_holds client_values server_values made client server joint)
     (had_memory client_values server_values made client server joint
-    (quiet_had_memory made client server kept quiet)) quiet
+    (quiet_had_memory client server quiet)) quiet

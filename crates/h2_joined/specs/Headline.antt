@@ -10,13 +10,16 @@ use Rattle.h2_joined.specs.declared.act.Side.{Side}
 use Rattle.h2_joined.specs.declared.act.Acted.TheVariants.{Done}
 use Rattle.h2_joined.specs.Joints.{Calls, JointEnd, Made}
 
--- Both ends are quiet, and so are both pipes.
+-- Both ends are quiet, both pipes are empty, and the last delivery to either end has not stopped: so
+-- what an end has to hand out it has handed out.
 -- rule: joined (own) Two joined ends are quiet where both are, and both pipes are empty
 pub record AreQuiet (client server : JointEnd) : Type 0 where
   pub quiet_client : IsQuietEnd client.happened
   pub quiet_server : IsQuietEnd server.happened
   pub to_client : client.incoming ≡ []
   pub to_server : server.incoming ≡ []
+  pub finished_client : client.unfinished ≡ false
+  pub finished_server : server.unfinished ≡ false
 
 -- A Reset of the stream was made at the end, with the code, and was done.
 abbrev pub WasResetAt : List Made → Side → (id code : ℕ) → Type 0

@@ -1,8 +1,7 @@
 -- A client and a server joined by two pipes: what may be done with them, and what has happened
 -- then (RFC 9113, section 3).
-use Rattle.std.specs.Prelude.{◌≡◌, ◌≢◌, ◌⊎◌, ◌<◌, ◌-◌, ◌^◌, ℕ, suc, List, [], ◌∷◌, ◌++◌}
-use Rattle.std.specs.Prelude.{length, take, drop, Option, Some, None, Result, Ok, Err}
-use Rattle.std.specs.List.{Contains}
+use Rattle.std.specs.Prelude.{◌≡◌, ◌≢◌, ◌⊎◌, ◌<◌, ◌-◌, ◌^◌, ℕ, suc, Bool, true, false, List, []}
+use Rattle.std.specs.Prelude.{◌∷◌, ◌++◌, length, take, drop, Option, Some, None, Result, Ok, Err}
 use Rattle.hpack.specs.Written.{AreOctets}
 use Rattle.h2_frame.specs.declared.code.Code.{Code}
 use Rattle.h2_frame.specs.declared.code.Code.TheVariants.{InternalError}
@@ -46,9 +45,12 @@ pub record JointEnd : Type 0 where
   pub happened : EndLog
   -- octets that the other end gave out and that weren't delivered yet, the first one first
   pub incoming : List ℕ
+  -- Whether the last delivery to it has stopped, so that it may have something to hand out still.
+  pub unfinished : Bool
 
 abbrev pub new_joint_end : Role → Values → JointEnd
-new_joint_end role values = record { happened = new_end role values; incoming = [] }
+new_joint_end role values =
+    record { happened = new_end role values; incoming = []; unfinished = false }
 
 -- the end once this has happened at it
 abbrev pub with_happened : JointEnd → EndLog → JointEnd
@@ -94,7 +96,7 @@ pub data Delivery : Type 0 where
   Whole : Delivery
   -- the connection has failed
   Fails : (code : Code) → Delivery
-  -- what was handed out could not be kept, or no call is left; these octets were not used
+  -- there was no room for what a call may hand out, or no call is left; these octets were not used
   Stops : (unused : List ℕ) → Delivery
 
 -- how many calls of `take` a delivery makes at most: more than any can need
@@ -102,9 +104,10 @@ abbrev pub most_calls : ℕ
 most_calls = 2 ^ 64 - 1
 
 -- Octets are handed to `take` until they are used and nothing is handed out, or the connection has
--- failed; or it stops, since what was handed out cannot be kept, or since so many calls were made
--- that no other is. `calls` is how many were made before.
+-- failed; or it stops before a call, since there is no room for what that may hand out, or since so
+-- many calls were made that no other is. `calls` is how many were made before.
 -- rule: joined (own) The first octets of a pipe are given to its end
+-- rule: joined (own) A delivery without memory stops before a call and loses nothing
 pub data IsDelivered : (calls : ℕ) → EndLog → List ℕ → Delivery → EndLog → Type 0 where
   is_whole : {end after : EndLog} → (calls : ℕ) (octets : List ℕ)
       → calls < most_calls → EndMayTake end octets (EndTook (length octets) None) after
@@ -118,18 +121,16 @@ pub data IsDelivered : (calls : ℕ) → EndLog → List ℕ → Delivery → En
   fails : {end after : EndLog} → (calls : ℕ) (octets : List ℕ) (code : Code)
       → calls < most_calls → EndMayTake end octets (EndFailed code) after
       → IsDelivered calls end octets (Fails code) after
-  stops : {end after : EndLog} → (calls : ℕ) (octets : List ℕ) (count : ℕ) (handed : Handed)
-      → calls < most_calls → EndMayTake end octets (EndTook count (Some handed)) after
-      → IsDelivered calls end octets (Stops (drop count octets)) after
-  no_call_is_left : {end : EndLog} → (octets : List ℕ)
-      → IsDelivered most_calls end octets (Stops octets) end
+  stops : {end : EndLog} → (calls : ℕ) (octets : List ℕ)
+      → IsDelivered calls end octets (Stops octets) end
 
 -- What may be answered where something is done with one end, and what has happened at both then.
--- It is what the end answers to the call; and where memory was refused to copy a message or to keep
--- what was handed out, that.
+-- It is what the end answers to the call; and where memory was refused to copy a message or to make
+-- room for what may be handed out, that.
 -- rule: joined (own) An act is the call of its name at its end
 -- rule: joined (own) Output is put on the pipe to the other end, as much as is asked
 -- rule: joined (own) The first octets of a pipe are given to its end
+-- rule: joined (own) A delivery without memory stops before a call and loses nothing
 pub data MayDo (one other : JointEnd) : Doing → Acted → (new_one new_other : JointEnd) → Type 0
   where
     requests : (message : SentMessage) (result : Result ℕ EndRefusal) (after : EndLog)
@@ -157,20 +158,25 @@ pub data MayDo (one other : JointEnd) : Doing → Acted → (new_one new_other :
     delivers : (count : ℕ) (after : EndLog) → one.happened.log.failed ≡ None
         → IsDelivered 0 one.happened (take count one.incoming) Whole after
         → MayDo one other (Delivers count) (acted.Count (length (take count one.incoming)))
-        (record { happened = after; incoming = drop count one.incoming }) other
+        (record { happened = after; incoming = drop count one.incoming; unfinished = false }) other
     -- the octets are off the pipe, used or not
     delivery_fails : (count : ℕ) (code : Code) (after : EndLog) → one.happened.log.failed ≡ None
         → IsDelivered 0 one.happened (take count one.incoming) (Fails code) after
         → MayDo one other (Delivers count) (acted.Failed code)
-        (record { happened = after; incoming = drop count one.incoming }) other
+        (record { happened = after; incoming = drop count one.incoming; unfinished = false }) other
     -- none is taken
     has_failed : (count : ℕ) (code : Code) → one.happened.log.failed ≡ Some code
         → MayDo one other (Delivers count) (acted.Failed code) one other
+    -- what was used is off the pipe, the other octets stay on it, and later acts are made as ever
     delivery_stops : (count : ℕ) (unused : List ℕ) (after : EndLog)
         → one.happened.log.failed ≡ None
         → IsDelivered 0 one.happened (take count one.incoming) (Stops unused) after
         → MayDo one other (Delivers count) acted.Memory
-        (record { happened = after; incoming = unused ++ drop count one.incoming }) other
+        (record {
+          happened = after;
+          incoming = unused ++ drop count one.incoming;
+          unfinished = true;
+        }) other
     no_copy_of_a_request : (message : SentMessage)
         → MayDo one other (Requests message) acted.Memory one other
     no_copy_of_a_response : (id : ℕ) (message : SentMessage)
@@ -187,41 +193,18 @@ pub record Made : Type 0 where
   pub doing : Doing
   pub acted : Acted
 
--- octets were delivered to the end, and the delivery stopped
-abbrev pub stopping : Side → (count : ℕ) → Made
-stopping side count = record { side = side; doing = Delivers count; acted = acted.Memory }
-
--- A delivery has stopped.
--- rule: joined (own) Without memory for what was handed out the two ends stand still
-abbrev pub HasStopped : List Made → Type 0
-HasStopped made = (side : Side) × (count : ℕ) × Contains made (stopping side count)
-
--- The delivery that has stopped was to this end; later acts answer so too, and do nothing.
--- rule: joined (own) Without memory for what was handed out the two ends stand still
-abbrev pub HasStoppedAt : List Made → Side → Type 0
-HasStoppedAt made side =
-    (count : ℕ) × (newer older : List Made) × (made ≡ newer ++ stopping side count ∷ older)
-    × (HasStopped older → ⊥)
-
--- One act more at two ends, with its answer, and what has happened at both then. Once a delivery
--- has stopped the two ends stand still: each act answers so, and nothing happens.
+-- One act more at two ends, with its answer, and what has happened at both then.
 -- rule: joined (own) An act is the call of its name at its end
--- rule: joined (own) Without memory for what was handed out the two ends stand still
-pub data IsNextAct (history : List Made) (client server : JointEnd)
-    : Made → (new_client new_server : JointEnd) → Type 0 where
-  at_client : {new_client new_server : JointEnd} → (HasStopped history → ⊥)
-      → (doing : Doing) (answer : Acted) → MayDo client server doing answer new_client new_server
-      → KeepsOrder new_client.happened
-      → IsNextAct history client server
-      (record { side = sides.Client; doing = doing; acted = answer }) new_client new_server
-  at_server : {new_client new_server : JointEnd} → (HasStopped history → ⊥)
-      → (doing : Doing) (answer : Acted) → MayDo server client doing answer new_server new_client
-      → KeepsOrder new_server.happened
-      → IsNextAct history client server
-      (record { side = sides.Server; doing = doing; acted = answer }) new_client new_server
-  stands_still : HasStopped history → (side : Side) (doing : Doing)
-      → IsNextAct history client server
-      (record { side = side; doing = doing; acted = acted.Memory }) client server
+pub data IsNextAct (client server : JointEnd) : Made → (new_client new_server : JointEnd) → Type 0
+  where
+    at_client : {new_client new_server : JointEnd} → (doing : Doing) (answer : Acted)
+        → MayDo client server doing answer new_client new_server → KeepsOrder new_client.happened
+        → IsNextAct client server
+        (record { side = sides.Client; doing = doing; acted = answer }) new_client new_server
+    at_server : {new_client new_server : JointEnd} → (doing : Doing) (answer : Acted)
+        → MayDo server client doing answer new_server new_client → KeepsOrder new_server.happened
+        → IsNextAct client server
+        (record { side = sides.Server; doing = doing; acted = answer }) new_client new_server
 
 -- The acts were made, the newest first, on a new client and a new server with these values of their
 -- own settings, and this has happened at them.
@@ -233,14 +216,13 @@ pub data IsJoint (client_values server_values : Values) : (history : List Made)
       (new_joint_end Server server_values)
   continues : {history : List Made} → {client server new_client new_server : JointEnd}
       → IsJoint client_values server_values history client server → (act : Made)
-      → IsNextAct history client server act new_client new_server
+      → IsNextAct client server act new_client new_server
       → IsJoint client_values server_values (act ∷ history) new_client new_server
 
--- Memory was not refused where it counts: no delivery has stopped, and neither connection has
--- failed since memory was refused as it took octets.
+-- Memory was not refused where it counts: neither connection has failed since memory was refused as
+-- it took octets.
 -- rule: joined (own) What one end has handed out is a prefix of what the other accepted
-pub record MemorySufficed (made : List Made) (client server : JointEnd) : Type 0 where
-  pub kept : HasStopped made → ⊥
+pub record MemorySufficed (client server : JointEnd) : Type 0 where
   pub client_went_on : client.happened.log.failed ≢ Some InternalError
   pub server_went_on : server.happened.log.failed ≢ Some InternalError
 

@@ -1,15 +1,12 @@
 -- What is kept of the two ends, and what it represents.
-use Rattle.std.specs.Prelude.{map as each, ◌≡◌, ◌↔◌, ◌≤◌, ℕ, true, List, [], ◌∷◌, ◌++◌, length}
-use Rattle.std.specs.Prelude.{reverse}
+use Rattle.std.specs.Prelude.{map as each, ◌≡◌, ℕ, List, ◌∷◌, ◌++◌, length, reverse}
 use Rattle.h2_config.specs.ConfigValues.{values_of}
 use Rattle.h2_log.specs.Acts as log
 use Rattle.h2_log.specs.Acts.{Values}
-use Rattle.h2_log.specs.Events as events
 use Rattle.h2_message.specs.Messages.{SentMessage}
 use Rattle.h2_message.specs.Values.{message_value}
 use Rattle.h2_ends.specs.declared.end.End.{End}
-use Rattle.h2_ends.specs.Ends.{Handed, InterimHanded, HeadHanded, BodyHanded, TrailersHanded}
-use Rattle.h2_ends.specs.Ends.{Passed}
+use Rattle.h2_ends.specs.Ends.{Handed}
 use Rattle.h2_ends.specs.Represents.{EndRepresents}
 use Rattle.h2_joined.specs.declared.act.Side.{Side}
 use Rattle.h2_joined.specs.declared.act.Side.TheVariants as sides
@@ -17,27 +14,13 @@ use Rattle.h2_joined.specs.declared.act.Acted.{Acted}
 use Rattle.h2_joined.specs.declared.act.JointAct.{JointAct}
 use Rattle.h2_joined.specs.declared.act.JointAct.TheVariants as acts
 use Rattle.h2_joined.specs.declared.kept.Accepted.{Accepted}
-use Rattle.h2_joined.specs.declared.kept.JointEvent.{JointEvent}
-use Rattle.h2_joined.specs.declared.kept.JointEvent.TheVariants as kept
 use Rattle.h2_joined.specs.declared.kept.Kept.{Kept}
 use Rattle.h2_joined.specs.declared.pipe.Pipe.{Pipe}
+use Rattle.h2_joined.specs.declared.store.Store.{Store}
 use Rattle.h2_joined.specs.declared.joined.Joined.{Joined}
 use Rattle.h2_joined.specs.Joints.{Doing, Requests, Responds, Pumps, ReleasesAll, Calls, Moves}
-use Rattle.h2_joined.specs.Joints.{Delivers, JointEnd, Made, IsJoint, IsNextAct, HasStoppedAt}
-use Rattle.h2_joined.specs.Joints.{HasStopped}
-
--- an event
--- rule: joined (own) Accepted messages, what was handed out, octets on a pipe are kept
-abbrev pub event_value : JointEvent → Handed
-event_value (kept.Interim id list) = InterimHanded id list.items
-event_value (kept.Head id list end) = HeadHanded id list.items end
-event_value (kept.Body id octets end) = BodyHanded id octets.items end
-event_value (kept.Trailers id list) = TrailersHanded id list.items
-event_value (kept.Reset id code ours) = Passed (events.ResetEvent id code ours)
-event_value (kept.Unprocessed id) = Passed (events.UnprocessedEvent id)
-event_value (kept.GoAway last code) = Passed (events.GoAwayEvent last code)
-event_value kept.Acked = Passed events.AckedEvent
-event_value (kept.Pong octets) = Passed (events.PongEvent octets)
+use Rattle.h2_joined.specs.Joints.{Delivers, JointEnd, Made, IsJoint, IsNextAct}
+use Rattle.h2_joined.specs.Stored.{events_of, AreStored}
 
 -- a message that was accepted, with its stream
 abbrev pub accepted_value : Accepted → ℕ × SentMessage
@@ -85,34 +68,30 @@ pub record HoldsOctets (pipe : Pipe) (octets : List ℕ) : Type 0 where
   pub items : pipe.octets.items ≡ delivered ++ octets
   pub count : pipe.used ≡ length delivered
 
--- What was handed out is kept, in order: all of it; or, where a delivery to the end has stopped,
--- all but the last one at most.
+-- What was handed out is kept, in order, all of it; and what is kept lies within the store.
 -- rule: joined (own) Accepted messages, what was handed out, octets on a pipe are kept
-pub record KeepsHanded (Stopped : Type 0) (kept : List JointEvent) (handed : List Handed) : Type 0
-  where
-    pub lost : List Handed
-    pub same : handed ≡ lost ++ reverse (each event_value kept)
-    pub one_at_most : length lost ≤ 1
-    pub none_lost : (Stopped → ⊥) → lost ≡ []
+pub record KeepsHanded (store : Store) (handed : List Handed) : Type 0 where
+  pub same : handed ≡ reverse (events_of store)
+  pub stored : AreStored store
 
 -- What is kept of an end is what has happened at it, and the pipe to it.
 -- rule: joined (own) Accepted messages, what was handed out, octets on a pipe are kept
-pub record KeepsEnd (Stopped : Type 0) (kept : Kept) (one : JointEnd) : Type 0 where
+pub record KeepsEnd (kept : Kept) (one : JointEnd) : Type 0 where
   pub incoming : HoldsOctets kept.incoming one.incoming
   pub accepted : one.happened.accepted ≡ reverse (each accepted_value kept.accepted.items)
-  pub handed : KeepsHanded Stopped kept.handed.items one.happened.handed
+  pub handed : KeepsHanded kept.handed one.happened.handed
+  pub unfinished : kept.unfinished ≡ one.unfinished
 
 -- The acts were made, the newest first, this has happened at the two ends, and it is what they
--- represent and what is kept of them. They stand still just where a delivery has stopped.
+-- represent and what is kept of them.
 -- rule: joined (own) Two joined ends are a new client and a new server, pipes empty
 pub record JoinedRepresents (client_values server_values : Values) (joined : Joined)
     (made : List Made) (client server : JointEnd) : Type 0 where
   pub joint : IsJoint client_values server_values made client server
   pub client_represents : EndRepresents client_values joined.client.end client.happened
   pub server_represents : EndRepresents server_values joined.server.end server.happened
-  pub client_kept : KeepsEnd (HasStoppedAt made sides.Client) joined.at_client client
-  pub server_kept : KeepsEnd (HasStoppedAt made sides.Server) joined.at_server server
-  pub stopped : (joined.stopped ≡ true) ↔ HasStopped made
+  pub client_kept : KeepsEnd joined.at_client client
+  pub server_kept : KeepsEnd joined.at_server server
 
 -- Whatever acts were made and whatever has happened: the act may have this answer now, and the two
 -- ends represent what has happened then.
@@ -121,7 +100,7 @@ MakesAct old act new =
     (client_values server_values : Values) (history : List Made) (client server : JointEnd)
     → JoinedRepresents client_values server_values old history client server
     → (new_client : JointEnd) × (new_server : JointEnd)
-    × IsNextAct history client server act new_client new_server
+    × IsNextAct client server act new_client new_server
     × JoinedRepresents client_values server_values new (act ∷ history) new_client new_server
 
 -- the end of a side, and what is kept of it

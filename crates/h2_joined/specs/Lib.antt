@@ -1,5 +1,6 @@
 pub mod Joints
 pub mod Headline
+pub mod Stored
 pub mod Kept
 pub mod Delivering
 pub mod Runs

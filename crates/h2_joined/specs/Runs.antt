@@ -13,13 +13,14 @@ use Rattle.h2_joined.specs.declared.act.Acted.TheVariants as acted
 use Rattle.h2_joined.specs.declared.act.JointAct.{JointAct}
 use Rattle.h2_joined.specs.declared.kept.Kept.{Kept}
 use Rattle.h2_joined.specs.declared.joined.Joined.{Joined}
-use Rattle.h2_joined.specs.Joints.{Doing, JointEnd, Made, HasStopped, MemorySufficed}
+use Rattle.h2_joined.specs.Joints.{Doing, JointEnd, Made, MemorySufficed}
 use Rattle.h2_joined.specs.Headline.{AreQuiet, WasResetIn, ReportsNoFault}
-use Rattle.h2_joined.specs.Kept.{event_value, accepted_value, side_of, doing_of, JoinedRepresents}
+use Rattle.h2_joined.specs.Kept.{accepted_value, side_of, doing_of, JoinedRepresents}
+use Rattle.h2_joined.specs.Stored.{events_of}
 
 -- what is kept of what an end has handed out on a stream, token by token
 abbrev pub tokens_recorded : Kept → ℕ → List Token
-tokens_recorded kept i = tokens_of_parts (parts_on i (reverse (each event_value kept.handed.items)))
+tokens_recorded kept i = tokens_of_parts (parts_on i (reverse (events_of kept.handed)))
 
 -- the tokens of the message that is kept as accepted for a stream, or none
 abbrev pub tokens_accepted : Kept → ℕ → List Token
@@ -41,17 +42,17 @@ pub record AreWhole (joined : Joined) (made : List Made) (client : JointEnd) : T
       → tokens_recorded joined.at_client i ≡ tokens_accepted joined.at_server i
 
 -- The headline. What each end has handed out on every stream is a prefix of what the other has
--- accepted for it. Where memory was not refused, neither end reports a fault. Once both are quiet,
--- and no delivery has stopped, it is all of it, on every stream that was not reset.
+-- accepted for it. Where memory was not refused to a connection, neither end reports a fault. Once
+-- both are quiet, it is all of it, on every stream that was not reset.
 -- rule: joined (own) What one end has handed out is a prefix of what the other accepted
 pub record HasHeadline (joined : Joined) (made : List Made) (client server : JointEnd) : Type 0
   where
     pub in_order : AreInOrder joined
-    pub client_without_fault : MemorySufficed made client server
+    pub client_without_fault : MemorySufficed client server
         → ReportsNoFault made client.happened sides.Server
-    pub server_without_fault : MemorySufficed made client server
+    pub server_without_fault : MemorySufficed client server
         → ReportsNoFault made server.happened sides.Client
-    pub whole : (HasStopped made → ⊥) → AreQuiet client server → AreWhole joined made client
+    pub whole : AreQuiet client server → AreWhole joined made client
 
 -- an act without its answer
 abbrev pub act_made : Made → Side × Doing
@@ -66,7 +67,7 @@ pub record GotMemory (answer : Acted) : Type 0 where
   pub call : answer ≢ acted.Refused (Conn Memory)
 
 -- The acts were made, in order, on a new client and a new server with these values, and none
--- answered `Memory`, or was refused with C12. So no delivery has stopped.
+-- answered `Memory`, or was refused with C12.
 pub record RunsActs (client_values server_values : Values) (acts : List JointAct)
     (joined : Joined) : Type 0 where
   pub made : List Made
@@ -75,7 +76,6 @@ pub record RunsActs (client_values server_values : Values) (acts : List JointAct
   pub represents : JoinedRepresents client_values server_values joined made client server
   pub acts_are : each act_made made ≡ reverse (each act_value acts)
   pub memory : AllByRecursion (λ act. GotMemory act.acted) made
-  pub not_stopped : HasStopped made → ⊥
 
 -- The acts were made, and the headline holds of the two ends.
 -- rule: joined (own) What one end has handed out is a prefix of what the other accepted

@@ -87,7 +87,9 @@ pub enum Acted {
     /// The end has failed with this code as a Deliver handed it octets, or had failed before.
     Failed(Code),
     /// Memory was refused. Of a Request or Respond: to copy its message; nothing has changed. Of a
-    /// Deliver: to keep what the end has handed out; from then on nothing more is done, and every
-    /// act answers this. A Deliver that called `take` 2^64 - 1 times, as none does, would stop so.
+    /// Deliver: to make room for what a call of `take` may hand out. It stopped before that call:
+    /// what was used before is off the pipe, and what was handed out is kept; nothing is lost, and
+    /// the same Deliver, made again, goes on where this one stopped. A Deliver that called `take`
+    /// 2^64 - 1 times, as none does, would stop so.
     Memory,
 }

@@ -1,6 +1,6 @@
 //! Acts that are calls of an end.
 
-ghost use Rattle.std.specs.Prelude.{◌≡◌, false};
+ghost use Rattle.std.specs.Prelude.{◌≡◌};
 ghost use Rattle.h2_config.specs.ConfigValues.{values_of};
 ghost use Rattle.h2_log.specs.Acts.{ResetStream, SendPing, SendGoAway, ChangeSettings, Done};
 ghost use Rattle.h2_conn.specs.Conn.{answer_by};
@@ -20,7 +20,6 @@ impl Joined {
     // rule: joined (own) An act is the call of its name at its end
     /// The client makes a request.
     pub(crate) fn request(&mut self, message: &Message) -> Acted
-        requires { self.old.stopped ≡ false }
         ensures { MakesAct self.old (made Client (Requests (message_value message.now)) result)
             self.new }
     {
@@ -42,7 +41,6 @@ impl Joined {
     // rule: joined (own) An act is the call of its name at its end
     /// The server gives a response.
     pub(crate) fn respond(&mut self, id: u32, message: &Message) -> Acted
-        requires { self.old.stopped ≡ false }
         ensures { MakesAct self.old (made Server (Responds id (message_value message.now)) result)
             self.new }
     {
@@ -64,7 +62,6 @@ impl Joined {
     // rule: joined (own) An act is the call of its name at its end
     /// An end sends what windows let through.
     pub(crate) fn pump(&mut self, side: Side) -> Acted
-        requires { self.old.stopped ≡ false }
         ensures { MakesAct self.old (made side Pumps result) self.new }
     {
         counted(match side {
@@ -75,7 +72,6 @@ impl Joined {
 
     /// An end returns the credit that it owes.
     pub(crate) fn release_all(&mut self, side: Side) -> Acted
-        requires { self.old.stopped ≡ false }
         ensures { MakesAct self.old (made side ReleasesAll result) self.new }
     {
         released(match side {
@@ -86,7 +82,6 @@ impl Joined {
 
     /// An end resets a stream.
     pub(crate) fn reset(&mut self, side: Side, id: u32, code: u32) -> Acted
-        requires { self.old.stopped ≡ false }
         ensures { MakesAct self.old (made side (Calls (ResetStream id code)) result) self.new }
     {
         done(match side {
@@ -97,7 +92,6 @@ impl Joined {
 
     /// An end sends PING.
     pub(crate) fn ping(&mut self, side: Side, octets: [u8; 8]) -> Acted
-        requires { self.old.stopped ≡ false }
         ensures { MakesAct self.old (made side (Calls (SendPing octets)) result) self.new }
     {
         done(match side {
@@ -108,7 +102,6 @@ impl Joined {
 
     /// An end sends GOAWAY.
     pub(crate) fn go_away(&mut self, side: Side) -> Acted
-        requires { self.old.stopped ≡ false }
         ensures { MakesAct self.old (made side (Calls SendGoAway) result) self.new }
     {
         done(match side {
@@ -119,7 +112,6 @@ impl Joined {
 
     /// An end changes its settings.
     pub(crate) fn change_settings(&mut self, side: Side, config: Config) -> Acted
-        requires { self.old.stopped ≡ false }
         ensures { MakesAct self.old (made side (Calls (ChangeSettings (values_of config))) result)
             self.new }
     {

@@ -1,17 +1,17 @@
 //! Two joined ends.
 
-ghost use Rattle.std.specs.Prelude.{◌≡◌, ◌↔◌, ℕ, List, [], true, false, length, IfOk};
+ghost use Rattle.std.specs.Prelude.{◌≡◌, ◌↔◌, ℕ, List, [], true, length, IfOk};
 ghost use Rattle.h2_config.specs.ConfigValues.{values_of};
 ghost use Rattle.h2_log.specs.Acts.{Values};
 ghost use Rattle.h2_log.specs.declared.role.Role.TheVariants as roles;
-ghost use Rattle.h2_joined.specs.declared.act.Acted.TheVariants.{Memory};
 ghost use Rattle.h2_joined.specs.Headline.{AreQuiet};
-ghost use Rattle.h2_joined.specs.Joints.{HasStopped, JointEnd, Made, new_joint_end};
+ghost use Rattle.h2_joined.specs.Joints.{JointEnd, Made, new_joint_end};
 ghost use Rattle.h2_joined.specs.Kept.{MakesAct, HoldsOctets, JoinedRepresents, kept_of, made_of};
 ghost use Rattle.h2_joined.specs.Kept.{other_side};
 
 use crate::act::{Acted, JointAct, Side};
-use crate::kept::{Accepted, JointEvent, Kept};
+use crate::events::HandedEvents;
+use crate::kept::{Accepted, Kept};
 use h2_ends::{Client, Config, Server};
 use std::alloc::{AllocError, Global};
 
@@ -24,8 +24,6 @@ pub struct Joined {
     pub(crate) server: Server,
     pub(crate) at_client: Kept,
     pub(crate) at_server: Kept,
-    /// Memory was refused to keep what an end has handed out.
-    pub(crate) stopped: bool,
 }
 
 impl Joined {
@@ -50,7 +48,6 @@ impl Joined {
             server,
             at_client: Kept::new(alloc),
             at_server: Kept::new(alloc),
-            stopped: false,
         })
     }
 
@@ -58,30 +55,18 @@ impl Joined {
     // contract: joined (own) Output is put on the pipe to the other end, as much as is asked
     // contract: joined (own) The first octets of a pipe are given to its end
     // contract: joined (own) Accepted messages, what was handed out, octets on a pipe are kept
-    // rule: joined (own) Without memory for what was handed out the two ends stand still
+    // contract: joined (own) A delivery without memory stops before a call and loses nothing
     /// Makes an act, and says what came of it: what the end answers to the call of its name; for
     /// [`JointAct::Move`] and [`JointAct::Deliver`] how many octets were moved and delivered. A
     /// refused act has changed nothing, but for what a `release_all` or a `pump` has done before it
     /// was refused.
     ///
-    /// Octets that were delivered to an end that fails are off the pipe; to an end that has failed
-    /// none are delivered. Once a delivery has answered [`Acted::Memory`] the two ends stand still.
+    /// A delivery makes room for whatever a call of `take` may hand out, and then calls it. Where
+    /// memory is refused it stops before that call and answers [`Acted::Memory`]: what was used is
+    /// off the pipe, what was handed out is kept, the other octets stay on the pipe, and the same
+    /// act goes on from there. Octets that were delivered to an end that fails are off the pipe; to
+    /// an end that has failed none are delivered.
     pub fn act(&mut self, act: &JointAct) -> Acted
-        ensures acts { MakesAct self.old (made_of act.now result) self.new }
-        ensures stands_still { (client_values server_values : Values) (history : List Made)
-            (client server : JointEnd)
-            → JoinedRepresents client_values server_values self.old history client server
-            → HasStopped history → (result ≡ Memory) × (self.new ≡ self.old) }
-    {
-        if self.stopped {
-            return Acted::Memory;
-        }
-        self.make(act)
-    }
-
-    /// Makes an act at ends that don't stand still.
-    fn make(&mut self, act: &JointAct) -> Acted
-        requires { self.old.stopped ≡ false }
         ensures { MakesAct self.old (made_of act.now result) self.new }
     {
         match act {
@@ -100,9 +85,8 @@ impl Joined {
 
     // rule: joined (own) Two joined ends are quiet where both are, and both pipes are empty
     /// Whether nothing is under way between the two ends, and neither has anything to do: both are
-    /// quiet ([`Client::is_quiet`]) and both pipes empty. An end that has failed is not quiet. Once
-    /// a delivery has answered [`Acted::Memory`], the last event of that end may be missing all the
-    /// same.
+    /// quiet ([`Client::is_quiet`]), both pipes are empty, and the last delivery to either end has
+    /// not answered [`Acted::Memory`]: all was handed out. An end that has failed is not quiet.
     pub fn quiet(&self) -> bool
         ensures { (client_values server_values : Values) (made : List Made)
             (client server : JointEnd)
@@ -113,6 +97,9 @@ impl Joined {
             return false;
         }
         if self.at_server.incoming.len() > 0 {
+            return false;
+        }
+        if self.at_client.unfinished || self.at_server.unfinished {
             return false;
         }
         self.client.is_quiet() && self.server.is_quiet()
@@ -145,12 +132,16 @@ impl Joined {
 
     // contract: joined (own) Accepted messages, what was handed out, octets on a pipe are kept
     /// What an end has handed out, in order.
-    pub fn handed(&self, side: Side) -> &[JointEvent]
-        ensures { result.now ≡ (kept_of side self.now).handed.items }
+    pub fn handed(&self, side: Side) -> HandedEvents<'_>
+        ensures { result.store.now ≡ (kept_of side self.now).handed }
     {
         match side {
-            Side::Client => &self.at_client.handed,
-            Side::Server => &self.at_server.handed,
+            Side::Client => HandedEvents {
+                store: &self.at_client.handed,
+            },
+            Side::Server => HandedEvents {
+                store: &self.at_server.handed,
+            },
         }
     }
 

@@ -6,13 +6,13 @@ ghost use Rattle.std.specs.Vec.{vec_capacity};
 ghost use Rattle.h2_log.specs.Acts.{Values};
 ghost use Rattle.h2_log.specs.declared.role.Role.{Role};
 ghost use Rattle.hpack.specs.Written.{AreOctets};
-ghost use Rattle.h2_ends.specs.Loans.{event_handed};
 ghost use Rattle.h2_message.specs.Values.{message_value};
 ghost use Rattle.h2_joined.specs.Joints.{new_joint_end};
-ghost use Rattle.h2_joined.specs.Kept.{event_value, KeepsEnd};
+ghost use Rattle.h2_joined.specs.Kept.{KeepsEnd};
 
 use crate::pipe::Pipe;
-use h2_ends::{EndEvent, Field, FieldList, Message};
+use crate::store::Store;
+use h2_ends::{Field, Message};
 use hpack::list_size;
 use std::alloc::{AllocError, Global};
 
@@ -24,19 +24,22 @@ pub(crate) struct Kept {
     /// The messages that it has accepted, in order.
     pub(crate) accepted: Vec<Accepted>,
     /// What it has handed out, in order.
-    pub(crate) handed: Vec<JointEvent>,
+    pub(crate) handed: Store,
+    /// Whether the last delivery to it has stopped: it may have something to hand out still.
+    pub(crate) unfinished: bool,
 }
 
 impl Kept {
     /// What is kept of a new end.
     pub(crate) fn new(alloc: Global) -> Kept
         ensures { (role : Role) (values : Values)
-            → KeepsEnd ⊥ result (new_joint_end role values) }
+            → KeepsEnd result (new_joint_end role values) }
     {
         Kept {
             incoming: Pipe::new(alloc),
             accepted: Vec::new(alloc),
-            handed: Vec::new(alloc),
+            handed: Store::new(alloc),
+            unfinished: false,
         }
     }
 
@@ -47,6 +50,7 @@ impl Kept {
         ensures accepted { self.new.accepted.items ≡ self.old.accepted.items ++ accepted ∷ [] }
         ensures incoming { self.new.incoming ≡ self.old.incoming }
         ensures handed { self.new.handed ≡ self.old.handed }
+        ensures unfinished { self.new.unfinished ≡ self.old.unfinished }
     {
         let _pushed = self.accepted.push(accepted);
     }
@@ -59,123 +63,6 @@ pub struct Accepted {
     pub id: u32,
     /// The message.
     pub message: Message,
-}
-
-/// What an end has handed out, with its fields and octets: an [`EndEvent`] that is kept.
-#[derive(Debug, Drop)]
-pub enum JointEvent {
-    /// The head of an interim response has come (1xx; RFC 9113, section 8.1).
-    Interim {
-        /// The stream.
-        id: u32,
-        /// Its fields, in order.
-        list: Vec<Field>,
-    },
-    /// The head of a message has come.
-    Head {
-        /// The stream.
-        id: u32,
-        /// Its fields, in order.
-        list: Vec<Field>,
-        /// Whether the message is whole.
-        end: bool,
-    },
-    /// Octets of a body have come.
-    Body {
-        /// The stream.
-        id: u32,
-        /// The octets; there may be none.
-        bytes: Vec<u8>,
-        /// Whether the message is whole.
-        end: bool,
-    },
-    /// Trailers have come: the message is whole.
-    Trailers {
-        /// The stream.
-        id: u32,
-        /// Its fields, in order.
-        list: Vec<Field>,
-    },
-    /// A stream is over before its messages are (section 6.4).
-    Reset {
-        /// The stream.
-        id: u32,
-        /// Why, by its number.
-        code: u32,
-        /// Whether this end has reset it.
-        ours: bool,
-    },
-    /// The peer has not processed this request, and will not (section 6.8).
-    Unprocessed {
-        /// The stream.
-        id: u32,
-    },
-    /// The peer takes no streams above this one (section 6.8).
-    GoAway {
-        /// The least last stream that it has named.
-        last: u32,
-        /// Why, by its number.
-        code: u32,
-    },
-    /// The peer has applied this end's settings (section 6.5.3).
-    Acked,
-    /// The peer has answered this end's PING (section 6.7).
-    Pong {
-        /// The octets of the PING.
-        octets: [u8; 8],
-    },
-}
-
-impl JointEvent {
-    // rule: joined (own) Accepted messages, what was handed out, octets on a pipe are kept
-    /// A copy of an event, with what is lent.
-    ///
-    /// # Errors
-    ///
-    /// [`AllocError`] where an allocation was refused.
-    pub(crate) fn copy_of(alloc: Global, event: EndEvent<'_>) -> Result<JointEvent, AllocError>
-        ensures { IfOk result (λ copy. event_value copy ≡ event_handed event.entry) }
-    {
-        Ok(match event {
-            EndEvent::Interim { id, list } => JointEvent::Interim {
-                id,
-                list: copy_list(alloc, list)?,
-            },
-            EndEvent::Head { id, list, end } => JointEvent::Head {
-                id,
-                list: copy_list(alloc, list)?,
-                end,
-            },
-            EndEvent::Body { id, bytes, end } => JointEvent::Body {
-                id,
-                bytes: Vec::from_slice(alloc, bytes)?,
-                end,
-            },
-            EndEvent::Trailers { id, list } => JointEvent::Trailers {
-                id,
-                list: copy_list(alloc, list)?,
-            },
-            EndEvent::Reset { id, code, ours } => JointEvent::Reset { id, code, ours },
-            EndEvent::Unprocessed { id } => JointEvent::Unprocessed { id },
-            EndEvent::GoAway { last, code } => JointEvent::GoAway { last, code },
-            EndEvent::Acked => JointEvent::Acked,
-            EndEvent::Pong { octets } => JointEvent::Pong { octets },
-        })
-    }
-}
-
-/// A copy of a list of fields that is lent.
-fn copy_list(alloc: Global, list: &FieldList) -> Result<Vec<Field>, AllocError>
-    ensures { IfOk result (λ copy. copy.items ≡ list.now) }
-{
-    let mut copy = Vec::new(alloc);
-    for place in 0..list.len() {
-        let Some(field) = list.get(place) else {
-            unreachable!()
-        };
-        copy.push(Field::copy_of(alloc, field.name, field.value, field.sensitive)?)?;
-    }
-    Ok(copy)
 }
 
 /// A copy of fields.

@@ -12,8 +12,7 @@ ghost use Rattle.h2_pair.specs.Tokens.{IsPrefixOfTokens};
 ghost use Rattle.h2_pair.specs.Undisturbed.{IsUndisturbed};
 ghost use Rattle.h2_ends.specs.Ends.{tokens_handed, tokens_said};
 ghost use Rattle.h2_joined.specs.declared.act.Side.TheVariants.{Client, Server};
-ghost use Rattle.h2_joined.specs.Joints.{JointEnd, Made, IsJoint, HasStopped, half_of};
-ghost use Rattle.h2_joined.specs.Joints.{MemorySufficed};
+ghost use Rattle.h2_joined.specs.Joints.{JointEnd, Made, IsJoint, MemorySufficed, half_of};
 ghost use Rattle.h2_joined.specs.Headline.{AreQuiet, WasResetIn, ReportsNoFault};
 
 // contract: joined (own) What one end has handed out is a prefix of what the other accepted
@@ -25,7 +24,7 @@ pub fn joined_ends_are_a_pair()
         (client server : JointEnd) → IsJoint client_values server_values made client server
         → (client_lost : List ℕ) × (server_lost : List ℕ)
         × (pair : IsPair client_values server_values (half_of client client_lost)
-        (half_of server server_lost)) × (MemorySufficed made client server → IsUndisturbed pair) }
+        (half_of server server_lost)) × (MemorySufficed client server → IsUndisturbed pair) }
 {}
 
 /// What an end has handed out on a stream is a prefix of the message that the other has accepted
@@ -46,23 +45,23 @@ pub fn handed_out_is_a_prefix()
 pub fn no_fault_is_reported()
     ensures at_client { (client_values server_values : Values) (made : List Made)
         (client server : JointEnd) → IsJoint client_values server_values made client server
-        → MemorySufficed made client server → ReportsNoFault made client.happened Server }
+        → MemorySufficed client server → ReportsNoFault made client.happened Server }
     ensures at_server { (client_values server_values : Values) (made : List Made)
         (client server : JointEnd) → IsJoint client_values server_values made client server
-        → MemorySufficed made client server → ReportsNoFault made server.happened Client }
+        → MemorySufficed client server → ReportsNoFault made server.happened Client }
 {}
 
 /// Once both are quiet, the message that an end has accepted for a stream was handed out whole at
-/// the other, unless that stream was reset; where no delivery has stopped.
+/// the other, unless that stream was reset.
 pub fn quiet_ends_have_all()
     ensures at_server { (client_values server_values : Values) (made : List Made)
         (client server : JointEnd) (i : ℕ)
-        → IsJoint client_values server_values made client server → (HasStopped made → ⊥)
+        → IsJoint client_values server_values made client server
         → AreQuiet client server → (WasResetIn made client i → ⊥)
         → tokens_handed server.happened i ≡ tokens_said client.happened i }
     ensures at_client { (client_values server_values : Values) (made : List Made)
         (client server : JointEnd) (i : ℕ)
-        → IsJoint client_values server_values made client server → (HasStopped made → ⊥)
+        → IsJoint client_values server_values made client server
         → AreQuiet client server → (WasResetIn made client i → ⊥)
         → tokens_handed client.happened i ≡ tokens_said server.happened i }
 {}

@@ -8,19 +8,23 @@
 
 mod act;
 mod calls;
+mod events;
 mod joined;
 mod kept;
 mod laws;
 mod octets;
 mod pipe;
 mod running;
+mod store;
 
 pub use act::{Acted, JointAct, Side};
+pub use events::{HandedEvents, JointEvent, KeptFields};
 pub use h2_ends::{
-    BadConfig, Client, Code, Config, Conn, EndRefusal, Field, Malformed, Message, Refusal, Server,
+    BadConfig, Client, Code, Config, Conn, EndRefusal, Field, FieldRef, Malformed, Message,
+    Refusal, Server,
 };
 pub use joined::Joined;
-pub use kept::{Accepted, JointEvent};
+pub use kept::Accepted;
 pub use laws::{
     connection_windows_are_conserved, handed_out_is_a_prefix, header_tables_are_in_step,
     joined_ends_are_a_pair, no_fault_is_reported, quiet_ends_have_all,

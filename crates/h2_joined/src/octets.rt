@@ -1,37 +1,27 @@
 //! Octets that are moved and delivered.
 
-ghost use Rattle.std.specs.Prelude.{◌≡◌, false, length};
+ghost use Rattle.std.specs.Prelude.{◌≡◌, length};
 ghost use Rattle.h2_log.specs.Acts as log;
 ghost use Rattle.h2_conn.specs.Conn.{answer_by};
 ghost use Rattle.h2_joined.specs.Joints.{Moves, Delivers, acted_as};
 ghost use Rattle.h2_joined.specs.Kept.{MakesAct, made};
 ghost use Rattle.h2_joined.specs.Delivering.{UsesWithin, TakesOnce, TookAt, TakesNext};
-ghost use Rattle.h2_joined.specs.Delivering.{TakesOctets, TakesPipe, KeepsEvent};
+ghost use Rattle.h2_joined.specs.Delivering.{TakesOctets, TakesPipe, PutsPipe, MakesRoom};
 
 use crate::act::{Acted, Side};
 use crate::joined::Joined;
-use crate::kept::JointEvent;
 use crate::pipe::Pipe;
+use crate::store::Store;
 use h2_ends::{Client, Code, EndRefusal, Refusal, Server};
-use std::alloc::Global;
 use std::mem;
 
 /// What a call of `take` made of a piece.
-#[derive(Drop)]
+#[derive(Clone, Copy)]
 pub(crate) enum Taking {
-    /// So many octets were used, and this was handed out.
-    Took {
-        used: usize,
-        event: Option<JointEvent>,
-    },
-    /// So many octets were used, and memory was refused to keep what was handed out.
-    Lost {
-        used: usize,
-    },
+    /// So many octets were used, and whether something was handed out, which is kept.
+    Took { used: usize, hands: bool },
     /// The connection has failed.
-    Failed {
-        code: Code,
-    },
+    Failed { code: Code },
 }
 
 /// How a delivery goes on after a call of `take`.
@@ -43,8 +33,8 @@ pub(crate) enum Next {
     Whole,
     /// It is over: the connection has failed.
     Failed(Code),
-    /// It is over: memory was refused. So many octets were used.
-    Stopped(usize),
+    /// It is over: memory was refused before the call, which was not made.
+    Stopped,
 }
 
 /// How a delivery has ended.
@@ -62,7 +52,6 @@ impl Joined {
     // rule: joined (own) Output is put on the pipe to the other end, as much as is asked
     /// Puts octets of an end's output on the pipe to the other.
     pub(crate) fn put_on_pipe(&mut self, from: Side, count: usize) -> Acted
-        requires { self.old.stopped ≡ false }
         ensures { MakesAct self.old (made from (Moves count) result) self.new }
     {
         moved(match from {
@@ -80,7 +69,6 @@ impl Joined {
     // rule: joined (own) The first octets of a pipe are given to its end
     /// Delivers octets of its pipe to an end.
     pub(crate) fn deliver(&mut self, to: Side, count: usize) -> Acted
-        requires { self.old.stopped ≡ false }
         ensures { MakesAct self.old (made to (Delivers count) result) self.new }
     {
         let failed = match to {
@@ -93,13 +81,13 @@ impl Joined {
         let mut pipe = self.take_pipe(to);
         let octets = pipe.first(count);
         let size = octets.len();
-        let (used, acted) = match self.take_all(to, octets) {
-            Delivered::Whole => (size, Acted::Count(size)),
-            Delivered::Failed(code) => (size, Acted::Failed(code)),
-            Delivered::Stopped(used) => (used, Acted::Memory),
+        let (used, acted, unfinished) = match self.take_all(to, octets) {
+            Delivered::Whole => (size, Acted::Count(size), false),
+            Delivered::Failed(code) => (size, Acted::Failed(code), false),
+            Delivered::Stopped(used) => (used, Acted::Memory, true),
         };
         pipe.deliver(used);
-        self.put_pipe(to, pipe);
+        self.put_pipe(to, pipe, unfinished);
         acted
     }
 
@@ -114,13 +102,19 @@ impl Joined {
         }
     }
 
-    /// Puts it back.
-    fn put_pipe(&mut self, to: Side, pipe: Pipe)
-        ensures { TakesPipe to self.new pipe self.old }
+    /// Puts it back, and keeps whether the delivery has stopped.
+    fn put_pipe(&mut self, to: Side, pipe: Pipe, unfinished: bool)
+        ensures { PutsPipe to self.old pipe unfinished self.new }
     {
         match to {
-            Side::Client => self.at_client.incoming = pipe,
-            Side::Server => self.at_server.incoming = pipe,
+            Side::Client => {
+                self.at_client.incoming = pipe;
+                self.at_client.unfinished = unfinished;
+            }
+            Side::Server => {
+                self.at_server.incoming = pipe;
+                self.at_server.unfinished = unfinished;
+            }
         }
     }
 
@@ -128,7 +122,6 @@ impl Joined {
     /// Hands octets to `take` until they are used and nothing is handed out, or the connection has
     /// failed, or memory was refused.
     fn take_all(&mut self, to: Side, octets: &[u8]) -> Delivered
-        requires { self.old.stopped ≡ false }
         ensures { TakesOctets to self.old octets.now result self.new }
     {
         let mut taken = 0usize;
@@ -137,59 +130,54 @@ impl Joined {
                 Next::Again(used) => taken += used,
                 Next::Whole => return Delivered::Whole,
                 Next::Failed(code) => return Delivered::Failed(code),
-                Next::Stopped(used) => return Delivered::Stopped(taken + used),
+                Next::Stopped => return Delivered::Stopped(taken),
             }
         }
-        self.stopped = true;
         Delivered::Stopped(taken)
     }
 
     // rule: joined (own) The first octets of a pipe are given to its end
-    // rule: joined (own) Without memory for what was handed out the two ends stand still
-    /// Calls `take` once, and keeps what was handed out.
+    // rule: joined (own) A delivery without memory stops before a call and loses nothing
+    /// Makes room for what `take` may hand out, calls it once, and keeps what was handed out.
     fn take_next(&mut self, to: Side, piece: &[u8]) -> Next
-        requires { self.old.stopped ≡ false }
         ensures { TakesNext to self.old piece.now result self.new }
     {
+        if !self.make_room(to) {
+            return Next::Stopped;
+        }
         match self.take_once(to, piece) {
-            Taking::Took { used, event: None } if used < piece.len() => Next::Again(used),
-            Taking::Took { event: None, .. } => Next::Whole,
-            Taking::Took {
-                used,
-                event: Some(event),
-            } => {
-                if self.keep(to, event) {
+            Taking::Took { used, hands } => {
+                if hands {
                     return Next::Again(used);
                 }
-                self.stopped = true;
-                Next::Stopped(used)
-            }
-            Taking::Lost { used } => {
-                self.stopped = true;
-                Next::Stopped(used)
+                if used < piece.len() {
+                    return Next::Again(used);
+                }
+                Next::Whole
             }
             Taking::Failed { code } => Next::Failed(code),
         }
     }
 
-    /// Calls `take` of an end once.
+    // rule: joined (own) A delivery without memory stops before a call and loses nothing
+    /// Makes room for whatever `take` of an end may hand out, and answers whether there was memory
+    /// for it.
+    fn make_room(&mut self, to: Side) -> bool
+        ensures { MakesRoom to self.old result self.new }
+    {
+        match to {
+            Side::Client => self.at_client.handed.make_room(),
+            Side::Server => self.at_server.handed.make_room(),
+        }
+    }
+
+    /// Calls `take` of an end once, and keeps what was handed out.
     fn take_once(&mut self, to: Side, piece: &[u8]) -> Taking
         ensures { TookAt to self.old piece.now result self.new }
     {
         match to {
-            Side::Client => client_takes(self.alloc, &mut self.client, piece),
-            Side::Server => server_takes(self.alloc, &mut self.server, piece),
-        }
-    }
-
-    // rule: joined (own) Accepted messages, what was handed out, octets on a pipe are kept
-    /// Keeps what an end has handed out, and answers whether there was memory for it.
-    fn keep(&mut self, side: Side, event: JointEvent) -> bool
-        ensures { KeepsEvent side self.old event result self.new }
-    {
-        match side {
-            Side::Client => self.at_client.handed.push(event).is_ok(),
-            Side::Server => self.at_server.handed.push(event).is_ok(),
+            Side::Client => client_takes(&mut self.client, &mut self.at_client.handed, piece),
+            Side::Server => server_takes(&mut self.server, &mut self.at_server.handed, piece),
         }
     }
 }
@@ -204,46 +192,42 @@ fn moved(outcome: Result<usize, Refusal>) -> Acted
     }
 }
 
-/// Calls `take` of a client once, and copies what is handed out.
-fn client_takes(alloc: Global, client: &mut Client, piece: &[u8]) -> Taking
+// rule: joined (own) Accepted messages, what was handed out, octets on a pipe are kept
+/// Calls `take` of a client once, and keeps what was handed out.
+fn client_takes(client: &mut Client, store: &mut Store, piece: &[u8]) -> Taking
     ensures within { UsesWithin result (length piece.now) }
-    ensures takes { TakesOnce client.old.end piece.now result client.new.end }
+    ensures takes { TakesOnce client.old.end store.old piece.now result client.new.end store.new }
 {
     match client.take(piece) {
         Ok(taken) => {
             let used = taken.used;
             match taken.event {
-                None => Taking::Took { used, event: None },
-                Some(event) => match JointEvent::copy_of(alloc, event) {
-                    Ok(event) => Taking::Took {
-                        used,
-                        event: Some(event),
-                    },
-                    Err(_) => Taking::Lost { used },
-                },
+                None => Taking::Took { used, hands: false },
+                Some(event) => {
+                    store.keep(event);
+                    Taking::Took { used, hands: true }
+                }
             }
         }
         Err(fault) => Taking::Failed { code: fault.code },
     }
 }
 
-/// Calls `take` of a server once, and copies what is handed out.
-fn server_takes(alloc: Global, server: &mut Server, piece: &[u8]) -> Taking
+// rule: joined (own) Accepted messages, what was handed out, octets on a pipe are kept
+/// Calls `take` of a server once, and keeps what was handed out.
+fn server_takes(server: &mut Server, store: &mut Store, piece: &[u8]) -> Taking
     ensures within { UsesWithin result (length piece.now) }
-    ensures takes { TakesOnce server.old.end piece.now result server.new.end }
+    ensures takes { TakesOnce server.old.end store.old piece.now result server.new.end store.new }
 {
     match server.take(piece) {
         Ok(taken) => {
             let used = taken.used;
             match taken.event {
-                None => Taking::Took { used, event: None },
-                Some(event) => match JointEvent::copy_of(alloc, event) {
-                    Ok(event) => Taking::Took {
-                        used,
-                        event: Some(event),
-                    },
-                    Err(_) => Taking::Lost { used },
-                },
+                None => Taking::Took { used, hands: false },
+                Some(event) => {
+                    store.keep(event);
+                    Taking::Took { used, hands: true }
+                }
             }
         }
         Err(fault) => Taking::Failed { code: fault.code },

@@ -16,9 +16,9 @@ use std::alloc::{AllocError, Global};
 // contract: joined (own) What one end has handed out is a prefix of what the other accepted
 /// The headline of this library, but for windows and for other peers, of which other laws and
 /// contracts speak. What each of two joined ends has handed out on every stream is a prefix of what
-/// the other has accepted for it, whatever acts were made. Where memory was not refused, neither
-/// end reports a fault. Once both are quiet, and no delivery has stopped, all of it was handed out,
-/// on every stream that was not reset.
+/// the other has accepted for it, whatever acts were made. Where memory was not refused to a
+/// connection, neither end reports a fault. Once both are quiet, all of it was handed out, on every
+/// stream that was not reset.
 pub fn headline()
     ensures { (client_values server_values : Values) (joined : types.Joined) (made : List Made)
         (client server : JointEnd)

@@ -126,6 +126,15 @@ fn other(side: Side) -> Side {
     }
 }
 
+// Whether an act with this answer changes nothing. A delivery without memory may be done in part.
+fn changes_nothing(act: &JointAct, acted: Acted) -> bool {
+    match acted {
+        Acted::Refused(_) => true,
+        Acted::Memory => !matches!(act, JointAct::Deliver { .. }),
+        _ => false,
+    }
+}
+
 // The act of a step in which an end sends all.
 fn sending_act(step: u32, from: Side) -> JointAct {
     match step {
@@ -251,7 +260,7 @@ impl Pair {
         let before = self.halves();
         let acted = self.act(act, words);
         add_acted(self.alloc, text, acted);
-        if matches!(acted, Acted::Refused(_) | Acted::Memory) && before != self.halves() {
+        if changes_nothing(act, acted) && before != self.halves() {
             text.push_line("it has changed the ends");
         }
     }
@@ -293,8 +302,10 @@ impl Pair {
     fn add_handed(&mut self, side: Side, text: &mut Text) {
         let read = self.kept(side).read;
         let events = self.joined.handed(side);
-        for event in events.iter().skip(read) {
-            add_event(self.alloc, text, event);
+        for place in read..events.len() {
+            if let Some(event) = events.get(place) {
+                add_event(self.alloc, text, event);
+            }
         }
         let all = events.len();
         self.kept(side).read = all;

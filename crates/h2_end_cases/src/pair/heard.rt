@@ -1,6 +1,6 @@
 //! Whether what an end has handed out on a stream is a prefix of a message, or all of it.
 
-use h2_joined::{Accepted, Field, JointEvent, Message};
+use h2_joined::{Accepted, Field, FieldRef, HandedEvents, JointEvent, KeptFields, Message};
 
 /// How much of a message was handed out.
 #[derive(Clone, Copy)]
@@ -18,19 +18,27 @@ struct Heard {
 }
 
 // Whether two fields are the same.
-fn is_same(field: &Field, other: &Field) -> bool {
-    field.name.as_slice() == other.name.as_slice()
-        && field.value.as_slice() == other.value.as_slice()
+fn is_same(field: FieldRef<'_>, other: &Field) -> bool {
+    field.name == other.name.as_slice()
+        && field.value == other.value.as_slice()
         && field.sensitive == other.sensitive
 }
 
+// Whether the field at a place is this one.
+fn is_at(list: KeptFields<'_>, place: usize, other: &Field) -> bool {
+    match list.get(place) {
+        Some(field) => is_same(field, other),
+        None => false,
+    }
+}
+
 // Whether two lists of fields are the same.
-fn are_same(list: &[Field], other: &[Field]) -> bool {
+fn are_same(list: KeptFields<'_>, other: &[Field]) -> bool {
     if list.len() != other.len() {
         return false;
     }
-    for (field, other) in list.iter().zip(other) {
-        if !is_same(field, other) {
+    for (place, other) in other.iter().enumerate() {
+        if !is_at(list, place, other) {
             return false;
         }
     }
@@ -38,12 +46,12 @@ fn are_same(list: &[Field], other: &[Field]) -> bool {
 }
 
 /// The stream of whose message an event is a part.
-fn stream_of(event: &JointEvent) -> Option<u32> {
+fn stream_of(event: JointEvent<'_>) -> Option<u32> {
     match event {
         JointEvent::Interim { id, .. }
         | JointEvent::Head { id, .. }
         | JointEvent::Body { id, .. }
-        | JointEvent::Trailers { id, .. } => Some(*id),
+        | JointEvent::Trailers { id, .. } => Some(id),
         _ => None,
     }
 }
@@ -63,7 +71,7 @@ impl Heard {
     }
 
     // With the head of the message.
-    fn with_head(self, message: &Message, list: &[Field], end: bool) -> Heard {
+    fn with_head(self, message: &Message, list: KeptFields<'_>, end: bool) -> Heard {
         Heard {
             has_head: true,
             ended: end,
@@ -86,7 +94,7 @@ impl Heard {
     }
 
     // With the trailers.
-    fn with_trailers(self, message: &Message, list: &[Field]) -> Heard {
+    fn with_trailers(self, message: &Message, list: KeptFields<'_>) -> Heard {
         let is_same = match &message.trailers {
             Some(trailers) => are_same(list, trailers),
             None => false,
@@ -100,10 +108,10 @@ impl Heard {
     }
 
     // With a part of this message.
-    fn with(self, message: &Message, event: &JointEvent) -> Heard {
+    fn with(self, message: &Message, event: JointEvent<'_>) -> Heard {
         match event {
-            JointEvent::Head { list, end, .. } => self.with_head(message, list, *end),
-            JointEvent::Body { bytes, end, .. } => self.with_body(message, bytes, *end),
+            JointEvent::Head { list, end, .. } => self.with_head(message, list, end),
+            JointEvent::Body { bytes, end, .. } => self.with_body(message, bytes, end),
             JointEvent::Trailers { list, .. } => self.with_trailers(message, list),
             _ => Heard {
                 fits: false,
@@ -126,8 +134,16 @@ impl Heard {
     }
 }
 
+// The message with an event, if that is a part of it.
+fn hear(heard: Heard, event: JointEvent<'_>, accepted: &Accepted) -> Heard {
+    if stream_of(event) == Some(accepted.id) {
+        return heard.with(&accepted.message, event);
+    }
+    heard
+}
+
 // What was handed out of a message.
-fn heard_of(events: &[JointEvent], accepted: &Accepted) -> Heard {
+fn heard_of(events: HandedEvents<'_>, accepted: &Accepted) -> Heard {
     let mut heard = Heard {
         has_head: false,
         count: 0,
@@ -135,9 +151,9 @@ fn heard_of(events: &[JointEvent], accepted: &Accepted) -> Heard {
         ended: false,
         fits: true,
     };
-    for event in events {
-        if stream_of(event) == Some(accepted.id) {
-            heard = heard.with(&accepted.message, event);
+    for place in 0..events.len() {
+        if let Some(event) = events.get(place) {
+            heard = hear(heard, event, accepted);
         }
     }
     heard
@@ -148,12 +164,21 @@ fn is_accepted(accepted: &[Accepted], id: u32) -> bool {
     accepted.iter().any(|one| one.id == id)
 }
 
+// Whether an event is no part of a message, or of one that was accepted.
+fn is_accepted_part(event: JointEvent<'_>, accepted: &[Accepted]) -> bool {
+    match stream_of(event) {
+        Some(id) => is_accepted(accepted, id),
+        None => true,
+    }
+}
+
 /// Whether parts were handed out only on streams for which messages were accepted.
-fn are_accepted(events: &[JointEvent], accepted: &[Accepted]) -> bool {
-    for event in events {
-        match stream_of(event) {
-            Some(id) if !is_accepted(accepted, id) => return false,
-            _ => {}
+fn are_accepted(events: HandedEvents<'_>, accepted: &[Accepted]) -> bool {
+    for place in 0..events.len() {
+        if let Some(event) = events.get(place) {
+            if !is_accepted_part(event, accepted) {
+                return false;
+            }
         }
     }
     true
@@ -161,7 +186,7 @@ fn are_accepted(events: &[JointEvent], accepted: &[Accepted]) -> bool {
 
 /// Whether all of the message that was accepted for a stream was handed out there; nothing where
 /// what was handed out on some stream is no prefix of the message that was accepted for it.
-pub(crate) fn is_whole(events: &[JointEvent], accepted: &[Accepted], id: u32) -> Option<bool> {
+pub(crate) fn is_whole(events: HandedEvents<'_>, accepted: &[Accepted], id: u32) -> Option<bool> {
     let mut is_whole = false;
     for one in accepted {
         let heard = heard_of(events, one);

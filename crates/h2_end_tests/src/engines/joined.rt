@@ -2,7 +2,7 @@
 
 use super::acts::acts;
 use h2_joined::{
-    Acted, Code, Config, EndRefusal, Joined, JointAct, JointEvent, Refusal, Side,
+    Acted, Code, Config, EndRefusal, HandedEvents, Joined, JointAct, JointEvent, Refusal, Side,
     connection_windows_are_conserved, handed_out_is_a_prefix, header_tables_are_in_step, headline,
     joined_ends_are_a_pair, no_fault_is_reported, quiet_ends_have_all, run,
     stream_windows_are_conserved,
@@ -27,29 +27,22 @@ fn half_of(joined: &Joined, side: Side) -> Half {
     )
 }
 
+/// Whether this was handed out at a place: a head of stream 1, which is whole or not.
+fn is_head(events: HandedEvents<'_>, place: usize, is_whole: bool) -> bool {
+    match events.get(place) {
+        Some(JointEvent::Head { id, list, end }) => {
+            id == 1 && end == is_whole && !list.is_empty() && list.get(list.len()).is_none()
+        }
+        _ => false,
+    }
+}
+
 /// Whether the acts have done this: the request was handed out whole, and of the response the head.
 fn are_done(joined: &Joined) -> bool {
-    let server = matches!(
-        joined.handed(Side::Server),
-        [JointEvent::Head {
-            id: 1,
-            end: true,
-            ..
-        }]
-    );
-    let client = matches!(
-        joined.handed(Side::Client),
-        [
-            JointEvent::Acked,
-            JointEvent::Head {
-                id: 1,
-                end: false,
-                ..
-            }
-        ]
-    );
-    server
-        && client
+    let (client, server) = (joined.handed(Side::Client), joined.handed(Side::Server));
+    is_head(server, 0, true)
+        && matches!(client.get(0), Some(JointEvent::Acked))
+        && is_head(client, 1, false)
         && half_of(joined, Side::Client) == (1, 2, 5, None)
         && half_of(joined, Side::Server) == (1, 1, 10, None)
         && !joined.quiet()
@@ -82,20 +75,37 @@ fn is_closed(act: &JointAct, acted: Acted) -> bool {
     }
 }
 
-/// Whether an end has failed, and an act of it is answered as it must be then.
-fn makes(joined: &mut Joined, act: &JointAct, side: Side, stopped: &mut bool) -> bool {
+/// Whether an end has failed, and an act of it is answered as it must be then; and a refused act
+/// has changed nothing.
+fn makes(joined: &mut Joined, act: &JointAct, side: Side) -> bool {
     let before = (half_of(joined, Side::Client), half_of(joined, Side::Server));
     let failed = half_of(joined, side).3.is_some();
     let acted = joined.act(act);
     let after = (half_of(joined, Side::Client), half_of(joined, Side::Server));
-    if *stopped {
-        return acted == Acted::Memory && before == after;
-    }
-    if acted == Acted::Memory && matches!(act, JointAct::Deliver { .. }) {
-        *stopped = true;
-    }
     let refused = matches!(acted, Acted::Refused(_));
     (!failed || is_closed(act, acted)) && (!refused || before == after)
+}
+
+/// Whether a delivery that has stopped, since memory was refused, goes on where it has stopped:
+/// what it had not used is still on the pipe, and the two ends are not quiet before it was made
+/// again.
+fn goes_on(joined: &mut Joined, act: &JointAct, side: Side) -> bool {
+    let other = match side {
+        Side::Client => Side::Server,
+        Side::Server => Side::Client,
+    };
+    let (piped, handed) = (joined.piped(other), joined.handed(side).len());
+    if joined.act(act) != Acted::Memory || !matches!(act, JointAct::Deliver { .. }) {
+        return true;
+    }
+    let fewer = joined.piped(other) <= piped && joined.handed(side).len() >= handed;
+    let is_quiet = joined.quiet();
+    let left = joined.piped(other);
+    let again = joined.act(&JointAct::Deliver {
+        to: side,
+        count: left,
+    });
+    fewer && !is_quiet && (again == Acted::Count(left) || matches!(again, Acted::Failed(_)))
 }
 
 /// The end whose act this is.
@@ -115,14 +125,24 @@ fn side_of(act: &JointAct) -> Side {
 }
 
 /// Whether two new ends do the acts twice, each of which is answered as it must be once an end has
-/// failed, or once a delivery has found no memory.
+/// failed.
 fn plays(alloc: Global) -> Result<bool, AllocError> {
     let acts = acts(alloc)?;
     let mut joined = Joined::new(alloc, Config::default(), Config::default())?;
-    let mut stopped = false;
     let mut holds = true;
     for act in acts.iter().chain(acts.iter()) {
-        holds = makes(&mut joined, act, side_of(act), &mut stopped) && holds;
+        holds = makes(&mut joined, act, side_of(act)) && holds;
+    }
+    Ok(holds)
+}
+
+/// Whether two new ends do the acts, and a delivery that stops goes on.
+fn stops_and_goes_on(alloc: Global) -> Result<bool, AllocError> {
+    let acts = acts(alloc)?;
+    let mut joined = Joined::new(alloc, Config::default(), Config::default())?;
+    let mut holds = true;
+    for act in &acts {
+        holds = goes_on(&mut joined, act, side_of(act)) && holds;
     }
     Ok(holds)
 }
@@ -142,6 +162,12 @@ fn no_acts(rt: HostRuntime) {
 #[test]
 fn a_refused_allocation_at_joined_ends(rt: HostRuntime) {
     assert!(rt; plays(rt.alloc()).unwrap_or(true));
+}
+
+// rule: joined (own) A delivery without memory stops before a call and loses nothing
+#[test]
+fn a_refused_allocation_at_a_delivery(rt: HostRuntime) {
+    assert!(rt; stops_and_goes_on(rt.alloc()).unwrap_or(true));
 }
 
 // rule: joined (own) The header tables of joined ends agree, no window is lost

@@ -15,7 +15,7 @@ pub loop-act-preserved : goal.loop-act-preserved
 loop-act-preserved c =
     runs_next (values_of c.args.client) (values_of c.args.server) c.args.acts.now
     c.loop-act.act-index c.act-item.result c.act.result c.loop-act.joined c.act.new.self
-    c.loop-act-test.true c.act-item.is c.loop-act.invariant c.act.ensures.acts
+    c.loop-act-test.true c.act-item.is c.loop-act.invariant c.act.ensures
     (c.was_refused_memory.ensures.0 c.if-was_refused_memory.false)
 
 pub returns : goal.returns

@@ -1,11 +1,12 @@
 -- By the lemmas on octets that are delivered.
-use Rattle.std.proofs.Common.{◌≡◌, ℕ, List, length, drop, Option, sym, ap, subst}
+use Rattle.std.proofs.Common.{◌≡◌, ℕ, Bool, List, length, drop, Option, sym, ap, subst}
 use Rattle.h2_frame.specs.declared.code.Code.{Code}
 use Rattle.h2_joined.specs.declared.act.Acted.{Acted}
 use Rattle.h2_joined.specs.Joints.{Delivers}
 use Rattle.h2_joined.specs.Kept.{MakesAct, HoldsOctets, made}
-use Rattle.h2_joined.proofs.CodeDelivers.{used_by, answered_by, delivers_acts, none_delivered}
-use Rattle.h2_joined.proofs.CodeDelivers.{HasFailed}
+use Rattle.h2_joined.specs.Delivering.{PutsPipe}
+use Rattle.h2_joined.proofs.CodeDelivers.{used_by, answered_by, unfinished_by}
+use Rattle.h2_joined.proofs.CodeDelivers.{HasFailed, delivers_acts, none_delivered}
 use Rattle.h2_joined.proofs.joined.Joined.deliver.Goals.{in-Client, in-Server}
 use Rattle.h2_joined.proofs.joined.Joined.deliver.Goals.{in-Whole, in-Failed, in-Stopped}
 use Rattle.h2_joined.proofs.joined.Joined.deliver.Goals as goal
@@ -18,7 +19,7 @@ returns-in-Some c =
       | in-Server w ↦ rw (w.in-Server.is, w.failed-is, ← w.conn-in-Server.ensures)
           w.failed-failed-in-Server.ensures
     ] in
-    none_delivered c.args.to c.args.self.now c.args.count c.in-Some.code c.requires
+    none_delivered c.args.to c.args.self.now c.args.count c.in-Some.code
     (subst (λ (f : Option Code). HasFailed c.args.to c.args.self.now f) c.in-Some.is failed)
 
 pub returns : goal.returns
@@ -33,7 +34,8 @@ returns c =
           w.failed-failed-in-Server.ensures
     ] in
     let up = subst (λ (f : Option Code). HasFailed c.args.to old f) c.in_default.is failed in
-    let is : c.match-take_all.used ≡ (used_by of (length octets), answered_by of (length octets)) =
+    let is : c.match-take_all.used
+    ≡ (used_by of (length octets), answered_by of (length octets), unfinished_by of) =
     elim c.match-take_all.branch [
       | in-Whole w ↦ rw w.in-Whole.is w.used-is
       | in-Failed w ↦ rw w.in-Failed.is w.used-is
@@ -41,8 +43,8 @@ returns c =
     ] in
     subst (λ (a : Acted). MakesAct old (made c.args.to (Delivers c.args.count) a)
     c.put_pipe.new.self)
-    (sym (ap (λ (p : ℕ × Acted). p.1) is))
-    (delivers_acts c.args.to old c.put_pipe.new.self c.args.count octets of c.requires
+    (sym (ap (λ (p : ℕ × Acted × Bool). p.1) is))
+    (delivers_acts c.args.to old c.put_pipe.new.self c.args.count octets of
     (record {
       pipe = c.take_pipe-pipe.result;
       left = c.deliver.new.self;
@@ -53,7 +55,8 @@ returns c =
       first = c.first-octets.ensures;
       takes = c.take_all.ensures;
       rest = subst (λ (n : ℕ). (all : List ℕ) → HoldsOctets c.take_pipe-pipe.result all
-          → HoldsOctets c.deliver.new.self (drop n all)) (ap (λ (p : ℕ × Acted). p.0) is)
+          → HoldsOctets c.deliver.new.self (drop n all)) (ap (λ (p : ℕ × Acted × Bool). p.0) is)
           c.deliver.ensures;
-      back = c.put_pipe.ensures;
+      back = subst (λ (b : Bool). PutsPipe c.args.to c.take_all.new.self c.deliver.new.self b
+          c.put_pipe.new.self) (ap (λ (p : ℕ × Acted × Bool). p.2) is) c.put_pipe.ensures;
     }))

@@ -20,13 +20,13 @@ returns c =
     (end_at c.args.side new) =
     elim c.match-side.branch [
       | in-Client w ↦ rw (w.in-Client.is, w.self-is, w.done-is) (
-        record { other_end = refl; kept = same_kept _ _ refl; other_kept = refl; stopped = refl },
+        record { other_end = refl; kept = same_kept _ _ refl; other_kept = refl },
         w.go_away.ensures,
       )
       | in-Server w ↦ rw (w.in-Server.is, w.self-is, w.done-is) (
-        record { other_end = refl; kept = same_kept _ _ refl; other_kept = refl; stopped = refl },
+        record { other_end = refl; kept = same_kept _ _ refl; other_kept = refl },
         w.go_away-in-Server.ensures,
       )
     ] in
-    call_acts c.args.side old new act _ c.done.result c.done.ensures tt tt c.requires
+    call_acts c.args.side old new act _ c.done.result c.done.ensures tt tt
     does.0 does.1

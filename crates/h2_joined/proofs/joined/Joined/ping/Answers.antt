@@ -21,14 +21,14 @@ returns c =
     (end_at c.args.side new) =
     elim c.match-side.branch [
       | in-Client w ↦ rw (w.in-Client.is, w.self-is, w.done-is) (
-        record { other_end = refl; kept = same_kept _ _ refl; other_kept = refl; stopped = refl },
+        record { other_end = refl; kept = same_kept _ _ refl; other_kept = refl },
         w.ping.ensures,
       )
       | in-Server w ↦ rw (w.in-Server.is, w.self-is, w.done-is) (
-        record { other_end = refl; kept = same_kept _ _ refl; other_kept = refl; stopped = refl },
+        record { other_end = refl; kept = same_kept _ _ refl; other_kept = refl },
         w.ping-in-Server.ensures,
       )
     ] in
     call_acts c.args.side old new act _ c.done.result c.done.ensures tt
-    (search rules, all_octets c.args.octets (λ i. search rules)) c.requires
+    (search rules, all_octets c.args.octets (λ i. search rules))
     does.0 does.1

@@ -15,13 +15,13 @@ returns c =
     × EndPumps (end_at c.args.side old) c.match-side.counted (end_at c.args.side new) =
     elim c.match-side.branch [
       | in-Client w ↦ rw (w.in-Client.is, w.self-is, w.counted-is) (
-        record { other_end = refl; kept = same_kept _ _ refl; other_kept = refl; stopped = refl },
+        record { other_end = refl; kept = same_kept _ _ refl; other_kept = refl },
         w.pump.ensures,
       )
       | in-Server w ↦ rw (w.in-Server.is, w.self-is, w.counted-is) (
-        record { other_end = refl; kept = same_kept _ _ refl; other_kept = refl; stopped = refl },
+        record { other_end = refl; kept = same_kept _ _ refl; other_kept = refl },
         w.pump-in-Server.ensures,
       )
     ] in
     pump_acts c.args.side old new c.match-side.counted c.counted.result c.counted.ensures
-    c.requires does.0 does.1
+    does.0 does.1

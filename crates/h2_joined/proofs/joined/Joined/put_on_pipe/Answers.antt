@@ -18,7 +18,7 @@ returns c =
             accepted = refl;
             handed = refl;
             used = refl;
-            stopped = refl;
+            unfinished = refl;
             gives = w.put_out.ensures.ok;
             gives_none = w.put_out.ensures.err;
           })
@@ -30,10 +30,10 @@ returns c =
             accepted = refl;
             handed = refl;
             used = refl;
-            stopped = refl;
+            unfinished = refl;
             gives = w.put_out-in-Server.ensures.ok;
             gives_none = w.put_out-in-Server.ensures.err;
           })
     ] in
     moves_acts c.args.from old new c.args.count c.match-from.moved c.moved.result
-    c.moved.ensures (omega arith) c.requires does
+    c.moved.ensures (omega arith) does

@@ -15,7 +15,8 @@ pub returns-then-is_quiet : goal.returns-then-is_quiet
 returns-then-is_quiet c =
     both_quiet c.args.self.now c.len.result c.len-2.result c.is_quiet.result
     c.is_quiet-then-is_quiet.result c.len.ensures c.len-2.ensures c.is_quiet.ensures
-    c.is_quiet-then-is_quiet.ensures c.if-len-gt0.false c.if-len-gt0-2.false c.if-is_quiet.true
+    c.is_quiet-then-is_quiet.ensures c.if-len-gt0.false c.if-len-gt0-2.false c.if-self.false
+    c.if-self-2.false c.if-is_quiet.true
 
 pub returns-else-is_quiet : goal.returns-else-is_quiet
 returns-else-is_quiet c =

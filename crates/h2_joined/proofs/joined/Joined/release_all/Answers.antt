@@ -15,13 +15,13 @@ returns c =
     × EndReleases (end_at c.args.side old) c.match-side.released (end_at c.args.side new) =
     elim c.match-side.branch [
       | in-Client w ↦ rw (w.in-Client.is, w.self-is, w.released-is) (
-        record { other_end = refl; kept = same_kept _ _ refl; other_kept = refl; stopped = refl },
+        record { other_end = refl; kept = same_kept _ _ refl; other_kept = refl },
         w.release_all.ensures,
       )
       | in-Server w ↦ rw (w.in-Server.is, w.self-is, w.released-is) (
-        record { other_end = refl; kept = same_kept _ _ refl; other_kept = refl; stopped = refl },
+        record { other_end = refl; kept = same_kept _ _ refl; other_kept = refl },
         w.release_all-in-Server.ensures,
       )
     ] in
     release_acts c.args.side old new c.match-side.released c.released.result c.released.ensures
-    c.requires does.0 does.1
+    does.0 does.1

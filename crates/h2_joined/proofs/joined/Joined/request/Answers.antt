@@ -1,8 +1,5 @@
 -- By the lemmas on a request.
 use Rattle.std.proofs.Common.{refl, ap, Ok, Err, subst}
-use Rattle.std.specs.declared.vec.Vec.{Vec}
-use Rattle.h2_joined.specs.declared.kept.JointEvent.{JointEvent}
-use Rattle.std.specs.declared.alloc.Global.{Global}
 use Rattle.h2_message.specs.Messages.{SentMessage}
 use Rattle.h2_message.specs.Values.{message_value}
 use Rattle.h2_ends.specs.Represents.{EndRequests}
@@ -16,33 +13,36 @@ use Rattle.h2_joined.proofs.joined.Joined.request.Goals as goal
 pub returns-in_default : goal.returns-in_default
 returns-in_default c =
     acts_without_copy Client c.args.self.now c.args.self.now
-    (Requests (message_value c.args.message.now)) c.requires (λ count same. cc)
+    (Requests (message_value c.args.message.now))
     (λ one other. no_copy_of_a_request (message_value c.args.message.now)) refl
-    (record { other_end = refl; kept = same_kept _ _ refl; other_kept = refl; stopped = refl })
+    (record { other_end = refl; kept = same_kept _ _ refl; other_kept = refl })
 
 pub returns-then-is_err : goal.returns-then-is_err
 returns-then-is_err c =
     acts_without_copy Client c.args.self.now _ (Requests (message_value c.args.message.now))
-    c.requires (λ count same. cc)
     (λ one other. no_copy_of_a_request (message_value c.args.message.now)) refl
     (record {
       other_end = refl;
-      kept = record { incoming = refl; accepted = c.reserve.ensures.items; handed = refl };
+      kept = record {
+        incoming = refl;
+        accepted = c.reserve.ensures.items;
+        handed = refl;
+        unfinished = refl;
+      };
       other_kept = refl;
-      stopped = refl;
     })
 
 pub returns-in-Ok-request : goal.returns-in-Ok-request
 returns-in-Ok-request c =
     let one : Accepted = record { id = c.in-Ok-request.id; message = c.in-Ok.kept } in
     request_is_accepted c.args.self.now _ (message_value c.args.message.now) c.in-Ok-request.id one
-    c.requires (record {
+    (record {
       other_end = refl;
       incoming = c.accept.ensures.incoming;
       accepted = rw (← c.reserve.ensures.items) c.accept.ensures.accepted;
-      handed = ap (λ (events : Vec JointEvent Global). events.items) c.accept.ensures.handed;
+      handed = c.accept.ensures.handed;
+      unfinished = c.accept.ensures.unfinished;
       other_kept = refl;
-      stopped = refl;
     })
     (ap (λ (m : SentMessage). (c.in-Ok-request.id, m)) c.in-Ok.ensures.kept)
     c.copy_twice.ensures.typed
@@ -52,12 +52,16 @@ returns-in-Ok-request c =
 pub returns-in-Err : goal.returns-in-Err
 returns-in-Err c =
     request_is_refused c.args.self.now _ (message_value c.args.message.now)
-    c.in-Err.field-0-0 c.in-Err.refusal c.requires
+    c.in-Err.field-0-0 c.in-Err.refusal
     (record {
       other_end = refl;
-      kept = record { incoming = refl; accepted = c.reserve.ensures.items; handed = refl };
+      kept = record {
+        incoming = refl;
+        accepted = c.reserve.ensures.items;
+        handed = refl;
+        unfinished = refl;
+      };
       other_kept = refl;
-      stopped = refl;
     }) c.copy_twice.ensures.typed
     (subst (λ (m : SentMessage). EndRequests c.args.self.now.client.end m
     (Err (c.in-Err.field-0-0, c.in-Err.refusal)) c.request.new.self.end) c.in-Ok.ensures.given

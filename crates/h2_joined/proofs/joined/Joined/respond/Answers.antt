@@ -1,8 +1,5 @@
 -- By the lemmas on a response.
 use Rattle.std.proofs.Common.{refl, ap, Ok, Err, subst, arith}
-use Rattle.std.specs.declared.vec.Vec.{Vec}
-use Rattle.h2_joined.specs.declared.kept.JointEvent.{JointEvent}
-use Rattle.std.specs.declared.alloc.Global.{Global}
 use Rattle.h2_message.specs.Messages.{SentMessage}
 use Rattle.h2_message.specs.Values.{message_value}
 use Rattle.h2_ends.specs.Represents.{EndResponds}
@@ -16,33 +13,38 @@ use Rattle.h2_joined.proofs.joined.Joined.respond.Goals as goal
 pub returns-in_default : goal.returns-in_default
 returns-in_default c =
     acts_without_copy Server c.args.self.now c.args.self.now
-    (Responds c.args.id (message_value c.args.message.now)) c.requires (λ count same. cc)
+    (Responds c.args.id (message_value c.args.message.now))
     (λ one other. no_copy_of_a_response c.args.id (message_value c.args.message.now)) refl
-    (record { other_end = refl; kept = same_kept _ _ refl; other_kept = refl; stopped = refl })
+    (record { other_end = refl; kept = same_kept _ _ refl; other_kept = refl })
 
 pub returns-then-is_err : goal.returns-then-is_err
 returns-then-is_err c =
     acts_without_copy Server c.args.self.now _
-    (Responds c.args.id (message_value c.args.message.now)) c.requires (λ count same. cc)
+    (Responds c.args.id (message_value c.args.message.now))
     (λ one other. no_copy_of_a_response c.args.id (message_value c.args.message.now)) refl
     (record {
       other_end = refl;
-      kept = record { incoming = refl; accepted = c.reserve.ensures.items; handed = refl };
+      kept = record {
+        incoming = refl;
+        accepted = c.reserve.ensures.items;
+        handed = refl;
+        unfinished = refl;
+      };
       other_kept = refl;
-      stopped = refl;
     })
 
 pub returns-in-Ok-respond : goal.returns-in-Ok-respond
 returns-in-Ok-respond c =
     let one : Accepted = record { id = c.args.id; message = c.in-Ok.kept } in
     respond_is_accepted c.args.self.now _ c.args.id (message_value c.args.message.now)
-    c.in-Ok-respond.field-0 one c.requires (record {
+    c.in-Ok-respond.field-0 one
+    (record {
       other_end = refl;
       incoming = c.accept.ensures.incoming;
       accepted = rw (← c.reserve.ensures.items) c.accept.ensures.accepted;
-      handed = ap (λ (events : Vec JointEvent Global). events.items) c.accept.ensures.handed;
+      handed = c.accept.ensures.handed;
+      unfinished = c.accept.ensures.unfinished;
       other_kept = refl;
-      stopped = refl;
     })
     (ap (λ (m : SentMessage). (c.args.id, m)) c.in-Ok.ensures.kept) (omega arith)
     c.copy_twice.ensures.typed
@@ -53,12 +55,16 @@ returns-in-Ok-respond c =
 pub returns-in-Err : goal.returns-in-Err
 returns-in-Err c =
     respond_is_refused c.args.self.now _ c.args.id (message_value c.args.message.now)
-    c.in-Err.field-0-0 c.in-Err.refusal c.requires
+    c.in-Err.field-0-0 c.in-Err.refusal
     (record {
       other_end = refl;
-      kept = record { incoming = refl; accepted = c.reserve.ensures.items; handed = refl };
+      kept = record {
+        incoming = refl;
+        accepted = c.reserve.ensures.items;
+        handed = refl;
+        unfinished = refl;
+      };
       other_kept = refl;
-      stopped = refl;
     }) (omega arith) c.copy_twice.ensures.typed
     (subst (λ (m : SentMessage). EndResponds c.args.self.now.server.end c.args.id m
     (Err (c.in-Err.field-0-0, c.in-Err.refusal)) c.respond.new.self.end) c.in-Ok.ensures.given

@@ -1,12 +1,12 @@
 -- By the lemmas on octets that are handed to `take` again and again.
-use Rattle.std.proofs.Common.{add-one, arith}
+use Rattle.std.proofs.Common.{add-one}
 use Rattle.std.proofs.lemmas.List.{take_rest}
 use Rattle.h2_joined.proofs.CodeRounds.{takes_first, takes_more, takes_whole, takes_failed}
 use Rattle.h2_joined.proofs.CodeRounds.{takes_stopped, takes_no_more}
 use Rattle.h2_joined.proofs.joined.Joined.take_all.Goals as goal
 
 pub loop-round-init : goal.loop-round-init
-loop-round-init c = takes_first c.args.to c.args.self.now c.args.octets.now c.requires
+loop-round-init c = takes_first c.args.to c.args.self.now c.args.octets.now
 
 pub returns-in-Whole : goal.returns-in-Whole
 returns-in-Whole c =
@@ -27,8 +27,6 @@ pub returns-in-Stopped : goal.returns-in-Stopped
 returns-in-Stopped c =
     takes_stopped c.args.to c.args.self.now c.loop-round.self c.take_next.new.self
     c.args.octets.now c.loop-round._round c.loop-round.taken c.loop-round.invariant
-    c.loop-round-test.true
-    c.in-Stopped.used
     (rw (take_rest c.args.octets.now c.loop-round.taken) at c.in-Stopped.ensures)
 
 pub loop-round-preserved : goal.loop-round-preserved
@@ -44,4 +42,3 @@ pub returns : goal.returns
 returns c =
     takes_no_more c.args.to c.args.self.now c.loop-round.self c.args.octets.now
     c.loop-round._round c.loop-round.taken c.loop-round.invariant
-    (omega (arith, c.loop-round-test.false, c.loop-round.auto._round-end))

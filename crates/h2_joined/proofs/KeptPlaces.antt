@@ -1,0 +1,154 @@
+-- What is kept at places stays where more is kept after it.
+use Rattle.std.proofs.Common.{◌≡◌, ℕ, zero, suc, ◌-◌, ◌<◌, ◌≤◌, List, [], ◌∷◌, ◌++◌}
+use Rattle.std.proofs.Common.{length, take, drop, map, get_or, Some, refl, ap, ap₂, ◌∙◌, arith}
+use Rattle.std.proofs.Common.{length-drop}
+use Rattle.std.specs.List.{AllByRecursion}
+use Rattle.std.specs.List.{slice_get}
+use Rattle.std.specs.Option.{option_map}
+use Rattle.std.proofs.lemmas.List.{take-append-le, drop-append-le}
+use Rattle.std.proofs.lemmas.Option.{slice_get-map, slice_get-get_or}
+use Rattle.hpack.specs.declared.types.field.Field.{Field}
+use Rattle.h2_ends.specs.Ends.{Handed, InterimHanded, HeadHanded, BodyHanded, TrailersHanded}
+use Rattle.h2_joined.specs.declared.store.Span.{Span}
+use Rattle.h2_joined.specs.declared.store.FieldPlace.{FieldPlace}
+use Rattle.h2_joined.specs.declared.store.EventPlace.{EventPlace}
+use Rattle.h2_joined.specs.declared.store.EventPlace.TheVariants as places
+use Rattle.h2_joined.specs.Stored.{part_of, field_of, fields_of, event_of, IsSpan, IsFieldPlace}
+use Rattle.h2_joined.specs.Stored.{IsEventPlace}
+
+-- The item at a place of a list, with what is made of it.
+pub made_at : {A B : Type 0} (f : A → B) (items : List A) (i : ℕ) (other : A) → i < length items
+    → slice_get (map f items) i ≡ Some (f (get_or items i other))
+made_at f items i other within =
+    slice_get-map f items i ∙ ap (option_map f) (slice_get-get_or items i other within)
+
+-- The items of a span stay.
+pub part_more : {A : Type 0} (items more : List A) (span : Span) → IsSpan (length items) span
+    → part_of (items ++ more) span ≡ part_of items span
+part_more items more span is =
+    ap (take (span.end - span.start))
+    (drop-append-le span.start items more (omega (arith, is.ordered, is.within)))
+    ∙ take-append-le (span.end - span.start) (drop span.start items) more
+    (omega (arith, length-drop span.start items, is.within))
+
+-- So does a field,
+field_more : (octets more : List ℕ) (place : FieldPlace) → IsFieldPlace (length octets) place
+    → field_of (octets ++ more) place ≡ field_of octets place
+unfolding field_of
+field_more octets more place is =
+    ap₂ (λ (name value : List ℕ). record {
+      name = name;
+      value = value;
+      sensitive = place.sensitive;
+    })
+    (part_more octets more place.name is.name) (part_more octets more place.value is.value)
+
+pub fields_more : (octets more : List ℕ) (fields : List FieldPlace)
+    → AllByRecursion (IsFieldPlace (length octets)) fields
+    → fields_of (octets ++ more) fields ≡ fields_of octets fields
+fields_more octets more [] all = refl
+fields_more octets more (place ∷ fields) all =
+    ap₂ (λ (f : Field) (fs : List Field). f ∷ fs) (field_more octets more place all.0)
+    (fields_more octets more fields all.1)
+
+-- What holds of all items holds of those of a span.
+all_taken : {A : Type 0} (P : A → Type 0) (n : ℕ) (items : List A) → AllByRecursion P items
+    → AllByRecursion P (take n items)
+all_taken P zero items all = tt
+all_taken P (suc n) [] all = tt
+all_taken P (suc n) (item ∷ items) all = (all.0, all_taken P n items all.1)
+
+all_dropped : {A : Type 0} (P : A → Type 0) (n : ℕ) (items : List A) → AllByRecursion P items
+    → AllByRecursion P (drop n items)
+all_dropped P zero items all = all
+all_dropped P (suc n) [] all = tt
+all_dropped P (suc n) (item ∷ items) all = all_dropped P n items all.1
+
+pub all_joined : {A : Type 0} (P : A → Type 0) (one other : List A) → AllByRecursion P one
+    → AllByRecursion P other → AllByRecursion P (one ++ other)
+all_joined P [] other all others = others
+all_joined P (item ∷ one) other all others = (all.0, all_joined P one other all.1 others)
+
+-- The fields of a span stay,
+listed : (octets more : List ℕ) (fields others : List FieldPlace) (list : Span)
+    → AllByRecursion (IsFieldPlace (length octets)) fields → IsSpan (length fields) list
+    → fields_of (octets ++ more) (part_of (fields ++ others) list)
+    ≡ fields_of octets (part_of fields list)
+listed octets more fields others list all is =
+    ap (λ (l : List FieldPlace). fields_of (octets ++ more) l) (part_more fields others list is)
+    ∙ fields_more octets more (part_of fields list)
+    (all_taken (IsFieldPlace (length octets)) (list.end - list.start) (drop list.start fields)
+    (all_dropped (IsFieldPlace (length octets)) list.start fields all))
+
+-- and an event,
+event_more : (octets more : List ℕ) (fields others : List FieldPlace) (place : EventPlace)
+    → AllByRecursion (IsFieldPlace (length octets)) fields
+    → IsEventPlace (length octets) (length fields) place
+    → event_of (octets ++ more) (fields ++ others) place ≡ event_of octets fields place
+unfolding event_of IsEventPlace
+event_more octets more fields others (places.Interim id list) all is =
+    ap (λ (l : List Field). InterimHanded id l) (listed octets more fields others list all is)
+event_more octets more fields others (places.Head id list end) all is =
+    ap (λ (l : List Field). HeadHanded id l end) (listed octets more fields others list all is)
+event_more octets more fields others (places.Body id part end) all is =
+    ap (λ (o : List ℕ). BodyHanded id o end) (part_more octets more part is)
+event_more octets more fields others (places.Trailers id list) all is =
+    ap (λ (l : List Field). TrailersHanded id l) (listed octets more fields others list all is)
+event_more octets more fields others (places.Reset id code ours) all is = refl
+event_more octets more fields others (places.Unprocessed id) all is = refl
+event_more octets more fields others (places.GoAway last code) all is = refl
+event_more octets more fields others places.Acked all is = refl
+event_more octets more fields others (places.Pong pong) all is = refl
+
+pub events_more : (octets more : List ℕ) (fields others : List FieldPlace)
+    (events : List EventPlace) → AllByRecursion (IsFieldPlace (length octets)) fields
+    → AllByRecursion (IsEventPlace (length octets) (length fields)) events
+    → map (event_of (octets ++ more) (fields ++ others)) events
+    ≡ map (event_of octets fields) events
+events_more octets more fields others [] all are = refl
+events_more octets more fields others (place ∷ events) all are =
+    ap₂ (λ (h : Handed) (hs : List Handed). h ∷ hs)
+    (event_more octets more fields others place all are.0)
+    (events_more octets more fields others events all are.1)
+
+-- What lies among so many lies among more.
+span_within : (count more : ℕ) (span : Span) → count ≤ more → IsSpan count span → IsSpan more span
+span_within count more span less is =
+    record { ordered = is.ordered; within = omega (arith, less, is.within) }
+
+pub fields_within : (count more : ℕ) (fields : List FieldPlace) → count ≤ more
+    → AllByRecursion (IsFieldPlace count) fields → AllByRecursion (IsFieldPlace more) fields
+fields_within count more [] less all = tt
+fields_within count more (place ∷ fields) less all = (
+  record {
+    name = span_within count more place.name less all.0.name;
+    value = span_within count more place.value less all.0.value;
+  },
+  fields_within count more fields less all.1,
+)
+
+event_within : (octets more fields others : ℕ) (place : EventPlace) → octets ≤ more
+    → fields ≤ others → IsEventPlace octets fields place → IsEventPlace more others place
+unfolding IsEventPlace
+event_within octets more fields others (places.Interim id list) less fewer is =
+    span_within fields others list fewer is
+event_within octets more fields others (places.Head id list end) less fewer is =
+    span_within fields others list fewer is
+event_within octets more fields others (places.Body id part end) less fewer is =
+    span_within octets more part less is
+event_within octets more fields others (places.Trailers id list) less fewer is =
+    span_within fields others list fewer is
+event_within octets more fields others (places.Reset id code ours) less fewer is = tt
+event_within octets more fields others (places.Unprocessed id) less fewer is = tt
+event_within octets more fields others (places.GoAway last code) less fewer is = tt
+event_within octets more fields others places.Acked less fewer is = tt
+event_within octets more fields others (places.Pong pong) less fewer is = tt
+
+pub events_within : (octets more fields others : ℕ) (events : List EventPlace) → octets ≤ more
+    → fields ≤ others → AllByRecursion (IsEventPlace octets fields) events
+    → AllByRecursion (IsEventPlace more others) events
+events_within octets more fields others [] less fewer all = tt
+events_within octets more fields others (place ∷ events) less fewer all = (
+  event_within octets more fields others place less fewer all.0,
+  events_within octets more fields others events less fewer all.1,
+)

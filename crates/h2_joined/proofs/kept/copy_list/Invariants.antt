@@ -1,6 +1,0 @@
--- The fields so far are copied.
-use Rattle.std.proofs.Common.{◌≡◌, take}
-use Rattle.h2_joined.proofs.kept.copy_list.Given as goal
-
-abbrev pub invariant-loop-place : goal.invariant-loop-place
-invariant-loop-place l = l.copy.items ≡ take l.place l.list

@@ -1,0 +1,190 @@
+-- What is kept of events: where each lies among octets and fields that are kept one after another,
+-- and what a store is once one event more is kept.
+use Rattle.std.specs.Prelude.{map, ◌≡◌, ℕ, ◌+◌, ◌-◌, ◌≤◌, List, [], ◌∷◌, ◌++◌, length, take, drop}
+use Rattle.std.specs.List.{AllByRecursion}
+use Rattle.std.specs.Vec.{vec_len, vec_capacity}
+use Rattle.hpack.specs.declared.types.field.Field.{Field}
+use Rattle.hpack.specs.Lists.{list_size}
+use Rattle.h2_log.specs.Events as events
+use Rattle.h2_ends.specs.Ends.{Handed, InterimHanded, HeadHanded, BodyHanded, TrailersHanded}
+use Rattle.h2_ends.specs.Ends.{Passed}
+use Rattle.h2_joined.specs.declared.store.Span.{Span}
+use Rattle.h2_joined.specs.declared.store.FieldPlace.{FieldPlace}
+use Rattle.h2_joined.specs.declared.store.EventPlace.{EventPlace}
+use Rattle.h2_joined.specs.declared.store.EventPlace.TheVariants as places
+use Rattle.h2_joined.specs.declared.store.Store.{Store}
+use Rattle.h2_joined.specs.declared.events.KeptFields.{KeptFields}
+use Rattle.h2_joined.specs.declared.events.JointEvent.{JointEvent}
+use Rattle.h2_joined.specs.declared.events.JointEvent.TheVariants as kept
+
+-- the items of a span
+abbrev pub part_of : {A : Type 0} → List A → Span → List A
+part_of items span = take (span.end - span.start) (drop span.start items)
+
+-- the field at a place
+unfoldable pub field_of : List ℕ → FieldPlace → Field
+field_of octets place = record {
+  name = part_of octets place.name;
+  value = part_of octets place.value;
+  sensitive = place.sensitive;
+}
+
+abbrev pub fields_of : List ℕ → List FieldPlace → List Field
+fields_of octets places = map (field_of octets) places
+
+-- the event at a place
+-- rule: joined (own) Accepted messages, what was handed out, octets on a pipe are kept
+unfoldable pub event_of : List ℕ → List FieldPlace → EventPlace → Handed
+event_of octets fields (places.Interim id list) =
+    InterimHanded id (fields_of octets (part_of fields list))
+event_of octets fields (places.Head id list end) =
+    HeadHanded id (fields_of octets (part_of fields list)) end
+event_of octets fields (places.Body id part end) = BodyHanded id (part_of octets part) end
+event_of octets fields (places.Trailers id list) =
+    TrailersHanded id (fields_of octets (part_of fields list))
+event_of octets fields (places.Reset id code ours) = Passed (events.ResetEvent id code ours)
+event_of octets fields (places.Unprocessed id) = Passed (events.UnprocessedEvent id)
+event_of octets fields (places.GoAway last code) = Passed (events.GoAwayEvent last code)
+event_of octets fields places.Acked = Passed events.AckedEvent
+event_of octets fields (places.Pong pong) = Passed (events.PongEvent pong)
+
+-- the events that are kept, the first one first
+-- rule: joined (own) Accepted messages, what was handed out, octets on a pipe are kept
+abbrev pub events_of : Store → List Handed
+events_of store = map (event_of store.octets.items store.fields.items) store.events.items
+
+-- The span is among so many items.
+pub record IsSpan (count : ℕ) (span : Span) : Type 0 where
+  pub ordered : span.start ≤ span.end
+  pub within : span.end ≤ count
+
+-- A field lies among so many octets.
+pub record IsFieldPlace (octets : ℕ) (place : FieldPlace) : Type 0 where
+  pub name : IsSpan octets place.name
+  pub value : IsSpan octets place.value
+
+-- An event lies among so many octets and fields.
+unfoldable pub IsEventPlace : (octets fields : ℕ) → EventPlace → Type 0
+IsEventPlace octets fields (places.Interim id list) = IsSpan fields list
+IsEventPlace octets fields (places.Head id list end) = IsSpan fields list
+IsEventPlace octets fields (places.Body id part end) = IsSpan octets part
+IsEventPlace octets fields (places.Trailers id list) = IsSpan fields list
+IsEventPlace octets fields (places.Reset id code ours) = Unit {0}
+IsEventPlace octets fields (places.Unprocessed id) = Unit {0}
+IsEventPlace octets fields (places.GoAway last code) = Unit {0}
+IsEventPlace octets fields places.Acked = Unit {0}
+IsEventPlace octets fields (places.Pong pong) = Unit {0}
+
+-- All that a store keeps lies within it.
+pub record AreStored (store : Store) : Type 0 where
+  pub fields : AllByRecursion (IsFieldPlace (length store.octets.items)) store.fields.items
+  pub events : AllByRecursion
+      (IsEventPlace (length store.octets.items) (length store.fields.items)) store.events.items
+
+-- the fields of a list that is lent
+abbrev pub fields_kept : KeptFields → List Field
+fields_kept list = fields_of list.octets.now list.places.now
+
+-- an event that is lent
+-- rule: joined (own) Accepted messages, what was handed out, octets on a pipe are kept
+abbrev pub event_value : JointEvent → Handed
+event_value (kept.Interim id list) = InterimHanded id (fields_kept list)
+event_value (kept.Head id list end) = HeadHanded id (fields_kept list) end
+event_value (kept.Body id octets end) = BodyHanded id octets.now end
+event_value (kept.Trailers id list) = TrailersHanded id (fields_kept list)
+event_value (kept.Reset id code ours) = Passed (events.ResetEvent id code ours)
+event_value (kept.Unprocessed id) = Passed (events.UnprocessedEvent id)
+event_value (kept.GoAway last code) = Passed (events.GoAwayEvent last code)
+event_value kept.Acked = Passed events.AckedEvent
+event_value (kept.Pong octets) = Passed (events.PongEvent octets)
+
+-- the greatest number of octets, and of fields, that one event has: the size of a list, in which
+-- each field counts 32 octets more than it has, is 65,536 at most
+abbrev pub most_octets : ℕ
+most_octets = 65536
+
+abbrev pub most_fields : ℕ
+most_fields = 2048
+
+-- There is room for whatever a call may hand out.
+-- rule: joined (own) A delivery without memory stops before a call and loses nothing
+pub record HasRoom (store : Store) : Type 0 where
+  pub events : vec_len store.events + 1 ≤ vec_capacity store.events
+  pub fields : vec_len store.fields + most_fields ≤ vec_capacity store.fields
+  pub octets : vec_len store.octets + most_octets ≤ vec_capacity store.octets
+
+-- Such room is enough for what was handed out.
+unfoldable pub Fits : Handed → Type 0
+Fits (InterimHanded id list) = list_size list ≤ most_octets
+Fits (HeadHanded id list end) = list_size list ≤ most_octets
+Fits (BodyHanded id octets end) = length octets ≤ most_octets
+Fits (TrailersHanded id list) = list_size list ≤ most_octets
+Fits (Passed event) = Unit {0}
+
+-- The same is kept, with other room.
+pub record KeepsItems (old new : Store) : Type 0 where
+  pub events : new.events.items ≡ old.events.items
+  pub fields : new.fields.items ≡ old.fields.items
+  pub octets : new.octets.items ≡ old.octets.items
+
+-- This is kept after what was kept before.
+pub record KeepsMore (old : Store) (handed : Handed) (new : Store) : Type 0 where
+  pub more : events_of new ≡ events_of old ++ handed ∷ []
+  pub stored : AreStored new
+
+-- Octets are kept, at this span, where there is room.
+pub record KeepsOctets (old : Store) (octets : List ℕ) (span : Span) (new : Store) : Type 0 where
+  pub events : new.events ≡ old.events
+  pub fields : new.fields ≡ old.fields
+  pub capacity : vec_capacity old.octets ≤ vec_capacity new.octets
+  pub kept : vec_len old.octets + length octets ≤ vec_capacity old.octets
+      → (new.octets.items ≡ old.octets.items ++ octets)
+      × (span.start ≡ length old.octets.items) × (span.end ≡ length new.octets.items)
+
+-- A field was kept, the last of all.
+pub record IsFieldKept (old : Store) (field : Field) (new : Store) : Type 0 where
+  pub place : FieldPlace
+  pub octets : new.octets.items ≡ old.octets.items ++ (field.name ++ field.value)
+  pub fields : new.fields.items ≡ old.fields.items ++ place ∷ []
+  pub same : field_of new.octets.items place ≡ field
+  pub within : IsFieldPlace (length new.octets.items) place
+
+pub record KeepsField (old : Store) (field : Field) (new : Store) : Type 0 where
+  pub events : new.events ≡ old.events
+  pub octets_capacity : vec_capacity old.octets ≤ vec_capacity new.octets
+  pub fields_capacity : vec_capacity old.fields ≤ vec_capacity new.fields
+  pub kept : vec_len old.octets + (length field.name + length field.value)
+      ≤ vec_capacity old.octets → vec_len old.fields + 1 ≤ vec_capacity old.fields
+      → IsFieldKept old field new
+
+-- Fields were kept, after what was kept before.
+pub record AreFieldsKept (old : Store) (list : List Field) (new : Store) : Type 0 where
+  pub octets : List ℕ
+  pub places : List FieldPlace
+  pub octets_are : new.octets.items ≡ old.octets.items ++ octets
+  pub fields_are : new.fields.items ≡ old.fields.items ++ places
+  pub same : fields_of new.octets.items places ≡ list
+  pub within : AllByRecursion (IsFieldPlace (length new.octets.items)) places
+
+-- A list is kept, at this span, where there is room and it is not too large.
+pub record KeepsList (old : Store) (list : List Field) (span : Span) (new : Store) : Type 0 where
+  pub events : new.events ≡ old.events
+  pub start : span.start ≡ length old.fields.items
+  pub end : span.end ≡ length new.fields.items
+  pub kept : HasRoom old → list_size list ≤ most_octets → AreFieldsKept old list new
+
+-- What an event has is kept, and this is its place.
+pub record IsPlaced (old : Store) (handed : Handed) (place : EventPlace) (new : Store) : Type 0
+  where
+    pub octets : List ℕ
+    pub fields : List FieldPlace
+    pub octets_are : new.octets.items ≡ old.octets.items ++ octets
+    pub fields_are : new.fields.items ≡ old.fields.items ++ fields
+    pub same : event_of new.octets.items new.fields.items place ≡ handed
+    pub fields_within : AllByRecursion (IsFieldPlace (length new.octets.items)) fields
+    pub within : IsEventPlace (length new.octets.items) (length new.fields.items) place
+
+pub record PlacesEvent (old : Store) (handed : Handed) (place : EventPlace) (new : Store) : Type 0
+  where
+    pub events : new.events ≡ old.events
+    pub placed : HasRoom old → Fits handed → IsPlaced old handed place new

@@ -1,0 +1,194 @@
+//! What an end has handed out, kept: the places of its events, of their fields and of their octets.
+
+ghost use Rattle.std.specs.Prelude.{◌≡◌, true, length, []};
+ghost use Rattle.h2_ends.specs.Loans.{event_handed};
+ghost use Rattle.h2_joined.specs.Stored.{AreStored, Fits, HasRoom, KeepsItems, KeepsMore};
+ghost use Rattle.h2_joined.specs.Stored.{KeepsField, KeepsList, KeepsOctets, PlacesEvent};
+ghost use Rattle.h2_joined.specs.Stored.{events_of, part_of};
+
+use h2_ends::{EndEvent, FieldList, FieldRef};
+use std::alloc::Global;
+
+/// The most octets that one event has: a list whose size is at most 65,536, or a body of at most
+/// 16,384.
+const MOST_OCTETS: usize = 65_536;
+
+/// The most fields that one event has, each of which counts at least 32 of the size of its list.
+const MOST_FIELDS: usize = 2_048;
+
+/// From one place to another, which is not in it.
+#[derive(Clone, Copy)]
+pub(crate) struct Span {
+    pub(crate) start: usize,
+    pub(crate) end: usize,
+}
+
+/// Where a field is among the octets.
+#[derive(Clone, Copy)]
+pub(crate) struct FieldPlace {
+    pub(crate) name: Span,
+    pub(crate) value: Span,
+    pub(crate) sensitive: bool,
+}
+
+/// An event, with where its fields are among the fields, or its octets among the octets.
+#[derive(Clone, Copy)]
+pub(crate) enum EventPlace {
+    Interim { id: u32, list: Span },
+    Head { id: u32, list: Span, end: bool },
+    Body { id: u32, octets: Span, end: bool },
+    Trailers { id: u32, list: Span },
+    Reset { id: u32, code: u32, ours: bool },
+    Unprocessed { id: u32 },
+    GoAway { last: u32, code: u32 },
+    Acked,
+    Pong { octets: [u8; 8] },
+}
+
+/// What an end has handed out, in order.
+#[derive(Drop)]
+pub(crate) struct Store {
+    /// The events.
+    pub(crate) events: Vec<EventPlace>,
+    /// The fields of all of them.
+    pub(crate) fields: Vec<FieldPlace>,
+    /// The octets of all fields and bodies.
+    pub(crate) octets: Vec<u8>,
+}
+
+impl Store {
+    /// An empty store.
+    pub(crate) fn new(alloc: Global) -> Store
+        ensures none { events_of result ≡ [] }
+        ensures stored { AreStored result }
+    {
+        Store {
+            events: Vec::new(alloc),
+            fields: Vec::new(alloc),
+            octets: Vec::new(alloc),
+        }
+    }
+
+    // rule: joined (own) A delivery without memory stops before a call and loses nothing
+    /// Makes room for whatever a call of `take` may hand out, and answers whether there was memory
+    /// for it.
+    pub(crate) fn make_room(&mut self) -> bool
+        ensures items { KeepsItems self.old self.new }
+        ensures room { result ≡ true → HasRoom self.new }
+    {
+        if self.events.reserve(1).is_err() {
+            return false;
+        }
+        if self.fields.reserve(MOST_FIELDS).is_err() {
+            return false;
+        }
+        self.octets.reserve(MOST_OCTETS).is_ok()
+    }
+
+    // rule: joined (own) Accepted messages, what was handed out, octets on a pipe are kept
+    /// Keeps an event, for which there is room: so nothing of it is refused.
+    pub(crate) fn keep(&mut self, event: EndEvent<'_>)
+        ensures { HasRoom self.old → Fits (event_handed event.entry) → AreStored self.old
+            → KeepsMore self.old (event_handed event.entry) self.new }
+    {
+        let place = self.place_of(event);
+        let _pushed = self.events.push(place);
+    }
+
+    // rule: joined (own) Accepted messages, what was handed out, octets on a pipe are kept
+    /// Keeps the fields and the octets of an event, and answers its place.
+    fn place_of(&mut self, event: EndEvent<'_>) -> EventPlace
+        ensures { PlacesEvent self.old (event_handed event.entry) result self.new }
+    {
+        match event {
+            EndEvent::Interim { id, list } => EventPlace::Interim {
+                id,
+                list: self.keep_list(list),
+            },
+            EndEvent::Head { id, list, end } => EventPlace::Head {
+                id,
+                list: self.keep_list(list),
+                end,
+            },
+            EndEvent::Body { id, bytes, end } => EventPlace::Body {
+                id,
+                octets: self.keep_octets(bytes),
+                end,
+            },
+            EndEvent::Trailers { id, list } => EventPlace::Trailers {
+                id,
+                list: self.keep_list(list),
+            },
+            EndEvent::Reset { id, code, ours } => EventPlace::Reset { id, code, ours },
+            EndEvent::Unprocessed { id } => EventPlace::Unprocessed { id },
+            EndEvent::GoAway { last, code } => EventPlace::GoAway { last, code },
+            EndEvent::Acked => EventPlace::Acked,
+            EndEvent::Pong { octets } => EventPlace::Pong { octets },
+        }
+    }
+
+    /// Keeps the fields of a list, and answers where they are.
+    fn keep_list(&mut self, list: &FieldList) -> Span
+        ensures { KeepsList self.old list.now result self.new }
+    {
+        let start = self.fields.len();
+        for place in 0..list.len() {
+            let Some(field) = list.get(place) else {
+                unreachable!()
+            };
+            self.keep_field(field);
+        }
+        Span {
+            start,
+            end: self.fields.len(),
+        }
+    }
+
+    /// Keeps a field.
+    fn keep_field(&mut self, field: FieldRef<'_>)
+        ensures { KeepsField self.old (record {
+          name = field.entry.name.now;
+          value = field.entry.value.now;
+          sensitive = field.entry.sensitive;
+        }) self.new }
+    {
+        let name = self.keep_octets(field.name);
+        let value = self.keep_octets(field.value);
+        let sensitive = field.sensitive;
+        let _pushed = self.fields.push(FieldPlace {
+            name,
+            value,
+            sensitive,
+        });
+    }
+
+    /// Keeps octets, and answers where they are.
+    fn keep_octets(&mut self, octets: &[u8]) -> Span
+        ensures { KeepsOctets self.old octets.now result self.new }
+    {
+        let start = self.octets.len();
+        let _kept = self.octets.extend_from_slice(octets);
+        Span {
+            start,
+            end: self.octets.len(),
+        }
+    }
+}
+
+/// The octets of a span.
+pub(crate) fn octets_at(octets: &[u8], span: Span) -> &[u8]
+    ensures { result.now ≡ part_of octets.now span }
+{
+    let end = span.end.min(octets.len());
+    let start = span.start.min(end);
+    &octets[start..end]
+}
+
+/// The fields of a span.
+pub(crate) fn fields_at(fields: &[FieldPlace], span: Span) -> &[FieldPlace]
+    ensures { result.now ≡ part_of fields.now span }
+{
+    let end = span.end.min(fields.len());
+    let start = span.start.min(end);
+    &fields[start..end]
+}
