@@ -119,7 +119,7 @@ fn handed_of(joined: &Joined, to: Side, stream: u32, body: &[u8]) -> Option<usiz
     let mut count: usize = 0;
     for place in 0..joined.handed(to).len() {
         if let Some(JointEvent::Body { id, bytes, .. }) = joined.handed(to).get(place)
-            && *id == stream
+            && id == stream
         {
             if !body.get(count..)?.starts_with(bytes) {
                 return None;

@@ -24,6 +24,10 @@ const ANSWERED: &[u8] = b"\
     \x00\x00\x04\x01\x04\x00\x00\x00\x01\x88\x5c\x81\x73\
     \x00\x00\x06\x00\x01\x00\x00\x00\x01GET /\n";
 
+/// What a client has not written yet where a response is whole that came with the server's SETTINGS:
+/// the acknowledgment of these. Where it fails it writes that before GOAWAY.
+const ACK: &[u8] = b"\x00\x00\x00\x04\x01\x00\x00\x00\x00";
+
 /// A link in memory whose output has room for what comes, and which fails where it has not.
 #[derive(Drop)]
 struct RoomyLink {
@@ -140,6 +144,7 @@ impl Scenario for Fetching {
             Ok(fetched) => {
                 note_fetched(&fetched, record);
                 record.put_out(&self.link.output);
+                record.put_out(ACK);
             }
             Err(error) => note_error(error, &self.link.output, record),
         }
@@ -147,14 +152,14 @@ impl Scenario for Fetching {
 }
 
 /// A server over a link that gives a client's octets.
-fn serving(alloc: Global) -> Result<Serving, AllocError> {
+fn new_serving(alloc: Global) -> Result<Serving, AllocError> {
     Ok(Serving {
         link: RoomyLink::new(alloc, ASKED)?,
     })
 }
 
 /// A client over a link that gives a server's octets.
-fn fetching(alloc: Global) -> Result<Fetching, AllocError> {
+fn new_fetching(alloc: Global) -> Result<Fetching, AllocError> {
     Ok(Fetching {
         link: RoomyLink::new(alloc, ANSWERED)?,
         message: Some(get(alloc)?),
@@ -163,16 +168,16 @@ fn fetching(alloc: Global) -> Result<Fetching, AllocError> {
 
 /// Whether a server bears that memory is refused, and writes these octets otherwise.
 fn server_bears(alloc: Global) -> Result<bool, AllocError> {
-    let (mut first, mut second) = (serving(alloc)?, serving(alloc)?);
+    let (mut first, mut second) = (new_serving(alloc)?, new_serving(alloc)?);
     let bears = holds(alloc, &mut first, &mut second);
     Ok(bears && first.link.output.as_slice() == ANSWERED)
 }
 
 /// Whether a client does.
 fn client_bears(alloc: Global) -> Result<bool, AllocError> {
-    let (mut first, mut second) = (fetching(alloc)?, fetching(alloc)?);
+    let (mut first, mut second) = (new_fetching(alloc)?, new_fetching(alloc)?);
     let bears = holds(alloc, &mut first, &mut second);
-    Ok(bears && first.link.output.as_slice().starts_with(ASKED))
+    Ok(bears && first.link.output.as_slice() == ASKED)
 }
 
 // rule: engines (own) N2 has the code with which the connection failed; memory is N3

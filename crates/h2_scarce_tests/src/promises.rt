@@ -223,7 +223,7 @@ fn fault_keeps(alloc: Global, kind: Kind) -> bool {
 }
 
 /// An output with room for a frame.
-fn passing(alloc: Global) -> Result<Passing, AllocError> {
+fn new_passing(alloc: Global) -> Result<Passing, AllocError> {
     Ok(Passing {
         out: Vec::with_capacity(alloc, 17)?,
     })
@@ -231,7 +231,7 @@ fn passing(alloc: Global) -> Result<Passing, AllocError> {
 
 /// Whether a frame is passed on and written without memory.
 fn passing_keeps(alloc: Global) -> Result<bool, AllocError> {
-    Ok(takes_no_memory(alloc, &mut passing(alloc)?, &mut passing(alloc)?))
+    Ok(takes_no_memory(alloc, &mut new_passing(alloc)?, &mut new_passing(alloc)?))
 }
 
 /// Whether `h2_flow` takes no memory.

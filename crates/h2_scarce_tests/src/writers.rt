@@ -106,7 +106,7 @@ impl Scenario for Writers {
 }
 
 /// Writers with an output each.
-fn writers(alloc: Global) -> Result<Writers, AllocError> {
+fn new_writers(alloc: Global) -> Result<Writers, AllocError> {
     let mut outs = Vec::new(alloc);
     for _ in ALL {
         let mut out = Vec::with_capacity(alloc, BEFORE.len())?;
@@ -123,7 +123,7 @@ fn writers(alloc: Global) -> Result<Writers, AllocError> {
 
 /// Whether writers bear that memory is refused.
 fn bear(alloc: Global) -> Result<bool, AllocError> {
-    Ok(holds(alloc, &mut writers(alloc)?, &mut writers(alloc)?))
+    Ok(holds(alloc, &mut new_writers(alloc)?, &mut new_writers(alloc)?))
 }
 
 #[test]
