@@ -11,7 +11,7 @@ pub returns-then-held-gt0-clause-finishes : goal.returns-then-held-gt0-clause-fi
 returns-then-held-gt0-clause-finishes c values end is =
     elim c.then-held-gt0.branch [
       | then-held-gt0-via-then-held-gt0 w ↦
-          let reads = rw c.conn-conn.ensures at c.held.ensures in
+          let reads = rw c.conn-conn.ensures at c.held.ensures.value in
           finishes_held end c.args.self.now.answered (reads values end.log is.streams.conn)
           w.if-held-gt0.true
       | then-held-gt0-via-else-held-gt0+then-is_some w ↦
@@ -22,7 +22,7 @@ returns-then-held-gt0-clause-finishes c values end is =
 
 pub returns-clause-finishes : goal.returns-clause-finishes
 returns-clause-finishes c values end is =
-    let holds = rw c.conn-conn.ensures at c.held.ensures in
+    let holds = rw c.conn-conn.ensures at c.held.ensures.value in
     let reads = rw c.conn-conn.ensures at c.next_live.ensures.number in
     finishes_at_rest end c.args.self.now.answered (holds values end.log is.streams.conn)
     (reads values end.log is.streams.conn) c.if-held-gt0.false
