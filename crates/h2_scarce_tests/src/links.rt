@@ -1,5 +1,7 @@
 //! Connections over links whose vectors have their room from the start.
 
+ghost use Rattle.std.specs.Prelude.{None};
+
 use crate::lists::get;
 use crate::record::{Record, Scenario, holds};
 use crate::walk::without_goaway;
