@@ -24,6 +24,7 @@ continuations most (suc count) stream octets =
 -- CONTINUATIONs. An empty block is one empty HEADERS.
 -- rule: 4.3 A block is sent as contiguous HEADERS and CONTINUATION, each full but one
 -- rule: 4.3 END_STREAM of a block is that of its HEADERS
+-- rule: 4.3 Of the frames of a block that is sent the last has END_HEADERS
 unfoldable pub spread_frames : (most stream : ℕ) → Bool → List ℕ → List Frame
 spread_frames most stream end octets =
     if nat_le (length octets) most then Headers stream end true octets None None ∷ []

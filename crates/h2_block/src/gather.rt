@@ -43,6 +43,7 @@ impl Gather {
     }
 
     // rule: 4.3 A field block ends with the frame that has END_HEADERS
+    // contract: 4.3 END_STREAM of a block is that of its HEADERS
     // contract: 6.10 Inside a block any frame but its CONTINUATION is PROTOCOL_ERROR
     // contract: 10.5 (own) A block of more than 65,552 octets is ENHANCE_YOUR_CALM
     // contract: 5.4.1 After a fault each layer answers that fault and changes nothing

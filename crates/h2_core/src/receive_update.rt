@@ -23,6 +23,7 @@ impl Endpoint {
     // rule: 5.1 On an idle stream any but HEADERS or PRIORITY is PROTOCOL_ERROR
     // rule: 6.9 WINDOW_UPDATE on an idle stream is PROTOCOL_ERROR
     // rule: 6.9 WINDOW_UPDATE on a closed stream is ignored
+    // rule: 6.9 WINDOW_UPDATE after the peer's end widens the window
     /// WINDOW_UPDATE: of the connection on stream 0, else of a stream.
     pub(crate) fn take_window_update<'a>(
         &mut self,

@@ -50,9 +50,9 @@ has_padding flags = has_flag flags 0x08
 abbrev pub has_priority : ℕ → Bool
 has_priority flags = has_flag flags 0x20
 
--- Whether a frame of this kind may be on the stream: some kinds belong to a stream, some to the
--- connection, which is stream 0, and some to either (sections 6.1 to 6.10). Of an unknown kind
--- nothing is demanded (section 5.5).
+-- Whether a frame of this kind may be on the stream, or is PROTOCOL_ERROR (`form_fault`): some
+-- kinds belong to a stream, some to the connection, which is stream 0, and some to either (sections
+-- 6.1 to 6.10). Of an unknown kind nothing is demanded (section 5.5).
 -- rule: 6.1 DATA on stream 0 is PROTOCOL_ERROR
 -- rule: 6.2 HEADERS on stream 0 is PROTOCOL_ERROR
 -- rule: 6.3 PRIORITY on stream 0 is PROTOCOL_ERROR
@@ -81,7 +81,8 @@ fits_stream (Unknown number) stream = true
 abbrev pub octets_of_flags : Bool → Bool → ℕ
 octets_of_flags padded prioritized = (if padded then 1 else 0) + (if prioritized then 5 else 0)
 
--- Whether a payload of this kind, with these flags, may have the length (sections 6.1 to 6.10).
+-- Whether a payload of this kind, with these flags, may have the length, or is FRAME_SIZE_ERROR
+-- (`form_fault`; sections 6.1 to 6.10).
 -- rule: 4.1 Flags that the type does not define are ignored when received
 -- rule: 4.2 A length that the type and flags cannot have is FRAME_SIZE_ERROR
 -- rule: 6.1 PADDED DATA without an octet of payload is FRAME_SIZE_ERROR

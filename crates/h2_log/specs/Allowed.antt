@@ -69,7 +69,8 @@ pub record MayUpdateWindow (role : Role) (i increment : ℕ)
   pub read : i ≢ 0 → total (increment_on i) sent + increment ≤ total (data_on i) received
   pub read_at_all : i ≡ 0 → total (increment_on 0) sent + increment ≤ total data_of received
 
--- A number may be reset, once, that was used.
+-- A number may be reset, once, that was used. Of a stream that is over it says nothing: calls refuse
+-- that (C2), and no verdict resets one.
 -- rule: 5.1 Each frame is sent only in states that allow it
 -- rule: 5.4.2 RST_STREAM is not answered by RST_STREAM, nor sent twice
 -- rule: 6.4 (own) An end resets a stream on request, and counts it

@@ -46,6 +46,8 @@ exceeds_stream count None = false
 exceeds_stream count (Some stream) = exceeds count stream.recv_window
 
 -- Whether an increment brings a window above the greatest (section 6.9.1).
+-- rule: 6.9.1 The connection's window above 2^31-1 is FLOW_CONTROL_ERROR
+-- rule: 6.9.1 A stream's window above 2^31-1 is a stream error FLOW_CONTROL_ERROR
 abbrev pub overflows_by : ℕ → ℤ → Bool
 overflows_by increment window = int_lt (pos greatest_window) (window +ℤ pos increment)
 

@@ -69,6 +69,7 @@ connection_update_verdict increment above =
 -- rule: 6.9 An increment of 0 on a stream is a stream error PROTOCOL_ERROR
 -- rule: 6.9 WINDOW_UPDATE on an idle stream is PROTOCOL_ERROR
 -- rule: 6.9 WINDOW_UPDATE on a closed stream is ignored
+-- rule: 6.9 WINDOW_UPDATE after the peer's end widens the window
 -- rule: 6.9.1 A stream's window above 2^31-1 is a stream error FLOW_CONTROL_ERROR
 unfoldable pub update_verdict : State → (increment : ℕ) (above : Bool) → Verdict
 update_verdict Idle increment above = ConnectionFault ProtocolError

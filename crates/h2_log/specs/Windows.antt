@@ -64,6 +64,6 @@ abbrev pub passes : ℕ → ℕ → ℕ → Bool
 passes count given consumed = nat_lt 0 count && nat_lt given (consumed + count)
 
 -- Whether a window is above the greatest, where so much was given and taken.
--- rule: 6.9.1 The connection's window above 2^31-1 is FLOW_CONTROL_ERROR
+-- rule: 6.9.2 A shift of a window above 2^31-1 is FLOW_CONTROL_ERROR
 abbrev pub is_above_greatest : ℕ → ℕ → Bool
 is_above_greatest given consumed = nat_lt (greatest_window + consumed) given
