@@ -11,7 +11,8 @@
 //! - `end`, `call`, `walk`: a connection, a client or a server, the calls of it, and lists of them.
 //! - `ends`, `joined`, `links`: such lists, two joined ends, and connections over links.
 //! - `writers`, `coders`, `frames`: the layers below.
-//! - `promises`: what takes no memory, with all allocations refused.
+//! - `promises`: what takes no memory, with all allocations refused: a cutter, a gatherer and a
+//!   writer, and `h2_flow`.
 //! - `ignoring`: a scenario that ignores a refusal, by which `bench/scarce` tests itself.
 #![tactic(auto)]
 

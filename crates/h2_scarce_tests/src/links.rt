@@ -118,6 +118,9 @@ struct Serving {
 
 impl Scenario for Serving {
     fn run(&mut self, record: &mut Record) {
+        if self.link.failures == u64::MAX {
+            return record.check(false);
+        }
         let served = serve_link(record.alloc, &mut self.link, Config::default());
         match served {
             Ok(count) => {
@@ -138,6 +141,9 @@ struct Fetching {
 
 impl Scenario for Fetching {
     fn run(&mut self, record: &mut Record) {
+        if self.link.failures == u64::MAX {
+            return record.check(false);
+        }
         let Some(message) = self.message.take() else {
             return record.check(false);
         };

@@ -1,9 +1,7 @@
 //! What takes no memory, with all allocations refused.
 
-use crate::end::{End, Kind, new_end};
 use crate::record::{Record, Scenario, takes_no_memory};
 use h2_block::{Gather, Gathered};
-use h2_ends::Code;
 use h2_flow::{Settings, StreamState, Window};
 use h2_frame::{FrameRef, write_ref};
 use h2_log::Role;
@@ -66,69 +64,6 @@ impl Scenario for Lending {
             record.check(cutter.held() == 0);
         }
         note_lent(&mut cutter, b"\0\0\x01\0\0\0\0\0\x01a\0", record);
-    }
-}
-
-/// What is taken of a client's octets before memory is refused: its opening, the acknowledgment of
-/// the server's, and POST on stream 1.
-const BEFORE: &[u8] = b"PRI * HTTP/2.0\r\n\r\nSM\r\n\r\n\x00\x00\x00\x04\x00\x00\x00\x00\x00\
-    \x00\x00\x00\x04\x01\x00\x00\x00\x00\x00\x00\x03\x01\x04\x00\x00\x00\x01\x83\x86\x84";
-
-/// PRIORITY, a frame of an unknown type, PING with ACK, WINDOW_UPDATE for the connection and for
-/// the stream, and DATA that is reported and does not end the stream.
-const TAKEN: &[&[u8]] = &[
-    b"\x00\x00\x05\x02\x00\x00\x00\x00\x01\x00\x00\x00\x00\x0f",
-    b"\x00\x00\x03\x20\x00\x00\x00\x00\x01abc",
-    b"\x00\x00\x08\x06\x01\x00\x00\x00\x00abcdefgh",
-    b"\x00\x00\x04\x08\x00\x00\x00\x00\x00\x00\x00\x00\x01",
-    b"\x00\x00\x04\x08\x00\x00\x00\x00\x01\x00\x00\x00\x01",
-    b"\x00\x00\x03\x00\x00\x00\x00\x00\x01abc",
-    b"\x00\x00\x05\x00\x08\x00\x00\x00\x01\x02ab\x00\x00",
-];
-
-/// An end takes whole frames that need no memory.
-#[derive(Drop)]
-struct Taking {
-    end: End,
-}
-
-impl Scenario for Taking {
-    fn run(&mut self, record: &mut Record) {
-        for piece in TAKEN {
-            let taken = self.end.take(piece, record);
-            record.check(matches!(taken, Ok((used, _)) if used == piece.len()));
-        }
-        record.check(self.end.conn().failed().is_none());
-    }
-}
-
-/// An end of a kind that has taken what is taken first.
-fn begun(alloc: Global, kind: Kind) -> Option<End> {
-    let mut record = Record::new(alloc).ok()?;
-    let mut end = new_end(kind, &mut record)?;
-    let mut unused = BEFORE;
-    for _ in 0..4 {
-        let (used, _) = end.take(unused, &mut record).ok()?;
-        unused = unused.get(used..)?;
-    }
-    if unused.is_empty() { Some(end) } else { None }
-}
-
-/// WINDOW_UPDATE for the connection with an increment of 0, which is PROTOCOL_ERROR.
-const FAULTY: &[u8] = b"\x00\x00\x04\x08\x00\x00\x00\x00\x00\x00\x00\x00\x00";
-
-/// An end takes a frame that is at fault: the fault is answered, and its GOAWAY waits.
-#[derive(Drop)]
-struct Failing {
-    end: End,
-}
-
-impl Scenario for Failing {
-    fn run(&mut self, record: &mut Record) {
-        let waiting = self.end.conn().waiting();
-        let taken = self.end.take(FAULTY, record);
-        record.check(taken == Err(Code::ProtocolError));
-        record.check(self.end.conn().waiting() == waiting.saturating_add(17));
     }
 }
 
@@ -200,28 +135,6 @@ fn cutter_keeps(alloc: Global) -> bool {
     takes_no_memory(alloc, &mut Lending, &mut Lending)
 }
 
-/// Whether an end takes frames without memory.
-fn end_keeps(alloc: Global, kind: Kind) -> bool {
-    match (begun(alloc, kind), begun(alloc, kind)) {
-        (Some(first), Some(second)) => {
-            let (mut first, mut second) = (Taking { end: first }, Taking { end: second });
-            takes_no_memory(alloc, &mut first, &mut second)
-        }
-        _ => false,
-    }
-}
-
-/// Whether an end fails without memory for a fault.
-fn fault_keeps(alloc: Global, kind: Kind) -> bool {
-    match (begun(alloc, kind), begun(alloc, kind)) {
-        (Some(first), Some(second)) => {
-            let (mut first, mut second) = (Failing { end: first }, Failing { end: second });
-            takes_no_memory(alloc, &mut first, &mut second)
-        }
-        _ => false,
-    }
-}
-
 /// An output with room for a frame.
 fn new_passing(alloc: Global) -> Result<Passing, AllocError> {
     Ok(Passing {
@@ -244,24 +157,6 @@ fn flow_keeps(alloc: Global) -> bool {
 #[test]
 fn a_cutter_without_memory(rt: HostRuntime) {
     assert!(rt; cutter_keeps(rt.alloc()));
-}
-
-// rule: 5.4 (own) Only steps that reply, change streams or return credit take memory
-#[test]
-fn a_connection_without_memory(rt: HostRuntime) {
-    assert!(rt; end_keeps(rt.alloc(), Kind::ConnOfServer));
-}
-
-#[test]
-fn a_server_without_memory(rt: HostRuntime) {
-    assert!(rt; end_keeps(rt.alloc(), Kind::Server));
-}
-
-// rule: 5.4 (own) Being out of memory hides no other fault of the connection
-// rule: 5.4.1 (own) The GOAWAY of a failed connection goes out last, once, without memory
-#[test]
-fn a_fault_without_memory(rt: HostRuntime) {
-    assert!(rt; fault_keeps(rt.alloc(), Kind::ConnOfServer));
 }
 
 // rule: 4.1 (own) With room in the output memory is not refused to a frame
