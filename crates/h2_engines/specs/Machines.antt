@@ -156,6 +156,7 @@ pub data HearsNoMore (message : SentMessage) (kept : MessageState) (end : EndLog
       → (error ≡ errors.Memory) ⊎ ((writes : Bool) → StopsItself writes kept end error)
       → HearsNoMore message kept end error
 
+-- A machine can't hear on, for this error; octets that it has not used are left.
 pub record HasHeardLast (course : Course) (now : Traffic) (held : MachineState) (end : EndLog)
     (error : LinkError) : Type 0 where
   pub happened : Happens course held.kept end
@@ -174,6 +175,7 @@ HearsSo course now before piece held after (Ok heard) =
 HearsSo course now before piece held after (Err error) =
     HasHeardLast course now held after error × (length before.log.turns ≤ length after.log.turns)
 
+-- Octets were handed to a call of `take`, whatever has happened at a machine that is driven.
 abbrev pub Hears : (old new : MachineState) → List ℕ → Result Heard LinkError → Type 0
 Hears old new piece result =
     (course : Course) (now : Traffic) (end : EndLog)
@@ -194,6 +196,8 @@ RespondedSo writes course now held after unused (Ok done) =
 RespondedSo writes course now held after unused (Err error) =
     HasEnded writes course now held after error
 
+-- What is due is done at a machine that is driven, where all output was written before if that is
+-- said.
 abbrev pub Responds : (old new : MachineState) → Next → Result (Unit {0}) LinkError → Type 0
 Responds old new due result =
     (writes : Bool) (course : Course) (now : Traffic) (end : EndLog) (unused : List ℕ)
@@ -254,6 +258,7 @@ TakenSo writes course now held after (Ok true) =
     (unused : List ℕ) × IsDriven course now held after unused nexts.Whole
 TakenSo writes course now held after (Err error) = HasEnded writes course now held after error
 
+-- A machine that is driven takes a piece, and does what becomes due.
 abbrev pub TakesPiece : (writes : Bool) → (before now : Traffic) → (old new : MachineState)
     → (piece : List ℕ) → Result Bool LinkError → Type 0
 TakesPiece writes before now old new piece result =
@@ -276,6 +281,7 @@ abbrev pub MeetsEnd : Result Bool LinkError → (ended : Bool) → Type 0
 MeetsEnd (Ok false) ended = ended ≡ true
 MeetsEnd result ended = Unit {0}
 
+-- A machine is driven over a link, until that has ended or the machine has all that it wants.
 abbrev pub Drives : (before now : Traffic) → (old new : MachineState) → Result Bool LinkError
     → Type 0
 Drives before now old new result =
@@ -291,6 +297,7 @@ pub record HasPutOut (P : EndLog → Type 0) (values : Values) (new : End) (end 
   pub same : IsSameOfMessages end after
   pub so : PutOutSo end after count before now result
 
+-- Whatever has happened at a machine, at most so many of the octets that wait are put out.
 abbrev pub PutsWaiting : (old new : MachineState) → ℕ → (before now : List ℕ) → Result ℕ LinkError
     → Type 0
 PutsWaiting old new count before now result =

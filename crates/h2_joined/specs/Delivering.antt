@@ -127,6 +127,8 @@ EndsWithin delivered.Whole size = Unit {0}
 EndsWithin (delivered.Failed code) size = Unit {0}
 EndsWithin (delivered.Stopped used) size = used ≤ size
 
+-- Octets were delivered to an end at which this had happened: the delivery has ended so, and what
+-- has happened at the end now is what is kept of it.
 pub record TakesOctetsOf (values : Values) (side : Side) (end : EndLog) (octets : List ℕ)
     (end_of_it : Delivered) (new : Joined) : Type 0 where
   pub after : EndLog
@@ -134,6 +136,7 @@ pub record TakesOctetsOf (values : Values) (side : Side) (end : EndLog) (octets 
   pub accepted : after.accepted ≡ end.accepted
   pub kept : IsKeptAt values side new after
 
+-- Octets were delivered to an end, whatever had happened at it.
 pub record TakesOctets (side : Side) (old : Joined) (octets : List ℕ) (end_of_it : Delivered)
     (new : Joined) : Type 0 where
   pub within : EndsWithin end_of_it (length octets)

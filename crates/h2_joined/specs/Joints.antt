@@ -48,6 +48,7 @@ pub record JointEnd : Type 0 where
   -- Whether the last delivery to it has stopped, so that it may have something to hand out still.
   pub unfinished : Bool
 
+-- a new end, to which no octets lead yet
 abbrev pub new_joint_end : Role → Values → JointEnd
 new_joint_end role values =
     record { happened = new_end role values; incoming = []; unfinished = false }

@@ -108,6 +108,7 @@ abbrev pub end_at : Side → Joined → End
 end_at sides.Client joined = joined.client.end
 end_at sides.Server joined = joined.server.end
 
+-- what is kept of the end of a side
 abbrev pub kept_of : Side → Joined → Kept
 kept_of sides.Client joined = joined.at_client
 kept_of sides.Server joined = joined.at_server

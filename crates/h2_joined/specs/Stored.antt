@@ -29,6 +29,7 @@ field_of octets place = record {
   sensitive = place.sensitive;
 }
 
+-- the fields at places, in order
 abbrev pub fields_of : List ℕ → List FieldPlace → List Field
 fields_of octets places = map (field_of octets) places
 
@@ -103,6 +104,7 @@ event_value (kept.Pong octets) = Passed (events.PongEvent octets)
 abbrev pub most_octets : ℕ
 most_octets = 65536
 
+-- see `most_octets`: 65,536 octets, by 32 for each field
 abbrev pub most_fields : ℕ
 most_fields = 2048
 
@@ -149,6 +151,7 @@ pub record IsFieldKept (old : Store) (field : Field) (new : Store) : Type 0 wher
   pub same : field_of new.octets.items place ≡ field
   pub within : IsFieldPlace (length new.octets.items) place
 
+-- What keeping a field makes of a store: with room for its octets and its place, it is kept.
 pub record KeepsField (old : Store) (field : Field) (new : Store) : Type 0 where
   pub events : new.events ≡ old.events
   pub octets_capacity : vec_capacity old.octets ≤ vec_capacity new.octets
@@ -184,6 +187,8 @@ pub record IsPlaced (old : Store) (handed : Handed) (place : EventPlace) (new : 
     pub fields_within : AllByRecursion (IsFieldPlace (length new.octets.items)) fields
     pub within : IsEventPlace (length new.octets.items) (length new.fields.items) place
 
+-- What keeping the fields and the octets of an event makes of a store, in which no event is new:
+-- with room for whatever may be handed out, the place is that of the event.
 pub record PlacesEvent (old : Store) (handed : Handed) (place : EventPlace) (new : Store) : Type 0
   where
     pub events : new.events ≡ old.events
