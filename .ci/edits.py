@@ -93,11 +93,23 @@ def bare(path, text):
     return " ".join(text.split()) if path.endswith(".rt") else text
 
 
-def without_bodies(text):
-    """Returns the text of a file of src/ without comments, layout and the bodies of functions."""
+OWNER = re.compile(r"(?:pub(?:\([^)]*\))? )?(?:unsafe )?(impl|trait)\b")
+
+
+def is_of_trait(lines, function):
+    """Returns whether a function is one of a trait, or of an impl of one, which no caller need name."""
+    owners = (it for it in reversed(lines[: function.first]) if OWNER.match(it))
+    owner = next(owners, "") if lines[function.first].startswith(" ") else ""
+    return bool(owner) and (OWNER.match(owner)[1] == "trait" or " for " in owner)
+
+
+def without_bodies(text, named=None):
+    """Returns the text of a file of src/ without comments, layout and the bodies of functions; where names are given
+    also without the functions of other names, but for those of traits."""
     lines = text.split("\n")
     for it in reversed(functions_of(text)):
-        del lines[it.body : it.end]
+        is_called = named is None or it.name.split("::")[-1] in named or is_of_trait(lines, it)
+        del lines[it.body if is_called else it.first : it.end]
     return bare("src/.rt", "\n".join(lines))
 
 
@@ -260,6 +272,10 @@ def self_test():
     promised = without_bodies(SOURCE)
     assert "self.value -= 1" not in promised and "A comment" not in promised and "Gate { value: 4 }" not in promised
     assert "ensures { result" in promised and "MOST ≡ 7" in promised and "value: u32" in promised
+    # Of functions that are not named only those of traits stay.
+    promised = without_bodies(SOURCE, {"law"})
+    assert "MOST ≡ 7" in promised and "fault: Fault<W>" in promised and "value: u32" in promised
+    assert "ensures { result" not in promised and "fn take" not in promised and "fn last" not in promised
     pairs = pairs_of("# text\nfile: src/gate.rt\nold: > 0\nnew: > 1\nold: = 7;\nnew:  8;\n")
     assert pairs == [("src/gate.rt", "> 0", "> 1"), ("src/gate.rt", "= 7;", " 8;")]
     texts = {}

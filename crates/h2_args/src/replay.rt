@@ -62,7 +62,7 @@ Each event has a line:
   goaway last=N code=M
                      the peer takes no streams above N
   unprocessed ID, pong OCTETS
-                     answers to what this end has sent: none come here
+                     of streams and PINGs of this end's own: none come here
   acked              the peer has applied this end's settings
 Then, once the input has ended or the connection has failed:
   fault CODE         the connection has failed with this code (RFC 9113,

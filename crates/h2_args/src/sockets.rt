@@ -143,10 +143,10 @@ Example:
 const FETCHED_AND_STATUSES: &str =
     r"It asks for the URL with GET over a new connection, which begins with the
 preface: the server has to speak HTTP/2 without being asked (RFC 9113, section
-3.3). It prints the status with its phrase, `200 OK`, or a status that has none
-alone, and then the octets of the body as they are. Interim responses (1xx) and
-trailers aren't printed. It follows no redirection and has no clocks: it waits
-for a server that stays idle.
+3.3). It prints the status with its phrase, `200 OK`, or the status alone where
+it has no phrase, and then the octets of the body as they are. Interim responses
+(1xx) and trailers aren't printed. It follows no redirection and has no clocks:
+it waits for a server that stays idle.
 
 The URL has the scheme http, a host, and a port of 1 to 65535; a user's name is
 refused, and a fragment is dropped.

@@ -1,8 +1,7 @@
 -- Where nothing is owed on a stream, nothing is after a call, nor after a call of `take` that
 -- reports no octets of it.
-use Rattle.std.proofs.Common.{◌≡◌, ℕ, ◌+◌, ◌-◌, ◌≤◌, Bool, true, false}
-use Rattle.std.proofs.Common.{if◌then◌else◌, List, [], ◌∷◌, ◌++◌, Option, Some, None, refl}
-use Rattle.std.proofs.Common.{sym, ap, ◌∙◌, inl, inr, arith, subst}
+use Rattle.std.proofs.Common.{◌≡◌, ℕ, ◌+◌, ◌-◌, ◌≤◌, true, false, List, [], ◌∷◌, ◌++◌, Option, Some}
+use Rattle.std.proofs.Common.{None, refl, sym, ap, ◌∙◌, inl, inr, arith, subst}
 use Rattle.std.proofs.lemmas.Bool.{both_ways, cases_Bool, false_from_ne_true}
 use Rattle.std.proofs.lemmas.List.{append_cancel_right}
 use Rattle.h2_frame.specs.declared.code.Code.{Code}
@@ -12,31 +11,26 @@ use Rattle.h2_wire.specs.Faults.{wire_fault_code}
 use Rattle.h2_wire.proofs.ReadingLemmas.{none_some}
 use Rattle.h2_block.specs.Grouping.{Item}
 use Rattle.h2_log.specs.declared.role.Role.{Role}
-use Rattle.h2_log.specs.Acts.{Values, Act, Answer, Open, Refuse, PutOut, Number, Count}
-use Rattle.h2_log.specs.Acts.{OutOfMemory, Refused}
+use Rattle.h2_log.specs.Acts.{Values, Act, Answer, Open, Number}
 use Rattle.h2_log.specs.Events.{Event, DataEvent, UnprocessedEvent, flow_on, reported_total}
 use Rattle.h2_log.specs.Log.{Log, active, owed, released, unreleased, next_unprocessed}
-use Rattle.h2_log.specs.LogView.{log_view}
-use Rattle.h2_log.specs.Verdicts.{Verdict, ConnectionFault, StreamFault, NoEvent, Reported}
-use Rattle.h2_log.specs.ItemRules.{Decoded, FrameStep, fails_with, begins_block, completes}
-use Rattle.h2_log.specs.ItemRules.{frame_step}
-use Rattle.h2_log.specs.CallRules.{conditions, returns_before_put_out}
-use Rattle.h2_log.specs.LogSteps.{read, used, with_sent, with_reported, with_unreturned}
-use Rattle.h2_log.specs.LogSteps.{with_credit_returned, with_failure, with_verdict, with_step}
-use Rattle.h2_log.specs.LogSteps.{with_frame, took_frame, took_none}
-use Rattle.h2_log.specs.LogCalls.{MayAnswer, accepts, refuses, lacks, fails, called, refused_with}
-use Rattle.h2_log.specs.LogCalls.{before_put_out, with_call}
+use Rattle.h2_log.specs.ItemRules.{Decoded}
+use Rattle.h2_log.specs.CallRules.{conditions}
+use Rattle.h2_log.specs.LogSteps.{used, with_failure, took_frame, took_none}
+use Rattle.h2_log.specs.LogCalls.{MayAnswer, accepts, refuses, lacks, fails, with_call}
 use Rattle.h2_log.specs.Histories.{IsLog}
 use Rattle.h2_log_laws.proofs.CallConditions.{none_holds, none_since}
 use Rattle.h2_log_laws.proofs.InvariantLogs.{log_represents}
 use Rattle.h2_log_laws.proofs.LogHistory.{history_of, reported_append}
 use Rattle.h2_log_laws.proofs.LogInvariant.{Good, active_before}
+use Rattle.h2_log_laws.proofs.GrowthBySteps.{HoldsOfFailures, HoldsOfReads, holds_call, holds_frame}
+use Rattle.h2_log_laws.proofs.GrowthBySteps.{holds_failure, holds_none, holds_used}
 use Rattle.h2_end_laws.specs.Takes.{TakeAnswer, MayTake, Took, Failed, events_answered}
 use Rattle.h2_end_laws.specs.Takes.{AnswersFrame, has_failed, reports_unprocessed as named_one}
 use Rattle.h2_end_laws.specs.Takes.{ends_no_frame, ends_frame, meets_fault, runs_out_of_memory}
 use Rattle.h2_end_laws.specs.Activity.{take_has_data}
-use Rattle.h2_end_laws.proofs.OverRoom.{sent_calls, due_calls, items_calls, released_more}
-use Rattle.h2_end_laws.proofs.OverRoom.{owed_inactive, owed_active, owed_none, left_is}
+use Rattle.h2_end_laws.proofs.OverRoom.{released_more, owed_inactive, owed_active, owed_none}
+use Rattle.h2_end_laws.proofs.OverRoom.{left_is}
 use Rattle.h2_end_laws.proofs.ActivityCalls.{inactive_by_call}
 use Rattle.h2_end_laws.proofs.ActivityFrames.{active_added}
 use Rattle.h2_end_laws.proofs.ActivitySteps.{Adds, AfterFrame, stays_same, has_broken, has_read}
@@ -103,31 +97,39 @@ none_of_none : (i : ℕ) → reported_total (flow_on i) [] ≡ 0
 unfolding reported_total
 none_of_none i = refl
 
--- A call is one more: one that refuses a stream, and one that puts output out.
-refused_calls : (log : Log) (act : Act) (answer : Answer) (fault : Option Code)
-    → (refused_with log act answer fault).calls ≡ (act, answer) ∷ log.calls
-unfolding refused_with
-refused_calls log act answer (Some code) = sent_calls (called log act answer) _
-refused_calls log act answer None = items_calls log act answer
+-- The second log has the calls of the first: nothing that is read or written is a call.
+abbrev SameCalls : Log → Log → Type 0
+SameCalls old new = new.calls ≡ old.calls
 
-ready_by : (log : Log) (b : Bool)
-    → (if b then with_credit_returned log else log).calls ≡ log.calls
-ready_by log true = sent_calls (record log { unreturned = 0 }) _
-ready_by log false = refl
+same_written : HoldsOfFailures SameCalls
+same_written =
+    record {
+      writes = record {
+        none = λ log. refl;
+        twice = λ one two three a b. b ∙ a;
+        sent = λ log item items. refl;
+        unreturned = λ log count. refl;
+      };
+      failed = λ log code. refl;
+    }
 
-ready_calls : (log : Log) → (before_put_out log).calls ≡ log.calls
-unfolding before_put_out
-ready_calls log = ready_by log (returns_before_put_out (log_view log))
+same_read : HoldsOfReads SameCalls
+same_read =
+    record {
+      failures = same_written;
+      used = λ log octets unparsed. refl;
+      framed = λ log frames. refl;
+      begun = λ log begun. refl;
+      read = λ log decoded item. refl;
+      reported = λ log event events. refl;
+    }
 
--- Any call.
+-- A call is one more.
 call_calls : (log : Log) (act : Act) (answer : Answer)
     → (with_call log act answer).calls ≡ (act, answer) ∷ log.calls
-unfolding with_call
-call_calls log act (Refused refusal) = refl
-call_calls log act OutOfMemory = sent_calls (called log act OutOfMemory) _
-call_calls log (Refuse id code) answer = refused_calls log (Refuse id code) answer _
-call_calls log (PutOut count) (Count given) = ready_calls (called log (PutOut count) (Count given))
-call_calls log act answer = items_calls log act answer
+call_calls log act answer =
+    holds_call SameCalls (record { failures = same_written; given = λ log more. refl }) log act
+    answer
 
 call_releases : (log : Log) (act : Act) (answer : Answer) (i : ℕ)
     → released i log.calls ≤ released i (with_call log act answer).calls
@@ -183,60 +185,18 @@ none_owed_by_call role values log act answer i is may none =
     (λ inactive alive. log_good role values log is (opens_up log act answer i may inactive alive))
     none
 
--- What is reported is no call.
-reported_calls : (log : Log) (events : List Event) → (with_reported log events).calls ≡ log.calls
-unfolding with_reported
-reported_calls log [] = refl
-reported_calls log (event ∷ events) = refl
-
--- Nor is what is read: an item that was replied to,
-replied_calls : (log : Log) (decoded : Option Decoded) (item : Item) (more : ℕ)
-    (replies : List Item) (events : List Event)
-    → (with_reported (with_unreturned more (with_sent (read log decoded item) replies))
-    events).calls ≡ log.calls
-replied_calls log decoded item more replies events =
-    reported_calls _ events ∙ due_calls more _ ∙ sent_calls (read log decoded item) replies
-
--- by its verdict,
-verdict_calls : (log : Log) (decoded : Option Decoded) (item : Item) (verdict : Verdict)
-    → (with_verdict log decoded item verdict).calls ≡ log.calls
-unfolding with_verdict
-verdict_calls log decoded item (ConnectionFault code) = sent_calls log _
-verdict_calls log decoded item (StreamFault code) = replied_calls log decoded item _ _ _
-verdict_calls log decoded item NoEvent = replied_calls log decoded item _ _ _
-verdict_calls log decoded item Reported = replied_calls log decoded item _ _ _
-
--- what a frame makes of the block that has begun,
-step_calls : (log : Log) (decoded : Option Decoded) (step : FrameStep)
-    → (with_step log decoded step).calls ≡ log.calls
-unfolding with_step
-step_calls log decoded (fails_with code) = sent_calls log _
-step_calls log decoded (begins_block begun) = refl
-step_calls log decoded (completes item) =
-    verdict_calls (record log { begun = None }) decoded item _
-
--- a frame,
+-- A frame, and octets that make a fault, are none.
 frame_calls : (log : Log) (octets : List ℕ) (decoded : Option Decoded) (frame : Frame)
     → (took_frame log octets decoded frame).calls ≡ log.calls
-unfolding with_frame used
-frame_calls log octets decoded frame =
-    step_calls (record (used log octets []) { frames = log.frames ++ frame ∷ [] }) decoded
-    (frame_step (log_view (used log octets [])) frame)
-
--- octets with which no frame ends,
-part_calls : (log : Log) (octets unparsed : List ℕ) → (used log octets unparsed).calls ≡ log.calls
 unfolding used
-part_calls log octets unparsed = refl
+frame_calls log octets decoded frame =
+    holds_frame SameCalls same_read (used log octets []) decoded frame
 
--- octets that make a fault,
 fault_calls : (log : Log) (octets : List ℕ) (code : Code) (last : ℕ)
     → (with_failure code last (used log octets [])).calls ≡ log.calls
+unfolding used
 fault_calls log octets code last =
-    sent_calls (used log octets []) _ ∙ part_calls log octets []
-
--- and a stream that is reported as unprocessed.
-named_calls : (log : Log) → (took_none log).calls ≡ log.calls
-named_calls log = reported_calls _ _ ∙ due_calls _ log
+    holds_failure SameCalls same_written code last (used log octets [])
 
 -- Where the calls are the same, so is what was released.
 same_released : (i : ℕ) (before after : Log) → after.calls ≡ before.calls
@@ -311,12 +271,13 @@ none_owed_by_take role values log after piece answer i is (named_one up some ans
     quiet =
     let adds = none_adds log in
     rw same (none_owed_after log (took_none log) [] adds.0 _ i adds.2
-    (same_released i log (took_none log) (named_calls log)) (named_quiet i (next_unprocessed log))
-    (λ inactive alive. log_good role values log is up) none)
+    (same_released i log (took_none log) (holds_none SameCalls same_read log))
+    (named_quiet i (next_unprocessed log)) (λ inactive alive. log_good role values log is up) none)
 none_owed_by_take role values log after piece answer i is
     (ends_no_frame takes unparsed part answers same) none quiet =
-    rw same (owed_by_none log _ i (part_after log piece unparsed) (part_calls log piece unparsed)
-    (part_reported log piece unparsed) (log_good role values log is takes.up) none)
+    rw same (owed_by_none log _ i (part_after log piece unparsed)
+    (holds_used SameCalls same_read log piece unparsed) (part_reported log piece unparsed)
+    (log_good role values log is takes.up) none)
 none_owed_by_take role values log after piece answer i is
     (ends_frame takes octets unused joined frame decoded framed sees same answers) none quiet =
     owed_by_frame (frame_used log octets frame) after decoded i

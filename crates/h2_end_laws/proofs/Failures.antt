@@ -1,7 +1,7 @@
 -- What an end that has failed has written last: GOAWAY with its code, and nothing after it.
-use Rattle.std.proofs.Common.{◌≡◌, ◌≤◌, ℕ, ◌+◌, nat_lt, ◌&&◌, not, max, Bool, true, false}
-use Rattle.std.proofs.Common.{if◌then◌else◌, List, [], ◌∷◌, ◌++◌, Option, Some, None, is_some, refl}
-use Rattle.std.proofs.Common.{sym, ap, ◌∙◌, inl, inr, arith, subst}
+use Rattle.std.proofs.Common.{◌≡◌, ◌≤◌, ℕ, ◌&&◌, not, max, Bool, true, false, if◌then◌else◌, List}
+use Rattle.std.proofs.Common.{[], ◌∷◌, ◌++◌, Option, Some, None, is_some, refl, sym, ap, ◌∙◌, inl}
+use Rattle.std.proofs.Common.{inr, arith, subst}
 use Rattle.std.proofs.lemmas.Bool.{both_ways}
 use Rattle.h2_frame.specs.declared.code.Code.{Code}
 use Rattle.h2_frame.specs.declared.code.Code.TheVariants.{InternalError}
@@ -14,17 +14,13 @@ use Rattle.h2_log.specs.declared.role.Role.{Role}
 use Rattle.h2_log.specs.declared.refusal.Refusal.TheVariants.{Memory}
 use Rattle.h2_log.specs.Items.{encoding_of_item, encoding_of_items}
 use Rattle.h2_log.specs.Events.{Event}
-use Rattle.h2_log.specs.Acts.{Values, Act, Answer, Open, SendFields, SendData, Release, ResetStream}
-use Rattle.h2_log.specs.Acts.{Refuse, SendPing, SendGoAway, PutOut, ChangeSettings, Count}
-use Rattle.h2_log.specs.Acts.{OutOfMemory, Refused}
-use Rattle.h2_log.specs.Log.{Log, last_processed, waiting}
-use Rattle.h2_log.specs.Limits.{full_output}
-use Rattle.h2_log.specs.Verdicts.{Verdict, ConnectionFault, StreamFault, NoEvent, Reported}
+use Rattle.h2_log.specs.Acts.{Values, Act, Answer, Refuse, PutOut, Count, OutOfMemory, Refused}
+use Rattle.h2_log.specs.Log.{Log, last_processed}
+use Rattle.h2_log.specs.Verdicts.{Verdict, ConnectionFault}
 use Rattle.h2_log.specs.View.{View}
 use Rattle.h2_log.specs.LogView.{log_view}
 use Rattle.h2_log.specs.ItemRules.{Decoded, FrameStep, fails_with, begins_block, completes}
-use Rattle.h2_log.specs.ItemRules.{opened_by}
-use Rattle.h2_log.specs.ItemRules.{frame_step}
+use Rattle.h2_log.specs.ItemRules.{opened_by, frame_step}
 use Rattle.h2_log.specs.CallRules.{conditions, refusal_of, has_failed, refuse_fault}
 use Rattle.h2_log.specs.CallRules.{may_lack_memory, returns_before_put_out}
 use Rattle.h2_log.specs.LogSteps.{used, with_sent, with_reported, with_unreturned}
@@ -35,14 +31,34 @@ use Rattle.h2_log.specs.LogCalls.{MayAnswer, accepts, refuses, lacks, fails, ope
 use Rattle.h2_log.specs.Histories.{IsLog, begins, took_some, took_one, met_fault, ran_out_of_memory}
 use Rattle.h2_log.specs.Histories.{reported_one, called_one}
 use Rattle.h2_log_laws.proofs.CallConditions.{none_holds}
+use Rattle.h2_log_laws.proofs.GrowthBySteps.{HoldsOfWrites, holds_sent, holds_unreturned}
+use Rattle.h2_log_laws.proofs.GrowthBySteps.{holds_sent_unreturned, holds_items, holds_ready}
 use Rattle.h2_end_laws.specs.Failures.{EndsInGoAway, IsLastStream}
 use Rattle.h2_end_laws.proofs.BlockStreams.{IsItemOn, IsStepOn, step_on, opened_on, greater_is}
 
--- What is written fails nothing.
+-- The second log has failed with the code of the first, or neither has failed.
+abbrev FailedAs : Log → Log → Type 0
+FailedAs old new = new.failed ≡ old.failed
+
+-- What is written and what is unreturned fail nothing.
+failed_as : HoldsOfWrites FailedAs
+failed_as =
+    record {
+      none = λ log. refl;
+      twice = λ one two three a b. b ∙ a;
+      sent = λ log item items. refl;
+      unreturned = λ log count. refl;
+    }
+
 pub sent_failed : (log : Log) (items : List Item) → (with_sent log items).failed ≡ log.failed
-unfolding with_sent
-sent_failed log [] = refl
-sent_failed log (item ∷ items) = refl
+sent_failed log items = holds_sent FailedAs failed_as log items
+
+pub unreturned_failed : (more : ℕ) (log : Log) → (with_unreturned more log).failed ≡ log.failed
+unreturned_failed more log = holds_unreturned FailedAs failed_as more log
+
+items_failed : (log : Log) (act : Act) (answer : Answer)
+    → (with_items log act answer).failed ≡ log.failed
+items_failed log act answer = holds_items FailedAs failed_as log act answer
 
 -- Nor does what is reported.
 pub reported_failed : (log : Log) (events : List Event)
@@ -51,43 +67,12 @@ unfolding with_reported
 reported_failed log [] = refl
 reported_failed log (event ∷ events) = refl
 
--- What is due, by the test whether it is returned.
-unreturned_by : (more : ℕ) (log : Log) (b : Bool)
-    → (if b then with_credit_returned (record log { unreturned = log.unreturned + more })
-    else record log { unreturned = log.unreturned + more }).failed ≡ log.failed
-unfolding with_sent
-unreturned_by more log true = refl
-unreturned_by more log false = refl
-
--- Nor what is due.
-pub unreturned_failed : (more : ℕ) (log : Log) → (with_unreturned more log).failed ≡ log.failed
-unfolding with_unreturned
-unreturned_failed more log = unreturned_by more log (nat_lt 0 more && nat_lt (waiting log)
-    full_output)
-
--- Nor what a call writes.
-items_failed : (log : Log) (act : Act) (answer : Answer)
-    → (with_items log act answer).failed ≡ log.failed
-unfolding with_items
-items_failed log act answer = unreturned_failed _ _ ∙ sent_failed _ _
-
--- Nor what is returned before octets are given out, by the test whether it is.
-put_out_by : (log : Log) (b : Bool) → (if b then with_credit_returned log else log).failed
-    ≡ log.failed
-unfolding with_sent
-put_out_by log true = refl
-put_out_by log false = refl
-
-put_out_failed : (log : Log) → (before_put_out log).failed ≡ log.failed
-unfolding before_put_out
-put_out_failed log = put_out_by log (returns_before_put_out (log_view log))
-
 -- Nor a verdict that is no fault of the connection.
 pub replied_failed : (log read : Log) (more : ℕ) (replies : List Item) (events : List Event)
     → read.failed ≡ log.failed
     → (with_reported (with_unreturned more (with_sent read replies)) events).failed ≡ log.failed
 replied_failed log read more replies events same =
-    reported_failed _ events ∙ unreturned_failed more _ ∙ sent_failed read replies ∙ same
+    reported_failed _ events ∙ holds_sent_unreturned FailedAs failed_as read replies more ∙ same
 
 -- A number is not above itself.
 at_most : (n : ℕ) → n ≤ n
@@ -141,11 +126,7 @@ unfolding with_verdict
 verdict_ends log decoded item (ConnectionFault fault) up prefix frame frames on code is =
     fails_ends fault _ log (at_most_max _ _)
     (item_last log decoded item prefix frame frames on) code is
-verdict_ends log decoded item (StreamFault fault) up prefix frame frames on code is =
-    still_up log.failed _ code up (replied_failed log _ _ _ _ refl) is
-verdict_ends log decoded item NoEvent up prefix frame frames on code is =
-    still_up log.failed _ code up (replied_failed log _ _ _ _ refl) is
-verdict_ends log decoded item Reported up prefix frame frames on code is =
+verdict_ends log decoded item verdict up prefix frame frames on code is =
     still_up log.failed _ code up (replied_failed log _ _ _ _ refl) is
 
 -- After what a frame makes of the block that has begun.
@@ -195,7 +176,8 @@ call_ends log act OutOfMemory up code is =
 call_ends log (Refuse id number) answer up code is =
     refused_ends log (Refuse id number) answer (refuse_fault (log_view log) number) up code is
 call_ends log (PutOut count) (Count given) up code is =
-    still_up log.failed _ code up (put_out_failed (called log (PutOut count) (Count given))) is
+    still_up log.failed _ code up
+    (holds_ready FailedAs failed_as (called log (PutOut count) (Count given))) is
 call_ends log act answer up code is = still_up log.failed _ code up (items_failed log act answer) is
 
 -- A log with the same frames and output as another, and the same failure.
@@ -211,24 +193,8 @@ pub record SameOutput (old new : Log) : Type 0 where
 only_put_out : (view : View) (act : Act) → has_failed view ≡ true → refusal_of view act ≡ None
     → (count : ℕ) × (act ≡ PutOut count)
 unfolding conditions
-only_put_out view (Open fields end) failed none =
-    absurd (both_ways _ (none_holds _ none).0 failed)
-only_put_out view (SendFields id fields end) failed none =
-    absurd (both_ways _ (none_holds _ none).0 failed)
-only_put_out view (SendData id octets end) failed none =
-    absurd (both_ways _ (none_holds _ none).0 failed)
-only_put_out view (Release id count) failed none =
-    absurd (both_ways _ (none_holds _ none).0 failed)
-only_put_out view (ResetStream id code) failed none =
-    absurd (both_ways _ (none_holds _ none).0 failed)
-only_put_out view (Refuse id code) failed none =
-    absurd (both_ways _ (none_holds _ none).0 failed)
-only_put_out view (SendPing octets) failed none =
-    absurd (both_ways _ (none_holds _ none).0 failed)
-only_put_out view SendGoAway failed none = absurd (both_ways _ (none_holds _ none).0 failed)
 only_put_out view (PutOut count) failed none = (count, refl)
-only_put_out view (ChangeSettings values) failed none =
-    absurd (both_ways _ (none_holds _ none).0 failed)
+only_put_out view act failed none = absurd (both_ways _ (none_holds _ none).0 failed)
 
 -- Output that is put out where nothing is returned first, by the test whether it is.
 same_put_out_by : (log put : Log) (given : ℕ) (b : Bool) → b ≡ false → SameOutput log put
@@ -318,37 +284,20 @@ pub used_up : (log : Log) (octets unparsed : List ℕ)
 unfolding used
 used_up log octets unparsed = refl
 
--- a new end hasn't failed
-opened_up : (role : Role) (values : Values) → (opened role values).failed ≡ None
-unfolding opened with_sent
-opened_up role values = refl
-
--- the same stream was processed once octets were used
-used_processed : (log : Log) (octets : List ℕ) → last_processed (used log octets [])
-    ≤ last_processed log
-unfolding used last_processed
-used_processed log octets = at_most _
-
-used_same : (log : Log) (octets : List ℕ) → last_processed log ≡ last_processed (used log octets [])
-unfolding used last_processed
-used_same log octets = refl
-
 -- What an end that has failed has written last.
 pub failed_last : (role : Role) (values : Values) (log : Log) (code : Code)
     → IsLog role values log → log.failed ≡ Some code → EndsInGoAway log code
-failed_last role values _ code (begins in_range) is =
-    none_some code (sym (opened_up role values) ∙ is)
+unfolding opened with_sent used last_processed
+failed_last role values _ code (begins in_range) is = none_some code is
 failed_last role values _ code (took_some {log = log} before takes octets unparsed read) is =
     still_up log.failed _ code takes.up (used_up log octets unparsed) is
 failed_last role values _ code (took_one {log = log} before takes octets frame decoded read sees)
     is =
     frame_ends (used log octets []) decoded frame (used_up log octets [] ∙ takes.up) code is
 failed_last role values _ code (met_fault {log = log} before takes octets fault at) is =
-    fails_ends (wire_fault_code fault) _ (used log octets []) (used_processed log octets)
-    (inl (used_same log octets)) code is
+    fails_ends (wire_fault_code fault) _ (used log octets []) (at_most _) (inl refl) code is
 failed_last role values _ code (ran_out_of_memory {log = log} before up octets may) is =
-    fails_ends InternalError _ (used log octets []) (used_processed log octets)
-    (inl (used_same log octets)) code is
+    fails_ends InternalError _ (used log octets []) (at_most _) (inl refl) code is
 failed_last role values _ code (reported_one {log = log} before up some) is =
     still_up log.failed _ code up (reported_failed _ _ ∙ unreturned_failed _ _) is
 failed_last role values _ code (called_one {log = log} before act answer typed may) is =

@@ -1,13 +1,12 @@
 -- What every log has read, and what was reported of it: calls; and so every log.
-use Rattle.std.proofs.Common.{◌≡◌, ◌≢◌, ℕ, zero, suc, ◌<◌, ◌==◌, nat_le, ◌&&◌, not}
-use Rattle.std.proofs.Common.{Bool, true, false, if◌then◌else◌, List, [], ◌∷◌, ◌++◌, length, take}
-use Rattle.std.proofs.Common.{drop, Option, Some, None, refl, ◌∙◌, arith}
+use Rattle.std.proofs.Common.{◌≡◌, ◌≢◌, ℕ, zero, suc, ◌<◌, ◌==◌, nat_le, ◌&&◌, not, Bool, true}
+use Rattle.std.proofs.Common.{false, if◌then◌else◌, List, [], ◌∷◌, length, take, drop, Option, Some}
+use Rattle.std.proofs.Common.{None, refl, ◌∙◌, arith}
 use Rattle.std.specs.List.{list_any}
 use Rattle.std.proofs.lemmas.List.Folds.{list_any-append}
 use Rattle.std.proofs.lemmas.Bool.{both_ways, or_from}
 use Rattle.h2_frame.specs.declared.code.Code.{Code}
 use Rattle.h2_frame.specs.declared.code.Code.TheVariants.{InternalError}
-use Rattle.h2_frame.specs.Frames.{Data}
 use Rattle.h2_frame.specs.Frames.{WindowUpdate}
 use Rattle.h2_wire.specs.Faults.{wire_fault_code}
 use Rattle.h2_block.specs.Grouping.{Item, alone}
@@ -16,18 +15,14 @@ use Rattle.h2_log.specs.declared.role.Role.TheVariants.{Client, Server}
 use Rattle.h2_log.specs.Items.{is_goaway}
 use Rattle.h2_log.specs.Events.{UnprocessedEvent, greatest_processed}
 use Rattle.h2_log.specs.Settings.{is_server}
-use Rattle.h2_log.specs.Acts.{Values, Act, Answer, Open, SendFields, SendData, Release, ResetStream}
-use Rattle.h2_log.specs.Acts.{Refuse, SendPing, SendGoAway, PutOut, ChangeSettings}
+use Rattle.h2_log.specs.Acts.{Values, Act, Answer, SendData, Release, Refuse, SendGoAway, PutOut}
 use Rattle.h2_log.specs.Acts.{Done, OutOfMemory}
 use Rattle.h2_log.specs.Log.{Log, last_processed, max_payload_sent, next_unprocessed}
 use Rattle.h2_log.specs.View.{ended_in}
 use Rattle.h2_log.specs.LogView.{log_view}
 use Rattle.h2_log.specs.ItemRules.{frame_step}
 use Rattle.h2_log.specs.CallRules.{items_of, answer_of, refuse_fault, data_items, data_frames}
-use Rattle.h2_log.specs.CallRules.{returns_before_put_out}
-use Rattle.h2_log.specs.LogSteps.{read, with_sent}
-use Rattle.h2_log.specs.LogSteps.{with_credit_returned, used}
-use Rattle.h2_log.specs.LogSteps.{took_none}
+use Rattle.h2_log.specs.LogSteps.{read, with_sent, with_credit_returned, used, took_none}
 use Rattle.h2_log.specs.LogCalls.{opened, called, with_items, refused_with, before_put_out}
 use Rattle.h2_log.specs.LogCalls.{with_call, MayAnswer, accepts, refuses, lacks, fails}
 use Rattle.h2_log.specs.Histories.{IsLog, begins, took_some, took_one, met_fault, ran_out_of_memory}
@@ -35,38 +30,30 @@ use Rattle.h2_log.specs.Histories.{reported_one, called_one}
 use Rattle.h2_end_laws.specs.Readings.{items_read, events_read, events_of_items, HasReadings}
 use Rattle.h2_end_laws.proofs.Replies.{replies_of_logs}
 use Rattle.h2_end_laws.proofs.SendableItems.{taken_fit}
-use Rattle.h2_end_laws.proofs.Readings.{LogIsRead, wrote_goaway, named, wrote_keeps}
-use Rattle.h2_end_laws.proofs.Readings.{reports_keep, update_stays, unreturned_keeps}
-use Rattle.h2_end_laws.proofs.Readings.{failure_keeps, frame_keeps}
+use Rattle.h2_end_laws.proofs.Readings.{LogIsRead, wrote_goaway, named, wrote_keeps, reports_keep}
+use Rattle.h2_end_laws.proofs.Readings.{update_stays, unreturned_keeps, failure_keeps, frame_keeps}
 
--- DATA is no GOAWAY, by the test whether it is the last.
-data_by : (last one : Item) (after : List Item) (b : Bool) → is_goaway last ≡ false
-    → is_goaway one ≡ false → list_any is_goaway after ≡ false
-    → list_any is_goaway (if b then last ∷ [] else after ++ one ∷ []) ≡ false
-data_by last one after true here there none = or_from _ _ here refl
-data_by last one after false here there none =
-    list_any-append is_goaway after (one ∷ []) ∙ or_from _ _ none (or_from _ _ there refl)
+-- Where neither of two lists has a GOAWAY, the one that a test takes has none.
+none_in_either : (b : Bool) (one other : List Item) → list_any is_goaway one ≡ false
+    → list_any is_goaway other ≡ false → list_any is_goaway (if b then one else other) ≡ false
+none_in_either true one other here there = here
+none_in_either false one other here there = there
 
+-- DATA is no GOAWAY.
 frames_stay : (count most id : ℕ) (octets : List ℕ) (end : Bool)
     → list_any is_goaway (data_frames count most id octets end) ≡ false
 unfolding data_frames is_goaway
 frames_stay zero most id octets end = refl
 frames_stay (suc count) most id octets end =
-    data_by (alone (Data id end octets None)) (alone (Data id false (take most octets) None))
-    (data_frames count most id (drop most octets) end) (nat_le (length octets) most) refl refl
-    (frames_stay count most id (drop most octets) end)
-
-data_stay_by : (items : List Item) (b : Bool) → list_any is_goaway items ≡ false
-    → list_any is_goaway (if b then [] else items) ≡ false
-data_stay_by items true none = refl
-data_stay_by items false none = none
+    none_in_either (nat_le (length octets) most) _ _ refl
+    (list_any-append is_goaway (data_frames count most id (drop most octets) end) _
+    ∙ or_from _ _ (frames_stay count most id (drop most octets) end) refl)
 
 data_stay : (most id : ℕ) (octets : List ℕ) (end : Bool) (count : ℕ)
     → list_any is_goaway (data_items most id octets end count) ≡ false
 unfolding data_items
 data_stay most id octets end count =
-    data_stay_by (data_frames (suc count) most id (take count octets) (end && count
-    == length octets)) (count == 0 && not (length octets == 0 && end))
+    none_in_either (count == 0 && not (length octets == 0 && end)) [] _ refl
     (frames_stay (suc count) most id (take count octets) (end && count == length octets))
 
 -- What a release writes is no GOAWAY.
@@ -99,10 +86,6 @@ ready_by log true are =
     wrote_keeps [] (record log { unreturned = 0 }) _ (update_stays 0 log.unreturned) are
 ready_by log false are = are
 
-ready_keeps : (log : Log) → LogIsRead log → LogIsRead (before_put_out log)
-unfolding before_put_out
-ready_keeps log are = ready_by log (returns_before_put_out (log_view log)) are
-
 -- At a server the last stream of GOAWAY is the greatest that was processed.
 last_is : (role : Role) (n : ℕ) → role ≡ Server → (if is_server role then n else 0) ≡ n
 last_is Server n server = refl
@@ -119,26 +102,19 @@ goaway_keeps log are =
 -- A call that is accepted.
 accepted_keeps : (log : Log) (act : Act) → LogIsRead log
     → LogIsRead (with_call log act (answer_of (log_view log) act))
-unfolding with_call items_of is_goaway
-accepted_keeps log (Open fields end) are =
-    quiet_call log (Open fields end) (answer_of (log_view log) (Open fields end)) refl are
-accepted_keeps log (SendFields id fields end) are =
-    quiet_call log (SendFields id fields end) Done refl are
+unfolding with_call items_of is_goaway before_put_out
 accepted_keeps log (SendData id octets end) are =
     quiet_call log (SendData id octets end) (answer_of (log_view log) (SendData id octets end))
     (data_stay (max_payload_sent log) id octets end _) are
 accepted_keeps log (Release id count) are =
     quiet_call log (Release id count) Done (updates_stay id count (ended_in
     ((log_view log).stream id))) are
-accepted_keeps log (ResetStream id code) are = quiet_call log (ResetStream id code) Done refl are
 accepted_keeps log (Refuse id code) are =
     refused_keeps log id code (refuse_fault (log_view log) code) are
-accepted_keeps log (SendPing octets) are = quiet_call log (SendPing octets) Done refl are
 accepted_keeps log SendGoAway are = goaway_keeps log are
 accepted_keeps log (PutOut count) are =
-    ready_keeps (called log (PutOut count) (answer_of (log_view log) (PutOut count))) are
-accepted_keeps log (ChangeSettings values) are =
-    quiet_call log (ChangeSettings values) Done refl are
+    ready_by (called log (PutOut count) (answer_of (log_view log) (PutOut count))) _ are
+accepted_keeps log act are = quiet_call log act (answer_of (log_view log) act) refl are
 
 -- A call.
 call_keeps : (log : Log) (act : Act) (answer : Answer) → LogIsRead log → MayAnswer log act answer

@@ -1,15 +1,13 @@
 -- What every log has read, and what was reported of it.
-use Rattle.std.proofs.Common.{◌≡◌, ℕ, ◌+◌, ◌<◌, nat_lt, ◌&&◌}
-use Rattle.std.proofs.Common.{Bool, true, false, if◌then◌else◌, List, [], ◌∷◌, ◌++◌}
-use Rattle.std.proofs.Common.{Option, Some, None, refl, sym, ap, ◌∙◌, inl, inr, arith}
-use Rattle.std.proofs.Common.{append_assoc}
+use Rattle.std.proofs.Common.{◌≡◌, ℕ, ◌+◌, ◌<◌, nat_lt, ◌&&◌, Bool, true, false, if◌then◌else◌}
+use Rattle.std.proofs.Common.{List, [], ◌∷◌, ◌++◌, Option, Some, None, refl, sym, ap, ◌∙◌, inl, inr}
+use Rattle.std.proofs.Common.{arith, append_assoc}
 use Rattle.std.specs.List.{list_any}
 use Rattle.std.proofs.lemmas.Bool.{both_ways, or_parts, or_left, lt-ltb}
 use Rattle.hpack.specs.Tables.{Entries}
 use Rattle.h2_frame.specs.declared.code.Code.{Code}
 use Rattle.h2_frame.specs.Codes.{code_number}
-use Rattle.h2_frame.specs.Frames.{Frame, Data, Headers, Priority, Reset, Settings, Ping, GoAway}
-use Rattle.h2_frame.specs.Frames.{WindowUpdate, Continuation, Unknown}
+use Rattle.h2_frame.specs.Frames.{Frame, Settings, Ping, GoAway, WindowUpdate}
 use Rattle.h2_block.specs.Grouping.{Item, alone, block}
 use Rattle.h2_log.specs.declared.role.Role.{Role}
 use Rattle.h2_log.specs.declared.role.Role.TheVariants.{Server}
@@ -27,18 +25,17 @@ use Rattle.h2_log.specs.LogSteps.{with_credit_returned, with_verdict, with_step,
 use Rattle.h2_log.specs.Histories.{IsDecodedIn}
 use Rattle.h2_log_laws.proofs.ItemLists.{any_after}
 use Rattle.h2_log_laws.proofs.LogHistory.{any_either}
-use Rattle.h2_end_laws.specs.Readings.{Reading, IsEventOf, its_fields, its_octets, its_reset}
-use Rattle.h2_end_laws.specs.Readings.{its_fault, its_goaway, its_acknowledgment, its_pong}
-use Rattle.h2_end_laws.specs.Readings.{AreEventsOf, DecodesTo, AreDecoded, items_read, events_read}
-use Rattle.h2_end_laws.specs.Readings.{events_of_items, AreReadings, fault_codes}
+use Rattle.h2_end_laws.specs.Readings.{Reading, IsEventOf, its_pong, AreEventsOf, DecodesTo}
+use Rattle.h2_end_laws.specs.Readings.{AreDecoded, items_read, events_read, events_of_items}
+use Rattle.h2_end_laws.specs.Readings.{AreReadings, fault_codes}
 use Rattle.h2_end_laws.specs.Replies.{replies_owed, replies_among}
 use Rattle.h2_end_laws.proofs.FaultCodes.{HasCode, verdict_coded}
 use Rattle.h2_end_laws.proofs.GoAwaysRead.{IsTypedGoAway, IsTypedStep, step_typed}
 use Rattle.h2_end_laws.proofs.SendableItems.{IsFit}
 use Rattle.h2_end_laws.proofs.ReadVerdicts.{Says, says_of}
 use Rattle.h2_end_laws.proofs.ReadingRules.{IsUnreported, IsLow, IsFaulty, IsSaid, IsSeen}
-use Rattle.h2_end_laws.proofs.ReadingRules.{rules_say}
-use Rattle.h2_end_laws.proofs.ReadingRules.{rules_see, reading_of, events_said, processed_low}
+use Rattle.h2_end_laws.proofs.ReadingRules.{rules_say, rules_see, reading_of, events_said}
+use Rattle.h2_end_laws.proofs.ReadingRules.{processed_low}
 
 -- What HasReadings says, by the parts of a log; and, as long as the connection hasn't failed, that
 -- at a server unused numbers are above those processed.
@@ -174,13 +171,8 @@ event_stays : (received : List Item) (item : Item) (decoded : Option Decoded) (e
     (reported : List Event) → IsEventOf received item decoded event
     → events_of_items (event ∷ reported) ≡ event ∷ events_of_items reported
 unfolding events_of_items
-event_stays received _ _ _ reported (its_fields stream end octets decoded) = refl
-event_stays received _ _ _ reported (its_octets stream end octets pad) = refl
-event_stays received _ _ _ reported (its_reset stream code) = refl
-event_stays received _ _ _ reported (its_fault item decoded code some has) = refl
-event_stays received _ _ _ reported (its_goaway last code debug) = refl
-event_stays received _ _ _ reported (its_acknowledgment pairs) = refl
 event_stays received _ _ _ reported (its_pong octets) = refl
+event_stays received _ _ _ reported is = refl
 
 events_stay : (role : Role) (received : List Item) (reading : Reading)
     (events reported : List Event) → AreEventsOf role received reading events
@@ -207,17 +199,6 @@ decodes log decoded (alone frame) verdict sees seen = (sees, refl)
 decodes log None (block stream end octets) verdict sees seen = absurd seen
 decodes log (Some decoded) (block stream end octets) verdict sees seen = (decoded, refl, sees, refl)
 
--- the items and events of one reading more
-items_next : (reading : Reading) (readings : List Reading)
-    → items_read (reading ∷ readings) ≡ reading.item ∷ items_read readings
-unfolding items_read
-items_next reading readings = refl
-
-events_next : (reading : Reading) (readings : List Reading)
-    → events_read (reading ∷ readings) ≡ reading.events ++ events_read readings
-unfolding events_read
-events_next reading readings = refl
-
 -- An item that is read keeps it, by its verdict.
 item_read : (log : Log) (decoded : Option Decoded) (item : Item) (verdict : Verdict)
     → ((code : Code) → verdict ≡ ConnectionFault code → ⊥)
@@ -227,16 +208,15 @@ item_read : (log : Log) (decoded : Option Decoded) (item : Item) (verdict : Verd
     → Says (IsFaulty log item) (IsUnreported log item) (IsSaid log item) verdict
     → LogIsRead log
     → PendingRead (events_of (log_view log) decoded verdict item) (read log decoded item)
+unfolding items_read events_read
 item_read log decoded item verdict none sees coded typed replied seen says are =
     let is_seen = seen_by decoded item verdict none seen in
     let said = events_said log decoded item verdict none sees is_seen coded typed says in
     let reading = reading_of log decoded item verdict in
     record {
       readings = reading ∷ are.readings;
-      items = items_next reading are.readings
-          ∙ ap (λ (line : List Item). item ∷ line) are.items;
-      events = events_next reading are.readings
-          ∙ ap (λ (line : List Event). reading.events ++ line) are.events
+      items = ap (λ (line : List Item). item ∷ line) are.items;
+      events = ap (λ (line : List Event). reading.events ++ line) are.events
           ∙ sym (events_stay log.role log.received reading reading.events log.reported said);
       each = (
         [],
@@ -263,9 +243,7 @@ item_read log decoded item verdict none sees coded typed replied seen says are =
         → Says (IsSeen decoded item) (IsSeen decoded item) (IsSeen decoded item) verdict
         → IsSeen decoded item
     seen_by decoded item (ConnectionFault code) none seen = absurd (none code refl)
-    seen_by decoded item (StreamFault code) none seen = seen
-    seen_by decoded item NoEvent none seen = seen
-    seen_by decoded item Reported none seen = seen
+    seen_by decoded item verdict none seen = seen
 
 -- Items that are written.
 pub wrote_keeps : (events : List Event) (log : Log) (items : List Item)
@@ -319,19 +297,9 @@ unfolding replies_to is_goaway
 replies_stay (ConnectionFault code) item = refl
 replies_stay (StreamFault code) item = refl
 replies_stay Reported item = refl
-replies_stay NoEvent (block stream end octets) = refl
-replies_stay NoEvent (alone (Data stream end octets pad)) = refl
-replies_stay NoEvent (alone (Headers stream end last fragment pad priority)) = refl
-replies_stay NoEvent (alone (Priority stream octets)) = refl
-replies_stay NoEvent (alone (Reset stream code)) = refl
-replies_stay NoEvent (alone (Settings true pairs)) = refl
 replies_stay NoEvent (alone (Settings false pairs)) = refl
-replies_stay NoEvent (alone (Ping true octets)) = refl
 replies_stay NoEvent (alone (Ping false octets)) = refl
-replies_stay NoEvent (alone (GoAway last code debug)) = refl
-replies_stay NoEvent (alone (WindowUpdate stream increment)) = refl
-replies_stay NoEvent (alone (Continuation stream last fragment)) = refl
-replies_stay NoEvent (alone (Unknown kind flags stream payload)) = refl
+replies_stay NoEvent item = refl
 
 -- An item, by its verdict.
 verdict_keeps : (log : Log) (decoded : Option Decoded) (item : Item) (verdict : Verdict)
@@ -343,16 +311,9 @@ verdict_keeps : (log : Log) (decoded : Option Decoded) (item : Item) (verdict : 
 unfolding with_verdict
 verdict_keeps log decoded item (ConnectionFault code) sees coded typed replied seen says are =
     failure_keeps code _ log are
-verdict_keeps log decoded item (StreamFault code) sees coded typed replied seen says are =
-    reports_keep _ _ (unreturned_keeps _ _ _ (wrote_keeps _ _ _ (replies_stay (StreamFault code)
-    item) (item_read log decoded item (StreamFault code) (λ other is. cc) sees coded typed replied
-    seen says are)))
-verdict_keeps log decoded item NoEvent sees coded typed replied seen says are =
-    reports_keep _ _ (unreturned_keeps _ _ _ (wrote_keeps _ _ _ (replies_stay NoEvent item)
-    (item_read log decoded item NoEvent (λ other is. cc) sees coded typed replied seen says are)))
-verdict_keeps log decoded item Reported sees coded typed replied seen says are =
-    reports_keep _ _ (unreturned_keeps _ _ _ (wrote_keeps _ _ _ (replies_stay Reported item)
-    (item_read log decoded item Reported (λ other is. cc) sees coded typed replied seen says are)))
+verdict_keeps log decoded item verdict sees coded typed replied seen says are =
+    reports_keep _ _ (unreturned_keeps _ _ _ (wrote_keeps _ _ _ (replies_stay verdict item)
+    (item_read log decoded item verdict (λ other is. cc) sees coded typed replied seen says are)))
 
 -- What a frame makes of the block that has begun.
 step_keeps : (log : Log) (decoded : Option Decoded) (step : FrameStep) → log.failed ≡ None

@@ -1,23 +1,20 @@
 -- What keeps a stream's receive window, and what is owed of it, in step: calls; and so every log.
 use Rattle.std.proofs.Common.{◌≡◌, ◌≢◌, ℕ, ◌+◌, ◌-◌, ◌≤◌, ◌==◌, nat_lt, Bool, true, false}
-use Rattle.std.proofs.Common.{if◌then◌else◌, List, [], ◌∷◌, Option, Some, None, pos}
-use Rattle.std.proofs.Common.{◌+ℤ◌, ◌-ℤ◌, refl, sym, ap, ◌∙◌, inl, inr, arith}
+use Rattle.std.proofs.Common.{if◌then◌else◌, List, [], ◌∷◌, Option, Some, None, pos, ◌+ℤ◌, ◌-ℤ◌}
+use Rattle.std.proofs.Common.{refl, sym, ap, ◌∙◌, inl, inr, arith}
 use Rattle.std.specs.List.{list_any}
-use Rattle.std.proofs.lemmas.Bool.{both_ways, or_parts, eq-eqb}
-use Rattle.std.proofs.lemmas.Bool.{ne_eqb, cases_eq, ltb-false}
+use Rattle.std.proofs.lemmas.Bool.{both_ways, or_parts, eq-eqb, ne_eqb, cases_eq, ltb-false}
 use Rattle.std.proofs.lemmas.Int.{ints}
 use Rattle.h2_frame.specs.declared.code.Code.{Code}
 use Rattle.h2_frame.specs.declared.code.Code.TheVariants.{InternalError}
-use Rattle.h2_frame.specs.Frames.{Data, Reset}
-use Rattle.h2_frame.specs.Frames.{WindowUpdate}
+use Rattle.h2_frame.specs.Frames.{Data, Reset, WindowUpdate}
 use Rattle.h2_wire.specs.Faults.{wire_fault_code}
 use Rattle.h2_block.specs.Grouping.{Item, alone}
 use Rattle.h2_log.specs.declared.role.Role.{Role}
 use Rattle.h2_log.specs.Items.{total, increment_on, is_block_on, ends}
 use Rattle.h2_log.specs.Events.{UnprocessedEvent, flow_on, reported_total}
-use Rattle.h2_log.specs.Acts.{Values, Act, Answer, Open, SendFields, SendData, Release, ResetStream}
-use Rattle.h2_log.specs.Acts.{Refuse, SendPing, SendGoAway, PutOut, ChangeSettings, Count}
-use Rattle.h2_log.specs.Acts.{Done, OutOfMemory, Refused}
+use Rattle.h2_log.specs.Acts.{Values, Act, Answer, SendData, Release, Refuse, PutOut, Count, Done}
+use Rattle.h2_log.specs.Acts.{OutOfMemory, Refused}
 use Rattle.h2_log.specs.States.{is_active}
 use Rattle.h2_log.specs.Settings.{own_value}
 use Rattle.h2_log.specs.Windows.{first_window, granted_on}
@@ -27,25 +24,19 @@ use Rattle.h2_log.specs.View.{ended_in, owed_on}
 use Rattle.h2_log.specs.LogView.{log_view}
 use Rattle.h2_log.specs.CallRules.{conditions, refusal_of, items_of, answer_of, refuse_fault}
 use Rattle.h2_log.specs.CallRules.{returns_before_put_out, data_items}
-use Rattle.h2_log.specs.LogSteps.{read, with_sent, with_reported}
-use Rattle.h2_log.specs.LogSteps.{with_credit_returned, used, owed_at_close}
-use Rattle.h2_log.specs.LogSteps.{took_none}
+use Rattle.h2_log.specs.LogSteps.{read, with_sent, with_reported, with_credit_returned, used}
+use Rattle.h2_log.specs.LogSteps.{owed_at_close, took_none}
 use Rattle.h2_log.specs.LogCalls.{opened, called, with_items, refused_with, before_put_out}
 use Rattle.h2_log.specs.LogCalls.{with_call, MayAnswer, accepts, refuses, lacks, fails}
 use Rattle.h2_log.specs.Histories.{IsLog, begins, took_some, took_one, met_fault, ran_out_of_memory}
 use Rattle.h2_log.specs.Histories.{reported_one, called_one}
 use Rattle.h2_log_laws.proofs.ReaderStates.{active_parts}
-use Rattle.h2_log_laws.proofs.LogHistory.{History, history_of, given_by}
-use Rattle.h2_log_laws.proofs.LogHistory.{used_view}
+use Rattle.h2_log_laws.proofs.LogHistory.{history_of, used_view}
 use Rattle.h2_log_laws.proofs.InvariantSteps.{update_elsewhere}
 use Rattle.h2_log_laws.proofs.CallConditions.{first_none}
 use Rattle.h2_log_laws.proofs.InvariantCalls.{active_some, released_refused}
 use Rattle.h2_log_laws.proofs.LogViewLemmas.{stream_is_active, stream_there, owed_there}
 use Rattle.h2_log_laws.proofs.DataOfCalls.{none_of_items}
-use Rattle.h2_log_laws.proofs.ReleasedCredit.{updates}
-use Rattle.h2_end_laws.proofs.ReceiveWindows.{IsAccounted, Steps, step_keeps, quiet_steps}
-use Rattle.h2_end_laws.proofs.ReceiveWindows.{give_accounted, log_step_keeps}
-use Rattle.h2_end_laws.proofs.ReceiveWindows.{failure_keeps, total_none, flow_none}
 use Rattle.h2_log_laws.proofs.ReleasedCredit.{updates}
 use Rattle.h2_end_laws.proofs.ReceiveWindows.{IsAccounted, Steps, step_keeps, quiet_steps}
 use Rattle.h2_end_laws.proofs.ReceiveWindows.{give_accounted, log_step_keeps, failure_keeps}
@@ -206,16 +197,12 @@ refused_keeps log id code None i some before =
     items_keep log (Refuse id code) Done i (alone (Reset id code) ∷ []) some before refl
     (call_steps log i _ _ before (reset_gives i id code) refl)
 
--- What is unreturned, by the test whether it is returned.
-ready_view : (log : Log) (b : Bool) → history_of (if b then with_credit_returned log else log)
-    ≡ given_by b (history_of log)
+-- It still stands before output is put out, by the test whether what is unreturned is returned.
+ready_by : (log : Log) (b : Bool) (i : ℕ) → i ≢ 0 → IsAccounted (history_of log) i
+    → IsAccounted (history_of (if b then with_credit_returned log else log)) i
 unfolding with_sent
-ready_view log true = refl
-ready_view log false = refl
-
-ready_by : (v : History) (b : Bool) (i : ℕ) → i ≢ 0 → IsAccounted v i → IsAccounted (given_by b v) i
-ready_by v true i some before = give_accounted v i some before
-ready_by v false i some before = before
+ready_by log true i some before = give_accounted (history_of log) i some before
+ready_by log false i some before = before
 
 -- It still stands after output was put out.
 put_out_keeps : (log : Log) (count given i : ℕ) → i ≢ 0 → IsAccounted (history_of log) i
@@ -223,9 +210,8 @@ put_out_keeps : (log : Log) (count given i : ℕ) → i ≢ 0 → IsAccounted (h
 unfolding with_call before_put_out released
 put_out_keeps log count given i some before =
     let next = called log (PutOut count) (Count given) in
-    let after = ready_by (history_of next) (returns_before_put_out (log_view next)) i some
-    (recalled_keeps log i (PutOut count) (Count given) before refl) in
-    rw (ready_view next (returns_before_put_out (log_view next))) after
+    ready_by next (returns_before_put_out (log_view next)) i some
+    (recalled_keeps log i (PutOut count) (Count given) before refl)
 
 -- DATA returns nothing.
 data_gives : (i id : ℕ) (end : Bool) (octets : List ℕ)
@@ -238,12 +224,6 @@ accepted_keeps : (log : Log) (act : Act) (i : ℕ) → i ≢ 0 → IsAccounted (
     → refusal_of (log_view log) act ≡ None
     → IsAccounted (history_of (with_call log act (answer_of (log_view log) act))) i
 unfolding with_call items_of released total increment_on
-accepted_keeps log (Open fields end) i some before none =
-    items_keep log (Open fields end) (answer_of (log_view log) (Open fields end)) i _ some before
-    refl (call_steps log i _ _ before refl refl)
-accepted_keeps log (SendFields id fields end) i some before none =
-    items_keep log (SendFields id fields end) Done i _ some before refl
-    (call_steps log i _ _ before refl refl)
 accepted_keeps log (SendData id octets end) i some before none =
     items_keep log (SendData id octets end) (answer_of (log_view log) (SendData id octets end)) i
     (data_items (max_payload_sent log) id octets end _) some before refl
@@ -251,37 +231,20 @@ accepted_keeps log (SendData id octets end) i some before none =
     (max_payload_sent log) id octets end _) refl)
 accepted_keeps log (Release id count) i some before none =
     release_keeps log id count i some before none
-accepted_keeps log (ResetStream id code) i some before none =
-    items_keep log (ResetStream id code) Done i _ some before refl
-    (call_steps log i _ _ before refl refl)
 accepted_keeps log (Refuse id code) i some before none =
     refused_keeps log id code (refuse_fault (log_view log) code) i some before
-accepted_keeps log (SendPing octets) i some before none =
-    items_keep log (SendPing octets) Done i _ some before refl
-    (call_steps log i _ _ before refl refl)
-accepted_keeps log SendGoAway i some before none =
-    items_keep log SendGoAway Done i _ some before refl
-    (call_steps log i _ _ before refl refl)
 accepted_keeps log (PutOut count) i some before none =
     put_out_keeps log count _ i some before
-accepted_keeps log (ChangeSettings values) i some before none =
-    items_keep log (ChangeSettings values) Done i _ some before refl
+accepted_keeps log act i some before none =
+    items_keep log act (answer_of (log_view log) act) i _ some before refl
     (call_steps log i _ _ before refl refl)
 
 -- a call in which memory ran out releases nothing
 released_failed : (i : ℕ) (act : Act) (calls : List (Act × Answer))
     → released i ((act, OutOfMemory) ∷ calls) ≡ released i calls
 unfolding released
-released_failed i (Open fields end) calls = refl
-released_failed i (SendFields id fields end) calls = refl
-released_failed i (SendData id octets end) calls = refl
 released_failed i (Release id count) calls = refl
-released_failed i (ResetStream id code) calls = refl
-released_failed i (Refuse id code) calls = refl
-released_failed i (SendPing octets) calls = refl
-released_failed i SendGoAway calls = refl
-released_failed i (PutOut count) calls = refl
-released_failed i (ChangeSettings values) calls = refl
+released_failed i act calls = refl
 
 -- It still stands after a call.
 call_keeps : (log : Log) (act : Act) (answer : Answer) (i : ℕ) → i ≢ 0

@@ -1,37 +1,32 @@
 -- What a call of `take` answers, and the log after it.
-use Rattle.std.proofs.Common.{◌≡◌, ◌⊎◌, ℕ, ◌+◌, nat_lt, ◌&&◌, Bool, true, false, if◌then◌else◌}
-use Rattle.std.proofs.Common.{List, [], ◌∷◌, ◌++◌, length, Option, Some, None, refl, sym, ap}
-use Rattle.std.proofs.Common.{◌∙◌, subst, inl, inr, append-nil}
+use Rattle.std.proofs.Common.{◌≡◌, ◌⊎◌, ℕ, List, [], ◌∷◌, ◌++◌, length, Option, Some, None, refl}
+use Rattle.std.proofs.Common.{sym, ap, ◌∙◌, subst, inl, inr, append-nil}
 use Rattle.h2_frame.specs.declared.code.Code.{Code}
-use Rattle.h2_frame.specs.declared.code.Code.TheVariants.{InternalError}
-use Rattle.h2_frame.specs.Frames.{Frame, Data, Headers, Priority, Reset, Settings, Ping, GoAway}
-use Rattle.h2_frame.specs.Frames.{WindowUpdate, Continuation, Unknown}
-use Rattle.h2_wire.specs.Faults.{wire_fault_code}
+use Rattle.h2_frame.specs.Frames.{Frame, Data, Reset, Settings, Ping, GoAway}
 use Rattle.h2_wire.proofs.ReadingLemmas.{none_some}
 use Rattle.h2_block.specs.Grouping.{Item, alone, block}
 use Rattle.h2_log.specs.declared.role.Role.{Role}
 use Rattle.h2_log.specs.Events.{Event, UnprocessedEvent}
 use Rattle.h2_log.specs.Acts.{Values}
-use Rattle.h2_log.specs.Limits.{full_output}
-use Rattle.h2_log.specs.Log.{Log, waiting, next_unprocessed}
+use Rattle.h2_log.specs.Log.{Log, next_unprocessed}
 use Rattle.h2_log.specs.View.{View}
 use Rattle.h2_log.specs.LogView.{log_view}
-use Rattle.h2_log.specs.Verdicts.{Verdict, ConnectionFault, StreamFault, NoEvent, Reported}
+use Rattle.h2_log.specs.Verdicts.{Verdict, ConnectionFault, StreamFault, Reported}
 use Rattle.h2_log.specs.ItemRules.{Decoded, FrameStep, fails_with, begins_block, completes}
 use Rattle.h2_log.specs.ItemRules.{frame_step}
 use Rattle.h2_log.specs.ItemEffects.{events_of}
 use Rattle.h2_log.specs.LogSteps.{used, read, with_sent, with_reported, with_unreturned}
-use Rattle.h2_log.specs.LogSteps.{with_credit_returned, with_failure, with_verdict, with_step}
-use Rattle.h2_log.specs.LogSteps.{with_frame, took_frame}
+use Rattle.h2_log.specs.LogSteps.{with_failure, with_verdict, with_step, with_frame, took_frame}
 use Rattle.h2_log.specs.LogSteps.{took_none}
 use Rattle.h2_log.specs.Histories.{IsLog, took_some, took_one, met_fault, ran_out_of_memory}
 use Rattle.h2_log.specs.Histories.{reported_one, TakesOctets, TakesPart, TakesFrame, TakesFault}
 use Rattle.h2_log.specs.Histories.{IsDecodedFor, MayRunOutOfMemory}
 use Rattle.h2_log.proofs.StreamLemmas.{Keeps-frame, Keeps-none, stream_of_log}
-use Rattle.h2_end_laws.specs.Takes.{TakeAnswer, Took, Failed, events_answered}
-use Rattle.h2_end_laws.specs.Takes.{MayTake, has_failed, reports_unprocessed, ends_no_frame}
-use Rattle.h2_end_laws.specs.Takes.{ends_frame, meets_fault, runs_out_of_memory}
-use Rattle.h2_end_laws.specs.Takes.{AfterTake}
+use Rattle.h2_log_laws.proofs.GrowthBySteps.{HoldsOfWrites, holds_sent, holds_unreturned}
+use Rattle.h2_log_laws.proofs.GrowthBySteps.{holds_sent_unreturned}
+use Rattle.h2_end_laws.specs.Takes.{TakeAnswer, Took, Failed, events_answered, MayTake, has_failed}
+use Rattle.h2_end_laws.specs.Takes.{reports_unprocessed, ends_no_frame, ends_frame, meets_fault}
+use Rattle.h2_end_laws.specs.Takes.{runs_out_of_memory, AfterTake}
 use Rattle.h2_end_laws.proofs.Failures.{sent_failed, reported_failed, unreturned_failed}
 
 -- After each call there is a log that comes about.
@@ -70,45 +65,39 @@ unfolding with_reported
 reported_is log [] = refl
 reported_is log (event ∷ events) = refl
 
--- What is written reports nothing.
-pub sent_reported : (log : Log) (items : List Item) → (with_sent log items).reported ≡ log.reported
-unfolding with_sent
-sent_reported log [] = refl
-sent_reported log (item ∷ items) = refl
+-- The second log has reported what the first has.
+abbrev ReportedAs : Log → Log → Type 0
+ReportedAs old new = new.reported ≡ old.reported
 
--- Nor does what is due, by the test whether it is returned.
-unreturned_by : (more : ℕ) (log : Log) (b : Bool)
-    → (if b then with_credit_returned (record log { unreturned = log.unreturned + more })
-    else record log { unreturned = log.unreturned + more }).reported ≡ log.reported
-unfolding with_sent
-unreturned_by more log true = refl
-unreturned_by more log false = refl
+-- What is written and what is unreturned report nothing.
+reported_as : HoldsOfWrites ReportedAs
+reported_as =
+    record {
+      none = λ log. refl;
+      twice = λ one two three a b. b ∙ a;
+      sent = λ log item items. refl;
+      unreturned = λ log count. refl;
+    }
+
+pub sent_reported : (log : Log) (items : List Item) → (with_sent log items).reported ≡ log.reported
+sent_reported log items = holds_sent ReportedAs reported_as log items
 
 pub unreturned_reported : (more : ℕ) (log : Log)
     → (with_unreturned more log).reported ≡ log.reported
-unfolding with_unreturned
-unreturned_reported more log = unreturned_by more log (nat_lt 0 more && nat_lt (waiting log)
-    full_output)
+unreturned_reported more log = holds_unreturned ReportedAs reported_as more log
 
 -- Of an item at most one event is reported.
 one_event_of : (view : View) (decoded : Option Decoded) (verdict : Verdict) (item : Item)
     → (event : Option Event) × (events_of view decoded verdict item ≡ events_answered event)
 unfolding events_of
-one_event_of view decoded (ConnectionFault code) item = (None, refl)
 one_event_of view decoded (StreamFault code) item = (Some _, refl)
-one_event_of view decoded NoEvent item = (None, refl)
 one_event_of view decoded Reported (block stream end octets) = (Some _, refl)
 one_event_of view decoded Reported (alone (Data stream end octets pad)) = (Some _, refl)
 one_event_of view decoded Reported (alone (Reset stream code)) = (Some _, refl)
 one_event_of view decoded Reported (alone (Settings ack pairs)) = (Some _, refl)
 one_event_of view decoded Reported (alone (Ping ack octets)) = (Some _, refl)
 one_event_of view decoded Reported (alone (GoAway last code debug)) = (Some _, refl)
-one_event_of view decoded Reported (alone (Headers stream end whole fragment pad priority)) =
-    (None, refl)
-one_event_of view decoded Reported (alone (Priority stream octets)) = (None, refl)
-one_event_of view decoded Reported (alone (WindowUpdate stream increment)) = (None, refl)
-one_event_of view decoded Reported (alone (Continuation stream whole fragment)) = (None, refl)
-one_event_of view decoded Reported (alone (Unknown kind flags stream payload)) = (None, refl)
+one_event_of view decoded verdict item = (None, refl)
 
 -- After a frame the connection has failed, and nothing more was reported; or it hasn't, and at most
 -- one event was.
@@ -132,7 +121,7 @@ replied_answers before log more replies events event up same one = inr (
   event,
   reported_failed _ events ∙ unreturned_failed more _ ∙ sent_failed log replies ∙ up,
   reported_is _ events ∙ ap (λ (reported : List Event). events ++ reported)
-      (unreturned_reported more (with_sent log replies) ∙ sent_reported log replies ∙ same)
+      (holds_sent_unreturned ReportedAs reported_as log replies more ∙ same)
       ∙ ap (λ (events : List Event). events ++ before.reported) one,
 )
 
@@ -143,14 +132,8 @@ verdict_answers : (before log : Log) (decoded : Option Decoded) (item : Item) (v
 unfolding with_verdict
 verdict_answers before log decoded item (ConnectionFault code) up same =
     fails_answers before code _ log same
-verdict_answers before log decoded item (StreamFault code) up same =
-    let one = one_event_of (log_view log) decoded (StreamFault code) item in
-    replied_answers before (read log decoded item) _ _ _ one.0 up same one.1
-verdict_answers before log decoded item NoEvent up same =
-    let one = one_event_of (log_view log) decoded NoEvent item in
-    replied_answers before (read log decoded item) _ _ _ one.0 up same one.1
-verdict_answers before log decoded item Reported up same =
-    let one = one_event_of (log_view log) decoded Reported item in
+verdict_answers before log decoded item verdict up same =
+    let one = one_event_of (log_view log) decoded verdict item in
     replied_answers before (read log decoded item) _ _ _ one.0 up same one.1
 
 -- What the frame makes of the block that has begun.
@@ -189,29 +172,10 @@ failed_reported : (log after : Log) (code : Code) → Answers log after → afte
 failed_reported log after code (inl (other, failed, same)) is = same
 failed_reported log after code (inr (event, up, reported)) is = none_some code (sym up ∙ is)
 
--- octets that were used up to a fault, or without memory, report nothing
-used_reported : (log : Log) (octets : List ℕ) (code : Code) (last : ℕ)
-    → (with_failure code last (used log octets [])).reported ≡ log.reported
-unfolding used with_sent
-used_reported log octets code last = refl
-
--- They were used all the same.
-used_failing : (log : Log) (octets : List ℕ) (code : Code) (last : ℕ)
-    → (with_failure code last (used log octets [])).input ≡ log.input ++ octets
-unfolding used with_sent
-used_failing log octets code last = refl
-
--- octets that were used
-used_input : (log : Log) (octets unparsed : List ℕ)
-    → ((used log octets unparsed).input ≡ log.input ++ octets)
-    × ((used log octets unparsed).reported ≡ log.reported)
-    × ((used log octets unparsed).failed ≡ log.failed)
-unfolding used
-used_input log octets unparsed = (refl, refl, refl)
-
 -- What each answer says.
 pub log_after_take : (log after : Log) (piece : List ℕ) (answer : TakeAnswer)
     → MayTake log piece answer after → AfterTake log after piece answer
+unfolding used with_sent
 log_after_take log after piece answer (has_failed code failed answers same) =
     rw (answers, same) ([], piece, refl, sym (append-nil log.input), refl, failed)
 log_after_take log after piece answer (reports_unprocessed up some answers same) =
@@ -225,16 +189,7 @@ log_after_take log after piece answer (reports_unprocessed up some answers same)
       reported_failed _ _ ∙ unreturned_failed _ log ∙ up,
     )
 log_after_take log after piece answer (ends_no_frame takes unparsed part answers same) =
-    let after_it = used_input log piece unparsed in
-    rw (answers, same) (
-      piece,
-      [],
-      sym (append-nil piece),
-      refl,
-      after_it.0,
-      after_it.1,
-      after_it.2 ∙ takes.up,
-    )
+    rw (answers, same) (piece, [], sym (append-nil piece), refl, refl, refl, takes.up)
 log_after_take log after piece (Took count event)
     (ends_frame takes octets unused joined frame decoded framed sees same answers) = (
       octets,
@@ -257,24 +212,10 @@ log_after_take log after piece (Failed code)
     )
 log_after_take log after piece answer
     (meets_fault takes octets unused joined fault at answers same) =
-    rw (answers, same) (
-      octets,
-      unused,
-      joined,
-      used_failing log octets (wire_fault_code fault) _,
-      used_reported log octets (wire_fault_code fault) _,
-      refl,
-    )
+    rw (answers, same) (octets, unused, joined, refl, refl, refl)
 log_after_take log after piece answer
     (runs_out_of_memory up octets unused joined may answers same) =
-    rw (answers, same) (
-      octets,
-      unused,
-      joined,
-      used_failing log octets InternalError _,
-      used_reported log octets InternalError _,
-      refl,
-    )
+    rw (answers, same) (octets, unused, joined, refl, refl, refl)
 
 -- Of each frame there is an answer.
 some_by : (log : Log) (octets : List ℕ) (frame : Frame) (decoded : Option Decoded)

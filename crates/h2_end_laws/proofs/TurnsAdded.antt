@@ -1,24 +1,15 @@
 -- The turns that `take` and the other calls add to a log.
-use Rattle.std.proofs.Common.{◌≡◌, ℕ, ◌+◌, nat_lt, ◌&&◌, Bool, true, false, if◌then◌else◌, List, []}
-use Rattle.std.proofs.Common.{◌∷◌, ◌++◌, map, Option, Some, None, refl, sym, ap, ◌∙◌, append_assoc}
+use Rattle.std.proofs.Common.{◌≡◌, ℕ, Bool, true, false, List, [], ◌∷◌, ◌++◌, map, refl, sym, ap}
+use Rattle.std.proofs.Common.{◌∙◌, append_assoc}
 use Rattle.h2_frame.specs.declared.code.Code.{Code}
-use Rattle.h2_frame.specs.Frames.{Frame}
-use Rattle.h2_block.specs.Grouping.{Item}
 use Rattle.h2_log.specs.Events.{Event}
-use Rattle.h2_log.specs.Acts.{Act, Answer, Refuse, PutOut, Count, OutOfMemory, Refused, Turn}
-use Rattle.h2_log.specs.Acts.{In, Out}
-use Rattle.h2_log.specs.Acts.{Happened, Called, Answered, TakeCalled, TakeAnswered}
-use Rattle.h2_log.specs.Limits.{full_output}
-use Rattle.h2_log.specs.Log.{Log, waiting}
-use Rattle.h2_log.specs.LogView.{log_view}
-use Rattle.h2_log.specs.Verdicts.{Verdict, ConnectionFault, StreamFault, NoEvent, Reported}
-use Rattle.h2_log.specs.ItemRules.{Decoded, FrameStep, fails_with, begins_block, completes}
-use Rattle.h2_log.specs.ItemRules.{frame_step}
-use Rattle.h2_log.specs.CallRules.{returns_before_put_out}
-use Rattle.h2_log.specs.LogSteps.{used, read, with_sent, with_reported, with_unreturned}
-use Rattle.h2_log.specs.LogSteps.{with_credit_returned, with_failure, with_verdict, with_step}
-use Rattle.h2_log.specs.LogSteps.{with_frame}
-use Rattle.h2_log.specs.LogCalls.{called, with_items, refused_with, before_put_out, with_call}
+use Rattle.h2_log.specs.Acts.{Act, Answer, Turn, In, Out, Happened, Called, Answered, TakeCalled}
+use Rattle.h2_log.specs.Acts.{TakeAnswered}
+use Rattle.h2_log.specs.Log.{Log}
+use Rattle.h2_log.specs.LogSteps.{used, with_failure}
+use Rattle.h2_log.specs.LogCalls.{called, with_call}
+use Rattle.h2_log_laws.proofs.GrowthBySteps.{HoldsOfFailures, HoldsOfReads, holds_failure}
+use Rattle.h2_log_laws.proofs.GrowthBySteps.{holds_call, holds_used, holds_frame, holds_none}
 use Rattle.h2_end_laws.specs.Takes.{TakeAnswer, MayTake, has_failed, reports_unprocessed}
 use Rattle.h2_end_laws.specs.Takes.{ends_no_frame, ends_frame, meets_fault, runs_out_of_memory}
 
@@ -80,150 +71,57 @@ adds_twice p one two three a b =
       pass = both_pass p b.news a.news b.pass a.pass;
     }
 
-module _ (p : Turn → Bool) (outs : (octets : List ℕ) → p (Out octets) ≡ true) where
-  -- Items are written.
-  adds_sent : (log : Log) (items : List Item) → Adds p log (with_sent log items)
-  unfolding with_sent
-  adds_sent log [] = adds_none p log log refl
-  adds_sent log (item ∷ items) =
-      adds_one p (Out _) log (with_sent log (item ∷ items)) refl (outs _)
-
-  -- What is unreturned is returned.
-  adds_returned : (log other : Log) → other.turns ≡ log.turns
-      → Adds p log (with_credit_returned other)
-  adds_returned log other same =
-      adds_twice p log (record other { unreturned = 0 }) _
-      (adds_none p log (record other { unreturned = 0 }) same) (adds_sent _ _)
-
-  -- What is unreturned is added, by the test whether it is returned.
-  adds_unreturned_by : (log : Log) (more : ℕ) (b : Bool)
-      → Adds p log (if b then with_credit_returned
-      (record log { unreturned = log.unreturned + more })
-      else record log { unreturned = log.unreturned + more })
-  adds_unreturned_by log more true =
-      adds_returned log (record log { unreturned = log.unreturned + more }) refl
-  adds_unreturned_by log more false =
-      adds_none p log (record log { unreturned = log.unreturned + more }) refl
-
-  -- What is unreturned is added.
-  adds_unreturned : (more : ℕ) (log : Log) → Adds p log (with_unreturned more log)
-  unfolding with_unreturned
-  adds_unreturned more log =
-      adds_unreturned_by log more (nat_lt 0 more && nat_lt (waiting log) full_output)
-
-  -- The connection fails.
-  adds_failure : (code : Code) (last : ℕ) (log : Log) → Adds p log (with_failure code last log)
-  adds_failure code last log =
-      let sent = adds_sent log _ in
-      record { news = sent.news; turns = sent.turns; pass = sent.pass }
-
-  -- Items are written, and what is unreturned is added.
-  adds_written : (log : Log) (items : List Item) (more : ℕ)
-      → Adds p log (with_unreturned more (with_sent log items))
-  adds_written log items more =
-      adds_twice p log (with_sent log items) _ (adds_sent log items) (adds_unreturned more _)
-
--- Output is.
-output_is : (octets : List ℕ) → is_output (Out octets) ≡ true
-output_is octets = refl
-
--- Output is written inside of `take`.
-output_of_take : (octets : List ℕ) → is_of_take (Out octets) ≡ true
-output_of_take octets = refl
-
--- A stream that is refused, by what that makes of the connection.
-adds_refused : (log : Log) (act : Act) (answer : Answer) (fault : Option Code)
-    → Adds is_output (called log act answer) (refused_with log act answer fault)
-unfolding refused_with with_items
-adds_refused log act answer (Some code) = adds_failure is_output output_is code _ _
-adds_refused log act answer None = adds_written is_output output_is _ _ _
-
--- What is returned before output is put out, by the test.
-adds_ready_by : (log : Log) (b : Bool)
-    → Adds is_output log (if b then with_credit_returned log else log)
-adds_ready_by log true = adds_returned is_output output_is log log refl
-adds_ready_by log false = adds_none is_output log log refl
-
--- What is returned before output is put out.
-adds_ready : (log : Log) → Adds is_output log (before_put_out log)
-unfolding before_put_out
-adds_ready log = adds_ready_by log (returns_before_put_out (log_view log))
+-- Where output passes, what is written adds turns that pass.
+adds_written : (p : Turn → Bool) → ((octets : List ℕ) → p (Out octets) ≡ true)
+    → HoldsOfFailures (Adds p)
+adds_written p outs =
+    record {
+      writes = record {
+        none = λ log. adds_none p log log refl;
+        twice = λ one two three a b. adds_twice p one two three a b;
+        sent = λ log item items. adds_one p (Out _) log _ refl (outs _);
+        unreturned = λ log count. adds_none p log _ refl;
+      };
+      failed = λ log code. adds_none p log _ refl;
+    }
 
 -- After a call and its answer stands output alone.
 pub adds_call : (log : Log) (act : Act) (answer : Answer)
     → Adds is_output (called log act answer) (with_call log act answer)
-unfolding with_call with_items
-adds_call log act (Refused refusal) = adds_none is_output _ _ refl
-adds_call log act OutOfMemory = adds_failure is_output output_is _ _ _
-adds_call log (Refuse id code) answer = adds_refused log _ _ _
-adds_call log (PutOut count) (Count given) =
-    let ready = adds_ready (called log (PutOut count) (Count given)) in
-    record { news = ready.news; turns = ready.turns; pass = ready.pass }
-adds_call log act answer = adds_written is_output output_is _ _ _
+adds_call log act answer =
+    holds_call (Adds is_output) (record {
+      failures = adds_written is_output (λ octets. refl);
+      given = λ log more. adds_none is_output log _ refl;
+    }) log act answer
 
 -- Events all happen inside of `take`.
 events_pass : (events : List Event) → AllPass is_of_take (map Happened events)
 events_pass [] = tt
 events_pass (event ∷ events) = (refl, events_pass events)
 
--- Events are reported.
-adds_reported : (log : Log) (events : List Event)
-    → Adds is_of_take log (with_reported log events)
-unfolding with_reported
-adds_reported log [] = adds_none is_of_take log log refl
-adds_reported log (event ∷ events) =
+-- So do all steps of `take`.
+adds_read : HoldsOfReads (Adds is_of_take)
+adds_read =
     record {
-      news = map Happened (event ∷ events);
-      turns = refl;
-      pass = events_pass (event ∷ events);
+      failures = adds_written is_of_take (λ octets. refl);
+      used = λ log octets unparsed. adds_one is_of_take (In octets) log _ refl refl;
+      framed = λ log frames. adds_none is_of_take log _ refl;
+      begun = λ log begun. adds_none is_of_take log _ refl;
+      read = λ log decoded item. adds_none is_of_take log _ refl;
+      reported = λ log event events. record {
+        news = map Happened (event ∷ events);
+        turns = refl;
+        pass = events_pass (event ∷ events);
+      };
     }
 
--- Octets are used.
-adds_used : (log : Log) (octets unparsed : List ℕ)
-    → Adds is_of_take log (used log octets unparsed)
-unfolding used
-adds_used log octets unparsed = adds_one is_of_take (In octets) log _ refl refl
-
--- An item is read and replied to.
-adds_replied : (log other : Log) (more : ℕ) (replies : List Item) (events : List Event)
-    → other.turns ≡ log.turns
-    → Adds is_of_take log (with_reported (with_unreturned more (with_sent other replies)) events)
-adds_replied log other more replies events same =
-    let now = with_unreturned more (with_sent other replies) in
-    adds_twice is_of_take log now _
-    (adds_twice is_of_take log other now (adds_none is_of_take log other same)
-    (adds_written is_of_take output_of_take other replies more))
-    (adds_reported now events)
-
--- An item, by its verdict.
-adds_verdict : (log : Log) (decoded : Option Decoded) (item : Item) (verdict : Verdict)
-    → Adds is_of_take log (with_verdict log decoded item verdict)
-unfolding with_verdict
-adds_verdict log decoded item (ConnectionFault code) =
-    adds_failure is_of_take output_of_take code _ log
-adds_verdict log decoded item (StreamFault code) =
-    adds_replied log (read log decoded item) _ _ _ refl
-adds_verdict log decoded item NoEvent = adds_replied log (read log decoded item) _ _ _ refl
-adds_verdict log decoded item Reported = adds_replied log (read log decoded item) _ _ _ refl
-
--- What a frame makes of the block that has begun.
-adds_step : (log : Log) (decoded : Option Decoded) (step : FrameStep)
-    → Adds is_of_take log (with_step log decoded step)
-unfolding with_step
-adds_step log decoded (fails_with code) = adds_failure is_of_take output_of_take code _ log
-adds_step log decoded (begins_block begun) = adds_none is_of_take log _ refl
-adds_step log decoded (completes item) =
-    let adds = adds_verdict (record log { begun = None }) decoded item _ in
-    record { news = adds.news; turns = adds.turns; pass = adds.pass }
-
--- A frame.
-adds_frame : (log : Log) (decoded : Option Decoded) (frame : Frame)
-    → Adds is_of_take log (with_frame log decoded frame)
-unfolding with_frame
-adds_frame log decoded frame =
-    let adds = adds_step (record log { frames = log.frames ++ frame ∷ [] }) decoded
-    (frame_step (log_view log) frame) in
-    record { news = adds.news; turns = adds.turns; pass = adds.pass }
+-- Octets are used, and the connection fails.
+adds_fault : (log : Log) (octets : List ℕ) (code : Code) (last : ℕ)
+    → Adds is_of_take log (with_failure code last (used log octets []))
+adds_fault log octets code last =
+    adds_twice is_of_take log (used log octets []) _
+    (holds_used (Adds is_of_take) adds_read log octets [])
+    (holds_failure (Adds is_of_take) adds_read.failures code last (used log octets []))
 
 -- A call of `take` adds what happens inside of it.
 pub adds_take : (log after : Log) (piece : List ℕ) (answer : TakeAnswer)
@@ -231,17 +129,15 @@ pub adds_take : (log after : Log) (piece : List ℕ) (answer : TakeAnswer)
 adds_take log after piece answer (has_failed code failed answers same) =
     rw same (adds_none is_of_take log log refl)
 adds_take log after piece answer (reports_unprocessed up some answers same) =
-    rw same (adds_twice is_of_take log (with_unreturned _ log) _
-    (adds_unreturned is_of_take output_of_take _ log) (adds_reported _ _))
+    rw same (holds_none (Adds is_of_take) adds_read log)
 adds_take log after piece answer (ends_no_frame takes unparsed part answers same) =
-    rw same (adds_used log piece unparsed)
+    rw same (holds_used (Adds is_of_take) adds_read log piece unparsed)
 adds_take log after piece answer
     (ends_frame takes octets unused joined frame decoded framed sees same answers) =
-    rw same (adds_twice is_of_take log (used log octets []) _ (adds_used log octets [])
-    (adds_frame _ decoded frame))
+    rw same (adds_twice is_of_take log (used log octets []) _
+    (holds_used (Adds is_of_take) adds_read log octets [])
+    (holds_frame (Adds is_of_take) adds_read _ decoded frame))
 adds_take log after piece answer (meets_fault takes octets unused joined fault at answers same) =
-    rw same (adds_twice is_of_take log (used log octets []) _ (adds_used log octets [])
-    (adds_failure is_of_take output_of_take _ _ _))
+    rw same (adds_fault log octets _ _)
 adds_take log after piece answer (runs_out_of_memory up octets unused joined may answers same) =
-    rw same (adds_twice is_of_take log (used log octets []) _ (adds_used log octets [])
-    (adds_failure is_of_take output_of_take _ _ _))
+    rw same (adds_fault log octets _ _)

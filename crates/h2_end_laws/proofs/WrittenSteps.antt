@@ -1,19 +1,17 @@
 -- What each step writes: what is owed, and credit.
-use Rattle.std.proofs.Common.{◌≡◌, ℕ, ◌+◌, nat_lt, ◌&&◌, Bool, true, false, if◌then◌else◌, List, []}
-use Rattle.std.proofs.Common.{◌∷◌, ◌++◌, Option, Some, None, refl, sym, ap, ◌∙◌, inl, inr}
-use Rattle.std.proofs.Common.{append_assoc, append-nil, subst}
+use Rattle.std.proofs.Common.{◌≡◌, ℕ, nat_lt, ◌&&◌, Bool, true, false, if◌then◌else◌, List, [], ◌∷◌}
+use Rattle.std.proofs.Common.{◌++◌, Option, None, refl, sym, ap, ◌∙◌, inl, inr, append_assoc}
+use Rattle.std.proofs.Common.{append-nil, subst}
 use Rattle.h2_frame.specs.declared.code.Code.{Code}
 use Rattle.h2_frame.specs.Frames.{WindowUpdate}
-use Rattle.h2_wire.proofs.ReadingLemmas.{none_some}
 use Rattle.h2_block.specs.Grouping.{Item, alone}
 use Rattle.h2_log.specs.Items.{encoding_of_item, encoding_of_items}
 use Rattle.h2_log.specs.Events.{Event}
-use Rattle.h2_log.specs.Acts.{Act, Answer, Open, SendFields, SendData, Release, ResetStream, Refuse}
-use Rattle.h2_log.specs.Acts.{SendPing, SendGoAway, PutOut, ChangeSettings, Count, Done}
+use Rattle.h2_log.specs.Acts.{Act, Answer, Refuse, PutOut, Count, Done}
 use Rattle.h2_log.specs.Log.{Log, waiting}
 use Rattle.h2_log.specs.LogView.{log_view}
 use Rattle.h2_log.specs.Limits.{full_output, max_frame_size_sent}
-use Rattle.h2_log.specs.Verdicts.{Verdict, ConnectionFault, StreamFault, NoEvent, Reported}
+use Rattle.h2_log.specs.Verdicts.{Verdict, ConnectionFault}
 use Rattle.h2_log.specs.ItemRules.{Decoded, replies_to, verdict_of}
 use Rattle.h2_log.specs.CallRules.{answer_of, items_of, refuse_fault, returns_before_put_out}
 use Rattle.h2_log.specs.LogSteps.{read, with_sent, with_reported, with_unreturned, with_item}
@@ -102,24 +100,20 @@ credit_returned log other received sent written =
       puts = puts_twice log (record other { unreturned = 0 }) (with_credit_returned other) []
           (alone (WindowUpdate 0 other.unreturned) ∷ [])
           (puts_none log (record other { unreturned = 0 }) received sent written)
-          (puts_sent (record other { unreturned = 0 }) (alone (WindowUpdate 0 other.unreturned)
-          ∷ []));
+          (puts_sent (record other { unreturned = 0 }) _);
     }
 
 -- What is unreturned is added, by the test whether it is returned.
-credit_by : (log : Log) (more : ℕ) (b : Bool)
-    → PutsCredit log (if b then with_credit_returned
-    (record log { unreturned = log.unreturned + more })
-    else record log { unreturned = log.unreturned + more })
-credit_by log more true =
-    credit_returned log (record log { unreturned = log.unreturned + more }) refl refl refl
-credit_by log more false =
-    credit_none log (record log { unreturned = log.unreturned + more }) refl refl refl
+credit_by : (log : Log) (count : ℕ) (b : Bool)
+    → PutsCredit log (if b then with_credit_returned (record log { unreturned = count })
+    else record log { unreturned = count })
+credit_by log count true = credit_returned log (record log { unreturned = count }) refl refl refl
+credit_by log count false = credit_none log (record log { unreturned = count }) refl refl refl
 
 -- What is unreturned is added.
 credit_of : (more : ℕ) (log : Log) → PutsCredit log (with_unreturned more log)
 unfolding with_unreturned
-credit_of more log = credit_by log more (nat_lt 0 more && nat_lt (waiting log) full_output)
+credit_of more log = credit_by log _ (nat_lt 0 more && nat_lt (waiting log) full_output)
 
 -- Items are written, and then credit.
 pub puts_items : (log base : Log) (items : List Item) (more : ℕ) → base.received ≡ log.received
@@ -193,17 +187,9 @@ call_items log act answer =
 put_out_by : (log put : Log) (given : ℕ) (b : Bool) → put.received ≡ log.received
     → put.sent ≡ log.sent → put.written ≡ log.written
     → PutsCredit log (record (if b then with_credit_returned put else put) { given = given })
+unfolding with_sent
 put_out_by log put given true received sent written =
-    let credit = credit_returned log put received sent written in
-    record {
-      items = credit.items;
-      is_credit = credit.is_credit;
-      puts = record {
-        received = credit.puts.received;
-        sent = credit.puts.sent;
-        written = credit.puts.written;
-      };
-    }
+    credit_returned log (record put { given = given }) received sent written
 put_out_by log put given false received sent written =
     credit_none log (record put { given = given }) received sent written
 
@@ -216,30 +202,16 @@ put_out_writes log count given =
     writes_credit log _ (put_out_by log put _ (returns_before_put_out (log_view put)) refl refl
     refl)
 
--- A stream that is refused, by what that makes of the connection.
-refused_writes : (log : Log) (act : Act) (answer : Answer) (fault : Option Code) → fault ≡ None
-    → Writes log (refused_with log act answer fault) (items_of (log_view log) act answer)
-unfolding refused_with
-refused_writes log act answer (Some code) none = none_some code (sym none)
-refused_writes log act answer None none = call_items log act answer
-
 -- A call with the answer of the rules.
 answered_writes : (log : Log) (act : Act)
     → ((id code : ℕ) → act ≡ Refuse id code → refuse_fault (log_view log) code ≡ None)
     → Writes log (with_call log act (answer_of (log_view log) act)) (items_of (log_view log) act
     (answer_of (log_view log) act))
-unfolding with_call items_of
-answered_writes log (Open fields end) up = call_items log (Open fields end) _
-answered_writes log (SendFields id fields end) up = call_items log (SendFields id fields end) _
-answered_writes log (SendData id octets end) up = call_items log (SendData id octets end) _
-answered_writes log (Release id count) up = call_items log (Release id count) _
-answered_writes log (ResetStream id code) up = call_items log (ResetStream id code) _
+unfolding with_call items_of refused_with
 answered_writes log (Refuse id code) up =
-    refused_writes log (Refuse id code) Done (refuse_fault (log_view log) code) (up id code refl)
-answered_writes log (SendPing octets) up = call_items log (SendPing octets) _
-answered_writes log SendGoAway up = call_items log SendGoAway _
+    rw (up id code refl) (call_items log (Refuse id code) Done)
 answered_writes log (PutOut count) up = put_out_writes log count _
-answered_writes log (ChangeSettings values) up = call_items log (ChangeSettings values) _
+answered_writes log act up = call_items log act _
 
 -- A call that is accepted writes what it owes, and credit.
 pub call_writes : (log : Log) (act : Act) (answer : Answer)
@@ -269,11 +241,7 @@ verdict_writes : (log : Log) (decoded : Option Decoded) (item : Item) (verdict :
     → Writes log (with_verdict log decoded item verdict) (replies_to verdict item)
 unfolding with_verdict
 verdict_writes log decoded item (ConnectionFault code) up = absurd (up code refl)
-verdict_writes log decoded item (StreamFault code) up =
-    reported_writes log _ _ _ (writes_items log (read log decoded item) _ _ refl refl)
-verdict_writes log decoded item NoEvent up =
-    reported_writes log _ _ _ (writes_items log (read log decoded item) _ _ refl refl)
-verdict_writes log decoded item Reported up =
+verdict_writes log decoded item verdict up =
     reported_writes log _ _ _ (writes_items log (read log decoded item) _ _ refl refl)
 
 -- An item that is no fault of the connection writes what is replied to it, and credit.

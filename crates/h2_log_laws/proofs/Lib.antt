@@ -9,8 +9,8 @@ pub mod CallConditions
 pub mod DataOfCalls
 pub mod EncoderOfLogs
 pub mod EncoderSteps
-pub mod EveryLog
 pub mod FrameSizes
+pub mod GrowthBySteps
 pub mod InvariantCalls
 pub mod InvariantSends
 pub mod InvariantLogs
@@ -20,6 +20,7 @@ pub mod ItemLists
 pub mod ItemSizes
 pub mod LogGrowth
 pub mod LogHistory
+pub mod LogInduction
 pub mod LogInvariant
 pub mod LogViewLemmas
 pub mod NextStreams
@@ -27,6 +28,7 @@ pub mod OutputRead
 pub mod ReaderStates
 pub mod ReleasedCredit
 pub mod ReplyInvariant
+pub mod SentByLogs
 pub mod SettingsLists
 pub mod StreamNumbers
 pub mod TablesInStep

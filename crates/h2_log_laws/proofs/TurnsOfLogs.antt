@@ -2,7 +2,9 @@
 use Rattle.std.proofs.Common.{◌≡◌, ℕ, not, List, [], ◌∷◌, ◌++◌, map, refl, sym, ap, ◌∙◌}
 use Rattle.std.proofs.lemmas.List.{append_assoc, append-nil}
 use Rattle.h2_wire.specs.Streams.{expected_preface}
-use Rattle.h2_block.specs.Grouping.{Item}
+use Rattle.h2_frame.specs.Codes.{code_number}
+use Rattle.h2_frame.specs.Frames.{GoAway}
+use Rattle.h2_block.specs.Grouping.{Item, alone}
 use Rattle.h2_log.specs.declared.role.Role.{Role}
 use Rattle.h2_log.specs.Items.{encoding_of_item, encoding_of_items}
 use Rattle.h2_log.specs.Events.{Event}
@@ -10,13 +12,13 @@ use Rattle.h2_log.specs.Acts.{Values, Act, Answer, shown, Turn, Happened}
 use Rattle.h2_log.specs.Settings.{is_server}
 use Rattle.h2_log.specs.Limits.{max_frame_size_sent}
 use Rattle.h2_log.specs.Log.{Log, max_payload_sent}
-use Rattle.h2_log.specs.LogSteps.{used, with_sent, with_reported}
+use Rattle.h2_log.specs.LogSteps.{read, used, with_sent, with_failure}
 use Rattle.h2_log.specs.LogCalls.{called, opened}
 use Rattle.h2_log.specs.Histories.{IsLog}
 use Rattle.h2_log.proofs.SentPayloads.{most_is_limit}
 use Rattle.h2_log_laws.specs.Turns.{octets_in, octets_out, events_in, acts_in, answers_in, acts_of}
 use Rattle.h2_log_laws.specs.Turns.{answers_of, TurnsRecord}
-use Rattle.h2_log_laws.proofs.EveryLog.{IsSteady, every_log}
+use Rattle.h2_log_laws.proofs.LogInduction.{IsLogInvariant, kept_by_logs}
 
 -- The octets of items after others.
 pub written_after : (most : ℕ) (newer older : List Item) → encoding_of_items most (newer ++ older)
@@ -82,15 +84,16 @@ wrote_reported log (item ∷ items) is =
 
 -- Events that are reported.
 reports_reported : (log : Log) (events : List Event) → TurnsRecord log
-    → TurnsRecord (with_reported log events)
-unfolding with_reported
-reports_reported log [] is = is
-reports_reported log (event ∷ events) is =
-    let only = happened_only (event ∷ events) log.turns in
+    → TurnsRecord (record log {
+      reported = events ++ log.reported;
+      turns = map Happened events ++ log.turns;
+    })
+reports_reported log events is =
+    let only = happened_only events log.turns in
     record {
       input = only.input ∙ is.input;
       output = only.output ∙ is.output;
-      events = only.events ∙ ap (λ (reported : List Event). (event ∷ events) ++ reported) is.events;
+      events = only.events ∙ ap (λ (reported : List Event). events ++ reported) is.events;
       acts = only.acts ∙ is.acts;
       answers = only.answers ∙ is.answers;
       items = is.items;
@@ -138,22 +141,6 @@ same_turns log next turns input written reported calls role sent is =
       items = rw (written, role, sent) is.items;
     }
 
--- Each small change keeps what the turns tell.
-turns_are_steady : IsSteady TurnsRecord
-turns_are_steady =
-    record {
-      used = used_reported;
-      with_sent = wrote_reported;
-      with_reported = reports_reported;
-      read = λ log decoded item is. same_turns log _ refl refl refl refl refl refl refl is;
-      called = called_reported;
-      unreturned = λ log n is. same_turns log _ refl refl refl refl refl refl refl is;
-      given = λ log n is. same_turns log _ refl refl refl refl refl refl refl is;
-      failed = λ log code is. same_turns log _ refl refl refl refl refl refl refl is;
-      frames = λ log frames is. same_turns log _ refl refl refl refl refl refl refl is;
-      begun = λ log begun is. same_turns log _ refl refl refl refl refl refl refl is;
-    }
-
 -- The turns of a new end.
 begins_reported : (role : Role) (values : Values) → TurnsRecord (opened role values)
 unfolding opened with_sent octets_in octets_out events_in acts_in answers_in acts_of answers_of
@@ -167,7 +154,32 @@ begins_reported role values = record {
   items = refl;
 }
 
+-- Each change of a log keeps what the turns tell.
+turns_are_kept : (role : Role) (values : Values) → IsLogInvariant role values TurnsRecord
+unfolding used
+turns_are_kept role values =
+    record {
+      opening = λ in_range. begins_reported role values;
+      used = used_reported;
+      framed = λ log frames. same_turns log _ refl refl refl refl refl refl refl;
+      begun = λ log begun. same_turns log _ refl refl refl refl refl refl refl;
+      replied = λ log decoded item verdict replies is.
+          let next = read log decoded item in
+          wrote_reported next _ (same_turns log next refl refl refl refl refl refl refl is);
+      reported = λ log event events may. reports_reported log (event ∷ events);
+      unreturned = λ log count. same_turns log _ refl refl refl refl refl refl refl;
+      returned = λ log returns is.
+          let next = record log { unreturned = 0 } in
+          wrote_reported next _ (same_turns log next refl refl refl refl refl refl refl is);
+      failed = λ log code last names is.
+          same_turns _ (with_failure code last log) refl refl refl refl refl refl refl
+          (wrote_reported log (alone (GoAway last (code_number code) []) ∷ []) is);
+      sent = λ log act accepted is. wrote_reported _ _ (called_reported log act _ is);
+      called = λ log act answer is_log none. called_reported log act answer;
+      given = λ log more. same_turns log _ refl refl refl refl refl refl refl;
+    }
+
 -- The turns of every log.
 pub turns_report : (role : Role) (values : Values) (log : Log) → IsLog role values log
     → TurnsRecord log
-turns_report = every_log TurnsRecord turns_are_steady begins_reported
+turns_report role values = kept_by_logs role values TurnsRecord (turns_are_kept role values)

@@ -24,8 +24,8 @@ use Rattle.h2_machine_laws.specs.Bounds.{IsBounded, goaway_size, max_active}
 use Rattle.h2_machine_laws.specs.Machines.{Step, uses_part, ends_frame, meets_fault, end_after}
 use Rattle.h2_machine_laws.specs.Machines.{runs_out_of_memory, reports_unprocessed, is_called}
 use Rattle.h2_machine_laws.specs.Machines.{MayStep, log_after, machine_after}
-use Rattle.h2_machine_laws.proofs.BoundsOfCalls.{call_bounded, new_bounded}
-use Rattle.h2_machine_laws.proofs.BoundsOfFrames.{frame_bounded}
+use Rattle.h2_machine_laws.proofs.BoundsOfSteps.{call_bounded, new_bounded}
+use Rattle.h2_machine_laws.proofs.BoundsOfSteps.{frame_bounded}
 use Rattle.h2_machine_laws.proofs.BoundsOfSteps.{is_up, is_bounded, failed_bounded, ended_up}
 use Rattle.h2_machine_laws.proofs.CallLaw.{up_since}
 use Rattle.h2_machine_laws.proofs.CallRefusals.{refusal_same}

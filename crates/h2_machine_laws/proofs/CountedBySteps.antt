@@ -1,26 +1,29 @@
 -- The counts of an end are those of its entries, and nothing is kept of numbers that weren't used:
--- step by step.
-use Rattle.std.proofs.Common.{◌≡◌, ℕ, ◌+◌, ◌-◌, ◌<◌, ◌≤◌, ◌==◌, nat_lt, max, ◌&&◌, ◌||◌}
-use Rattle.std.proofs.Common.{if◌then◌else◌, Bool, true, false, List, length, pos, ◌+ℤ◌, Option}
-use Rattle.std.proofs.Common.{Some, None, is_some, refl, sym, ap, ◌∙◌, arith}
+-- at first, and after each frame and each call.
+use Rattle.std.proofs.Common.{◌≡◌, ℕ, ◌+◌, ◌-◌, ◌<◌, ◌≤◌, None, Option, Some, is_some, refl, sym}
+use Rattle.std.proofs.Common.{ap, ◌∙◌, arith}
 use Rattle.std.specs.FinMap as map
-use Rattle.h2_log.specs.Acts.{Values}
+use Rattle.std.specs.Ordering.{nat_cmp}
+use Rattle.h2_frame.specs.Frames.{Frame}
+use Rattle.h2_log.specs.Acts.{Values, Act}
+use Rattle.h2_log.specs.CallRules.{refusal_of}
+use Rattle.h2_log.specs.ItemRules.{Decoded}
 use Rattle.h2_log.specs.Settings.{value_after}
-use Rattle.h2_log.specs.Limits.{full_output}
 use Rattle.h2_log.specs.View.{StreamView}
-use Rattle.h2_machine.specs.End.{End, Entry, StreamMap, active_entry, reset_entry, stream_in}
-use Rattle.h2_machine.specs.End.{stream_at, owed_entry}
-use Rattle.h2_machine.specs.Machine.{return_credit, add_unreturned, set_stream, close_stream}
-use Rattle.h2_machine.specs.Machine.{reset_stream, update_stream, with_flow, receive_data}
-use Rattle.h2_machine.specs.Machine.{receive_block, shifted_entry, recv_shifted_entry, each_entry}
-use Rattle.h2_machine.specs.Machine.{apply_settings, apply_own_settings, widen_send_window}
-use Rattle.h2_machine.specs.Machine.{new_stream, more_unreturned, narrow_recv_window, is_one}
+use Rattle.h2_log.specs.declared.role.Role.{Role}
+use Rattle.h2_machine.specs.End.{End, Entry, StreamMap, active_entry, reset_entry, end_view}
+use Rattle.h2_machine.specs.End.{stream_in, stream_at, owed_entry}
+use Rattle.h2_machine.specs.Machine.{close_stream, shifted_entry, recv_shifted_entry, each_entry}
+use Rattle.h2_machine.specs.Machine.{is_one, after_frame, after_call, new_end}
 use Rattle.h2_machine_laws.specs.Ranges.{CountsEntries}
+use Rattle.h2_machine_laws.proofs.ConservedBySteps.{clear_after}
 use Rattle.h2_machine_laws.proofs.EntryCounts.{one_active, one_reset, count_in, count-insert}
-use Rattle.h2_machine_laws.proofs.EntryCounts.{count-remove, count-each, active_counted}
-use Rattle.h2_machine_laws.proofs.EntryCounts.{reset_counted}
-use Rattle.h2_machine_laws.proofs.ConservedBySteps.{clear_after, used_by, active_is_kept}
-use Rattle.h2_machine_laws.proofs.OwedSums.{get_removed_none, get_each_none, get_set_same}
+use Rattle.h2_machine_laws.proofs.EntryCounts.{count-remove, count-each, count-empty}
+use Rattle.h2_machine_laws.proofs.EntryCounts.{active_counted, reset_counted}
+use Rattle.h2_machine_laws.proofs.EveryEnd.{returned_keeps, frame_keeps, call_keeps}
+use Rattle.h2_machine_laws.proofs.EndInvariants.{IsEndInvariant}
+use Rattle.h2_machine_laws.proofs.OwedSums.{get_removed_none, get_each_none}
+use Rattle.h2_machine_laws.proofs.RulesAtEnds.{active_used}
 
 -- So many entries are active, at most so many are of streams that were reset, and nothing is kept
 -- of numbers above one.
@@ -52,222 +55,131 @@ is_counted e h =
       used = h.clear;
     }
 
--- More is unreturned, or returned at once, by the test.
-returned_by : (more : ℕ) (e : End) (b : Bool) → Counted e
-    → Counted (if b then return_credit (more_unreturned e more) else more_unreturned e more)
-returned_by more e true h = h
-returned_by more e false h = h
+-- An entry counts as active where a stream is.
+active_by : (y : Option Entry) (x : Option StreamView) → stream_in y ≡ x
+    → one_active y ≡ is_one (is_some x)
+active_by None x is = ap (λ (z : Option StreamView). is_one (is_some z)) is
+active_by (Some reset_entry) x is = ap (λ (z : Option StreamView). is_one (is_some z)) is
+active_by (Some (active_entry stream)) x is = ap (λ (z : Option StreamView). is_one (is_some z)) is
 
--- More is unreturned, or returned at once.
-pub counts_returned : (more : ℕ) (e : End) → Counted e → Counted (add_unreturned more e)
-unfolding add_unreturned
-counts_returned more e h =
-    returned_by more e (nat_lt 0 more && nat_lt (length e.output.waiting) full_output) h
+-- An entry is set.
+entry_set : (active resets used active_then resets_then later : ℕ) (m : StreamMap) (i : ℕ)
+    (x : Entry) → active_then ≡ (active + one_active (Some x)) - one_active (map.get m i)
+    → resets + one_reset (Some x) ≤ resets_then → used ≤ later → i ≤ later
+    → Counts active resets used m → Counts active_then resets_then later (map.insert m i x)
+entry_set active resets used active_then resets_then later m i x same few most within h =
+    record {
+      exact = omega (arith, h.exact, count-insert one_active refl m i x, same);
+      most = omega (arith, h.most, count-insert one_reset refl m i x, few);
+      clear = clear_after m i used later x most within h.clear;
+    }
 
--- An active entry is one that is active, and none of a stream that was reset.
-pub is_one_active : (m : StreamMap) (i : ℕ) (stream : StreamView)
-    → stream_in (map.get m i) ≡ Some stream
-    → (one_active (map.get m i) ≡ 1) × (one_reset (map.get m i) ≡ 0)
-is_one_active m i stream active =
-    let kept : map.get m i ≡ Some (active_entry stream) =
-    active_is_kept (map.get m i) stream active in
-    (ap one_active kept, ap one_reset kept)
+-- An active entry is removed.
+entry_removed : (e : End) (i : ℕ) (stream : StreamView) → stream_at e i ≡ Some stream → Counted e
+    → Counts (e.streams.active_count - 1) e.streams.resets e.streams.highest
+    (map.remove e.streams.entries i)
+entry_removed e i stream active h =
+    record {
+      exact = omega (
+        arith,
+        h.exact,
+        count-remove one_active refl e.streams.entries i,
+        active_by (map.get e.streams.entries i) (Some stream) active,
+      );
+      most = omega (arith, h.most, count-remove one_reset refl e.streams.entries i);
+      clear = λ j above. get_removed_none e.streams.entries i j (h.clear j above);
+    }
+
+-- All streams are changed, active ones to active ones.
+all_changed : (active resets used : ℕ) (m : StreamMap) (change : Entry → Entry)
+    → ((x : Entry) → (one_active (Some (change x)) ≡ one_active (Some x))
+    × (one_reset (Some (change x)) ≡ one_reset (Some x)))
+    → Counts active resets used m → Counts active resets used (each_entry change m)
+all_changed active resets used m change keeps h =
+    record {
+      exact = count-each one_active change m (λ x. (keeps x).0) ∙ h.exact;
+      most = omega (arith, h.most, count-each one_reset change m (λ x. (keeps x).1));
+      clear = λ j above. get_each_none change m j (h.clear j above);
+    }
+
+-- A stream counts as it did once its send window is shifted, or its receive window.
+shifts_count : (old new : ℕ) (x : Entry)
+    → ((one_active (Some (shifted_entry old new x)) ≡ one_active (Some x))
+    × (one_reset (Some (shifted_entry old new x)) ≡ one_reset (Some x)))
+    × ((one_active (Some (recv_shifted_entry old new x)) ≡ one_active (Some x))
+    × (one_reset (Some (recv_shifted_entry old new x)) ≡ one_reset (Some x)))
+shifts_count old new reset_entry = ((refl, refl), (refl, refl))
+shifts_count old new (active_entry stream) = ((refl, refl), (refl, refl))
+
+-- Each small change keeps the counts those of the entries.
+counts_kept : IsEndInvariant ⊥ ⊥ (λ (more : ℕ) (e : End). Counted e) Counted
+counts_kept =
+    record {
+      up = λ e up h. h;
+      kept = λ e h. h;
+      failed = λ e code last h. h;
+      put_out = λ e count h. h;
+      joined = λ e more items fits h. h;
+      encoded = λ e encoder valid h. h;
+      begun = λ e begun few h. h;
+      table = λ e decoded item known h. h;
+      numbered = λ e highest last most range less h. record {
+        exact = h.exact;
+        most = h.most;
+        clear = λ j above. h.clear j (omega (arith, most, above));
+      };
+      windows = λ e more later windows same most h. h;
+      set = λ e more later i stream next active same stays h. entry_set e.streams.active_count
+          e.streams.resets e.streams.highest _ _ _ _ i (active_entry next)
+          (omega (arith, active_by (map.get e.streams.entries i) (Some stream) active))
+          (omega arith) (omega arith) (active_used e i stream active h.clear) h;
+      removed = entry_removed;
+      was_reset = λ e i more used few h. entry_set e.streams.active_count e.streams.resets
+          e.streams.highest _ _ _ _ i reset_entry
+          (omega (arith, active_by (map.get e.streams.entries i) (stream_at e i) refl))
+          (omega arith) (omega arith) (used h.clear) h;
+      opened = λ e i ended_in ended_out highest last none most within range less apart few h.
+          entry_set e.streams.active_count e.streams.resets e.streams.highest _ _ _ _ i _
+          (omega (arith, active_by (map.get e.streams.entries i) None (none h.clear)))
+          (omega arith) most within h;
+      settings = λ e pairs good h. all_changed _ _ _ _ (shifted_entry e.peer.initial_window
+          (value_after 4 e.peer.initial_window pairs))
+          (λ x. (shifts_count e.peer.initial_window _ x).0) h;
+      enforced = λ e values awaited h. all_changed _ _ _ _
+          (recv_shifted_entry e.own.in_force.initial_window values.initial_window)
+          (λ x. (shifts_count _ _ x).1) h;
+      awaits = λ e values range h. h;
+      left = λ e h. h;
+      beside = λ e ping received h. h;
+    }
 
 -- An active stream is over.
 pub counts_ended : (e : End) (i more : ℕ) (stream : StreamView) → stream_at e i ≡ Some stream
     → Counted e → Counted (close_stream e i more)
 counts_ended e i more stream active h =
-    let one = is_one_active e.streams.entries i stream active in
-    counts_returned (more + owed_entry (map.get e.streams.entries i))
-    (record e {
-      streams = record e.streams {
-        entries = map.remove e.streams.entries i;
-        active_count = e.streams.active_count - 1;
-      };
-    })
-    (record {
-      exact = omega (arith, h.exact, count-remove one_active refl e.streams.entries i, one.0);
-      most = omega (arith, h.most, count-remove one_reset refl e.streams.entries i);
-      clear = λ j above. get_removed_none e.streams.entries i j (h.clear j above);
-    })
+    returned_keeps counts_kept
+    (more + owed_entry (map.get e.streams.entries i)) _ (entry_removed e i stream active h)
 
--- An entry counts as active where a stream is.
-active_by_entry : (x : Option Entry) → one_active x ≡ is_one (is_some (stream_in x))
-active_by_entry None = refl
-active_by_entry (Some reset_entry) = refl
-active_by_entry (Some (active_entry stream)) = refl
+-- A frame was read.
+pub frame_counts : (e : End) (decoded : Option Decoded) (frame : Frame) → Counted e
+    → Counted (after_frame e decoded frame)
+frame_counts e decoded frame =
+    frame_keeps counts_kept e decoded frame
+    (λ never. absurd never) (λ never. absurd never)
 
--- A stream is reset.
-pub counts_reset : (e : End) (i more : ℕ) → i ≤ e.streams.highest → Counted e
-    → Counted (reset_stream e i more)
-counts_reset e i more within h =
-    counts_returned (more + owed_entry (map.get e.streams.entries i)) _
-    (record {
-      exact =
-          omega (
-            arith,
-            h.exact,
-            count-insert one_active refl e.streams.entries i reset_entry,
-            active_by_entry (map.get e.streams.entries i),
-          );
-      most = omega (arith, h.most, count-insert one_reset refl e.streams.entries i reset_entry);
-      clear = clear_after e.streams.entries i e.streams.highest e.streams.highest reset_entry
-          (omega arith) within h.clear;
-    })
+-- A call that isn't refused was made.
+pub call_counts : (e : End) (act : Act) → refusal_of (end_view e) act ≡ None → Counted e
+    → Counted (after_call e act)
+call_counts e act is =
+    call_keeps counts_kept e act is
+    (λ never. absurd never)
 
--- A stream is opened, where none is active.
-pub counts_opened : (active resets used later : ℕ) (m : StreamMap) (i : ℕ) (stream : StreamView)
-    → stream_in (map.get m i) ≡ None → used ≤ later → i ≤ later → Counts active resets used m
-    → Counts (active + 1) resets later (map.insert m i (active_entry stream))
-counts_opened active resets used later m i stream none most within h =
-    let inactive : one_active (map.get m i) ≡ 0 =
-    active_by_entry (map.get m i) ∙ ap (λ (x : Option StreamView). is_one (is_some x)) none in
+-- The counts of a new end are those of its entries.
+pub new_counts : (role : Role) (values : Values) → Counted (new_end role values)
+unfolding new_end
+new_counts role values =
     record {
-      exact = omega (
-        arith,
-        h.exact,
-        count-insert one_active refl m i (active_entry stream),
-        inactive,
-      );
-      most = omega (arith, h.most, count-insert one_reset refl m i (active_entry stream));
-      clear = clear_after m i used later (active_entry stream) most within h.clear;
+      exact = count-empty one_active;
+      most = omega (arith, count-empty one_reset);
+      clear = λ i above. map.get-empty nat_cmp i;
     }
-
--- A number of which something is kept was used.
-pub kept_used : (m : StreamMap) (used i : ℕ) (x : Entry)
-    → ((j : ℕ) → used < j → map.get m j ≡ None) → map.get m i ≡ Some x → i ≤ used
-kept_used m used i x clear kept = used_by m used i x clear kept (nat_lt used i) refl
-
--- An active stream's number was used.
-pub active_was_used : (e : End) (i : ℕ) (stream : StreamView) → Counted e
-    → stream_at e i ≡ Some stream → i ≤ e.streams.highest
-active_was_used e i stream h active =
-    kept_used e.streams.entries e.streams.highest i (active_entry stream) h.clear
-    (active_is_kept (map.get e.streams.entries i) stream active)
-
--- An active stream is set.
-pub counts_set : (e : End) (i : ℕ) (stream next : StreamView) → stream_at e i ≡ Some stream
-    → Counted e → Counted (set_stream e i next)
-counts_set e i stream next active h =
-    let one = is_one_active e.streams.entries i stream active in
-    record {
-      exact =
-          omega (
-            arith,
-            h.exact,
-            count-insert one_active refl e.streams.entries i (active_entry next),
-            one.0,
-          );
-      most = omega (
-        arith,
-        h.most,
-        count-insert one_reset refl e.streams.entries i (active_entry next),
-      );
-      clear = clear_after e.streams.entries i e.streams.highest e.streams.highest
-          (active_entry next) (omega arith) (active_was_used e i stream h active) h.clear;
-    }
-
--- A stream was changed: it is over, or it is set, by the test.
-changed_by : (e : End) (i : ℕ) (stream : StreamView) (b : Bool) → Counted (set_stream e i stream)
-    → Counted (if b then close_stream (set_stream e i stream) i 0 else set_stream e i stream)
-changed_by e i stream true h =
-    counts_ended (set_stream e i stream) i 0 stream
-    (ap stream_in (get_set_same e.streams.entries i (active_entry stream))) h
-changed_by e i stream false h = h
-
--- An active stream was changed: it is over, or it is set.
-pub counts_changed : (e : End) (i : ℕ) (stream next : StreamView) → stream_at e i ≡ Some stream
-    → Counted e → Counted (update_stream e i next)
-counts_changed e i stream next active h =
-    changed_by e i next (next.ended_in && next.ended_out) (counts_set e i stream next active h)
-
--- DATA was reported.
-pub data_counts : (e : End) (i count : ℕ) (end : Bool) (x : Option StreamView) → stream_at e i ≡ x
-    → Counted e → Counted (receive_data e i count end x)
-data_counts e i count end None active h = h
-data_counts e i count end (Some stream) active h =
-    counts_changed (narrow_recv_window e count) i stream (with_flow stream count end) active h
-
--- A block was reported.
-pub block_counts : (e : End) (i : ℕ) (end : Bool) (x : Option StreamView) → stream_at e i ≡ x
-    → Counted e → Counted (receive_block e i end x)
-block_counts e i end None active h =
-    counts_opened e.streams.active_count e.streams.resets e.streams.highest
-    (max i e.streams.highest) e.streams.entries i (new_stream e end false) active (omega arith)
-    (omega arith) h
-block_counts e i end (Some stream) active h =
-    counts_changed e i stream (record stream { ended_in = stream.ended_in || end }) active h
-
--- Numbers may be used.
-pub more_counts : (active resets used later : ℕ) (m : StreamMap) → used ≤ later
-    → Counts active resets used m → Counts active resets later m
-more_counts active resets used later m most h =
-    record { exact = h.exact; most = h.most; clear = λ j above. h.clear j (omega arith) }
-
--- All streams are changed, active ones to active ones.
-all_counted : (active resets used : ℕ) (m : StreamMap) (change : Entry → Entry)
-    → ((x : Entry) → one_active (Some (change x)) ≡ one_active (Some x))
-    → ((x : Entry) → one_reset (Some (change x)) ≡ one_reset (Some x))
-    → Counts active resets used m → Counts active resets used (each_entry change m)
-all_counted active resets used m change keeps others h =
-    record {
-      exact = count-each one_active change m keeps ∙ h.exact;
-      most = omega (arith, h.most, count-each one_reset change m others);
-      clear = λ j above. get_each_none change m j (h.clear j above);
-    }
-
--- A stream whose send window is shifted is as active.
-send_active : (old new : ℕ) (x : Entry)
-    → one_active (Some (shifted_entry old new x)) ≡ one_active (Some x)
-send_active old new reset_entry = refl
-send_active old new (active_entry stream) = refl
-
--- One that was reset stays so.
-send_reset : (old new : ℕ) (x : Entry)
-    → one_reset (Some (shifted_entry old new x)) ≡ one_reset (Some x)
-send_reset old new reset_entry = refl
-send_reset old new (active_entry stream) = refl
-
--- A stream whose receive window is shifted is as active.
-recv_active : (old new : ℕ) (x : Entry)
-    → one_active (Some (recv_shifted_entry old new x)) ≡ one_active (Some x)
-recv_active old new reset_entry = refl
-recv_active old new (active_entry stream) = refl
-
--- One that was reset stays so.
-recv_reset : (old new : ℕ) (x : Entry)
-    → one_reset (Some (recv_shifted_entry old new x)) ≡ one_reset (Some x)
-recv_reset old new reset_entry = refl
-recv_reset old new (active_entry stream) = refl
-
--- The peer's SETTINGS are applied.
-pub values_count : (e : End) (pairs : List (ℕ × ℕ)) → Counted e → Counted (apply_settings e pairs)
-values_count e pairs h =
-    let old : ℕ = e.peer.initial_window in
-    let new : ℕ = value_after 4 e.peer.initial_window pairs in
-    all_counted e.streams.active_count e.streams.resets e.streams.highest e.streams.entries
-    (shifted_entry old new) (send_active old new) (send_reset old new) h
-
--- Own values come into force.
-pub enforced_counts : (e : End) (x : Option Values) → Counted e → Counted (apply_own_settings e x)
-enforced_counts e None h = h
-enforced_counts e (Some values) h =
-    let old : ℕ = e.own.in_force.initial_window in
-    let new : ℕ = values.initial_window in
-    all_counted e.streams.active_count e.streams.resets e.streams.highest e.streams.entries
-    (recv_shifted_entry old new) (recv_active old new) (recv_reset old new) h
-
--- A send window is widened: the connection's, by the test, or a stream's.
-widened_by : (e : End) (increment : ℕ) (b : Bool) → Counted e
-    → Counted
-    (if b then record e { windows = record e.windows { send = e.windows.send + increment } } else e)
-widened_by e increment true h = h
-widened_by e increment false h = h
-
--- A send window is widened.
-pub widened_counts : (e : End) (i increment : ℕ) (x : Option StreamView) → stream_at e i ≡ x
-    → Counted e → Counted (widen_send_window e i increment x)
-widened_counts e i increment None active h = widened_by e increment (i == 0) h
-widened_counts e i increment (Some stream) active h =
-    counts_set e i stream (record stream { send_window = stream.send_window +ℤ pos increment })
-    active h

@@ -1,43 +1,32 @@
 -- At a server that hasn't failed no active stream is above the last one that was processed, whether
 -- a GOAWAY was sent or not. So the GOAWAY of a failure closes none.
-use Rattle.std.proofs.Common.{◌≡◌, ℕ, ◌+◌, ◌≤◌, ◌<◌, ◌&&◌, ◌||◌, nat_lt, Bool, true, false}
-use Rattle.std.proofs.Common.{if◌then◌else◌, List, [], ◌∷◌, ◌++◌, Option, Some, None, refl, sym, ap}
-use Rattle.std.proofs.Common.{subst, ◌∙◌, arith}
+use Rattle.std.proofs.Common.{◌≡◌, ℕ, ◌+◌, ◌≤◌, ◌<◌, ◌||◌, nat_lt, Bool, true, false, if◌then◌else◌}
+use Rattle.std.proofs.Common.{List, [], ◌∷◌, ◌++◌, Some, None, refl, sym, ◌∙◌, arith}
 use Rattle.std.specs.List.{list_any}
 use Rattle.std.proofs.lemmas.Bool.{both_ways, or_left, or_right, lt-ltb, ltb-false, ltb-true}
-use Rattle.h2_frame.specs.declared.code.Code.{Code}
 use Rattle.h2_frame.specs.declared.code.Code.TheVariants.{InternalError}
-use Rattle.h2_frame.specs.Frames.{Data, Settings, Ping, GoAway}
-use Rattle.h2_frame.specs.Frames.{WindowUpdate}
+use Rattle.h2_frame.specs.Frames.{Data, Settings, Ping, GoAway, WindowUpdate}
 use Rattle.h2_block.specs.Grouping.{Item, alone}
 use Rattle.h2_log.specs.declared.role.Role.{Role}
 use Rattle.h2_log.specs.declared.role.Role.TheVariants.{Client, Server}
 use Rattle.h2_log.specs.Items.{is_goaway, is_goaway_below, total}
-use Rattle.h2_log.specs.Events.{Event, greatest_processed}
-use Rattle.h2_log.specs.Acts.{Values, Act, Answer, SendData, Release}
-use Rattle.h2_log.specs.Acts.{Refuse, SendGoAway, PutOut, Done}
-use Rattle.h2_log.specs.Acts.{OutOfMemory, Refused}
+use Rattle.h2_log.specs.Events.{greatest_processed}
+use Rattle.h2_log.specs.Acts.{Values, Act, SendData, Release, SendGoAway, PutOut, OutOfMemory}
 use Rattle.h2_log.specs.Settings.{is_server}
 use Rattle.h2_log.specs.States.{is_above}
-use Rattle.h2_log.specs.Limits.{full_output}
-use Rattle.h2_log.specs.Log.{Log, active, last_processed, waiting}
+use Rattle.h2_log.specs.Log.{Log, active, last_processed}
 use Rattle.h2_log.specs.LogView.{log_view}
 use Rattle.h2_log.specs.Verdicts.{Verdict, ConnectionFault, StreamFault, NoEvent, Reported}
-use Rattle.h2_log.specs.ItemRules.{Decoded}
 use Rattle.h2_log.specs.ItemRules.{replies_to}
 use Rattle.h2_log.specs.View.{ended_in}
-use Rattle.h2_log.specs.CallRules.{items_of, answer_of, returns_before_put_out}
-use Rattle.h2_log.specs.ItemEffects.{events_of}
-use Rattle.h2_log.specs.LogSteps.{read, used, with_sent, with_reported, with_credit_returned}
-use Rattle.h2_log.specs.LogSteps.{with_unreturned, took_none}
-use Rattle.h2_log.specs.LogCalls.{opened, called, with_items, refused_with, before_put_out}
-use Rattle.h2_log.specs.LogCalls.{with_call, MayAnswer, accepts, refuses, lacks, fails}
+use Rattle.h2_log.specs.CallRules.{items_of, answer_of}
+use Rattle.h2_log.specs.LogSteps.{read, with_sent}
+use Rattle.h2_log.specs.LogCalls.{opened, called, with_call}
 use Rattle.h2_log.specs.Histories.{IsLog}
-use Rattle.h2_log.specs.declared.refusal.Refusal.{Refusal}
-use Rattle.h2_log.specs.declared.refusal.Refusal.TheVariants.{Memory}
 use Rattle.h2_log_laws.proofs.ReaderStates.{active_parts}
 use Rattle.h2_log_laws.proofs.DataOfCalls.{none_of_items}
-use Rattle.h2_machine_laws.proofs.EveryUpLog.{every_up_log}
+use Rattle.h2_log_laws.proofs.LogGrowth.{grows_wrote}
+use Rattle.h2_log_laws.proofs.LogInduction.{IsLogInvariant, kept_by_logs}
 use Rattle.h2_machine_laws.proofs.UpInvariant.{IsUpLog, processed_after}
 use Rattle.h2_machine_laws.proofs.UpInvariantLogs.{up_log_of}
 
@@ -77,29 +66,6 @@ low_wrote log [] none low = low
 low_wrote log (item ∷ items) none low =
     low_more (greatest_processed log.reported) (item ∷ items) log.sent none low
 
--- What is unreturned is added, by the test whether it is returned.
-low_unreturned_by : (log : Log) (more : ℕ) (b : Bool) → IsLow log
-    → IsLow (if b then with_credit_returned (record log { unreturned = log.unreturned + more })
-    else record log { unreturned = log.unreturned + more })
-unfolding is_goaway
-low_unreturned_by log more true low =
-    low_wrote (record log { unreturned = 0 })
-    (alone (WindowUpdate 0 (log.unreturned + more)) ∷ []) refl low
-low_unreturned_by log more false low = low
-
--- What is unreturned is added.
-low_unreturned : (more : ℕ) (log : Log) → IsLow log → IsLow (with_unreturned more log)
-unfolding with_unreturned
-low_unreturned more log low =
-    low_unreturned_by log more (nat_lt 0 more && nat_lt (waiting log) full_output) low
-
--- Events are reported.
-low_reported : (log : Log) (events : List Event) → IsLow log → IsLow (with_reported log events)
-unfolding with_reported
-low_reported log [] low = low
-low_reported log (event ∷ events) low =
-    low_up _ _ log.sent (processed_after (event ∷ events) log.reported) low
-
 -- No reply is a GOAWAY.
 pub replies_none : (v : Verdict) (item : Item) → list_any is_goaway (replies_to v item) ≡ false
 unfolding replies_to is_goaway
@@ -109,15 +75,6 @@ replies_none NoEvent (alone (Settings false pairs)) = refl
 replies_none NoEvent (alone (Ping false octets)) = refl
 replies_none NoEvent item = refl
 replies_none Reported item = refl
-
--- An item that is no fault of the connection keeps it.
-low_read : (log : Log) (decoded : Option Decoded) (item : Item) (v : Verdict) (more : ℕ)
-    (events : List Event) → IsLow log
-    → IsLow (with_reported (with_unreturned more
-    (with_sent (read log decoded item) (replies_to v item))) events)
-low_read log decoded item v more events low =
-    low_reported _ events (low_unreturned more _
-    (low_wrote (read log decoded item) (replies_to v item) (replies_none v item) low))
 
 -- how many are GOAWAY, of one item
 pub one_goaway : Item → ℕ
@@ -195,97 +152,50 @@ unfolding with_sent
 low_sent log [] low = low
 low_sent log (item ∷ items) low = low
 
--- A call that is accepted writes its items, and what is unreturned is added.
-low_call_items : (log : Log) (act : Act) → IsLow log
-    → IsLow (with_items log act (answer_of (log_view log) act))
-unfolding with_items
-low_call_items log act low =
-    low_unreturned _ _ (low_sent (called log act (answer_of (log_view log) act))
-    (items_of (log_view log) act (answer_of (log_view log) act)) (low_items log act low))
-
--- A stream is refused, by what that makes of the connection.
-low_refused : (log : Log) (id code : ℕ) (fault : Option Code) → IsLow log
-    → (refused_with log (Refuse id code) Done fault).failed ≡ None
-    → IsLow (refused_with log (Refuse id code) Done fault)
-unfolding refused_with
-low_refused log id code (Some fault) low up = let wrong : Some fault ≡ None = up in cc
-low_refused log id code None low up = low_call_items log (Refuse id code) low
-
--- What is unreturned is returned before output is put out, by the test.
-low_ready_by : (log : Log) (b : Bool) → IsLow log
-    → IsLow (if b then with_credit_returned log else log)
-unfolding is_goaway
-low_ready_by log true low =
-    low_wrote (record log { unreturned = 0 }) (alone (WindowUpdate 0 log.unreturned) ∷ []) refl low
-low_ready_by log false low = low
-
--- Output is put out.
-low_put_out : (log : Log) (act : Act) (answer : Answer) → IsLow log
-    → IsLow (before_put_out (called log act answer))
-unfolding before_put_out
-low_put_out log act answer low =
-    low_ready_by (called log act answer) (returns_before_put_out (log_view (called log act answer)))
-    low
-
--- A call that is accepted keeps it.
-low_accepted : (log : Log) (act : Act) → IsLow log
-    → (with_call log act (answer_of (log_view log) act)).failed ≡ None
-    → IsLow (with_call log act (answer_of (log_view log) act))
-unfolding with_call
-low_accepted log (Refuse id code) low up = low_refused log id code _ low up
-low_accepted log (PutOut count) low up = low_put_out log (PutOut count) _ low
-low_accepted log act low up = low_call_items log act low
-
--- A call that is refused keeps it.
-low_refusal : (log : Log) (act : Act) (refusal : Refusal) → IsLow log
-    → IsLow (with_call log act (Refused refusal))
-unfolding with_call
-low_refusal log act refusal low = low
-
 -- A connection that fails by a call has failed.
 pub memory_fails : (log : Log) (act : Act) → (with_call log act OutOfMemory).failed ≡ None → ⊥
 unfolding with_call
 memory_fails log act up = let wrong : Some InternalError ≡ None = up in cc
-
--- A call keeps it, by its answer.
-low_call : (log : Log) (act : Act) (answer : Answer) → MayAnswer log act answer → IsLow log
-    → (with_call log act answer).failed ≡ None → IsLow (with_call log act answer)
-low_call log act answer (accepts none is) low up =
-    subst (λ (a : Answer). IsLow (with_call log act a)) (sym is)
-    (low_accepted log act low
-    (ap (λ (a : Answer). (with_call log act a).failed) (sym is) ∙ up))
-low_call log act answer (refuses refusal why is) low up =
-    subst (λ (a : Answer). IsLow (with_call log act a)) (sym is) (low_refusal log act refusal low)
-low_call log act answer (lacks none may is) low up =
-    subst (λ (a : Answer). IsLow (with_call log act a)) (sym is) (low_refusal log act Memory low)
-low_call log act answer (fails none may is) low up =
-    absurd (memory_fails log act (ap (λ (a : Answer). (with_call log act a).failed) (sym is) ∙ up))
-
--- A stream that the peer does not process is reported.
-low_none : (log : Log) → IsLow log → IsLow (took_none log)
-low_none log low = low_reported _ _ (low_unreturned _ log low)
 
 -- A new end has sent none.
 low_opened : (role : Role) (values : Values) → IsLow (opened role values)
 unfolding opened with_sent is_goaway
 low_opened role values i above some = absurd (both_ways false refl some)
 
+-- A log has this as long as it hasn't failed.
+abbrev IsLowUp : Log → Type 0
+IsLowUp log = log.failed ≡ None → IsLow log
+
+-- Each change of a log keeps it.
+low_kept : (role : Role) (values : Values) → IsLogInvariant role values IsLowUp
+unfolding is_goaway
+low_kept role values =
+    record {
+      opening = λ in_range up. low_opened role values;
+      used = λ log octets unparsed low. low;
+      framed = λ log frames low. low;
+      begun = λ log begun low. low;
+      replied = λ log decoded item verdict replies low up.
+          low_wrote (read log decoded item) _ (replies_none verdict item)
+          (low ((grows_wrote (read log decoded item) _).up up));
+      reported = λ log event events may low up.
+          low_up _ _ log.sent (processed_after (event ∷ events) log.reported) (low up);
+      unreturned = λ log count low. low;
+      returned = λ log returns low up.
+          low_wrote (record log { unreturned = 0 }) _ refl
+          (low ((grows_wrote (record log { unreturned = 0 }) _).up up));
+      failed = λ log code last names low up. let wrong : Some code ≡ None = up in cc;
+      sent = λ log act accepted low up.
+          let base = called log act (answer_of (log_view log) act) in
+          low_sent base _ (low_items log act (low ((grows_wrote base _).up up)));
+      called = λ log act answer is_log none low. low;
+      given = λ log more low. low;
+    }
+
 -- Where a log that hasn't failed has a GOAWAY, one has a last stream that was processed, or 0.
 low_of : (role : Role) (values : Values) (log : Log) → IsLog role values log → log.failed ≡ None
     → IsLow log
-unfolding used
-low_of =
-    every_up_log IsLow
-    (record {
-      used = λ log octets unparsed low. low;
-      frames = λ log frames low. low;
-      begun = λ log begun low. low;
-      item = λ log decoded item verdict more is none low. low_read log decoded item verdict more
-          (events_of (log_view log) decoded verdict item) low;
-      unprocessed = low_none;
-      call = low_call;
-    })
-    low_opened
+low_of role values log is = kept_by_logs role values IsLowUp (low_kept role values) log is
 
 -- what is above an own GOAWAY, at a server
 above_server : (role : Role) (i : ℕ) (sent : List Item) → is_server role ≡ true

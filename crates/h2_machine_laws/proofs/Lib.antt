@@ -23,7 +23,9 @@ pub mod CountedByFrames
 pub mod CountedBySteps
 pub mod CountedUnprocessed
 mod EachStream
+mod EndInvariants
 mod EntryCounts
+mod EveryEnd
 pub mod EveryStep
 mod EveryUpLog
 mod FirstSettings
@@ -69,6 +71,7 @@ mod RecvVerdictCases
 mod RecvVerdictLimits
 mod RecvWithoutFrame
 pub mod RepresentedSteps
+mod RulesAtEnds
 mod SentConnectionItems
 mod SentQuietItems
 mod SentStreamItems

@@ -25,7 +25,7 @@ use Rattle.h2_machine.specs.Machine.{new_end}
 use Rattle.h2_machine.specs.End.{owed_sum}
 use Rattle.h2_machine.specs.Represents.{Represents, RepresentsWhileUp, AwaitsValues}
 use Rattle.h2_machine.specs.Represents.{goaway_sent_last}
-use Rattle.h2_machine_laws.proofs.ConservedByCalls.{new_holds}
+use Rattle.h2_machine_laws.proofs.ConservedBySteps.{new_holds}
 use Rattle.h2_machine_laws.proofs.ConservedBySteps.{is_whole}
 use Rattle.h2_machine_laws.proofs.LogCore.{core, StreamsOf}
 

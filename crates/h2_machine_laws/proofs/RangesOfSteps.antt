@@ -1,69 +1,65 @@
--- The values of an end are in their ranges: step by step.
-use Rattle.std.proofs.Common.{◌≡◌, ℕ, ◌+◌, ◌≤◌, ◌==◌, nat_lt, ◌&&◌, ◌||◌}
-use Rattle.std.proofs.Common.{if◌then◌else◌, Bool, true, false, length, pos, ◌+ℤ◌, Option}
-use Rattle.std.proofs.Common.{Some, None, ◌≢◌, refl, ap, ◌∙◌, arith}
+-- The values of an end are in their ranges at first, and after each frame and each call.
+use Rattle.std.proofs.Common.{◌≡◌, ℕ, ◌+◌, ◌-◌, ◌^◌, ◌≤◌, ◌==◌, nat_lt, ◌&&◌, List, [], ◌∷◌}
+use Rattle.std.proofs.Common.{if◌then◌else◌, Bool, true, false, length, Option, Some, None, refl}
+use Rattle.std.proofs.Common.{ap, ◌∙◌, arith, ltb-false}
 use Rattle.std.specs.FinMap as map
+use Rattle.std.specs.Ordering.{nat_cmp}
 use Rattle.hpack.specs.Sizes.{table_size}
 use Rattle.hpack.specs.Tables.{Entries}
-use Rattle.h2_block.specs.Grouping.{Begun, max_block_octets}
-use Rattle.h2_log.specs.Acts.{Values, AreInRange}
-use Rattle.h2_log.specs.Limits.{full_output, max_table_limit}
-use Rattle.h2_log.specs.ItemRules.{exceeds_stream, overflows_stream}
+use Rattle.h2_frame.specs.Encoding.{stream_of}
+use Rattle.h2_frame.specs.Frames.{Frame}
+use Rattle.h2_frame.specs.declared.code.Code.{Code}
+use Rattle.h2_frame.specs.declared.code.Code.TheVariants.{ProtocolError, FlowControlError}
+use Rattle.h2_block.specs.Grouping.{Begun, max_block_octets, Item, alone, block}
+use Rattle.h2_log.specs.Acts.{Values, AreInRange, Act, IsTypedAct}
+use Rattle.h2_log.specs.CallRules.{refusal_of}
+use Rattle.h2_log.specs.ItemRules.{Decoded, first_fault, settings_fault}
+use Rattle.h2_log.specs.Limits.{max_table_limit}
+use Rattle.h2_log.specs.Settings.{peer_of, value_fault, value_after}
 use Rattle.h2_log.specs.States.{greatest_number}
 use Rattle.h2_log.specs.View.{StreamView}
 use Rattle.h2_log.specs.Windows.{greatest_window}
-use Rattle.h2_machine.specs.End.{End, StreamMap, OwnSettings, active_entry, reset_entry}
-use Rattle.h2_machine.specs.End.{stream_at, owed_entry}
-use Rattle.h2_machine.specs.Machine.{return_credit, add_unreturned, set_stream, close_stream}
-use Rattle.h2_machine.specs.Machine.{reset_stream, update_stream, with_flow, receive_data}
-use Rattle.h2_machine.specs.Machine.{receive_block, apply_own_settings, widen_send_window}
-use Rattle.h2_machine.specs.Machine.{new_stream, more_unreturned, narrow_recv_window}
-use Rattle.h2_machine_laws.specs.Ranges.{ValuesAreInRange}
-use Rattle.h2_machine_laws.proofs.StreamRanges.{WindowsFit, StreamsFit, set_fits, reset_fits}
-use Rattle.h2_machine_laws.proofs.StreamRanges.{removed_fits, recv_shifted_fits, data_fits_stream}
-use Rattle.h2_machine_laws.proofs.StreamRanges.{widened_fits_stream, new_fits_stream}
-use Rattle.h2_machine_laws.proofs.StreamRanges.{ended_fits_stream}
+use Rattle.h2_log.specs.declared.role.Role.{Role}
+use Rattle.h2_machine.specs.End.{End, OwnSettings, end_view, stream_in, stream_at, owed_entry}
+use Rattle.h2_machine.specs.End.{any_above}
+use Rattle.h2_machine.specs.Machine.{close_stream, with_table_after, after_frame, after_call}
+use Rattle.h2_machine.specs.Machine.{new_end}
+use Rattle.h2_machine_laws.specs.Ranges.{ValuesAreInRange, IsDecodedAt}
+use Rattle.h2_machine_laws.proofs.EveryEnd.{returned_keeps, frame_keeps, call_keeps}
+use Rattle.h2_machine_laws.proofs.EndInvariants.{Known, IsEndInvariant, without_entry}
+use Rattle.h2_machine_laws.proofs.RulesAtEnds.{same_some}
+use Rattle.h2_machine_laws.proofs.StreamRanges.{StreamsFit, set_fits, reset_fits, removed_fits}
+use Rattle.h2_machine_laws.proofs.StreamRanges.{send_shifted_fits, recv_shifted_fits, NoneAbove}
+use Rattle.h2_machine_laws.proofs.StreamRanges.{none_above, none_above_same, new_fits_stream}
+use Rattle.h2_machine_laws.proofs.TableRanges.{block_within}
 
--- the ranges of numbers of streams
-pub record NumbersFit (highest last_processed : ℕ) (goaway_sent : Option ℕ) : Type 0 where
-  pub highest_most : highest ≤ greatest_number
-  pub processed_most : last_processed ≤ highest
-  pub goaway_most : (last : ℕ) → goaway_sent ≡ Some last → last ≤ greatest_number
+-- the ranges of the greatest number that was used, of the last that was processed, and of the last
+-- of an own GOAWAY
+abbrev pub NumbersFit : (highest last_processed : ℕ) (goaway_sent : Option ℕ) → Type 0
+NumbersFit highest last_processed goaway_sent =
+    (highest ≤ greatest_number) × (last_processed ≤ highest)
+    × ((last : ℕ) → goaway_sent ≡ Some last → last ≤ greatest_number)
 
--- those of own settings
-pub record OwnFit (own : OwnSettings) : Type 0 where
-  pub window_most : own.in_force.initial_window ≤ greatest_window
-  pub limit_most : own.in_force.table_limit ≤ max_table_limit
-  pub next : (values : Values) → own.awaited ≡ Some values → AreInRange values
+-- those of the own initial window, of the limit of the table, and of the values that come next
+abbrev pub OwnFit : OwnSettings → Type 0
+OwnFit own =
+    (own.in_force.initial_window ≤ greatest_window) × (own.in_force.table_limit ≤ max_table_limit)
+    × ((values : Values) → own.awaited ≡ Some values → AreInRange values)
 
--- those of what was read
-pub record ReadingFits (begun : Option Begun) (table : Entries) : Type 0 where
-  pub few : (one : Begun) → begun ≡ Some one → length one.octets ≤ max_block_octets
-  pub size : table_size table.entries ≤ table.maximum
-  pub most : table.maximum ≤ max_table_limit
+-- those of the block that has begun, and of the table's size and maximum
+abbrev pub ReadingFits : Option Begun → Entries → Type 0
+ReadingFits begun table =
+    ((one : Begun) → begun ≡ Some one → length one.octets ≤ max_block_octets)
+    × (table_size table.entries ≤ table.maximum) × (table.maximum ≤ max_table_limit)
 
--- the ranges of an end, over what they speak of
-pub record Fit (highest last_processed : ℕ) (goaway_sent : Option ℕ) (send peer : ℕ)
-    (own : OwnSettings) (streams : StreamMap) (begun : Option Begun) (table : Entries) : Type 0
-  where
-    pub numbers : NumbersFit highest last_processed goaway_sent
-    pub send_most : send ≤ greatest_window
-    pub peer_most : peer ≤ greatest_window
-    pub own_fits : OwnFit own
-    pub all : StreamsFit peer own.in_force.initial_window streams
-    pub reading : ReadingFits begun table
-
--- the same of an end
+-- The ranges of an end: of numbers of streams, of the connection's send window, of the peer's
+-- initial window, of own settings, of streams, and of what was read.
 abbrev pub Fits : End → Type 0
 Fits e =
-    Fit e.streams.highest e.streams.last_processed e.goaway.sent e.windows.send
-    e.peer.initial_window e.own e.streams.entries e.reading.begun e.reading.table
-
--- An active stream's number isn't 0, where no stream is active with that.
-not_zero : (e : End) (i : ℕ) (stream : StreamView) → stream_at e 0 ≡ None
-    → stream_at e i ≡ Some stream → i ≢ 0
-not_zero e i stream none is zero =
-    let gone : stream_at e i ≡ None = ap (λ (j : ℕ). stream_at e j) zero ∙ none in cc
+    NumbersFit e.streams.highest e.streams.last_processed e.goaway.sent
+    × (e.windows.send ≤ greatest_window) × (e.peer.initial_window ≤ greatest_window) × OwnFit e.own
+    × StreamsFit e.peer.initial_window e.own.in_force.initial_window e.streams.entries
+    × ReadingFits e.reading.begun e.reading.table
 
 -- Nothing is there where nothing can be.
 none_at : (x : Option StreamView) → ((stream : StreamView) → x ≡ Some stream → ⊥) → x ≡ None
@@ -72,215 +68,180 @@ none_at (Some stream) never = absurd (never stream refl)
 
 -- Values in range are so by these.
 pub fits : (e : End) → ValuesAreInRange e → Fits e
-fits e h =
-    record {
-      numbers = record {
-        highest_most = h.highest;
-        processed_most = h.last_processed;
-        goaway_most = h.goaway_sent;
-      };
-      send_most = h.send;
-      peer_most = h.initial_window;
-      own_fits = record {
-        window_most = h.own_window;
-        limit_most = h.table_limit;
-        next = h.awaited;
-      };
-      all = λ i stream is. (
-        λ zero. not_zero e i stream h.connection is zero,
+fits e h = (
+  (h.highest, h.last_processed, h.goaway_sent),
+  h.send,
+  h.initial_window,
+  (h.own_window, h.table_limit, h.awaited),
+  λ i stream is.
+      let one = h.streams i stream is in (
+        λ zero.
+            let gone : stream_at e i ≡ None = ap (stream_at e) zero ∙ h.connection in absurd (cc),
         record {
-          send_most = (h.streams i stream is).send_most;
-          send_least = (h.streams i stream is).send_least;
-          recv_most = (h.streams i stream is).recv_most;
-          recv_least = (h.streams i stream is).recv_least;
+          send_most = one.send_most;
+          send_least = one.send_least;
+          recv_most = one.recv_most;
+          recv_least = one.recv_least;
         },
-      );
-      reading = record { few = h.begun; size = h.table; most = h.maximum };
-    }
+      ),
+  (h.begun, h.table, h.maximum),
+)
 
 -- And the other way round.
 pub are_in_range : (e : End) → Fits e → ValuesAreInRange e
 are_in_range e h =
     record {
-      highest = h.numbers.highest_most;
-      last_processed = h.numbers.processed_most;
-      goaway_sent = h.numbers.goaway_most;
-      send = h.send_most;
-      initial_window = h.peer_most;
-      own_window = h.own_fits.window_most;
-      table_limit = h.own_fits.limit_most;
-      awaited = h.own_fits.next;
+      highest = h.0.0;
+      last_processed = h.0.1;
+      goaway_sent = h.0.2;
+      send = h.1;
+      initial_window = h.2;
+      own_window = h.3.0;
+      table_limit = h.3.1;
+      awaited = h.3.2;
       streams = λ i stream is. record {
-        send_most = (h.all i stream is).1.send_most;
-        send_least = (h.all i stream is).1.send_least;
-        recv_most = (h.all i stream is).1.recv_most;
-        recv_least = (h.all i stream is).1.recv_least;
+        send_most = (h.4 i stream is).1.send_most;
+        send_least = (h.4 i stream is).1.send_least;
+        recv_most = (h.4 i stream is).1.recv_most;
+        recv_least = (h.4 i stream is).1.recv_least;
       };
-      connection = none_at (stream_at e 0) (λ stream is. (h.all 0 stream is).0 refl);
-      begun = h.reading.few;
-      table = h.reading.size;
-      maximum = h.reading.most;
+      connection = none_at (stream_at e 0) (λ stream is. (h.4 0 stream is).0 refl);
+      begun = h.5.0;
+      table = h.5.1;
+      maximum = h.5.2;
     }
 
--- Other streams that are in range.
-pub with_streams : (highest last_processed : ℕ) (goaway_sent : Option ℕ) (send peer : ℕ)
-    (own : OwnSettings) (m after : StreamMap) (begun : Option Begun) (table : Entries)
-    → StreamsFit peer own.in_force.initial_window after
-    → Fit highest last_processed goaway_sent send peer own m begun table
-    → Fit highest last_processed goaway_sent send peer own after begun table
-with_streams highest last_processed goaway_sent send peer own m after begun table all h =
+-- The table after an item is in range.
+table_fits : (e : End) (decoded : Option Decoded) (item : Item) → Known e decoded item → Fits e
+    → Fits (with_table_after e decoded item)
+table_fits e decoded (alone frame) known h = h
+table_fits e None (block i end octets) known h = h
+table_fits e (Some one) (block i end octets) known h =
+    let within = block_within _ _ octets one.fields one.after (known.1 one refl) h.5.1 in
+    (h.0, h.1, h.2, h.3, h.4, (h.5.0, within.0, omega (arith, within.1, h.3.1)))
+
+-- An initial window is in range, and brings no stream's send window above the greatest.
+abbrev Shifts : End → ℕ → Type 0
+Shifts e value =
+    (value ≤ greatest_window) × NoneAbove e.peer.initial_window value e.streams.entries
+
+-- Where no pair is at fault, neither the first is nor those that follow.
+first_none : (x : Option Code) (overflows : Bool) (following : Option Code)
+    → first_fault x overflows following ≡ None
+    → (x ≡ None) × (overflows ≡ false) × (following ≡ None)
+first_none (Some code) overflows following is = absurd (cc)
+first_none None true following is = absurd (cc)
+first_none None false following is = (refl, refl, is)
+
+-- A value without fault is no initial window above the greatest, by the tests.
+value_within : (push window size : Bool)
+    → (if push then Some ProtocolError else if window then Some FlowControlError
+    else if size then Some ProtocolError else None) ≡ None → window ≡ false
+value_within true window size is = cc
+value_within false true size is = cc
+value_within false false size is = refl
+
+-- The initial window after a pair, by the test whether it sets that.
+pair_by : (e : End) (value before : ℕ) (b : Bool)
+    → (b && nat_lt (2 ^ 31 - 1) value) ≡ false
+    → (b && any_above e.peer.initial_window value (map.entries e.streams.entries)) ≡ false
+    → Shifts e before → Shifts e (if b then value else before)
+pair_by e value before true within none h = (
+  ltb-false (2 ^ 31 - 1) value within,
+  none_above e.peer.initial_window value e.streams.entries none,
+)
+pair_by e value before false within none h = h
+
+-- The initial window after SETTINGS without fault.
+value_fits : (e : End) (pairs : List (ℕ × ℕ)) (before : ℕ)
+    → settings_fault (end_view e) pairs ≡ None → Shifts e before
+    → Shifts e (value_after 4 before pairs)
+unfolding settings_fault value_after value_fault
+value_fits e [] before is h = h
+value_fits e (pair ∷ pairs) before is h =
+    let parts = first_none (value_fault (peer_of e.role) pair) _ _ is in
+    value_fits e pairs (if pair.0 == 4 then pair.1 else before) parts.2
+    (pair_by e pair.1 before (pair.0 == 4) (value_within _ _ _ parts.0) parts.1 h)
+
+-- Each small change keeps the values in their ranges.
+ranges_kept : IsEndInvariant (Unit {0}) (Unit {0}) (λ (more : ℕ) (e : End). Fits e) Fits
+ranges_kept =
     record {
-      numbers = h.numbers;
-      send_most = h.send_most;
-      peer_most = h.peer_most;
-      own_fits = h.own_fits;
-      all = all;
-      reading = h.reading;
+      up = λ e up h. h;
+      kept = λ e h. h;
+      failed = λ e code last h. h;
+      put_out = λ e count h. h;
+      joined = λ e more items fits h. h;
+      encoded = λ e encoder valid h. h;
+      begun = λ e begun few h. (h.0, h.1, h.2, h.3, h.4, (few, h.5.1, h.5.2));
+      table = λ e decoded item known h. table_fits e decoded item (known tt) h;
+      numbered = λ e highest last most range less h.
+          ((range tt h.0.0, less h.0.1, h.0.2), h.1, h.2, h.3, h.4, h.5);
+      windows = λ e more later windows same most h. (h.0, most h.1, h.2, h.3, h.4, h.5);
+      set = λ e more later i stream next active same stays h.
+          let one = h.4 i stream active in
+          let all = set_fits _ _ _ i next one.0 (stays one.0 h.2 h.3.0 one.1) h.4 in
+          (h.0, h.1, h.2, h.3, all, h.5);
+      removed = λ e i stream active h. (h.0, h.1, h.2, h.3, removed_fits _ _ _ i h.4, h.5);
+      was_reset = λ e i more used few h. (h.0, h.1, h.2, h.3, reset_fits _ _ _ i h.4, h.5);
+      opened = λ e i ended_in ended_out highest last none most within range less apart few h.
+          let new = new_fits_stream _ _ ended_in ended_out h.2 in
+          let all = set_fits _ _ _ i _ apart new h.4 in
+          ((range tt h.0.0, less h.0.1, h.0.2), h.1, h.2, h.3, all, h.5);
+      settings = λ e pairs good h.
+          let shifts : Shifts e (value_after 4 e.peer.initial_window pairs) =
+          value_fits e pairs e.peer.initial_window good (h.2, none_above_same _ _ _ h.4) in
+          (h.0, h.1, shifts.0, h.3, send_shifted_fits _ _ _ _ shifts.1 h.4, h.5);
+      enforced = λ e values awaited h.
+          let range : AreInRange values = h.3.2 values awaited in
+          let own : OwnFit (record { in_force = values; awaited = None }) =
+          (range.initial_window, range.table_limit, λ others is. absurd (cc)) in
+          (h.0, h.1, h.2, own, recv_shifted_fits _ _ _ _ h.4, h.5);
+      awaits = λ e values range h.
+          let own : OwnFit (record e.own { awaited = Some values }) =
+          (h.3.0, h.3.1, λ others. same_some AreInRange values others (range tt)) in
+          (h.0, h.1, h.2, own, h.4, h.5);
+      left = λ e h.
+          let most : e.streams.last_processed ≤ greatest_number = omega (arith, h.0.0, h.0.1) in
+          let sent : NumbersFit e.streams.highest e.streams.last_processed
+          (Some e.streams.last_processed) =
+          (h.0.0, h.0.1, λ last. same_some (λ (n : ℕ). n ≤ greatest_number) _ last most) in
+          (sent, h.1, h.2, h.3, h.4, h.5);
+      beside = λ e ping received h. h;
     }
-
--- Other streams of an end that are in range.
-pub streams_fit : (e : End) (after : StreamMap)
-    → StreamsFit e.peer.initial_window e.own.in_force.initial_window after → Fits e
-    → Fits (record e { streams = record e.streams { entries = after } })
-streams_fit e after all h =
-    with_streams e.streams.highest e.streams.last_processed e.goaway.sent e.windows.send
-    e.peer.initial_window e.own e.streams.entries after e.reading.begun e.reading.table all h
-
--- More is unreturned, or returned at once, by the test.
-returned_by : (more : ℕ) (e : End) (b : Bool) → Fits e
-    → Fits (if b then return_credit (more_unreturned e more) else more_unreturned e more)
-returned_by more e true h = h
-returned_by more e false h = h
-
--- More is unreturned, or returned at once.
-pub returned_fits : (more : ℕ) (e : End) → Fits e → Fits (add_unreturned more e)
-unfolding add_unreturned
-returned_fits more e h =
-    returned_by more e (nat_lt 0 more && nat_lt (length e.output.waiting) full_output) h
 
 -- A stream is over.
 pub closed_fits : (e : End) (i more : ℕ) → Fits e → Fits (close_stream e i more)
 closed_fits e i more h =
-    returned_fits (more + owed_entry (map.get e.streams.entries i)) _
-    (streams_fit e (map.remove e.streams.entries i)
-    (removed_fits e.peer.initial_window e.own.in_force.initial_window e.streams.entries i h.all) h)
+    returned_keeps ranges_kept (more + owed_entry (map.get e.streams.entries i)) (without_entry e i)
+    (h.0, h.1, h.2, h.3, removed_fits _ _ _ i h.4, h.5)
 
--- A stream is reset.
-pub reset_stream_fits : (e : End) (i more : ℕ) → Fits e → Fits (reset_stream e i more)
-reset_stream_fits e i more h =
-    returned_fits (more + owed_entry (map.get e.streams.entries i)) _
-    (streams_fit e (map.insert e.streams.entries i reset_entry)
-    (reset_fits e.peer.initial_window e.own.in_force.initial_window e.streams.entries i h.all) h)
+-- A frame was read.
+pub frame_in_range : (e : End) (decoded : Option Decoded) (frame : Frame)
+    → stream_of frame ≤ greatest_number → IsDecodedAt e decoded frame → ValuesAreInRange e
+    → ValuesAreInRange (after_frame e decoded frame)
+frame_in_range e decoded frame most seen h =
+    are_in_range (after_frame e decoded frame)
+    (frame_keeps ranges_kept e decoded
+    frame (λ known. most) (λ known. seen) (fits e h))
 
--- A stream is set that is in range.
-pub set_stream_fits : (e : End) (i : ℕ) (stream : StreamView) → i ≢ 0
-    → WindowsFit e.peer.initial_window e.own.in_force.initial_window stream → Fits e
-    → Fits (set_stream e i stream)
-set_stream_fits e i stream apart one h =
-    streams_fit e (map.insert e.streams.entries i (active_entry stream))
-    (set_fits e.peer.initial_window e.own.in_force.initial_window e.streams.entries i stream
-    apart one h.all) h
+-- A call that isn't refused was made.
+pub call_fits : (e : End) (act : Act) → refusal_of (end_view e) act ≡ None → IsTypedAct act
+    → Fits e → Fits (after_call e act)
+call_fits e act is typed =
+    call_keeps ranges_kept e act is
+    (λ good. typed)
 
--- A stream was changed: it is over, or it is set, by the test.
-changed_by : (e : End) (i : ℕ) (stream : StreamView) (b : Bool) → Fits (set_stream e i stream)
-    → Fits (if b then close_stream (set_stream e i stream) i 0 else set_stream e i stream)
-changed_by e i stream true h = closed_fits (set_stream e i stream) i 0 h
-changed_by e i stream false h = h
-
--- A stream was changed: it is over, or it is set.
-pub changed_fits : (e : End) (i : ℕ) (stream : StreamView) → i ≢ 0
-    → WindowsFit e.peer.initial_window e.own.in_force.initial_window stream → Fits e
-    → Fits (update_stream e i stream)
-changed_fits e i stream apart one h =
-    changed_by e i stream (stream.ended_in && stream.ended_out)
-    (set_stream_fits e i stream apart one h)
-
--- DATA was reported that doesn't exceed its stream's window.
-pub data_in_range : (e : End) (i count : ℕ) (end : Bool) (x : Option StreamView)
-    → stream_at e i ≡ x → exceeds_stream count x ≡ false → Fits e
-    → Fits (receive_data e i count end x)
-data_in_range e i count end None active within h = h
-data_in_range e i count end (Some stream) active within h =
-    changed_fits (narrow_recv_window e count) i (with_flow stream count end)
-    (h.all i stream active).0
-    (data_fits_stream e.peer.initial_window e.own.in_force.initial_window stream count
-    (stream.ended_in || end) within h.own_fits.window_most (h.all i stream active).1) h
-
--- A block was reported, on a stream whose number has 31 bits.
-pub block_in_range : (e : End) (i : ℕ) (end : Bool) (x : Option StreamView) → stream_at e i ≡ x
-    → i ≤ greatest_number → (x ≡ None → i ≢ 0) → Fits e
-    → Fits (receive_block e i end x)
-block_in_range e i end None active within apart h =
-    record {
-      numbers = record {
-        highest_most = omega (arith, h.numbers.highest_most);
-        processed_most = omega arith;
-        goaway_most = h.numbers.goaway_most;
-      };
-      send_most = h.send_most;
-      peer_most = h.peer_most;
-      own_fits = h.own_fits;
-      all = set_fits e.peer.initial_window e.own.in_force.initial_window e.streams.entries i
-          (new_stream e end false) (apart refl)
-          (new_fits_stream e.peer.initial_window e.own.in_force.initial_window end false
-          h.peer_most) h.all;
-      reading = h.reading;
-    }
-block_in_range e i end (Some stream) active within apart h =
-    changed_fits e i (record stream { ended_in = stream.ended_in || end })
-    (h.all i stream active).0
-    (ended_fits_stream e.peer.initial_window e.own.in_force.initial_window stream
-    (stream.ended_in || end) stream.ended_out (h.all i stream active).1) h
-
--- Own values come into force.
-pub enforced_in_range : (e : End) (x : Option Values) → e.own.awaited ≡ x → Fits e
-    → Fits (apply_own_settings e x)
-enforced_in_range e None awaited h = h
-enforced_in_range e (Some values) awaited h =
-    let in_range : AreInRange values = h.own_fits.next values awaited in
-    record {
-      numbers = h.numbers;
-      send_most = h.send_most;
-      peer_most = h.peer_most;
-      own_fits = record {
-        window_most = in_range.initial_window;
-        limit_most = in_range.table_limit;
-        next = λ others is. absurd (cc);
-      };
-      all = recv_shifted_fits e.peer.initial_window e.own.in_force.initial_window
-          values.initial_window e.streams.entries h.all;
-      reading = h.reading;
-    }
-
--- The connection's send window is changed, and is at most the greatest.
-pub send_in_range : (e : End) (send : ℕ) → send ≤ greatest_window → Fits e
-    → Fits (record e { windows = record e.windows { send = send } })
-send_in_range e send most h =
-    record {
-      numbers = h.numbers;
-      send_most = most;
-      peer_most = h.peer_most;
-      own_fits = h.own_fits;
-      all = h.all;
-      reading = h.reading;
-    }
-
--- A send window is widened: the connection's, by the test, or a stream's.
-widened_by : (e : End) (increment : ℕ) (b : Bool)
-    → (b ≡ true → e.windows.send + increment ≤ greatest_window) → Fits e
-    → Fits
-    (if b then record e { windows = record e.windows { send = e.windows.send + increment } } else e)
-widened_by e increment true most h =
-    send_in_range e (e.windows.send + increment) (most refl) h
-widened_by e increment false most h = h
-
--- A send window is widened to no more than the greatest.
-pub widened_in_range : (e : End) (i increment : ℕ) (x : Option StreamView) → stream_at e i ≡ x
-    → ((i == 0) ≡ true → e.windows.send + increment ≤ greatest_window)
-    → overflows_stream increment x ≡ false → Fits e → Fits (widen_send_window e i increment x)
-widened_in_range e i increment None active most within h = widened_by e increment (i == 0) most h
-widened_in_range e i increment (Some stream) active most within h =
-    set_stream_fits e i (record stream { send_window = stream.send_window +ℤ pos increment })
-    (h.all i stream active).0
-    (widened_fits_stream e.peer.initial_window e.own.in_force.initial_window stream increment within
-    (h.all i stream active).1) h
+-- The values of a new end are in their ranges.
+pub new_fits : (role : Role) (values : Values) → AreInRange values → Fits (new_end role values)
+unfolding new_end
+new_fits role values in_range = (
+  (omega arith, omega arith, λ last is. absurd (cc)),
+  omega arith,
+  omega arith,
+  (omega arith, omega arith, λ others is. same_some AreInRange values others in_range is),
+  λ i stream is.
+      let none : stream_in (map.get map.empty i) ≡ None = ap stream_in (map.get-empty nat_cmp i) in
+      absurd (cc),
+  (λ one is. absurd (cc), omega arith, omega arith),
+)

@@ -27,7 +27,7 @@ use Rattle.h2_machine.specs.End.{End, end_view}
 use Rattle.h2_machine.specs.Machine.{with_begun, after_step, after_frame}
 use Rattle.h2_machine.specs.Represents.{Represents}
 use Rattle.h2_log_laws.proofs.InvariantLogs.{log_represents}
-use Rattle.h2_machine_laws.proofs.ConservedByFrames.{frame_holds}
+use Rattle.h2_machine_laws.proofs.ConservedBySteps.{frame_holds}
 use Rattle.h2_machine_laws.proofs.ConservedBySteps.{holds, is_whole}
 use Rattle.h2_machine_laws.proofs.FirstSettings.{started_with_settings}
 use Rattle.h2_machine_laws.proofs.LogCore.{core, Going, going, runs}

@@ -32,7 +32,7 @@ use Rattle.h2_log_laws.proofs.ReaderStates.{state_is_active}
 use Rattle.h2_log_laws.proofs.ReplyInvariant.{resets_used}
 use Rattle.h2_log_laws.proofs.StreamNumbers.{block_below}
 use Rattle.h2_machine_laws.proofs.CallOpen.{IsClear}
-use Rattle.h2_machine_laws.proofs.ConservedByFrames.{within_window}
+use Rattle.h2_machine_laws.proofs.RulesAtEnds.{within_window}
 use Rattle.h2_machine_laws.proofs.LogCore.{Core, core, Going, active_by_items, greatest_used}
 use Rattle.h2_machine_laws.proofs.RecvBlocks.{later_reported, block_ignored, closed_dead}
 use Rattle.h2_machine_laws.proofs.RecvConnectionFault.{fault_after}

@@ -22,7 +22,7 @@ use Rattle.h2_machine.specs.Machine.{receive_data, narrow_recv_window, with_flow
 use Rattle.h2_machine.specs.Machine.{receive_block, widen_send_window, apply_own_settings}
 use Rattle.h2_machine.specs.Machine.{with_table_after, with_begun, after_reported, after_ignored}
 use Rattle.h2_machine.specs.Machine.{after_stream_fault, after_verdict, after_step, after_frame}
-use Rattle.h2_machine_laws.proofs.ConservedByFrames.{verdict_within_limits}
+use Rattle.h2_machine_laws.proofs.RulesAtEnds.{verdict_within_limits}
 use Rattle.h2_machine_laws.proofs.RecvUnprocessed.{returned_keeps}
 use Rattle.h2_machine_laws.proofs.UpInvariantReads.{fault_reported, fault_resets}
 

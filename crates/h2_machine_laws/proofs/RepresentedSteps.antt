@@ -21,7 +21,7 @@ use Rattle.h2_machine.specs.Machine.{queue_output, with_encoder, return_credit, 
 use Rattle.h2_machine.specs.Machine.{after_call, before_put_out_at}
 use Rattle.hpack.specs.Lists.{EncoderState}
 use Rattle.h2_machine.specs.Represents.{Represents, RepresentsWhileUp}
-use Rattle.h2_machine_laws.proofs.ConservedByCalls.{call_holds}
+use Rattle.h2_machine_laws.proofs.ConservedBySteps.{call_holds}
 use Rattle.h2_machine_laws.proofs.ConservedBySteps.{holds, is_whole}
 use Rattle.h2_machine_laws.proofs.LogCore.{core, core_facts, StreamsOf, Going, going, runs}
 use Rattle.h2_machine_laws.proofs.SentConnectionItems.{widened_advances}

@@ -1,7 +1,7 @@
 -- What an end of an undisturbed pair keeps: it is up, reports no stream fault, has read each reset
 -- that it reports, was asked for each reset that it wrote, and was given no list that is too large.
-use Rattle.std.proofs.Common.{◌≡◌, ◌⊎◌, inl, inr, ℕ, ◌+◌, ◌≤◌, nat_lt, ◌&&◌, Bool, true, false}
-use Rattle.std.proofs.Common.{List, [], ◌∷◌, ◌++◌, None, refl, arith}
+use Rattle.std.proofs.Common.{◌≡◌, ◌⊎◌, inl, inr, ℕ, ◌≤◌, true, false, List, [], ◌∷◌, ◌++◌, None}
+use Rattle.std.proofs.Common.{refl, arith}
 use Rattle.std.specs.List.{Contains}
 use Rattle.std.proofs.lemmas.List.Elements.{Contains-append_cases, Contains-append_right}
 use Rattle.std.proofs.lemmas.List.Elements.{Contains-push_cases}
@@ -11,11 +11,11 @@ use Rattle.h2_frame.specs.Frames.{Reset, WindowUpdate}
 use Rattle.h2_block.specs.Grouping.{Item, alone}
 use Rattle.h2_log.specs.Acts.{Act, Answer}
 use Rattle.h2_log.specs.Events.{Event, ResetEvent}
-use Rattle.h2_log.specs.Limits.{full_output, max_list}
-use Rattle.h2_log.specs.Log.{Log, waiting}
+use Rattle.h2_log.specs.Limits.{max_list}
+use Rattle.h2_log.specs.Log.{Log}
 use Rattle.h2_log.specs.LogSteps.{with_sent, with_reported, with_unreturned}
-use Rattle.h2_log_laws.proofs.LogHistory.{History, history_of, moved, given_by, wrote_view}
-use Rattle.h2_log_laws.proofs.LogHistory.{reports_view, with_unreturned_view}
+use Rattle.h2_log_laws.proofs.LogHistory.{History, history_of, moved, wrote_view, reports_view}
+use Rattle.h2_log_laws.proofs.LogInduction.{IsKeptByCredit, kept_by_credit}
 use Rattle.h2_end_laws.specs.Sendings.{lists_accepted}
 use Rattle.h2_pair.specs.Undisturbed.{WasAsked}
 
@@ -140,14 +140,6 @@ reports_clean received events calls none heard =
 no_update : (count id code : ℕ) → alone (WindowUpdate 0 count) ≡ alone (Reset id code) → ⊥
 no_update count id code is = cc
 
--- All that is due is returned.
-clean_given : (v : History) (b : Bool) → IsClean v → IsClean (given_by b v)
-clean_given v false clean = clean
-clean_given v true clean =
-    clean_moved v [] (alone (WindowUpdate 0 v.unreturned) ∷ []) [] v.calls 0
-    (writes_clean v.received _ v.calls (λ id code here. absurd (no_update v.unreturned id code
-    (one_in _ _ here)))) clean
-
 -- Items are written.
 pub clean_sent : (log : Log) (items : List Item)
     → ((id code : ℕ) → Contains items (alone (Reset id code)) → WasAsked log.calls id code)
@@ -156,15 +148,28 @@ clean_sent log items asked clean =
     rw (wrote_view log items) (clean_moved (history_of log) [] items [] log.calls log.unreturned
     (writes_clean log.received items log.calls asked) clean)
 
+-- So much is due.
+clean_due : (log : Log) (count : ℕ) → LogIsClean log
+    → LogIsClean (record log { unreturned = count })
+clean_due log count clean =
+    clean_moved (history_of log) [] [] [] log.calls count (writes_clean log.received [] log.calls
+    (λ id code here. absurd (none_in _ here))) clean
+
+-- Credit keeps it.
+pub clean_credit : IsKeptByCredit LogIsClean
+clean_credit =
+    record {
+      unreturned = clean_due;
+      returned = λ log returns clean.
+          clean_sent (record log { unreturned = 0 }) _
+          (λ id code here. absurd (no_update log.unreturned id code (one_in _ _ here)))
+          (clean_due log 0 clean);
+    }
+
 -- What is due is returned, or not.
 pub clean_unreturned : (more : ℕ) (log : Log) → LogIsClean log
     → LogIsClean (with_unreturned more log)
-clean_unreturned more log clean =
-    rw (with_unreturned_view more log) (clean_given
-    (moved (history_of log) [] [] [] log.calls (log.unreturned + more))
-    (nat_lt 0 more && nat_lt (waiting log) full_output)
-    (clean_moved (history_of log) [] [] [] log.calls (log.unreturned + more)
-    (writes_clean log.received [] log.calls (λ id code here. absurd (none_in _ here))) clean))
+clean_unreturned = kept_by_credit LogIsClean clean_credit
 
 -- Events are reported.
 pub clean_reported : (log : Log) (events : List Event)

@@ -1,7 +1,7 @@
 -- A call that leaves an end up keeps it without faults: each reset that it writes was asked for.
 use Rattle.std.proofs.Common.{◌≡◌, ◌≢◌, inl, inr, ℕ, zero, suc, ◌≤◌, nat_le, ◌==◌, not, ◌&&◌, Bool}
 use Rattle.std.proofs.Common.{true, false, if◌then◌else◌, List, [], ◌∷◌, ◌++◌, length, take, drop}
-use Rattle.std.proofs.Common.{Option, Some, None, sym}
+use Rattle.std.proofs.Common.{None, sym, ◌∙◌}
 use Rattle.std.specs.List.{Contains}
 use Rattle.std.proofs.lemmas.Bool.{ltb-false}
 use Rattle.std.proofs.lemmas.List.Elements.{Contains-append_cases}
@@ -11,27 +11,25 @@ use Rattle.h2_frame.specs.declared.code.Code.{Code}
 use Rattle.h2_frame.specs.Frames.{Data, Reset, WindowUpdate}
 use Rattle.h2_wire.proofs.ReadingLemmas.{none_some}
 use Rattle.h2_block.specs.Grouping.{Item, alone}
-use Rattle.h2_log.specs.declared.refusal.Refusal.{Refusal}
-use Rattle.h2_log.specs.declared.refusal.Refusal.TheVariants.{Memory}
 use Rattle.h2_log.specs.Acts.{Act, Answer, Open, SendFields, SendData, Release, ResetStream, Refuse}
-use Rattle.h2_log.specs.Acts.{SendPing, SendGoAway, PutOut, ChangeSettings, Count, Done}
-use Rattle.h2_log.specs.Acts.{OutOfMemory, Refused}
+use Rattle.h2_log.specs.Acts.{PutOut, Done, OutOfMemory}
 use Rattle.h2_log.specs.Limits.{max_list}
 use Rattle.h2_log.specs.Log.{Log}
 use Rattle.h2_log.specs.LogView.{log_view}
 use Rattle.h2_log.specs.View.{View, ended_in}
-use Rattle.h2_log.specs.LogSteps.{with_credit_returned}
-use Rattle.h2_log.specs.CallRules.{conditions, refusal_of, answer_of, items_of, refuse_fault}
-use Rattle.h2_log.specs.CallRules.{data_frames, data_items, returns_before_put_out}
-use Rattle.h2_log.specs.LogCalls.{called, with_items, refused_with, before_put_out, with_call}
-use Rattle.h2_log.specs.LogCalls.{MayAnswer, accepts, refuses, lacks, fails}
+use Rattle.h2_log.specs.CallRules.{conditions, refusal_of, answer_of, items_of, data_frames}
+use Rattle.h2_log.specs.CallRules.{data_items}
+use Rattle.h2_log.specs.LogCalls.{called, with_call, MayAnswer}
 use Rattle.h2_log_laws.proofs.CallConditions.{first_none}
 use Rattle.h2_log_laws.proofs.LogHistory.{history_of}
+use Rattle.h2_log_laws.proofs.LogInduction.{IsKeptByCall, kept_by_call, FailsWith, out_of_memory}
+use Rattle.h2_log_laws.proofs.LogInduction.{refusal_fails, WritesNone, refused, no_memory}
+use Rattle.h2_log_laws.proofs.LogInduction.{fails_instead, puts_out}
 use Rattle.h2_end_laws.specs.Sendings.{lists_accepted}
+use Rattle.h2_end_laws.proofs.Sendings.{refused_lists, failed_lists}
 use Rattle.h2_pair.specs.Undisturbed.{WasAsked, LeavesUp}
-use Rattle.h2_pair.proofs.FaultsInvariant.{LogIsClean, clean_moved, clean_sent, clean_unreturned}
-use Rattle.h2_pair.proofs.FaultsInvariant.{writes_clean, none_in, one_in, first_in, later_in}
-use Rattle.h2_pair.proofs.FaultsInvariant.{first_or_later}
+use Rattle.h2_pair.proofs.FaultsInvariant.{LogIsClean, clean_moved, clean_sent, clean_credit}
+use Rattle.h2_pair.proofs.FaultsInvariant.{none_in, one_in, first_in, later_in, first_or_later}
 
 -- There is no reset among the items.
 abbrev NoResets : List Item → Type 0
@@ -110,13 +108,9 @@ same_refusal i c id code calls is =
     let number : c ≡ code = cc in
     rw (stream, number) (first_in (Refuse id code, Done) calls)
 
--- So it is with every call.
+-- So is each reset of every call.
 call_asked : (view : View) (act : Act) (calls : List (Act × Answer)) → Asked view act calls
 unfolding items_of
-call_asked view (Open fields end) calls =
-    none_asked view (Open fields end) calls (one_no_reset _ (λ i code is. cc))
-call_asked view (SendFields id fields end) calls =
-    none_asked view (SendFields id fields end) calls (one_no_reset _ (λ i code is. cc))
 call_asked view (SendData id octets end) calls =
     none_asked view (SendData id octets end) calls (items_no_reset view.max_payload id octets end _)
 call_asked view (Release id count) calls =
@@ -128,14 +122,9 @@ call_asked view (ResetStream id code) calls =
     λ i c here. inl (same_reset id code i c calls (one_in _ _ here))
 call_asked view (Refuse id code) calls =
     λ i c here. inr (same_refusal id code i c calls (one_in _ _ here))
-call_asked view (SendPing octets) calls =
-    none_asked view (SendPing octets) calls (one_no_reset _ (λ i code is. cc))
-call_asked view SendGoAway calls =
-    none_asked view SendGoAway calls (one_no_reset _ (λ i code is. cc))
 call_asked view (PutOut count) calls =
     none_asked view (PutOut count) calls (λ i code here. none_in _ here)
-call_asked view (ChangeSettings values) calls =
-    none_asked view (ChangeSettings values) calls (one_no_reset _ (λ i code is. cc))
+call_asked view act calls = none_asked view act calls (one_no_reset _ (λ i code is. cc))
 
 -- All lists are small that a call was given.
 abbrev AreSmall : List (List Field) → Type 0
@@ -168,21 +157,15 @@ called_clean log act answer small clean =
       small = small;
     }) clean
 
--- A refused call adds no list.
-refused_small : (act : Act) (refusal : Refusal) (calls : List (Act × Answer))
-    → AreSmall (lists_accepted calls)
-    → AreSmall (lists_accepted ((act, Refused refusal) ∷ calls))
+-- A call that writes no items of its own adds no list.
+silent_small : (log : Log) (act : Act) (answer : Answer) → WritesNone act answer
+    → AreSmall (lists_accepted log.calls) → AreSmall (lists_accepted ((act, answer) ∷ log.calls))
 unfolding lists_accepted
-refused_small (Open fields end) refusal calls before = before
-refused_small (SendFields id fields end) refusal calls before = before
-refused_small (SendData id octets end) refusal calls before = before
-refused_small (Release id count) refusal calls before = before
-refused_small (ResetStream id code) refusal calls before = before
-refused_small (Refuse id code) refusal calls before = before
-refused_small (SendPing octets) refusal calls before = before
-refused_small SendGoAway refusal calls before = before
-refused_small (PutOut count) refusal calls before = before
-refused_small (ChangeSettings values) refusal calls before = before
+silent_small log _ _ (refused act refusal) before =
+    rw (refused_lists act refusal log.calls log.encoder).0 before
+silent_small log _ _ (no_memory act) before = rw (failed_lists act log.calls log.encoder).0 before
+silent_small log _ _ (fails_instead id code) before = before
+silent_small log _ _ (puts_out count given) before = before
 
 -- A call that is accepted has a small list.
 open_small : (view : View) (fields : List Field) (end : Bool)
@@ -217,97 +200,33 @@ accepted_small view (Open fields end) calls none before =
     small_more fields (lists_accepted calls) (open_small view fields end none) before
 accepted_small view (SendFields id fields end) calls none before =
     small_more fields (lists_accepted calls) (fields_small view id fields end none) before
-accepted_small view (SendData id octets end) calls none before = before
-accepted_small view (Release id count) calls none before = before
-accepted_small view (ResetStream id code) calls none before = before
-accepted_small view (Refuse id code) calls none before = before
-accepted_small view (SendPing octets) calls none before = before
-accepted_small view SendGoAway calls none before = before
-accepted_small view (PutOut count) calls none before = before
-accepted_small view (ChangeSettings values) calls none before = before
+accepted_small view act calls none before = before
 
--- A call that writes.
-written_clean : (log : Log) (act : Act) → refusal_of (log_view log) act ≡ None → LogIsClean log
-    → LogIsClean (with_items log act (answer_of (log_view log) act))
-unfolding with_items
-written_clean log act none clean =
-    let answer = answer_of (log_view log) act in
-    clean_unreturned _ _ (clean_sent (called log act answer) (items_of (log_view log) act answer)
-    (call_asked (log_view log) act log.calls)
-    (called_clean log act answer (accepted_small (log_view log) act log.calls none) clean))
+-- A call that fails either runs out of memory or doesn't leave the end up.
+no_failure : (log : Log) (act : Act) (answer : Answer) (code : Code)
+    → FailsWith log act answer code → answer ≢ OutOfMemory → LeavesUp log act → ⊥
+no_failure log _ _ _ (out_of_memory act answer is) memory up = memory is
+no_failure log _ _ _ (refusal_fails id code answer fault done none is) memory up =
+    none_some fault (sym (up none) ∙ is)
 
--- Before output is put out, by the test whether credit is returned.
-ready_by : (log : Log) (b : Bool) → LogIsClean log
-    → LogIsClean (if b then with_credit_returned log else log)
-ready_by log false clean = clean
-ready_by log true clean =
-    clean_sent (record log { unreturned = 0 }) (alone (WindowUpdate 0 log.unreturned) ∷ [])
-    (λ id code here. absurd (update_no_reset 0 log.unreturned id code here))
-    (clean_moved (history_of log) [] [] [] log.calls 0 (writes_clean log.received [] log.calls
-    (λ id code here. absurd (none_in _ here))) clean)
-
--- A call that puts output out.
-put_out_clean : (log : Log) (count given : ℕ) → LogIsClean log
-    → LogIsClean (with_call log (PutOut count) (Count given))
-unfolding with_call before_put_out lists_accepted
-put_out_clean log count given clean =
-    let next = called log (PutOut count) (Count given) in
-    let now = ready_by next (returns_before_put_out (log_view next))
-    (called_clean log (PutOut count) (Count given) (λ before. before) clean) in
+-- Each change that another call makes keeps it.
+call_keeps : (log : Log) (act : Act) (answer : Answer) → answer ≢ OutOfMemory → LeavesUp log act
+    → IsKeptByCall LogIsClean log act answer
+call_keeps log act answer memory up =
     record {
-      up = now.up;
-      none = now.none;
-      heard = now.heard;
-      asked = now.asked;
-      small = now.small;
+      credit = clean_credit;
+      given = λ next more clean. clean;
+      failed = λ other code fails was. absurd (no_failure log act answer code fails memory up);
+      sent = λ none stays clean.
+          clean_sent (called log act (answer_of (log_view log) act)) _
+          (call_asked (log_view log) act log.calls)
+          (called_clean log act _ (accepted_small (log_view log) act log.calls none) clean);
+      called = λ other writes. called_clean log act other (silent_small log act other writes);
     }
-
--- A stream that is refused, where that leaves the connection up.
-refused_clean : (log : Log) (id code : ℕ) (fault : Option Code) → fault ≡ None
-    → LogIsClean (with_items log (Refuse id code) Done)
-    → LogIsClean (refused_with log (Refuse id code) Done fault)
-unfolding refused_with
-refused_clean log id code (Some fault) none clean = none_some fault (sym none)
-refused_clean log id code None none clean = clean
-
--- A call that is accepted.
-accepted_clean : (log : Log) (act : Act) → refusal_of (log_view log) act ≡ None → LeavesUp log act
-    → LogIsClean log → LogIsClean (with_call log act (answer_of (log_view log) act))
-unfolding with_call
-accepted_clean log (Open fields end) none up clean = written_clean log (Open fields end) none clean
-accepted_clean log (SendFields id fields end) none up clean =
-    written_clean log (SendFields id fields end) none clean
-accepted_clean log (SendData id octets end) none up clean =
-    written_clean log (SendData id octets end) none clean
-accepted_clean log (Release id count) none up clean =
-    written_clean log (Release id count) none clean
-accepted_clean log (ResetStream id code) none up clean =
-    written_clean log (ResetStream id code) none clean
-accepted_clean log (Refuse id code) none up clean =
-    refused_clean log id code (refuse_fault (log_view log) code) (up none)
-    (written_clean log (Refuse id code) none clean)
-accepted_clean log (SendPing octets) none up clean =
-    written_clean log (SendPing octets) none clean
-accepted_clean log SendGoAway none up clean = written_clean log SendGoAway none clean
-accepted_clean log (PutOut count) none up clean = put_out_clean log count _ clean
-accepted_clean log (ChangeSettings values) none up clean =
-    written_clean log (ChangeSettings values) none clean
-
--- A call that is refused.
-refusal_clean : (log : Log) (act : Act) (refusal : Refusal) → LogIsClean log
-    → LogIsClean (with_call log act (Refused refusal))
-unfolding with_call
-refusal_clean log act refusal clean =
-    called_clean log act (Refused refusal) (refused_small act refusal log.calls) clean
 
 -- A call that doesn't run out of memory and leaves the end up.
 pub call_clean : (log : Log) (act : Act) (answer : Answer) → MayAnswer log act answer
     → answer ≢ OutOfMemory → LeavesUp log act → LogIsClean log
     → LogIsClean (with_call log act answer)
-call_clean log act answer (accepts none is) memory up clean =
-    rw is (accepted_clean log act none up clean)
-call_clean log act answer (refuses refusal for is) memory up clean =
-    rw is (refusal_clean log act refusal clean)
-call_clean log act answer (lacks none may is) memory up clean =
-    rw is (refusal_clean log act Memory clean)
-call_clean log act answer (fails none may is) memory up clean = absurd (memory is)
+call_clean log act answer may memory up =
+    kept_by_call LogIsClean log act answer (call_keeps log act answer memory up) may

@@ -1,46 +1,38 @@
 -- A server that is up says by no GOAWAY that it doesn't process a stream on which it has sent part
 -- of a message (RFC 9113, section 6.8).
-use Rattle.std.proofs.Common.{◌≡◌, inl, inr, ℕ, zero, suc, ◌+◌, ◌≤◌, ◌==◌, nat_le, nat_lt}
-use Rattle.std.proofs.Common.{◌&&◌, not, Bool, true, false, if◌then◌else◌, List, [], ◌∷◌, ◌++◌}
-use Rattle.std.proofs.Common.{length, take, drop, Option, Some, None, is_some, refl, ap, ◌∙◌}
-use Rattle.std.proofs.Common.{arith, subst}
+use Rattle.std.proofs.Common.{◌≡◌, inl, inr, ℕ, zero, suc, ◌≤◌, ◌==◌, nat_le, ◌&&◌, not, Bool, true}
+use Rattle.std.proofs.Common.{false, if◌then◌else◌, List, [], ◌∷◌, ◌++◌, length, take, drop, Some}
+use Rattle.std.proofs.Common.{None, is_some, refl, ap, ◌∙◌, arith, subst}
 use Rattle.std.specs.List.{list_any}
 use Rattle.std.proofs.lemmas.Bool.{both_ways, or_from, eqb-true, le-ltb, or_cases}
 use Rattle.std.proofs.lemmas.List.Folds.{list_any-append}
 use Rattle.hpack.specs.declared.types.field.Field.{Field}
 use Rattle.h2_frame.specs.declared.code.Code.{Code}
-use Rattle.h2_frame.specs.declared.code.Code.TheVariants.{InternalError}
-use Rattle.h2_wire.specs.Faults.{wire_fault_code}
-use Rattle.h2_frame.specs.Frames.{Frame, Data, Settings, Ping, GoAway, WindowUpdate}
+use Rattle.h2_frame.specs.Frames.{Data, Settings, Ping, GoAway, WindowUpdate}
 use Rattle.h2_block.specs.Grouping.{Item, alone, block}
 use Rattle.h2_log.specs.declared.role.Role.{Role}
 use Rattle.h2_log.specs.declared.role.Role.TheVariants.{Server}
 use Rattle.h2_log.specs.Items.{is_goaway_below}
 use Rattle.h2_log.specs.Events.{Event, greatest_processed}
-use Rattle.h2_log.specs.Acts.{Values, Act, Answer, Open, SendFields, SendData, Release, ResetStream}
-use Rattle.h2_log.specs.Acts.{Refuse, SendPing, SendGoAway, PutOut, ChangeSettings}
-use Rattle.h2_log.specs.Acts.{Done}
+use Rattle.h2_log.specs.Acts.{Values, Act, Open, SendFields, SendData, Release, ResetStream, Refuse}
+use Rattle.h2_log.specs.Acts.{SendPing, SendGoAway, PutOut, ChangeSettings}
 use Rattle.h2_log.specs.Settings.{is_server}
 use Rattle.h2_log.specs.States.{is_above, when}
-use Rattle.h2_log.specs.Log.{Log, active, waiting, last_processed}
+use Rattle.h2_log.specs.Log.{Log, active, last_processed}
 use Rattle.h2_log.specs.LogView.{log_view}
 use Rattle.h2_log.specs.View.{StreamView, ended_in}
 use Rattle.h2_log.specs.Verdicts.{Verdict, ConnectionFault, StreamFault, NoEvent, Reported}
-use Rattle.h2_log.specs.ItemRules.{Decoded, replies_to, FrameStep, fails_with, begins_block}
-use Rattle.h2_log.specs.ItemRules.{completes, frame_step}
-use Rattle.h2_log.specs.CallRules.{conditions, items_of, answer_of, refuse_fault}
-use Rattle.h2_log.specs.CallRules.{refusal_of, returns_before_put_out, data_items, data_frames}
-use Rattle.h2_log.specs.Limits.{full_output}
-use Rattle.h2_log.specs.LogSteps.{read, with_sent, with_reported, with_unreturned}
-use Rattle.h2_log.specs.LogSteps.{with_credit_returned, with_verdict, with_step, with_frame, used}
-use Rattle.h2_log.specs.LogCalls.{opened, called, with_items, refused_with, before_put_out}
-use Rattle.h2_log.specs.LogCalls.{with_call, MayAnswer, accepts, refuses, lacks, fails}
-use Rattle.h2_log.specs.Histories.{IsLog, begins, took_some, took_one, met_fault, ran_out_of_memory}
-use Rattle.h2_log.specs.Histories.{reported_one, called_one}
+use Rattle.h2_log.specs.ItemRules.{replies_to}
+use Rattle.h2_log.specs.CallRules.{conditions, items_of, answer_of, refusal_of, data_items}
+use Rattle.h2_log.specs.CallRules.{data_frames}
+use Rattle.h2_log.specs.LogSteps.{read, with_sent}
+use Rattle.h2_log.specs.LogCalls.{opened, called}
+use Rattle.h2_log.specs.Histories.{IsLog}
 use Rattle.h2_log.proofs.StreamLemmas.{stream_of_log}
 use Rattle.h2_log_laws.proofs.CallConditions.{first_none, neither_one}
-use Rattle.h2_log_laws.proofs.LogGrowth.{grows_call}
+use Rattle.h2_log_laws.proofs.LogGrowth.{grows_wrote}
 use Rattle.h2_log_laws.proofs.LogHistory.{any_either}
+use Rattle.h2_log_laws.proofs.LogInduction.{IsLogInvariant, kept_by_logs}
 use Rattle.h2_log_laws.proofs.ReaderStates.{active_parts}
 use Rattle.h2_machine_laws.proofs.GoAwaysSent.{active_processed}
 
@@ -100,17 +92,6 @@ unfolding greatest_processed
 processed_more [] reported = omega arith
 processed_more (event ∷ events) reported = omega (arith, processed_more events reported)
 
-reports_below : (log : Log) (events : List Event) → IsBelow log
-    → IsBelow (with_reported log events)
-unfolding with_reported
-reports_below log [] is = is
-reports_below log (event ∷ events) is = λ i here.
-    let old = is i here in
-    record {
-      low = omega (arith, old.low, processed_more (event ∷ events) log.reported);
-      below = old.below;
-    }
-
 -- Items that are no part of a message and no GOAWAY fit.
 abbrev AreQuiet : List Item → Type 0
 AreQuiet items = (i : ℕ) → (list_any (speaks i) items ≡ false)
@@ -128,22 +109,10 @@ wrote_quiet : (log : Log) (items : List Item) → AreQuiet items → IsBelow log
     → IsBelow (with_sent log items)
 wrote_quiet log items quiet is = wrote_below log items (quiet_fits _ log.sent items quiet) is
 
--- What is unreturned.
+-- Credit is quiet.
 update_quiet : (count : ℕ) → AreQuiet (alone (WindowUpdate 0 count) ∷ [])
 unfolding speaks is_goaway_below
 update_quiet count i = (refl, refl)
-
-unreturned_by : (more : ℕ) (log : Log) (b : Bool) → IsBelow log
-    → IsBelow (if b then with_credit_returned (record log { unreturned = log.unreturned + more })
-    else record log { unreturned = log.unreturned + more })
-unreturned_by more log true is =
-    wrote_quiet (record log { unreturned = 0 }) _ (update_quiet (log.unreturned + more)) is
-unreturned_by more log false is = is
-
-unreturned_below : (more : ℕ) (log : Log) → IsBelow log → IsBelow (with_unreturned more log)
-unfolding with_unreturned
-unreturned_below more log is =
-    unreturned_by more log (nat_lt 0 more && nat_lt (waiting log) full_output) is
 
 -- Replies are quiet.
 replies_quiet : (verdict : Verdict) (item : Item) → AreQuiet (replies_to verdict item)
@@ -157,41 +126,6 @@ replies_quiet NoEvent (alone (Settings false pairs)) i = (refl, refl)
 replies_quiet NoEvent (alone (Ping true octets)) i = (refl, refl)
 replies_quiet NoEvent (alone (Ping false octets)) i = (refl, refl)
 replies_quiet NoEvent (alone frame) i = (refl, refl)
-
--- An item, by its verdict, where the connection stays up.
-replied_below : (log : Log) (decoded : Option Decoded) (item : Item) (verdict : Verdict)
-    → IsBelow log → IsBelow (with_sent (read log decoded item) (replies_to verdict item))
-replied_below log decoded item verdict is =
-    wrote_quiet (read log decoded item) (replies_to verdict item) (replies_quiet verdict item) is
-
-verdict_below : (log : Log) (decoded : Option Decoded) (item : Item) (verdict : Verdict)
-    → (with_verdict log decoded item verdict).failed ≡ None → IsBelow log
-    → IsBelow (with_verdict log decoded item verdict)
-unfolding with_verdict
-verdict_below log decoded item (ConnectionFault code) up is = absurd (not_some code up)
-verdict_below log decoded item (StreamFault code) up is =
-    reports_below _ _ (unreturned_below _ _ (replied_below log decoded item (StreamFault code) is))
-verdict_below log decoded item NoEvent up is =
-    reports_below _ _ (unreturned_below _ _ (replied_below log decoded item NoEvent is))
-verdict_below log decoded item Reported up is =
-    reports_below _ _ (unreturned_below _ _ (replied_below log decoded item Reported is))
-
-step_below : (log : Log) (decoded : Option Decoded) (step : FrameStep)
-    → (with_step log decoded step).failed ≡ None → IsBelow log
-    → IsBelow (with_step log decoded step)
-unfolding with_step
-step_below log decoded (fails_with code) up is = absurd (not_some code up)
-step_below log decoded (begins_block begun) up is = is
-step_below log decoded (completes item) up is =
-    verdict_below (record log { begun = None }) decoded item _ up is
-
-frame_below : (log : Log) (decoded : Option Decoded) (frame : Frame)
-    → (with_frame log decoded frame).failed ≡ None → IsBelow log
-    → IsBelow (with_frame log decoded frame)
-unfolding with_frame
-frame_below log decoded frame up is =
-    step_below (record log { frames = log.frames ++ frame ∷ [] }) decoded
-    (frame_step (log_view log) frame) up is
 
 -- DATA of one stream is of no other, and is no GOAWAY.
 record IsData (id : ℕ) (items : List Item) : Type 0 where
@@ -346,68 +280,6 @@ items_fit log SendGoAway server none = goaway_fits log server.server
 items_fit log (PutOut count) server none = quiet_fits _ _ _ (λ i. (refl, refl))
 items_fit log (ChangeSettings values) server none = quiet_fits _ _ _ (λ i. (refl, refl))
 
--- A call that is accepted, where the connection stays up.
-written_below : (log : Log) (act : Act) → IsServer log → refusal_of (log_view log) act ≡ None
-    → IsBelow log → IsBelow (with_items log act (answer_of (log_view log) act))
-unfolding with_items
-written_below log act server none is =
-    unreturned_below _ _ (wrote_below (called log act (answer_of (log_view log) act)) _
-    (items_fit log act server none) is)
-
-refused_below : (log : Log) (id code : ℕ) (fault : Option Code)
-    → (refused_with log (Refuse id code) Done fault).failed ≡ None
-    → IsBelow (with_items log (Refuse id code) Done)
-    → IsBelow (refused_with log (Refuse id code) Done fault)
-unfolding refused_with
-refused_below log id code (Some fault) up is =
-    absurd (not_some fault up)
-refused_below log id code None up is = is
-
-ready_by : (log : Log) (b : Bool) → IsBelow log
-    → IsBelow (if b then with_credit_returned log else log)
-ready_by log true is =
-    wrote_quiet (record log { unreturned = 0 }) _ (update_quiet log.unreturned) is
-ready_by log false is = is
-
-ready_below : (log : Log) → IsBelow log → IsBelow (before_put_out log)
-unfolding before_put_out
-ready_below log is = ready_by log (returns_before_put_out (log_view log)) is
-
-accepted_below : (log : Log) (act : Act) → IsServer log → refusal_of (log_view log) act ≡ None
-    → (with_call log act (answer_of (log_view log) act)).failed ≡ None → IsBelow log
-    → IsBelow (with_call log act (answer_of (log_view log) act))
-unfolding with_call
-accepted_below log (Open fields end) server none up is =
-    written_below log (Open fields end) server none is
-accepted_below log (SendFields id fields end) server none up is =
-    written_below log (SendFields id fields end) server none is
-accepted_below log (SendData id octets end) server none up is =
-    written_below log (SendData id octets end) server none is
-accepted_below log (Release id count) server none up is =
-    written_below log (Release id count) server none is
-accepted_below log (ResetStream id code) server none up is =
-    written_below log (ResetStream id code) server none is
-accepted_below log (Refuse id code) server none up is =
-    refused_below log id code (refuse_fault (log_view log) code) up
-    (written_below log (Refuse id code) server none is)
-accepted_below log (SendPing octets) server none up is =
-    written_below log (SendPing octets) server none is
-accepted_below log SendGoAway server none up is = written_below log SendGoAway server none is
-accepted_below log (PutOut count) server none up is =
-    ready_below (called log (PutOut count) (answer_of (log_view log) (PutOut count))) is
-accepted_below log (ChangeSettings values) server none up is =
-    written_below log (ChangeSettings values) server none is
-
-call_below : (log : Log) (act : Act) (answer : Answer) → IsServer log → MayAnswer log act answer
-    → (with_call log act answer).failed ≡ None → IsBelow log → IsBelow (with_call log act answer)
-unfolding with_call
-call_below log act answer server (accepts none same) up is =
-    rw same (accepted_below log act server none (rw same at up) is)
-call_below log act answer server (refuses refusal condition same) up is = rw same is
-call_below log act answer server (lacks none may same) up is = rw same is
-call_below log act answer server (fails none may same) up is =
-    absurd (not_some InternalError (rw same at up))
-
 -- A new end has sent no part of a message.
 opened_below : (role : Role) (values : Values) → IsBelow (opened role values)
 unfolding opened with_sent speaks
@@ -428,22 +300,40 @@ server_keeps values log is up =
       };
     }
 
+-- Each change of a server keeps it, as long as the server is up.
+keeps_below : (values : Values)
+    → IsLogInvariant Server values (λ log. log.failed ≡ None → IsBelow log)
+keeps_below values =
+    record {
+      opening = λ in_range up. opened_below Server values;
+      used = λ log octets unparsed is. is;
+      framed = λ log frames is. is;
+      begun = λ log begun is. is;
+      replied = λ log decoded item verdict replies is up.
+          wrote_quiet (read log decoded item) _ (replies_quiet verdict item)
+          (is ((grows_wrote (read log decoded item) _).up up));
+      reported = λ log event events may is up i here.
+          let old = is up i here in
+          record {
+            low = omega (arith, old.low, processed_more (event ∷ events) log.reported);
+            below = old.below;
+          };
+      unreturned = λ log count is. is;
+      returned = λ log returns is up.
+          wrote_quiet (record log { unreturned = 0 }) _ (update_quiet log.unreturned)
+          (is ((grows_wrote (record log { unreturned = 0 }) _).up up));
+      failed = λ log code last names is up. absurd (not_some code up);
+      called = λ log act answer is_log none is. is;
+      sent = λ log act accepted is up.
+          let answer = answer_of (log_view log) act in
+          let was = (grows_wrote (called log act answer) _).up up in
+          wrote_below (called log act answer) _
+          (items_fit log act (server_keeps values log accepted.is was) accepted.none) (is was);
+      given = λ log more is. is;
+    }
+
 -- Every server that is up.
 pub spoken_below : (values : Values) (log : Log) → IsLog Server values log → log.failed ≡ None
     → IsBelow log
-unfolding used
-spoken_below values _ (begins in_range) up = opened_below Server values
-spoken_below values _ (took_some {log = log} is takes octets unparsed read) up =
-    spoken_below values log is takes.up
-spoken_below values _ (took_one {log = log} is takes octets frame decoded read sees) up =
-    frame_below (used log octets []) decoded frame up (spoken_below values log is takes.up)
-spoken_below values _ (met_fault {log = log} is takes octets fault at) up =
-    absurd (not_some (wire_fault_code fault) up)
-spoken_below values _ (ran_out_of_memory {log = log} is was octets may) up =
-    absurd (not_some InternalError up)
-spoken_below values _ (reported_one {log = log} is was some) up =
-    reports_below _ _ (unreturned_below _ log (spoken_below values log is was))
-spoken_below values _ (called_one {log = log} is act answer typed may) up =
-    let was = (grows_call log act answer).up up in
-    call_below log act answer (server_keeps values log is was) may up
-    (spoken_below values log is was)
+spoken_below values log is =
+    kept_by_logs Server values (λ log. log.failed ≡ None → IsBelow log) (keeps_below values) log is

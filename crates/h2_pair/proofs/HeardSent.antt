@@ -1,42 +1,33 @@
 -- What an end was given for a stream is what the items that it has sent carry, with the lists of
 -- its calls.
-use Rattle.std.proofs.Common.{map as each, ◌≡◌, ℕ, zero, suc, ◌+◌, ◌<◌, ◌==◌, nat_le, nat_lt}
+use Rattle.std.proofs.Common.{map as each, ◌≡◌, ℕ, zero, suc, ◌<◌, ◌==◌, nat_le}
 use Rattle.std.proofs.Common.{◌&&◌, not, Bool, true, false, if◌then◌else◌, List, [], ◌∷◌, ◌++◌}
-use Rattle.std.proofs.Common.{length, take, drop, Option, Some, None, refl, sym, ap, ◌∙◌, arith}
+use Rattle.std.proofs.Common.{length, take, drop, None, refl, sym, ap, ◌∙◌, arith}
 use Rattle.std.proofs.Common.{append_assoc, append-nil, length-drop, inl, inr}
 use Rattle.std.specs.List.{list_any}
 use Rattle.std.proofs.lemmas.Bool.{both_ways, or_parts, leb-false, and_parts, not-true}
-use Rattle.std.proofs.lemmas.Bool.{cases_Bool}
-use Rattle.std.proofs.lemmas.Bool.{eqb-true}
+use Rattle.std.proofs.lemmas.Bool.{cases_Bool, eqb-true}
 use Rattle.std.proofs.lemmas.List.{map-append, take-append-drop, length-take}
 use Rattle.hpack.specs.declared.types.field.Field.{Field}
-use Rattle.h2_frame.specs.declared.code.Code.{Code}
-use Rattle.h2_frame.specs.declared.code.Code.TheVariants.{InternalError}
 use Rattle.h2_frame.specs.Codes.{code_number}
-use Rattle.h2_frame.specs.Frames.{Frame, Data, GoAway, WindowUpdate, Settings, Ping}
-use Rattle.h2_wire.specs.Faults.{wire_fault_code}
+use Rattle.h2_frame.specs.Frames.{Data, GoAway, WindowUpdate, Settings, Ping}
 use Rattle.h2_block.specs.Grouping.{Item, alone, block}
 use Rattle.h2_log.specs.declared.role.Role.{Role}
 use Rattle.h2_log.specs.declared.refusal.Refusal.{Refusal}
-use Rattle.h2_log.specs.Events.{Event}
 use Rattle.h2_log.specs.Acts.{Values, Act, Answer, Open, SendFields, SendData, Release, ResetStream}
 use Rattle.h2_log.specs.Acts.{Refuse, SendPing, SendGoAway, PutOut, ChangeSettings}
-use Rattle.h2_log.specs.Acts.{Done, OutOfMemory, Refused}
-use Rattle.h2_log.specs.Log.{Log, waiting, last_processed, max_payload_sent, max_payload_sent_by}
+use Rattle.h2_log.specs.Acts.{Count, Done, OutOfMemory, Refused}
+use Rattle.h2_log.specs.Log.{Log, max_payload_sent, max_payload_sent_by}
 use Rattle.h2_log.specs.LogView.{log_view}
 use Rattle.h2_log.specs.View.{ended_in}
 use Rattle.h2_log.specs.Verdicts.{Verdict, ConnectionFault, StreamFault, NoEvent, Reported}
-use Rattle.h2_log.specs.ItemRules.{Decoded, replies_to, FrameStep, fails_with, begins_block}
-use Rattle.h2_log.specs.ItemRules.{completes, frame_step}
-use Rattle.h2_log.specs.CallRules.{items_of, answer_of, refuse_fault}
-use Rattle.h2_log.specs.CallRules.{returns_before_put_out, data_items, data_frames}
-use Rattle.h2_log.specs.Limits.{full_output}
-use Rattle.h2_log.specs.LogSteps.{read, with_sent, with_reported, with_unreturned, with_failure}
-use Rattle.h2_log.specs.LogSteps.{with_credit_returned, with_verdict, with_step, with_frame, used}
-use Rattle.h2_log.specs.LogCalls.{opened, called, with_items, refused_with, before_put_out}
-use Rattle.h2_log.specs.LogCalls.{with_call, MayAnswer, accepts, refuses, lacks, fails}
-use Rattle.h2_log.specs.Histories.{IsLog, begins, took_some, took_one, met_fault, ran_out_of_memory}
-use Rattle.h2_log.specs.Histories.{reported_one, called_one}
+use Rattle.h2_log.specs.ItemRules.{replies_to}
+use Rattle.h2_log.specs.CallRules.{items_of, answer_of, data_items, data_frames}
+use Rattle.h2_log.specs.LogSteps.{read, with_sent}
+use Rattle.h2_log.specs.LogCalls.{opened, called}
+use Rattle.h2_log.specs.Histories.{IsLog}
+use Rattle.h2_log_laws.proofs.LogInduction.{IsLogInvariant, kept_by_logs, WritesNone, refused}
+use Rattle.h2_log_laws.proofs.LogInduction.{no_memory, fails_instead, puts_out}
 use Rattle.h2_end_laws.specs.Sendings.{lists_accepted}
 use Rattle.h2_pair.specs.Tokens.{Token, OctetToken, end_tokens, tokens_of_call}
 use Rattle.h2_pair.specs.Tokens.{tokens_sent}
@@ -71,46 +62,13 @@ more_untold i (item ∷ items) sent lists none =
     let parts = or_parts (carries item) (list_any carries items) none in
     one_untold i item (items ++ sent) lists parts.0 ∙ more_untold i items sent lists parts.1
 
--- Items that are written keep this, if none carries anything; so do events.
+-- Items that are written keep this, if none carries anything.
 wrote_told : (i : ℕ) (log : Log) (items : List Item) → list_any carries items ≡ false
     → AreTold i log → AreTold i (with_sent log items)
 unfolding with_sent
 wrote_told i log [] none is = is
 wrote_told i log (item ∷ items) none is =
     is ∙ sym (more_untold i (item ∷ items) log.sent (lists_accepted log.calls) none)
-
-reports_told : (i : ℕ) (log : Log) (events : List Event) → AreTold i log
-    → AreTold i (with_reported log events)
-unfolding with_reported
-reports_told i log [] is = is
-reports_told i log (event ∷ events) is = is
-
--- What is unreturned.
-update_untold : (count : ℕ) → list_any carries (alone (WindowUpdate 0 count) ∷ []) ≡ false
-unfolding carries
-update_untold count = refl
-
-unreturned_by : (i more : ℕ) (log : Log) (b : Bool) → AreTold i log
-    → AreTold i (if b then with_credit_returned (record log { unreturned = log.unreturned + more })
-    else record log { unreturned = log.unreturned + more })
-unreturned_by i more log true is =
-    wrote_told i (record log { unreturned = 0 }) _ (update_untold (log.unreturned + more)) is
-unreturned_by i more log false is = is
-
-unreturned_told : (i more : ℕ) (log : Log) → AreTold i log → AreTold i (with_unreturned more log)
-unfolding with_unreturned
-unreturned_told i more log is =
-    unreturned_by i more log (nat_lt 0 more && nat_lt (waiting log) full_output) is
-
--- A failure.
-goaway_untold : (last code : ℕ) → list_any carries (alone (GoAway last code []) ∷ []) ≡ false
-unfolding carries
-goaway_untold last code = refl
-
-failure_told : (i : ℕ) (code : Code) (last : ℕ) (log : Log) → AreTold i log
-    → AreTold i (with_failure code last log)
-failure_told i code last log is =
-    wrote_told i log _ (goaway_untold last (code_number code)) is
 
 -- Replies carry nothing.
 replies_untold : (verdict : Verdict) (item : Item)
@@ -125,42 +83,6 @@ replies_untold NoEvent (alone (Settings false pairs)) = refl
 replies_untold NoEvent (alone (Ping true octets)) = refl
 replies_untold NoEvent (alone (Ping false octets)) = refl
 replies_untold NoEvent (alone frame) = refl
-
--- An item that is read, and replied to.
-replied_told : (i : ℕ) (log : Log) (decoded : Option Decoded) (item : Item) (verdict : Verdict)
-    → AreTold i log
-    → AreTold i (with_sent (read log decoded item) (replies_to verdict item))
-replied_told i log decoded item verdict is =
-    wrote_told i (read log decoded item) (replies_to verdict item) (replies_untold verdict item) is
-
--- An item, by its verdict.
-verdict_told : (i : ℕ) (log : Log) (decoded : Option Decoded) (item : Item) (verdict : Verdict)
-    → AreTold i log → AreTold i (with_verdict log decoded item verdict)
-unfolding with_verdict
-verdict_told i log decoded item (ConnectionFault code) is = failure_told i code _ log is
-verdict_told i log decoded item (StreamFault code) is =
-    reports_told i _ _ (unreturned_told i _ _ (replied_told i log decoded item (StreamFault code)
-    is))
-verdict_told i log decoded item NoEvent is =
-    reports_told i _ _ (unreturned_told i _ _ (replied_told i log decoded item NoEvent is))
-verdict_told i log decoded item Reported is =
-    reports_told i _ _ (unreturned_told i _ _ (replied_told i log decoded item Reported is))
-
--- A frame.
-step_told : (i : ℕ) (log : Log) (decoded : Option Decoded) (step : FrameStep) → AreTold i log
-    → AreTold i (with_step log decoded step)
-unfolding with_step
-step_told i log decoded (fails_with code) is = failure_told i code (last_processed log) log is
-step_told i log decoded (begins_block begun) is = is
-step_told i log decoded (completes item) is =
-    verdict_told i (record log { begun = None }) decoded item _ is
-
-frame_told : (i : ℕ) (log : Log) (decoded : Option Decoded) (frame : Frame) → AreTold i log
-    → AreTold i (with_frame log decoded frame)
-unfolding with_frame
-frame_told i log decoded frame is =
-    step_told i (record log { frames = log.frames ++ frame ∷ [] }) decoded
-    (frame_step (log_view log) frame) is
 
 -- what octets of a body carry, by the test whether they are of the stream
 abbrev body_tokens : Bool → List ℕ → Bool → List Token
@@ -300,11 +222,9 @@ quiet_told : (i : ℕ) (log : Log) (act : Act) (answer : Answer)
     → list_any carries (items_of (log_view log) act answer) ≡ false
     → tokens_of_call i act answer ≡ []
     → lists_accepted ((act, answer) ∷ log.calls) ≡ lists_accepted log.calls → AreTold i log
-    → AreTold i (with_items log act answer)
-unfolding with_items
+    → AreTold i (with_sent (called log act answer) (items_of (log_view log) act answer))
 quiet_told i log act answer untold none lists is =
-    unreturned_told i _ _ (wrote_told i (called log act answer) _ untold
-    (called_told i log act answer none lists is))
+    wrote_told i (called log act answer) _ untold (called_told i log act answer none lists is)
 
 -- Where what a call writes carries the call's tokens.
 wrote_call : (i : ℕ) (log : Log) (act : Act) (answer : Answer) (items : List Item)
@@ -317,35 +237,6 @@ wrote_call i log act answer [] same is =
 wrote_call i log act answer (item ∷ items) same is =
     ap (λ (line : List Token). line ++ tokens_of_call i act answer) is ∙ sym same
 
-telling_call : (i : ℕ) (log : Log) (act : Act) (answer : Answer)
-    → tokens_of_items i (items_of (log_view log) act answer ++ log.sent)
-    (lists_accepted ((act, answer) ∷ log.calls))
-    ≡ tokens_of_items i log.sent (lists_accepted log.calls) ++ tokens_of_call i act answer
-    → AreTold i log → AreTold i (with_items log act answer)
-unfolding with_items
-telling_call i log act answer same is =
-    unreturned_told i _ _ (wrote_call i log act answer (items_of (log_view log) act answer) same is)
-
--- A stream that was refused.
-refused_told : (i : ℕ) (log : Log) (id code : ℕ) (fault : Option Code) → AreTold i log
-    → AreTold i (refused_with log (Refuse id code) Done fault)
-unfolding refused_with items_of lists_accepted tokens_of_call carries
-refused_told i log id code (Some fault) is =
-    failure_told i fault (last_processed log) (called log (Refuse id code) Done)
-    (called_told i log (Refuse id code) Done refl refl is)
-refused_told i log id code None is = quiet_told i log (Refuse id code) Done refl refl refl is
-
--- Output that is put out.
-ready_by : (i : ℕ) (log : Log) (b : Bool) → AreTold i log
-    → AreTold i (if b then with_credit_returned log else log)
-ready_by i log true is =
-    wrote_told i (record log { unreturned = 0 }) _ (update_untold log.unreturned) is
-ready_by i log false is = is
-
-ready_told : (i : ℕ) (log : Log) → AreTold i log → AreTold i (before_put_out log)
-unfolding before_put_out
-ready_told i log is = ready_by i log (returns_before_put_out (log_view log)) is
-
 -- Nor does what a release writes carry anything.
 updates_untold : (id count : ℕ) (ended : Bool) → list_any carries (alone
     (WindowUpdate 0 count) ∷ (if ended then [] else alone (WindowUpdate id count) ∷ [])) ≡ false
@@ -355,14 +246,15 @@ updates_untold id count false = refl
 
 -- A call that is accepted.
 accepted_told : (i : ℕ) (log : Log) (act : Act) → AreTold i log
-    → AreTold i (with_call log act (answer_of (log_view log) act))
-unfolding with_call items_of lists_accepted tokens_of_call carries tokens_of_items item_tokens
+    → AreTold i (with_sent (called log act (answer_of (log_view log) act))
+    (items_of (log_view log) act (answer_of (log_view log) act)))
+unfolding items_of lists_accepted tokens_of_call carries tokens_of_items item_tokens
 accepted_told i log (Open fields end) is =
-    telling_call i log (Open fields end) (answer_of (log_view log) (Open fields end)) refl is
+    wrote_call i log (Open fields end) (answer_of (log_view log) (Open fields end)) _ refl is
 accepted_told i log (SendFields id fields end) is =
-    telling_call i log (SendFields id fields end) Done refl is
+    wrote_call i log (SendFields id fields end) Done _ refl is
 accepted_told i log (SendData id octets end) is =
-    telling_call i log (SendData id octets end) (answer_of (log_view log) (SendData id octets end))
+    wrote_call i log (SendData id octets end) (answer_of (log_view log) (SendData id octets end)) _
     (items_told i (max_payload_sent log) id octets end _ log.sent (lists_accepted log.calls)
     (some_payload log.received)) is
 accepted_told i log (Release id count) is =
@@ -370,14 +262,12 @@ accepted_told i log (Release id count) is =
     ((log_view log).stream id))) refl refl is
 accepted_told i log (ResetStream id code) is =
     quiet_told i log (ResetStream id code) Done refl refl refl is
-accepted_told i log (Refuse id code) is =
-    refused_told i log id code (refuse_fault (log_view log) code) is
+accepted_told i log (Refuse id code) is = quiet_told i log (Refuse id code) Done refl refl refl is
 accepted_told i log (SendPing octets) is =
     quiet_told i log (SendPing octets) Done refl refl refl is
 accepted_told i log SendGoAway is = quiet_told i log SendGoAway Done refl refl refl is
 accepted_told i log (PutOut count) is =
-    ready_told i (called log (PutOut count) (answer_of (log_view log) (PutOut count)))
-    (called_told i log (PutOut count) (answer_of (log_view log) (PutOut count)) refl refl is)
+    quiet_told i log (PutOut count) (answer_of (log_view log) (PutOut count)) refl refl refl is
 accepted_told i log (ChangeSettings values) is =
     quiet_told i log (ChangeSettings values) Done refl refl refl is
 
@@ -412,45 +302,46 @@ failed_nothing i SendGoAway calls = (refl, refl)
 failed_nothing i (PutOut count) calls = (refl, refl)
 failed_nothing i (ChangeSettings values) calls = (refl, refl)
 
--- A call.
-refused_call : (i : ℕ) (log : Log) (act : Act) (refusal : Refusal) → AreTold i log
-    → AreTold i (called log act (Refused refusal))
-refused_call i log act refusal is =
+-- A call that writes no items of its own.
+silent_told : (i : ℕ) (log : Log) (act : Act) (answer : Answer) → WritesNone act answer
+    → AreTold i log → AreTold i (called log act answer)
+unfolding lists_accepted tokens_of_call
+silent_told i log _ _ (refused act refusal) is =
     let same = refused_nothing i act refusal log.calls in
     called_told i log act (Refused refusal) same.0 same.1 is
-
-call_told : (i : ℕ) (log : Log) (act : Act) (answer : Answer) → AreTold i log
-    → MayAnswer log act answer → AreTold i (with_call log act answer)
-unfolding with_call
-call_told i log act answer is (accepts none same) = rw same (accepted_told i log act is)
-call_told i log act answer is (refuses refusal condition same) =
-    rw same (refused_call i log act refusal is)
-call_told i log act answer is (lacks none may same) = rw same (refused_call i log act _ is)
-call_told i log act answer is (fails none may same) =
+silent_told i log _ _ (no_memory act) is =
     let nothing = failed_nothing i act log.calls in
-    rw same (failure_told i InternalError (last_processed log) (called log act OutOfMemory)
-    (called_told i log act OutOfMemory nothing.0 nothing.1 is))
+    called_told i log act OutOfMemory nothing.0 nothing.1 is
+silent_told i log _ _ (fails_instead id code) is =
+    called_told i log (Refuse id code) Done refl refl is
+silent_told i log _ _ (puts_out count given) is =
+    called_told i log (PutOut count) (Count given) refl refl is
 
--- A new log.
-begins_told : (i : ℕ) (role : Role) (values : Values) → AreTold i (opened role values)
+-- What a log sends carries what it was given.
+sends_told : (i : ℕ) (role : Role) (values : Values) → IsLogInvariant role values (AreTold i)
 unfolding opened with_sent lists_accepted tokens_sent tokens_of_items item_tokens frame_tokens
-begins_told i role values = refl
+    carries
+sends_told i role values =
+    record {
+      opening = λ in_range. refl;
+      used = λ log octets unparsed is. is;
+      framed = λ log frames is. is;
+      begun = λ log begun is. is;
+      replied = λ log decoded item verdict replies is.
+          wrote_told i (read log decoded item) _ (replies_untold verdict item) is;
+      reported = λ log event events may is. is;
+      unreturned = λ log count is. is;
+      returned = λ log returns is. wrote_told i (record log { unreturned = 0 })
+          (alone (WindowUpdate 0 log.unreturned) ∷ []) refl is;
+      failed = λ log code last names is.
+          wrote_told i log (alone (GoAway last (code_number code) []) ∷ []) refl is;
+      called = λ log act answer is_log none is. silent_told i log act answer none is;
+      sent = λ log act accepted is. accepted_told i log act is;
+      given = λ log more is. is;
+    }
 
 -- Every log.
 pub tokens_carried : (i : ℕ) (role : Role) (values : Values) (log : Log) → IsLog role values log
     → tokens_sent i log.calls ≡ tokens_of_items i log.sent (lists_accepted log.calls)
-unfolding used
-tokens_carried i role values _ (begins in_range) = begins_told i role values
-tokens_carried i role values _ (took_some {log = log} is takes octets unparsed read) =
-    tokens_carried i role values log is
-tokens_carried i role values _ (took_one {log = log} is takes octets frame decoded read sees) =
-    frame_told i (used log octets []) decoded frame (tokens_carried i role values log is)
-tokens_carried i role values _ (met_fault {log = log} is takes octets fault at) =
-    failure_told i (wire_fault_code fault) _ (used log octets []) (tokens_carried i role values
-    log is)
-tokens_carried i role values _ (ran_out_of_memory {log = log} is up octets may) =
-    failure_told i InternalError _ (used log octets []) (tokens_carried i role values log is)
-tokens_carried i role values _ (reported_one {log = log} is up some) =
-    reports_told i _ _ (unreturned_told i _ log (tokens_carried i role values log is))
-tokens_carried i role values _ (called_one {log = log} is act answer typed may) =
-    call_told i log act answer (tokens_carried i role values log is) may
+tokens_carried i role values log is =
+    kept_by_logs role values (AreTold i) (sends_told i role values) log is

@@ -1,24 +1,16 @@
 -- How much output of one end waits: what calls add before it is full, and replies.
-use Rattle.std.proofs.Common.{◌≡◌, ℕ, suc, ◌+◌, ◌-◌, ◌≤◌, ◌<◌, ◌==◌, min, nat_lt, nat_le, not, ◌&&◌}
-use Rattle.std.proofs.Common.{Bool, true, false, if◌then◌else◌, List, [], ◌∷◌, ◌++◌, length, take}
-use Rattle.std.proofs.Common.{Option, Some, None, refl, sym, ◌∙◌, ap, arith, length-append}
-use Rattle.std.proofs.Common.{length-take, ltb-true, ltb-false, leb-false}
-use Rattle.hpack.specs.declared.types.field.Field.{Field}
-use Rattle.hpack.specs.Lists.{list_size}
-use Rattle.hpack.specs.Choice.{block_of}
-use Rattle.h2_frame.specs.declared.code.Code.{Code}
-use Rattle.h2_frame.specs.Codes.{code_number}
-use Rattle.h2_frame.specs.Frames.{Frame, Data, Headers, Priority, Reset, Settings, Ping, GoAway}
-use Rattle.h2_frame.specs.Frames.{WindowUpdate, Continuation, Unknown}
-use Rattle.h2_block.specs.Grouping.{Item, alone, block}
+use Rattle.std.proofs.Common.{◌≡◌, ℕ, ◌+◌, ◌≤◌, ◌<◌, true, List, [], ◌∷◌, length, refl, ◌∙◌, arith}
+use Rattle.std.proofs.Common.{length-append}
+use Rattle.h2_frame.specs.Frames.{WindowUpdate}
+use Rattle.h2_block.specs.Grouping.{Item, alone}
 use Rattle.h2_log.specs.Items.{encoding_of_items}
 use Rattle.h2_log.specs.Events.{Event}
-use Rattle.h2_log.specs.Limits.{full_output, max_list, max_frame_size_sent}
+use Rattle.h2_log.specs.Limits.{full_output}
 use Rattle.h2_log.specs.Log.{Log, output, waiting, max_payload_sent}
-use Rattle.h2_log.specs.LogView.{log_view}
 use Rattle.h2_log.specs.LogSteps.{with_sent, with_reported, with_credit_returned, with_unreturned}
 use Rattle.h2_log.proofs.SentPayloads.{most_is_limit}
 use Rattle.h2_log_laws.proofs.ItemSizes.{size_of, size-append, size-update}
+use Rattle.h2_log_laws.proofs.LogInduction.{IsKeptByCredit, kept_by_credit}
 use Rattle.h2_pair.proofs.WaitingReplies.{is_reply, reply_size, replies_left, replies_fall}
 
 -- what calls may add to an output that isn't full, and what waits then
@@ -103,26 +95,18 @@ fits_returned before log space fits =
     space (omega (arith, size-update 0 log.unreturned))
     (fits_same before log (record log { unreturned = 0 }) refl refl refl fits)
 
--- By the test whether it is.
-unreturned_by : (before more : ℕ) (log : Log) (some space : Bool)
-    → nat_lt (waiting log) full_output ≡ space → Fits before log
-    → Fits before (if some && space then with_credit_returned
-    (record log { unreturned = log.unreturned + more })
-    else record log { unreturned = log.unreturned + more })
-unreturned_by before more log true true is fits =
-    fits_returned before (record log { unreturned = log.unreturned + more })
-    (has_space log (ltb-true (waiting log) full_output is))
-    (fits_same before log (record log { unreturned = log.unreturned + more }) refl refl refl fits)
-unreturned_by before more log true false is fits = fits_same before log _ refl refl refl fits
-unreturned_by before more log false true is fits = fits_same before log _ refl refl refl fits
-unreturned_by before more log false false is fits = fits_same before log _ refl refl refl fits
+-- So credit keeps it.
+pub fits_credit : (before : ℕ) → IsKeptByCredit (Fits before)
+fits_credit before =
+    record {
+      unreturned = λ log count. fits_same before log _ refl refl refl;
+      returned = λ log returns. fits_returned before log (has_space log returns.space);
+    }
 
 -- What is unreturned.
 pub fits_unreturned : (before more : ℕ) (log : Log) → Fits before log
     → Fits before (with_unreturned more log)
-unfolding with_unreturned
-fits_unreturned before more log fits =
-    unreturned_by before more log (nat_lt 0 more) (nat_lt (waiting log) full_output) refl fits
+fits_unreturned before = kept_by_credit (Fits before) (fits_credit before)
 
 -- Output is given out.
 pub fits_given : (before : ℕ) (log : Log) (more : ℕ) → Fits before log

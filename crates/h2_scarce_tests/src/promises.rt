@@ -6,6 +6,7 @@ use h2_flow::{Settings, StreamState, Window};
 use h2_frame::{FrameRef, write_ref};
 use h2_log::Role;
 use h2_wire::Cutter;
+use hpack_text::{huff_read, read_string};
 use std::alloc::{AllocError, Global};
 
 /// A whole frame of each type, whatever a connection makes of it.
@@ -92,7 +93,7 @@ impl Scenario for Passing {
     }
 }
 
-/// What `h2_flow` decides.
+/// What `h2_flow` decides, and texts that have no octets.
 #[derive(Drop)]
 struct Flow;
 
@@ -122,8 +123,16 @@ fn note_states(record: &mut Record) {
     record.check(state.end_out().is_ok() && state.end_out().is_err() && state.closed());
 }
 
+/// Notes texts that have no octets.
+fn note_texts(record: &mut Record) {
+    record.check(huff_read(record.alloc, b"").is_ok());
+    record.check(read_string(record.alloc, b"\x00").is_ok());
+    record.check(read_string(record.alloc, b"\x80").is_ok());
+}
+
 impl Scenario for Flow {
     fn run(&mut self, record: &mut Record) {
+        note_texts(record);
         note_windows(record);
         note_settings(record);
         note_states(record);
@@ -147,7 +156,7 @@ fn passing_keeps(alloc: Global) -> Result<bool, AllocError> {
     Ok(takes_no_memory(alloc, &mut new_passing(alloc)?, &mut new_passing(alloc)?))
 }
 
-/// Whether `h2_flow` takes no memory.
+/// Whether `h2_flow` and texts that have no octets take no memory.
 fn flow_keeps(alloc: Global) -> bool {
     takes_no_memory(alloc, &mut Flow, &mut Flow)
 }
@@ -166,7 +175,8 @@ fn a_frame_without_memory(rt: HostRuntime) {
     assert!(rt; passing_keeps(rt.alloc()).unwrap_or(false));
 }
 
+// rule: HPACK 5.2 (own) A text without octets is read without memory
 #[test]
-fn windows_and_settings_without_memory(rt: HostRuntime) {
+fn windows_settings_and_texts_without_memory(rt: HostRuntime) {
     assert!(rt; flow_keeps(rt.alloc()));
 }

@@ -64,6 +64,7 @@ pub fn huff_write(text: &[u8], out: &mut Vec<u8>) -> Result<(), TextFault>
 // contract: HPACK 5.2 Padding of more than seven bits is a fault
 // contract: HPACK 5.2 Padding of others than ones is a fault
 // contract: HPACK 5.2 The code of EOS inside a string is a fault
+// rule (contract): HPACK 5.2 (own) A text without octets is read without memory
 /// Reads all of `octets` as a text in the Huffman code.
 ///
 /// # Errors
@@ -71,7 +72,7 @@ pub fn huff_write(text: &[u8], out: &mut Vec<u8>) -> Result<(), TextFault>
 /// The fault that comes first from the left: [`TextFault::EndSymbol`] where the code of EOS, the
 /// end symbol, follows the last octet that can be read, and [`TextFault::BadPadding`] where
 /// anything else than at most seven ones follows it. [`TextFault::Memory`] comes where an
-/// allocation is refused.
+/// allocation is refused, and not where there are no octets.
 pub fn huff_read(alloc: Global, octets: &[u8]) -> Result<Vec<u8>, TextFault>
     ensures ok { IfOk result (λ text. Huff text.items octets.now) }
 
@@ -79,6 +80,7 @@ pub fn huff_read(alloc: Global, octets: &[u8]) -> Result<Vec<u8>, TextFault>
     ensures only { (text : List ℕ) → Huff text octets.now
         → MatchResult result (λ read. read.items ≡ text) (λ fault. fault ≡ TextFault.Memory) }
     ensures fault { IfErr result (HuffFault octets.now) }
+    ensures none { IfErr result (λ fault. fault ≡ TextFault.Memory → 0 < length octets.now) }
 {
     let mut text = Vec::new(alloc);
     append_text(octets, &mut text)?;

@@ -21,6 +21,7 @@ const BIT_H: u8 = 128;
 // contract: HPACK 5.2 A string is the bit H, its length and its octets
 // rule: HPACK 5.2 A string is the bit H, its length and its octets
 // contract: HPACK 5.2 Octets that end inside a string are a fault
+// rule (contract): HPACK 5.2 (own) A text without octets is read without memory
 /// Reads the string at the start of `octets`, and answers its text and how many octets encode it.
 /// Octets may follow.
 ///
@@ -29,7 +30,8 @@ const BIT_H: u8 = 128;
 /// [`TextFault::Truncated`] where the octets end inside the string, whatever its text is, and
 /// [`TextFault::TooLong`] as [`read_int`](crate::read_int) has it for the length; then the faults
 /// of a Huffman-encoded string, as [`huff_read`](crate::huff_read) has them. [`TextFault::Memory`]
-/// comes where an allocation is refused, and only where the complete string is there.
+/// comes where an allocation is refused, and only where the complete string is there and holds an
+/// octet at least.
 pub fn read_string(alloc: Global, octets: &[u8]) -> Result<(Vec<u8>, usize), TextFault>
     ensures ok { IfOk result (λ read. (read.1 ≤ length octets.now)
         × Str read.0.items (take read.1 octets.now)) }
@@ -40,6 +42,7 @@ pub fn read_string(alloc: Global, octets: &[u8]) -> Result<(Vec<u8>, usize), Tex
         → MatchResult result (λ read. (read.0.items ≡ text) × (read.1 ≡ count))
         (λ fault. fault ≡ TextFault.Memory) }
     ensures fault { IfErr result (StrFault octets.now) }
+    ensures room { IfErr result (λ fault. fault ≡ TextFault.Memory → LacksRoom octets.now 0 0) }
 {
     let mut text = Vec::new(alloc);
     let count = leading_string(octets, &mut text)?;

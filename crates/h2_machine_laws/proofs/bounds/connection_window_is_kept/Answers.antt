@@ -1,6 +1,6 @@
 -- By the lemmas on each step.
-use Rattle.h2_machine_laws.proofs.ConservedByCalls.{new_holds, call_holds}
-use Rattle.h2_machine_laws.proofs.ConservedByFrames.{frame_holds}
+use Rattle.h2_machine_laws.proofs.ConservedBySteps.{new_holds, call_holds}
+use Rattle.h2_machine_laws.proofs.ConservedBySteps.{frame_holds}
 use Rattle.h2_machine_laws.proofs.ConservedBySteps.{holds, is_whole, ended, lacks_none}
 use Rattle.h2_machine.specs.Machine.{new_end, after_frame, after_call, fail, close_unprocessed}
 use Rattle.h2_machine_laws.proofs.bounds.connection_window_is_kept.Goals as goal

@@ -2,8 +2,8 @@
 use Rattle.std.proofs.Common.{arith}
 use Rattle.std.specs.FinMap as map
 use Rattle.h2_machine.specs.Machine.{new_end, after_frame, after_call}
-use Rattle.h2_machine_laws.proofs.CountedByCalls.{new_counts, call_counts}
-use Rattle.h2_machine_laws.proofs.CountedByFrames.{frame_counts}
+use Rattle.h2_machine_laws.proofs.CountedBySteps.{new_counts, call_counts}
+use Rattle.h2_machine_laws.proofs.CountedBySteps.{frame_counts}
 use Rattle.h2_machine_laws.proofs.CountedBySteps.{counted, is_counted}
 use Rattle.h2_machine_laws.proofs.CountedUnprocessed.{unprocessed_counts}
 use Rattle.h2_machine_laws.proofs.EntryCounts.{active_counted, reset_counted, all_counted}

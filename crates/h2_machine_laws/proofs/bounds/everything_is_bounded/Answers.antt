@@ -1,6 +1,6 @@
 -- By the lemmas on each step.
-use Rattle.h2_machine_laws.proofs.BoundsOfCalls.{new_bounded, call_bounded}
-use Rattle.h2_machine_laws.proofs.BoundsOfFrames.{frame_bounded}
+use Rattle.h2_machine_laws.proofs.BoundsOfSteps.{new_bounded, call_bounded}
+use Rattle.h2_machine_laws.proofs.BoundsOfSteps.{frame_bounded}
 use Rattle.h2_machine_laws.proofs.BoundsOfSteps.{is_up, is_bounded, failed_bounded, ended_up}
 use Rattle.h2_machine.specs.Machine.{close_unprocessed}
 use Rattle.h2_machine_laws.proofs.bounds.everything_is_bounded.Goals as goal

@@ -1,7 +1,7 @@
 -- By the lemmas on each step.
 use Rattle.h2_machine.specs.Machine.{new_end, after_call, fail, close_unprocessed}
-use Rattle.h2_machine_laws.proofs.RangesOfCalls.{new_fits, call_fits}
-use Rattle.h2_machine_laws.proofs.RangesOfFrames.{frame_in_range}
+use Rattle.h2_machine_laws.proofs.RangesOfSteps.{new_fits, call_fits}
+use Rattle.h2_machine_laws.proofs.RangesOfSteps.{frame_in_range}
 use Rattle.h2_machine_laws.proofs.RangesOfSteps.{fits, are_in_range, closed_fits}
 use Rattle.h2_machine_laws.proofs.bounds.values_are_in_range.Goals as goal
 

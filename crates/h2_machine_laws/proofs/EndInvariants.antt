@@ -1,0 +1,121 @@
+-- What each small change of an end keeps.
+use Rattle.std.proofs.Common.{◌≡◌, ◌≢◌, ℕ, ◌+◌, ◌-◌, ◌<◌, ◌≤◌, Bool, List, length, drop, Option}
+use Rattle.std.proofs.Common.{Some, None, is_some}
+use Rattle.std.specs.FinMap as map
+use Rattle.hpack.specs.Blocks.{Block}
+use Rattle.hpack.specs.Lists.{EncoderState}
+use Rattle.hpack.specs.Written.{IsValidEncoder}
+use Rattle.h2_frame.specs.declared.code.Code.{Code}
+use Rattle.h2_block.specs.Grouping.{Item, alone, block, Begun, max_block_octets}
+use Rattle.h2_log.specs.Acts.{Values, AreInRange}
+use Rattle.h2_log.specs.ItemRules.{Decoded, settings_fault}
+use Rattle.h2_log.specs.Limits.{max_resets}
+use Rattle.h2_log.specs.States.{greatest_number}
+use Rattle.h2_log.specs.View.{StreamView}
+use Rattle.h2_log.specs.Windows.{greatest_window}
+use Rattle.h2_machine.specs.End.{end_view, End, ConnectionWindows, active_entry, reset_entry}
+use Rattle.h2_machine.specs.End.{stream_at, owed_entry}
+use Rattle.h2_machine.specs.Machine.{with_begun, with_table_after, with_encoder, queue_output}
+use Rattle.h2_machine.specs.Machine.{set_stream, is_one, fail, new_stream, apply_settings}
+use Rattle.h2_machine.specs.Machine.{apply_own_settings}
+use Rattle.h2_machine.specs.Represents.{NoneAboveHighest}
+use Rattle.h2_machine_laws.specs.Bounds.{max_active}
+use Rattle.h2_machine_laws.proofs.RulesAtEnds.{HasSpace}
+use Rattle.h2_machine_laws.proofs.StreamRanges.{WindowsFit}
+
+-- What is known of an item: a block's stream has 31 bits, and the block is what was seen of it.
+abbrev pub Known : End → Option Decoded → Item → Type 0
+Known e decoded (block i end octets) =
+    (i ≤ greatest_number) × ((one : Decoded) → decoded ≡ Some one
+    → Block e.reading.table e.own.in_force.table_limit octets one.fields one.after)
+Known e decoded (alone frame) = Unit {0}
+
+-- an end without what it keeps of an active stream
+abbrev pub without_entry : End → ℕ → End
+without_entry e i = record e {
+  streams = record e.streams {
+    entries = map.remove e.streams.entries i;
+    active_count = e.streams.active_count - 1;
+  };
+}
+
+-- A stream that is in range stays so where it is changed.
+abbrev pub StaysInRange : End → ℕ → (stream next : StreamView) → Type 0
+StaysInRange e i stream next =
+    i ≢ 0 → e.peer.initial_window ≤ greatest_window
+    → e.own.in_force.initial_window ≤ greatest_window
+    → WindowsFit e.peer.initial_window e.own.in_force.initial_window stream
+    → WindowsFit e.peer.initial_window e.own.in_force.initial_window next
+
+-- What each small change of an end keeps. `P more e` holds of an end that hasn't failed, but for so
+-- many octets of its receive window that are still to be returned, and `Q` of any end. Of a call
+-- it may need that its arguments are within their types, and of a frame what was seen of it: then
+-- `Typed` and `Seen` are what always holds, and else what never does.
+pub record IsEndInvariant (Typed Seen : Type 0) (P : ℕ → End → Type 0) (Q : End → Type 0)
+    : Type 0 where
+  pub up : (e : End) → e.failed ≡ None → Q e → P 0 e
+  pub kept : (e : End) → P 0 e → Q e
+  pub failed : (e : End) (code : Code) (last : ℕ) → P 0 e → Q (fail code last e)
+  pub put_out : (e : End) (count : ℕ) → Q e
+      → Q (record e { output = record e.output { waiting = drop count e.output.waiting } })
+  pub joined : (e : End) (more : ℕ) (items : List Item) → (Typed → HasSpace e items) → P more e
+      → P more (queue_output e items)
+  pub encoded : (e : End) (encoder : EncoderState)
+      → (IsValidEncoder e.output.encoder → IsValidEncoder encoder) → P 0 e
+      → P 0 (with_encoder e encoder)
+  pub begun : (e : End) (begun : Option Begun)
+      → ((one : Begun) → begun ≡ Some one → length one.octets ≤ max_block_octets) → P 0 e
+      → P 0 (with_begun e begun)
+  pub table : (e : End) (decoded : Option Decoded) (item : Item) → (Seen → Known e decoded item)
+      → P 0 e → P 0 (with_table_after e decoded item)
+  pub numbered : (e : End) (highest last : ℕ) → e.streams.highest ≤ highest
+      → (Seen → e.streams.highest ≤ greatest_number → highest ≤ greatest_number)
+      → (e.streams.last_processed ≤ e.streams.highest → last ≤ highest) → P 0 e
+      → P 0 (record e {
+        streams = record e.streams { highest = highest; last_processed = last };
+      })
+  pub windows : (e : End) (more later : ℕ) (windows : ConnectionWindows)
+      → windows.recv + (windows.unreturned + later)
+      ≡ e.windows.recv + (e.windows.unreturned + more)
+      → (e.windows.send ≤ greatest_window → windows.send ≤ greatest_window) → P more e
+      → P later (record e { windows = windows })
+  pub set : (e : End) (more later i : ℕ) (stream next : StreamView) → stream_at e i ≡ Some stream
+      → next.owed + later ≡ stream.owed + more → StaysInRange e i stream next → P more e
+      → P later (set_stream e i next)
+  pub removed : (e : End) (i : ℕ) (stream : StreamView) → stream_at e i ≡ Some stream → P 0 e
+      → P (0 + owed_entry (map.get e.streams.entries i)) (without_entry e i)
+  pub was_reset : (e : End) (i more : ℕ) → (NoneAboveHighest e → i ≤ e.streams.highest)
+      → e.streams.resets < max_resets → P more e
+      → P (more + owed_entry (map.get e.streams.entries i)) (record e {
+        streams = record e.streams {
+          entries = map.insert e.streams.entries i reset_entry;
+          active_count = e.streams.active_count - is_one (is_some (stream_at e i));
+          resets = e.streams.resets + 1;
+        };
+      })
+  pub opened : (e : End) (i : ℕ) (ended_in ended_out : Bool) (highest last : ℕ)
+      → (NoneAboveHighest e → stream_at e i ≡ None) → e.streams.highest ≤ highest → i ≤ highest
+      → (Seen → e.streams.highest ≤ greatest_number → highest ≤ greatest_number)
+      → (e.streams.last_processed ≤ e.streams.highest → last ≤ highest) → i ≢ 0
+      → (e.own.in_force.max_streams ≤ max_active → e.peer.max_streams ≤ max_active
+      → e.streams.active_count < max_active)
+      → P 0 e
+      → P 0 (record e {
+        streams = record e.streams {
+          entries = map.insert e.streams.entries i
+              (active_entry (new_stream e ended_in ended_out));
+          active_count = e.streams.active_count + 1;
+          highest = highest;
+          last_processed = last;
+        };
+      })
+  pub settings : (e : End) (pairs : List (ℕ × ℕ)) → settings_fault (end_view e) pairs ≡ None
+      → P 0 e → P 0 (apply_settings e pairs)
+  pub enforced : (e : End) (values : Values) → e.own.awaited ≡ Some values → P 0 e
+      → P 0 (apply_own_settings e (Some values))
+  pub awaits : (e : End) (values : Values) → (Typed → AreInRange values) → P 0 e
+      → P 0 (record e { own = record e.own { awaited = Some values } })
+  pub left : (e : End) → P 0 e
+      → P 0 (record e { goaway = record e.goaway { sent = Some e.streams.last_processed } })
+  pub beside : (e : End) (ping : Option (List ℕ)) (received : Option ℕ) → P 0 e
+      → P 0 (record e { ping = ping; goaway = record e.goaway { received = received } })
