@@ -18,7 +18,7 @@ use Rattle.h2_engines.specs.PartialMessages.{request_at}
 use Rattle.h2_engines.specs.ServerHistories.{IsResponding, WasReset, WasTooLarge, WasAnswered}
 use Rattle.h2_engines.specs.ServerHistories.{AreOnce, AnswersAll, calm}
 use Rattle.h2_engines.proofs.SameRequests.{SameOn, same_on, stands_as}
-use Rattle.h2_engines.proofs.ServerInvariant.{holds_responding}
+use Rattle.h2_engines.proofs.LinkInvariants.{holds_responding}
 use Rattle.h2_engines.proofs.TakeMessages.{keeps_by_call, taken_says}
 
 -- A request that is to be answered is answered with what was kept of it.

@@ -15,7 +15,7 @@ use Rattle.h2_engines.specs.ClientSteps.{ClientHears, FetchedSo, ErrsFetching, K
 use Rattle.h2_engines.specs.Machines.{Fetching, MachineState, Keeps, HearsNoMore, fails, gives_up}
 use Rattle.h2_engines.specs.Machines.{Hears}
 use Rattle.h2_engines.specs.Machines.{IsDue, Responds}
-use Rattle.h2_engines.proofs.FetchLinkHolds.{fetching_role}
+use Rattle.h2_engines.proofs.LinkInvariants.{fetching_role}
 use Rattle.h2_engines.proofs.FetchLinkParts.{come_not_whole}
 use Rattle.h2_engines.proofs.MachineHears.{hears_on, hears_last}
 use Rattle.h2_engines.proofs.MachineLaws.{unfinished}

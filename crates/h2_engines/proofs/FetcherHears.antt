@@ -4,7 +4,7 @@ use Rattle.h2_engines.proofs.Names.{length, Some, None, Ok, Err, refl, sym, ap, 
 use Rattle.h2_engines.proofs.Names.{inr, Field, Client, ResetEvent, is_server, ConnFault, Reads}
 use Rattle.h2_engines.proofs.Names.{Requests, Responses, Place, Part, FieldsPart, OctetsPart}
 use Rattle.h2_engines.proofs.Names.{IsReadable, place_after, End, EndEvent, EndTaken, EndLog}
-use Rattle.h2_engines.proofs.Names.{EndTook, EndFailed, Handed, Passed, asked_head, EndMayTake}
+use Rattle.h2_engines.proofs.Names.{EndTook, EndFailed, Handed, Passed, asked_head}
 use Rattle.h2_engines.proofs.Names.{event_handed, EndTakes, LinkError}
 use Rattle.std.proofs.Common.{◌⊎◌}
 use Rattle.h2_message.specs.declared.reading.Place.TheVariants as places
@@ -19,7 +19,7 @@ use Rattle.h2_engines.specs.PartialMessages.{HasCome}
 use Rattle.h2_engines.specs.ServerSteps.{error_with}
 use Rattle.h2_engines.proofs.FetcherParts.{MayHand, KeepsSoFar, notes_on}
 use Rattle.h2_engines.proofs.FetcherPlaces.{SaysPlace, place_says, octets_say}
-use Rattle.h2_engines.proofs.TakeMessages.{take_hands, taken_says}
+use Rattle.h2_engines.proofs.TakeMessages.{HandsAsRead, hands_event, hands_part, taken_says}
 
 -- A part of the response is handed out as it was read.
 hands_at : (coming : Coming) (id i : ℕ) (list : List Field) (last : Bool) (place : Place)
@@ -29,15 +29,15 @@ hands_at coming id i list last places.Interim say = say
 hands_at coming id i list last places.Head say = say
 hands_at coming id i list last places.Trailers say = say
 
-hands_part : {to_head : Bool} (coming : Coming) (id i : ℕ) (parts : List (Part × Bool))
+hands_so : {to_head : Bool} (coming : Coming) (id i : ℕ) (parts : List (Part × Bool))
     (part : Part × Bool) → (i ≡ id → HasCome coming parts)
     → IsReadable (Responses to_head) (parts ++ part ∷ [])
     → MayHand coming id (handed_as (Responses to_head) parts i part)
 unfolding handed_as
-hands_part {to_head} coming id i parts (FieldsPart list, last) come readable =
+hands_so {to_head} coming id i parts (FieldsPart list, last) come readable =
     hands_at coming id i list last (place_after (Responses to_head) parts list)
     (λ same. place_says list last (come same) readable)
-hands_part coming id i parts (OctetsPart octets, last) come readable =
+hands_so coming id i parts (OctetsPart octets, last) come readable =
     λ same. octets_say octets last (come same) readable
 
 -- A client reads responses.
@@ -53,18 +53,17 @@ hands_as_read : {coming : Coming} (end : EndLog) (id i : ℕ) (part : Part × Bo
     → IsReadable reads (parts_on i end.handed ++ part ∷ [])
     → MayHand coming id (handed_as reads (parts_on i end.handed) i part)
 hands_as_read {coming} end id i part to_head same come readable =
-    rw same (hands_part coming id i (parts_on i end.handed) part
+    rw same (hands_so coming id i (parts_on i end.handed) part
     (λ is. subst (λ (one : ℕ). HasCome coming (parts_on one end.handed)) (sym is) come) (subst
     (λ (one : Reads). IsReadable one (parts_on i end.handed ++ part ∷ [])) same readable))
 
 -- So it is with what a call of `take` hands out.
-pub client_hands : {coming : Coming} {end after : EndLog} (id : ℕ) {piece : List ℕ} (count : ℕ)
-    (handed : Handed) → end.log.role ≡ Client → HasCome coming (parts_on id end.handed)
-    → EndMayTake end piece (EndTook count (Some handed)) after → MayHand coming id handed
-client_hands {coming} {end} id count handed role come may =
-    take_hands (MayHand coming id) count handed (λ event. tt) (λ i part readable. hands_as_read end
-    id i part (asked_head (message_for i end.accepted)) (reads_responses end i role) come
-    readable) may
+hands_by : {coming : Coming} (end : EndLog) (id : ℕ) {handed : Handed} → end.log.role ≡ Client
+    → HasCome coming (parts_on id end.handed) → HandsAsRead end handed → MayHand coming id handed
+hands_by end id role come (hands_event event) = tt
+hands_by end id role come (hands_part i part readable) =
+    hands_as_read end id i part (asked_head (message_for i end.accepted))
+    (reads_responses end i role) come readable
 
 -- What was handed out is on the stream after what was.
 handed_on : (id : ℕ) (handed : List Handed) {now : List Handed} (one : Handed) → now ≡ one ∷ handed
@@ -123,7 +122,7 @@ heard_part old new id before coming piece taken event whole next some goes_on no
     let handed = event_handed event in
     let took = rw some at may in
     let says = taken_says took in
-    let hands = client_hands id taken.used handed role come took in
+    let hands = hands_by end id role come says.says.3 in
     let parts = parts_on id end.handed in
     let keeps = notes_on come hands notes in (
       after,

@@ -99,23 +99,11 @@ is_whole coming head data_parts {trailers} there after are body = (
 )
 
 -- The head of which these are the fields.
-record IsHead (coming : Coming) (list : List Field) : Type 0 where
-  pub head : Vec Field Global
-  pub there : coming.head ≡ Some head
-  pub fields : head.items ≡ list
-
 head_of : (option : Option (Vec Field Global)) (list : List Field)
     → option_map (λ (one : Vec Field Global). one.items) option ≡ Some list
     → (head : Vec Field Global) × (option ≡ Some head) × (head.items ≡ list)
 head_of None list came = absurd (cc)
 head_of (Some head) list came = (head, refl, cc)
-
-is_head : (coming : Coming) (list : List Field)
-    → option_map (λ (one : Vec Field Global). one.items) coming.head ≡ Some list
-    → IsHead coming list
-is_head coming list came =
-    let (head, there, fields) = head_of coming.head list came in
-    record { head = head; there = there; fields = fields }
 
 -- A message whose last part is this one, after the head and octets.
 ended_with : (first : Part) (data_parts : List (List ℕ)) (last : Part)
@@ -173,27 +161,20 @@ on_head : {old : Coming} (new : Coming) {parts : List (Part × Bool)} (list : Li
     → new.interims ≡ old.interims → new.body.items ≡ [] → new.trailers ≡ old.trailers
     → old.head ≡ None → first_broken (interim_rules list) ≢ None → HasCome old parts
     → KeepsSoFar new (parts ++ (FieldsPart list, end) ∷ []) end
-on_head new list true head interims body trailers none final
+on_head {old} new list true head interims body trailers none final
     (interims_alone heads nothing empty end) =
-    let is = is_head new list head in
-    is_whole new is.head [] is.there
-    (ap (option_map (λ (one : Vec Field Global). one.items)) (trailers ∙ end)) (ap (λ
-    (all : Vec (Vec Field Global) Global). interim_parts (lists_of all)
-    ++ (FieldsPart list, true) ∷ []) (sym interims) ∙ ap (λ (fields : List Field).
-    interim_parts (lists_of new.interims) ++ (FieldsPart fields, true) ∷ []) (sym is.fields)
-    ∙ sym (read_head (lists_of new.interims) is.head.items)) body
+    let is = head_of new.head list head in
+    is_whole new is.0 [] is.1
+    (ap (option_map (λ (one : Vec Field Global). one.items)) (trailers ∙ end))
+    (rw (interims, is.2) (sym (read_head (lists_of old.interims) list))) body
 on_head new list false head interims body trailers none final
     (interims_alone heads nothing empty end) =
-    let come : HasCome new (interim_parts (lists_of new.interims) ++ (FieldsPart list, false) ∷ [])
-    =
-    head_and_body (record {
+    rw (← interims) (head_and_body (record {
       interims = rw interims heads.interims;
       head = λ one is.
           let same : list ≡ one = cc in
           subst (λ (fields : List Field). first_broken (interim_rules fields) ≢ None) same final;
-    }) list [] head body (trailers ∙ end) in
-    subst (λ (all : Vec (Vec Field Global) Global). HasCome new
-    (interim_parts (lists_of all) ++ (FieldsPart list, false) ∷ [])) interims come
+    }) list [] head body (trailers ∙ end))
 on_head {old} new list end head interims body trailers none final
     (head_and_body heads one data_parts came octets no_end) =
     absurd (head_there (λ (list : Vec Field Global). list.items) old.head one came none)
@@ -234,31 +215,24 @@ on_octets new octets end body interims head trailers some
 on_octets {old} new octets true body interims head trailers some
     (head_and_body heads one data_parts came before no_end) =
     let value = option_map (λ (one : Vec Field Global). one.items) in
-    let is = is_head new one (ap value head ∙ came) in
-    is_whole new is.head (data_parts ++ octets ∷ []) is.there (ap value (trailers ∙ no_end))
-    (after_parts (lists_of old.interims) one data_parts (OctetsPart octets, true) ∙ ap (λ
-    (all : Vec (Vec Field Global) Global). interim_parts (lists_of all)
-    ++ (FieldsPart one, false) ∷ (data_parts_of data_parts ++ (OctetsPart octets, true) ∷ []))
-    (sym interims) ∙ ap (λ (fields : List Field). interim_parts (lists_of new.interims)
-    ++ (FieldsPart fields, false)
-    ∷ (data_parts_of data_parts ++ (OctetsPart octets, true) ∷ [])) (sym is.fields) ∙ sym
-    (read_octets (lists_of new.interims) is.head.items data_parts octets))
-    (body ∙ ap (λ (all : List ℕ). all ++ octets) before ∙ sym (joined_one data_parts octets))
+    let is = head_of new.head one (ap value head ∙ came) in
+    is_whole new is.0 (data_parts ++ octets ∷ []) is.1 (ap value (trailers ∙ no_end))
+    (rw (interims, is.2) (after_parts (lists_of old.interims) one data_parts
+    (OctetsPart octets, true) ∙ sym (read_octets (lists_of old.interims) one data_parts octets)))
+    (rw (body, before) (sym (joined_one data_parts octets)))
 on_octets {old} new octets false body interims head trailers some
     (head_and_body heads one data_parts came before no_end) =
     let value = option_map (λ (one : Vec Field Global). one.items) in
-    let come : HasCome new (interim_parts (lists_of new.interims) ++ (FieldsPart one, false)
-    ∷ data_parts_of (data_parts ++ octets ∷ [])) =
-    head_and_body (same_heads new interims head heads) one (data_parts ++ octets ∷ [])
-    (ap value head ∙ came)
-    (body ∙ ap (λ (all : List ℕ). all ++ octets) before ∙ sym (joined_one data_parts octets))
-    (trailers ∙ no_end) in
-    subst (HasCome new) (ap (λ (all : Vec (Vec Field Global) Global). interim_parts (lists_of all)
-    ++ (FieldsPart one, false) ∷ data_parts_of (data_parts ++ octets ∷ [])) interims ∙ ap (λ
-    (more : List (Part × Bool)). interim_parts (lists_of old.interims)
-    ++ (FieldsPart one, false) ∷ more)
-    (map_push (λ (octets : List ℕ). (OctetsPart octets, false)) data_parts octets) ∙ sym
-    (after_parts (lists_of old.interims) one data_parts (OctetsPart octets, false))) come
+    let pushed : data_parts_of (data_parts ++ octets ∷ [])
+    ≡ data_parts_of data_parts ++ (OctetsPart octets, false) ∷ [] =
+    map_push (λ (octets : List ℕ). (OctetsPart octets, false)) data_parts octets in
+    rw (
+      after_parts (lists_of old.interims) one data_parts (OctetsPart octets, false),
+      ← pushed,
+      ← interims,
+    ) (head_and_body (same_heads new interims head heads) one (data_parts ++ octets ∷ [])
+    (ap value head ∙ came) (rw (body, before) (sym (joined_one data_parts octets)))
+    (trailers ∙ no_end))
 
 -- Trailers have come.
 on_trailers : {old : Coming} (new : Coming) {parts : List (Part × Bool)} (list : List Field)
@@ -270,14 +244,10 @@ on_trailers new list trailers interims head body some (interims_alone heads noth
 on_trailers {old} new list trailers interims head body some
     (head_and_body heads one data_parts came before no_end) =
     let value = option_map (λ (one : Vec Field Global). one.items) in
-    let is = is_head new one (ap value head ∙ came) in
-    is_whole new is.head data_parts is.there trailers (after_parts (lists_of old.interims) one
-    data_parts (FieldsPart list, true) ∙ ap (λ (all : Vec (Vec Field Global) Global).
-    interim_parts (lists_of all) ++ (FieldsPart one, false)
-    ∷ (data_parts_of data_parts ++ (FieldsPart list, true) ∷ [])) (sym interims) ∙ ap (λ
-    (fields : List Field). interim_parts (lists_of new.interims) ++ (FieldsPart fields, false)
-    ∷ (data_parts_of data_parts ++ (FieldsPart list, true) ∷ [])) (sym is.fields) ∙ sym
-    (read_trailers (lists_of new.interims) is.head.items data_parts list))
+    let is = head_of new.head one (ap value head ∙ came) in
+    is_whole new is.0 data_parts is.1 trailers (rw (interims, is.2) (after_parts
+    (lists_of old.interims) one data_parts (FieldsPart list, true)
+    ∙ sym (read_trailers (lists_of old.interims) one data_parts list)))
     (ap (λ (octets : Vec ℕ Global). octets.items) body ∙ before)
 
 -- What was handed out is on its stream.

@@ -1,13 +1,13 @@
 pub mod AnswerRequests
 pub mod ClientMachine
 pub mod FetchEnds
-pub mod FetchLinkHolds
 pub mod FetchLinkParts
 pub mod FetcherHears
 pub mod FetcherParts
 pub mod FetcherPlaces
 pub mod FetcherStart
 pub mod FieldValues
+pub mod LinkInvariants
 pub mod MachineDrives
 pub mod MachineHears
 pub mod MachineLaws
@@ -34,11 +34,8 @@ pub mod ResponderWrites
 pub mod SameRequests
 pub mod ServeEnds
 pub mod ServeLinkLogs
-pub mod ServeLinkPumps
 pub mod ServeLinkTakes
-pub mod ServerInvariant
 pub mod ServerMachine
-pub mod ServerRole
 pub mod TakeMessages
 pub mod TakeRequests
 pub mod TurnsOfFrames

@@ -10,16 +10,16 @@ use Rattle.h2_link.specs.Links.{ended_after}
 use Rattle.h2_engines.specs.declared.request.Next.TheVariants as nexts
 use Rattle.h2_engines.specs.Failures.{EndsWriting, failures_at_end}
 use Rattle.h2_engines.specs.Linked.{Traffic, IsLinked, HasTakenAll}
-use Rattle.h2_engines.specs.Machines.{MachineState, Course, Happens, IsDriven, lacks_memory}
+use Rattle.h2_engines.specs.Machines.{MachineState, Course, IsDriven, lacks_memory}
 use Rattle.h2_engines.specs.Machines.{link_fails}
-use Rattle.h2_engines.specs.Machines.{has_stalled, WritesOut, WritesWaiting, TakenSo, TakesPiece}
-use Rattle.h2_engines.specs.Machines.{DrivenSo, Drives}
+use Rattle.h2_engines.specs.Machines.{has_stalled, WritesWaiting, TakenSo, TakesPiece}
+use Rattle.h2_engines.specs.Machines.{DrivenSo}
 use Rattle.h2_engines.specs.ServerSteps.{PumpsSome}
 use Rattle.h2_engines.specs.WithoutLink.{SendsWaiting}
 use Rattle.h2_engines.proofs.MachineLaws.{holds_again, stays_driven, ends_going, pumps_at}
 use Rattle.h2_engines.proofs.MachineTakes.{written_driven, ends_unwritten}
 use Rattle.h2_engines.proofs.ResponderStalls.{pump_ends}
-use Rattle.h2_engines.proofs.ServeLinkPumps.{pumped_stays}
+use Rattle.h2_engines.proofs.ServeLinkLogs.{pumped_stays}
 use Rattle.h2_engines.proofs.TurnsPassed.{turns_of_pump}
 use Rattle.h2_engines.proofs.WithoutLinkSends.{sends_at, sent_stays, sent_turns, sent_error}
 
@@ -45,46 +45,36 @@ pub record IsSent (course : Course) (now : Traffic) (held : MachineState) (round
     pub going : IsGoing course now held [] rounds
     pub all : HasTakenAll course.start now going.end.log
 
-abbrev pub SentOn : (before now : Traffic) → (old new : MachineState) → (rounds : ℕ) → Type 0
-SentOn before now old new rounds =
-    (course : Course) (end : EndLog) → IsDriven course before old end [] nexts.Again
-    → IsSent course now new rounds
+-- how the driving has ended
+abbrev pub Ends : Course → (now : Traffic) → MachineState → Result Bool LinkError → Type 0
+Ends course now held result = (after : EndLog) × DrivenSo course now held after result
 
 -- At first it is driven;
 pub drives_first : (now : Traffic) (held : MachineState) → DrivesOn now now held held [] 0
 drives_first now held course end is = record { end = end; turns = omega arith; driven = is }
 
 -- it ends early where it goes on,
-pub going_ends : (before now : Traffic) (old new : MachineState) (unused : List ℕ) (rounds : ℕ)
-    {error : LinkError} → error ≡ errors.Memory → DrivesOn before now old new unused rounds
-    → Drives before now old new (Err error)
+pub going_ends : {course : Course} (now : Traffic) (held : MachineState) {unused : List ℕ}
+    {rounds : ℕ} (error : LinkError) → error ≡ errors.Memory
+    → IsGoing course now held unused rounds → Ends course now held (Err error)
 unfolding DrivenSo
-going_ends before now old new unused rounds memory on course end is =
-    let go = on course end is in (
-      go.end,
-      ends_going go.driven (lacks_memory memory),
-    )
+going_ends now held error memory go = (go.end, ends_going go.driven (lacks_memory memory))
 
-pub no_round : (before now : Traffic) (old new : MachineState) (unused : List ℕ) (rounds : ℕ)
-    → 2 ^ 64 - 1 ≤ rounds → DrivesOn before now old new unused rounds
-    → Drives before now old new (Err errors.NoProgress)
+pub no_round : {course : Course} (now : Traffic) (held : MachineState) {unused : List ℕ}
+    {rounds : ℕ}
+    → 2 ^ 64 - 1 ≤ rounds → IsGoing course now held unused rounds
+    → Ends course now held (Err errors.NoProgress)
 unfolding DrivenSo
-no_round before now old new unused rounds all on course end is =
-    let go = on course end is in
-    let out : 2 ^ 64 - 1 ≤ length go.end.log.turns = omega (arith, all, go.turns) in (
-      go.end,
-      ends_going go.driven (has_stalled refl (inr out)),
-    )
+no_round now held all go =
+    let out : 2 ^ 64 - 1 ≤ length go.end.log.turns = omega (arith, all, go.turns) in
+    (go.end, ends_going go.driven (has_stalled refl (inr out)))
 
 -- What waits is written,
-pub sent_on : (before middle now : Traffic) (old self new : MachineState) (rounds : ℕ)
-    (done : Unit {0}) → new.kept ≡ self.kept → DrivesOn before middle old self [] rounds
-    → WritesWaiting middle now self new (Ok done) → SentOn before now old new (rounds + 1)
-sent_on before middle now old self new rounds done kept on sends course end is =
-    let go = on course end is in
-    let wrote : WritesOut (Happens course self.kept) course.values course.start now go.end new.end
-    [] (Ok done) = sends course go.end [] go.driven.represents go.driven.happened
-    go.driven.linked in
+pub sent_on : {course : Course} {middle now : Traffic} {self : MachineState} (new : MachineState)
+    {rounds : ℕ} {done : Unit {0}} → IsGoing course middle self [] rounds → new.kept ≡ self.kept
+    → WritesWaiting middle now self new (Ok done) → IsSent course now new (rounds + 1)
+sent_on {course} new go kept sends =
+    let wrote = sends course go.end [] go.driven.represents go.driven.happened go.driven.linked in
     record {
       going = record {
         end = wrote.after;
@@ -95,28 +85,24 @@ sent_on before middle now old self new rounds done kept on sends course end is =
     }
 
 -- or can't be.
-pub sent_last : (before middle now : Traffic) (old self new : MachineState) (rounds : ℕ)
-    (error : LinkError) → new.kept ≡ self.kept → DrivesOn before middle old self [] rounds
-    → WritesWaiting middle now self new (Err error) → EndsWriting error
-    → Drives before now old new (Err error)
+pub sent_last : {course : Course} {middle : Traffic} (now : Traffic) {self : MachineState}
+    (new : MachineState) {rounds : ℕ} (error : LinkError) → IsGoing course middle self [] rounds
+    → new.kept ≡ self.kept → WritesWaiting middle now self new (Err error) → EndsWriting error
+    → Ends course now new (Err error)
 unfolding DrivenSo
-sent_last before middle now old self new rounds error kept on sends writing course end is =
-    let go = on course end is in
-    let wrote : WritesOut (Happens course self.kept) course.values course.start now go.end new.end
-    [] (Err error) = sends course go.end [] go.driven.represents go.driven.happened
-    go.driven.linked in (
+sent_last {course} now {self} new error go kept sends writing =
+    let wrote = sends course go.end [] go.driven.represents go.driven.happened go.driven.linked in (
       wrote.after,
       ends_unwritten course self new kept wrote writing
           (holds_again course.message self.kept go.end error go.driven.keeps),
     )
 
 -- Where the output was full, what more can be sent is put into it,
-pub pumped_on : (before now : Traffic) (old self new : MachineState) (rounds : ℕ)
-    (result : Result (Unit {0}) LinkError) → new.kept ≡ self.kept
-    → SentOn before now old self rounds → PumpsSome self.end new.end result
-    → DrivesOn before now old new [] rounds
-pumped_on before now old self new rounds result kept sent (answer, pumps, ends) course end is =
-    let going = (sent course end is).going in
+pub pumped_on : {course : Course} {now : Traffic} {self : MachineState} (new : MachineState)
+    {rounds : ℕ} (result : Result (Unit {0}) LinkError) → IsSent course now self rounds
+    → new.kept ≡ self.kept → PumpsSome self.end new.end result → IsGoing course now new [] rounds
+pumped_on {course} {self} new result sent kept (answer, pumps, ends) =
+    let going = sent.going in
     let driven = going.driven in
     let (after, pumped, represents) = pumps course.values going.end driven.represents in
     record {
@@ -127,16 +113,15 @@ pumped_on before now old self new rounds result kept sent (answer, pumps, ends) 
     }
 
 -- or there is no memory for that.
-pub pumped_last : (before now : Traffic) (old self new : MachineState) (rounds : ℕ)
-    (error : LinkError) → new.kept ≡ self.kept → SentOn before now old self rounds
-    → PumpsSome self.end new.end (Err error) → Drives before now old new (Err error)
-unfolding DrivenSo
-pumped_last before now old self new rounds error kept sent pumps course end is =
-    let going = (sent course end is).going in
+pub pumped_last : {course : Course} (now : Traffic) {self : MachineState} (new : MachineState)
+    {rounds : ℕ} (error : LinkError) → IsSent course now self rounds → new.kept ≡ self.kept
+    → PumpsSome self.end new.end (Err error) → Ends course now new (Err error)
+pumped_last {course} now new error sent kept pumps =
+    let going = sent.going in
     let pumped = pumps.1 course.values going.end going.driven.represents in
-    let memory = pump_ends going.end pumped.0 pumps.0 error going.driven.up pumped.1 pumps.2 in
-    let then = pumped_on before now old self new rounds (Err error) kept sent pumps course end is in
-    (then.end, ends_going then.driven (lacks_memory memory))
+    going_ends now new error
+    (pump_ends going.end pumped.0 pumps.0 error going.driven.up pumped.1 pumps.2)
+    (pumped_on new (Err error) sent kept pumps)
 
 -- The link gives octets, and takes none.
 appends_as : (one two : Option (List ℕ)) (octets is : List ℕ) → octets ≡ is
@@ -169,85 +154,80 @@ read_driven now is gives takes =
       keeps = is.keeps;
     }
 
-pub read_on : (before middle now : Traffic) (old self : MachineState) {octets : List ℕ} (rounds : ℕ)
-    → SentOn before middle old self rounds → Appends middle.given now.given octets
-    → Appends middle.taken now.taken [] → DrivesOn before now old self octets rounds
-read_on before middle now old self rounds sent gives takes course end is =
-    let so = sent course end is in
+pub read_on : {course : Course} {middle : Traffic} (now : Traffic) {self : MachineState}
+    {octets : List ℕ} {rounds : ℕ} → IsSent course middle self rounds
+    → Appends middle.given now.given octets → Appends middle.taken now.taken []
+    → IsGoing course now self octets rounds
+read_on now sent gives takes =
     record {
-      end = so.going.end;
-      turns = so.going.turns;
-      driven = read_driven now so.going.driven gives takes;
+      end = sent.going.end;
+      turns = sent.going.turns;
+      driven = read_driven now sent.going.driven gives takes;
     }
 
 -- It gives none, at the end of the input,
-pub read_ends : (before middle now : Traffic) (old self : MachineState) (rounds : ℕ)
-    → SentOn before middle old self rounds → Appends middle.given now.given []
-    → Appends middle.taken now.taken [] → Drives before now old self (Ok false)
+pub read_ends : {course : Course} {middle : Traffic} (now : Traffic) (self : MachineState)
+    {rounds : ℕ} → IsSent course middle self rounds → Appends middle.given now.given []
+    → Appends middle.taken now.taken [] → Ends course now self (Ok false)
 unfolding DrivenSo
-read_ends before middle now old self rounds sent gives takes course end is =
-    let so = sent course end is in
-    let log = so.going.end.log in (
-      so.going.end,
+read_ends {course} {middle} now self sent gives takes =
+    let log = sent.going.end.log in (
+      sent.going.end,
       (
-        read_driven now so.going.driven gives takes,
+        read_driven now sent.going.driven gives takes,
         appends_as course.start.taken now.taken (log.written ++ []) log.written
             (append-nil log.written)
-            (Appends-trans course.start.taken middle.taken now.taken log.written [] so.all takes),
+            (Appends-trans course.start.taken middle.taken now.taken log.written [] sent.all takes),
       ),
     )
 
 -- or where a read has failed.
-pub read_fails : (before middle now : Traffic) (old self : MachineState) (rounds : ℕ)
-    → SentOn before middle old self rounds → Appends middle.given now.given []
-    → Appends middle.taken now.taken [] → Drives before now old self (Err errors.Device)
+pub read_fails : {course : Course} {middle : Traffic} (now : Traffic) (self : MachineState)
+    {rounds : ℕ} → IsSent course middle self rounds → Appends middle.given now.given []
+    → Appends middle.taken now.taken [] → Ends course now self (Err errors.Device)
 unfolding DrivenSo
-read_fails before middle now old self rounds sent gives takes course end is =
-    let so = sent course end is in (
-      so.going.end,
-      ends_going (read_driven now so.going.driven gives takes) (link_fails refl refl),
-    )
+read_fails now self sent gives takes = (
+  sent.going.end,
+  ends_going (read_driven now sent.going.driven gives takes) (link_fails refl refl),
+)
 
 -- A piece is taken,
-pub taken_on : (before middle now : Traffic) (old self new : MachineState) (piece : List ℕ)
-    (rounds : ℕ) {whole : Bool} → whole ≡ false → DrivesOn before middle old self piece rounds
-    → TakesPiece true middle now self new piece (Ok whole) → DrivesOn before now old new [] rounds
+pub taken_on : {course : Course} {middle now : Traffic} {self new : MachineState} {piece : List ℕ}
+    {rounds : ℕ} {whole : Bool} → whole ≡ false → IsGoing course middle self piece rounds
+    → TakesPiece true middle now self new piece (Ok whole) → IsGoing course now new [] rounds
 unfolding TakenSo
-taken_on before middle now old self new piece rounds not on takes course end is =
-    let go = on course end is in
+taken_on {course} {middle} {now} {self} {new} {piece} not go takes =
     let so = subst (λ (one : Bool). TakesPiece true middle now self new piece (Ok one)) not takes
     course middle go.end go.driven in
     record { end = so.0; turns = omega (arith, go.turns, so.1); driven = so.2 }
 
 -- up to the end of a response that is whole,
-pub taken_whole : (before middle now : Traffic) (old self new : MachineState) (piece : List ℕ)
-    (rounds : ℕ) {whole : Bool} → whole ≡ true → DrivesOn before middle old self piece rounds
-    → TakesPiece true middle now self new piece (Ok whole) → Drives before now old new (Ok true)
+pub taken_whole : {course : Course} {middle : Traffic} (now : Traffic) {self : MachineState}
+    (new : MachineState) (piece : List ℕ) {rounds : ℕ} {whole : Bool} → whole ≡ true
+    → IsGoing course middle self piece rounds
+    → TakesPiece true middle now self new piece (Ok whole) → Ends course now new (Ok true)
 unfolding TakenSo DrivenSo
-taken_whole before middle now old self new piece rounds said on takes course end is =
-    let go = on course end is in
+taken_whole {course} {middle} now {self} new piece said go takes =
     let so = subst (λ (one : Bool). TakesPiece true middle now self new piece (Ok one)) said takes
     course middle go.end go.driven in
     let driven : (unused : List ℕ) × IsDriven course now new so.0 unused nexts.Whole = so.2 in
     (so.0, driven)
 
 -- or with it the machine ends.
-pub taken_last : (before middle now : Traffic) (old self new : MachineState) (piece : List ℕ)
-    (rounds : ℕ) (error : LinkError) → DrivesOn before middle old self piece rounds
-    → TakesPiece true middle now self new piece (Err error) → Drives before now old new (Err error)
+pub taken_last : {course : Course} {middle : Traffic} (now : Traffic) {self : MachineState}
+    (new : MachineState) (piece : List ℕ) {rounds : ℕ} (error : LinkError)
+    → IsGoing course middle self piece rounds
+    → TakesPiece true middle now self new piece (Err error) → Ends course now new (Err error)
 unfolding TakenSo DrivenSo
-taken_last before middle now old self new piece rounds error on takes course end is =
-    let go = on course end is in
-    let so = takes course middle go.end go.driven in
-    (so.0, so.2)
+taken_last {course} {middle} now new piece error go takes =
+    let so = takes course middle go.end go.driven in (so.0, so.2)
 
 -- Credit is returned, and what waits of messages is sent,
-pub waiting_on : (before now : Traffic) (old self new : MachineState) (unused : List ℕ) (rounds : ℕ)
-    (result : Result (Unit {0}) LinkError) → new.kept ≡ self.kept
-    → DrivesOn before now old self unused rounds → SendsWaiting self.end new.end result
-    → DrivesOn before now old new unused rounds
-waiting_on before now old self new unused rounds result kept on sends course end is =
-    let go = on course end is in
+pub waiting_on : {course : Course} {now : Traffic} {self : MachineState} (new : MachineState)
+    {unused : List ℕ} {rounds : ℕ} (result : Result (Unit {0}) LinkError)
+    → IsGoing course now self unused rounds → new.kept ≡ self.kept
+    → SendsWaiting self.end new.end result → IsGoing course now new unused rounds
+waiting_on {course} {self} new result go kept sends =
     let sent = sends course.values go.end go.driven.represents in
     record {
       end = sent.0;
@@ -257,18 +237,13 @@ waiting_on before now old self new unused rounds result kept on sends course end
     }
 
 -- or there is no memory for that.
-pub waiting_last : (before now : Traffic) (old self new : MachineState) (unused : List ℕ)
-    (rounds : ℕ) (error : LinkError) → new.kept ≡ self.kept
-    → DrivesOn before now old self unused rounds → SendsWaiting self.end new.end (Err error)
-    → Drives before now old new (Err error)
-unfolding DrivenSo
-waiting_last before now old self new unused rounds error kept on sends course end is =
-    let go = on course end is in
+pub waiting_last : {course : Course} (now : Traffic) {self : MachineState} (new : MachineState)
+    {unused : List ℕ} {rounds : ℕ} (error : LinkError) → IsGoing course now self unused rounds
+    → new.kept ≡ self.kept → SendsWaiting self.end new.end (Err error)
+    → Ends course now new (Err error)
+waiting_last {course} now new error go kept sends =
     let sent = sends course.values go.end go.driven.represents in
-    let memory = sent_error sent.2 in
-    let then = waiting_on before now old self new unused rounds (Err error) kept on sends course
-    end is in
-    (then.end, ends_going then.driven (lacks_memory memory))
+    going_ends now new error (sent_error sent.2) (waiting_on new (Err error) go kept sends)
 
 -- What the link gave of a buffer: nothing,
 pub gives_none : (one two : Option (List ℕ)) (buffer : List ℕ) (count : ℕ) → count ≡ 0

@@ -5,17 +5,17 @@ use Rattle.h2_engines.proofs.Names.{sym, ap, ◌∙◌, subst, SentMessage, EndR
 use Rattle.h2_engines.proofs.Names.{EndRepresents, LinkError}
 use Rattle.h2_message.specs.Phases.{ends}
 use Rattle.h2_ends.specs.Ends.{message_for, parts_on}
-use Rattle.h2_ends.specs.EndCalls.{MayReleaseAll}
+use Rattle.h2_ends.specs.EndCalls.{MayPump, MayReleaseAll}
 use Rattle.h2_link.specs.declared.error.LinkError.TheVariants as errors
 use Rattle.h2_engines.specs.declared.request.Next.{Next}
 use Rattle.h2_engines.specs.declared.request.Next.TheVariants as nexts
 use Rattle.h2_engines.specs.ClientHistories as client
-use Rattle.h2_engines.specs.Failures.{EndsWriting, IsOfCall}
+use Rattle.h2_engines.specs.Failures.{EndsWriting}
 use Rattle.h2_engines.specs.Fetches.{EndsUnfinished}
 use Rattle.h2_engines.specs.Linked.{Traffic, IsLinked, StallsWriting}
 use Rattle.h2_engines.specs.Machines.{MessageState, Serving, Fetching, MachineState, Course}
 use Rattle.h2_engines.specs.Machines.{Happens, Keeps}
-use Rattle.h2_engines.specs.Machines.{IsDriven, IsOf, MayEnd, Holds, IsDue, EndsFor, lacks_memory}
+use Rattle.h2_engines.specs.Machines.{IsDriven, Holds, IsDue, EndsFor, lacks_memory}
 use Rattle.h2_engines.specs.Machines.{link_fails, has_stalled, HasEnded}
 use Rattle.h2_engines.specs.PartialMessages.{HasCome, IsWhole}
 use Rattle.h2_engines.specs.ServerHistories as server
@@ -24,8 +24,7 @@ use Rattle.h2_engines.proofs.FetchLinkParts.{come_not_whole}
 use Rattle.h2_engines.proofs.ResponderEnds.{given_first, given_within}
 use Rattle.h2_engines.proofs.ResponderWrites.{MayPutOut}
 use Rattle.h2_engines.proofs.SameRequests.{kept_same_next}
-use Rattle.h2_engines.proofs.ServeLinkLogs.{goes_links}
-use Rattle.h2_engines.proofs.ServeLinkPumps.{StaysOn, stays_same, MayPumpOn}
+use Rattle.h2_engines.proofs.ServeLinkLogs.{goes_links, StaysOn, stays_same}
 
 -- Whatever has happened at a machine, output may be put out then, what waits sent, and what is owed
 -- given back.
@@ -35,7 +34,9 @@ puts_at course (Serving requests answered) end count answer was typed may =
 puts_at course (Fetching id coming whole) end count answer was typed may =
     client.gives_out was count answer typed may
 
-pub pumps_at : (course : Course) (kept : MessageState) → MayPumpOn (Happens course kept)
+pub pumps_at : (course : Course) (kept : MessageState) (end after : EndLog)
+    (result : Result ℕ EndRefusal) → Happens course kept end → MayPump end result after
+    → Happens course kept after
 pumps_at course (Serving requests answered) end after result was may =
     server.pumps was result may
 pumps_at course (Fetching id coming whole) end after result was may = client.pumps was result may
@@ -172,32 +173,3 @@ writing_ends start now kept end errors.Device is stalls = link_fails refl refl
 writing_ends start now kept end errors.Memory is stalls = lacks_memory refl
 writing_ends start now kept end errors.NoProgress is stalls = has_stalled refl stalls
 writing_ends start now kept end error is stalls = absurd is
-
--- What ends a machine by itself, or a call of its end, or what writes, may end it over a link.
-pub may_end : (writes serves : Bool) (error : LinkError) → IsOf serves error
-    → MayEnd writes serves error
-may_end true serves errors.Device is = tt
-may_end true serves errors.Memory is = is
-may_end true serves errors.CutOff is = is
-may_end true serves errors.NoProgress is = is
-may_end true serves (errors.Stream number) is = is
-may_end true serves (errors.Reset number) is = is
-may_end true serves errors.Refused is = is
-may_end false serves error is = is
-
-pub may_end_call : (writes serves : Bool) (error : LinkError) → IsOfCall error
-    → MayEnd writes serves error
-may_end_call writes true errors.Memory is = may_end writes true errors.Memory tt
-may_end_call writes false errors.Memory is = may_end writes false errors.Memory tt
-may_end_call writes true errors.NoProgress is = may_end writes true errors.NoProgress tt
-may_end_call writes false errors.NoProgress is = may_end writes false errors.NoProgress tt
-may_end_call writes serves error is = absurd is
-
-pub may_end_writing : (serves : Bool) (error : LinkError) → EndsWriting error
-    → MayEnd true serves error
-may_end_writing serves errors.Device is = tt
-may_end_writing true errors.Memory is = tt
-may_end_writing false errors.Memory is = tt
-may_end_writing true errors.NoProgress is = tt
-may_end_writing false errors.NoProgress is = tt
-may_end_writing serves error is = absurd is

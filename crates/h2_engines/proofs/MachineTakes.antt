@@ -12,13 +12,12 @@ use Rattle.h2_engines.specs.Failures.{EndsWriting, failures_at_end, failures_by}
 use Rattle.h2_engines.specs.Linked.{Traffic, HasTakenAll}
 use Rattle.h2_engines.specs.Machines.{MessageState, Serving, Fetching, MachineState, Course}
 use Rattle.h2_engines.specs.Machines.{Happens, Keeps}
-use Rattle.h2_engines.specs.Machines.{IsDriven, IsOf, Holds, EndsFor, lacks_memory, has_failed}
+use Rattle.h2_engines.specs.Machines.{IsDriven, Holds, EndsFor, lacks_memory, has_failed}
 use Rattle.h2_engines.specs.Machines.{has_stalled, stops_itself, HasEnded, HearsNoMore, fails}
 use Rattle.h2_engines.specs.Machines.{gives_up, HasHeardLast, HearsSo, Hears, IsDue, RespondedSo}
 use Rattle.h2_engines.specs.Machines.{Responds}
 use Rattle.h2_engines.specs.Machines.{WritesOut, WritesWaiting, flow, WritesAndResponds, EndsEarly}
 use Rattle.h2_engines.specs.Machines.{TakenSo}
-use Rattle.h2_engines.specs.Machines.{TakesPiece}
 use Rattle.h2_engines.specs.PartialMessages.{KeepsNext}
 use Rattle.h2_engines.proofs.MachineLaws.{keeps_same, holds_same, holds_due}
 use Rattle.h2_engines.proofs.MachineLaws.{ends_linked, ends_going, writing_ends}
@@ -181,32 +180,40 @@ ends_not_written before now old new error other failed kept writes writing cours
           (holds_failed course other (failed course end last.represents) last.why),
     )
 
--- What ends a machine by itself is no failure of its link.
-pub failures_of : (serves : Bool) (failures : ℕ) (error : LinkError) → IsOf serves error
-    → failures_by failures error ≡ failures
-failures_of true failures errors.Device is = absurd is
-failures_of false failures errors.Device is = absurd is
-failures_of serves failures error is = refl
-
+-- How often the link has failed doesn't depend on what else is answered.
 pub failures_err : (A : Type 0) (failures : ℕ) (error : LinkError)
     → failures_at_end {A = A} failures (Err error) ≡ failures_by failures error
 failures_err A failures errors.Device = refl
 failures_err A failures error = refl
 
--- Whatever had happened, a machine was driven on, so many octets weren't used, and this is to be
--- done; a turn has passed at least in each round.
+-- A machine is driven, so many octets weren't used, and this is to be done; a turn has passed at
+-- least in each round.
+pub record IsTaking (writes : Bool) (course : Course) (now base : Traffic) (held : MachineState)
+    (end : EndLog) (unused : List ℕ) (next : Next) (rounds : ℕ) : Type 0 where
+  pub after : EndLog
+  pub turns : rounds + length end.log.turns ≤ length after.log.turns
+  pub driven : IsDriven course (flow writes now base) held after unused next
+
+-- Whatever had happened at first, it is so now.
 abbrev pub TakesOn : (writes : Bool) → (rounds : ℕ) → (before now : Traffic)
     → (old new : MachineState) → (piece unused : List ℕ) → Next → Type 0
 TakesOn writes rounds before now old new piece unused next =
     (course : Course) (base : Traffic) (end : EndLog)
     → IsDriven course (flow writes before base) old end piece nexts.Again
-    → (after : EndLog) × (rounds + length end.log.turns ≤ length after.log.turns)
-    × IsDriven course (flow writes now base) new after unused next
+    → IsTaking writes course now base new end unused next rounds
+
+-- how a piece was taken
+abbrev pub Taken : (writes : Bool) → Course → (now base : Traffic) → MachineState → EndLog
+    → Result Bool LinkError → Type 0
+Taken writes course now base held end result =
+    (after : EndLog) × (length end.log.turns ≤ length after.log.turns)
+    × TakenSo writes course (flow writes now base) held after result
 
 -- Nothing was taken yet.
 pub takes_first : (writes : Bool) (now : Traffic) (held : MachineState) (piece : List ℕ)
     → TakesOn writes 0 now now held held piece piece nexts.Again
-takes_first writes now held piece course base end is = (end, omega arith, is)
+takes_first writes now held piece course base end is =
+    record { after = end; turns = omega arith; driven = is }
 
 -- what is left of a piece
 rest_is : (piece : List ℕ) (used : ℕ)
@@ -221,23 +228,22 @@ hears_rest old new piece used result hears =
     subst (λ (octets : List ℕ). Hears old new octets result) (rest_is piece used) hears
 
 -- The rest of a piece was heard of;
-pub heard_rest : (writes : Bool) (rounds : ℕ) (before now : Traffic) (old self new : MachineState)
-    (piece : List ℕ) (used : ℕ) (heard : Heard)
-    → TakesOn writes rounds before now old self piece (drop used piece) nexts.Again
+pub heard_rest : {writes : Bool} {course : Course} {now base : Traffic} {self : MachineState}
+    (new : MachineState) {end : EndLog} (piece : List ℕ) (used : ℕ) (heard : Heard) {rounds : ℕ}
+    → IsTaking writes course now base self end (drop used piece) nexts.Again rounds
     → Hears self new (take (length piece - used) (drop used piece)) (Ok heard)
-    → TakesOn writes (rounds + 1) before now old new piece (drop (used + heard.used) piece)
-    heard.next
+    → IsTaking writes course now base new end (drop (used + heard.used) piece) heard.next
+    (rounds + 1)
 unfolding HearsSo
-heard_rest writes rounds before now old self new piece used heard takes hears course base end is =
-    let on = takes course base end is in
-    let next = hears_rest self new piece used (Ok heard) hears course (flow writes now base) on.0
-    on.2 in (
-      next.0,
-      omega (arith, on.1, next.1.1),
-      subst (λ (unused : List ℕ).
-          IsDriven course (flow writes now base) new next.0 unused heard.next)
-          (drop-drop heard.used used piece) next.1.0,
-    )
+heard_rest {writes} {course} {now} {base} {self} new piece used heard on hears =
+    let next = hears_rest self new piece used (Ok heard) hears course (flow writes now base)
+    on.after on.driven in
+    record {
+      after = next.0;
+      turns = omega (arith, on.turns, next.1.1);
+      driven = subst (λ (unused : List ℕ). IsDriven course (flow writes now base) new next.0 unused
+          heard.next) (drop-drop heard.used used piece) next.1.0;
+    }
 
 -- all of it was used;
 again_of_done : (message : SentMessage) (kept : MessageState) (end : EndLog)
@@ -246,24 +252,22 @@ unfolding Keeps KeepsNext
 again_of_done message (Serving requests answered) end keeps = keeps
 again_of_done message (Fetching id coming whole) end keeps = keeps
 
-pub done_rest : (writes : Bool) (rounds : ℕ) (before now : Traffic) (old self new : MachineState)
-    (piece : List ℕ) (used : ℕ) (heard : Heard)
-    → TakesOn writes rounds before now old self piece (drop used piece) nexts.Again
+pub done_rest : {writes : Bool} {course : Course} {now base : Traffic} {self : MachineState}
+    (new : MachineState) {end : EndLog} (piece : List ℕ) (used : ℕ) (heard : Heard) {rounds : ℕ}
+    → IsTaking writes course now base self end (drop used piece) nexts.Again rounds
     → Hears self new (take (length piece - used) (drop used piece)) (Ok heard)
-    → heard.next ≡ nexts.Done → TakesPiece writes before now old new piece (Ok false)
+    → heard.next ≡ nexts.Done → Taken writes course now base new end (Ok false)
 unfolding HearsSo TakenSo
-done_rest writes rounds before now old self new piece used heard takes hears done course base end
-    is =
-    let on = takes course base end is in
+done_rest {writes} {course} {now} {base} {self} new piece used heard on hears done =
     let rest = drop used piece in
-    let next = hears_rest self new piece used (Ok heard) hears course (flow writes now base) on.0
-    on.2 in
+    let next = hears_rest self new piece used (Ok heard) hears course (flow writes now base)
+    on.after on.driven in
     let all : length rest ≤ heard.used = omega (arith, next.1.2 done) in
     let driven = subst
     (λ (unused : List ℕ). IsDriven course (flow writes now base) new next.0 unused heard.next)
     (drop_all heard.used rest all) next.1.0 in (
       next.0,
-      omega (arith, on.1, next.1.1),
+      omega (arith, on.turns, next.1.1),
       record {
         happened = driven.happened;
         represents = driven.represents;
@@ -275,68 +279,61 @@ done_rest writes rounds before now old self new piece used heard takes hears don
     )
 
 -- the response is whole;
-pub whole_rest : (writes : Bool) (rounds : ℕ) (before now : Traffic) (old new : MachineState)
-    (piece unused : List ℕ) → TakesOn writes rounds before now old new piece unused nexts.Whole
-    → TakesPiece writes before now old new piece (Ok true)
+pub whole_rest : {writes : Bool} {course : Course} {now base : Traffic} {new : MachineState}
+    {end : EndLog} (unused : List ℕ) {rounds : ℕ}
+    → IsTaking writes course now base new end unused nexts.Whole rounds
+    → Taken writes course now base new end (Ok true)
 unfolding TakenSo
-whole_rest writes rounds before now old new piece unused takes course base end is =
-    let on = takes course base end is in (on.0, omega (arith, on.1), (unused, on.2))
+whole_rest unused on = (on.after, omega (arith, on.turns), (unused, on.driven))
 
 -- or something is due, which is done,
-pub due_rest : (writes : Bool) (rounds : ℕ) (before middle now : Traffic)
-    (old self new : MachineState) (piece unused : List ℕ) (due : Next) (done : Unit {0})
-    → IsDue due → TakesOn writes rounds before middle old self piece unused due
+pub due_rest : {writes : Bool} {course : Course} {middle now base : Traffic}
+    {self new : MachineState} {end : EndLog} {unused : List ℕ} {due : Next} {rounds : ℕ}
+    (done : Unit {0}) → IsDue due → IsTaking writes course middle base self end unused due rounds
     → WritesAndResponds writes middle now self new due (Ok done)
-    → TakesOn writes rounds before now old new piece unused nexts.Again
+    → IsTaking writes course now base new end unused nexts.Again rounds
 unfolding RespondedSo
-due_rest writes rounds before middle now old self new piece unused due done is_due takes does
-    course base end is =
-    let on = takes course base end is in
-    let now_is = does course base on.0 unused is_due on.2 in
-    (now_is.0, omega (arith, on.1, now_is.1), now_is.2)
+due_rest {course} {base} {unused} done is_due on does =
+    let now_is = does course base on.after unused is_due on.driven in
+    record { after = now_is.0; turns = omega (arith, on.turns, now_is.1); driven = now_is.2 }
 
 -- or can't be;
-pub not_done_rest : (writes : Bool) (rounds : ℕ) (before middle now : Traffic)
-    (old self new : MachineState) (piece unused : List ℕ) (due : Next) (error : LinkError)
-    → IsDue due → TakesOn writes rounds before middle old self piece unused due
+pub not_done_rest : {writes : Bool} {course : Course} {middle : Traffic} (now : Traffic)
+    {base : Traffic} {self : MachineState} (new : MachineState) {end : EndLog} {unused : List ℕ}
+    {due : Next} {rounds : ℕ} (error : LinkError) → IsDue due
+    → IsTaking writes course middle base self end unused due rounds
     → WritesAndResponds writes middle now self new due (Err error)
-    → TakesPiece writes before now old new piece (Err error)
+    → Taken writes course now base new end (Err error)
 unfolding RespondedSo TakenSo
-not_done_rest writes rounds before middle now old self new piece unused due error is_due takes does
-    course base end is =
-    let on = takes course base end is in
-    let now_is = does course base on.0 unused is_due on.2 in
-    (now_is.0, omega (arith, on.1, now_is.1), now_is.2)
+not_done_rest {course} now {base} new {unused} error is_due on does =
+    let now_is = does course base on.after unused is_due on.driven in
+    (now_is.0, omega (arith, on.turns, now_is.1), now_is.2)
 
 -- the machine can't hear on;
-pub last_rest : (writes : Bool) (rounds : ℕ) (before middle now : Traffic)
-    (old self mid new : MachineState) (piece : List ℕ) (used : ℕ) (error result : LinkError)
-    → TakesOn writes rounds before middle old self piece (drop used piece) nexts.Again
+pub last_rest : {writes : Bool} {course : Course} {middle : Traffic} (now : Traffic)
+    {base : Traffic} {self : MachineState} (mid new : MachineState) {end : EndLog}
+    (piece : List ℕ) (used : ℕ) (error result : LinkError) {rounds : ℕ}
+    → IsTaking writes course middle base self end (drop used piece) nexts.Again rounds
     → Hears self mid (take (length piece - used) (drop used piece)) (Err error)
     → EndsEarly writes middle now mid new error result
-    → TakesPiece writes before now old new piece (Err result)
+    → Taken writes course now base new end (Err result)
 unfolding HearsSo TakenSo
-last_rest writes rounds before middle now old self mid new piece used error result takes hears ends
-    course base end is =
-    let on = takes course base end is in
+last_rest {writes} {course} {middle} now {base} {self} mid new piece used error result on hears ends
+    =
     let last = hears_rest self mid piece used (Err error) hears course (flow writes middle base)
-    on.0 on.2 in
+    on.after on.driven in
     let ended = ends course base last.0 last.1.0 in
-    (ended.0, omega (arith, on.1, last.1.1, ended.1), ended.2)
+    (ended.0, omega (arith, on.turns, last.1.1, ended.1), ended.2)
 
 -- or no further round is made.
-pub no_round_rest : (writes : Bool) (rounds : ℕ) (before now : Traffic) (old new : MachineState)
-    (piece unused : List ℕ) → 2 ^ 64 - 1 ≤ rounds
-    → TakesOn writes rounds before now old new piece unused nexts.Again
-    → TakesPiece writes before now old new piece (Err errors.NoProgress)
+pub no_round_rest : {writes : Bool} {course : Course} {now base : Traffic} {new : MachineState}
+    {end : EndLog} {unused : List ℕ} {rounds : ℕ} → 2 ^ 64 - 1 ≤ rounds
+    → IsTaking writes course now base new end unused nexts.Again rounds
+    → Taken writes course now base new end (Err errors.NoProgress)
 unfolding TakenSo
-no_round_rest writes rounds before now old new piece unused all takes course base end is =
-    let on = takes course base end is in
-    let out : 2 ^ 64 - 1 ≤ length on.0.log.turns = omega (arith, all, on.1) in (
-      on.0,
-      omega (arith, on.1),
-      ends_going on.2 (has_stalled refl (inr out)),
-    )
+no_round_rest all on =
+    let out : 2 ^ 64 - 1 ≤ length on.after.log.turns = omega (arith, all, on.turns) in
+    (on.after, omega (arith, on.turns), ends_going on.driven (has_stalled refl (inr out)))
 
 -- Octets of a piece that were heard of, are within it.
 pub within_rest : (piece : List ℕ) (used count : ℕ) → used ≤ length piece

@@ -1,4 +1,4 @@
--- Which part of a request is read next: a head comes first, and nothing after the end.
+-- Which part of a message is read next: a head comes first, and nothing after the end.
 use Rattle.h2_engines.proofs.Names.{◌≡◌, ◌≢◌, ℕ, ◌-◌, Bool, true, false, List, [], ◌∷◌, ◌++◌}
 use Rattle.h2_engines.proofs.Names.{length, Option, Some, None, refl, sym, ap, ◌∙◌, append_assoc}
 use Rattle.h2_engines.proofs.Names.{nat_lt, is_some, Field, Reads, Requests, Phase, AtHead, InBody}
@@ -12,12 +12,6 @@ use Rattle.h2_message.specs.Reading.{AreSoundInterims, ended, message_parts, fin
 use Rattle.h2_message.specs.Phases.{is_short, phase_in_body, phase_after_final, phase_after_head}
 use Rattle.h2_message.specs.Phases.{phase_after_data, phase_after, phase_after_all, ends}
 use Rattle.h2_message.specs.Phases.{place_at_head, place_in}
-
--- What is taken passes the test.
-passes : {X : Type 0} (test : Bool) (option : Option X) (value : X)
-    → (if test then None else option) ≡ Some value → option ≡ Some value
-passes true option value taken = cc
-passes false option value taken = taken
 
 -- After a part that is not taken nothing is.
 pub after_none : (reads : Reads) (parts : List (Part × Bool))
@@ -39,118 +33,103 @@ after_both reads (Some phase) [] more = refl
 after_both reads (Some phase) (part ∷ parts) more =
     after_both reads (phase_after reads phase part) parts more
 
--- Whether a head comes next.
-abbrev is_start : Phase → Bool
-is_start AtHead = true
-is_start (InBody left) = false
-is_start AtEnd = false
+-- Whether no head comes next.
+abbrev pub is_begun : Option Phase → Bool
+is_begun None = true
+is_begun (Some AtHead) = false
+is_begun (Some (InBody left)) = true
+is_begun (Some AtEnd) = true
 
--- After its head no head of a message comes.
-body_goes_on : (left : Option ℕ) (end : Bool) (next : Phase) → phase_in_body left end ≡ Some next
-    → is_start next ≡ false
+-- So it is after the head of a message, and stays so.
+begun_by : (test : Bool) (phase : Option Phase) → is_begun phase ≡ true
+    → is_begun (if test then None else phase) ≡ true
+begun_by true phase begun = refl
+begun_by false phase begun = begun
+
+body_begun : (left : Option ℕ) (end : Bool) → is_begun (phase_in_body left end) ≡ true
 unfolding phase_in_body
-body_goes_on left false next taken = let same : InBody left ≡ next = cc in rw (← same)
-body_goes_on left true next taken =
-    let last : Some AtEnd ≡ Some next = passes (is_short left) (Some AtEnd) next taken in
-    let same : AtEnd ≡ next = cc in rw (← same)
+body_begun left false = refl
+body_begun left true = begun_by (is_short left) (Some AtEnd) refl
 
-data_goes_on : (left : Option ℕ) (count : ℕ) (end : Bool) (next : Phase)
-    → phase_after_data left count end ≡ Some next → is_start next ≡ false
+pub final_begun : (reads : Reads) (list : List Field) (end : Bool)
+    → is_begun (phase_after_final reads list end) ≡ true
+unfolding phase_after_final
+final_begun reads list end =
+    begun_by (is_some (first_broken (final_rules reads list)))
+    (phase_in_body (compared_length reads list) end) (body_begun (compared_length reads list) end)
+
+data_begun : (left : Option ℕ) (count : ℕ) (end : Bool)
+    → is_begun (phase_after_data left count end) ≡ true
 unfolding phase_after_data
-data_goes_on None count end next taken = body_goes_on None end next taken
-data_goes_on (Some number) count end next taken =
-    body_goes_on (Some (number - count)) end next
-    (passes (nat_lt number count) (phase_in_body (Some (number - count)) end) next taken)
+data_begun None count end = body_begun None end
+data_begun (Some number) count end =
+    begun_by (nat_lt number count) (phase_in_body (Some (number - count)) end)
+    (body_begun (Some (number - count)) end)
 
-part_goes_on : (reads : Reads) (phase next : Phase) (part : Part × Bool) → is_start phase ≡ false
-    → phase_after reads phase part ≡ Some next → is_start next ≡ false
+part_begun : (reads : Reads) (phase : Phase) (part : Part × Bool) → is_begun (Some phase) ≡ true
+    → is_begun (phase_after reads phase part) ≡ true
 unfolding phase_after
-part_goes_on reads AtHead next part going taken = cc
-part_goes_on reads (InBody left) next (FieldsPart list, end) going taken =
-    let broken = is_some (first_broken (trailer_rules list)) in
-    let passed : Some AtEnd ≡ Some next =
-    passes (not end || is_short left || broken) (Some AtEnd) next taken in
-    let last : AtEnd ≡ next = cc in
-    rw (← last)
-part_goes_on reads (InBody left) next (OctetsPart octets, end) going taken =
-    data_goes_on left (length octets) end next taken
-part_goes_on reads AtEnd next part going taken = cc
+part_begun reads AtHead part begun = cc
+part_begun reads (InBody left) (FieldsPart list, end) begun =
+    begun_by (not end || is_short left || is_some (first_broken (trailer_rules list))) (Some AtEnd)
+    refl
+part_begun reads (InBody left) (OctetsPart octets, end) begun = data_begun left (length octets) end
+part_begun reads AtEnd part begun = refl
 
-request_goes_on : (next : Phase) (part : Part × Bool)
-    → phase_after Requests AtHead part ≡ Some next → is_start next ≡ false
-unfolding phase_after phase_after_head phase_after_final
-request_goes_on next (FieldsPart list, end) taken =
-    body_goes_on (compared_length Requests list) end next
-    (passes (is_some (first_broken (final_rules Requests list)))
-    (phase_in_body (compared_length Requests list) end) next taken)
-request_goes_on next (OctetsPart octets, end) taken = cc
-
-goes_on : (reads : Reads) (phase next : Phase) (parts : List (Part × Bool))
-    → is_start phase ≡ false → phase_after_all reads (Some phase) parts ≡ Some next
-    → is_start next ≡ false
+pub stays_begun : (reads : Reads) (phase : Option Phase) (parts : List (Part × Bool))
+    → is_begun phase ≡ true → is_begun (phase_after_all reads phase parts) ≡ true
 unfolding phase_after_all
-goes_on reads phase next [] going taken =
-    let same : phase ≡ next = cc in rw (← same) going
-goes_on reads phase next (part ∷ parts) going taken =
-    elim (phase_after reads phase part) as (λ (after : Option Phase).
-    phase_after reads phase part ≡ after → phase_after_all reads after parts ≡ Some next
-    → is_start next ≡ false) [
-      | None ↦ λ is none. let nothing = after_none reads parts in cc
-      | Some after ↦ λ is others.
-          goes_on reads after next parts (part_goes_on reads phase after part going is) others
-    ] refl taken
+stays_begun reads None parts begun = ap is_begun (after_none reads parts)
+stays_begun reads (Some phase) [] begun = begun
+stays_begun reads (Some phase) (part ∷ parts) begun =
+    stays_begun reads (phase_after reads phase part) parts (part_begun reads phase part begun)
 
--- Where something of a request has come, its head doesn't come next.
-not_at_head : (part : Part × Bool) (parts : List (Part × Bool))
-    → phase_after_all Requests (Some AtHead) (part ∷ parts) ≡ Some AtHead → ⊥
-unfolding phase_after_all
-not_at_head part parts taken =
-    elim (phase_after Requests AtHead part) as (λ (after : Option Phase).
-    phase_after Requests AtHead part ≡ after → phase_after_all Requests after parts ≡ Some AtHead
-    → ⊥) [
-      | None ↦ λ is none. let nothing = after_none Requests parts in absurd (cc)
-      | Some after ↦ λ is others.
-          let going = goes_on Requests after AtHead parts (request_goes_on after part is) others in
-          absurd (cc)
-    ] refl taken
+pub request_begun : (first : Part × Bool) (parts : List (Part × Bool))
+    → is_begun (phase_after_all Requests (Some AtHead) (first ∷ parts)) ≡ true
+unfolding phase_after_all phase_after phase_after_head
+request_begun (FieldsPart list, end) parts =
+    stays_begun Requests (phase_after_final Requests list end) parts
+    (final_begun Requests list end)
+request_begun (OctetsPart octets, end) parts = ap is_begun (after_none Requests parts)
 
 -- What is read with one part more has a phase before it, that isn't the last.
-one_more : (parts : List (Part × Bool)) (part : Part × Bool) {phase : Option Phase}
-    → phase_after_all Requests (Some AtHead) parts ≡ phase
-    → IsReadable Requests (parts ++ part ∷ []) → phase_after_all Requests phase (part ∷ []) ≢ None
-one_more parts part is readable none =
-    not_readable Requests (parts ++ part ∷ []) (after_both Requests (Some AtHead) parts (part ∷ [])
-    ∙ ap (λ (now : Option Phase). phase_after_all Requests now (part ∷ [])) is ∙ none) readable
+pub one_more : {reads : Reads} (parts : List (Part × Bool)) (part : Part × Bool)
+    {phase : Option Phase} → phase_after_all reads (Some AtHead) parts ≡ phase
+    → IsReadable reads (parts ++ part ∷ []) → phase_after_all reads phase (part ∷ []) ≢ None
+one_more {reads} parts part is readable none =
+    not_readable reads (parts ++ part ∷ []) (after_both reads (Some AtHead) parts (part ∷ []) ∙ ap
+    (λ (now : Option Phase). phase_after_all reads now (part ∷ [])) is ∙ none) readable
 
-ends_all : (part : Part × Bool) → phase_after_all Requests (Some AtEnd) (part ∷ []) ≡ None
+ends_all : (reads : Reads) (part : Part × Bool)
+    → phase_after_all reads (Some AtEnd) (part ∷ []) ≡ None
 unfolding phase_after_all phase_after
-ends_all part = refl
+ends_all reads part = refl
 
 -- The first field block of a request is its head,
 pub place_first : (list : List Field) → place_after Requests [] list ≡ places.Head
 unfolding phase_after_all place_in place_at_head
 place_first list = refl
 
--- and another one its trailers.
-place_by : (first : Part × Bool) (parts : List (Part × Bool)) (list : List Field) (last : Bool)
-    (phase : Option Phase) → phase_after_all Requests (Some AtHead) (first ∷ parts) ≡ phase
-    → IsReadable Requests ((first ∷ parts) ++ (FieldsPart list, last) ∷ [])
-    → place_in Requests phase list ≡ places.Trailers
+-- and where no head comes next, one is the trailers.
+place_by : {reads : Reads} (parts : List (Part × Bool)) (list : List Field) (last : Bool)
+    (phase : Option Phase) → phase_after_all reads (Some AtHead) parts ≡ phase
+    → is_begun phase ≡ true → IsReadable reads (parts ++ (FieldsPart list, last) ∷ [])
+    → place_in reads phase list ≡ places.Trailers
 unfolding place_in
-place_by first parts list last None is readable =
-    absurd (one_more (first ∷ parts) (FieldsPart list, last) is readable
-    (after_none Requests ((FieldsPart list, last) ∷ [])))
-place_by first parts list last (Some AtHead) is readable = absurd (not_at_head first parts is)
-place_by first parts list last (Some (InBody left)) is readable = refl
-place_by first parts list last (Some AtEnd) is readable =
-    absurd (one_more (first ∷ parts) (FieldsPart list, last) is readable
-    (ends_all (FieldsPart list, last)))
+place_by {reads} parts list last None is begun readable =
+    absurd (one_more parts (FieldsPart list, last) is readable
+    (after_none reads ((FieldsPart list, last) ∷ [])))
+place_by parts list last (Some AtHead) is begun readable = cc
+place_by parts list last (Some (InBody left)) is begun readable = refl
+place_by {reads} parts list last (Some AtEnd) is begun readable =
+    absurd (one_more parts (FieldsPart list, last) is readable
+    (ends_all reads (FieldsPart list, last)))
 
-pub place_later : (first : Part × Bool) (parts : List (Part × Bool)) (list : List Field)
-    (last : Bool)
-    → IsReadable Requests ((first ∷ parts) ++ (FieldsPart list, last) ∷ [])
-    → place_after Requests (first ∷ parts) list ≡ places.Trailers
-place_later first parts list last readable = place_by first parts list last _ refl readable
+pub place_later : {reads : Reads} (parts : List (Part × Bool)) (list : List Field) (last : Bool)
+    → is_begun (phase_after_all reads (Some AtHead) parts) ≡ true
+    → IsReadable reads (parts ++ (FieldsPart list, last) ∷ [])
+    → place_after reads parts list ≡ places.Trailers
+place_later parts list last begun readable = place_by parts list last _ refl begun readable
 
 -- A request doesn't begin with octets.
 octets_at_head : (octets : List ℕ) (last : Bool)

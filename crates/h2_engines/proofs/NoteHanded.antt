@@ -23,7 +23,7 @@ use Rattle.h2_engines.proofs.TakeRequests.{HandsOut, hands_head, hands_body, han
 use Rattle.h2_engines.proofs.TakeRequests.{hands_event, server_hands, Hands, HandedOne, head_hands}
 use Rattle.h2_engines.proofs.TakeRequests.{body_hands, trailers_hands, event_besides, reset_now}
 use Rattle.h2_engines.proofs.SameRequests.{SameOn, same_on, stands_as}
-use Rattle.h2_engines.proofs.TakeMessages.{taken_says}
+use Rattle.h2_engines.proofs.TakeMessages.{taken_says, take_keeps_calls}
 
 -- Where only what is kept of one stream changes, it stands so with all requests, or all others.
 changes_all : {old new : Requests} (end : EndLog) {after : EndLog} {id : ℕ} {now : Option Request}
@@ -309,8 +309,8 @@ unfolding NotesTaken
 kept_noted {end} {after} None old new next role keeps may notes =
     let says = taken_says may in
     goes_on new after next notes.0 (notes_nothing end after next keeps
-    (λ i. same_on end after i says.accepted says.handed says.calls) notes.1)
-kept_noted {after} {count} (Some one) old new next role keeps may notes =
+    (λ i. same_on end after i says.accepted says.handed (take_keeps_calls may)) notes.1)
+kept_noted {end} {after} (Some one) old new next role keeps may notes =
     let says = taken_says may in
-    notes_one old new after next keeps (server_hands count one role may)
-    (record { handed = says.handed; accepted = says.accepted; calls = says.calls }) notes
+    notes_one old new after next keeps (server_hands end role says.says.3)
+    (record { handed = says.handed; accepted = says.accepted; calls = take_keeps_calls may }) notes

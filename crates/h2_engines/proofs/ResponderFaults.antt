@@ -1,9 +1,8 @@
 -- How often a link has failed, and what it has taken, where writing to it has ended early.
-use Rattle.h2_engines.proofs.Names.{◌≡◌, ℕ, ◌+◌, List, Option, Err, refl, ap, ◌∙◌, LinkError}
+use Rattle.h2_engines.proofs.Names.{◌≡◌, ℕ, ◌+◌, List, Option, Err, ap, ◌∙◌, LinkError}
 use Rattle.h2_link.specs.declared.error.LinkError.TheVariants as errors
 use Rattle.h2_link.specs.Links.{WritesAll, TakesFirst}
 use Rattle.h2_engines.specs.Failures.{failures_at_end, IsOfCall, EndsWriting, IsOfServer}
-use Rattle.h2_engines.specs.Failures.{IsOfClient}
 
 -- The link took some first octets,
 pub written_some : (before after : Option (List ℕ)) (failures failures_now : ℕ)
@@ -35,25 +34,8 @@ written_ends before after failures failures_now errors.Device octets so = tt
 written_ends before after failures failures_now errors.NoProgress octets so = tt
 written_ends before after failures failures_now other octets so = absurd so
 
--- A call of an end is no failure of the link,
-pub call_failures : (A : Type 0) (failures : ℕ) (error : LinkError) → IsOfCall error
-    → failures ≡ failures_at_end {A = A} failures (Err error)
-call_failures A failures errors.Memory is = refl
-call_failures A failures errors.NoProgress is = refl
-call_failures A failures other is = absurd is
-
--- and may end what writes, a server and a client.
-pub call_ends_writing : (error : LinkError) → IsOfCall error → EndsWriting error
-call_ends_writing errors.Memory is = tt
-call_ends_writing errors.NoProgress is = tt
-call_ends_writing other is = absurd is
-
+-- A call of an end may end a server.
 pub call_ends_server : (error : LinkError) → IsOfCall error → IsOfServer error
 call_ends_server errors.Memory is = tt
 call_ends_server errors.NoProgress is = tt
 call_ends_server other is = absurd is
-
-pub call_ends_client : (error : LinkError) → IsOfCall error → IsOfClient error
-call_ends_client errors.Memory is = tt
-call_ends_client errors.NoProgress is = tt
-call_ends_client other is = absurd is

@@ -1,17 +1,21 @@
 -- What calls and octets that were taken leave of the input and the output of a log.
 use Rattle.h2_engines.proofs.Names.{◌≡◌, ◌≢◌, ◌≤◌, ℕ, List, [], ◌++◌, length, take, refl, sym, ap}
 use Rattle.h2_engines.proofs.Names.{◌∙◌, append_assoc, append-nil, take-append-le}
-use Rattle.h2_engines.proofs.Names.{Refusal, Act, Answer, Refuse, PutOut, OutOfMemory, Refused, Log}
+use Rattle.h2_engines.proofs.Names.{Act, Answer, Refuse, PutOut, OutOfMemory, Refused, Log}
 use Rattle.h2_engines.proofs.Names.{Keeps-call, TakeAnswer, MayTake, reports_unprocessed}
 use Rattle.h2_engines.proofs.Names.{ends_no_frame, ends_frame, meets_fault, sent_failed, given_out}
-use Rattle.h2_engines.proofs.Names.{gives_call, call_given}
+use Rattle.h2_engines.proofs.Names.{gives_call, call_given, Result, EndRefusal, EndLog}
 use Rattle.h2_log.specs.LogCalls.{with_items, with_call}
 use Rattle.h2_end_laws.specs.Takes.{has_failed, runs_out_of_memory}
 use Rattle.h2_end_laws.proofs.Failures.{unreturned_failed}
 use Rattle.h2_machine_laws.specs.Machines as steps
 use Rattle.h2_machine_laws.specs.Machines.{Step, log_after}
 use Rattle.h2_pair.proofs.StepsOfLogs.{step_adds, IsNoCall}
+use Rattle.h2_ends.specs.EndCalls.{MayPump, MayReleaseAll}
 use Rattle.h2_engines.specs.Linked.{Traffic, IsLinked}
+use Rattle.h2_engines.specs.ServerSteps.{IsSameOfMessages}
+use Rattle.h2_engines.proofs.LinkInvariants.{IsQuiet, CallsKeep, pumped_keeps, released_keeps}
+use Rattle.h2_engines.proofs.TakeMessages.{KeepsCalls, keeps_by_call}
 
 -- Octets were added to the output, and as many were given out.
 pub record Writes (before after : Log) : Type 0 where
@@ -101,42 +105,33 @@ goes_twice a b =
       failed = b.failed ∙ a.failed;
     }
 
--- A call fails nothing, unless memory was refused to one that can't be refused, or it refuses a
--- stream.
+-- A quiet call fails nothing.
 pub items_failed : (log : Log) (act : Act) (answer : Answer)
     → (with_items log act answer).failed ≡ log.failed
 unfolding with_items
 items_failed log act answer = unreturned_failed _ _ ∙ sent_failed _ _
 
-call_failed : (log : Log) (act : Act) (answer : Answer) → ((count : ℕ) → act ≢ PutOut count)
-    → ((id code : ℕ) → act ≢ Refuse id code) → answer ≢ OutOfMemory
+call_failed : (log : Log) (act : Act) (answer : Answer) → IsQuiet act answer
     → (with_call log act answer).failed ≡ log.failed
 unfolding with_call
-call_failed log act (Refused refusal) put refuse memory = refl
-call_failed log act OutOfMemory put refuse memory = absurd (memory refl)
-call_failed log (Refuse id code) answer put refuse memory = absurd (refuse id code refl)
-call_failed log (PutOut count) answer put refuse memory = absurd (put count refl)
-call_failed log act answer put refuse memory = items_failed log act answer
+call_failed log act (Refused refusal) quiet = refl
+call_failed log act OutOfMemory quiet = absurd quiet
+call_failed log (Refuse id code) answer quiet = absurd quiet
+call_failed log (PutOut count) answer quiet = absurd quiet
+call_failed log act answer quiet = items_failed log act answer
 
-pub call_goes : (log : Log) (act : Act) (answer : Answer) → ((count : ℕ) → act ≢ PutOut count)
-    → ((id code : ℕ) → act ≢ Refuse id code) → answer ≢ OutOfMemory
+quiet_put : (act : Act) (answer : Answer) → IsQuiet act answer → (count : ℕ) → act ≢ PutOut count
+quiet_put act OutOfMemory quiet count same = absurd quiet
+quiet_put (PutOut n) answer quiet count same = absurd quiet
+quiet_put act answer quiet count same = cc
+
+pub call_goes : (log : Log) (act : Act) (answer : Answer) → IsQuiet act answer
     → GoesOn log (with_call log act answer)
-call_goes log act answer put refuse memory =
+call_goes log act answer quiet =
     record {
-      writes = call_writes log act answer put;
+      writes = call_writes log act answer (quiet_put act answer quiet);
       input = (Keeps-call log act answer).input;
-      failed = call_failed log act answer put refuse memory;
-    }
-
--- A call that is refused writes nothing.
-pub refused_goes : (log : Log) (act : Act) (refusal : Refusal)
-    → GoesOn log (with_call log act (Refused refusal))
-unfolding with_call
-refused_goes log act refusal =
-    record {
-      writes = record { octets = []; written = sym (append-nil log.written); given = refl };
-      input = refl;
-      failed = refl;
+      failed = call_failed log act answer quiet;
     }
 
 -- The end goes on over the link.
@@ -147,4 +142,61 @@ goes_links {start} {now} {unused} within goes linked =
     record {
       given = rw goes.input linked.given;
       taken = rw ((writes_given within goes.writes)) linked.taken;
+    }
+
+-- Nothing was accepted and handed out, and the connection goes on.
+pub record StaysOn (before after : EndLog) : Type 0 where
+  pub goes : GoesOn before.log after.log
+  pub accepted : after.accepted ≡ before.accepted
+  pub handed : after.handed ≡ before.handed
+  pub calls : KeepsCalls before.log after.log
+
+pub stays_none : (end : EndLog) → StaysOn end end
+stays_none end =
+    record {
+      goes = goes_none end.log;
+      accepted = refl;
+      handed = refl;
+      calls = λ act answer was. was;
+    }
+
+pub stays_twice : {one two three : EndLog} → StaysOn one two → StaysOn two three
+    → StaysOn one three
+stays_twice a b =
+    record {
+      goes = goes_twice a.goes b.goes;
+      accepted = b.accepted ∙ a.accepted;
+      handed = b.handed ∙ a.handed;
+      calls = λ act answer was. b.calls act answer (a.calls act answer was);
+    }
+
+-- So it is after quiet calls, of a pump or a release.
+calls_stay : (before : EndLog) → CallsKeep (StaysOn before)
+calls_stay before end act answer quiet stays =
+    stays_twice stays (record {
+      goes = call_goes end.log act answer quiet;
+      accepted = refl;
+      handed = refl;
+      calls = keeps_by_call end.log act answer;
+    })
+
+pub pumped_stays : (before : EndLog) (result : Result ℕ EndRefusal) (after : EndLog)
+    → MayPump before result after → StaysOn before after
+pumped_stays before result after may =
+    pumped_keeps (StaysOn before) (calls_stay before) before result after may (stays_none before)
+
+pub released_stays : (before : EndLog) (result : Result (Unit {0}) EndRefusal) (after : EndLog)
+    → MayReleaseAll before result after → StaysOn before after
+released_stays before result after may =
+    released_keeps (StaysOn before) (calls_stay before) before result after may (stays_none before)
+
+-- Nothing of a message has happened.
+pub stays_same : {before after : EndLog} → StaysOn before after → IsSameOfMessages before after
+stays_same stays =
+    record {
+      accepted = stays.accepted;
+      handed = stays.handed;
+      calls = stays.calls;
+      failed = stays.goes.failed;
+      used = stays.goes.input;
     }

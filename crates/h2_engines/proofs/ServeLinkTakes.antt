@@ -1,16 +1,16 @@
 -- A call of `take` uses the first octets of a piece, and gives nothing out.
-use Rattle.h2_engines.proofs.Names.{◌≡◌, ◌≤◌, ℕ, List, ◌++◌, length, drop, Option, Some, None, refl}
-use Rattle.h2_engines.proofs.Names.{sym, ap, ◌∙◌, subst, append_assoc, Appends, Code, Answer}
+use Rattle.h2_engines.proofs.Names.{◌≡◌, ◌≤◌, ℕ, List, ◌++◌, length, drop, Option, None}
+use Rattle.h2_engines.proofs.Names.{sym, ap, ◌∙◌, subst, append_assoc, Appends, Answer}
 use Rattle.h2_engines.proofs.Names.{Refuse, Event, Log, Keeps-call, MayTake, Took, Failed}
+use Rattle.h2_engines.proofs.Names.{TakeAnswer}
 use Rattle.h2_engines.proofs.Names.{log_after_take, EndLog, EndAnswer, EndTook, EndFailed}
-use Rattle.h2_engines.proofs.Names.{EndMayTake, hands_nothing, passes, hands_out}
-use Rattle.h2_engines.proofs.Names.{runs_out_of_memory}
+use Rattle.h2_engines.proofs.Names.{EndMayTake}
 use Rattle.std.proofs.Math.Seq.{drop-append_seam}
 use Rattle.h2_log.specs.LogCalls.{with_call}
-use Rattle.h2_ends.specs.EndTakes.{AnswersRefused, fails, refuses}
 use Rattle.h2_engines.specs.Linked.{Traffic, HasGiven, IsLinked}
 use Rattle.h2_engines.proofs.ServeLinkLogs.{Writes, writes_twice, writes_given, call_writes}
 use Rattle.h2_engines.proofs.ServeLinkLogs.{take_writes}
+use Rattle.h2_engines.proofs.TakeMessages.{SaysOf, taken_says, holds_called}
 
 -- The first octets of a piece were used.
 pub record UsesFirst (before after : Log) (piece : List ℕ) : Type 0 where
@@ -29,94 +29,71 @@ pub record TakesFirst (before after : Log) (piece : List ℕ) (answer : EndAnswe
   pub uses : UsesFirst before after piece
   pub says : SaysUsed answer uses.octets after
 
--- By its answer, and what has happened then.
-takes_as : (before : Log) {log after : Log} (piece : List ℕ) {answer is : EndAnswer} → answer ≡ is
-    → after ≡ log → TakesFirst before log piece is → TakesFirst before after piece answer
-takes_as before {log} piece {answer} same now takes = rw now (rw same takes)
+-- They are as many as the connection has answered,
+record Uses (before after : Log) (piece : List ℕ) (took : TakeAnswer) : Type 0 where
+  uses : UsesFirst before after piece
+  counts : (count : ℕ) (event : Option Event) → took ≡ Took count event → length uses.octets ≡ count
 
--- The octets of the connection,
-took_first : {before after : Log} {piece : List ℕ} {count : ℕ} {event : Option Event}
-    → MayTake before piece (Took count event) after
-    → (uses : UsesFirst before after piece) × (length uses.octets ≡ count) × (after.failed ≡ None)
-took_first {before} {after} {piece} {count} {event} may =
-    let says = log_after_take before after piece (Took count event) may in (
-      record {
+took_first : (before log : Log) (piece : List ℕ) (took : TakeAnswer)
+    → MayTake before piece took log → Uses before log piece took
+took_first before log piece (Took n heard) may =
+    let says = log_after_take before log piece (Took n heard) may in
+    record {
+      uses = record {
         octets = says.0;
         unused = says.1;
         split = says.2;
         input = says.4;
         writes = take_writes may;
-      },
-      says.3,
-      says.6,
-    )
-
-failed_first : {before after : Log} {piece : List ℕ} {code : Code}
-    → MayTake before piece (Failed code) after → UsesFirst before after piece
-failed_first {before} {after} {piece} {code} may =
-    let says = log_after_take before after piece (Failed code) may in
+      };
+      counts = λ count event same. let counted = says.3 in cc;
+    }
+took_first before log piece (Failed code) may =
+    let says = log_after_take before log piece (Failed code) may in
     record {
-      octets = says.0;
-      unused = says.1;
-      split = says.2;
-      input = says.3;
-      writes = take_writes may;
+      uses = record {
+        octets = says.0;
+        unused = says.1;
+        split = says.2;
+        input = says.3;
+        writes = take_writes may;
+      };
+      counts = λ count event same. cc;
     }
 
 -- and the same once a stream was refused.
-called_first : {before log : Log} {piece : List ℕ} (id code : ℕ) (answer : Answer)
-    → UsesFirst before log piece → UsesFirst before (with_call log (Refuse id code) answer) piece
-called_first {log} id code answer uses =
+called_first : {before log : Log} {piece : List ℕ} {took : TakeAnswer} (id code : ℕ)
+    (answer : Answer) → Uses before log piece took
+    → Uses before (with_call log (Refuse id code) answer) piece took
+called_first {log} id code answer is =
     record {
-      octets = uses.octets;
-      unused = uses.unused;
-      split = uses.split;
-      input = (Keeps-call log (Refuse id code) answer).input ∙ uses.input;
-      writes = writes_twice uses.writes
-          (call_writes log (Refuse id code) answer (λ count wrong. cc));
+      uses = record {
+        octets = is.uses.octets;
+        unused = is.uses.unused;
+        split = is.uses.split;
+        input = (Keeps-call log (Refuse id code) answer).input ∙ is.uses.input;
+        writes = writes_twice is.uses.writes
+            (call_writes log (Refuse id code) answer (λ count wrong. cc));
+      };
+      counts = is.counts;
     }
 
-refused_first : (before : EndLog) {log : Log} {piece : List ℕ} {count : ℕ} (id : ℕ)
-    (answer : EndAnswer) (after : EndLog) (failed : Option Code) → log.failed ≡ failed
-    → (uses : UsesFirst before.log log piece) → length uses.octets ≡ count
-    → AnswersRefused before log count id answer after failed
-    → TakesFirst before.log after.log piece answer
-unfolding AnswersRefused
-refused_first before {piece} id answer after None up uses counted refused =
-    takes_as before.log piece refused.0 (ap (λ (end : EndLog). end.log) refused.1)
-    (record { uses = uses; says = (counted, up) })
-refused_first before {piece} id answer after (Some code) is uses counted refused =
-    takes_as before.log piece refused.0 (ap (λ (end : EndLog). end.log) refused.1)
-    (record { uses = uses; says = tt })
-
 -- Whatever a call of `take` answers, it has used the first octets.
+says_first : (before : EndLog) {piece : List ℕ} (answer : EndAnswer) {after : Log}
+    {took : TakeAnswer} → SaysOf before took answer after → Uses before.log after piece took
+    → TakesFirst before.log after piece answer
+says_first before (EndTook count handed) says is =
+    record { uses = is.uses; says = (is.counts count says.0 says.1, says.2) }
+says_first before (EndFailed code) says is = record { uses = is.uses; says = tt }
+
 pub takes_first : {before : EndLog} {piece : List ℕ} {answer : EndAnswer} {after : EndLog}
     → EndMayTake before piece answer after → TakesFirst before.log after.log piece answer
-unfolding called_first took_first
-takes_first {before} {piece} (fails code log takes same now) =
-    takes_as before.log piece same (ap (λ (end : EndLog). end.log) now)
-    (record { uses = failed_first takes; says = tt })
-takes_first {before} {piece} (hands_nothing count log takes same now) =
-    let took = took_first takes in
-    takes_as before.log piece same (ap (λ (end : EndLog). end.log) now)
-    (record { uses = took.0; says = (took.1, took.2) })
-takes_first {before} {piece} (passes count event log takes none same now) =
-    let took = took_first takes in
-    takes_as before.log piece same (ap (λ (end : EndLog). end.log) now)
-    (record { uses = took.0; says = (took.1, took.2) })
-takes_first {before} {piece} (hands_out count event log takes id part is readable same now) =
-    let took = took_first takes in
-    takes_as before.log piece same (ap (λ (end : EndLog). end.log) now)
-    (record { uses = took.0; says = (took.1, took.2) })
-takes_first {before} {answer} {after}
-    (refuses count event log takes id part is broken refused may answers) =
-    let took = took_first takes in
-    refused_first before id answer after _ refl (called_first id 1 refused took.0) took.1 answers
-takes_first {before} {piece}
-    (runs_out_of_memory count id list ends log takes role none readable refused may same now) =
-    let took = took_first takes in
-    takes_as before.log piece same (ap (λ (end : EndLog). end.log) now)
-    (record { uses = called_first id 2 refused took.0; says = tt })
+takes_first {before} {piece} {answer} may =
+    let is = taken_says may in
+    says_first before answer is.says
+    (holds_called (λ (log : Log). Uses before.log log piece is.took) is
+    (took_first before.log is.log piece is.took is.takes)
+    (λ log id code said uses. called_first id code said uses))
 
 -- The octets that weren't used are those that are left of what the link gave.
 given_first : (start now : Traffic) {before after : Log} {piece : List ℕ}

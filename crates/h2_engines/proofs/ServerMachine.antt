@@ -1,7 +1,7 @@
 -- What a server that is driven makes of octets, and of what is due.
 use Rattle.h2_engines.proofs.Names.{◌≡◌, ◌≤◌, ◌<◌, ℕ, ◌+◌, ◌-◌, ◌^◌, Bool, true, false, List, ◌∷◌}
 use Rattle.h2_engines.proofs.Names.{length, Some, None, Result, Ok, Err, if◌then◌else◌, refl, sym}
-use Rattle.h2_engines.proofs.Names.{ap, ◌∙◌, subst, inl, inr, arith, IfErr, Refusal, Answer}
+use Rattle.h2_engines.proofs.Names.{ap, ◌∙◌, subst, inl, arith, IfErr, Refusal, Answer}
 use Rattle.h2_engines.proofs.Names.{SendFields, ResetStream, Done, Refused, has_failed}
 use Rattle.h2_engines.proofs.Names.{is_no_stream, is_full, Log, log_view, MayAnswer, accepts}
 use Rattle.h2_engines.proofs.Names.{refuses, lacks, fails, is_head_alone, first_in, SentMessage}
@@ -14,9 +14,8 @@ use Rattle.h2_log.specs.CallRules.{conditions, first_of, refusal_of, has_all_res
 use Rattle.h2_log.specs.Limits.{max_resets}
 use Rattle.h2_log.specs.Log.{waiting, resets_written}
 use Rattle.h2_log.specs.LogCalls.{with_call}
-use Rattle.h2_ends.specs.declared.refusal.EndRefusal.TheVariants as refusals
 use Rattle.h2_ends.specs.Ends.{parts_on}
-use Rattle.h2_ends.specs.EndCalls.{MayRespond, IsUnchanged}
+use Rattle.h2_ends.specs.EndCalls.{MayRespond}
 use Rattle.h2_link.specs.declared.error.LinkError.TheVariants as errors
 use Rattle.h2_engines.specs.declared.machine.Heard.{Heard}
 use Rattle.h2_engines.specs.declared.request.Next.TheVariants as nexts
@@ -43,9 +42,9 @@ use Rattle.h2_engines.proofs.MachineViews.{server_held}
 use Rattle.h2_engines.proofs.NoteHanded.{kept_noted}
 use Rattle.h2_engines.proofs.ResponderEnds.{given_within}
 use Rattle.h2_engines.proofs.ResponderRefusals.{answer_not_full}
-use Rattle.h2_engines.proofs.ServerRole.{kept_role}
+use Rattle.h2_engines.proofs.LinkInvariants.{CallsKeep, AnswersKeep, responded_keeps, kept_role}
 use Rattle.h2_engines.proofs.TakeMessages.{taken_says, kept_failed}
-use Rattle.h2_engines.proofs.ServeLinkLogs.{GoesOn, goes_none, call_goes, refused_goes, goes_links}
+use Rattle.h2_engines.proofs.ServeLinkLogs.{GoesOn, goes_none, goes_twice, call_goes, goes_links}
 use Rattle.h2_engines.proofs.ServeLinkTakes.{SaysUsed}
 use Rattle.h2_engines.proofs.TurnsPassed.{turns_of_response, turns_of_call}
 
@@ -74,7 +73,8 @@ server_hears old new piece (Ok heard) same hears course now end is =
       now_is.0,
       hears_on (server_held new) heard says.0 is says.1 now_is.1
           (takes is.happened piece _ says.1) (
-            kept_noted says.0 old.requests new.requests heard.next (kept_role is.happened) is.keeps.0
+            kept_noted says.0 old.requests new.requests heard.next (kept_role is.happened)
+            is.keeps.0
                 says.1 says.2,
             same ∙ is.keeps.1 ∙ ap length (sym taken.accepted),
           ) says.3,
@@ -88,13 +88,22 @@ server_hears old new piece (Err error) same hears course now end is =
           says.1 says.2 used),
     )
 
--- A request was answered: its head was sent.
-responded_goes : (end : EndLog) (id : ℕ) (message : SentMessage) (done : Unit {0})
-    (after : EndLog) → MayRespond end id message (Ok done) after → GoesOn end.log after.log
+-- A request was answered, or can't be: the connection goes on.
+calls_go : (log : Log) → CallsKeep (λ one. GoesOn log one.log)
+calls_go log end act answer quiet goes = goes_twice goes (call_goes end.log act answer quiet)
+
+answers_go : (log : Log) → AnswersKeep (λ one. GoesOn log one.log)
 unfolding MayRespond
-responded_goes end id message done after may =
-    rw may.5 (call_goes end.log (SendFields id message.head (is_head_alone message)) Done
-    (λ count same. cc) (λ i code same. cc) (λ same. cc))
+answers_go log before id message done after may goes =
+    rw may.5 (calls_go log before (SendFields id message.head (is_head_alone message)) Done tt goes)
+
+responded_goes : (end : EndLog) (id : ℕ) (message : SentMessage)
+    (result : Result (Unit {0}) EndRefusal) (after : EndLog)
+    → MayRespond end id message result after
+    → GoesOn end.log after.log
+responded_goes end id message result after may =
+    responded_keeps (λ one. GoesOn end.log one.log) (calls_go end.log) (answers_go end.log) end id
+    message result after may (goes_none end.log)
 
 responded_counts : (end : EndLog) (id : ℕ) (message : SentMessage) (done : Unit {0})
     (after : EndLog) → MayRespond end id message (Ok done) after
@@ -105,23 +114,8 @@ responded_counts end id message done after may =
     let more : length ((id, message) ∷ end.accepted) ≡ length end.accepted + 1 = omega arith in
     all ∙ more
 
--- A request can't be answered: nothing has happened, or the connection has refused a call.
-unchanged_goes : (before after : EndLog) → IsUnchanged before after → GoesOn before.log after.log
-unfolding IsUnchanged
-unchanged_goes before after (inl same) = rw same (goes_none before.log)
-unchanged_goes before after (inr called) = rw called.5 (refused_goes before.log called.0 called.1)
-
 same_goes : {before after : EndLog} → after ≡ before → GoesOn before.log after.log
 same_goes {before} same = rw same (goes_none before.log)
-
-unanswered_goes : (end : EndLog) (id : ℕ) (message : SentMessage) (refusal : EndRefusal)
-    (after : EndLog) → MayRespond end id message (Err refusal) after → GoesOn end.log after.log
-unfolding MayRespond
-unanswered_goes end id message refusals.NotAsked after may = same_goes may.1
-unanswered_goes end id message refusals.Answered after may = same_goes may.2
-unanswered_goes end id message (refusals.BadMessage rule) after may = same_goes may.3
-unanswered_goes end id message (refusals.Conn refusal) after may =
-    unchanged_goes end after may.4
 
 same_turns : {end after : EndLog} → after ≡ end → length end.log.turns ≤ length after.log.turns
 same_turns same =
@@ -179,7 +173,7 @@ not_answered writes course now new {end} {after} {id} {request} {error} of_call 
       turns = turns_of_response end after id message (Err refusal) may;
       responding = answers responding id message (Err refusal) to_answer.whole to_answer.fits asked
           may;
-      goes = unanswered_goes end id message refusal after may;
+      goes = responded_goes end id message (Err refusal) after may;
       why = calls_ends writes course.start now new.requests new.answered after error of_call (λ
           same. stops.answer_refused same end id message refusal to_answer.whole asked may
           (λ said. answer_not_full end id message refusal after (none said) may) (sym is ∙ same));
@@ -199,7 +193,7 @@ server_answers old new id request (Ok done) counted requests of_call answered wr
     let now_is = answered course.values end is.represents in
     let may : MayRespond end id message (Ok done) now_is.0 = now_is.2 in
     let to_answer = is.keeps.0.1 in
-    let goes = responded_goes end id message done now_is.0 may in (
+    let goes = responded_goes end id message (Ok done) now_is.0 may in (
       now_is.0,
       turns_of_response end now_is.0 id message (Ok done) may,
       record {
@@ -311,7 +305,7 @@ reset_refused answer errors.Refused so = absurd so
 
 reset_goes : (log : Log) (id : ℕ) {answer : Answer} (refusal : Refusal) → answer ≡ Refused refusal
     → GoesOn log (with_call log (ResetStream id calm) answer)
-reset_goes log id refusal is = rw is (refused_goes log (ResetStream id calm) refusal)
+reset_goes log id refusal is = rw is (call_goes log (ResetStream id calm) (Refused refusal) tt)
 
 -- A stream is reset.
 reset_typed : (id : ℕ) → id < 2 ^ 32 → IsTypedAct (ResetStream id calm)
@@ -329,8 +323,8 @@ server_resets old new id (Ok done) fits same requests reset writes course now en
     let answer = now_is.0 in
     let was : answer ≡ Done = now_is.3 in
     let log = with_call end.log (ResetStream id calm) answer in
-    let goes = call_goes end.log (ResetStream id calm) answer (λ count wrong. cc)
-    (λ i code wrong. cc) (λ wrong. cc) in
+    let goes : GoesOn end.log log =
+    rw was (call_goes end.log (ResetStream id calm) Done tt) in
     let more = turns_of_call end.log (ResetStream id calm) answer in (
       end_with_log end log,
       omega (arith, more),

@@ -1,17 +1,19 @@
 -- What a server's end hands out of a request, and where.
 use Rattle.h2_engines.proofs.Names.{◌≡◌, ◌≢◌, ℕ, Bool, true, false, if◌then◌else◌, List, [], ◌∷◌}
-use Rattle.h2_engines.proofs.Names.{◌++◌, Some, refl, sym, ap, ◌∙◌, subst, append-nil, ne_eqb}
+use Rattle.h2_engines.proofs.Names.{◌++◌, refl, sym, ap, ◌∙◌, subst, append-nil, ne_eqb}
 use Rattle.h2_engines.proofs.Names.{eq-eqb, Contains, ◌==◌, Field, Server, Event, ResetEvent}
 use Rattle.h2_engines.proofs.Names.{is_server, Reads, Requests, Responses, Place, Part, FieldsPart}
-use Rattle.h2_engines.proofs.Names.{OctetsPart, IsReadable, first_in, later_in, EndLog, EndTook}
+use Rattle.h2_engines.proofs.Names.{OctetsPart, IsReadable, first_in, later_in, EndLog}
 use Rattle.h2_engines.proofs.Names.{Handed, HeadHanded, BodyHanded, TrailersHanded, Passed}
-use Rattle.h2_engines.proofs.Names.{asked_head, EndMayTake}
+use Rattle.h2_engines.proofs.Names.{asked_head}
 use Rattle.h2_message.specs.Phases.{ends}
 use Rattle.h2_ends.specs.Ends.{handed_as, handed_at, message_for, part_on, parts_on, reads_on}
 use Rattle.h2_engines.specs.ServerHistories.{WasReset}
-use Rattle.h2_engines.proofs.NextParts.{place_first, place_later, no_octets_first, goes_with}
+use Rattle.h2_engines.proofs.NextParts.{place_first, place_later, request_begun}
+use Rattle.h2_engines.proofs.NextParts.{no_octets_first, goes_with}
 use Rattle.h2_engines.proofs.SameRequests.{SameOn}
-use Rattle.h2_engines.proofs.TakeMessages.{KeepsCalls, take_hands}
+use Rattle.h2_engines.proofs.TakeMessages as read
+use Rattle.h2_engines.proofs.TakeMessages.{KeepsCalls, HandsAsRead}
 
 -- What a server's end may hand out: the head of a request where nothing of it has come; octets and
 -- trailers after that, where it hasn't ended; or what is no part of a request.
@@ -37,7 +39,7 @@ as_trailers : (first : Part × Bool) (parts : List (Part × Bool)) (id : ℕ) (l
 unfolding handed_as handed_at
 as_trailers first parts id list last readable =
     ap (λ (place : Place). handed_at place id list last)
-    (place_later first parts list last readable)
+    (place_later (first ∷ parts) list last (request_begun first parts) readable)
 
 as_body : (reads : Reads) (parts : List (Part × Bool)) (id : ℕ) (octets : List ℕ) (last : Bool)
     → BodyHanded id octets last ≡ handed_as reads parts id (OctetsPart octets, last)
@@ -79,12 +81,11 @@ hands_as_read end id part same readable =
     (λ (one : Reads). IsReadable one (parts_on id end.handed ++ part ∷ [])) same readable))
 
 -- So it is with what a call of `take` hands out.
-pub server_hands : {end after : EndLog} {piece : List ℕ} (count : ℕ) (handed : Handed)
-    → end.log.role ≡ Server → EndMayTake end piece (EndTook count (Some handed)) after
-    → HandsOut end handed
-server_hands {end} count handed role may =
-    take_hands (HandsOut end) count handed hands_event
-    (λ id part readable. hands_as_read end id part (reads_requests end id role) readable) may
+pub server_hands : (end : EndLog) {handed : Handed} → end.log.role ≡ Server
+    → HandsAsRead end handed → HandsOut end handed
+server_hands end role (read.hands_event event) = hands_event event
+server_hands end role (read.hands_part id part readable) =
+    hands_as_read end id part (reads_requests end id role) readable
 
 -- One part of a request was handed out on a stream, and nothing on others.
 pub record Hands (end after : EndLog) (id : ℕ) (part : Part × Bool) : Type 0 where

@@ -1,20 +1,19 @@
 -- How many turns have passed at an end after each act: a call or a take is one at least.
 use Rattle.h2_engines.proofs.Names.{◌≤◌, ◌<◌, ℕ, ◌+◌, Bool, List, [], length, length-append, Option}
-use Rattle.h2_engines.proofs.Names.{Some, None, Result, ap, arith, Code, Act, Answer}
+use Rattle.h2_engines.proofs.Names.{Result, ap, arith, Act, Answer}
 use Rattle.h2_engines.proofs.Names.{Refuse, Event, Log, MayTake, Took, reports_unprocessed}
 use Rattle.h2_engines.proofs.Names.{ends_no_frame, ends_frame, meets_fault, SentMessage, EndRefusal}
-use Rattle.h2_engines.proofs.Names.{EndLog, Handed, EndAnswer, EndTook, EndMayTake, hands_nothing}
-use Rattle.h2_engines.proofs.Names.{passes, hands_out, runs_out_of_memory}
+use Rattle.h2_engines.proofs.Names.{EndLog, Handed, EndAnswer, EndTook, EndMayTake, TakeAnswer}
+use Rattle.h2_engines.proofs.Names.{subst, is_head_alone, SendFields, Done}
 use Rattle.h2_log.specs.Acts.{Turn}
 use Rattle.h2_log.specs.LogCalls.{with_call}
 use Rattle.h2_log.specs.LogSteps.{used}
 use Rattle.h2_end_laws.specs.Takes.{has_failed, runs_out_of_memory as lacks_memory}
 use Rattle.h2_end_laws.proofs.TurnsAdded.{Adds, adds_call, adds_take}
-use Rattle.h2_ends.specs.EndTakes.{AnswersRefused, fails, refuses}
 use Rattle.h2_ends.specs.EndCalls.{MayRespond, MayPump, MayReleaseAll}
-use Rattle.h2_engines.proofs.ServerInvariant.{CallsKeep, AnswersKeep, pumped_keeps, released_keeps}
-use Rattle.h2_engines.proofs.ServerInvariant.{responded_keeps}
-use Rattle.h2_engines.proofs.TakeMessages.{take_holds}
+use Rattle.h2_engines.proofs.LinkInvariants.{CallsKeep, AnswersKeep, pumped_keeps, released_keeps}
+use Rattle.h2_engines.proofs.LinkInvariants.{responded_keeps}
+use Rattle.h2_engines.proofs.TakeMessages.{taken_says, holds_called}
 use Rattle.h2_engines.proofs.TurnsOfFrames.{turns_of_event, turns_of_due, turns_of_frame}
 
 -- A log to which turns are added has no fewer.
@@ -58,51 +57,34 @@ took_turn {log} (ends_frame takes octets unused joined frame decoded framed sees
 took_turn (meets_fault takes octets unused joined fault at answers same) = absurd (cc)
 took_turn (lacks_memory up octets unused joined may answers same) = absurd (cc)
 
--- No turn is undone once a stream was refused.
-refused_turns : (n : ℕ) (end : EndLog) (log : Log) (count id : ℕ) (answer : EndAnswer)
-    (after : EndLog) (fault : Option Code) → AnswersRefused end log count id answer after fault
-    → n ≤ length log.turns → n ≤ length after.log.turns
-unfolding AnswersRefused
-refused_turns n end log count id answer after None so turns = rw so.1 turns
-refused_turns n end log count id answer after (Some code) so turns = rw so.1 turns
-
 -- A take that doesn't end the connection is a turn at least.
 pub turns_of_take : {end after : EndLog} {piece : List ℕ} {count : ℕ} {handed : Option Handed}
     → EndMayTake end piece (EndTook count handed) after
     → length end.log.turns < length after.log.turns
-turns_of_take (fails code log may answers same) = absurd (cc)
-turns_of_take (hands_nothing taken log may answers same) = rw same (took_turn may)
-turns_of_take (passes taken event log may none answers same) = rw same (took_turn may)
-turns_of_take (hands_out taken event log may id part is readable answers same) =
-    rw same (took_turn may)
-turns_of_take {end} {after} {count} {handed}
-    (refuses taken event log may id part is unreadable refused answered answers) =
-    let took = took_turn may in
-    let call = turns_of_call log (Refuse id 1) refused in
-    let all : length end.log.turns + 1 ≤ length (with_call log (Refuse id 1) refused).turns =
-    omega (arith, took, call) in
-    let after_all = refused_turns (length end.log.turns + 1) end
-    (with_call log (Refuse id 1) refused) taken id (EndTook count handed) after
-    (with_call log (Refuse id 1) refused).failed answers all in
-    omega (arith, after_all)
-turns_of_take (runs_out_of_memory taken id list ends log may server none readable refused answered
-    fails_so same) = absurd (cc)
+turns_of_take {end} {piece} may =
+    let is = taken_says may in
+    let took = subst (λ (one : TakeAnswer). MayTake end.log piece one is.log) is.says.1 is.takes in
+    holds_called (λ (log : Log). length end.log.turns < length log.turns) is (took_turn took)
+    (λ log id code said so. omega (arith, so, turns_of_call log (Refuse id code) said))
 
 -- No take undoes a turn.
 pub turns_of_answer : {end after : EndLog} {piece : List ℕ} {answer : EndAnswer}
     → EndMayTake end piece answer after → length end.log.turns ≤ length after.log.turns
 turns_of_answer {end} {piece} may =
-    take_holds (λ (log : Log). length end.log.turns ≤ length log.turns)
-    (λ log took takes. turns_added (adds_take end.log log piece took takes))
-    (λ log id code said so. omega (arith, so, turns_of_call log (Refuse id code) said)) may
+    let is = taken_says may in
+    holds_called (λ (log : Log). length end.log.turns ≤ length log.turns) is
+    (turns_added (adds_take end.log is.log piece is.took is.takes))
+    (λ log id code said so. omega (arith, so, turns_of_call log (Refuse id code) said))
 
 -- Nor does a call,
 turns_kept : (n : ℕ) → CallsKeep (λ one. n ≤ length one.log.turns)
-turns_kept n end act answer so = omega (arith, so, turns_of_call end.log act answer)
+turns_kept n end act answer quiet so = omega (arith, so, turns_of_call end.log act answer)
 
 answer_turns : (n : ℕ) → AnswersKeep (λ one. n ≤ length one.log.turns)
 unfolding MayRespond
-answer_turns n before id message done after may so = rw may.5 (turns_kept n before _ _ so)
+answer_turns n before id message done after may so =
+    rw may.5 (omega (arith, so, turns_of_call before.log
+    (SendFields id message.head (is_head_alone message)) Done))
 
 pub turns_of_response : (end after : EndLog) (id : ℕ) (message : SentMessage)
     (result : Result (Unit {0}) EndRefusal) → MayRespond end id message result after

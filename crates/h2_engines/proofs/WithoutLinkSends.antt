@@ -1,6 +1,7 @@
 -- What is given back and sent before output is put out, and what that leaves.
 use Rattle.h2_engines.proofs.Names.{EndRepresents}
-use Rattle.h2_engines.proofs.Names.{◌≡◌, ◌≢◌, ◌≤◌, true, false, length, Option, Some, None, Result}
+use Rattle.h2_engines.proofs.Names.{◌≡◌, ◌≢◌, ◌≤◌, ℕ, true, false, length, Option, Some, None}
+use Rattle.h2_engines.proofs.Names.{Result}
 use Rattle.h2_engines.proofs.Names.{Ok, Err, refl, sym, ◌∙◌, arith, Code, Values, Log}
 use Rattle.h2_engines.proofs.Names.{given_out, End, EndRefusal, EndLog, LinkError}
 use Rattle.std.proofs.Common.{is_some}
@@ -8,7 +9,7 @@ use Rattle.h2_log.specs.declared.refusal.Refusal.TheVariants as reasons
 use Rattle.h2_conn.specs.declared.conn.Conn.{Conn}
 use Rattle.h2_conn.specs.Conn.{ConnRepresents}
 use Rattle.h2_ends.specs.declared.refusal.EndRefusal.TheVariants as refusals
-use Rattle.h2_ends.specs.EndCalls.{MayReleaseAll}
+use Rattle.h2_ends.specs.EndCalls.{MayPump, MayReleaseAll}
 use Rattle.h2_link.specs.declared.error.LinkError.TheVariants as errors
 use Rattle.h2_engines.specs.Machines.{MessageState, Course, Happens}
 use Rattle.h2_engines.specs.ServerSteps.{IsSameOfMessages, ReleasesSome, PumpsSome, EndsAfter}
@@ -17,9 +18,8 @@ use Rattle.h2_engines.specs.WithoutLink.{HasSent, has_failed, sends, releases_no
 use Rattle.h2_engines.specs.WithoutLink.{sends_no_more, SendsWaiting}
 use Rattle.h2_engines.proofs.MachineLaws.{pumps_at, releases_at}
 use Rattle.h2_engines.proofs.ResponderStalls.{pump_ends}
-use Rattle.h2_engines.proofs.ServeLinkLogs.{writes_given}
-use Rattle.h2_engines.proofs.ServeLinkPumps.{StaysOn, released_stays, pumped_stays, stays_same}
-use Rattle.h2_engines.proofs.ServeLinkPumps.{MayPumpOn, stays_as, stays_twice}
+use Rattle.h2_engines.proofs.ServeLinkLogs.{writes_given, StaysOn, released_stays, pumped_stays}
+use Rattle.h2_engines.proofs.ServeLinkLogs.{stays_same, stays_none, stays_twice}
 use Rattle.h2_engines.proofs.TurnsPassed.{turns_of_pump, turns_of_release}
 
 -- What `failed` answers of any log that the connection represents.
@@ -112,7 +112,9 @@ sends_so old middle new failed done (Err error) reads none released pumped value
 -- What holds of an end, and still does after a release and a pump, holds after both.
 sent_holds : (P : EndLog → Type 0)
     → ((before after : EndLog) (result : Result (Unit {0}) EndRefusal) → P before → MayReleaseAll
-    before result after → P after) → MayPumpOn P
+    before result after → P after)
+    → ((before after : EndLog) (result : Result ℕ EndRefusal) → P before → MayPump before result
+    after → P after)
     → {before after : EndLog} {result : Result (Unit {0}) LinkError} → P before
     → HasSent before after result → P after
 sent_holds P release pump was (has_failed failed same) = rw same was
@@ -131,7 +133,7 @@ sent_stays {before} sent =
     sent_holds (StaysOn before)
     (λ one two said was may. stays_twice was (released_stays one said two may))
     (λ one two said was may. stays_twice was (pumped_stays one said two may))
-    (stays_as {before = before} {after = before} refl) sent
+    (stays_none before) sent
 
 pub sent_same : {before after : EndLog} {result : Result (Unit {0}) LinkError}
     → HasSent before after result → IsSameOfMessages before after

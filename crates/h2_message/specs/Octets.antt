@@ -93,7 +93,7 @@ is_bad_path method path =
     not (begins_with_slash path)
     && not (bytes_eq path (codes "*") && bytes_eq method (codes "OPTIONS"))
 
--- Whether an authority names a user: "":authority" MUST NOT include the deprecated userinfo
+-- Whether an authority names a user: `:authority` "MUST NOT include the deprecated userinfo
 -- subcomponent for "http" or "https" schemed URIs" (section 8.3.1). An "@" ends that subcomponent,
 -- and stands nowhere else in an authority (RFC 3986, section 3.2). It is no rule of a message here
 -- (own).

@@ -1,5 +1,5 @@
 -- Each return, by what the rounds before it and the last one have made of the machine and the link.
-use Rattle.h2_engines.proofs.Names.{◌+◌, [], refl, sym, ◌∙◌, take, drop, length, arith}
+use Rattle.h2_engines.proofs.Names.{refl, sym, ◌∙◌, take, drop, length, arith}
 use Rattle.h2_engines.proofs.Names.{err_from_is_err_and}
 use Rattle.std.specs.List.{length_refill}
 use Rattle.h2_engines.proofs.MachineDrives.{drives_first, going_ends, no_round, sent_on, sent_last}
@@ -9,31 +9,28 @@ use Rattle.h2_engines.proofs.MachineDrives.{gives_piece, meets_end, pumped_on, p
 use Rattle.h2_engines.proofs.machine.drive.Goals as goal
 
 pub returns-in_err-input-clause-drives : goal.returns-in_err-input-clause-drives
-returns-in_err-input-clause-drives g c =
+returns-in_err-input-clause-drives g c course end is =
     let answer = err_from_is_err_and c.from_residual.result c.from_residual.ensures.1 in
     let old = g.M.Machine.held c.args.machine.now in
     rw (answer.1, answer.2)
-    (going_ends _ _ old old [] 0 c.in_err-input.ensures.err (drives_first _ old))
+    (going_ends _ old _ c.in_err-input.ensures.err (drives_first _ old course end is))
 
 pub returns-in_err-write_out-clause-drives : goal.returns-in_err-write_out-clause-drives
-returns-in_err-write_out-clause-drives g c =
+returns-in_err-write_out-clause-drives g c course end is =
     let answer = err_from_is_err_and c.from_residual-in_err-write_out.result
     c.from_residual-in_err-write_out.ensures.1 in
-    rw (answer.1, answer.2)
-    (sent_last _ _ _ (g.M.Machine.held c.args.machine.now) (g.M.Machine.held c.loop.machine)
-    (g.M.Machine.held c.write_out.new.machine) c.loop.counter c.in_err-write_out.field-0.0
-    c.in_err-write_out.ensures.kept c.loop.invariant.drives c.in_err-write_out.ensures.writes
+    rw (answer.1, answer.2) (sent_last _ (g.M.Machine.held c.write_out.new.machine)
+    c.in_err-write_out.field-0.0 (c.loop.invariant.drives course end is)
+    c.in_err-write_out.ensures.kept c.in_err-write_out.ensures.writes
     c.in_err-write_out.ensures.err)
 
 pub returns-in-Ok-eq0-clause-drives : goal.returns-in-Ok-eq0-clause-drives
-returns-in-Ok-eq0-clause-drives g c =
-    let old = g.M.Machine.held c.args.machine.now in
-    let sent = g.M.Machine.held c.write_out.new.machine in
-    read_ends _ _ _ old sent (c.loop.counter + 1) (sent_on _ _ _ old
-    (g.M.Machine.held c.loop.machine) sent c.loop.counter c.in_ok-write_out.field-0
-    c.in_ok-write_out.ensures.kept c.loop.invariant.drives c.in_ok-write_out.ensures.writes)
-    (gives_none _ _ c.read.new.buffer c.in-Ok-eq0.field-0 c.in-Ok-eq0.field-0-test
-    c.in-Ok-eq0.ensures.gives.1) c.in-Ok-eq0.ensures.takes_none
+returns-in-Ok-eq0-clause-drives g c course end is =
+    let self = g.M.Machine.held c.write_out.new.machine in
+    let sent = sent_on self (c.loop.invariant.drives course end is)
+    c.in_ok-write_out.ensures.kept c.in_ok-write_out.ensures.writes in
+    read_ends _ self sent (gives_none _ _ c.read.new.buffer c.in-Ok-eq0.field-0
+    c.in-Ok-eq0.field-0-test c.in-Ok-eq0.ensures.gives.1) c.in-Ok-eq0.ensures.takes_none
 
 pub returns-in-Ok-eq0-clause-ended : goal.returns-in-Ok-eq0-clause-ended
 returns-in-Ok-eq0-clause-ended g c =
@@ -42,68 +39,57 @@ returns-in-Ok-eq0-clause-ended g c =
     (c.deref_mut.ensures.len ∙ c.loop.input.ok.0 ∙ c.loop.invariant.room)
 
 pub returns-in-Err-clause-drives : goal.returns-in-Err-clause-drives
-returns-in-Err-clause-drives g c =
-    let old = g.M.Machine.held c.args.machine.now in
-    let sent = g.M.Machine.held c.write_out.new.machine in
-    read_fails _ _ _ old sent (c.loop.counter + 1) (sent_on _ _ _ old
-    (g.M.Machine.held c.loop.machine) sent c.loop.counter c.in_ok-write_out.field-0
-    c.in_ok-write_out.ensures.kept c.loop.invariant.drives c.in_ok-write_out.ensures.writes)
-    c.in-Err.ensures.gives c.in-Err.ensures.takes_none
+returns-in-Err-clause-drives g c course end is =
+    let self = g.M.Machine.held c.write_out.new.machine in
+    let sent = sent_on self (c.loop.invariant.drives course end is)
+    c.in_ok-write_out.ensures.kept c.in_ok-write_out.ensures.writes in
+    read_fails _ self sent c.in-Err.ensures.gives c.in-Err.ensures.takes_none
 
 pub returns-in_err-is_whole-in-Ok-clause-drives : goal.returns-in_err-is_whole-in-Ok-clause-drives
-returns-in_err-is_whole-in-Ok-clause-drives g c =
+returns-in_err-is_whole-in-Ok-clause-drives g c course end is =
     let answer = err_from_is_err_and c.from_residual-in_err-is_whole-in-Ok.result
     c.from_residual-in_err-is_whole-in-Ok.ensures.1 in
-    let old = g.M.Machine.held c.args.machine.now in
-    let sent = g.M.Machine.held c.write_out.new.machine in
-    let piece = take c.in-Ok.count c.deref.result.now in
-    rw (answer.1, answer.2) (taken_last _ _ _ old sent (g.M.Machine.held c.take_all.new.machine)
-    piece (c.loop.counter + 1) c.in_err-is_whole-in-Ok.field-0.0 (read_on _ _ _ old sent
-    (c.loop.counter + 1) (sent_on _ _ _ old (g.M.Machine.held c.loop.machine) sent
-    c.loop.counter c.in_ok-write_out.field-0 c.in_ok-write_out.ensures.kept c.loop.invariant.drives
-    c.in_ok-write_out.ensures.writes) (gives_piece _ _ c.in-Ok.count c.loop.input.len
-    c.read.new.buffer (drop (length c.read.new.buffer) c.loop.input.items) c.deref.result.now
+    let sent = sent_on (g.M.Machine.held c.write_out.new.machine)
+    (c.loop.invariant.drives course end is) c.in_ok-write_out.ensures.kept
+    c.in_ok-write_out.ensures.writes in
+    rw (answer.1, answer.2) (taken_last _ (g.M.Machine.held c.take_all.new.machine)
+    (take c.in-Ok.count c.deref.result.now) c.in_err-is_whole-in-Ok.field-0.0 (read_on _ sent
+    (gives_piece _ _ c.in-Ok.count c.loop.input.len c.read.new.buffer
+    (drop (length c.read.new.buffer) c.loop.input.items) c.deref.result.now
     c.deref.ensures.value (c.in-Ok.ensures.length ∙ c.deref_mut.ensures.len)
     c.in-Ok.ensures.gives.1) c.in-Ok.ensures.takes_none) c.in_err-is_whole-in-Ok.ensures.takes)
 
 pub returns-then-is_whole-clause-drives : goal.returns-then-is_whole-clause-drives
-returns-then-is_whole-clause-drives g c =
-    let old = g.M.Machine.held c.args.machine.now in
-    let sent = g.M.Machine.held c.write_out.new.machine in
-    let piece = take c.in-Ok.count c.deref.result.now in
-    taken_whole _ _ _ old sent (g.M.Machine.held c.take_all.new.machine) piece (c.loop.counter + 1)
-    c.if-is_whole.true (read_on _ _ _ old sent (c.loop.counter + 1) (sent_on _ _ _ old
-    (g.M.Machine.held c.loop.machine) sent c.loop.counter c.in_ok-write_out.field-0
-    c.in_ok-write_out.ensures.kept c.loop.invariant.drives c.in_ok-write_out.ensures.writes)
-    (gives_piece _ _ c.in-Ok.count c.loop.input.len c.read.new.buffer
-    (drop (length c.read.new.buffer) c.loop.input.items) c.deref.result.now
-    c.deref.ensures.value (c.in-Ok.ensures.length ∙ c.deref_mut.ensures.len)
-    c.in-Ok.ensures.gives.1) c.in-Ok.ensures.takes_none) c.in_ok-is_whole-in-Ok.ensures.takes
+returns-then-is_whole-clause-drives g c course end is =
+    let sent = sent_on (g.M.Machine.held c.write_out.new.machine)
+    (c.loop.invariant.drives course end is) c.in_ok-write_out.ensures.kept
+    c.in_ok-write_out.ensures.writes in
+    taken_whole _ (g.M.Machine.held c.take_all.new.machine)
+    (take c.in-Ok.count c.deref.result.now) c.if-is_whole.true (read_on _ sent (gives_piece _ _
+    c.in-Ok.count c.loop.input.len c.read.new.buffer (drop (length c.read.new.buffer)
+    c.loop.input.items) c.deref.result.now c.deref.ensures.value
+    (c.in-Ok.ensures.length ∙ c.deref_mut.ensures.len) c.in-Ok.ensures.gives.1)
+    c.in-Ok.ensures.takes_none) c.in_ok-is_whole-in-Ok.ensures.takes
 
 pub returns-in_err-send_waiting-clause-drives : goal.returns-in_err-send_waiting-clause-drives
-returns-in_err-send_waiting-clause-drives g c =
+returns-in_err-send_waiting-clause-drives g c course end is =
     let answer = err_from_is_err_and c.from_residual-in_err-send_waiting.result
     c.from_residual-in_err-send_waiting.ensures.1 in
-    let old = g.M.Machine.held c.args.machine.now in
-    let sent = g.M.Machine.held c.write_out.new.machine in
-    let taken = g.M.Machine.held c.take_all.new.machine in
-    let piece = take c.in-Ok.count c.deref.result.now in
-    rw (answer.1, answer.2) (waiting_last _ _ old taken
-    (g.M.Machine.held c.send_waiting.new.machine) [] (c.loop.counter + 1)
-    c.in_err-send_waiting.field-0.0 c.in_err-send_waiting.ensures.kept (taken_on _ _ _ old sent
-    taken piece (c.loop.counter + 1) c.if-is_whole.false (read_on _ _ _ old sent
-    (c.loop.counter + 1) (sent_on _ _ _ old (g.M.Machine.held c.loop.machine) sent
-    c.loop.counter c.in_ok-write_out.field-0 c.in_ok-write_out.ensures.kept c.loop.invariant.drives
-    c.in_ok-write_out.ensures.writes) (gives_piece _ _ c.in-Ok.count c.loop.input.len
-    c.read.new.buffer (drop (length c.read.new.buffer) c.loop.input.items) c.deref.result.now
-    c.deref.ensures.value (c.in-Ok.ensures.length ∙ c.deref_mut.ensures.len)
-    c.in-Ok.ensures.gives.1) c.in-Ok.ensures.takes_none) c.in_ok-is_whole-in-Ok.ensures.takes)
-    c.in_err-send_waiting.ensures.sends)
+    let sent = sent_on (g.M.Machine.held c.write_out.new.machine)
+    (c.loop.invariant.drives course end is) c.in_ok-write_out.ensures.kept
+    c.in_ok-write_out.ensures.writes in
+    rw (answer.1, answer.2) (waiting_last _ (g.M.Machine.held c.send_waiting.new.machine)
+    c.in_err-send_waiting.field-0.0 (taken_on c.if-is_whole.false (read_on _ sent (gives_piece _ _
+    c.in-Ok.count c.loop.input.len c.read.new.buffer (drop (length c.read.new.buffer)
+    c.loop.input.items) c.deref.result.now c.deref.ensures.value
+    (c.in-Ok.ensures.length ∙ c.deref_mut.ensures.len) c.in-Ok.ensures.gives.1)
+    c.in-Ok.ensures.takes_none) c.in_ok-is_whole-in-Ok.ensures.takes)
+    c.in_err-send_waiting.ensures.kept c.in_err-send_waiting.ensures.sends)
 
 pub returns-clause-drives : goal.returns-clause-drives
-returns-clause-drives g c =
-    no_round _ _ (g.M.Machine.held c.args.machine.now) (g.M.Machine.held c.loop.machine) []
-    c.loop.counter (omega arith) c.loop.invariant.drives
+returns-clause-drives g c course end is =
+    no_round _ (g.M.Machine.held c.loop.machine) (omega arith)
+    (c.loop.invariant.drives course end is)
 
 pub loop-init : goal.loop-init
 loop-init g c =
@@ -115,52 +101,41 @@ loop-init g c =
 
 pub loop-preserved : goal.loop-preserved
 loop-preserved g c =
-    let old = g.M.Machine.held c.args.machine.now in
-    let sent = g.M.Machine.held c.write_out.new.machine in
-    let taken = g.M.Machine.held c.take_all.new.machine in
-    let piece = take c.in-Ok.count c.deref.result.now in
     record {
       failures = c.in_ok-is_whole-in-Ok.ensures.failures ∙ c.in-Ok.ensures.failures
           ∙ c.in_ok-write_out.ensures.failures ∙ c.loop.invariant.failures;
       room = sym
           (length_refill c.loop.input.len c.loop.input.items c.read.new.buffer c.loop.input.ok.0)
           ∙ c.loop.input.ok.0 ∙ c.loop.invariant.room;
-      drives = waiting_on _ _ old taken (g.M.Machine.held c.send_waiting.new.machine) []
-          (c.loop.counter + 1) _ c.in_ok-send_waiting.ensures.kept (taken_on _ _ _ old sent taken
-          piece (c.loop.counter + 1) c.if-is_whole.false (read_on _ _ _ old sent
-          (c.loop.counter + 1) (sent_on _ _ _ old (g.M.Machine.held c.loop.machine) sent
-          c.loop.counter c.in_ok-write_out.field-0 c.in_ok-write_out.ensures.kept
-          c.loop.invariant.drives c.in_ok-write_out.ensures.writes) (gives_piece _ _ c.in-Ok.count
-          c.loop.input.len c.read.new.buffer (drop (length c.read.new.buffer) c.loop.input.items)
-          c.deref.result.now c.deref.ensures.value
-          (c.in-Ok.ensures.length ∙ c.deref_mut.ensures.len) c.in-Ok.ensures.gives.1)
-          c.in-Ok.ensures.takes_none) c.in_ok-is_whole-in-Ok.ensures.takes)
+      drives = λ course end is.
+          let sent = sent_on (g.M.Machine.held c.write_out.new.machine)
+          (c.loop.invariant.drives course end is) c.in_ok-write_out.ensures.kept
+          c.in_ok-write_out.ensures.writes in
+          waiting_on (g.M.Machine.held c.send_waiting.new.machine) _ (taken_on
+          c.if-is_whole.false (read_on _ sent (gives_piece _ _ c.in-Ok.count c.loop.input.len
+          c.read.new.buffer (drop (length c.read.new.buffer) c.loop.input.items)
+          c.deref.result.now c.deref.ensures.value (c.in-Ok.ensures.length
+          ∙ c.deref_mut.ensures.len) c.in-Ok.ensures.gives.1) c.in-Ok.ensures.takes_none)
+          c.in_ok-is_whole-in-Ok.ensures.takes) c.in_ok-send_waiting.ensures.kept
           c.in_ok-send_waiting.ensures.sends;
     }
 
 pub returns-in_err-pump-clause-drives : goal.returns-in_err-pump-clause-drives
-returns-in_err-pump-clause-drives g c =
+returns-in_err-pump-clause-drives g c course end is =
     let answer = err_from_is_err_and c.from_residual-in_err-pump.result
     c.from_residual-in_err-pump.ensures.1 in
-    let old = g.M.Machine.held c.args.machine.now in
-    let sent = g.M.Machine.held c.write_out.new.machine in
-    rw (answer.1, answer.2)
-    (pumped_last _ _ old sent (g.M.Machine.held c.pump.new.machine) (c.loop.counter + 1)
-    c.in_err-pump.field-0.0 c.in_err-pump.ensures.kept
-    (sent_on _ _ _ old (g.M.Machine.held c.loop.machine) sent c.loop.counter
-    c.in_ok-write_out.field-0 c.in_ok-write_out.ensures.kept c.loop.invariant.drives
-    c.in_ok-write_out.ensures.writes) c.in_err-pump.ensures.pumps)
+    rw (answer.1, answer.2) (pumped_last _ (g.M.Machine.held c.pump.new.machine)
+    c.in_err-pump.field-0.0 (sent_on (g.M.Machine.held c.write_out.new.machine)
+    (c.loop.invariant.drives course end is) c.in_ok-write_out.ensures.kept
+    c.in_ok-write_out.ensures.writes) c.in_err-pump.ensures.kept c.in_err-pump.ensures.pumps)
 
 pub loop-preserved-then-is_full : goal.loop-preserved-then-is_full
 loop-preserved-then-is_full g c =
-    let old = g.M.Machine.held c.args.machine.now in
-    let sent = g.M.Machine.held c.write_out.new.machine in
     record {
       failures = c.in_ok-write_out.ensures.failures ∙ c.loop.invariant.failures;
       room = c.loop.invariant.room;
-      drives = pumped_on _ _ old sent (g.M.Machine.held c.pump.new.machine) (c.loop.counter + 1) _
-          c.in_ok-pump.ensures.kept
-          (sent_on _ _ _ old (g.M.Machine.held c.loop.machine) sent c.loop.counter
-          c.in_ok-write_out.field-0 c.in_ok-write_out.ensures.kept c.loop.invariant.drives
-          c.in_ok-write_out.ensures.writes) c.in_ok-pump.ensures.pumps;
+      drives = λ course end is. pumped_on (g.M.Machine.held c.pump.new.machine) _ (sent_on
+          (g.M.Machine.held c.write_out.new.machine) (c.loop.invariant.drives course end is)
+          c.in_ok-write_out.ensures.kept c.in_ok-write_out.ensures.writes)
+          c.in_ok-pump.ensures.kept c.in_ok-pump.ensures.pumps;
     }

@@ -4,7 +4,7 @@ use Rattle.h2_engines.proofs.Names.{◌≡◌, ◌+◌, drop, refl, ◌∙◌, a
 use Rattle.h2_engines.specs.declared.request.Next.TheVariants as nexts
 use Rattle.h2_engines.specs.Linked.{traffic}
 use Rattle.h2_engines.proofs.MachineLaws.{is_due}
-use Rattle.h2_engines.proofs.MachineTakes.{TakesOn, takes_first, heard_rest, done_rest}
+use Rattle.h2_engines.proofs.MachineTakes.{IsTaking, takes_first, heard_rest, done_rest}
 use Rattle.h2_engines.proofs.MachineTakes.{whole_rest, due_rest, not_done_rest, last_rest}
 use Rattle.h2_engines.proofs.MachineTakes.{no_round_rest, within_rest, moved_to}
 use Rattle.h2_engines.proofs.machine.take_all.Goals as goal
@@ -19,88 +19,62 @@ loop-init g c =
     }
 
 pub returns-in-Done-clause-takes : goal.returns-in-Done-clause-takes
-returns-in-Done-clause-takes g c =
-    done_rest c.args.writes c.loop.counter _ _ (g.M.Machine.held c.args.machine.now)
-    (g.M.Machine.held c.loop.machine) (g.M.Machine.held c.take.new.self) c.args.piece.now
-    c.loop.used c.in-Ok.heard c.loop.invariant.takes c.in-Ok.ensures.hears c.in-Done.is
+returns-in-Done-clause-takes g c course base end is =
+    done_rest (g.M.Machine.held c.take.new.self) c.args.piece.now c.loop.used c.in-Ok.heard
+    (c.loop.invariant.takes course base end is) c.in-Ok.ensures.hears c.in-Done.is
 
 pub returns-in-Whole-clause-takes : goal.returns-in-Whole-clause-takes
-returns-in-Whole-clause-takes g c =
-    let old = g.M.Machine.held c.args.machine.now in
-    let new = g.M.Machine.held c.take.new.self in
-    let rest = drop (c.loop.used + c.in-Ok.heard.used) c.args.piece.now in
-    whole_rest c.args.writes (c.loop.counter + 1) _ _ old new c.args.piece.now rest (rw
-    c.in-Whole.is at (heard_rest c.args.writes c.loop.counter _ _ old
-    (g.M.Machine.held c.loop.machine) new c.args.piece.now c.loop.used c.in-Ok.heard
-    c.loop.invariant.takes c.in-Ok.ensures.hears))
+returns-in-Whole-clause-takes g c course base end is =
+    whole_rest (drop (c.loop.used + c.in-Ok.heard.used) c.args.piece.now) (rw c.in-Whole.is at
+    (heard_rest (g.M.Machine.held c.take.new.self) c.args.piece.now c.loop.used c.in-Ok.heard
+    (c.loop.invariant.takes course base end is) c.in-Ok.ensures.hears))
 
 pub returns-in_err-do_due-in_default-clause-takes :
     goal.returns-in_err-do_due-in_default-clause-takes
-returns-in_err-do_due-in_default-clause-takes g c =
+returns-in_err-do_due-in_default-clause-takes g c course base end is =
     let answer = err_from_is_err_and c.from_residual.result c.from_residual.ensures.1 in
-    let old = g.M.Machine.held c.args.machine.now in
-    let new = g.M.Machine.held c.take.new.self in
-    let rest = drop (c.loop.used + c.in-Ok.heard.used) c.args.piece.now in
     rw (answer.1, answer.2)
-    (not_done_rest c.args.writes (c.loop.counter + 1) _ _ _ old new
-    (g.M.Machine.held c.do_due.new.machine) c.args.piece.now rest c.in-Ok.heard.next
-    c.in_err-do_due-in_default.field-0.0
+    (not_done_rest _ (g.M.Machine.held c.do_due.new.machine) c.in_err-do_due-in_default.field-0.0
     (is_due c.in-Ok.heard.next c.in_default.not-Again c.in_default.not-Done c.in_default.not-Whole)
-    (heard_rest c.args.writes c.loop.counter _ _ old (g.M.Machine.held c.loop.machine) new
-    c.args.piece.now c.loop.used c.in-Ok.heard c.loop.invariant.takes c.in-Ok.ensures.hears)
+    (heard_rest (g.M.Machine.held c.take.new.self) c.args.piece.now c.loop.used c.in-Ok.heard
+    (c.loop.invariant.takes course base end is) c.in-Ok.ensures.hears)
     c.in_err-do_due-in_default.ensures.does)
 
 pub returns-in-Err-clause-takes : goal.returns-in-Err-clause-takes
-returns-in-Err-clause-takes g c =
-    last_rest c.args.writes c.loop.counter _ _ _ (g.M.Machine.held c.args.machine.now)
-    (g.M.Machine.held c.loop.machine) (g.M.Machine.held c.take.new.self)
-    (g.M.Machine.held c.end_early.new.machine) c.args.piece.now c.loop.used c.in-Err.error
-    c.end_early.result c.loop.invariant.takes c.in-Err.ensures.hears c.end_early.ensures.ends
+returns-in-Err-clause-takes g c course base end is =
+    last_rest _ (g.M.Machine.held c.take.new.self) (g.M.Machine.held c.end_early.new.machine)
+    c.args.piece.now c.loop.used c.in-Err.error c.end_early.result
+    (c.loop.invariant.takes course base end is) c.in-Err.ensures.hears c.end_early.ensures.ends
 
 pub returns-clause-takes : goal.returns-clause-takes
-returns-clause-takes g c =
-    no_round_rest c.args.writes c.loop.counter _ _ (g.M.Machine.held c.args.machine.now)
-    (g.M.Machine.held c.loop.machine) c.args.piece.now (drop c.loop.used c.args.piece.now)
-    (omega arith) c.loop.invariant.takes
+returns-clause-takes g c course base end is =
+    no_round_rest (omega arith) (c.loop.invariant.takes course base end is)
 
 pub loop-preserved : goal.loop-preserved
 loop-preserved g c =
-    let before = traffic (g.L.Link.given c.args.link.now) (g.L.Link.taken c.args.link.now)
-    (g.L.Link.stalled c.args.link.now) in
-    let middle = traffic (g.L.Link.given c.loop.link) (g.L.Link.taken c.loop.link)
-    (g.L.Link.stalled c.loop.link) in
     let piece = c.args.piece.now in
-    let old = g.M.Machine.held c.args.machine.now in
-    let new = g.M.Machine.held c.take.new.self in
-    let rest = drop (c.loop.used + c.in-Ok.heard.used) c.args.piece.now in
-    let heard = heard_rest c.args.writes c.loop.counter before middle old
-    (g.M.Machine.held c.loop.machine) new piece c.loop.used c.in-Ok.heard c.loop.invariant.takes
-    c.in-Ok.ensures.hears in
-    let takes = λ (self : g.row.M.Denot) (link : g.row.L.Denot). TakesOn c.args.writes
-    (c.loop.counter + 1) before
-    (traffic (g.L.Link.given link) (g.L.Link.taken link) (g.L.Link.stalled link)) old
-    (g.M.Machine.held self) piece rest nexts.Again in
-    let taking : takes c.match-heard.machine c.match-heard.link =
-    elim c.match-heard.branch [
-      | in-Again w ↦ moved_to takes w.machine-is w.link-is (rw w.in-Again.is at heard)
-      | in_default+in_ok-do_due-in_default w ↦
-          moved_to takes w.machine-is w.link-is (due_rest c.args.writes (c.loop.counter + 1) before
-          middle _ old new (g.M.Machine.held w.do_due.new.machine) piece rest
-          c.in-Ok.heard.next w.in_ok-do_due-in_default.field-0 (is_due c.in-Ok.heard.next
-          w.in_default.not-Again w.in_default.not-Done w.in_default.not-Whole) heard
-          w.in_ok-do_due-in_default.ensures.does)
-    ] in
     let fails = λ (self : g.row.M.Denot) (link : g.row.L.Denot). g.L.Link.faults link
     ≡ g.L.Link.faults c.args.link.now in
-    let failures : g.L.Link.faults c.match-heard.link ≡ g.L.Link.faults c.args.link.now =
-    elim c.match-heard.branch [
-      | in-Again w ↦ moved_to fails w.machine-is w.link-is c.loop.invariant.failures
-      | in_default+in_ok-do_due-in_default w ↦ moved_to fails w.machine-is w.link-is
-          (w.in_ok-do_due-in_default.ensures.failures ∙ c.loop.invariant.failures)
-    ] in
     record {
       within = within_rest piece c.loop.used c.in-Ok.heard.used c.loop.invariant.within
           c.in-Ok.ensures.within;
-      failures = failures;
-      takes = taking;
+      failures = elim c.match-heard.branch [
+        | in-Again w ↦ moved_to fails w.machine-is w.link-is c.loop.invariant.failures
+        | in_default+in_ok-do_due-in_default w ↦ moved_to fails w.machine-is w.link-is
+            (w.in_ok-do_due-in_default.ensures.failures ∙ c.loop.invariant.failures)
+      ];
+      takes = λ course base end is.
+          let heard = heard_rest (g.M.Machine.held c.take.new.self) piece c.loop.used
+          c.in-Ok.heard (c.loop.invariant.takes course base end is) c.in-Ok.ensures.hears in
+          let takes = λ (self : g.row.M.Denot) (link : g.row.L.Denot). IsTaking c.args.writes
+          course (traffic (g.L.Link.given link) (g.L.Link.taken link) (g.L.Link.stalled link))
+          base (g.M.Machine.held self) end (drop (c.loop.used + c.in-Ok.heard.used) piece)
+          nexts.Again (c.loop.counter + 1) in
+          elim c.match-heard.branch [
+            | in-Again w ↦ moved_to takes w.machine-is w.link-is (rw w.in-Again.is at heard)
+            | in_default+in_ok-do_due-in_default w ↦ moved_to takes w.machine-is w.link-is
+                (due_rest w.in_ok-do_due-in_default.field-0 (is_due c.in-Ok.heard.next
+                w.in_default.not-Again w.in_default.not-Done w.in_default.not-Whole) heard
+                w.in_ok-do_due-in_default.ensures.does)
+          ];
     }

@@ -1,0 +1,246 @@
+-- What each call keeps of a server or a client over a link holds whatever has happened at it; so it
+-- stays a server's end or a client's.
+use Rattle.h2_engines.proofs.Names.{◌≡◌, ℕ, List, Option, Result, Ok, Err, refl, ap, ◌∙◌, inl, inr}
+use Rattle.h2_engines.proofs.Names.{Refusal, Server, Client, Values, Act, Answer, Refuse, PutOut}
+use Rattle.h2_engines.proofs.Names.{true, Count, Done}
+use Rattle.h2_engines.proofs.Names.{OutOfMemory, Refused, SentMessage, EndRefusal, EndLog}
+use Rattle.h2_engines.proofs.Names.{EndAnswer}
+use Rattle.h2_engines.proofs.Names.{EndMayTake, end_with_log, Pumps, pumps_no_more, pumps_data}
+use Rattle.h2_engines.proofs.Names.{pumps_trailers, data_refused, trailers_refused, Releases}
+use Rattle.h2_engines.proofs.Names.{releases_no_more, releases_one, releases_refused, new_end}
+use Rattle.h2_log.specs.Acts.{Open, SendFields, SendData, Release}
+use Rattle.h2_log.specs.Log.{owed}
+use Rattle.h2_log.specs.declared.refusal.Refusal.TheVariants as reasons
+use Rattle.h2_log.specs.LogCalls.{with_call, opened}
+use Rattle.h2_log.specs.LogSteps.{with_sent}
+use Rattle.h2_ends.specs.declared.refusal.EndRefusal.TheVariants as refusals
+use Rattle.h2_ends.specs.EndCalls.{MayRequest, MayRespond, MayPump, MayReleaseAll, IsUnchanged}
+use Rattle.h2_ends.specs.EndCalls.{IsHeadCall}
+use Rattle.h2_engines.specs.ClientHistories as client
+use Rattle.h2_engines.specs.ClientHistories.{IsFetching}
+use Rattle.h2_engines.specs.ServerHistories as server
+use Rattle.h2_engines.specs.ServerHistories.{IsResponding}
+use Rattle.h2_engines.proofs.TakeMessages.{role_by_call, taken_role}
+
+-- A call puts no output out, refuses no stream, and was not left without memory.
+abbrev pub IsQuiet : Act → Answer → Type 0
+IsQuiet act OutOfMemory = ⊥
+IsQuiet (PutOut count) answer = ⊥
+IsQuiet (Refuse id code) answer = ⊥
+IsQuiet act answer = Unit {0}
+
+-- Each such call of its connection keeps this of an end,
+abbrev pub CallsKeep : (EndLog → Type 0) → Type 0
+CallsKeep P =
+    (end : EndLog) (act : Act) (answer : Answer) → IsQuiet act answer → P end
+    → P (end_with_log end (with_call end.log act answer))
+
+-- or each call at all.
+abbrev pub AllKeep : (EndLog → Type 0) → Type 0
+AllKeep P =
+    (end : EndLog) (act : Act) (answer : Answer) → P end
+    → P (end_with_log end (with_call end.log act answer))
+
+quietly : (P : EndLog → Type 0) → AllKeep P → CallsKeep P
+quietly P keep end act answer quiet holds = keep end act answer holds
+
+-- So do the calls of a pump and of a release,
+pump_keeps : (P : EndLog → Type 0) → CallsKeep P
+    → {before : EndLog} {count : ℕ} {refused : Option Refusal} {after : EndLog}
+    → Pumps before count refused after → P before → P after
+pump_keeps P keep (pumps_no_more end) holds = holds
+pump_keeps P keep (pumps_data end id sent more octets ends refusal last next typed may rest) holds
+    =
+    pump_keeps P keep rest (keep end (SendData id octets ends) (Count sent) tt holds)
+pump_keeps P keep (pumps_trailers end id more list refusal last next typed may rest) holds =
+    pump_keeps P keep rest (keep end (SendFields id list true) Done tt holds)
+pump_keeps P keep (data_refused end id octets ends refusal next typed may) holds =
+    keep end (SendData id octets ends) (Refused refusal) tt holds
+pump_keeps P keep (trailers_refused end id list refusal next typed may) holds =
+    keep end (SendFields id list true) (Refused refusal) tt holds
+
+pub pumped_keeps : (P : EndLog → Type 0) → CallsKeep P → (before : EndLog)
+    (result : Result ℕ EndRefusal) (after : EndLog) → MayPump before result after → P before
+    → P after
+unfolding MayPump
+pumped_keeps P keep before (Ok count) after may holds =
+    elim may.1 [
+      | inl all ↦ pump_keeps P keep all.0 holds
+      | inr all ↦ pump_keeps P keep all.0 holds
+    ]
+pumped_keeps P keep before (Err (refusals.Conn reasons.Closed)) after may holds =
+    rw may.1 holds
+pumped_keeps P keep before (Err (refusals.Conn reasons.Memory)) after may holds =
+    pump_keeps P keep may.2 holds
+pumped_keeps P keep before (Err other) after may holds = absurd may
+
+release_keeps : (P : EndLog → Type 0) → CallsKeep P
+    → {before : EndLog} {refused : Option Refusal} {after : EndLog} → Releases before refused after
+    → P before → P after
+release_keeps P keep (releases_no_more end) holds = holds
+release_keeps P keep (releases_one end id refusal last next typed may rest) holds =
+    release_keeps P keep rest (keep end (Release id (owed end.log id)) Done tt holds)
+release_keeps P keep (releases_refused end id refusal next typed may) holds =
+    keep end (Release id (owed end.log id)) (Refused refusal) tt holds
+
+pub released_keeps : (P : EndLog → Type 0) → CallsKeep P → (before : EndLog)
+    (result : Result (Unit {0}) EndRefusal) (after : EndLog) → MayReleaseAll before result after
+    → P before → P after
+unfolding MayReleaseAll
+released_keeps P keep before (Ok done) after may holds = release_keeps P keep may.1 holds
+released_keeps P keep before (Err (refusals.Conn reasons.Closed)) after may holds =
+    rw may.1 holds
+released_keeps P keep before (Err (refusals.Conn reasons.OutputFull)) after may holds =
+    release_keeps P keep may.1 holds
+released_keeps P keep before (Err (refusals.Conn reasons.Memory)) after may holds =
+    release_keeps P keep may.1 holds
+released_keeps P keep before (Err other) after may holds = absurd may
+
+-- and an answer that is refused.
+head_quiet : (act : Act) (refusal : Refusal) → IsHeadCall act → IsQuiet act (Refused refusal)
+head_quiet (Open fields end) refusal head = tt
+head_quiet (SendFields id fields end) refusal head = tt
+head_quiet act refusal head = absurd head
+
+unchanged_keeps : (P : EndLog → Type 0) → CallsKeep P → (before after : EndLog)
+    → IsUnchanged before after → P before → P after
+unfolding IsUnchanged
+unchanged_keeps P keep before after (inl same) holds = rw same holds
+unchanged_keeps P keep before after (inr called) holds =
+    rw called.5 (keep before called.0 (Refused called.1) (head_quiet called.0 called.1 called.3)
+    holds)
+
+-- An answer that is taken keeps this.
+abbrev pub AnswersKeep : (EndLog → Type 0) → Type 0
+AnswersKeep P =
+    (before : EndLog) (id : ℕ) (message : SentMessage) (done : Unit {0}) (after : EndLog)
+    → MayRespond before id message (Ok done) after → P before → P after
+
+pub responded_keeps : (P : EndLog → Type 0) → CallsKeep P → AnswersKeep P → (before : EndLog)
+    (id : ℕ) (message : SentMessage) (result : Result (Unit {0}) EndRefusal) (after : EndLog)
+    → MayRespond before id message result after → P before → P after
+unfolding MayRespond
+responded_keeps P keep answer before id message (Ok done) after may holds =
+    answer before id message done after may holds
+responded_keeps P keep answer before id message (Err refusals.NotAsked) after may holds =
+    rw may.1 holds
+responded_keeps P keep answer before id message (Err refusals.Answered) after may holds =
+    rw may.2 holds
+responded_keeps P keep answer before id message (Err (refusals.BadMessage rule)) after may holds =
+    rw may.3 holds
+responded_keeps P keep answer before id message (Err (refusals.Conn refusal)) after may holds =
+    unchanged_keeps P keep before after may.4 holds
+
+-- A request that is accepted keeps this.
+abbrev RequestsKeep : (EndLog → Type 0) → Type 0
+RequestsKeep P =
+    (before : EndLog) (message : SentMessage) (id : ℕ) (after : EndLog)
+    → MayRequest before message (Ok id) after → P before → P after
+
+requested_keeps : (P : EndLog → Type 0) → CallsKeep P → RequestsKeep P → (before : EndLog)
+    (message : SentMessage) (result : Result ℕ EndRefusal) (after : EndLog)
+    → MayRequest before message result after → P before → P after
+unfolding MayRequest
+requested_keeps P keep request before message (Ok id) after may holds =
+    request before message id after may holds
+requested_keeps P keep request before message (Err (refusals.BadMessage rule)) after may holds =
+    rw may.1 holds
+requested_keeps P keep request before message (Err (refusals.Conn refusal)) after may holds =
+    unchanged_keeps P keep before after may.2 holds
+requested_keeps P keep request before message (Err other) after may holds = absurd may
+
+-- A call of `take` keeps this.
+abbrev pub TakesKeep : (EndLog → Type 0) → Type 0
+TakesKeep P =
+    (before : EndLog) (piece : List ℕ) (answer : EndAnswer) (after : EndLog)
+    → EndMayTake before piece answer after → P before → P after
+
+-- Whatever has happened at a server over a link, what each call keeps holds of it,
+pub holds_responding : (P : EndLog → Type 0) → AllKeep P → AnswersKeep P → TakesKeep P
+    → {values : Values} → P (new_end Server values) → {end : EndLog} → IsResponding values end
+    → P end
+holds_responding P keep answer take new (server.begins range) = new
+holds_responding P keep answer take new
+    (server.takes {end = before} {after = after} was piece said may) =
+    take before piece said after may (holds_responding P keep answer take new was)
+holds_responding P keep answer take new
+    (server.answers {end = before} {after = after} was id message result whole fits asked may) =
+    responded_keeps P (quietly P keep) answer before id message result after may
+    (holds_responding P keep answer take new was)
+holds_responding P keep answer take new
+    (server.resets {end = before} was id said large typed may) =
+    keep before _ _ (holds_responding P keep answer take new was)
+holds_responding P keep answer take new
+    (server.releases {end = before} {after = after} was result may) =
+    released_keeps P (quietly P keep) before result after may
+    (holds_responding P keep answer take new was)
+holds_responding P keep answer take new
+    (server.pumps {end = before} {after = after} was result may) =
+    pumped_keeps P (quietly P keep) before result after may
+    (holds_responding P keep answer take new was)
+holds_responding P keep answer take new (server.gives_out {end = before} was count said typed may) =
+    keep before _ _ (holds_responding P keep answer take new was)
+
+-- and so it is with a client.
+holds_fetching : (P : EndLog → Type 0) → AllKeep P → RequestsKeep P → TakesKeep P
+    → {values : Values} → P (new_end Client values) → {message : SentMessage} {end : EndLog}
+    → IsFetching values message end → P end
+holds_fetching P keep request take new (client.begins range) = new
+holds_fetching P keep request take {values} new {message} {end}
+    (client.requests range result may) =
+    requested_keeps P (quietly P keep) request (new_end Client values) message result end may new
+holds_fetching P keep request take new
+    (client.takes {end = before} {after = after} was piece said may) =
+    take before piece said after may (holds_fetching P keep request take new was)
+holds_fetching P keep request take new
+    (client.releases {end = before} {after = after} was result may) =
+    released_keeps P (quietly P keep) before result after may
+    (holds_fetching P keep request take new was)
+holds_fetching P keep request take new
+    (client.pumps {end = before} {after = after} was result may) =
+    pumped_keeps P (quietly P keep) before result after may
+    (holds_fetching P keep request take new was)
+holds_fetching P keep request take new (client.gives_out {end = before} was count said typed may) =
+    keep before _ _ (holds_fetching P keep request take new was)
+
+-- A new end has its role, and a message that is accepted keeps it.
+new_server : (values : Values) → (opened Server values).role ≡ Server
+unfolding opened with_sent
+new_server values = refl
+
+new_client : (values : Values) → (opened Client values).role ≡ Client
+unfolding opened with_sent
+new_client values = refl
+
+role_as : (before : EndLog) {after is : EndLog} → after ≡ is → is.log.role ≡ before.log.role
+    → after.log.role ≡ before.log.role
+role_as before same role = ap (λ (end : EndLog). end.log.role) same ∙ role
+
+responded_role : (before : EndLog) (id : ℕ) (message : SentMessage) (done : Unit {0})
+    (after : EndLog) → MayRespond before id message (Ok done) after
+    → after.log.role ≡ before.log.role
+unfolding MayRespond
+responded_role before id message done after may =
+    role_as before may.5 (role_by_call before.log _ _)
+
+requested_role : (before : EndLog) (message : SentMessage) (id : ℕ) (after : EndLog)
+    → MayRequest before message (Ok id) after → after.log.role ≡ before.log.role
+unfolding MayRequest
+requested_role before message id after may =
+    role_as before may.3 (role_by_call before.log _ _)
+
+-- Whatever has happened at a server it is a server's end, and at a client a client's.
+pub kept_role : {values : Values} {end : EndLog} → IsResponding values end → end.log.role ≡ Server
+kept_role {values} responding =
+    holds_responding (λ one. one.log.role ≡ Server)
+    (λ one act answer was. role_by_call one.log act answer ∙ was) (λ before id message done
+    after may was. responded_role before id message done after may ∙ was)
+    (λ before piece answer after may was. taken_role may ∙ was) (new_server values) responding
+
+pub fetching_role : {values : Values} {message : SentMessage} {end : EndLog}
+    → IsFetching values message end → end.log.role ≡ Client
+fetching_role {values} fetching =
+    holds_fetching (λ one. one.log.role ≡ Client)
+    (λ one act answer was. role_by_call one.log act answer ∙ was)
+    (λ before sent id after may was. requested_role before sent id after may ∙ was)
+    (λ before piece answer after may was. taken_role may ∙ was) (new_client values) fetching
