@@ -96,19 +96,26 @@ def bare(path, text):
 OWNER = re.compile(r"(?:pub(?:\([^)]*\))? )?(?:unsafe )?(impl|trait)\b")
 
 
-def is_of_trait(lines, function):
-    """Returns whether a function is one of a trait, or of an impl of one, which no caller need name."""
-    owners = (it for it in reversed(lines[: function.first]) if OWNER.match(it))
-    owner = next(owners, "") if lines[function.first].startswith(" ") else ""
-    return bool(owner) and (OWNER.match(owner)[1] == "trait" or " for " in owner)
+def is_called_unnamed(lines, function):
+    """Returns whether no caller need name a function: one of a trait, or of an impl of one, and one that may make the
+    value of a constant."""
+    if "const fn " in lines[function.first]:
+        return True
+    owners = (at for at in range(function.first - 1, -1, -1) if OWNER.match(lines[at]))
+    at = next(owners, None) if lines[function.first].startswith(" ") else None
+    if at is None:
+        return False
+    # The head of an impl may take several lines.
+    ends = next((it for it in range(at, function.first) if lines[it].rstrip().endswith("{")), function.first)
+    return OWNER.match(lines[at])[1] == "trait" or " for " in " ".join(lines[at : ends + 1])
 
 
 def without_bodies(text, named=None):
     """Returns the text of a file of src/ without comments, layout and the bodies of functions; where names are given
-    also without the functions of other names, but for those of traits."""
+    also without the functions of other names, but for those that are called without being named."""
     lines = text.split("\n")
     for it in reversed(functions_of(text)):
-        is_called = named is None or it.name.split("::")[-1] in named or is_of_trait(lines, it)
+        is_called = named is None or it.name.split("::")[-1] in named or is_called_unnamed(lines, it)
         del lines[it.body if is_called else it.first : it.end]
     return bare("src/.rt", "\n".join(lines))
 
@@ -272,10 +279,12 @@ def self_test():
     promised = without_bodies(SOURCE)
     assert "self.value -= 1" not in promised and "A comment" not in promised and "Gate { value: 4 }" not in promised
     assert "ensures { result" in promised and "MOST ≡ 7" in promised and "value: u32" in promised
-    # Of functions that are not named only those of traits stay.
+    # Of functions that are not named those of traits stay, whose impl may begin on several lines, and of constants.
     promised = without_bodies(SOURCE, {"law"})
     assert "MOST ≡ 7" in promised and "fault: Fault<W>" in promised and "value: u32" in promised
     assert "ensures { result" not in promised and "fn take" not in promised and "fn last" not in promised
+    split = "impl<T: Read>\n    Iterator for Gate\n{\n    fn next(&mut self) {\n    }\n}\nconst fn seven() -> u32 {\n    7\n}\n"
+    assert "fn next" in without_bodies(split, set()) and "fn seven" in without_bodies(split, set())
     pairs = pairs_of("# text\nfile: src/gate.rt\nold: > 0\nnew: > 1\nold: = 7;\nnew:  8;\n")
     assert pairs == [("src/gate.rt", "> 0", "> 1"), ("src/gate.rt", "= 7;", " 8;")]
     texts = {}
