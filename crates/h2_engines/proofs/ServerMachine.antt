@@ -74,7 +74,7 @@ server_hears old new piece (Ok heard) same hears course now end is =
       hears_on (server_held new) heard says.0 is says.1 now_is.1
           (takes is.happened piece _ says.1) (
             kept_noted says.0 old.requests new.requests heard.next (kept_role is.happened)
-            is.keeps.0
+                is.keeps.0
                 says.1 says.2,
             same ∙ is.keeps.1 ∙ ap length (sym taken.accepted),
           ) says.3,

@@ -83,8 +83,12 @@ turns_kept n end act answer quiet so = omega (arith, so, turns_of_call end.log a
 answer_turns : (n : ℕ) → AnswersKeep (λ one. n ≤ length one.log.turns)
 unfolding MayRespond
 answer_turns n before id message done after may so =
-    rw may.5 (omega (arith, so, turns_of_call before.log
-    (SendFields id message.head (is_head_alone message)) Done))
+    rw may.5 (omega (
+      arith,
+      so,
+      turns_of_call before.log
+          (SendFields id message.head (is_head_alone message)) Done,
+    ))
 
 pub turns_of_response : (end after : EndLog) (id : ℕ) (message : SentMessage)
     (result : Result (Unit {0}) EndRefusal) → MayRespond end id message result after
