@@ -11,18 +11,38 @@ pub(crate) enum Call {
     /// All of these octets are taken.
     Take(&'static [u8]),
     /// A stream is opened with the request's fields: [`Conn::open`].
-    Open { end: bool },
+    Open {
+        end: bool,
+    },
     /// The answer's fields are sent on a stream: [`Conn::fields`].
-    Fields { id: u32 },
+    Fields {
+        id: u32,
+    },
     /// Trailers are sent on a stream.
-    Trailers { id: u32 },
+    Trailers {
+        id: u32,
+    },
     /// Octets of the long body from a place on, so many at most: [`Conn::data`].
-    Data { id: u32, from: usize, most: usize },
+    Data {
+        id: u32,
+        from: usize,
+        most: usize,
+        end: bool,
+    },
     /// [`Conn::release`].
-    Release { id: u32, count: u32 },
+    Release {
+        id: u32,
+        count: u32,
+    },
     /// [`Conn::refuse`].
-    Refuse { id: u32, code: u32 },
-    Reset { id: u32, code: u32 },
+    Refuse {
+        id: u32,
+        code: u32,
+    },
+    Reset {
+        id: u32,
+        code: u32,
+    },
     Ping,
     GoAway,
     ChangeSettings,
@@ -30,7 +50,9 @@ pub(crate) enum Call {
     /// The next message is the request of a client.
     Request,
     /// The next message is the answer of a server.
-    Respond { id: u32 },
+    Respond {
+        id: u32,
+    },
     Pump,
     ReleaseAll,
 }
@@ -67,17 +89,19 @@ fn of_conn(conn: &mut Conn, call: Call, lists: &Lists) -> Answer {
         },
         Call::Fields { id } => done(conn.fields(id, &lists.answer, false)),
         Call::Trailers { id } => done(conn.fields(id, &lists.trailers, true)),
-        Call::Data { id, from, most } => {
-            count(conn.data(id, part_of(&lists.body, from, most), false))
-        }
+        Call::Data {
+            id,
+            from,
+            most,
+            end,
+        } => count(conn.data(id, part_of(&lists.body, from, most), end)),
         Call::Release { id, count } => done(conn.release(id, count)),
         Call::Refuse { id, code } => done(conn.refuse(id, code)),
         _ => Err(EndRefusal::NotAsked),
     }
 }
 
-/// A call of a client alone. Of a pump no count is noted, since one that is refused has sent a
-/// part.
+/// A call of a client alone.
 fn of_client(client: &mut Client, call: Call, given: &mut Given, record: &mut Record) -> Answer {
     match call {
         Call::Request => match given.messages.pop() {
@@ -123,10 +147,10 @@ fn released(answered: Result<(), EndRefusal>) -> Answer {
     }
 }
 
-/// The answer of a pump, without its count.
+/// The answer of a pump: how many octets of bodies it has sent.
 fn pumped(answered: Result<usize, EndRefusal>) -> Answer {
     match answered {
-        Ok(_) => Ok(0),
+        Ok(count) => Ok(u64::try_from(count).unwrap_or(u64::MAX)),
         Err(refusal) => Err(refusal),
     }
 }
@@ -150,6 +174,11 @@ pub(crate) fn make(end: &mut End, call: Call, given: &mut Given, record: &mut Re
 /// Whether a call that is refused memory may have done a part of what it does.
 pub(crate) fn is_done_in_parts(call: Call) -> bool {
     matches!(call, Call::Pump | Call::ReleaseAll)
+}
+
+/// Whether a call is [`Conn::refuse`], which is never refused memory: the connection fails instead.
+pub(crate) fn is_refuse(call: Call) -> bool {
+    matches!(call, Call::Refuse { .. })
 }
 
 /// The refusal for memory.

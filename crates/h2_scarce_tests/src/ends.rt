@@ -50,6 +50,11 @@ const POST_5: &[u8] = b"\x00\x00\x04\x01\x04\x00\x00\x00\x05\x83\x86\x84\xbe";
 
 const POST_7: &[u8] = b"\x00\x00\x04\x01\x04\x00\x00\x00\x07\x83\x86\x84\xbe";
 
+/// POST on stream 9 whose content-length is 5, and a body of four octets, which makes it malformed.
+const LENGTH_9: &[u8] = b"\x00\x00\x07\x01\x04\x00\x00\x00\x09\x83\x86\x84\x0f\x0d\x015";
+
+const DATA_9_END: &[u8] = b"\x00\x00\x04\x00\x01\x00\x00\x00\x09abcd";
+
 /// Ten octets of a body, the last of them cut off, and the last of stream 5.
 const DATA_3: &[u8] = b"\x00\x00\x0a\x00\x00\x00\x00\x00\x03abcdefghij";
 
@@ -111,6 +116,7 @@ const SERVER_CALLS: &[Call] = &[
         id: 1,
         from: 0,
         most: 100,
+        end: false,
     },
     Call::Trailers { id: 1 },
     Call::Fields { id: 3 },
@@ -118,6 +124,7 @@ const SERVER_CALLS: &[Call] = &[
         id: 3,
         from: 100,
         most: 20_000,
+        end: false,
     },
     Call::PutOut(20_000),
     Call::Reset { id: 5, code: 8 },
@@ -147,7 +154,8 @@ const CLIENT_OPENING: &[Call] = &[
     Call::PutOut(usize::MAX),
 ];
 
-/// 70,000 octets of a body, as the windows let them through.
+/// 70,000 octets of a body, as the windows let them through: 65,535, then none, then the others,
+/// which end the stream, so that trailers are refused.
 const LONG_BODY: &[Call] = &[
     Call::Open { end: false },
     Call::Take(ANSWERED),
@@ -155,6 +163,7 @@ const LONG_BODY: &[Call] = &[
         id: 1,
         from: 0,
         most: 70_000,
+        end: true,
     },
     Call::PutOut(60_000),
     Call::PutOut(usize::MAX),
@@ -163,12 +172,14 @@ const LONG_BODY: &[Call] = &[
         id: 1,
         from: 65_535,
         most: 70_000,
+        end: true,
     },
     Call::Take(MORE_1),
     Call::Data {
         id: 1,
         from: 65_535,
         most: 70_000,
+        end: true,
     },
     Call::Trailers { id: 1 },
     Call::PutOut(usize::MAX),
@@ -185,6 +196,7 @@ const CLIENT_CALLS: &[Call] = &[
         id: 1,
         from: 0,
         most: 100,
+        end: false,
     },
     Call::Take(OK_1),
     Call::Take(DATA_1_CUT),
@@ -235,7 +247,8 @@ const CLIENT: &[Call] = &[
     Call::PutOut(usize::MAX),
 ];
 
-/// Sound requests and a malformed one, which is reset with PROTOCOL_ERROR, and two responses.
+/// Sound requests and two malformed ones, which are reset with PROTOCOL_ERROR, the second after its
+/// head was handed out, and two responses.
 const SERVER: &[Call] = &[
     Call::Take(SMALL_OPENING),
     Call::Take(ACK),
@@ -245,6 +258,8 @@ const SERVER: &[Call] = &[
     Call::Take(DATA_5_CUT),
     Call::Take(OTHER),
     Call::Take(POST_7),
+    Call::Take(LENGTH_9),
+    Call::Take(DATA_9_END),
     Call::Respond { id: 9 },
     Call::Respond { id: 1 },
     Call::Respond { id: 5 },
@@ -327,7 +342,7 @@ fn opening_of_a_client(rt: HostRuntime) {
 
 #[test]
 fn long_body_of_a_client(rt: HostRuntime) {
-    let bears = calls_bear(rt.alloc(), Kind::ConnOfClient, LONG_BODY, 0);
+    let bears = calls_bear(rt.alloc(), Kind::ConnOfClient, LONG_BODY, 1);
     assert!(rt; bears.unwrap_or(false));
 }
 

@@ -2,6 +2,7 @@
 
 use crate::call::{CLOSED, MEMORY};
 use crate::lists::{answer, request};
+use crate::prefix::are_prefixes;
 use crate::record::{Record, Scenario, holds};
 use crate::walk::{Seen, note_seen, seen_of, without_goaway};
 use h2_ends::{Code, Conn, Message};
@@ -65,16 +66,36 @@ fn taker_of(act: &JointAct) -> Side {
     }
 }
 
-/// An end has failed for refused memory as octets were delivered to it: GOAWAY is the last of its
-/// output, the same act answers the same again, and its calls are refused with C1.
-fn check_failed(joined: &mut Joined, act: &JointAct, record: &mut Record) {
-    record.fail();
-    let side = taker_of(act);
-    let octets = *b"12345678";
-    let refused = joined.act(&JointAct::Ping { side, octets });
-    record.check(refused == Acted::Refused(CLOSED));
-    record.check(joined.act(act) == Acted::Failed(Code::InternalError));
-    let conn = conn_of(joined, side);
+/// The other end.
+fn other_of(side: Side) -> Side {
+    match side {
+        Side::Client => Side::Server,
+        Side::Server => Side::Client,
+    }
+}
+
+/// Whether an end has handed out GOAWAY with INTERNAL_ERROR.
+fn is_told(joined: &Joined, side: Side) -> bool {
+    let handed = joined.handed(side);
+    let mut told = false;
+    for place in 0..handed.len() {
+        let event = handed.get(place);
+        told = matches!(event, Some(JointEvent::GoAway { code, .. }) if code == 2) || told;
+    }
+    told
+}
+
+/// The output of an end that has failed is carried to the other, which hands its GOAWAY out.
+fn check_told(joined: &mut Joined, from: Side, record: &mut Record) {
+    let (to, count) = (other_of(from), usize::MAX);
+    let moved = joined.act(&JointAct::Move { from, count });
+    let delivered = joined.act(&JointAct::Deliver { to, count });
+    record.check(matches!(moved, Acted::Count(_)) && matches!(delivered, Acted::Count(_)));
+    record.check(joined.piped(from) == 0 && is_told(joined, to));
+}
+
+/// A connection has failed with INTERNAL_ERROR: GOAWAY is the last of its output.
+fn check_output(conn: &Conn, record: &mut Record) {
     record.check(conn.failed() == Some(Code::InternalError));
     let (first, second) = conn.waiting_octets();
     let mut out = Vec::new(record.alloc);
@@ -82,13 +103,25 @@ fn check_failed(joined: &mut Joined, act: &JointAct, record: &mut Record) {
     record.check(without_goaway(&out).is_some());
 }
 
-/// Notes an answer. Of an act that is done in parts no count is noted.
-fn note_acted(acted: Acted, act: &JointAct, record: &mut Record) {
+/// An end has failed for refused memory as octets were delivered to it: GOAWAY is the last of its
+/// output, and reaches the other end, the same act answers the same again, and its calls are
+/// refused with C1.
+fn check_failed(joined: &mut Joined, act: &JointAct, record: &mut Record) {
+    record.fail();
+    let side = taker_of(act);
+    let octets = *b"12345678";
+    let refused = joined.act(&JointAct::Ping { side, octets });
+    record.check(refused == Acted::Refused(CLOSED));
+    record.check(joined.act(act) == Acted::Failed(Code::InternalError));
+    check_output(conn_of(joined, side), record);
+    check_told(joined, side, record);
+}
+
+/// Notes an answer; of an act that is done in parts it may be that to the rest.
+fn note_acted(acted: Acted, is_rest: bool, record: &mut Record) {
     match acted {
         Acted::Id(id) => record.note(u64::from(id)),
-        Acted::Count(count) if !is_done_in_parts(act) => {
-            record.note(u64::try_from(count).unwrap_or(0));
-        }
+        Acted::Count(count) => record.note_moved(u64::try_from(count).unwrap_or(0), is_rest),
         Acted::Refused(refusal) => record.refuse(refusal),
         Acted::Failed(code) => record.note(u64::from(code.number())),
         _ => {}
@@ -99,7 +132,8 @@ fn note_acted(acted: Acted, act: &JointAct, record: &mut Record) {
 fn make(joined: &mut Joined, act: &JointAct, record: &mut Record) {
     let before = (half_of(joined, Side::Client), half_of(joined, Side::Server));
     let mut acted = joined.act(act);
-    if is_refused(acted) {
+    let is_again = is_refused(acted);
+    if is_again {
         record.again();
         let after = (half_of(joined, Side::Client), half_of(joined, Side::Server));
         record.check(before == after || is_done_in_parts(act));
@@ -109,42 +143,9 @@ fn make(joined: &mut Joined, act: &JointAct, record: &mut Record) {
     if acted == Acted::Failed(Code::InternalError) {
         return check_failed(joined, act, record);
     }
-    note_acted(acted, act, record);
+    note_acted(acted, is_again && is_done_in_parts(act), record);
     note_half(joined, Side::Client, record);
     note_half(joined, Side::Server, record);
-}
-
-/// How many octets of a stream's body an end has handed out, where they are the first of this one.
-fn handed_of(joined: &Joined, to: Side, stream: u32, body: &[u8]) -> Option<usize> {
-    let mut count: usize = 0;
-    for place in 0..joined.handed(to).len() {
-        if let Some(JointEvent::Body { id, bytes, .. }) = joined.handed(to).get(place)
-            && id == stream
-        {
-            if !body.get(count..)?.starts_with(bytes) {
-                return None;
-            }
-            count = count.saturating_add(bytes.len());
-        }
-    }
-    Some(count)
-}
-
-/// Whether what one end has handed out of each message is a prefix of what the other has accepted;
-/// of stream 3 it is whole, unless an end has failed.
-fn is_prefix(joined: &Joined, from: Side, to: Side, failed: bool) -> bool {
-    let mut holds = true;
-    for accepted in joined.accepted(from) {
-        let body = accepted.message.body.as_slice();
-        match handed_of(joined, to, accepted.id, body) {
-            Some(count) => {
-                let is_whole = count == body.len();
-                holds = (is_whole || failed || accepted.id != 3) && holds;
-            }
-            None => holds = false,
-        }
-    }
-    holds
 }
 
 /// Two new ends, which are made again where memory is refused.
@@ -165,20 +166,30 @@ struct Acts<'a> {
     acts: &'a [JointAct],
 }
 
+/// Makes the acts, up to a failure for refused memory.
+fn make_all(joined: &mut Joined, acts: &[JointAct], record: &mut Record) {
+    for act in acts {
+        if !record.failed {
+            make(joined, act, record);
+        }
+    }
+}
+
+/// Checks what was handed out; and unless an end has failed, that one act was refused, and the two
+/// ends are quiet.
+fn check_handed(joined: &Joined, record: &mut Record) {
+    let failed = record.failed;
+    record.check(failed || (record.refused() == 1 && joined.quiet()));
+    record.check(are_prefixes(joined, Side::Client, Side::Server, failed));
+    record.check(are_prefixes(joined, Side::Server, Side::Client, failed));
+}
+
 impl Scenario for Acts<'_> {
     fn run(&mut self, record: &mut Record) {
-        let Some(mut joined) = new_joined(record) else {
-            return;
-        };
-        for act in self.acts {
-            if !record.failed {
-                make(&mut joined, act, record);
-            }
+        if let Some(mut joined) = new_joined(record) {
+            make_all(&mut joined, self.acts, record);
+            check_handed(&joined, record);
         }
-        let failed = record.failed;
-        record.check(failed || record.refused() == 1);
-        record.check(is_prefix(&joined, Side::Client, Side::Server, failed));
-        record.check(is_prefix(&joined, Side::Server, Side::Client, failed));
     }
 }
 
@@ -205,27 +216,39 @@ fn respond(id: u32, message: Message, acts: &mut Vec<JointAct>) -> Result<(), Al
     Ok(())
 }
 
-/// Two requests, of which the server resets the first with its DATA under way, and the answer to
-/// the second.
-fn reset_under_way(alloc: Global) -> Result<Vec<JointAct>, AllocError> {
-    let mut acts = Vec::new(alloc);
+/// Two requests, of which the server resets the first with its DATA under way: frames of 16,384 and
+/// of 3,616 octets are dropped. Of the other the first windows let 45,535 octets through.
+fn reset_under_way(alloc: Global, acts: &mut Vec<JointAct>) -> Result<(), AllocError> {
     let (client, server) = (Side::Client, Side::Server);
-    acts.push(JointAct::Request(request(alloc, 3_000)?))?;
-    acts.push(JointAct::Request(request(alloc, 1_000)?))?;
+    acts.push(JointAct::Request(request(alloc, 20_000)?))?;
+    acts.push(JointAct::Request(request(alloc, 65_535)?))?;
     acts.push(JointAct::Pump(client))?;
-    carry(client, server, 2_000, &mut acts)?;
+    carry(client, server, 2_000, acts)?;
     acts.push(JointAct::Reset {
         side: server,
         id: 1,
         code: 8,
     })?;
-    exchange(&mut acts)?;
-    acts.push(JointAct::ReleaseAll(server))?;
-    respond(1, answer(alloc, 10)?, &mut acts)?;
-    respond(3, answer(alloc, 3_000)?, &mut acts)?;
+    exchange(acts)
+}
+
+/// The answer to the second request, whose other octets then take what the dropped ones have given
+/// back.
+fn answer_second(alloc: Global, acts: &mut Vec<JointAct>) -> Result<(), AllocError> {
+    let (client, server) = (Side::Client, Side::Server);
+    respond(1, answer(alloc, 10)?, acts)?;
+    respond(3, answer(alloc, 3_000)?, acts)?;
     acts.push(JointAct::Pump(server))?;
-    exchange(&mut acts)?;
+    carry(server, client, usize::MAX, acts)?;
     acts.push(JointAct::ReleaseAll(client))?;
+    acts.push(JointAct::Pump(client))?;
+    acts.push(JointAct::ReleaseAll(server))?;
+    exchange(acts)
+}
+
+/// PING, other settings and GOAWAY, until all is quiet.
+fn end_both(acts: &mut Vec<JointAct>) -> Result<(), AllocError> {
+    let (client, server) = (Side::Client, Side::Server);
     acts.push(JointAct::Ping {
         side: client,
         octets: *b"12345678",
@@ -235,14 +258,16 @@ fn reset_under_way(alloc: Global) -> Result<Vec<JointAct>, AllocError> {
         config: Config::default(),
     })?;
     acts.push(JointAct::GoAway(server))?;
-    exchange(&mut acts)?;
-    exchange(&mut acts)?;
-    Ok(acts)
+    exchange(acts)?;
+    exchange(acts)
 }
 
 /// Whether two joined ends bear that memory is refused.
 fn bear(alloc: Global) -> Result<bool, AllocError> {
-    let acts = reset_under_way(alloc)?;
+    let mut acts = Vec::new(alloc);
+    reset_under_way(alloc, &mut acts)?;
+    answer_second(alloc, &mut acts)?;
+    end_both(&mut acts)?;
     Ok(holds(alloc, &mut Acts { acts: &acts }, &mut Acts { acts: &acts }))
 }
 

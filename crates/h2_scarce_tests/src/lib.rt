@@ -9,10 +9,11 @@
 //!
 //! - `record`: what a run has shown, and the marks. `lists`: messages and fields.
 //! - `end`, `call`, `walk`: a connection, a client or a server, the calls of it, and lists of them.
-//! - `ends`, `joined`, `links`: such lists, two joined ends, and connections over links.
+//! - `ends`, `joined`, `links`: such lists, two joined ends, and connections over links. `prefix`:
+//!   what one joined end has handed out of what the other has accepted.
 //! - `writers`, `coders`, `frames`: the layers below.
 //! - `promises`: what takes no memory, with all allocations refused: a cutter, a gatherer and a
-//!   writer, and `h2_flow`.
+//!   writer, `h2_flow`, and a connection that takes frames which need none.
 //! - `ignoring`: a scenario that ignores a refusal, by which `bench/scarce` tests itself.
 #![tactic(auto)]
 
@@ -34,6 +35,8 @@ mod joined;
 mod links;
 #[cfg(test)]
 mod lists;
+#[cfg(test)]
+mod prefix;
 #[cfg(test)]
 mod promises;
 #[cfg(test)]

@@ -26,8 +26,8 @@ const ANSWERED: &[u8] = b"\
     \x00\x00\x04\x01\x04\x00\x00\x00\x01\x88\x5c\x81\x73\
     \x00\x00\x06\x00\x01\x00\x00\x00\x01GET /\n";
 
-/// What a client has not written yet where a response is whole that came with the server's SETTINGS:
-/// the acknowledgment of these. Where it fails it writes that before GOAWAY.
+/// What a client has not written yet where a response is whole that came with the SETTINGS of the
+/// server: the acknowledgment of these. Where it fails it writes that before GOAWAY.
 const ACK: &[u8] = b"\x00\x00\x00\x04\x01\x00\x00\x00\x00";
 
 /// A link in memory whose output has room for what comes, and which fails where it has not.

@@ -108,7 +108,7 @@ fn are_same(one: &[Field], other: &[Field]) -> bool {
 }
 
 /// The trailers of a message; none where it has none.
-fn trailers_of(message: &Message) -> &[Field] {
+pub(crate) fn trailers_of(message: &Message) -> &[Field] {
     match &message.trailers {
         Some(fields) => fields,
         None => &[],

@@ -1,6 +1,8 @@
 //! What takes no memory, with all allocations refused.
 
+use crate::end::{End, Kind, new_end};
 use crate::record::{Record, Scenario, takes_no_memory};
+use crate::walk::take_all;
 use h2_block::{Gather, Gathered};
 use h2_flow::{Settings, StreamState, Window};
 use h2_frame::{FrameRef, write_ref};
@@ -123,11 +125,27 @@ fn note_states(record: &mut Record) {
     record.check(state.end_out().is_ok() && state.end_out().is_err() && state.closed());
 }
 
+/// Whether no octets encode the empty text.
+fn is_empty_text(alloc: Global) -> bool {
+    match huff_read(alloc, b"") {
+        Ok(text) => text.is_empty(),
+        Err(_) => false,
+    }
+}
+
+/// Whether an octet is the empty string.
+fn is_empty_string(alloc: Global, octet: &[u8]) -> bool {
+    match read_string(alloc, octet) {
+        Ok((text, count)) => text.is_empty() && count == 1,
+        Err(_) => false,
+    }
+}
+
 /// Notes texts that have no octets.
 fn note_texts(record: &mut Record) {
-    record.check(huff_read(record.alloc, b"").is_ok());
-    record.check(read_string(record.alloc, b"\x00").is_ok());
-    record.check(read_string(record.alloc, b"\x80").is_ok());
+    record.check(is_empty_text(record.alloc));
+    record.check(is_empty_string(record.alloc, b"\x00"));
+    record.check(is_empty_string(record.alloc, b"\x80"));
 }
 
 impl Scenario for Flow {
@@ -136,6 +154,99 @@ impl Scenario for Flow {
         note_windows(record);
         note_settings(record);
         note_states(record);
+    }
+}
+
+/// What a client sends first: the preface with SETTINGS, and POST on stream 1.
+const OPENING: &[u8] = b"PRI * HTTP/2.0\r\n\r\nSM\r\n\r\n\x00\x00\x00\x04\x00\x00\x00\x00\x00";
+
+const POST_1: &[u8] = b"\x00\x00\x03\x01\x04\x00\x00\x00\x01\x83\x86\x84";
+
+/// Frames that need no memory: PRIORITY, two of an unknown type, of which one is long, the answer
+/// to PING and another one, WINDOW_UPDATE of the connection and of stream 1, and DATA on stream 1,
+/// with octets, padded, and empty.
+const FREE: &[&[u8]] = &[
+    b"\x00\x00\x05\x02\x00\x00\x00\x00\x01\x00\x00\x00\x00\x0f",
+    b"\x00\x00\x03\x20\x00\x00\x00\x00\x00abc",
+    b"\x00\x00\x64\x20\xff\x00\x00\x00\x01\
+        0123456789012345678901234567890123456789012345678901234567890123456789\
+        012345678901234567890123456789",
+    b"\x00\x00\x08\x06\x01\x00\x00\x00\x0012345678",
+    b"\x00\x00\x08\x06\x01\x00\x00\x00\x00abcdefgh",
+    b"\x00\x00\x04\x08\x00\x00\x00\x00\x00\x00\x00\x00\x01",
+    b"\x00\x00\x04\x08\x00\x00\x00\x00\x01\x00\x00\x00\x01",
+    b"\x00\x00\x03\x00\x00\x00\x00\x00\x01abc",
+    b"\x00\x00\x04\x00\x08\x00\x00\x00\x01\x01ab\x00",
+    b"\x00\x00\x00\x00\x00\x00\x00\x00\x01",
+];
+
+/// An end that has a stream open, awaits the answer to PING, and holds no octets.
+#[derive(Drop)]
+struct Ready {
+    end: Option<End>,
+}
+
+/// Whether an end takes all of a frame.
+fn takes(end: &mut End, frame: &[u8], record: &mut Record) -> bool {
+    match end.take(frame, record) {
+        Ok((used, _)) => used == frame.len(),
+        Err(_) => false,
+    }
+}
+
+/// Takes the frames that need no memory, of which three, with seven octets, are reported as DATA.
+fn take_free(end: &mut End, record: &mut Record) {
+    record.check(end.conn().held() == 0);
+    for frame in FREE {
+        let is_taken = takes(end, frame, record);
+        record.check(is_taken);
+    }
+    record.check(end.conn().owed(1) == 7);
+}
+
+impl Scenario for Ready {
+    fn run(&mut self, record: &mut Record) {
+        match &mut self.end {
+            Some(end) => take_free(end, record),
+            None => record.check(false),
+        }
+    }
+}
+
+/// Opens a stream at an end, sends PING, and puts all out.
+fn open_stream(end: &mut End, record: &mut Record) {
+    take_all(end, OPENING, record);
+    take_all(end, POST_1, record);
+    let _pinged = end.ping();
+    let _given = end.put_out(usize::MAX, record);
+}
+
+/// A server's connection, or a server, that is ready.
+fn new_ready(kind: Kind, record: &mut Record) -> Ready {
+    let mut end = new_end(kind, record);
+    if let Some(made) = &mut end {
+        open_stream(made, record);
+    }
+    Ready { end }
+}
+
+/// Whether another end takes frames that need no memory without any, and the first as it does.
+fn takes_as(first: &mut Ready, kind: Kind, record: &mut Record) -> bool {
+    let mut second = new_ready(kind, record);
+    takes_no_memory(record.alloc, first, &mut second)
+}
+
+/// Whether one of two ends takes frames that need no memory without any.
+fn one_takes(kind: Kind, record: &mut Record) -> bool {
+    let mut first = new_ready(kind, record);
+    takes_as(&mut first, kind, record)
+}
+
+/// Whether an end takes frames that need no memory without any.
+fn end_keeps(alloc: Global, kind: Kind) -> bool {
+    match Record::new(alloc) {
+        Ok(mut record) => one_takes(kind, &mut record),
+        Err(AllocError) => false,
     }
 }
 
@@ -179,4 +290,16 @@ fn a_frame_without_memory(rt: HostRuntime) {
 #[test]
 fn windows_settings_and_texts_without_memory(rt: HostRuntime) {
     assert!(rt; flow_keeps(rt.alloc()));
+}
+
+// rule: 5.4 (own) A frame whole in its piece that needs no memory is never refused any
+#[test]
+fn a_connection_without_memory(rt: HostRuntime) {
+    assert!(rt; end_keeps(rt.alloc(), Kind::ConnOfServer));
+}
+
+// rule: 5.4 (own) A frame whole in its piece that needs no memory is never refused any
+#[test]
+fn a_server_without_memory(rt: HostRuntime) {
+    assert!(rt; end_keeps(rt.alloc(), Kind::Server));
 }

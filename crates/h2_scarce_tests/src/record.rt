@@ -19,8 +19,10 @@ const FAILED: usize = 7_949;
 /// How many octets a record has room for, of answers and of output.
 const ROOM: usize = 400_000;
 
-/// How many refusals it has room for.
+/// How many refusals it has room for, and how many counts.
 const REFUSALS: usize = 100;
+
+const COUNTS: usize = 100;
 
 /// Makes an allocation that is a mark.
 fn mark(alloc: Global, size: usize) {
@@ -33,6 +35,30 @@ fn append(octets: &[u8], out: &mut Vec<u8>) -> bool {
     octets.len() <= room && out.extend_from_slice(octets).is_ok()
 }
 
+/// How much a call has moved that may do a part where memory is refused.
+#[derive(Clone, Copy)]
+struct Moved {
+    count: u64,
+    /// Whether the call was refused memory, and this is what it has moved when it was made again.
+    is_rest: bool,
+}
+
+impl Moved {
+    /// Whether a call has moved what it has with ample memory; of a rest, no more than that.
+    fn agrees_with(&self, ample: &Moved) -> bool {
+        self.count == ample.count || (self.is_rest && self.count < ample.count)
+    }
+}
+
+/// Whether calls have moved what the first of those with ample memory have.
+fn are_first(moved: &[Moved], ample: &[Moved]) -> bool {
+    let mut holds = moved.len() <= ample.len();
+    for (one, other) in moved.iter().zip(ample.iter()) {
+        holds = one.agrees_with(other) && holds;
+    }
+    holds
+}
+
 /// What a run has shown.
 #[derive(Drop)]
 pub(crate) struct Record {
@@ -43,6 +69,8 @@ pub(crate) struct Record {
     output: Vec<u8>,
     /// Refusals, but for those that memory was refused.
     refusals: Vec<EndRefusal>,
+    /// How much each call has moved that may do a part.
+    moved: Vec<Moved>,
     /// Whether all that was checked has held.
     holds: bool,
     /// Whether a connection, or a decoder, has failed since memory was refused.
@@ -57,6 +85,7 @@ impl Record {
             answers: Vec::with_capacity(alloc, ROOM)?,
             output: Vec::with_capacity(alloc, ROOM)?,
             refusals: Vec::with_capacity(alloc, REFUSALS)?,
+            moved: Vec::with_capacity(alloc, COUNTS)?,
             holds: true,
             failed: false,
         })
@@ -81,6 +110,13 @@ impl Record {
     pub(crate) fn refuse(&mut self, refusal: EndRefusal) {
         self.holds = self.refusals.len() < REFUSALS && self.holds;
         self.holds = self.refusals.push(refusal).is_ok() && self.holds;
+    }
+
+    /// Notes how much a call has moved that may do a part; or only the rest, where it was refused
+    /// memory and made again.
+    pub(crate) fn note_moved(&mut self, count: u64, is_rest: bool) {
+        self.holds = self.moved.len() < COUNTS && self.holds;
+        self.holds = self.moved.push(Moved { count, is_rest }).is_ok() && self.holds;
     }
 
     /// How many refusals were noted.
@@ -110,10 +146,12 @@ impl Record {
     fn agrees_with(&self, ample: &Record) -> bool {
         let begins = ample.answers.starts_with(&self.answers)
             && ample.output.starts_with(&self.output)
-            && ample.refusals.starts_with(&self.refusals);
+            && ample.refusals.starts_with(&self.refusals)
+            && are_first(&self.moved, &ample.moved);
         let is_whole = self.answers.len() == ample.answers.len()
             && self.output.len() == ample.output.len()
-            && self.refusals.len() == ample.refusals.len();
+            && self.refusals.len() == ample.refusals.len()
+            && self.moved.len() == ample.moved.len();
         begins && (is_whole || self.failed) && self.holds && ample.holds && !ample.failed
     }
 }

@@ -1,6 +1,6 @@
 //! Calls of an end, one after another, each made again where memory is refused.
 
-use crate::call::{CLOSED, Call, Given, MEMORY, is_done_in_parts, make};
+use crate::call::{CLOSED, Call, Given, MEMORY, is_done_in_parts, is_refuse, make};
 use crate::end::{End, Kind, new_end};
 use crate::lists::Lists;
 use crate::record::{Record, Scenario, holds};
@@ -92,7 +92,7 @@ fn check_failed(end: &mut End, waiting: usize, record: &mut Record) {
 }
 
 /// Takes all octets of a piece.
-fn take_all(end: &mut End, piece: &[u8], record: &mut Record) {
+pub(crate) fn take_all(end: &mut End, piece: &[u8], record: &mut Record) {
     let mut unused = piece;
     for _ in 0..1_000 {
         let waiting = end.conn().waiting();
@@ -114,15 +114,19 @@ fn take_all(end: &mut End, piece: &[u8], record: &mut Record) {
 fn make_twice(end: &mut End, call: Call, given: &mut Given, record: &mut Record) {
     let before = seen_of(end.conn());
     let mut answer = make(end, call, given, record);
-    if answer == Err(MEMORY) {
+    let is_again = answer == Err(MEMORY);
+    if is_again {
         record.again();
+        record.check(!is_refuse(call));
         record.check(seen_of(end.conn()) == before || is_done_in_parts(call));
         answer = make(end, call, given, record);
     }
     if end.conn().failed() == Some(Code::InternalError) {
+        record.check(is_refuse(call) && answer == Ok(0));
         return check_failed(end, before.waiting, record);
     }
     match answer {
+        Ok(count) if is_done_in_parts(call) => record.note_moved(count, is_again),
         Ok(number) => record.note(number),
         Err(refusal) => {
             record.check(refusal != MEMORY);
