@@ -4,12 +4,30 @@ use Rattle.std.proofs.Common.{suc, ℕ}
 use Rattle.std.specs.List.{slice_index_or}
 use Rattle.std.specs.Str.{bytes_eq}
 use Rattle.clap.specs.Words.{Rule}
-use Rattle.h2_args.specs.Commands.{SideNames, get_app, loop_app, number_rule, replay_app}
-use Rattle.h2_args.specs.Commands.{required_rule, serve_app, show_app}
-use Rattle.h2_args.proofs.RequiredLemmas.{IsAlone, IsRequiredAt}
+use Rattle.h2_args.specs.Commands.{SideNames, get_app, loop_app, number_option_rule, number_rule}
+use Rattle.h2_args.specs.Commands.{replay_app, required_rule, serve_app, show_app}
+use Rattle.h2_args.proofs.RequiredLemmas.{IsAlone, IsNamedAt, IsRequiredAt}
 
 pub show_is_alone : (names : SideNames) → IsAlone (show_app names)
 show_is_alone names = record { ready = refl; leaves = refl; free = refl; negates = refl }
+
+-- the third argument of `show` alone is its limit of payloads
+only_limit : (names : SideNames) (j : ℕ) (d : Rule) → j < 3
+    → bytes_eq (slice_index_or (show_app names).top.rules j d).id (codes "max-frame") ≡ true → j ≡ 2
+only_limit names zero d lt same = cc
+only_limit names (suc zero) d lt same = cc
+only_limit names (suc (suc zero)) d lt same = refl
+only_limit names (suc (suc (suc j))) d lt same = absurd (omega arith)
+
+pub show_names_limit : (names : SideNames)
+    → IsNamedAt (show_app names) 2 (number_option_rule (codes "max-frame") 16384 1048576)
+show_names_limit names = record {
+  inside = lit< tt;
+  at = λ d. refl;
+  unique = only_limit names;
+  named = refl;
+  own = refl;
+}
 
 pub replay_is_alone : (names : SideNames) → IsAlone (replay_app names)
 replay_is_alone names = record { ready = refl; leaves = refl; free = refl; negates = refl }

@@ -2,4 +2,5 @@ pub mod RequiredLemmas
 pub mod GivenLemmas
 pub mod CommandLemmas
 pub mod OptionLemmas
+pub mod NumberOptionLemmas
 pub mod examples

@@ -37,6 +37,15 @@ pub record IsAlone (a : App) : Type 0 where
   pub free : has_free_rules a.top ≡ true
   pub negates : a.top.subcommand_negates_reqs ≡ false
 
+-- place k of the command has the rule r, of an argument whose id no other has
+pub record IsNamedAt (a : App) (k : ℕ) (r : Rule) : Type 0 where
+  pub inside : k < length a.top.rules
+  pub at : (d : Rule) → slice_index_or a.top.rules k d ≡ r
+  pub unique : (j : ℕ) (d : Rule) → j < length a.top.rules
+      → bytes_eq (slice_index_or a.top.rules j d).id r.id ≡ true → j ≡ k
+  pub named : is_empty r.id ≡ false
+  pub own : (bytes_eq r.id (codes "help") || bytes_eq r.id (codes "version")) ≡ false
+
 -- place k of the command has the rule r, of a required argument of one value, whose id no other has
 pub record IsRequiredAt (a : App) (k : ℕ) (r : Rule) : Type 0 where
   pub inside : k < length a.top.rules
@@ -50,8 +59,18 @@ pub record IsRequiredAt (a : App) (k : ℕ) (r : Rule) : Type 0 where
   pub named : is_empty r.id ≡ false
   pub own : (bytes_eq r.id (codes "help") || bytes_eq r.id (codes "version")) ≡ false
 
+-- so the argument has an id that no other has
+named_at : (a : App) (k : ℕ) (r : Rule) → IsRequiredAt a k r → IsNamedAt a k r
+named_at a k r is = record {
+  inside = is.inside;
+  at = is.at;
+  unique = is.unique;
+  named = is.named;
+  own = is.own;
+}
+
 -- some argument of a list that has one
-head : (xs : List Arg) (k : ℕ) → k < length xs → Arg
+pub head : (xs : List Arg) (k : ℕ) → k < length xs → Arg
 head [] k lt = absurd (omega arith)
 head (x ∷ xs) k lt = x
 
@@ -62,7 +81,7 @@ module _ (a : App) (c : Command) (e : app_of c ≡ a) (alone : IsAlone a) where
       (ap (λ (x : App). list_all is_ready_leaf x.subs) e ∙ alone.leaves)
 
   -- nothing in the command excludes anything
-  plain : IsPlain c
+  pub plain : IsPlain c
   plain =
       let free = free_args c simple (ap (λ (x : App). has_free_rules x.top) e ∙ alone.free) in
       let rules = (both _ _ ((both _ _ (ap (λ (x : App). is_ready x.top) e ∙ alone.ready)).0)).1 in
@@ -86,19 +105,18 @@ module _ (a : App) (c : Command) (e : app_of c ≡ a) (alone : IsAlone a) where
   as_many : length (args_of c) ≡ length a.top.rules
   as_many = sym (length-map (args_of c) rule_of) ∙ ap (λ (x : App). length x.top.rules) e
 
-  module _ (m : ArgMatches) (p : IsParsedFrom c m) (k : ℕ) (r : Rule)
-      (is : IsRequiredAt a k r) where
+  module _ (k : ℕ) (r : Rule) (is : IsNamedAt a k r) where
     -- the place is one of the command's
-    inside : k < length (args_of c)
+    pub inside : k < length (args_of c)
     inside = subst (λ n. k < n) (sym as_many) is.inside
 
     module _ (d : Arg) where
       -- the argument's rule
-      rule : rule_of (slice_index_or (args_of c) k d) ≡ r
+      pub rule : rule_of (slice_index_or (args_of c) k d) ≡ r
       rule = rule_of_place k d inside ∙ is.at (rule_of d)
 
       -- no other argument has its id
-      unique : (j : ℕ) (f : Arg) → j < length (args_of c)
+      pub unique : (j : ℕ) (f : Arg) → j < length (args_of c)
           → bytes_eq (slice_index_or (args_of c) j f).id.now
           (slice_index_or (args_of c) k d).id.now ≡ true → j ≡ k
       unique j f lt same = is.unique j (rule_of f) (subst (λ n. j < n) as_many lt)
@@ -106,20 +124,15 @@ module _ (a : App) (c : Command) (e : app_of c ≡ a) (alone : IsAlone a) where
           (subst (λ (x : Rule). bytes_eq (slice_index_or (args_of c) j f).id.now x.id ≡ true) rule
           same))
 
-      -- its use takes a value
-      least : 1 ≤ least_values (slice_index_or (args_of c) k d)
-      least = subst (λ o. 1 ≤ (unwrap_or_range o).start_inclusive)
-          (sym (ap (λ (x : Rule). x.range) rule ∙ is.range)) (omega arith)
-
       -- its id isn't empty
-      named : (slice_index_or (args_of c) k d).id.now ≡ [] → ⊥
+      pub named : (slice_index_or (args_of c) k d).id.now ≡ [] → ⊥
       named empty =
           let bad : true ≡ false = ap (λ (t : Text). is_empty t)
           (sym (sym (ap (λ (x : Rule). x.id) rule) ∙ empty)) ∙ is.named in
           cc
 
       -- it is no flag that building adds
-      own : IsAuto (slice_index_or (args_of c) k d) → ⊥
+      pub own : IsAuto (slice_index_or (args_of c) k d) → ⊥
       own auto = elim auto [
         | inl h ↦
             let bad : true ≡ false = is_flag (sym (sym (ap (λ (x : Rule). x.id) rule) ∙ h)) in
@@ -134,16 +147,29 @@ module _ (a : App) (c : Command) (e : app_of c ≡ a) (alone : IsAlone a) where
           is_flag h = ap (λ (t : Text). bytes_eq t (codes "help") || bytes_eq t (codes "version")) h
               ∙ is.own
 
+  module _ (m : ArgMatches) (p : IsParsedFrom c m) (k : ℕ) (r : Rule)
+      (is : IsRequiredAt a k r) where
+    -- the argument has an id that no other has
+    at : IsNamedAt a k r
+    at = named_at a k r is
+
+    module _ (d : Arg) where
+      -- its use takes a value
+      least : 1 ≤ least_values (slice_index_or (args_of c) k d)
+      least = subst (λ o. 1 ≤ (unwrap_or_range o).start_inclusive)
+          (sym (ap (λ (x : Rule). x.range) (rule k r at d) ∙ is.range)) (omega arith)
+
       -- it has a value
       value_at : is_some (first_of r.id (rows_of (found_of m))) ≡ true
       value_at =
           let has = required_has_value c m p plain simple.globals
-          (ap (λ (x : App). x.top.subcommand_negates_reqs) e ∙ alone.negates) k d inside
-          (ap (λ (x : Rule). x.required) rule ∙ is.required)
-          (ap (λ (x : Rule). x.action) rule ∙ is.action)
-          (simple.args k d inside).delimiter least unique named own in
+          (ap (λ (x : App). x.top.subcommand_negates_reqs) e ∙ alone.negates) k d (inside k r at)
+          (ap (λ (x : Rule). x.required) (rule k r at d) ∙ is.required)
+          (ap (λ (x : Rule). x.action) (rule k r at d) ∙ is.action)
+          (simple.args k d (inside k r at)).delimiter least (unique k r at d) (named k r at d)
+          (own k r at d) in
           ap (λ o. is_some o) (sym (first_value-rows (found_of m) r.id))
-          ∙ subst (λ (x : Rule). is_some (first_value (found_of m) x.id) ≡ true) rule has
+          ∙ subst (λ (x : Rule). is_some (first_value (found_of m) x.id) ≡ true) (rule k r at d) has
 
       -- the value has passed its parser, and is read as that says
       reading_at : (q : ValueParser) → r.parser ≡ Some q → (t : Text)
@@ -151,28 +177,29 @@ module _ (a : App) (c : Command) (e : app_of c ≡ a) (alone : IsAlone a) where
           × Accepts r.ignore_case q t
       reading_at q parser =
           let got = required_reads c m p plain simple.globals
-          (ap (λ (x : App). x.top.subcommand_negates_reqs) e ∙ alone.negates) k d inside
-          (ap (λ (x : Rule). x.required) rule ∙ is.required)
-          (ap (λ (x : Rule). x.action) rule ∙ is.action)
-          (simple.args k d inside).delimiter least unique named own q
-          (ap (λ (x : Rule). x.parser) rule ∙ parser) in (
+          (ap (λ (x : App). x.top.subcommand_negates_reqs) e ∙ alone.negates) k d (inside k r at)
+          (ap (λ (x : Rule). x.required) (rule k r at d) ∙ is.required)
+          (ap (λ (x : Rule). x.action) (rule k r at d) ∙ is.action)
+          (simple.args k d (inside k r at)).delimiter least (unique k r at d) (named k r at d)
+          (own k r at d) q
+          (ap (λ (x : Rule). x.parser) (rule k r at d) ∙ parser) in (
             got.0,
             sym (one_text-rows (found_of m) r.id)
                 ∙ subst (λ (x : Rule). one_text (found_of m) x.id
                 ≡ Some (read_as (reading_of q) got.0))
-                rule got.1,
-            subst (λ (x : Rule). Accepts x.ignore_case q got.0) rule got.2,
+                (rule k r at d) got.1,
+            subst (λ (x : Rule). Accepts x.ignore_case q got.0) (rule k r at d) got.2,
           )
 
     -- a required argument has a value
     pub required_value : is_some (first_of r.id (rows_of (found_of m))) ≡ true
-    required_value = value_at (head (args_of c) k inside)
+    required_value = value_at (head (args_of c) k (inside k r at))
 
     -- its value has passed its parser, and is read as that says
     pub required_reading : (q : ValueParser) → r.parser ≡ Some q → (t : Text)
         × (one_of r.id (rows_of (found_of m)) ≡ Some (read_as (reading_of q) t))
         × Accepts r.ignore_case q t
-    required_reading = reading_at (head (args_of c) k inside)
+    required_reading = reading_at (head (args_of c) k (inside k r at))
 
 -- what a typed getter gives of an argument's value: a number in its range
 pub record GivesNumber (r : Option ℕ) (least most : ℕ) (name : Text) (rows : List Row)

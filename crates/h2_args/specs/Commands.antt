@@ -45,11 +45,23 @@ abbrev pub IsSideRule : Text → Text → Rule → Type 0
 IsSideRule name default rule =
     (names : SideNames) × AreSides names × (rule ≡ side_rule name default names)
 
--- `show [--hex] [--from SIDE]`, of the client where no side is given
+-- an option of a number from `least` to `most`
+abbrev pub number_option_rule : Text → ℕ → ℕ → Rule
+number_option_rule name least most = record (new_rule name) {
+  long = Some name;
+  value_names = 1;
+  parser = Some (Signed (pos least) (pos most));
+}
+
+-- `show [--hex] [--from SIDE] [--max-frame N]`, of the client where no side is given; the number is
+-- from 16,384 to 1,048,576
 -- rule: show (own) The words choose the end and hexadecimal
+-- rule: show (own) The words choose the limit of payloads
 abbrev pub show_app : SideNames → App
-show_app names = with_rule (with_rule (named_app (codes "show")) hex_rule)
-    (side_rule (codes "from") (codes "client") names)
+show_app names = with_rule
+    (with_rule (with_rule (named_app (codes "show")) hex_rule)
+    (side_rule (codes "from") (codes "client") names))
+    (number_option_rule (codes "max-frame") 16384 1048576)
 
 -- the command is `show`
 abbrev pub IsShowCommand : App → Type 0

@@ -30,11 +30,18 @@ abbrev pub is_named : Text → Option Text → Bool
 is_named name (Some text) = bytes_eq text name
 is_named name None = false
 
--- what the matches of `show` say
+-- the number that an option's value writes in decimal digits, or this one where it isn't given
+abbrev pub number_or : ℕ → Option Text → ℕ
+number_or default (Some text) = digits_value 10 (without_leading_plus text)
+number_or default None = default
+
+-- What the matches of `show` say. Payloads have at most 16,384 octets where no number is given.
+-- rule: show (own) The words choose the limit of payloads
 abbrev pub show_options_in : List Row → ShowOptions
 show_options_in rows = record {
   hex = is_set (one_of (codes "hex") rows);
   from = if is_named (codes "server") (first_of (codes "from") rows) then Server else Client;
+  max_frame = number_or 16384 (one_of (codes "max-frame") rows);
 }
 
 -- The options that the words after `show` give, if they have no fault.

@@ -48,8 +48,8 @@ fn with_help<'a>(command: Command<'a>, text: CommandText<'a>) -> Command<'a>
 /// The name of the flag: the input is hexadecimal text.
 pub(super) const HEX: &str = "hex";
 
-const HEX_HELP: &str = r"Read hexadecimal text, of which spaces, tabs and line ends
-are ignored";
+const HEX_HELP: &str = r"Read hexadecimal text, of which spaces, tabs and line
+ends are ignored";
 
 /// The flag as clap has it.
 pub(super) fn hex_arg<'a>(alloc: Global) -> Arg<'a>

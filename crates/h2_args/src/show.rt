@@ -1,17 +1,27 @@
 //! What the words after `show` ask for.
 
-ghost use Rattle.std.specs.Prelude.{◌≡◌, IfErr, IfOk, map, string_bytes};
-ghost use Rattle.clap.specs.Words.{app_of, found_of, rows_of};
-ghost use Rattle.h2_args.specs.Commands.{IsShowCommand};
+ghost use Rattle.std.specs.Prelude.{◌≡◌, ◌≤◌, IfErr, IfOk, codes, false, map, pos, string_bytes};
+ghost use Rattle.clap.specs.Words.{app_of, found_of, rows_of, rule_of};
+ghost use Rattle.h2_args.specs.Commands.{IsShowCommand, number_option_rule};
 ghost use Rattle.h2_args.specs.Words.{ShowWordsFail, ShowWordsGive, show_options_in};
 
 use crate::options::{CommandText, HEX, hex_arg, is_named, is_set, named_command, side_arg};
-use clap::{ArgMatches, Command, Error};
+use clap::builder::ValueParser;
+use clap::{Arg, ArgMatches, Command, Error, value_parser};
 use h2_show::{ShowOptions, Side};
 use std::alloc::{AllocError, Global};
 
+/// The limit of payloads where none is given, that of every end before its SETTINGS (RFC 9113,
+/// section 6.5.2), and the least that is taken.
+const LEAST_MAX_FRAME: u32 = 16_384;
+
+/// The greatest limit of payloads that is taken.
+const MOST_MAX_FRAME: u32 = 1_048_576;
+
 // contract: show (own) The words choose the end and hexadecimal
 // rule: show (own) The words choose the end and hexadecimal
+// contract: show (own) The words choose the limit of payloads
+// rule: show (own) The words choose the limit of payloads
 /// Reads the words after `show`.
 ///
 /// # Errors
@@ -20,16 +30,21 @@ use std::alloc::{AllocError, Global};
 /// one where a word is wrong. The error's text is for the user.
 pub fn show_args(alloc: Global, words: &[String]) -> Result<ShowOptions, Error>
     ensures ok { IfOk result (ShowWordsGive (map string_bytes words.now)) }
+    ensures least { IfOk result (λ options. 16384 ≤ options.max_frame) }
+    ensures most { IfOk result (λ options. options.max_frame ≤ 1048576) }
     ensures err { IfErr result (ShowWordsFail (map string_bytes words.now)) }
 {
     let command = show_command(alloc)?;
     let matches = command.try_get_matches_from(words)?;
-    Ok(options_of(&matches))
+    let max_frame = matches.get_one::<u32>(MAX_FRAME).unwrap_or(LEAST_MAX_FRAME);
+    Ok(options_of(&matches, max_frame))
 }
 
-// The options that the matches of `show` give.
-fn options_of(matches: &ArgMatches<'_>) -> ShowOptions
-    ensures { result ≡ show_options_in (rows_of (found_of matches.now)) }
+// The options that the matches of `show` give, with this limit of payloads.
+fn options_of(matches: &ArgMatches<'_>, max_frame: u32) -> ShowOptions
+    ensures { result ≡ record (show_options_in (rows_of (found_of matches.now))) {
+      max_frame = max_frame;
+    } }
 {
     let from = if is_named(matches, FROM, "server") {
         Side::Server
@@ -39,6 +54,7 @@ fn options_of(matches: &ArgMatches<'_>) -> ShowOptions
     ShowOptions {
         hex: is_set(matches, HEX),
         from,
+        max_frame,
     }
 }
 
@@ -97,8 +113,32 @@ Example:
   $ echo 000004 08 00 00000000 0000000f | h2 show --hex --from server
   WINDOW_UPDATE 0 4 add=15";
 
-const FROM_HELP: &str = r"The end that sent the octets: client, which begins with the
-preface, or server [default: client]";
+const FROM_HELP: &str = r"The end that sent the octets: client, which begins with
+the preface, or server [default: client]";
+
+const MAX_FRAME: &str = "max-frame";
+
+const MAX_FRAME_HELP: &str = r"The most octets that a frame's payload may have, 16384 to
+1048576 [default: 16384]";
+
+// The limits of payloads that are taken.
+fn max_frames<'a>() -> ValueParser<'a>
+    ensures { result ≡ ValueParser.Signed (pos 16384) (pos 1048576) }
+{
+    value_parser!(u32).range(i64::from(LEAST_MAX_FRAME)..=i64::from(MOST_MAX_FRAME))
+}
+
+// The option as clap has it.
+fn max_frame_arg<'a>(alloc: Global) -> Arg<'a>
+    ensures rule { rule_of result ≡ number_option_rule (codes "max-frame") 16384 1048576 }
+    ensures local { result.global ≡ false }
+{
+    Arg::new(alloc, MAX_FRAME)
+        .long(MAX_FRAME)
+        .value_name("N")
+        .value_parser(max_frames())
+        .help(MAX_FRAME_HELP)
+}
 
 /// The command as clap has it.
 pub(super) fn show_command<'a>(alloc: Global) -> Result<Command<'a>, AllocError>
@@ -112,5 +152,6 @@ pub(super) fn show_command<'a>(alloc: Global) -> Result<Command<'a>, AllocError>
     };
     named_command(alloc, "show", text)?
         .arg(hex_arg(alloc))?
-        .arg(side_arg(alloc, FROM, "client", FROM_HELP))
+        .arg(side_arg(alloc, FROM, "client", FROM_HELP))?
+        .arg(max_frame_arg(alloc))
 }

@@ -75,6 +75,7 @@ unfolding computing
 ping_example = refl
 
 -- so does a frame of an unknown kind
+-- rule: 5.5 A frame of an unknown type inside a block is PROTOCOL_ERROR
 unknown_example : next_fault (Some begun_example) (Unknown 0x42 0 1 []) ≡ Some Interrupted
 unfolding computing
 unknown_example = refl

@@ -195,7 +195,7 @@ alone_runs (Continuation stream whole fragment) is_alone = let never : false ≡
 alone_runs (Unknown kind flags stream payload) is_alone = (refl, [], refl, (refl, refl))
 
 -- An item is a run.
-item_runs : (item : Item) (frames : List Frame) → IsItem item frames
+pub item_runs : (item : Item) (frames : List Frame) → IsItem item frames
     → Runs None frames (item ∷ []) None
 item_runs (alone frame) frames (is_alone, one) =
     subst (λ (line : List Frame). Runs None line (alone frame ∷ []) None) (sym one)

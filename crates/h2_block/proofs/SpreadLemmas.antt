@@ -41,6 +41,17 @@ pub spread_frames-more : (most stream : ℕ) (end : Bool) (octets : List ℕ) �
 unfolding spread_frames
 spread_frames-more most stream end octets more = rw (lt-leb (length octets) most more) refl
 
+-- a greater payload than the octets of a block makes no other frames
+pub spread_frames-capped : (most cap stream : ℕ) (end : Bool) (octets : List ℕ)
+    → length octets ≤ cap
+    → spread_frames (min most cap) stream end octets ≡ spread_frames most stream end octets
+spread_frames-capped most cap stream end octets within = elim (cases_lt most cap) [
+  | inl less ↦ ap (λ (payload : ℕ). spread_frames payload stream end octets) (omega (arith, less))
+  | inr more ↦
+      spread_frames-few (min most cap) stream end octets (omega (arith, within, more))
+      ∙ sym (spread_frames-few most stream end octets (omega (arith, within, more)))
+]
+
 -- The frames are CONTINUATIONs of the octets, of which the last alone ends the block.
 record AreSpread (stream : ℕ) (octets : List ℕ) (frames : List Frame) : Type 0 where
   preceding : List Frame
@@ -439,10 +450,6 @@ cut_at most at octets piece following whole is first rest ends = record {
   rest = rest ∙ ap (λ (n : ℕ). drop n octets) is;
   ends = ends;
 }
-
--- no octet is left
-pub none_left : (count : ℕ) → true ≡ (count == 0) → count ≡ 0
-none_left count empty = eqb-true count 0 (sym empty)
 
 -- some octet is left
 pub some_left : (count : ℕ) → false ≡ (count == 0) → 0 < count

@@ -129,6 +129,7 @@ fault_outside (Unknown kind flags stream payload) = None
 
 -- The fault of a frame inside a block: anything but a CONTINUATION of its stream, an unknown kind
 -- too, interrupts it (section 6.10); and the block stays within the limit.
+-- rule: 5.5 A frame of an unknown type inside a block is PROTOCOL_ERROR
 -- rule: 6.10 Inside a block any frame but its CONTINUATION is PROTOCOL_ERROR
 -- rule: 6.10 A CONTINUATION of another stream inside a block is PROTOCOL_ERROR
 -- rule: 10.5 (own) A block of more than 65,552 octets is ENHANCE_YOUR_CALM

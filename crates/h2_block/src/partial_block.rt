@@ -103,6 +103,7 @@ impl PartialBlock {
         }
     }
 
+    // rule: 5.5 A frame of an unknown type inside a block is PROTOCOL_ERROR
     // rule: 6.10 Inside a block any frame but its CONTINUATION is PROTOCOL_ERROR
     // rule: 6.10 A CONTINUATION of another stream inside a block is PROTOCOL_ERROR
     // Takes a frame inside the block that was opened so.

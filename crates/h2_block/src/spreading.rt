@@ -5,18 +5,17 @@ ghost use Rattle.std.specs.Prelude.{None, IfErr, OnOk, IsOk};
 ghost use Rattle.std.specs.Vec.{vec_capacity};
 ghost use Rattle.h2_frame.specs.Frames.{frame_of};
 ghost use Rattle.h2_frame.specs.Encoding.{encoding_of, refusal};
-ghost use Rattle.h2_block.specs.Spread.{max_payload, spread_frames, encoding_of_frames};
+ghost use Rattle.h2_block.specs.Spread.{spread_frames, encoding_of_frames};
 
 use crate::fault::BlockFault;
 use h2_frame::{FrameRef, write_ref};
 
-/// The greatest payload of the frames that are written (RFC 9113, section 4.2).
-const MAX_PAYLOAD: usize = 16_384;
+/// The most octets that a block can have, so that a greater payload makes no other frames.
+const MAX_BLOCK_OCTETS: usize = 65_552;
 
 /// The octets of a frame's head (RFC 9113, section 4.1).
 const HEAD: usize = 9;
 
-// contract: 4.2 (own) Payloads of at most 16,384 octets are sent
 // contract: 4.3 A block is sent as contiguous HEADERS and CONTINUATION, each full but one
 // rule: 4.3 A block is sent as contiguous HEADERS and CONTINUATION, each full but one
 // contract: 4.3 END_STREAM of a block is that of its HEADERS
@@ -24,32 +23,41 @@ const HEAD: usize = 9;
 // rule: 4.3 Of the frames of a block that is sent the last has END_HEADERS
 // rule: 4.3 (own) Room for all frames of a block is reserved before the first
 /// Appends the frames of a field block on a stream, from 1 to 2<sup>31</sup> - 1, of 65,552 octets
-/// at most (RFC 9113, sections 4.3, 6.2 and 6.10): HEADERS and CONTINUATIONs, each full with 16,384
+/// at most (RFC 9113, sections 4.3, 6.2 and 6.10): HEADERS and CONTINUATIONs, each full with `most`
 /// octets but the last. An empty block is one empty HEADERS. `end` says that nothing follows the
-/// block on the stream.
+/// block on the stream. A peer reads payloads of 16,384 octets, and longer ones only where its
+/// SETTINGS have said so.
 ///
 /// # Errors
 ///
 /// [`BlockFault::Memory`], and `out` is unchanged. It doesn't come where `out` has capacity for the
 /// frames.
-pub fn spread(stream: u32, end: bool, octets: &[u8], out: &mut Vec<u8>) -> Result<(), BlockFault>
+pub fn spread(
+    stream: u32,
+    end: bool,
+    octets: &[u8],
+    out: &mut Vec<u8>,
+    most: usize,
+) -> Result<(), BlockFault>
+    requires payload { 1 ≤ most }
     requires at_least { 1 ≤ stream }
     requires at_most { stream < 2 ^ 31 }
     requires length { length octets.now ≤ 65552 }
     ensures ok { OnOk result (out.new.items ≡ out.old.items
-        ++ encoding_of_frames (spread_frames max_payload stream end octets.now)) }
+        ++ encoding_of_frames (spread_frames most stream end octets.now)) }
     ensures err { IfErr result (λ fault. (fault ≡ BlockFault.Memory)
         × (out.new.items ≡ out.old.items)) }
     ensures room { vec_len out.old
-        + length (encoding_of_frames (spread_frames max_payload stream end octets.now))
+        + length (encoding_of_frames (spread_frames most stream end octets.now))
         ≤ vec_capacity out.old
         → IsOk result }
     ensures capacity { vec_capacity out.old ≤ vec_capacity out.new }
 {
-    if out.reserve(encoded_len(MAX_PAYLOAD, octets.len())).is_err() {
+    let payload = most.min(MAX_BLOCK_OCTETS);
+    if out.reserve(encoded_len(payload, octets.len())).is_err() {
         return Err(BlockFault::Memory);
     }
-    append_block(MAX_PAYLOAD, stream, end, octets, out);
+    append_block(payload, stream, end, octets, out);
     Ok(())
 }
 

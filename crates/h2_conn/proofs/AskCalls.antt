@@ -4,6 +4,7 @@ use Rattle.std.proofs.Common.{Err, inl, inr, IfOk, IfErr}
 use Rattle.std.proofs.Common.{OnOk, refl, sym, ap, subst, ◌∙◌, List, ◌∷◌}
 use Rattle.h2_wire.specs.Cutter.{CutterState}
 use Rattle.h2_log.specs.declared.refusal.Refusal.{Refusal}
+use Rattle.h2_log.specs.declared.refusal.Refusal.TheVariants.{Memory}
 use Rattle.h2_log.specs.Acts.{Values, Act, Answer, Refused, IsTypedAct, Open, SendFields, SendData}
 use Rattle.h2_log.specs.Acts.{Release, ResetStream, Refuse, SendPing, SendGoAway, PutOut}
 use Rattle.h2_log.specs.Acts.{ChangeSettings}
@@ -11,18 +12,20 @@ use Rattle.h2_log.specs.Log.{Log}
 use Rattle.h2_log.specs.LogView.{log_view}
 use Rattle.h2_log.specs.LogCalls.{MayAnswer, accepts, refuses, lacks, with_call}
 use Rattle.h2_log.specs.CallRules.{refusal_of, answer_of, may_lack_memory, first_of, conditions}
+use Rattle.h2_log.specs.View.{View}
 use Rattle.h2_log.proofs.StreamLemmas.{Keeps-call}
 use Rattle.h2_machine.specs.End.{End, end_view}
 use Rattle.h2_machine.specs.Machine.{after_call}
 use Rattle.h2_machine.specs.Represents.{Represents}
 use Rattle.h2_machine_laws.specs.Machines.{end_after}
-use Rattle.h2_machine_laws.proofs.AlikeAnswers.{answer_alike}
+use Rattle.h2_machine_laws.proofs.AlikeAnswers.{answer_alike, views_alike}
 use Rattle.h2_machine_laws.proofs.CallRefusals.{refusal_same}
 use Rattle.h2_machine_laws.proofs.FreshNumbers.{calls_represent}
 use Rattle.h2_core.specs.Calls.{CallRefused, CallAccepted}
 use Rattle.h2_conn.specs.Conn.{answer_by}
 use Rattle.h2_conn.specs.Inner.{PartsRepresent}
 use Rattle.h2_conn.proofs.AskLimits.{parts_kept}
+use Rattle.hpack.proofs.Tests.{none_since as nothing}
 
 -- Whatever log the parts represent: the call may have the answer, and they represent the log with
 -- it.
@@ -42,13 +45,15 @@ parts_called values cutter e log act answer parts typed may =
 
 -- A refusal that the machine gives, or a refused allocation, is one that the log may give.
 refusal_may : (values : Values) (e new : End) (log : Log) (act : Act) (refusal : Refusal)
-    → Represents values e log → may_lack_memory act ≡ true → CallRefused e act refusal new
-    → MayAnswer log act (Refused refusal)
+    → Represents values e log
+    → (refusal ≡ Memory → refusal_of (end_view e) act ≡ None
+    → may_lack_memory (log_view log) act ≡ true)
+    → CallRefused e act refusal new → MayAnswer log act (Refused refusal)
 refusal_may values e new log act refusal represents may refused =
     let same = refusal_same values e log act represents in
     elim refused.why [
       | inl why ↦ refuses refusal (sym same ∙ why) refl
-      | inr (memory, free) ↦ lacks (sym same ∙ free) may (ap Refused memory)
+      | inr (memory, free) ↦ lacks (sym same ∙ free) (may memory free) (ap Refused memory)
     ]
 
 -- A refused call leaves the end as it is.
@@ -56,11 +61,15 @@ refused_after : (e : End) (act : Act) (refusal : Refusal) → end_after e act (R
 unfolding end_after
 refused_after e act refusal = refl
 
--- A call that is refused.
-pub refused_answers : (cutter : CutterState) (e new : End) (act : Act) (refusal : Refusal)
-    → IsTypedAct act → may_lack_memory act ≡ true → CallRefused e act refusal new
-    → PartsAnswer cutter e act (Refused refusal) new
-refused_answers cutter e new act refusal typed lacking refused values log parts =
+-- A call that is refused, for memory only where the log may lack it.
+pub refused_at : (values : Values) (cutter : CutterState) (e new : End) (log : Log) (act : Act)
+    (refusal : Refusal) → PartsRepresent values cutter e log → IsTypedAct act
+    → (refusal ≡ Memory → refusal_of (end_view e) act ≡ None
+    → may_lack_memory (log_view log) act ≡ true)
+    → CallRefused e act refusal new
+    → MayAnswer log act (Refused refusal)
+    × PartsRepresent values cutter new (with_call log act (Refused refusal))
+refused_at values cutter e new log act refusal parts typed lacking refused =
     let may = refusal_may values e new log act refusal parts.machine lacking refused in (
       may,
       subst (λ (x : End). PartsRepresent values cutter x (with_call log act (Refused refusal)))
@@ -100,11 +109,6 @@ accepted_with values cutter e new log act answer parts typed is alike free after
           (parts_called values cutter e log act answer parts typed may),
     )
 
--- What isn't there is nothing.
-nothing : {A : Type 0} (value : Option A) → is_some value ≡ false → value ≡ None
-nothing None is = refl
-nothing (Some x) is = cc
-
 -- Where none of some conditions holds, the first doesn't.
 first_fails : (refusal : Refusal) (others : List (Bool × Refusal)) (test : Bool)
     → first_of ((test, refusal) ∷ others) ≡ None → test ≡ false
@@ -132,6 +136,24 @@ up_if_free e SendGoAway other free = nothing _ (first_fails _ _ _ free)
 up_if_free e (PutOut count) other free = cc
 up_if_free e (ChangeSettings values) other free = nothing _ (first_fails _ _ _ free)
 
+-- A machine that hasn't failed may lack memory for a call just where its log may.
+lacks_alike : (values : Values) (e : End) (log : Log) (act : Act) → Represents values e log
+    → e.failed ≡ None → may_lack_memory (end_view e) act ≡ may_lack_memory (log_view log) act
+unfolding may_lack_memory
+lacks_alike values e log act represents up =
+    ap (λ (view : View). may_lack_memory view act) (views_alike values e log represents up)
+
+-- A call that is refused, and doesn't put output out, for memory only where the machine may lack
+-- it.
+refused_answers : (cutter : CutterState) (e new : End) (act : Act) (refusal : Refusal)
+    → puts_out act ≡ false → IsTypedAct act
+    → (refusal ≡ Memory → may_lack_memory (end_view e) act ≡ true)
+    → CallRefused e act refusal new → PartsAnswer cutter e act (Refused refusal) new
+refused_answers cutter e new act refusal other typed lacking refused values log parts =
+    refused_at values cutter e new log act refusal parts typed
+    (λ memory free. sym (lacks_alike values e log act parts.machine (up_if_free e act other free))
+    ∙ lacking memory) refused
+
 -- A call that is accepted, and doesn't put output out.
 pub accepted_answers : (cutter : CutterState) (e new : End) (act : Act) (answer : Answer)
     → puts_out act ≡ false → IsTypedAct act → answer ≡ answer_of (end_view e) act
@@ -144,7 +166,7 @@ accepted_answers cutter e new act answer other typed is accepted values log part
 -- What a call answers by its result, where its value is the machine's answer.
 pub answers_by : {A : Type 0} (answered : A → Answer) (result : Result A Refusal)
     (cutter : CutterState) (e new : End) (act : Act) → puts_out act ≡ false → IsTypedAct act
-    → may_lack_memory act ≡ true
+    → (result ≡ Err Memory → may_lack_memory (end_view e) act ≡ true)
     → IfOk result (λ value. (answered value ≡ answer_of (end_view e) act)
     × CallAccepted e act new)
     → IfErr result (λ refusal. CallRefused e act refusal new)
@@ -152,19 +174,20 @@ pub answers_by : {A : Type 0} (answered : A → Answer) (result : Result A Refus
 answers_by answered (Ok value) cutter e new act other typed lacking ok err =
     accepted_answers cutter e new act (answered value) other typed ok.0 ok.1
 answers_by answered (Err refusal) cutter e new act other typed lacking ok err =
-    refused_answers cutter e new act refusal typed lacking err
+    refused_answers cutter e new act refusal other typed (λ memory. lacking (ap Err memory)) err
 
 -- The same of calls whose answer is that they are done.
 pub done_by : {A : Type 0} (answer : Answer) (result : Result A Refusal)
     (cutter : CutterState) (e new : End) (act : Act) → puts_out act ≡ false → IsTypedAct act
-    → may_lack_memory act ≡ true → answer ≡ answer_of (end_view e) act
+    → (result ≡ Err Memory → may_lack_memory (end_view e) act ≡ true)
+    → answer ≡ answer_of (end_view e) act
     → OnOk result (CallAccepted e act new)
     → IfErr result (λ refusal. CallRefused e act refusal new)
     → PartsAnswer cutter e act (answer_by (λ done. answer) result) new
 done_by answer (Ok value) cutter e new act other typed lacking is ok err =
     accepted_answers cutter e new act answer other typed is ok
 done_by answer (Err refusal) cutter e new act other typed lacking is ok err =
-    refused_answers cutter e new act refusal typed lacking err
+    refused_answers cutter e new act refusal other typed (λ memory. lacking (ap Err memory)) err
 
 -- A call that is refused for the first condition that holds, such as that the connection has
 -- failed.

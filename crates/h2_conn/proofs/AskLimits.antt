@@ -42,5 +42,6 @@ parts_kept values cutter e other log next parts keeps machine =
           (same_limits values e other log next parts.machine machine) keeps.input keeps.frames
           (parts.cut (keeps.up up));
       unparsed = λ up. parts.unparsed (keeps.up up) ∙ sym keeps.unparsed;
+      greatest = λ up. parts.greatest (keeps.up up);
       place = parts.place ∙ sym (ap (λ (input : List ℕ). saturated (length input)) keeps.input);
     }

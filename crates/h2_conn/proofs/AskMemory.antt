@@ -1,15 +1,14 @@
 -- Calls that take no memory, and how many octets are kept at most.
-use Rattle.std.proofs.Common.{◌≡◌, ◌≢◌, ◌∙◌, ◌+◌, ◌≤◌, ℕ, suc, Bool, true, false, List, length, min}
-use Rattle.std.proofs.Common.{Option, Some, None, is_some, IsSome, Result, Err, refl, ap, sym, arith}
+use Rattle.std.proofs.Common.{◌≡◌, ◌≢◌, ◌∙◌, ◌+◌, ◌≤◌, ℕ, suc, Bool, true, false, List, length}
+use Rattle.std.proofs.Common.{Option, Some, None, is_some, IsSome, Result, Err, refl, ap, sym}
+use Rattle.std.proofs.Common.{arith}
 use Rattle.h2_frame.specs.declared.code.Code.{Code}
 use Rattle.h2_log.specs.declared.refusal.Refusal.{Refusal}
 use Rattle.h2_log.specs.declared.refusal.Refusal.TheVariants.{Memory, Closed}
 use Rattle.h2_log.specs.Acts.{Values}
-use Rattle.h2_log.specs.CallRules.{returns_before_put_out}
+use Rattle.h2_log.specs.CallRules.{returns_before_put_out, sends_no_data}
 use Rattle.h2_log.specs.Log.{Log}
-use Rattle.h2_log.specs.LogSteps.{limits_from}
 use Rattle.h2_log.specs.LogView.{log_view}
-use Rattle.h2_log.specs.Memory.{sends_no_data}
 use Rattle.h2_log.specs.View.{View}
 use Rattle.h2_machine.specs.End.{End, end_view}
 use Rattle.h2_machine.specs.Represents.{Represents}
@@ -53,17 +52,10 @@ nothing_taken values e log id octets end result represents closed free none =
     nothing_by values e log id octets end result e.failed refl represents closed free none
 
 -- A head and the greatest payload are kept at most.
-pub limit_of_cutter : (values : Values) (cutter : CutterState) (e : End) (log : Log)
-    → PartsRepresent values cutter e log → log.failed ≡ None → cutter.limit ≡ 16384
-limit_of_cutter values cutter e log p up =
-    sym ((p.cut up).ahead (suc (length log.input)) (omega arith))
-    ∙ ap (λ (limits : ℕ → ℕ). limits (suc (length log.input)))
-    (limits_to_come e.role values log p.machine.came)
-
-held_by : (inside : Bool) (count limit : ℕ) → (inside ≡ true → count ≤ 24)
-    → (inside ≡ false → count ≤ 9 + limit) → limit ≡ 16384 → count ≤ 16393
-held_by true count limit few most is = omega (arith, few refl)
-held_by false count limit few most is = omega (arith, most refl, is)
+held_by : (inside : Bool) (count greatest : ℕ) → (inside ≡ true → count ≤ 24)
+    → (inside ≡ false → count ≤ 9 + greatest) → greatest ≤ 16384 → count ≤ 16393
+held_by true count greatest few most within = omega (arith, few refl)
+held_by false count greatest few most within = omega (arith, most refl, within)
 
 pub none_of : (value : Option Code) → is_some value ≡ false → value ≡ None
 none_of None is = refl
@@ -72,7 +64,6 @@ none_of (Some code) is = cc
 pub held_at_most : (values : Values) (cutter : CutterState) (e : End) (log : Log) (count : ℕ)
     → PartsRepresent values cutter e log → log.failed ≡ None
     → (cutter.in_preface ≡ true → count ≤ 24)
-    → (cutter.in_preface ≡ false → count ≤ 9 + cutter.limit) → count ≤ 16393
+    → (cutter.in_preface ≡ false → count ≤ 9 + cutter.greatest) → count ≤ 16393
 held_at_most values cutter e log count p up few most =
-    held_by cutter.in_preface count cutter.limit few most
-    (limit_of_cutter values cutter e log p up)
+    held_by cutter.in_preface count cutter.greatest few most (p.greatest up)

@@ -1,26 +1,30 @@
 -- What putting output out makes of the parts of a connection, and that its octets are the log's
 -- next ones.
-use Rattle.std.proofs.Common.{◌≡◌, ℕ, ◌+◌, ◌++◌, List, take, drop, Option, Some, None, Result, Ok}
-use Rattle.std.proofs.Common.{Err, inr, IfOk, IfErr, refl, sym, ap, ◌∙◌}
+use Rattle.std.proofs.Common.{◌≡◌, ℕ, zero, suc, ◌+◌, ◌++◌, min, nat_lt, Bool, true, false, ◌||◌}
+use Rattle.std.proofs.Common.{List, length, take, drop, Option, Some, None, Result, Ok, Err, inr}
+use Rattle.std.proofs.Common.{IfOk, IfErr, IsOk, is_ok, refl, sym, ap, ◌∙◌, arith}
+use Rattle.std.proofs.lemmas.Bool.{both_ways, lt-ltb}
 use Rattle.std.proofs.lemmas.List.{drop-take}
 use Rattle.h2_frame.specs.declared.code.Code.{Code}
 use Rattle.h2_wire.specs.Cutter.{CutterState}
 use Rattle.h2_log.specs.declared.refusal.Refusal.{Refusal}
 use Rattle.h2_log.specs.declared.refusal.Refusal.TheVariants.{Memory}
 use Rattle.h2_log.specs.Acts.{Values, IsTypedAct, PutOut, Count}
-use Rattle.h2_log.specs.CallRules.{may_lack_memory, encoder_after_call}
+use Rattle.h2_log.specs.CallRules.{may_lack_memory, encoder_after_call, returns_before_put_out}
 use Rattle.h2_log.specs.Log.{Log, released}
+use Rattle.h2_log.specs.LogView.{log_view}
 use Rattle.h2_log.specs.LogCalls.{called, before_put_out, with_call}
-use Rattle.h2_machine.specs.End.{End}
+use Rattle.h2_machine.specs.End.{End, end_view}
 use Rattle.h2_machine.specs.Machine.{before_put_out_at}
 use Rattle.h2_machine.specs.Represents.{Represents}
-use Rattle.h2_machine_laws.proofs.AlikeAnswers.{put_out_alike}
+use Rattle.h2_machine_laws.proofs.AlikeAnswers.{put_out_alike, waiting_alike}
 use Rattle.h2_machine_laws.proofs.CallWithoutStream.{ready_given, ready_failed_at, ready_failed}
 use Rattle.h2_machine_laws.proofs.RepresentedSteps.{up_of, called_up, ready_up}
 use Rattle.h2_core.specs.Readers.{PutsOut}
 use Rattle.h2_conn.specs.Conn.{answer_by}
-use Rattle.h2_conn.proofs.AskCalls.{PartsAnswer, refused_answers, accepted_with}
-use Rattle.h2_conn.proofs.AskSound.{never_refused}
+use Rattle.h2_conn.proofs.AskCalls.{PartsAnswer, refused_at, accepted_with}
+use Rattle.h2_conn.proofs.AskMemory.{returns_alike}
+use Rattle.h2_machine_laws.proofs.CallWithoutStream.{never_refused}
 
 -- What waits once an end is ready to put output out is what its log has written by then, by whether
 -- it has failed.
@@ -67,17 +71,39 @@ pub ok_as : {A : Type 0} (X Y : A → Type 0) (result : Result A Refusal)
 ok_as X Y (Ok value) says ok = says value ok
 ok_as X Y (Err refusal) says ok = ok
 
+-- Where it needs no memory unless something is returned first or put out, memory is refused to it
+-- only then.
+pub lacks_by : (result : Result ℕ Refusal) (returns : Bool) (most : ℕ)
+    → (returns ≡ false → most ≡ 0 → IsOk result) → result ≡ Err Memory
+    → (returns || nat_lt 0 most) ≡ true
+lacks_by result true most nothing is = refl
+lacks_by result false zero nothing is =
+    absurd (both_ways (is_ok result) (ap is_ok is) (nothing refl refl))
+lacks_by result false (suc most) nothing is = lt-ltb 0 (suc most) (omega arith)
+
+-- It may lack memory at a machine just where it may at its log.
+put_out_lacks_alike : (values : Values) (e : End) (log : Log) (count : ℕ) → Represents values e log
+    → may_lack_memory (end_view e) (PutOut count) ≡ may_lack_memory (log_view log) (PutOut count)
+unfolding may_lack_memory
+put_out_lacks_alike values e log count represents =
+    ap (λ (returns : Bool). returns || nat_lt 0 (min count (length e.output.waiting)))
+    (returns_alike values e log represents)
+    ∙ ap (λ (waits : ℕ). returns_before_put_out (log_view log) || nat_lt 0 (min count waits))
+    (waiting_alike values e log represents)
+
 -- What it answers.
 pub put_out_answers : (result : Result ℕ Refusal) (cutter : CutterState) (e new : End) (count : ℕ)
     (before after : List ℕ) → IsTypedAct (PutOut count)
+    → (result ≡ Err Memory → may_lack_memory (end_view e) (PutOut count) ≡ true)
     → IfOk result (λ given. PutsOut e count given before after new)
     → IfErr result (λ refusal. (refusal ≡ Memory) × (after ≡ before) × (new ≡ e))
     → PartsAnswer cutter e (PutOut count) (answer_by (λ given. Count given) result) new
-unfolding may_lack_memory
-put_out_answers (Ok given) cutter e new count before after typed ok err values log parts =
+put_out_answers (Ok given) cutter e new count before after typed lacking ok err values log parts =
     accepted_with values cutter e new log (PutOut count) (Count given) parts typed ok.answer
     (put_out_alike values e log count parts.machine) (never_refused e count) ok.machine
-put_out_answers (Err refusal) cutter e new count before after typed ok (memory, kept, same) values
-    log parts =
-    refused_answers cutter e new (PutOut count) refusal typed refl
-    (record { why = inr (memory, never_refused e count); same = same }) values log parts
+put_out_answers (Err refusal) cutter e new count before after typed lacking ok
+    (memory, kept, same) values log parts =
+    refused_at values cutter e new log (PutOut count) refusal parts typed
+    (λ lacks free. sym (put_out_lacks_alike values e log count parts.machine)
+    ∙ lacking (ap Err memory))
+    (record { why = inr (memory, never_refused e count); same = same })

@@ -1,21 +1,27 @@
 -- What refusing a stream makes of the parts of a connection.
-use Rattle.std.proofs.Common.{◌≡◌, ℕ, None, Result, Ok, Err, inl, inr, refl, sym, subst, ◌∙◌}
+use Rattle.std.proofs.Common.{◌≡◌, ℕ, not, is_some, Option, None, Result, Ok, Err, inl, inr, refl}
+use Rattle.std.proofs.Common.{sym, ap, subst, ◌∙◌}
+use Rattle.h2_frame.specs.declared.code.Code.{Code}
 use Rattle.h2_frame.specs.declared.code.Code.TheVariants.{InternalError}
 use Rattle.h2_wire.specs.Cutter.{CutterState}
 use Rattle.h2_log.specs.declared.refusal.Refusal.{Refusal}
 use Rattle.h2_log.specs.Acts.{Values, Act, Answer, IsTypedAct, Refuse, Done, OutOfMemory, Refused}
 use Rattle.h2_log.specs.Acts.{shown}
-use Rattle.h2_log.specs.CallRules.{refusal_of, may_lack_memory}
+use Rattle.h2_log.specs.CallRules.{refusal_of, refuse_fault, may_fail_for_memory}
 use Rattle.h2_log.specs.Log.{Log}
+use Rattle.h2_log.specs.LogView.{log_view}
 use Rattle.h2_log.specs.LogCalls.{MayAnswer, fails, with_call}
+use Rattle.h2_log.specs.View.{View}
 use Rattle.h2_machine.specs.End.{End, end_view}
 use Rattle.h2_machine.specs.Machine.{fail}
 use Rattle.h2_machine_laws.specs.Machines.{end_after}
+use Rattle.h2_machine_laws.proofs.AlikeAnswers.{views_alike}
 use Rattle.h2_machine_laws.proofs.CallRefusals.{refusal_same}
 use Rattle.h2_core.specs.Calls.{CallRefuses}
 use Rattle.h2_conn.specs.Conn.{answer_by}
 use Rattle.h2_conn.specs.Inner.{PartsRepresent}
 use Rattle.h2_conn.proofs.AskCalls.{PartsAnswer, accepted_answers, condition_answers, parts_called}
+use Rattle.h2_conn.proofs.AskCalls.{up_if_free}
 
 -- Whatever log the parts represent: the call may have an answer that shows this one, and they
 -- represent the log with it.
@@ -31,16 +37,21 @@ shows_own : (cutter : CutterState) (e new : End) (act : Act) (one answer : Answe
 shows_own cutter e new act one answer is answers values log parts =
     let made = answers values log parts in (one, is, made.0, made.1)
 
--- Where an allocation was refused the connection fails.
+-- Where the stream was to be reset, and an allocation was refused, the connection fails.
 failing_answers : (cutter : CutterState) (e new : End) (id code : ℕ) → IsTypedAct (Refuse id code)
-    → refusal_of (end_view e) (Refuse id code) ≡ None
+    → refusal_of (end_view e) (Refuse id code) ≡ None → refuse_fault (end_view e) code ≡ None
     → new ≡ fail InternalError e.streams.last_processed e
     → PartsAnswer cutter e (Refuse id code) OutOfMemory new
-unfolding may_lack_memory end_after
-failing_answers cutter e new id code typed free is values log parts =
+unfolding may_fail_for_memory refuse_fault end_after
+failing_answers cutter e new id code typed free calm is values log parts =
     let act = Refuse id code in
+    let up : e.failed ≡ None = up_if_free e act refl free in
+    let none : refuse_fault (log_view log) code ≡ None =
+    sym (ap (λ (view : View). refuse_fault view code)
+    (views_alike values e log parts.machine up)) ∙ calm in
     let may : MayAnswer log act OutOfMemory =
-    fails (sym (refusal_same values e log act parts.machine) ∙ free) refl refl in (
+    fails (sym (refusal_same values e log act parts.machine) ∙ free)
+    (ap (λ (fault : Option Code). not (is_some fault)) none) refl in (
       may,
       subst (λ (x : End). PartsRepresent values cutter x (with_call log act OutOfMemory)) (sym is)
           (parts_called values cutter e log act OutOfMemory parts typed may),
@@ -53,9 +64,9 @@ pub refusing_shows : (result : Result Unit Refusal) (cutter : CutterState) (e ne
 refusing_shows (Ok done) cutter e new id code typed (inl accepted) =
     shows_own cutter e new (Refuse id code) Done Done refl
     (accepted_answers cutter e new (Refuse id code) Done refl typed refl accepted)
-refusing_shows (Ok done) cutter e new id code typed (inr (free, is)) =
+refusing_shows (Ok done) cutter e new id code typed (inr (free, calm, is)) =
     shows_own cutter e new (Refuse id code) OutOfMemory Done refl
-    (failing_answers cutter e new id code typed free is)
+    (failing_answers cutter e new id code typed free calm is)
 refusing_shows (Err refusal) cutter e new id code typed (why, is) =
     shows_own cutter e new (Refuse id code) (Refused refusal) (Refused refusal) refl
     (subst (λ (x : End). PartsAnswer cutter e (Refuse id code) (Refused refusal) x) (sym is)

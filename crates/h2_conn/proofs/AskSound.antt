@@ -18,6 +18,7 @@ use Rattle.h2_core.specs.Calls.{CallRefused, CallAccepted, CallRefuses}
 use Rattle.h2_core.specs.Endpoint.{IsSound}
 use Rattle.h2_core.specs.Readers.{PutsOut}
 use Rattle.h2_conn.proofs.AskCalls.{puts_out, up_if_free}
+use Rattle.h2_machine_laws.proofs.CallWithoutStream.{never_refused}
 
 -- A call that is accepted leaves an end sound.
 pub accepted_sound : (e : End) (act : Act) → refusal_of (end_view e) act ≡ None → IsTypedAct act
@@ -44,7 +45,7 @@ pub was_up_refusing : (result : Result Unit Refusal) (e new : End) (id code : �
     → CallRefuses e id code result new → new.failed ≡ None → e.failed ≡ None
 was_up_refusing (Ok done) e new id code (inl accepted) up =
     up_if_free e (Refuse id code) refl accepted.free
-was_up_refusing (Ok done) e new id code (inr (free, is)) up =
+was_up_refusing (Ok done) e new id code (inr (free, calm, is)) up =
     up_if_free e (Refuse id code) refl free
 was_up_refusing (Err refusal) e new id code (why, is) up =
     ap (λ (x : End). x.failed) (sym is) ∙ up
@@ -69,7 +70,7 @@ pub refusing_sound : (result : Result Unit Refusal) (e new : End) (id code : ℕ
     → new.failed ≡ None → IsSound new
 refusing_sound (Ok done) e new id code typed sound (inl accepted) up =
     subst IsSound (sym accepted.after) (accepted_sound e (Refuse id code) accepted.free typed sound)
-refusing_sound (Ok done) e new id code typed sound (inr (free, is)) up =
+refusing_sound (Ok done) e new id code typed sound (inr (free, calm, is)) up =
     let failed = ap (λ (x : End). x.failed) (sym is) ∙ up in absurd (cc)
 refusing_sound (Err refusal) e new id code typed sound (why, is) up =
     subst IsSound (sym is) sound
@@ -88,11 +89,6 @@ ready_same e = ready_same_by e (returns_before_put_out (end_view e))
 pub put_out_failed : (e : End) (count : ℕ) → (after_call e (PutOut count)).failed ≡ e.failed
 unfolding after_call
 put_out_failed e count = ready_same e
-
--- Putting output out is never refused.
-pub never_refused : (e : End) (count : ℕ) → refusal_of (end_view e) (PutOut count) ≡ None
-unfolding conditions first_of
-never_refused e count = refl
 
 -- Putting output out leaves it whether an end has failed, whatever it answers.
 pub still_failed : (result : Result ℕ Refusal) (e new : End) (count : ℕ) (before after : List ℕ)

@@ -9,7 +9,7 @@ pub mod AskRefusing
 pub mod AskReaders
 pub mod AskNumbers
 -- Calls that take no memory.
-mod AskMemory
+pub mod AskMemory
 -- Frames that are taken, and the octets that are kept of them.
 mod TakeFrames
 -- What is reported of a frame.

@@ -1,7 +1,6 @@
 -- Memory is refused for a cause: what a cutter and an end say of it, as a log does.
-use Rattle.std.proofs.Common.{◌≡◌, ◌≢◌, ◌∙◌, ◌++◌, ℕ, List, [], Bool, true, false, Option, None}
-use Rattle.std.proofs.Common.{Result, Err, suc, length, refl, ap, sym, subst, arith}
-use Rattle.std.proofs.Common.{nat_le, if◌then◌else◌}
+use Rattle.std.proofs.Common.{◌≡◌, ◌≢◌, ◌∙◌, ◌++◌, ℕ, nat_le, List, [], true, false, None}
+use Rattle.std.proofs.Common.{Result, Err, suc, length, refl, ap, sym, arith}
 use Rattle.std.proofs.lemmas.Bool.Decides.{nat_tests}
 use Rattle.h2_frame.specs.declared.code.Code.{Code}
 use Rattle.h2_frame.specs.Frames.{Frame}
@@ -9,29 +8,30 @@ use Rattle.h2_block.specs.Grouping.{alone, block}
 use Rattle.h2_wire.specs.declared.cut.Advance.{Advance}
 use Rattle.h2_wire.specs.declared.fault.WireFault.{WireFault}
 use Rattle.h2_wire.specs.declared.fault.WireFault.TheVariants as faults
-use Rattle.h2_wire.specs.Streams.{BeginsWithPreface}
-use Rattle.h2_wire.specs.Cutter.{CutterState, CutterRepresents, FaultsAtHead, BeginsWithFrame}
+use Rattle.h2_wire.specs.Streams.{GoesPastPreface}
+use Rattle.h2_wire.specs.Cutter.{CutterState, FaultsAtHead, BeginsWithFrame}
 use Rattle.h2_log.specs.Acts.{Values}
 use Rattle.h2_log.specs.ItemRules.{FrameStep, fails_with, begins_block, completes, frame_step}
 use Rattle.h2_log.specs.ItemRules.{verdict_of}
-use Rattle.h2_log.specs.Log.{Log, acked}
+use Rattle.h2_log.specs.Log.{Log, acked, waiting, output, unreleased}
 use Rattle.h2_log.specs.LogSteps.{limits_from}
 use Rattle.h2_log.specs.LogView.{log_view}
 use Rattle.h2_log.specs.Memory.{KeepsOctets, cutter_of, frame_needs_memory, needs_memory}
 use Rattle.h2_log.specs.Memory.{step_needs_memory}
-use Rattle.h2_log.specs.Settings.{is_server, payload_limit}
+use Rattle.h2_log.specs.Settings.{payload_limit}
 use Rattle.h2_log.specs.Verdicts.{Verdict}
 use Rattle.h2_log.specs.View.{View}
 use Rattle.h2_machine.specs.End.{End, end_view}
 use Rattle.h2_machine.specs.Machine.{with_begun}
 use Rattle.h2_machine.specs.Represents.{Represents}
 use Rattle.h2_machine_laws.proofs.AlikeFrames.{step_alike, verdict_alike}
+use Rattle.h2_machine_laws.proofs.AlikeAnswers.{views_alike}
 use Rattle.h2_conn.specs.Inner.{PartsRepresent}
 
 -- What the cutter says where memory was refused to it.
 pub record CutterLacks (cutter : CutterState) (piece : List ℕ) : Type 0 where
   pub some : piece ≢ []
-  pub past_preface : cutter.in_preface ≡ true → BeginsWithPreface (cutter.unparsed ++ piece)
+  pub past_preface : cutter.in_preface ≡ true → GoesPastPreface (cutter.unparsed ++ piece)
   pub no_faulty_head : (code : Code) → FaultsAtHead cutter piece code → ⊥
   pub cut_in_two : BeginsWithFrame cutter piece → ⊥
 
@@ -40,7 +40,7 @@ pub cutter_lacks : (cutter : CutterState) (piece : List ℕ) (result : Result Ad
     → result ≡ Err faults.Memory → cutter.fault ≡ None
     → ((code : Code) → FaultsAtHead cutter piece code → result ≡ Err (faults.HeadFault code))
     → (cutter.in_preface ≡ true → result ≡ Err faults.Memory
-    → BeginsWithPreface (cutter.unparsed ++ piece))
+    → GoesPastPreface (cutter.unparsed ++ piece))
     → (BeginsWithFrame cutter piece → result ≢ Err faults.Memory)
     → (cutter.fault ≡ None → piece ≡ [] → result ≢ Err faults.Memory)
     → CutterLacks cutter piece
@@ -59,7 +59,8 @@ not_above : (n : ℕ) → nat_le (suc n) n ≡ false
 not_above n = grind (arith, nat_tests)
 
 -- the limit in force at the next octet
-limit_now : (log : Log) → limits_from log (suc (length log.input)) ≡ payload_limit (acked log) log.sent
+limit_now : (log : Log)
+    → limits_from log (suc (length log.input)) ≡ payload_limit (acked log) log.sent
 limit_now log = rw not_above refl
 
 -- The cutter is the log's.
@@ -95,16 +96,31 @@ keeps_octets values cutter e log piece p up lacks =
       });
     }
 
--- Steps of views with the same verdicts need memory alike.
+-- Steps need memory alike where their frames do.
 needs_alike : (one other : View) (step : FrameStep)
     → ((frame : Frame)
-    → verdict_of one None (alone frame) ≡ verdict_of other None (alone frame))
+    → needs_memory one (verdict_of one None (alone frame)) (alone frame)
+    ≡ needs_memory other (verdict_of other None (alone frame)) (alone frame))
     → step_needs_memory one step ≡ step_needs_memory other step
 needs_alike one other (fails_with code) same = refl
 needs_alike one other (begins_block begun) same = refl
 needs_alike one other (completes (block stream end octets)) same = refl
-needs_alike one other (completes (alone frame)) same =
-    ap (λ (verdict : Verdict). needs_memory verdict (alone frame)) (same frame)
+needs_alike one other (completes (alone frame)) same = same frame
+
+-- Outside of field blocks a frame needs memory by the end as it does by the log.
+frame_alike : (values : Values) (e : End) (log : Log) (frame : Frame) → Represents values e log
+    → e.failed ≡ None
+    → needs_memory (end_view (with_begun e None))
+    (verdict_of (end_view (with_begun e None)) None (alone frame)) (alone frame)
+    ≡ needs_memory (log_view (record log { begun = None }))
+    (verdict_of (log_view (record log { begun = None })) None (alone frame)) (alone frame)
+unfolding waiting output unreleased
+frame_alike values e log frame represents up =
+    let before : Log = record log { begun = None } in
+    ap (λ (verdict : Verdict). needs_memory (end_view (with_begun e None)) verdict (alone frame))
+    (verdict_alike values e log None (alone frame) represents up)
+    ∙ ap (λ (view : View). needs_memory view (verdict_of (log_view before) None (alone frame))
+    (alone frame)) (views_alike values e log represents up)
 
 -- A frame that may take memory by the end does so by the log.
 pub frame_needs : (values : Values) (e : End) (log : Log) (frame : Frame)
@@ -116,5 +132,5 @@ frame_needs values e log frame represents up needs =
     (step_alike values e log frame represents up))
     ∙ sym (needs_alike (end_view (with_begun e None)) (log_view (record log { begun = None }))
     (frame_step (end_view e) frame)
-    (λ item. verdict_alike values e log None (alone item) represents up))
+    (λ one. frame_alike values e log one represents up))
     ∙ needs

@@ -1,7 +1,8 @@
 -- What taking octets makes of the parts of a connection: it is a step of each log that they
 -- represent.
 use Rattle.std.proofs.Common.{◌≡◌, ◌≢◌, ℕ, ◌≤◌, List, [], ◌∷◌, ◌++◌, length, take, drop, Option}
-use Rattle.std.proofs.Common.{◌⊎◌, inl, inr, Some, None, refl, ap, sym, subst, ◌∙◌, append-nil}
+use Rattle.std.proofs.Common.{◌⊎◌, inl, inr, true, Some, None, refl, ap, sym, subst, ◌∙◌}
+use Rattle.std.proofs.Common.{append-nil}
 use Rattle.std.proofs.lemmas.List.{take-append-drop, length-take-le}
 use Rattle.std.proofs.Math.Seq.{take-length}
 use Rattle.std.specs.Option.{option_map, MatchOption}
@@ -24,16 +25,20 @@ use Rattle.h2_log.specs.Settings.{is_server}
 use Rattle.h2_log.specs.Log.{Log, next_unprocessed}
 use Rattle.h2_log.specs.LogSteps.{limits_from, used, took_part, took_frame, took_fault, took_none}
 use Rattle.h2_log.specs.LogSteps.{took_out_of_memory, with_sent}
-use Rattle.h2_log.specs.Histories.{IsLog, TakesOctets, TakesPart, TakesFrame, TakesFault}
+use Rattle.h2_log.specs.LogView.{log_view}
+use Rattle.h2_log.specs.Memory.{credit_needs_memory}
+use Rattle.h2_log.specs.View.{View}
+use Rattle.h2_log.specs.Histories.{IsLog, TakesOctets, TakesFrame}
 use Rattle.h2_log.specs.Histories.{IsDecodedFor, LacksMemory, to_report, to_keep, to_take}
 use Rattle.h2_log.proofs.StreamLemmas.{Keeps-frame, Keeps-none}
-use Rattle.h2_machine.specs.End.{End}
+use Rattle.h2_machine.specs.End.{End, end_view}
 use Rattle.h2_machine.specs.Machine.{after_frame, fail, close_unprocessed, unprocessed_of_end}
 use Rattle.h2_machine.specs.Represents.{Represents, RepresentsOutput, RepresentsStreams}
 use Rattle.h2_machine_laws.specs.Machines.{uses_part}
 use Rattle.h2_machine_laws.specs.Machines.{meets_fault as a_fault, runs_out_of_memory as no_memory}
 use Rattle.h2_machine_laws.specs.Machines.{reports_unprocessed as one_unprocessed, MayStep}
 use Rattle.h2_machine_laws.specs.Machines.{log_after, machine_after}
+use Rattle.h2_machine_laws.proofs.AlikeAnswers.{views_alike}
 use Rattle.h2_machine_laws.proofs.EveryStep.{steps_represent, frames_represent}
 use Rattle.h2_machine_laws.proofs.NextUnprocessed.{next_same}
 use Rattle.h2_end_laws.specs.Takes.{TakeAnswer, Took, Failed, events_answered, MayTake}
@@ -100,6 +105,7 @@ failed_parts values cutter e log s down at_end =
       machine = s;
       cut = λ up. absurd (down (s.failed ∙ up));
       unparsed = λ up. absurd (down (s.failed ∙ up));
+      greatest = λ up. absurd (down (s.failed ∙ up));
       place = at_end;
     }
 
@@ -160,6 +166,7 @@ no_frame_taken values cutter new e log piece count p takes up all continues =
             (log.input ++ piece) (log.input ++ piece) log.frames log.frames refl
             (limits_kept e.role values log after p.machine.came machine.came) refl refl now;
         unparsed = λ going. refl;
+        greatest = λ going. rw continues.same_greatest (p.greatest takes.up);
         place = now.place;
       },
     )
@@ -228,6 +235,7 @@ frame_parts values cutter new e other log piece count frame decoded p up cut rol
           (limits_kept e.role values log after p.machine.came came) keeps.input keeps.frames
           (cut_now values cutter new e log piece count frame p up cut);
       unparsed = λ going. cut.none ∙ sym keeps.unparsed;
+      greatest = λ going. rw cut.continues.same_greatest (p.greatest up);
       place = cut_end values cutter new e log piece count frame decoded p up cut;
     }
 
@@ -419,6 +427,7 @@ unprocessed_taken values cutter e other log piece id p up next some closed =
             (limits_kept e.role values log after p.machine.came came) keeps.input keeps.frames
             (p.cut log_up);
         unparsed = λ going. p.unparsed log_up ∙ sym keeps.unparsed;
+        greatest = λ going. p.greatest log_up;
         place = end_kept cutter.place log.input _ keeps.input p.place;
       },
     )
@@ -431,14 +440,19 @@ used_none cutter log at_end =
 
 -- Or memory is refused to it.
 pub unprocessed_lacks : (values : Values) (cutter : CutterState) (e other : End) (log : Log)
-    (piece : List ℕ) (code : Code) → PartsRepresent values cutter e log → e.failed ≡ None
-    → unprocessed_of_end e.role e.streams.entries e.goaway.received ≢ 0
-    → FailsWithoutMemory e code other → Takes values log piece (Failed code) cutter other
-unprocessed_lacks values cutter e other log piece code p up some h =
+    (piece : List ℕ) (id : ℕ) (code : Code) → PartsRepresent values cutter e log
+    → e.failed ≡ None → id ≡ unprocessed_of_end e.role e.streams.entries e.goaway.received
+    → id ≢ 0 → FailsWithoutMemory e code other × (credit_needs_memory (end_view e) id ≡ true)
+    → Takes values log piece (Failed code) cutter other
+unprocessed_lacks values cutter e other log piece id code p up next some (fails, due) =
     let log_up : log.failed ≡ None = sym p.machine.failed ∙ up in
+    let named : id ≡ next_unprocessed log = next ∙ next_same values e log p.machine log_up in
+    let due_there : credit_needs_memory (log_view log) (next_unprocessed log) ≡ true =
+    ap (λ (i : ℕ). credit_needs_memory (log_view log) i) (sym named)
+    ∙ sym (ap (λ (view : View). credit_needs_memory view id)
+    (views_alike values e log p.machine up)) ∙ due in
     memory_refused values cutter cutter e other log piece [] piece code p log_up refl
-    (to_report refl (λ none. some (next_same values e log p.machine log_up ∙ none)))
-    (used_none cutter log p.place) h
+    (to_report refl (λ none. some (named ∙ none)) due_there) (used_none cutter log p.place) fails
 
 -- What stops the cutter.
 pub cut_stopped : (values : Values) (cutter new : CutterState) (e other : End) (log : Log)

@@ -1,5 +1,5 @@
 -- The values of an end are sound after each step that taking octets makes.
-use Rattle.std.proofs.Common.{◌≡◌, ◌≢◌, ℕ, ◌≤◌, List, Option, None, sym, subst}
+use Rattle.std.proofs.Common.{◌≡◌, ◌≢◌, ℕ, ◌≤◌, true, List, Option, None, sym, subst}
 use Rattle.std.proofs.Common.{◌∙◌, arith, Result, Ok, Err}
 use Rattle.std.specs.Result.{OnOk, IfErr}
 use Rattle.h2_frame.specs.declared.code.Code.{Code}
@@ -11,6 +11,7 @@ use Rattle.h2_frame.specs.Encoding.{refusal, stream_of}
 use Rattle.h2_block.specs.Grouping.{block}
 use Rattle.h2_log.specs.States.{greatest_number}
 use Rattle.h2_log.specs.ItemRules.{Decoded, FrameStep, completes, frame_step}
+use Rattle.h2_log.specs.Memory.{credit_needs_memory}
 use Rattle.h2_machine.specs.End.{End, end_view}
 use Rattle.h2_machine.specs.Machine.{after_frame, close_unprocessed, unprocessed_of_end}
 use Rattle.h2_machine_laws.specs.Ranges.{IsDecodedAt}
@@ -75,8 +76,9 @@ unprocessed_sound e other id sound up next some closed =
 pub closed_sound : (result : Result Unit Code) (e other : End) (id : ℕ) → IsSound e
     → e.failed ≡ None → id ≡ unprocessed_of_end e.role e.streams.entries e.goaway.received → id ≢ 0
     → OnOk result (other ≡ close_unprocessed e id)
-    → IfErr result (λ code. FailsWithoutMemory e code other) → other.failed ≡ None → IsSound other
+    → IfErr result (λ code. FailsWithoutMemory e code other
+    × (credit_needs_memory (end_view e) id ≡ true)) → other.failed ≡ None → IsSound other
 closed_sound (Ok done) e other id sound up next some closed fails going =
     unprocessed_sound e other id sound up next some closed
-closed_sound (Err code) e other id sound up next some closed fails going =
+closed_sound (Err code) e other id sound up next some closed (fails, due) going =
     none_some InternalError (sym going ∙ fails.after.failed)

@@ -1,5 +1,5 @@
 -- A new end represents the log of one, and its values are sound.
-use Rattle.std.proofs.Common.{◌≡◌, ℕ, Bool, List, [], ◌∷◌, ◌++◌, refl, sym, subst, inl, inr}
+use Rattle.std.proofs.Common.{◌≤◌, ◌≡◌, ℕ, Bool, List, [], ◌∷◌, ◌++◌, refl, sym, subst, inl, inr}
 use denote.Enum.Bare.{sameb}
 use Rattle.h2_wire.specs.Streams.{Limits, Frames}
 use Rattle.h2_wire.specs.Cutter.{CutterState, CutterRepresents}
@@ -73,9 +73,9 @@ none_unparsed cutter role cut = none_left cutter.unparsed (is_server role) cut.s
 pub new_parts : (cutter : CutterState) (e : End) (role : Role) (values : Values)
     → AreInRange values → e ≡ new_end role values
     → CutterRepresents cutter (is_server role) payload_limits [] [] → cutter.unparsed ≡ []
-    → PartsRepresent values cutter e (opened role values)
+    → cutter.greatest ≤ 16384 → PartsRepresent values cutter e (opened role values)
 unfolding opened with_sent
-new_parts cutter e role values in_range new cut none =
+new_parts cutter e role values in_range new cut none greatest =
     let machine : Represents values e (opened role values) =
     subst (λ (x : End). Represents values x (opened role values)) (sym new)
     (new_represents role values in_range) in
@@ -84,5 +84,6 @@ new_parts cutter e role values in_range new cut none =
       cut = λ up. opened_cut cutter role values (limits_from (opened role values))
           (limits_to_come role values (opened role values) (begins in_range)) cut;
       unparsed = λ up. none;
+      greatest = λ up. greatest;
       place = cut.place;
     }

@@ -2,7 +2,7 @@
 use Rattle.std.specs.Prelude.{◌≡◌, ℕ, ◌+◌, ◌||◌, if◌then◌else◌, List, ◌++◌, take, drop}
 use Rattle.std.specs.Prelude.{Option, Some, None, is_some, Result, Ok, Err}
 use Rattle.h2_log.specs.declared.refusal.Refusal.{Refusal}
-use Rattle.h2_log.specs.Acts.{Values, Act, Answer, Refused, PutOut, Count, Done, shown}
+use Rattle.h2_log.specs.Acts.{Values, Act, Answer, Refused, PutOut, Count, shown}
 use Rattle.h2_log.specs.Settings.{is_server}
 use Rattle.h2_log.specs.Log.{Log, next_number}
 use Rattle.h2_log.specs.LogCalls.{MayAnswer, with_call}

@@ -1,5 +1,5 @@
 -- When the parts of a connection represent the log of an end, and what taking octets makes of them.
-use Rattle.std.specs.Prelude.{◌≡◌, ℕ, List, [], ◌∷◌, length, Option, Some, None, Result, Ok, Err}
+use Rattle.std.specs.Prelude.{◌≡◌, ◌≤◌, ℕ, List, [], ◌∷◌, length, Option, Some, None, Result, Ok, Err}
 use Rattle.std.specs.Prelude.{◌⊎◌}
 use Rattle.hpack.specs.declared.types.field.Field.{Field}
 use Rattle.h2_frame.specs.declared.code.Code.{Code}
@@ -29,6 +29,8 @@ pub record PartsRepresent (values : Values) (cutter : CutterState) (e : End) (lo
     pub cut : log.failed ≡ None → CutterRepresents cutter (is_server log.role) (limits_from log)
         log.input log.frames
     pub unparsed : log.failed ≡ None → cutter.unparsed ≡ log.unparsed
+    -- the greatest limit of payloads that it has had
+    pub greatest : log.failed ≡ None → cutter.greatest ≤ 16384
     -- after a failure too
     pub place : cutter.place ≡ saturated (length log.input)
 

@@ -6,10 +6,9 @@ ghost use Rattle.std.specs.Vec.{vec_capacity};
 ghost use Rattle.h2_log.specs.Acts.{Open, SendFields, SendData, Release, ResetStream, Refuse};
 ghost use Rattle.h2_log.specs.Acts.{SendPing, SendGoAway, ChangeSettings, PutOut};
 ghost use Rattle.h2_log.specs.Acts.{Values, Number, Count, Done};
-ghost use Rattle.h2_log.specs.CallRules.{returns_before_put_out};
+ghost use Rattle.h2_log.specs.CallRules.{returns_before_put_out, sends_no_data};
 ghost use Rattle.h2_log.specs.Log.{Log, waiting};
 ghost use Rattle.h2_log.specs.LogView.{log_view};
-ghost use Rattle.h2_log.specs.Memory.{sends_no_data};
 ghost use Rattle.h2_config.specs.ConfigValues.{values_of};
 ghost use Rattle.h2_conn.specs.Conn.{ConnAnswers, ConnRepresents, ConnShows, GivesOut, answer_by};
 

@@ -9,6 +9,7 @@ use Rattle.h2_log.specs.Acts.{Act}
 use Rattle.h2_log.specs.CallRules.{first_of, refusal_of}
 use Rattle.h2_machine.specs.End.{End, end_view}
 use Rattle.h2_core.specs.Calls.{CallRefused}
+use Rattle.hpack.proofs.ResultLemmas.{on_ok as unless_err}
 
 -- It holds.
 pub holds_first : (holds : Bool) (refusal : Refusal) (conditions : List (Bool × Refusal))
@@ -39,11 +40,6 @@ pub is_some_mapped : {A B : Type 0} (f : A → B) (value : Option A)
     → is_some (option_map f value) ≡ is_some value
 is_some_mapped f None = refl
 is_some_mapped f (Some x) = refl
-
--- What holds on `Ok`, where it is no `Err`.
-pub unless_err : {T E P : Type 0} (result : Result T E) → is_err result ≡ false → OnOk result P → P
-unless_err (Ok value) is holds = holds
-unless_err (Err error) is holds = cc
 
 -- What holds on `Err`, where it is one.
 pub if_err : {T E P : Type 0} (result : Result T E) → is_err result ≡ true → OnErr result P → P

@@ -8,6 +8,8 @@ use Rattle.h2_frame.specs.Encoding.{encoding_of}
 use Rattle.h2_block.specs.Grouping.{Item, alone}
 use Rattle.h2_log.specs.Items.{encoding_of_item, encoding_of_items}
 use Rattle.h2_log.specs.CallRules.{data_frames}
+use Rattle.h2_log.proofs.DataFrames.{frames_last as frames_one}
+use Rattle.h2_log.proofs.DataFrames.{frames_more}
 
 -- Items that follow an oldest one are written after it.
 oldest_first : (most : ℕ) (items : List Item) (item : Item)
@@ -24,20 +26,6 @@ oldest_first most (newest ∷ items) item =
 abbrev pub data_octets : (most id : ℕ) → List ℕ → Bool → List ℕ
 data_octets most id octets end =
     encoding_of_items most (data_frames (length octets + 1) most id octets end)
-
--- Octets that fit one frame.
-frames_one : (count most id : ℕ) (octets : List ℕ) (end : Bool) → length octets ≤ most
-    → data_frames (suc count) most id octets end ≡ alone (Data id end octets None) ∷ []
-unfolding data_frames
-frames_one count most id octets end fits = rw (le-leb (length octets) most fits)
-
--- Octets that don't.
-frames_more : (count most id : ℕ) (octets : List ℕ) (end : Bool) → most < length octets
-    → data_frames (suc count) most id octets end
-    ≡ data_frames count most id (drop most octets) end ++ alone (Data id false (take most octets)
-    None) ∷ []
-unfolding data_frames
-frames_more count most id octets end more = rw (lt-leb (length octets) most more)
 
 -- More frames than are enough make no difference.
 frames_enough : (count other most id : ℕ) (octets : List ℕ) (end : Bool) → 1 ≤ most

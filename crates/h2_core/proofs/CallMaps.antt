@@ -5,25 +5,7 @@ use Rattle.std.specs.Cmp.{nat_cmp_total, unsigned_tied}
 use Rattle.std.specs.FinMap as map
 use Rattle.std.proofs.lemmas.Bool.{eqb-true}
 use Rattle.h2_machine.specs.End.{Entry, StreamMap}
-
--- what is kept after an entry that is set
-get_set : (m : StreamMap) (k : ℕ) (v : Entry) (q : ℕ)
-    → map.get (map.insert m k v) q ≡ (if q == k then Some v else map.get m q)
-get_set m k v q =
-    map.get-insert nat_cmp_total m k v q
-    ∙ ap (λ (b : Bool). if b then Some v else map.get m q) (unsigned_tied q k)
-
--- what is kept after an entry that is removed
-get_removed : (m : StreamMap) (k q : ℕ)
-    → map.get (map.remove m k) q ≡ (if q == k then None else map.get m q)
-get_removed m k q =
-    map.get-remove nat_cmp_total m k q
-    ∙ ap (λ (b : Bool). if b then None else map.get m q) (unsigned_tied q k)
-
--- At the number itself, the entry is the one that was set.
-pub get_set_same : (m : StreamMap) (k : ℕ) (v : Entry) → map.get (map.insert m k v) k ≡ Some v
-get_set_same m k v =
-    get_set m k v k ∙ ap (λ (b : Bool). if b then Some v else map.get m k) (eq-eqb k k refl)
+use Rattle.h2_machine.proofs.SetEntries.{get_set, get_removed}
 
 -- Each entry is what it was, by whether its number was added and taken away.
 entry_again : (m : StreamMap) (k : ℕ) (v : Entry) (q : ℕ) (same : Bool)

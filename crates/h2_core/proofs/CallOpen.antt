@@ -18,19 +18,9 @@ use Rattle.h2_machine.specs.Machine.{after_call, queue_output, with_encoder, new
 use Rattle.h2_machine.specs.Machine.{open_stream}
 use Rattle.h2_streams.specs.Table.{TableState}
 use Rattle.h2_core.proofs.CallMaps.{remove_inserted}
-
--- Where none of some conditions holds, the first doesn't.
-none_first : (holds : Bool) (refusal : Refusal) (others : List (Bool × Refusal))
-    → first_of ((holds, refusal) ∷ others) ≡ None
-    → (holds ≡ false) × (first_of others ≡ None)
-unfolding first_of
-none_first true refusal others is = cc
-none_first false refusal others is = (refl, is)
-
--- What isn't there is nothing.
-nothing : {A : Type 0} (value : Option A) → is_some value ≡ false → value ≡ None
-nothing None is = refl
-nothing (Some x) is = cc
+use Rattle.h2_log_laws.proofs.InvariantSends.{client_number as number_at}
+use Rattle.h2_log_laws.proofs.CallConditions.{first_none as none_first}
+use Rattle.hpack.proofs.Tests.{none_since as nothing}
 
 -- What holds where no condition refuses to open a stream.
 pub record MayOpen (e : End) (fields : List Field) : Type 0 where
@@ -38,10 +28,6 @@ pub record MayOpen (e : End) (fields : List Field) : Type 0 where
   pub client : is_server e.role ≡ false
   pub number : number_after e.streams.highest ≤ 2147483647
   pub small : list_size fields ≤ 65536
-
--- the number, at a client
-number_at : (server : Bool) (number : ℕ) → server ≡ false → (if server then 0 else number) ≡ number
-number_at server number is = rw is
 
 pub may_open : (e : End) (fields : List Field) (end : Bool)
     → refusal_of (end_view e) (Open fields end) ≡ None → MayOpen e fields

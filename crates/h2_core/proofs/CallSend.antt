@@ -18,14 +18,6 @@ use Rattle.h2_log.specs.View.{StreamView}
 use Rattle.h2_machine.specs.End.{End, end_view, stream_at}
 use Rattle.h2_machine.specs.Machine.{after_call, update_stream, queue_output, with_encoder}
 
--- The first condition that holds is the first among more.
-pub first_kept : (conditions more : List (Bool × Refusal)) (refusal : Refusal)
-    → first_of conditions ≡ Some refusal → first_of (conditions ++ more) ≡ Some refusal
-unfolding first_of
-first_kept [] more refusal is = cc
-first_kept ((true, first) ∷ conditions) more refusal is = is
-first_kept ((false, first) ∷ conditions) more refusal is = first_kept conditions more refusal is
-
 -- No condition refuses fields.
 pub fields_free : (e : End) (id : ℕ) (stream : StreamView) (fields : List Field) (end : Bool)
     → e.failed ≡ None → stream_at e id ≡ Some stream → stream.ended_out ≡ false

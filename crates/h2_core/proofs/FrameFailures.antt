@@ -43,7 +43,8 @@ use Rattle.h2_core.specs.Stops.{IsSmall, FailsBy}
 use Rattle.h2_core.specs.declared.reader.Reported.{Reported as Answer}
 use Rattle.h2_core.specs.declared.reader.StepError.{StepError}
 use Rattle.h2_core.specs.declared.reader.StepError.TheVariants.{Fault, OutOfMemory}
-use Rattle.h2_core.proofs.FrameTables.{block_within}
+use Rattle.h2_machine_laws.proofs.TableRanges.{block_within}
+use Rattle.h2_log_laws.proofs.StreamNumbers.{number_or_none as opens_by}
 
 -- Credit that is returned fails nothing.
 credit_by : (b : Bool) (e : End) (more : ℕ)
@@ -294,11 +295,6 @@ block_stopped e mid new id end octets decoded list OutOfMemory answer says stopp
       after = rw (fails.1, stopped.1) (table_alike e decoded.after InternalError
           e.streams.last_processed);
     })
-
--- What a block opens has a number of 31 bits.
-opens_by : (b : Bool) (id : ℕ) → id < 2 ^ 31 → (if b then id else 0) < 2 ^ 31
-opens_by true id small = small
-opens_by false id small = omega arith
 
 pub opens_small : (e : End) (id : ℕ) (end : Bool) (octets : List ℕ) (decoded : Option Decoded)
     → id < 2 ^ 31 → opened_by (end_view e) decoded (block id end octets) < 2 ^ 31

@@ -163,7 +163,8 @@ alone_stopped e mid new frame list (Fault code opened) answer is none stopped fa
 alone_stopped e mid new frame list OutOfMemory answer is none stopped fails =
     inr (record {
       needs = ap (step_needs_memory (end_view (with_begun e None))) is
-          ∙ ap (λ (x : End). needs_memory (verdict_of (end_view x) None (alone frame)) (alone frame))
+          ∙ ap (λ (x : End).
+          needs_memory (end_view x) (verdict_of (end_view x) None (alone frame)) (alone frame))
           (outside e none)
           ∙ stopped.0;
       fails = record {

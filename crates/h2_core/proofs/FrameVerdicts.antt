@@ -284,8 +284,10 @@ fault_error one new id end octets decoded code opened OutOfMemory list is opens 
     let verdict : verdict_of (end_view (end_of one)) (Some decoded) (block id end octets)
     ≡ StreamFault code =
     limits_of_fault (end_of one) id end octets decoded code is
-    ∙ ap (λ (b : Bool). limited b code) h.0 in
-    (ap (λ (v : Verdict). needs_memory v (block id end octets)) verdict, h.1)
+    ∙ ap (λ (b : Bool). limited b code) h.0 in (
+      ap (λ (v : Verdict). needs_memory (end_view (end_of one)) v (block id end octets)) verdict,
+      h.1,
+    )
 
 -- One that is answered, on a number that is fresh or not.
 pub fault_answer : (one new : Endpoint) (id : ℕ) (end : Bool) (octets : List ℕ) (decoded : Decoded)
@@ -346,7 +348,7 @@ pub report_lacks : (e : End) (id : ℕ) (end : Bool) (octets : List ℕ) (decode
     (list : List Field) (new : End) → by_block e id end octets decoded ≡ Reported → new ≡ e
     → TakesItem e (Some decoded) (block id end octets) list (Err OutOfMemory) new
 report_lacks e id end octets decoded list new is same = (
-  ap (λ (v : Verdict). needs_memory v (block id end octets))
+  ap (λ (v : Verdict). needs_memory (end_view e) v (block id end octets))
       (limits_leave e id end octets decoded Reported refl is),
   same,
 )

@@ -1,7 +1,7 @@
 -- DATA: its verdict, by what the code asks, and what is made of it.
 use Rattle.std.proofs.Common.{◌≡◌, ◌⊎◌, ℕ, ◌<◌, ◌≤◌, ◌+◌, true, false, ℤ, pos, ◌-ℤ◌, List}
-use Rattle.std.proofs.Common.{length, Option, Some, None, Result, Ok, Err, refl, sym, ◌∙◌, inl, inr}
-use Rattle.std.proofs.Common.{arith}
+use Rattle.std.proofs.Common.{length, Option, Some, None, Result, Ok, Err, refl, sym, ap, ◌∙◌}
+use Rattle.std.proofs.Common.{arith, inl, inr}
 use Rattle.std.proofs.lemmas.Bool.Decides.{nat_tests}
 use Rattle.std.proofs.lemmas.Int.{ints}
 use Rattle.hpack.specs.declared.types.field.Field.{Field}
@@ -14,6 +14,7 @@ use Rattle.h2_log.specs.States.{State, Idle, Active, ClosedByUs, Closed}
 use Rattle.h2_log.specs.Verdicts.{ConnectionFault, StreamFault, NoEvent, Reported, data_verdict}
 use Rattle.h2_log.specs.ItemRules.{verdict_by_rules, verdict_of, replies_to, exceeds}
 use Rattle.h2_log.specs.ItemRules.{exceeds_stream}
+use Rattle.h2_log.specs.CallRules.{returns_credit}
 use Rattle.h2_machine.specs.End.{End, end_view, state_at, stream_at}
 use Rattle.h2_machine.specs.Machine.{after_reported, after_ignored, narrow_recv_window}
 use Rattle.h2_machine.specs.Machine.{update_stream}
@@ -148,4 +149,4 @@ discarded_taken e one pad list (Ok answer) new flow is few h =
     (rw (← flow) h.1))
 discarded_taken e one pad list (Err stop) new flow is few h =
     rw h.0 (lacks_memory e (data_of one pad) list NoEvent new (discarded e one pad flow is few)
-    refl h.1)
+    (ap (λ (count : ℕ). returns_credit count (length e.output.waiting)) (sym flow) ∙ h.1) h.2)

@@ -15,6 +15,7 @@ use Rattle.h2_log.specs.ItemRules.{is_awaited_ping, verdict_by_rules, verdict_of
 use Rattle.h2_log.specs.ItemRules.{replies_to}
 use Rattle.h2_log_laws.proofs.ItemSizes.{size-ping}
 use Rattle.h2_machine.specs.End.{End, end_view}
+use Rattle.hpack.proofs.Tests.{not_back as back}
 
 -- Numbers are compared in either order.
 eq_back : (x y : ℕ) → (x == y) ≡ nat_eq y x
@@ -32,13 +33,6 @@ awaited : (octets : List ℕ) (ping : Option (List ℕ))
     → is_awaited_ping octets ping ≡ option_eq (pointwise nat_eq) ping (Some octets)
 awaited octets None = refl
 awaited octets (Some one) = compared octets one
-
--- What is negated twice is itself.
-back : (a b : Bool) → a ≡ not b → b ≡ not a
-back true true h = cc
-back true false h = refl
-back false true h = refl
-back false false h = cc
 
 -- It isn't the one that is awaited where they differ, and is where they don't.
 pub awaited_is : (octets : List ℕ) (ping : Option (List ℕ)) (differs : Bool) {other : Bool}

@@ -82,10 +82,10 @@ fault_taken e frame code list stop is verdict = rw is (verdict, refl, refl)
 -- Memory was refused, where the verdict needs some.
 pub lacks_memory : (e : End) (frame : Frame) (list : List Field) (verdict : Verdict) (new : End)
     → verdict_of (end_view e) None (alone frame) ≡ verdict
-    → needs_memory verdict (alone frame) ≡ true → new ≡ e
+    → needs_memory (end_view e) verdict (alone frame) ≡ true → new ≡ e
     → TakesItem e None (alone frame) list (Err OutOfMemory) new
 lacks_memory e frame list verdict new is needed same =
-    (ap (λ (v : Verdict). needs_memory v (alone frame)) is ∙ needed, same)
+    (ap (λ (v : Verdict). needs_memory (end_view e) v (alone frame)) is ∙ needed, same)
 
 -- What has no event is taken.
 pub ignored_taken : (e : End) (frame : Frame) (list : List Field) (new : End)

@@ -14,6 +14,7 @@ use Rattle.h2_log.specs.CallRules.{refusal_of, first_of, is_no_stream, items_of,
 use Rattle.h2_machine.specs.End.{End, end_view, stream_at}
 use Rattle.h2_machine.specs.Machine.{after_call, queue_output, reset_stream}
 use Rattle.h2_core.specs.Calls.{CallRefused}
+use Rattle.h2_frame.proofs.EncodingLemmas.{le_fails as le-false, le_passes as le-true}
 
 -- The first condition holds.
 pub first-here : (refusal : Refusal) (others : List (Bool × Refusal)) (test : Bool) → test ≡ true
@@ -45,13 +46,6 @@ pub at_err : {T E : Type 0} {P : Type 0} (answer : Result T E) → is_err answer
     → OnErr answer P → P
 at_err (Ok value) is h = cc
 at_err (Err error) is h = h
-
--- Tests of numbers.
-pub le-true : (a b : ℕ) → a ≤ b → nat_le a b ≡ true
-le-true a b h = grind (arith, nat_tests)
-
-pub le-false : (a b : ℕ) → b < a → nat_le a b ≡ false
-le-false a b h = grind (arith, nat_tests)
 
 -- Whether a stream isn't active, by the stream.
 pub no-stream : (e : End) (id : ℕ) → None ≡ stream_at e id → is_no_stream (end_view e) id ≡ true

@@ -9,6 +9,7 @@ use Rattle.h2_frame.specs.Encoding.{encoding_of, kind_of_frame, flags_of, stream
 use Rattle.h2_frame.specs.Encoding.{has_good_values, refusal}
 use Rattle.h2_block.specs.Grouping.{alone}
 use Rattle.h2_log.specs.Items.{encoding_of_item, encoding_of_items}
+use Rattle.h2_output.proofs.EncodingLemmas.{length-goaway, goaway-written}
 
 -- A frame as the one item has its octets.
 pub one-item : (most : ℕ) (frame : Frame)
@@ -53,13 +54,3 @@ pub length-ping : (ack : Bool) (octets : List ℕ) → length octets ≡ 8
     → length (encoding_of (Ping ack octets)) ≡ 17
 unfolding encoding_of kind_of_frame flags_of stream_of payload_of
 length-ping ack octets eight = omega (arith, eight)
-
--- GOAWAY without debug octets.
-pub goaway-written : (last code : ℕ) → last < 2 ^ 31 → refusal (GoAway last code []) ≡ None
-unfolding refusal kind_of_frame flags_of stream_of payload_of has_good_values fits_stream
-goaway-written last code number =
-    let test : nat_lt last (2 ^ 31) ≡ true = grind (arith, nat_tests) in rw test refl
-
-pub length-goaway : (last code : ℕ) → length (encoding_of (GoAway last code [])) ≡ 17
-unfolding encoding_of kind_of_frame flags_of stream_of payload_of
-length-goaway last code = refl

@@ -12,6 +12,7 @@ use Rattle.h2_log.specs.CallRules.{refusal_of, conditions, is_no_stream, refuse_
 use Rattle.h2_machine.specs.End.{End, end_view}
 use Rattle.h2_machine.specs.Machine.{after_call, after_refuse, queue_output, reset_stream, fail}
 use Rattle.h2_core.proofs.StepCalls.{first-here, first-later, first-none}
+use Rattle.hpack.proofs.Tests.{and_false as and-false}
 
 -- The connection has failed.
 pub refuse-closed : (e : End) (id code : ℕ) → is_some e.failed ≡ true
@@ -39,11 +40,6 @@ refuse-internal e id code up same =
     (ap (λ (a : Bool). not a && is_no_stream (end_view e) id) (eq-eqb code 2 same))
     ∙ first-none
 
--- A test and one that fails fail.
-and-false : (a : Bool) → (a && false) ≡ false
-and-false true = refl
-and-false false = refl
-
 -- The stream is active.
 pub refuse-active : (e : End) (id code : ℕ) → e.failed ≡ None
     → is_no_stream (end_view e) id ≡ false
@@ -55,6 +51,18 @@ refuse-active e id code up some =
     (ap (λ (b : Bool). not (code == 2) && b) some ∙ and-false (not (code == 2)))
     ∙ first-none
 
+-- The code is INTERNAL_ERROR, and the connection fails with it.
+pub after-internal : (e : End) (id code : ℕ) → code ≡ 2
+    → after_call e (Refuse id code) ≡ fail InternalError e.streams.last_processed e
+unfolding after_call refuse_fault
+after-internal e id code same =
+    ap (λ (a : Bool). after_refuse e id code
+    (if a then Some InternalError
+    else if nat_le 1000 e.streams.resets || nat_lt 262144 (length e.output.waiting + 13)
+    then Some EnhanceYourCalm
+    else None))
+    (eq-eqb code 2 same)
+
 -- A limit is reached.
 pub after-limit : (e : End) (id code : ℕ) → code ≢ 2
     → (nat_le 1000 e.streams.resets || nat_lt 262144 (length e.output.waiting + 13)) ≡ true
@@ -65,7 +73,16 @@ after-limit e id code other over =
     (if a then Some InternalError else if b then Some EnhanceYourCalm else None))
     (ne_eqb code 2 other) over
 
--- None is.
+-- None is, and the connection doesn't fail of itself.
+pub no-limit : (e : End) (code : ℕ) → code ≢ 2
+    → (nat_le 1000 e.streams.resets || nat_lt 262144 (length e.output.waiting + 13)) ≡ false
+    → refuse_fault (end_view e) code ≡ None
+unfolding refuse_fault
+no-limit e code other within =
+    ap₂ (λ (a b : Bool). if a then Some InternalError else if b then Some EnhanceYourCalm else None)
+    (ne_eqb code 2 other) within
+
+-- So the stream is reset.
 pub after-refusal : (e : End) (id code : ℕ) → code ≢ 2
     → (nat_le 1000 e.streams.resets || nat_lt 262144 (length e.output.waiting + 13)) ≡ false
     → after_call e (Refuse id code)

@@ -114,10 +114,6 @@ pub not-ended : (ended : Bool) → not ended ≡ true → ended ≡ false
 not-ended true is = cc
 not-ended false is = refl
 
-pub is-ended : (ended : Bool) → not ended ≡ false → ended ≡ true
-is-ended true is = refl
-is-ended false is = cc
-
 -- an end with a stream that is changed, more octets that the peer may send, and this output
 abbrev pub released : End → ℕ → ℕ → StreamView → List ℕ → End
 released e id count stream waiting =

@@ -7,6 +7,7 @@ use Rattle.h2_log.specs.View.{StreamView}
 use Rattle.h2_machine.specs.End.{Entry, active_entry, reset_entry, StreamMap, End}
 use Rattle.h2_machine.specs.End.{stream_in, stream_at, owed_entry}
 use Rattle.h2_machine.specs.Machine.{add_unreturned, close_stream, reset_stream, update_stream}
+use Rattle.h2_machine.proofs.SetEntries.{get_set, get_removed, get_set_same}
 use Rattle.h2_machine.specs.Machine.{set_stream, is_one, narrow_recv_window}
 
 -- what a stream owes, where there is one
@@ -32,25 +33,6 @@ owed_in : (entry : Option Entry) → owed_entry entry ≡ owed_of (stream_in ent
 owed_in None = refl
 owed_in (Some reset_entry) = refl
 owed_in (Some (active_entry stream)) = refl
-
--- what is kept after an entry that is set
-get_set : (m : StreamMap) (k : ℕ) (v : Entry) (q : ℕ)
-    → map.get (map.insert m k v) q ≡ (if q == k then Some v else map.get m q)
-get_set m k v q =
-    map.get-insert nat_cmp_total m k v q
-    ∙ ap (λ (b : Bool). if b then Some v else map.get m q) (unsigned_tied q k)
-
--- what is kept after an entry that is removed
-get_removed : (m : StreamMap) (k q : ℕ)
-    → map.get (map.remove m k) q ≡ (if q == k then None else map.get m q)
-get_removed m k q =
-    map.get-remove nat_cmp_total m k q
-    ∙ ap (λ (b : Bool). if b then None else map.get m q) (unsigned_tied q k)
-
--- At the number itself, the entry is the one that was set.
-pub get_set_same : (m : StreamMap) (k : ℕ) (v : Entry) → map.get (map.insert m k v) k ≡ Some v
-get_set_same m k v =
-    get_set m k v k ∙ ap (λ (b : Bool). if b then Some v else map.get m k) (eq-eqb k k refl)
 
 -- An entry that is set and removed again, at each number.
 removed_again_by : (b : Bool) (v : Entry) (x : Option Entry)

@@ -9,7 +9,7 @@ use Rattle.h2_log.specs.declared.refusal.Refusal.{Refusal}
 use Rattle.h2_log.specs.declared.refusal.Refusal.TheVariants.{Memory, Closed, NoSuchStream, Ended}
 use Rattle.h2_log.specs.declared.refusal.Refusal.TheVariants.{OutputFull}
 use Rattle.h2_log.specs.Acts.{Act, Refuse}
-use Rattle.h2_log.specs.CallRules.{refusal_of, first_of}
+use Rattle.h2_log.specs.CallRules.{refusal_of, first_of, refuse_fault}
 use Rattle.h2_log.specs.Limits.{full_output}
 use Rattle.h2_log.specs.View.{ended_out}
 use Rattle.h2_machine.specs.End.{End, end_view, stream_at}
@@ -40,11 +40,13 @@ NotSendable one id refusal = first_of (
     ∷ (nat_le full_output (length one.output.waiting), OutputFull) ∷ []
     ) ≡ Some refusal
 
--- What `refuse` makes of an end: it is refused; or it is accepted; or an allocation was refused,
--- and the connection fails.
+-- What `refuse` makes of an end: it is refused; or it is accepted; or the stream was to be reset,
+-- an allocation was refused, and the connection fails.
+-- rule: 5.4 (own) Being out of memory hides no other fault of the connection
 abbrev pub CallRefuses : End → ℕ → ℕ → Result Unit Refusal → End → Type 0
 CallRefuses e id code (Ok done) new = CallAccepted e (Refuse id code) new
     ⊎ ((refusal_of (end_view e) (Refuse id code) ≡ None)
+    × (refuse_fault (end_view e) code ≡ None)
     × (new ≡ fail InternalError e.streams.last_processed e))
 CallRefuses e id code (Err refusal) new =
     (refusal_of (end_view e) (Refuse id code) ≡ Some refusal) × (new ≡ e)

@@ -1,5 +1,5 @@
 -- What a call that takes a frame makes of an end, and what it answers.
-use Rattle.std.specs.Prelude.{not, ◌&&◌, Bool, true, false}
+use Rattle.std.specs.Prelude.{not, ◌&&◌, true, false}
 use Rattle.std.specs.Prelude.{◌≡◌, ◌⊎◌, List, [], Option, Some, None, Result, Ok, Err}
 use Rattle.hpack.specs.Blocks.{Block}
 use Rattle.hpack.specs.Lists.{NoBlock}

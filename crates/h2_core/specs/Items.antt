@@ -1,6 +1,6 @@
 -- What a step makes of an item that is received, and what it answers.
-use Rattle.std.specs.Prelude.{◌≡◌, ◌≢◌, ℕ, Bool, true, false, List, [], ◌∷◌, Option, Some, None}
-use Rattle.std.specs.Prelude.{Result, Ok, Err}
+use Rattle.std.specs.Prelude.{◌≡◌, ◌≢◌, ℕ, true, List, [], ◌∷◌, Option, Some, None}
+use Rattle.std.specs.Prelude.{Result, Ok, Err, length}
 use Rattle.hpack.specs.declared.types.field.Field.{Field}
 use Rattle.h2_frame.specs.declared.code.Code.{Code}
 use Rattle.h2_block.specs.Grouping.{Item}
@@ -9,6 +9,7 @@ use Rattle.h2_log.specs.Events.{PongEvent}
 use Rattle.h2_log.specs.Verdicts.{ConnectionFault}
 use Rattle.h2_log.specs.ItemRules.{Decoded, verdict_of, opened_by}
 use Rattle.h2_log.specs.ItemEffects.{events_of}
+use Rattle.h2_log.specs.CallRules.{returns_credit}
 use Rattle.h2_log.specs.Memory.{needs_memory}
 use Rattle.h2_machine.specs.End.{End, end_view}
 use Rattle.h2_machine.specs.Machine.{after_item, add_unreturned, narrow_recv_window}
@@ -52,11 +53,12 @@ TakesItem e decoded item list (Err (Fault code opened)) new =
     (verdict_of (end_view e) decoded item ≡ ConnectionFault code)
     × (opened ≡ opened_by (end_view e) decoded item) × (new ≡ e)
 TakesItem e decoded item list (Err OutOfMemory) new =
-    (needs_memory (verdict_of (end_view e) decoded item) item ≡ true) × (new ≡ e)
+    (needs_memory (end_view e) (verdict_of (end_view e) decoded item) item ≡ true) × (new ≡ e)
 
 -- DATA of so many octets was discarded, on a stream that this end has closed; or memory was
--- refused, and nothing has changed.
+-- refused for the credit that is returned, and nothing has changed.
 abbrev pub DiscardsData : End → ℕ → Result (Option Reported) StepError → End → Type 0
 DiscardsData e flow (Ok reported) new =
     (reported ≡ None) × (new ≡ add_unreturned flow (narrow_recv_window e flow))
-DiscardsData e flow (Err stop) new = (stop ≡ OutOfMemory) × (new ≡ e)
+DiscardsData e flow (Err stop) new =
+    (stop ≡ OutOfMemory) × (returns_credit flow (length e.output.waiting) ≡ true) × (new ≡ e)

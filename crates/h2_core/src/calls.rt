@@ -13,7 +13,7 @@ ghost use Rattle.h2_block.specs.Spread.{max_payload, spread_frames, encoding_of_
 ghost use Rattle.h2_log.specs.Acts.{Open, SendFields, SendData};
 ghost use Rattle.h2_log.specs.Items.{encoding_of_items};
 ghost use Rattle.h2_log.specs.Limits.{max_list};
-ghost use Rattle.h2_log.specs.Memory.{sends_no_data};
+ghost use Rattle.h2_log.specs.CallRules.{sends_no_data};
 ghost use Rattle.h2_log.specs.CallRules.{refusal_of, data_frames, data_count};
 ghost use Rattle.h2_log.specs.CallRules.{has_all_streams, has_no_number, at_least_none};
 ghost use Rattle.h2_streams.specs.Streams.{stream_view, is_far};
@@ -409,7 +409,7 @@ fn encode_frames(
     if encoder.encode(fields, block).is_err() {
         return Err(AllocError);
     }
-    spread(id, end, block, frames).unwrap();
+    spread(id, end, block, frames, MAX_PAYLOAD).unwrap();
     Ok(())
 }
 

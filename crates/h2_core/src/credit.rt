@@ -1,6 +1,7 @@
 //! Credit that is returned to the peer (RFC 9113, section 6.9), and failing.
 
-ghost use Rattle.std.specs.Prelude.{◌≡◌, ◌+◌, ◌≤◌, ◌<◌, ◌^◌, Some, None, nat_lt};
+ghost use Rattle.std.specs.Prelude.{◌≡◌, ◌+◌, ◌≤◌, ◌<◌, ◌^◌, Some, None, nat_lt, length, true};
+ghost use Rattle.h2_log.specs.CallRules.{returns_credit};
 ghost use Rattle.h2_machine.specs.Machine.{return_credit, add_unreturned, fail};
 ghost use Rattle.h2_machine.specs.End.{End};
 ghost use Rattle.h2_core.specs.Endpoint.{end_of};
@@ -31,10 +32,11 @@ impl Endpoint {
     // rule: 6.9 Nothing of the window of the connection is lost
     /// So many octets more of the connection's window will not be released: they are returned, with
     /// all that is unreturned, where there are some and less than the full output waits. There is
-    /// room for a WINDOW_UPDATE.
+    /// room for a WINDOW_UPDATE then.
     pub(crate) fn add_unreturned(&mut self, more: u32)
         requires up { self.old.failed ≡ None }
-        requires room { 13 ≤ self.old.output.spare }
+        requires room { returns_credit more (length self.old.output.waiting) ≡ true
+            → 13 ≤ self.old.output.spare }
         requires window { self.old.recv_window + (self.old.unreturned + more) < 2 ^ 31 }
         ensures after { end_of self.new ≡ add_unreturned more (end_of self.old) }
         ensures list { self.new.list ≡ self.old.list }

@@ -6,6 +6,7 @@ ghost use Rattle.std.specs.Vec.{vec_capacity};
 ghost use Rattle.std.specs.FinMap as map;
 ghost use Rattle.h2_streams.specs.Streams.{number_or_none};
 ghost use Rattle.h2_log.specs.CallRules.{returns_before_put_out};
+ghost use Rattle.h2_log.specs.Memory.{credit_needs_memory};
 ghost use Rattle.h2_machine.specs.End.{end_view, stream_at};
 ghost use Rattle.h2_machine.specs.Machine.{fail, unprocessed_of_end, before_put_out_at};
 ghost use Rattle.h2_machine.specs.Machine.{close_unprocessed, first_active};
@@ -16,6 +17,7 @@ ghost use Rattle.h2_core.specs.Readers.{PutsOut, room_of, owed_of};
 use crate::endpoint::Endpoint;
 use crate::limits::{FULL_OUTPUT, SMALL_FRAME};
 use crate::reader::StepError;
+use crate::stream_steps::reserve_credit;
 use h2_frame::Code;
 use h2_log::{Refusal, Role};
 use hpack::FieldList;
@@ -35,6 +37,10 @@ impl Endpoint {
             out.new.items (end_of self.new)) }
         ensures err { IfErr result (λ refusal. (refusal ≡ Refusal.Memory)
             × (out.new.items ≡ out.old.items) × (end_of self.new ≡ end_of self.old)) }
+
+        // Where nothing is returned first, and nothing is put out, it takes no memory.
+        ensures nothing { returns_before_put_out (end_view (end_of self.old)) ≡ false
+            → min count (length self.old.output.waiting) ≡ 0 → IsOk result }
 
         // Where nothing is returned first, the capacity of `out` is enough.
         ensures room { returns_before_put_out (end_view (end_of self.old)) ≡ false
@@ -96,7 +102,8 @@ impl Endpoint {
     ///
     /// # Errors
     ///
-    /// INTERNAL_ERROR where an allocation was refused: the connection has failed with it.
+    /// INTERNAL_ERROR where what the stream owes is returned at once, and an allocation was
+    /// refused: the connection has failed with it.
     pub fn close_unprocessed(&mut self, id: u32) -> Result<(), Code>
         requires sound { IsSound (end_of self.old) }
         requires up { self.old.failed ≡ None }
@@ -105,14 +112,15 @@ impl Endpoint {
         requires some { id ≢ 0 }
         ensures ok { OnOk result (end_of self.new ≡ close_unprocessed (end_of self.old) id) }
         ensures err { IfErr result (λ code. FailsWithoutMemory (end_of self.old) code
-            (end_of self.new)) }
+            (end_of self.new) × (credit_needs_memory (end_view (end_of self.old)) id ≡ true)) }
     {
-        if self.output.reserve(SMALL_FRAME).is_err() {
+        let Some(stream) = self.streams.stream(id) else {
+            return Ok(());
+        };
+        if reserve_credit(&mut self.output, stream.owed).is_err() {
             return Err(self.fail_by(StepError::OutOfMemory));
         }
-        if let Some(stream) = self.streams.stream(id) {
-            self.close_stream(id, stream);
-        }
+        self.close_stream(id, stream);
         Ok(())
     }
 

@@ -14,10 +14,10 @@ ghost use Rattle.h2_core.specs.Items.{TakesItem, DiscardsData};
 ghost use Rattle.h2_core.specs.DataFrames.{data_of};
 
 use crate::endpoint::Endpoint;
-use crate::limits::{MAX_OUTPUT, SMALL_FRAME};
+use crate::limits::MAX_OUTPUT;
 use crate::reader::{Reported, StepError};
 use crate::status::Status;
-use crate::stream_steps::reserve_if_over;
+use crate::stream_steps::{reserve_credit, reserve_if_over};
 use h2_frame::{Code, FrameRef};
 use h2_streams::Stream;
 
@@ -117,7 +117,7 @@ impl Endpoint {
         requires connection { flow ≤ self.old.recv_window }
         ensures { DiscardsData (end_of self.old) flow result (end_of self.new) }
     {
-        self.output.reserve(SMALL_FRAME)?;
+        reserve_credit(&mut self.output, flow)?;
         self.recv_window -= flow;
         self.add_unreturned(flow);
         Ok(None)
@@ -144,7 +144,7 @@ impl Endpoint {
             Status::Idle => Err(StepError::fault(Code::ProtocolError)),
             Status::ClosedByUs | Status::Closed => Ok(None),
             Status::Active(stream) => {
-                self.output.reserve(SMALL_FRAME)?;
+                reserve_credit(&mut self.output, stream.owed)?;
                 self.close_stream(id, stream);
                 Ok(Some(Reported::Reset {
                     id,

@@ -1,10 +1,11 @@
 //! What becomes of a stream: it is changed, over, or reset (RFC 9113, section 5.1).
 
 ghost use Rattle.std.specs.Prelude.{◌≡◌, ◌≢◌, ◌+◌, ◌≤◌, ◌<◌, ◌^◌, [], ◌∷◌};
-ghost use Rattle.std.specs.Prelude.{None, Some, OnOk, OnErr, true};
+ghost use Rattle.std.specs.Prelude.{None, Some, OnOk, OnErr, true, length};
 ghost use Rattle.std.specs.Option.{option_map};
 ghost use Rattle.h2_block.specs.Grouping.{alone};
 ghost use Rattle.h2_frame.specs.Frames.{Reset as ResetFrame};
+ghost use Rattle.h2_log.specs.CallRules.{returns_credit};
 ghost use Rattle.h2_streams.specs.Streams.{stream_view};
 ghost use Rattle.h2_machine.specs.End.{stream_at};
 ghost use Rattle.h2_machine.specs.Machine.{close_stream, reset_stream, update_stream};
@@ -13,7 +14,7 @@ ghost use Rattle.h2_core.specs.Endpoint.{end_of};
 ghost use Rattle.h2_core.specs.Streams.{IsNear, WindowHolds, is_over, owed_by};
 
 use crate::endpoint::Endpoint;
-use crate::limits::SMALL_FRAME;
+use crate::limits::{FULL_OUTPUT, SMALL_FRAME};
 use h2_flow::StreamState;
 use h2_frame::FrameRef;
 use h2_output::Output;
@@ -22,12 +23,13 @@ use std::alloc::AllocError;
 
 impl Endpoint {
     /// An active stream is over, and nothing is kept of it; what it owes is unreturned. There is
-    /// room for a WINDOW_UPDATE.
+    /// room for a WINDOW_UPDATE where that is returned at once.
     pub(crate) fn close_stream(&mut self, id: u32, stream: Stream)
         requires up { self.old.failed ≡ None }
         requires active { stream_at (end_of self.old) id ≡ Some (stream_view stream) }
         requires counted { 1 ≤ self.old.active_count }
-        requires room { 13 ≤ self.old.output.spare }
+        requires room { returns_credit stream.owed (length self.old.output.waiting) ≡ true
+            → 13 ≤ self.old.output.spare }
         requires window { WindowHolds self.old stream.owed }
         ensures { end_of self.new ≡ close_stream (end_of self.old) id 0 }
     {
@@ -110,6 +112,26 @@ pub(crate) fn reserve_if_over(output: &mut Output, state: StreamState) -> Result
     ensures err { OnErr result (is_over state ≡ true) }
 {
     if state.closed() {
+        output.reserve(SMALL_FRAME)?;
+    }
+    Ok(())
+}
+
+// rule: 5.4 (own) Only steps that reply, change streams or return credit take memory
+/// Makes room for a WINDOW_UPDATE where so many octets more of the connection's window are returned
+/// at once.
+///
+/// # Errors
+///
+/// [`AllocError`] where they are, and an allocation was refused; nothing has changed.
+pub(crate) fn reserve_credit(output: &mut Output, more: u32) -> Result<(), AllocError>
+    ensures waiting { output.new.waiting ≡ output.old.waiting }
+    ensures ended { output.new.ended ≡ output.old.ended }
+    ensures ok { OnOk result (returns_credit more (length output.old.waiting) ≡ true
+        → 13 ≤ output.new.spare) }
+    ensures err { OnErr result (returns_credit more (length output.old.waiting) ≡ true) }
+{
+    if more > 0 && output.len() < FULL_OUTPUT {
         output.reserve(SMALL_FRAME)?;
     }
     Ok(())

@@ -1,7 +1,7 @@
 -- Calls leave a stream active, unless they end or reset it; they make one active only where they
 -- answer its number; and one that is refused isn't active afterwards.
 use Rattle.std.proofs.Common.{◌≡◌, ◌≢◌, ℕ, ◌≤◌, ◌==◌, not, Bool, true, false}
-use Rattle.std.proofs.Common.{if◌then◌else◌, List, [], ◌∷◌, ◌++◌, Option, Some, None, refl}
+use Rattle.std.proofs.Common.{List, [], ◌∷◌, ◌++◌, Option, Some, None, refl}
 use Rattle.std.proofs.Common.{sym, ap, ◌∙◌, arith, subst}
 use Rattle.std.specs.Option.{is_some}
 use Rattle.std.specs.List.{list_any}
@@ -16,14 +16,13 @@ use Rattle.h2_frame.specs.Frames.{GoAway, Reset}
 use Rattle.h2_wire.proofs.ReadingLemmas.{none_some}
 use Rattle.h2_block.specs.Grouping.{Item, alone}
 use Rattle.h2_log.specs.declared.role.Role.{Role}
-use Rattle.h2_log.specs.declared.role.Role.TheVariants.{Client, Server}
+use Rattle.h2_log.specs.declared.role.Role.TheVariants.{Server}
 use Rattle.h2_log.specs.declared.refusal.Refusal.{Refusal}
 use Rattle.h2_log.specs.declared.refusal.Refusal.TheVariants.{NoSuchStream, Closed}
 use Rattle.h2_log.specs.Acts.{Values, Act, Answer, Open, SendFields, SendData, Release, ResetStream}
 use Rattle.h2_log.specs.Acts.{Refuse, SendPing, SendGoAway, ChangeSettings, Number, Count, Done}
 use Rattle.h2_log.specs.Items.{resets}
 use Rattle.h2_log.specs.Events.{Event, greatest_processed}
-use Rattle.h2_log.specs.Settings.{is_server}
 use Rattle.h2_log.specs.States.{is_active, when}
 use Rattle.h2_log.specs.Log.{Log, active, last_processed}
 use Rattle.h2_log.specs.View.{StreamView, View, ended_in}
@@ -33,6 +32,7 @@ use Rattle.h2_log.specs.LogCalls.{MayAnswer, accepts, refuses, lacks, fails, wit
 use Rattle.h2_log.specs.Histories.{IsLog}
 use Rattle.h2_log_laws.proofs.ItemLists.{any_after}
 use Rattle.h2_log_laws.proofs.ReaderStates.{active_parts, active_used, lasts_parts}
+use Rattle.h2_log_laws.proofs.LogViewLemmas.{last_is}
 use Rattle.h2_end_laws.specs.Activity.{call_may_close}
 use Rattle.h2_end_laws.proofs.OverCalls.{items_no_block}
 use Rattle.h2_end_laws.proofs.OverLists.{IsInactive, inactive_sent}
@@ -85,11 +85,6 @@ opens_other log i act answer may alive fields end id is answers =
     (active_used log.role i log.received log.sent log.reported alive) in
     let same = next.1 in
     ne_eqb id i (λ equal. omega (arith, low, same, equal))
-
--- At a server an active stream is no greater than the greatest that was processed.
-last_is : (role : Role) (n : ℕ) → role ≡ Server → (if is_server role then n else 0) ≡ n
-last_is Server n server = refl
-last_is Client n server = cc
 
 pub active_low : (role : Role) (values : Values) (log : Log) (i : ℕ) → IsLog role values log
     → active log i ≡ true → log.role ≡ Server → i ≤ last_processed log

@@ -1,7 +1,6 @@
 -- What a frame makes of the streams that are active: which it may close, and which it may open.
 use Rattle.std.proofs.Common.{◌≡◌, ◌⊎◌, ℕ, ◌≤◌, ◌==◌, Bool, true, false, List, [], ◌∷◌}
-use Rattle.std.proofs.Common.{◌++◌, Option, refl, sym, ap, ◌∙◌, inl, inr, arith, subst, suc}
-use Rattle.std.proofs.Common.{length}
+use Rattle.std.proofs.Common.{◌++◌, Option, refl, sym, ap, ◌∙◌, inl, inr, arith, subst}
 use Rattle.std.specs.List.{list_any}
 use Rattle.std.proofs.lemmas.Bool.{both_ways, or_cases, or_parts, or_from, or_left, or_right}
 use Rattle.std.proofs.lemmas.Bool.{cases_Bool, eqb-true, eq-eqb, false_from_ne_true}
@@ -9,7 +8,7 @@ use Rattle.std.proofs.lemmas.List.Folds.{list_any-append}
 use Rattle.hpack.specs.declared.types.field.Field.{Field}
 use Rattle.h2_frame.specs.declared.code.Code.{Code}
 use Rattle.h2_frame.specs.Codes.{code_number}
-use Rattle.h2_frame.specs.Frames.{GoAway, Settings, Ping, Reset}
+use Rattle.h2_frame.specs.Frames.{GoAway, Reset}
 use Rattle.h2_block.specs.Grouping.{Item, alone, block}
 use Rattle.h2_log.specs.declared.role.Role.{Role}
 use Rattle.h2_log.specs.declared.role.Role.TheVariants.{Client, Server}
@@ -22,15 +21,18 @@ use Rattle.h2_log.specs.Verdicts.{Verdict, ConnectionFault, StreamFault, NoEvent
 use Rattle.h2_log.specs.ItemRules.{Decoded, replies_to, verdict_of, is_stream_fault}
 use Rattle.h2_log.specs.ItemEffects.{events_of, fields_of}
 use Rattle.h2_log_laws.proofs.ItemLists.{any_after}
+use Rattle.h2_log_laws.proofs.ItemLists.{goaway_no_block}
+use Rattle.h2_log_laws.proofs.ItemLists.{replies_no_block}
 use Rattle.h2_log_laws.proofs.LogInvariant.{active_before}
 use Rattle.h2_log_laws.proofs.ReaderStates.{active_parts, lasts_parts}
+use Rattle.h2_log_laws.proofs.LogHistory.{none_both}
 use Rattle.h2_end_laws.specs.Activity.{event_may_close}
 use Rattle.h2_end_laws.specs.Written.{IsCredit}
 use Rattle.h2_end_laws.proofs.ReadVerdicts.{Says, says_of}
 use Rattle.h2_end_laws.proofs.ReadingRules.{IsFaulty, IsUnreported, IsSaid, LogIsLow, rules_say}
 use Rattle.h2_end_laws.proofs.ActivityItems.{closes, closes_own, silent_keeps, reported_closes}
 use Rattle.h2_end_laws.proofs.ActivityItems.{events_name_none}
-use Rattle.h2_end_laws.proofs.ActivityStays.{none_of_both, harmless_append, harmless_credit}
+use Rattle.h2_end_laws.proofs.ActivityStays.{harmless_append, harmless_credit}
 use Rattle.h2_end_laws.proofs.ActivityStays.{harmless_replies, harmless_goaway, stays_active}
 use Rattle.h2_end_laws.proofs.ActivitySteps.{Adds, AfterFrame, stays_same, has_broken, has_read}
 
@@ -104,22 +106,6 @@ unfolding is_block_on
 credit_no_block i items (inl none) = rw none refl
 credit_no_block i items (inr (count, is)) = rw is refl
 
-goaway_no_block : (i last code : ℕ)
-    → list_any (is_block_on i) (alone (GoAway last code []) ∷ []) ≡ false
-unfolding is_block_on
-goaway_no_block i last code = refl
-
-replies_no_block : (i : ℕ) (verdict : Verdict) (item : Item)
-    → list_any (is_block_on i) (replies_to verdict item) ≡ false
-unfolding replies_to is_block_on
-replies_no_block i (ConnectionFault code) item = refl
-replies_no_block i (StreamFault code) item = refl
-replies_no_block i NoEvent (block stream end octets) = refl
-replies_no_block i NoEvent (alone (Settings false pairs)) = refl
-replies_no_block i NoEvent (alone (Ping false octets)) = refl
-replies_no_block i NoEvent (alone frame) = refl
-replies_no_block i Reported item = refl
-
 -- Where no block is new, a stream that is open was open before, by the role.
 open_before : (role : Role) (i : ℕ) (reads items received sent : List Item)
     → (role ≡ Server → list_any (is_block_on i) reads ≡ false)
@@ -157,13 +143,14 @@ closed_inactive role i received sent reported closed alive =
     let parts = active_parts role i received sent reported alive in
     both_ways _ (or_from _ _ (lasts_parts i received sent parts.lasts).kept parts.below) closed
 
-above_more : (role : Role) (i : ℕ) (items sent : List Item) → is_above role i sent ≡ true
+pub above_more : (role : Role) (i : ℕ) (items sent : List Item) → is_above role i sent ≡ true
     → is_above role i (items ++ sent) ≡ true
 unfolding is_above
 above_more Client i items sent above = above
 above_more Server i items sent above = any_after (is_goaway_below i) items sent above
 
-closed_more : (role : Role) (i : ℕ) (items sent : List Item) → is_closed_by_us role i sent ≡ true
+pub closed_more : (role : Role) (i : ℕ) (items sent : List Item)
+    → is_closed_by_us role i sent ≡ true
     → is_closed_by_us role i (items ++ sent) ≡ true
 unfolding is_closed_by_us
 closed_more role i items sent closed = elim (or_cases _ _ closed) [
@@ -266,7 +253,7 @@ read_opens before after decoded item verdict credit i low is on is_credit adds f
 read_opens before after decoded item verdict credit i low is on is_credit adds failed alive
     (inr other) =
     inl (was_active before after (item ∷ []) _ _ i adds (λ server. or_from _ _ other refl)
-    (λ client. none_of_both (is_block_on i) credit _ (credit_no_block i credit is_credit)
+    (λ client. none_both (is_block_on i) credit _ (credit_no_block i credit is_credit)
     (replies_no_block i verdict item)) alive)
 
 -- A stream that is active after a frame was so before, or fields of it are reported.
@@ -282,9 +269,3 @@ frame_opens before after decoded i (has_read item verdict credit is on is_credit
     alive =
     read_opens before after decoded item verdict credit i (low (sym failed)) is on is_credit adds
     failed alive (cases_Bool (is_block_on i item))
-
--- A list isn't itself with one event more.
-pub no_event : {A : Type 0} (event : Event) (events : List Event) → events ≡ event ∷ events → A
-no_event event events is =
-    let counted : length events ≡ suc (length events) = ap length is in
-    absurd (omega (arith, counted))

@@ -22,6 +22,7 @@ use Rattle.h2_log.specs.ItemRules.{Decoded, peer_opens, verdict_by_rules, verdic
 use Rattle.h2_log.specs.ItemEffects.{events_of}
 use Rattle.h2_log_laws.proofs.ReaderStates.{active_used, state_active, state_is_active}
 use Rattle.h2_log_laws.proofs.ReplyInvariant.{used_more, used_here}
+use Rattle.h2_log_laws.proofs.ReplyInvariant.{idle_unused}
 use Rattle.h2_end_laws.specs.Over.{used}
 use Rattle.h2_end_laws.specs.Activity.{event_may_close}
 use Rattle.h2_end_laws.proofs.ReadVerdicts.{Says, says_data, says_of}
@@ -78,7 +79,7 @@ says_reset F S T ClosedByUs a c d = c refl
 says_reset F S T Closed a c d = d refl
 
 -- The state of an active stream.
-pub active_state : (log : Log) (i : ℕ) → active log i ≡ true → state log i ≡ Active
+active_state : (log : Log) (i : ℕ) → active log i ≡ true → state log i ≡ Active
 active_state log i alive =
     state_active _ _ _ (active_used log.role i log.received log.sent log.reported alive) alive
 
@@ -200,12 +201,10 @@ used_reported log decoded (alone (Reset stream code)) i is =
 used_reported log decoded (alone frame) i is = absurd (both_ways false refl is)
 
 -- What holds of each verdict but a fault of the connection, holds of this one.
-pub said_of : (A : Type 0) (verdict : Verdict)
+said_of : (A : Type 0) (verdict : Verdict)
     → ((code : Code) → verdict ≡ ConnectionFault code → ⊥) → Says A A A verdict → A
 said_of A (ConnectionFault code) on says = absurd (on code refl)
-said_of A (StreamFault code) on says = says
-said_of A NoEvent on says = says
-said_of A Reported on says = says
+said_of A other on says = says
 
 -- An item that is no fault of the connection ends or resets no stream that isn't used after it.
 pub unused_kept : (log : Log) (decoded : Option Decoded) (item : Item) (verdict : Verdict) (i : ℕ)
@@ -227,14 +226,6 @@ unused_kept log decoded item verdict i is on unused =
 abbrev pub IsNew : Log → ℕ → Type 0
 IsNew log i = (peer_opens (log_view log) i ≡ true) × (goaway_written log ≡ false)
     × (used log i ≡ false)
-
--- An idle stream isn't used.
-idle_unused : (used active closed_by_us : Bool) → state_by used active closed_by_us ≡ Idle
-    → used ≡ false
-idle_unused false active closed_by_us idle = refl
-idle_unused true true closed_by_us idle = cc
-idle_unused true false true idle = cc
-idle_unused true false false idle = cc
 
 new_by_rules : (log : Log) (decoded : Option Decoded) (i : ℕ) (end : Bool) (octets : List ℕ)
     → active log i ≡ false

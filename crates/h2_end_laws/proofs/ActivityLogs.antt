@@ -1,10 +1,10 @@
 -- What holds of every log: of a number that wasn't used nothing was read or reported; and at a
 -- server each active stream was processed.
-use Rattle.std.proofs.Common.{◌≡◌, ◌≢◌, ℕ, ◌≤◌, nat_lt, ◌&&◌, Bool, true, false}
-use Rattle.std.proofs.Common.{if◌then◌else◌, List, [], ◌∷◌, ◌++◌, Option, None, refl, sym}
+use Rattle.std.proofs.Common.{◌≡◌, ◌≢◌, ℕ, ◌≤◌, true, false}
+use Rattle.std.proofs.Common.{List, [], ◌∷◌, ◌++◌, Option, None, refl, sym}
 use Rattle.std.proofs.Common.{◌∙◌, inl, inr, arith, subst}
 use Rattle.std.specs.List.{list_any}
-use Rattle.std.proofs.lemmas.Bool.{both_ways, or_parts, or_from, and_parts, eqb-true}
+use Rattle.std.proofs.lemmas.Bool.{both_ways, or_parts, or_from, eqb-true}
 use Rattle.std.proofs.lemmas.Bool.{false_from_ne_true}
 use Rattle.h2_frame.specs.declared.code.Code.{Code}
 use Rattle.h2_frame.specs.declared.code.Code.TheVariants.{InternalError}
@@ -16,9 +16,8 @@ use Rattle.h2_log.specs.Acts.{Values, Act, Answer}
 use Rattle.h2_log.specs.Items.{ends, resets}
 use Rattle.h2_log.specs.Events.{Event, UnprocessedEvent, reports_unprocessed}
 use Rattle.h2_log.specs.Events.{greatest_processed, processed_by}
-use Rattle.h2_log.specs.Settings.{is_server}
-use Rattle.h2_log.specs.States.{is_used, is_active, least_block}
-use Rattle.h2_log.specs.Log.{Log, active, next_unprocessed, least_goaway}
+use Rattle.h2_log.specs.States.{is_used, is_active}
+use Rattle.h2_log.specs.Log.{Log, active, next_unprocessed}
 use Rattle.h2_log.specs.LogView.{log_view}
 use Rattle.h2_log.specs.Verdicts.{Verdict, ConnectionFault}
 use Rattle.h2_log.specs.ItemRules.{Decoded, replies_to, verdict_of}
@@ -27,15 +26,16 @@ use Rattle.h2_log.specs.LogSteps.{used, with_sent, took_none}
 use Rattle.h2_log.specs.LogCalls.{opened}
 use Rattle.h2_log.specs.Histories.{IsLog, begins, took_some, took_one, met_fault, ran_out_of_memory}
 use Rattle.h2_log.specs.Histories.{reported_one, called_one}
-use Rattle.h2_log_laws.proofs.NextStreams.{least_passes}
+use Rattle.h2_log_laws.proofs.NextStreams.{next_is_active}
 use Rattle.h2_log_laws.proofs.ReaderStates.{active_parts, active_used}
 use Rattle.h2_log_laws.proofs.ReplyInvariant.{used_more}
+use Rattle.h2_log_laws.proofs.LogHistory.{processed_after}
+use Rattle.h2_log_laws.proofs.LogHistory.{none_both}
 use Rattle.h2_end_laws.specs.Over.{used as was_used}
 use Rattle.h2_end_laws.proofs.ReadingCalls.{log_read}
 use Rattle.h2_end_laws.proofs.ReadingRules.{LogIsLow}
 use Rattle.h2_end_laws.proofs.ActivityFrames.{was_active, frame_opens, HasFields}
 use Rattle.h2_end_laws.proofs.ActivityItems.{events_name_none, unused_kept}
-use Rattle.h2_end_laws.proofs.ActivityStays.{none_of_both}
 use Rattle.h2_end_laws.proofs.ActivitySteps.{Adds, AfterFrame, stays_same, has_broken, has_read}
 use Rattle.h2_end_laws.proofs.ActivitySteps.{AfterCall, was_refused, was_broken, was_accepted}
 use Rattle.h2_end_laws.proofs.ActivitySteps.{frame_used, frame_after, fault_after, none_adds}
@@ -62,14 +62,6 @@ unused_before before after reads items events i adds unused =
     false_from_ne_true _ (λ was. both_ways _ unused (rw (adds.role, adds.received, adds.sent)
     (used_more before.role i reads items before.received before.sent was)))
 
--- The greatest that was processed doesn't fall.
-processed_more : (events reported : List Event)
-    → greatest_processed reported ≤ greatest_processed (events ++ reported)
-unfolding greatest_processed
-processed_more [] reported = omega arith
-processed_more (event ∷ events) reported =
-    let more = processed_more events reported in omega (arith, more)
-
 -- A step that reads nothing keeps this, where it names only streams that are used.
 known_more : (before after : Log) (items : List Item) (events : List Event) (i : ℕ)
     → Adds before after [] items events
@@ -81,14 +73,14 @@ known_more before after items events i adds unnamed known =
       unreset = λ now. rw (adds.received) (known.unreset (unused now));
       unended = λ now. rw (adds.received) (known.unended (unused now));
       unnamed = λ now. rw (adds.reported)
-          (none_of_both (reports_unprocessed i) events before.reported (unnamed (unused now))
+          (none_both (reports_unprocessed i) events before.reported (unnamed (unused now))
           (known.unnamed (unused now)));
       processed = λ server alive.
           let was = sym adds.role ∙ server in
           let low = known.processed was
           (was_active before after [] items events i adds (λ same. refl)
           (λ client. let both : Server ≡ Client = sym was ∙ client in cc) alive) in
-          let more = processed_more events before.reported in
+          let more = processed_after events before.reported in
           rw (adds.reported) (omega (arith, low, more));
     }
 
@@ -119,7 +111,7 @@ known_read before after decoded item verdict credit i is on adds low known =
       unreset = λ now. rw (adds.received) (or_from _ _ (kept now).1 (known.unreset (unused now)));
       unended = λ now. rw (adds.received) (or_from _ _ (kept now).0 (known.unended (unused now)));
       unnamed = λ now. rw (adds.reported)
-          (none_of_both (reports_unprocessed i) _ before.reported
+          (none_both (reports_unprocessed i) _ before.reported
           (events_name_none (log_view before) decoded verdict item i)
           (known.unnamed (unused now)));
       processed = low;
@@ -140,7 +132,7 @@ known_frame before after decoded i
     (has_read item verdict credit is on is_credit adds failed) low alive) [
       | inl was ↦
           let low = known.processed (sym adds.role ∙ server) was in
-          let more = processed_more (events_of (log_view before) decoded verdict item)
+          let more = processed_after (events_of (log_view before) decoded verdict item)
           before.reported in
           rw (adds.reported) (omega (arith, low, more))
       | inr fields ↦ fields_processed before after i fields
@@ -156,20 +148,6 @@ known_call log after act answer i (was_broken code adds failed) known =
 known_call log after act answer i (was_accepted credit is_credit none is adds) known =
     known_more log after _ [] i adds (λ unused. refl) known
 
--- A stream that is named as unprocessed is active, by the role.
-named_by : (b : Bool) (test : ℕ → Bool) (items : List Item)
-    → (if b then 0 else least_block test items) ≢ 0
-    → test (if b then 0 else least_block test items) ≡ true
-named_by true test items some = absurd (some refl)
-named_by false test items some = least_passes test items some
-
-pub named_active : (log : Log) → next_unprocessed log ≢ 0
-    → active log (next_unprocessed log) ≡ true
-unfolding next_unprocessed
-named_active log some =
-    (and_parts _ _ (named_by (is_server log.role)
-    (λ j. active log j && nat_lt (least_goaway log.received) j) log.sent some)).0
-
 -- So is its number used.
 named_used : (log : Log) (i : ℕ) → next_unprocessed log ≢ 0 → was_used log i ≡ false
     → list_any (reports_unprocessed i) (UnprocessedEvent (next_unprocessed log) ∷ []) ≡ false
@@ -178,7 +156,7 @@ named_used log i some unused =
     or_from _ _ (false_from_ne_true _ (λ same. both_ways _ unused
     (subst (λ (j : ℕ). was_used log j ≡ true) (eqb-true (next_unprocessed log) i same)
     (active_used log.role (next_unprocessed log) log.received log.sent log.reported
-    (named_active log some))))) refl
+    (next_is_active log some))))) refl
 
 -- At first no stream is active at a server.
 none_first : (role : Role) (i : ℕ) (sent : List Item) → role ≡ Server

@@ -5,7 +5,7 @@ use Rattle.std.proofs.Common.{◌++◌, Option, Some, refl, sym, ◌∙◌, inl,
 use Rattle.std.specs.List.{list_any}
 use Rattle.std.proofs.lemmas.Bool.{both_ways, or_cases, or_parts, or_from, or_left, and_left}
 use Rattle.std.proofs.lemmas.Bool.{and_parts}
-use Rattle.std.proofs.lemmas.Bool.{and_from, and_right, eqb-true, eq-eqb, false_from_ne_true}
+use Rattle.std.proofs.lemmas.Bool.{and_right, eqb-true, eq-eqb, false_from_ne_true}
 use Rattle.std.proofs.lemmas.List.{append_cancel_right}
 use Rattle.hpack.specs.declared.types.field.Field.{Field}
 use Rattle.h2_frame.specs.declared.code.Code.{Code}
@@ -30,33 +30,27 @@ use Rattle.h2_log.specs.Allowed.{MayContinue}
 use Rattle.h2_log.specs.Histories.{IsLog}
 use Rattle.h2_log.proofs.StreamLemmas.{stream_of_log}
 use Rattle.h2_log_laws.proofs.InvariantLogs.{written_is_allowed}
-use Rattle.h2_log_laws.proofs.ItemLists.{any_after}
+use Rattle.h2_log_laws.proofs.ItemLists.{below_quiet}
 use Rattle.h2_log_laws.proofs.LogGrowth.{grows_call}
-use Rattle.h2_log_laws.proofs.ReaderStates.{active_from, active_used, lasts_from, opens_here}
+use Rattle.h2_log_laws.proofs.ReaderStates.{active_from, active_used, lasts_from}
 use Rattle.h2_log_laws.proofs.ReplyInvariant.{used_more, resets_used}
+use Rattle.h2_log_laws.proofs.StreamNumbers.{opening_uses}
+use Rattle.h2_log_laws.proofs.LogHistory.{none_both}
 use Rattle.h2_end_laws.specs.Over.{used}
 use Rattle.h2_end_laws.specs.Takes.{MayTake, Took, has_failed, reports_unprocessed as named_one}
 use Rattle.h2_end_laws.specs.Takes.{ends_no_frame, ends_frame, meets_fault, runs_out_of_memory}
 use Rattle.h2_end_laws.specs.Written.{IsCredit}
 use Rattle.h2_end_laws.proofs.OverNumbers.{opened_is_new}
-use Rattle.h2_end_laws.proofs.ActivityFrames.{active_added, no_event}
+use Rattle.h2_end_laws.proofs.OverNumbers.{block_there}
+use Rattle.h2_end_laws.proofs.ActivityFrames.{active_added}
 use Rattle.h2_end_laws.proofs.ActivityItems.{new_reported, events_name_none}
 use Rattle.h2_end_laws.proofs.ActivityLogs.{LogIsKnown, known_of_logs}
 use Rattle.h2_end_laws.proofs.ActivityStays.{harmless_append, harmless_credit, harmless_replies}
-use Rattle.h2_end_laws.proofs.ActivityStays.{none_ends, none_resets, none_below, none_of_both}
+use Rattle.h2_end_laws.proofs.ActivityStays.{none_ends, none_resets, none_below}
 use Rattle.h2_end_laws.proofs.ActivitySteps.{Adds, AfterFrame, stays_same, has_broken, has_read}
 use Rattle.h2_end_laws.proofs.ActivitySteps.{frame_used, frame_after}
 use Rattle.h2_end_laws.proofs.WrittenSteps.{call_writes}
-
--- A block that a client writes uses its number.
-opening_uses : (role : Role) (i : ℕ) (end : Bool) (octets : List ℕ) (received sent : List Item)
-    → role ≡ Client → i % 2 ≡ 1 → is_used role i received (block i end octets ∷ sent) ≡ true
-unfolding is_used is_block_on
-opening_uses Server i end octets received sent client odd = cc
-opening_uses Client i end octets received sent client odd =
-    let is_odd = eq-eqb (i % 2) 1 odd in
-    and_from _ _ is_odd (opens_here i (block i end octets ∷ sent) is_odd
-    (or_left (i == i) _ (eq-eqb i i refl)))
+use Rattle.h2_end_laws.proofs.OverEvents.{no_event}
 
 -- So does a block that may be written.
 block_uses : (role : Role) (i : ℕ) (end : Bool) (octets : List ℕ) (received sent : List Item)
@@ -109,7 +103,7 @@ pub record IsUnwritten (i : ℕ) (sent : List Item) : Type 0 where
   pub unended : list_any (ends i) sent ≡ false
   pub unreset : list_any (resets i) sent ≡ false
 
-pub unused_unwritten : (role : Role) (values : Values) (log : Log) (i : ℕ)
+unused_unwritten : (role : Role) (values : Values) (log : Log) (i : ℕ)
     → IsLog role values log → used log i ≡ false → IsUnwritten i log.sent
 unused_unwritten role values log i is unused =
     let own = (stream_of_log role values log is).role in
@@ -144,18 +138,12 @@ open_at_client Client i received sent reported client odd here unended unreset k
       unnamed = unnamed;
     })
 
--- At a server, once its block was read, where no GOAWAY was written.
-no_below : (i : ℕ) (item : Item) → is_goaway item ≡ false → is_goaway_below i item ≡ false
-unfolding is_goaway is_goaway_below
-no_below i (alone (GoAway last code debug)) none = absurd (both_ways true none refl)
-no_below i item none = refl
-
 no_goaway_below : (i : ℕ) (items : List Item) → list_any is_goaway items ≡ false
     → list_any (is_goaway_below i) items ≡ false
 no_goaway_below i [] none = refl
 no_goaway_below i (item ∷ items) none =
     let both = or_parts (is_goaway item) (list_any is_goaway items) none in
-    or_from _ _ (no_below i item both.0) (no_goaway_below i items both.1)
+    or_from _ _ (below_quiet i item both.0) (no_goaway_below i items both.1)
 
 open_at_server : (role : Role) (i : ℕ) (received sent : List Item) (reported : List Event)
     → role ≡ Server → i % 2 == 1 ≡ true → list_any (is_block_on i) received ≡ true
@@ -180,18 +168,10 @@ open_at_server Server i received sent reported server odd here below unended unr
     })
 
 -- A number that was used is odd.
-used_odd : (role : Role) (i : ℕ) (received sent : List Item)
+pub used_odd : (role : Role) (i : ℕ) (received sent : List Item)
     → is_used role i received sent ≡ true → i % 2 == 1 ≡ true
 unfolding is_used
 used_odd role i received sent was = (and_parts _ _ was).0
-
--- The block that opens stands behind what was written after it; neither resets the stream.
-block_there : (i : ℕ) (end : Bool) (octets : List ℕ) (credit sent : List Item)
-    → list_any (is_block_on i) (credit ++ (block i end octets ∷ sent)) ≡ true
-unfolding is_block_on
-block_there i end octets credit sent =
-    any_after (is_block_on i) credit (block i end octets ∷ sent)
-    (or_left (i == i) (list_any (is_block_on i) sent) (eq-eqb i i refl))
 
 block_resets : (i id : ℕ) (end : Bool) (octets : List ℕ) → resets i (block id end octets) ≡ false
 unfolding resets
@@ -220,7 +200,7 @@ active_by_open role values log fields end id is may =
     let grows = grows_call log act (Number id) in
     let writes = call_writes log act (Number id) (open_rules log fields end id may)
     (λ other code wrong. cc) in
-    let kept = none_of_both (resets id) writes.credit (block id end _ ∷ log.sent)
+    let kept = none_both (resets id) writes.credit (block id end _ ∷ log.sent)
     (none_resets log.role id writes.credit (harmless_credit log.role id writes.credit
     writes.is_credit)) (or_from _ _ (block_resets id id end _) unwritten.unreset) in
     rw (grows.role, grows.received, grows.reported, writes.sent)
@@ -263,15 +243,15 @@ block_opens before after decoded i end octets credit is is_credit adds inactive 
       active_added before after (item ∷ []) items _ i adds
           ∙ open_at_server before.role i (item ∷ before.received) (items ++ before.sent) _ server
           (and_parts _ _ new.0).1 (block_first i end octets before.received)
-          (none_of_both (is_goaway_below i) items before.sent
+          (none_both (is_goaway_below i) items before.sent
           (none_below before.role i items server harmless)
           (no_goaway_below i before.sent new.1))
-          (none_of_both (ends i) items before.sent (none_ends before.role i items harmless)
+          (none_both (ends i) items before.sent (none_ends before.role i items harmless)
           unsaid.unended)
           (or_from _ _ (block_resets i i end octets) (known.unreset new.2))
-          (none_of_both (resets i) items before.sent (none_resets before.role i items harmless)
+          (none_both (resets i) items before.sent (none_resets before.role i items harmless)
           unsaid.unreset)
-          (none_of_both (reports_unprocessed i)
+          (none_both (reports_unprocessed i)
           (events_of (log_view before) decoded Reported item) before.reported
           (events_name_none (log_view before) decoded Reported item i) (known.unnamed new.2)),
     )

@@ -19,18 +19,20 @@ use Rattle.h2_log.specs.CallRules.{conditions}
 use Rattle.h2_log.specs.LogSteps.{used, with_failure, took_frame, took_none}
 use Rattle.h2_log.specs.LogCalls.{MayAnswer, accepts, refuses, lacks, fails, with_call}
 use Rattle.h2_log.specs.Histories.{IsLog}
-use Rattle.h2_log_laws.proofs.CallConditions.{none_holds, none_since}
+use Rattle.h2_log_laws.proofs.PartsStay.{SameCalls, calls_written, calls_read, call_calls}
+use Rattle.h2_log_laws.proofs.CallConditions.{none_holds}
+use Rattle.hpack.proofs.Tests.{none_since}
 use Rattle.h2_log_laws.proofs.InvariantLogs.{log_represents}
 use Rattle.h2_log_laws.proofs.LogHistory.{history_of, reported_append}
 use Rattle.h2_log_laws.proofs.LogInvariant.{Good, active_before}
-use Rattle.h2_log_laws.proofs.GrowthBySteps.{HoldsOfFailures, HoldsOfReads, holds_call, holds_frame}
+use Rattle.h2_log_laws.proofs.GrowthBySteps.{holds_frame}
 use Rattle.h2_log_laws.proofs.GrowthBySteps.{holds_failure, holds_none, holds_used}
+use Rattle.h2_log_laws.proofs.ReleasedCredit.{unreleased_is}
 use Rattle.h2_end_laws.specs.Takes.{TakeAnswer, MayTake, Took, Failed, events_answered}
 use Rattle.h2_end_laws.specs.Takes.{AnswersFrame, has_failed, reports_unprocessed as named_one}
 use Rattle.h2_end_laws.specs.Takes.{ends_no_frame, ends_frame, meets_fault, runs_out_of_memory}
 use Rattle.h2_end_laws.specs.Activity.{take_has_data}
 use Rattle.h2_end_laws.proofs.OverRoom.{released_more, owed_inactive, owed_active, owed_none}
-use Rattle.h2_end_laws.proofs.OverRoom.{left_is}
 use Rattle.h2_end_laws.proofs.ActivityCalls.{inactive_by_call}
 use Rattle.h2_end_laws.proofs.ActivityFrames.{active_added}
 use Rattle.h2_end_laws.proofs.ActivitySteps.{Adds, AfterFrame, stays_same, has_broken, has_read}
@@ -38,6 +40,7 @@ use Rattle.h2_end_laws.proofs.ActivitySteps.{AfterCall, was_refused, was_broken,
 use Rattle.h2_end_laws.proofs.ActivitySteps.{frame_used, frame_after, part_after, fault_after}
 use Rattle.h2_end_laws.proofs.ActivitySteps.{none_adds, call_after}
 use Rattle.h2_end_laws.proofs.ActivityTakes.{part_reported, fault_reported}
+use Rattle.h2_end_laws.proofs.ReceiveWindows.{flow_none}
 
 -- Of a stream that a step makes active no octets were reported before it: it wasn't opened.
 new_unreported : (before after : Log) (reads items : List Item) (events : List Event) (i : ℕ)
@@ -56,7 +59,7 @@ left_after : (before after : Log) (reads items : List Item) (events : List Event
     ≡ (reported_total (flow_on i) events + reported_total (flow_on i) before.reported)
     - released i after.calls
 left_after before after reads items events i adds =
-    left_is after i
+    unreleased_is after i
     ∙ ap (λ (line : List Event). reported_total (flow_on i) line - released i after.calls)
     adds.reported
     ∙ ap (λ (n : ℕ). n - released i after.calls)
@@ -79,7 +82,7 @@ none_owed_after before after reads items events i adds more quiet good none =
           quiet,
           left_after before after reads items events i adds,
           owed_active before i was,
-          left_is before i,
+          unreleased_is before i,
         ))
         | inr inactive ↦ owed_none after i (omega (
           arith,
@@ -92,45 +95,7 @@ none_owed_after before after reads items events i adds more quiet good none =
       | inr over ↦ owed_inactive after i over
     ]
 
--- No octets are reported where nothing is.
-none_of_none : (i : ℕ) → reported_total (flow_on i) [] ≡ 0
-unfolding reported_total
-none_of_none i = refl
-
--- The second log has the calls of the first: nothing that is read or written is a call.
-abbrev SameCalls : Log → Log → Type 0
-SameCalls old new = new.calls ≡ old.calls
-
-same_written : HoldsOfFailures SameCalls
-same_written =
-    record {
-      writes = record {
-        none = λ log. refl;
-        twice = λ one two three a b. b ∙ a;
-        sent = λ log item items. refl;
-        unreturned = λ log count. refl;
-      };
-      failed = λ log code. refl;
-    }
-
-same_read : HoldsOfReads SameCalls
-same_read =
-    record {
-      failures = same_written;
-      used = λ log octets unparsed. refl;
-      framed = λ log frames. refl;
-      begun = λ log begun. refl;
-      read = λ log decoded item. refl;
-      reported = λ log event events. refl;
-    }
-
--- A call is one more.
-call_calls : (log : Log) (act : Act) (answer : Answer)
-    → (with_call log act answer).calls ≡ (act, answer) ∷ log.calls
-call_calls log act answer =
-    holds_call SameCalls (record { failures = same_written; given = λ log more. refl }) log act
-    answer
-
+-- A call releases what it releases, and takes nothing back.
 call_releases : (log : Log) (act : Act) (answer : Answer) (i : ℕ)
     → released i log.calls ≤ released i (with_call log act answer).calls
 call_releases log act answer i = rw (call_calls log act answer)
@@ -169,11 +134,11 @@ owed_by : (log after : Log) (act : Act) (answer : Answer) (i : ℕ) → AfterCal
     → (active log i ≡ false → active after i ≡ true → Good (history_of log))
     → owed log i ≡ 0 → owed after i ≡ 0
 owed_by log after act answer i (was_refused refusal is adds) more good none =
-    none_owed_after log after [] [] [] i adds more (none_of_none i) good none
+    none_owed_after log after [] [] [] i adds more (flow_none i) good none
 owed_by log after act answer i (was_broken code adds failed) more good none =
-    none_owed_after log after [] _ [] i adds more (none_of_none i) good none
+    none_owed_after log after [] _ [] i adds more (flow_none i) good none
 owed_by log after act answer i (was_accepted credit is_credit free is adds) more good none =
-    none_owed_after log after [] _ [] i adds more (none_of_none i) good none
+    none_owed_after log after [] _ [] i adds more (flow_none i) good none
 
 -- Where nothing is owed on a stream, nothing is after a call.
 pub none_owed_by_call : (role : Role) (values : Values) (log : Log) (act : Act) (answer : Answer)
@@ -190,13 +155,13 @@ frame_calls : (log : Log) (octets : List ℕ) (decoded : Option Decoded) (frame 
     → (took_frame log octets decoded frame).calls ≡ log.calls
 unfolding used
 frame_calls log octets decoded frame =
-    holds_frame SameCalls same_read (used log octets []) decoded frame
+    holds_frame SameCalls calls_read (used log octets []) decoded frame
 
 fault_calls : (log : Log) (octets : List ℕ) (code : Code) (last : ℕ)
     → (with_failure code last (used log octets [])).calls ≡ log.calls
 unfolding used
 fault_calls log octets code last =
-    holds_failure SameCalls same_written code last (used log octets [])
+    holds_failure SameCalls calls_written code last (used log octets [])
 
 -- Where the calls are the same, so is what was released.
 same_released : (i : ℕ) (before after : Log) → after.calls ≡ before.calls
@@ -211,10 +176,10 @@ owed_by_frame : (before after : Log) (decoded : Option Decoded) (i : ℕ)
     → owed before i ≡ 0 → owed after i ≡ 0
 owed_by_frame before after decoded i (stays_same adds failed) same good quiet none =
     none_owed_after before after [] [] [] i adds (same_released i before after same)
-    (none_of_none i) (λ inactive alive. good) none
+    (flow_none i) (λ inactive alive. good) none
 owed_by_frame before after decoded i (has_broken code last up adds failed) same good quiet none =
     none_owed_after before after [] _ [] i adds (same_released i before after same)
-    (none_of_none i) (λ inactive alive. good) none
+    (flow_none i) (λ inactive alive. good) none
 owed_by_frame before after decoded i (has_read item verdict credit is on is_credit adds failed)
     same good quiet none =
     none_owed_after before after (item ∷ []) _ _ i adds (same_released i before after same)
@@ -227,7 +192,7 @@ owed_by_none : (log after : Log) (i : ℕ) → AfterFrame log None after
 owed_by_none log after i steps same reported good none =
     owed_by_frame log after None i steps same good (λ failed events is.
     subst (λ (line : List Event). reported_total (flow_on i) line ≡ 0)
-    (append_cancel_right [] events log.reported (sym reported ∙ is)) (none_of_none i)) none
+    (append_cancel_right [] events log.reported (sym reported ∙ is)) (flow_none i)) none
 
 -- What is answered has no octets of the stream.
 answered_quiet : (i count : ℕ) (event : Option Event) → take_has_data i (Took count event) ≡ false
@@ -271,12 +236,12 @@ none_owed_by_take role values log after piece answer i is (named_one up some ans
     quiet =
     let adds = none_adds log in
     rw same (none_owed_after log (took_none log) [] adds.0 _ i adds.2
-    (same_released i log (took_none log) (holds_none SameCalls same_read log))
+    (same_released i log (took_none log) (holds_none SameCalls calls_read log))
     (named_quiet i (next_unprocessed log)) (λ inactive alive. log_good role values log is up) none)
 none_owed_by_take role values log after piece answer i is
     (ends_no_frame takes unparsed part answers same) none quiet =
     rw same (owed_by_none log _ i (part_after log piece unparsed)
-    (holds_used SameCalls same_read log piece unparsed) (part_reported log piece unparsed)
+    (holds_used SameCalls calls_read log piece unparsed) (part_reported log piece unparsed)
     (log_good role values log is takes.up) none)
 none_owed_by_take role values log after piece answer i is
     (ends_frame takes octets unused joined frame decoded framed sees same answers) none quiet =

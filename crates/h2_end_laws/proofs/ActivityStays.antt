@@ -20,6 +20,7 @@ use Rattle.h2_log.specs.ItemRules.{replies_to, is_stream_fault}
 use Rattle.h2_log.specs.CallRules.{data_frames, data_items}
 use Rattle.h2_log_laws.proofs.ItemLists.{any_after}
 use Rattle.h2_log_laws.proofs.ReaderStates.{active_parts, active_from, lasts_parts, lasts_from}
+use Rattle.h2_log_laws.proofs.LogHistory.{none_both}
 use Rattle.h2_end_laws.specs.Written.{IsCredit}
 
 -- An item that is written doesn't close the stream.
@@ -75,7 +76,7 @@ harmless_goaway role i last code low =
     }
 
 -- WINDOW_UPDATE, SETTINGS and PING.
-pub harmless_update : (role : Role) (i id count : ℕ)
+harmless_update : (role : Role) (i id count : ℕ)
     → IsHarmless role i (alone (WindowUpdate id count))
 unfolding ends resets is_goaway_below
 harmless_update role i id count =
@@ -184,17 +185,12 @@ below_after Server i items sent are below =
     ∙ or_from _ _ (none_below Server i items refl are) below
 
 -- It was opened, by the role.
-opened_after : (role : Role) (i : ℕ) (reads items received sent : List Item)
+pub opened_after : (role : Role) (i : ℕ) (reads items received sent : List Item)
     → list_any (is_block_on i) (openings role received sent) ≡ true
     → list_any (is_block_on i) (openings role (reads ++ received) (items ++ sent)) ≡ true
 opened_after Client i reads items received sent here = any_after (is_block_on i) items sent here
 opened_after Server i reads items received sent here =
     any_after (is_block_on i) reads received here
-
--- Neither of two lists has one.
-pub none_of_both : {X : Type 0} (p : X → Bool) (one other : List X) → list_any p one ≡ false
-    → list_any p other ≡ false → list_any p (one ++ other) ≡ false
-none_of_both p one other none no_other = list_any-append p one other ∙ or_from _ _ none no_other
 
 -- Two ends aren't both, where the one isn't new and the other isn't either.
 not_both : (p : Item → Bool) (reads received items sent : List Item)
@@ -225,8 +221,8 @@ stays_active role i reads items received sent events reported active unended unr
       lasts = lasts_from i (reads ++ received) (items ++ sent) (record {
         ended = not_both (ends i) reads received items sent unended
             (none_ends role i items harmless) lasts.ended;
-        unreset = none_of_both (resets i) reads received unreset lasts.unreset;
-        kept = none_of_both (resets i) items sent (none_resets role i items harmless) lasts.kept;
+        unreset = none_both (resets i) reads received unreset lasts.unreset;
+        kept = none_both (resets i) items sent (none_resets role i items harmless) lasts.kept;
       });
-      unnamed = none_of_both (reports_unprocessed i) events reported unnamed parts.unnamed;
+      unnamed = none_both (reports_unprocessed i) events reported unnamed parts.unnamed;
     })

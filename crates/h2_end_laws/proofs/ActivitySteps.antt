@@ -1,6 +1,6 @@
 -- What each step puts before what was read, written and reported, and what it says of it.
-use Rattle.std.proofs.Common.{◌≡◌, ◌≤◌, ℕ, ◌+◌, nat_lt, ◌&&◌, Bool, true, false}
-use Rattle.std.proofs.Common.{if◌then◌else◌, List, [], ◌∷◌, ◌++◌, Option, Some, None, refl, sym, ap}
+use Rattle.std.proofs.Common.{◌≡◌, ◌≤◌, ℕ, ◌+◌}
+use Rattle.std.proofs.Common.{List, [], ◌∷◌, ◌++◌, Option, Some, None, refl, sym, ap}
 use Rattle.std.proofs.Common.{◌∙◌, inl, inr, arith, append_assoc, subst}
 use Rattle.h2_frame.specs.declared.code.Code.{Code}
 use Rattle.h2_frame.specs.declared.code.Code.TheVariants.{InternalError}
@@ -10,11 +10,10 @@ use Rattle.h2_block.specs.Grouping.{Item, alone}
 use Rattle.h2_log.specs.declared.refusal.Refusal.{Refusal}
 use Rattle.h2_log.specs.declared.refusal.Refusal.TheVariants.{Memory}
 use Rattle.h2_log.specs.Events.{Event, UnprocessedEvent}
-use Rattle.h2_log.specs.Acts.{Act, Answer, Open, SendFields, SendData, Release, ResetStream, Refuse}
-use Rattle.h2_log.specs.Acts.{SendPing, SendGoAway, PutOut, ChangeSettings, Done, OutOfMemory}
+use Rattle.h2_log.specs.Acts.{Act, Answer, Refuse}
+use Rattle.h2_log.specs.Acts.{Done, OutOfMemory}
 use Rattle.h2_log.specs.Acts.{Refused, In}
-use Rattle.h2_log.specs.Limits.{full_output}
-use Rattle.h2_log.specs.Log.{Log, waiting, last_processed, next_unprocessed}
+use Rattle.h2_log.specs.Log.{Log, last_processed, next_unprocessed}
 use Rattle.h2_log.specs.LogView.{log_view}
 use Rattle.h2_log.specs.Verdicts.{Verdict, ConnectionFault, StreamFault, NoEvent, Reported}
 use Rattle.h2_log.specs.ItemRules.{Decoded, FrameStep, fails_with, begins_block, completes}
@@ -22,10 +21,11 @@ use Rattle.h2_log.specs.ItemRules.{frame_step, replies_to, verdict_of}
 use Rattle.h2_log.specs.ItemEffects.{events_of}
 use Rattle.h2_log.specs.CallRules.{refusal_of, answer_of, items_of, refuse_fault}
 use Rattle.h2_log.specs.LogSteps.{read, used, with_sent, with_reported, with_unreturned}
-use Rattle.h2_log.specs.LogSteps.{with_credit_returned, with_failure, with_verdict, with_step}
+use Rattle.h2_log.specs.LogSteps.{with_failure, with_verdict, with_step}
 use Rattle.h2_log.specs.LogSteps.{with_frame, limits_from, took_frame, took_none}
 use Rattle.h2_log.specs.LogCalls.{refused_with, with_call, MayAnswer, accepts, refuses}
 use Rattle.h2_log.specs.LogCalls.{lacks, fails}
+use Rattle.h2_log_laws.proofs.CreditCases.{credit_cases}
 use Rattle.h2_log_laws.proofs.LogGrowth.{grows_call}
 use Rattle.h2_end_laws.specs.Written.{IsCredit}
 use Rattle.h2_end_laws.proofs.Failures.{sent_failed, reported_failed, unreturned_failed}
@@ -58,29 +58,21 @@ pub record AddsCredit (before after : Log) : Type 0 where
   pub is_credit : IsCredit credit
   pub adds : Adds before after [] credit []
 
--- What is due, by the test whether it is returned.
-unreturned_by : (more : ℕ) (log : Log) (b : Bool)
-    → AddsCredit log (if b then with_credit_returned
-    (record log { unreturned = log.unreturned + more })
-    else record log { unreturned = log.unreturned + more })
+-- What is due.
+unreturned_adds : (more : ℕ) (log : Log) → AddsCredit log (with_unreturned more log)
 unfolding with_sent
-unreturned_by more log true =
-    record {
+unreturned_adds more log =
+    credit_cases (AddsCredit log) more log
+    (λ returns. record {
       credit = alone (WindowUpdate 0 (log.unreturned + more)) ∷ [];
       is_credit = inr (log.unreturned + more, refl);
       adds = record { role = refl; received = refl; sent = refl; reported = refl };
-    }
-unreturned_by more log false =
-    record {
+    })
+    (λ keeps. record {
       credit = [];
       is_credit = inl refl;
       adds = record { role = refl; received = refl; sent = refl; reported = refl };
-    }
-
-unreturned_adds : (more : ℕ) (log : Log) → AddsCredit log (with_unreturned more log)
-unfolding with_unreturned
-unreturned_adds more log = unreturned_by more log (nat_lt 0 more && nat_lt (waiting log)
-    full_output)
+    })
 
 -- A failure.
 failure_adds : (code : Code) (last : ℕ) (log : Log)
@@ -278,23 +270,7 @@ answered_after : (log : Log) (act : Act) → refusal_of (log_view log) act ≡ N
     (with_call log act (answer_of (log_view log) act))
 answered_after log (Refuse id code) none =
     refused_after log id code (refuse_fault (log_view log) code) none refl
-answered_after log (Open fields end) none =
-    accepted_after log (Open fields end) none (λ id code wrong. cc)
-answered_after log (SendFields id fields end) none =
-    accepted_after log (SendFields id fields end) none (λ other code wrong. cc)
-answered_after log (SendData id octets end) none =
-    accepted_after log (SendData id octets end) none (λ other code wrong. cc)
-answered_after log (Release id count) none =
-    accepted_after log (Release id count) none (λ other code wrong. cc)
-answered_after log (ResetStream id number) none =
-    accepted_after log (ResetStream id number) none (λ other code wrong. cc)
-answered_after log (SendPing octets) none =
-    accepted_after log (SendPing octets) none (λ id code wrong. cc)
-answered_after log SendGoAway none = accepted_after log SendGoAway none (λ id code wrong. cc)
-answered_after log (PutOut count) none =
-    accepted_after log (PutOut count) none (λ id code wrong. cc)
-answered_after log (ChangeSettings values) none =
-    accepted_after log (ChangeSettings values) none (λ id code wrong. cc)
+answered_after log act none = accepted_after log act none (λ id code wrong. cc)
 
 -- A call that is refused.
 refusal_after : (log : Log) (act : Act) (refusal : Refusal)

@@ -25,10 +25,11 @@ use Rattle.h2_end_laws.proofs.ReadingCalls.{log_read}
 use Rattle.h2_end_laws.proofs.ReadingRules.{LogIsLow}
 use Rattle.h2_end_laws.proofs.ActivityCalls.{active_low}
 use Rattle.h2_end_laws.proofs.ActivityFrames.{active_added, frame_keeps_active, frame_opens}
-use Rattle.h2_end_laws.proofs.ActivityFrames.{HasFields, no_event, was_active, credit_no_block}
+use Rattle.h2_end_laws.proofs.ActivityFrames.{HasFields, was_active, credit_no_block}
 use Rattle.h2_end_laws.proofs.ActivityStays.{harmless_credit, stays_active}
 use Rattle.h2_end_laws.proofs.ActivitySteps.{frame_used, frame_after, part_after, fault_after}
 use Rattle.h2_end_laws.proofs.ActivitySteps.{none_adds, AfterFrame}
+use Rattle.h2_end_laws.proofs.OverEvents.{no_event}
 
 -- Nothing that is answered may close the stream.
 answered_keeps : (i count : ℕ) (event : Option Event) → take_may_close i (Took count event) ≡ false

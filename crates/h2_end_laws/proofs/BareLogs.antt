@@ -1,6 +1,6 @@
 -- Logs that are the same but for their turns and for the limits of payloads: what they read and are
 -- asked makes of them logs that are the same but for these.
-use Rattle.std.proofs.Common.{◌≡◌, ℕ, ◌+◌, max, Bool, true, false, if◌then◌else◌, List, []}
+use Rattle.std.proofs.Common.{◌≡◌, ℕ, ◌+◌, max, List, []}
 use Rattle.std.proofs.Common.{◌∷◌, ◌++◌, Option, Some, None, refl, sym, ap, ap₂, ◌∙◌}
 use Rattle.h2_frame.specs.declared.code.Code.{Code}
 use Rattle.h2_frame.specs.declared.code.Code.TheVariants.{InternalError}
@@ -18,11 +18,12 @@ use Rattle.h2_log.specs.ItemRules.{Decoded, FrameStep, fails_with, begins_block,
 use Rattle.h2_log.specs.ItemRules.{frame_step, replies_to, verdict_of, opened_by}
 use Rattle.h2_log.specs.ItemEffects.{events_of, discarded_flow}
 use Rattle.h2_log.specs.LogSteps.{read, with_sent, with_reported, owed_at_close}
-use Rattle.h2_log.specs.LogSteps.{with_credit_returned, with_unreturned, with_failure, with_verdict}
+use Rattle.h2_log.specs.LogSteps.{with_unreturned, with_failure, with_verdict}
 use Rattle.h2_log.specs.LogSteps.{with_item, with_step, with_frame, took_none}
 use Rattle.h2_log.specs.CallRules.{items_of, refuse_fault, stream_of_act, returns_before_put_out}
 use Rattle.h2_log.specs.CallRules.{returns_credit}
 use Rattle.h2_log.specs.LogCalls.{called, with_items, refused_with, before_put_out, with_call}
+use Rattle.h2_log_laws.proofs.CreditCases.{both_by}
 
 -- a log without its turns, whose payloads may always have 16,384 octets
 abbrev pub bare : Log → Log
@@ -43,7 +44,7 @@ view_bare : (log : Log) → log_view (bare log) ≡ log_view log
 unfolding overflows next_number active_count last_processed max_streams waiting output unreleased
 view_bare log = refl
 
-pub view_same : (log other : Log) → AreSameBare log other → log_view log ≡ log_view other
+view_same : (log other : Log) → AreSameBare log other → log_view log ≡ log_view other
 view_same log other same = sym (view_bare log) ∙ ap (λ (one : Log). log_view one) same
     ∙ view_bare other
 
@@ -103,27 +104,13 @@ reported_same log other events others equal same =
     bare_by (λ one. with_reported one events) (reported_bare events) log other same
     ∙ ap (λ (line : List Event). bare (with_reported other line)) equal
 
--- Credit that is returned.
-returned_bare : (log : Log) → bare (with_credit_returned (bare log))
-    ≡ bare (with_credit_returned log)
-unfolding with_sent
-returned_bare log = refl
-
--- What is due, by the test whether it is returned.
-due_by : (b : Bool) (more : ℕ) (log : Log)
-    → bare (if b then with_credit_returned (record (bare log) {
-      unreturned = log.unreturned + more;
-    }) else record (bare log) { unreturned = log.unreturned + more })
-    ≡ bare (if b then with_credit_returned (record log { unreturned = log.unreturned + more })
-    else record log { unreturned = log.unreturned + more })
-unfolding with_sent
-due_by true more log = refl
-due_by false more log = refl
-
+-- What is due: the logs return all of it, or neither does.
 due_bare : (more : ℕ) (log : Log) → bare (with_unreturned more (bare log))
     ≡ bare (with_unreturned more log)
-unfolding with_unreturned waiting output
-due_bare more log = due_by (returns_credit more (waiting log)) more log
+unfolding with_unreturned with_sent waiting output
+due_bare more log =
+    both_by (λ (one other : Log). bare one ≡ bare other) (returns_credit more (waiting log)) refl
+    refl
 
 due_same : (log other : Log) (more most : ℕ) → more ≡ most → AreSameBare log other
     → AreSameBare (with_unreturned more log) (with_unreturned most other)
@@ -145,7 +132,7 @@ failure_same log other code last final equal same =
     ∙ ap (λ (n : ℕ). bare (with_failure code n other)) equal
 
 -- A failure with the last stream that was processed.
-pub last_failure_same : (log other : Log) (code : Code) → AreSameBare log other
+last_failure_same : (log other : Log) (code : Code) → AreSameBare log other
     → AreSameBare (with_failure code (last_processed log) log)
     (with_failure code (last_processed other) other)
 last_failure_same log other code same =
@@ -258,18 +245,15 @@ refused_same log other act answer (Some code) same =
     failure_same _ _ code _ _ (last_same log other same) (called_same log other act answer same)
 refused_same log other act answer None same = items_same log other act answer same
 
--- What is returned before output is put out, by the test for it.
-ready_by : (b : Bool) (log : Log)
-    → bare (if b then with_credit_returned (bare log) else bare log)
-    ≡ bare (if b then with_credit_returned log else log)
-ready_by true log = returned_bare log
-ready_by false log = refl
-
+-- What is returned before output is put out.
 ready_bare : (log : Log) → bare (before_put_out (bare log)) ≡ bare (before_put_out log)
-unfolding before_put_out
+unfolding before_put_out with_sent
 ready_bare log =
-    ap (λ (view : View). bare (if returns_before_put_out view then with_credit_returned (bare log)
-    else bare log)) (view_bare log) ∙ ready_by (returns_before_put_out (log_view log)) log
+    let test : returns_before_put_out (log_view (bare log))
+    ≡ returns_before_put_out (log_view log) =
+    ap (λ (view : View). returns_before_put_out view) (view_bare log) in
+    rw test (both_by (λ (one other : Log). bare one ≡ bare other)
+    (returns_before_put_out (log_view log)) refl refl)
 
 -- After output was put out.
 put_out_same : (log other : Log) (act : Act) (answer : Answer) (given : ℕ) → AreSameBare log other

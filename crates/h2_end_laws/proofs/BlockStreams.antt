@@ -4,8 +4,8 @@ use Rattle.std.proofs.Common.{if◌then◌else◌, Option, Some, None, refl, sym
 use Rattle.std.proofs.lemmas.Bool.{eqb-true, ltb-true, ltb-false}
 use Rattle.h2_frame.specs.declared.code.Code.{Code}
 use Rattle.h2_frame.specs.declared.code.Code.TheVariants.{ProtocolError}
-use Rattle.h2_frame.specs.Frames.{Frame, Data, Headers, Priority, Reset, Settings, Ping, GoAway}
-use Rattle.h2_frame.specs.Frames.{WindowUpdate, Continuation, Unknown}
+use Rattle.h2_frame.specs.Frames.{Frame, Headers}
+use Rattle.h2_frame.specs.Frames.{Continuation}
 use Rattle.h2_frame.specs.Encoding.{stream_of}
 use Rattle.h2_block.specs.declared.fault.BlockFault.{BlockFault}
 use Rattle.h2_block.specs.declared.fault.BlockFault.TheVariants.{Interrupted}
@@ -36,28 +36,10 @@ grouped_on : (begun : Option Begun) (frame : Frame) → next_fault begun frame �
     → IsStepOn frame (grouped begun frame)
 unfolding grouped stream_of fault_inside
 grouped_on None (Headers stream end true fragment pad priority) sound = refl
-grouped_on None (Headers stream end false fragment pad priority) sound = tt
-grouped_on None (Data stream end octets pad) sound = tt
-grouped_on None (Priority stream octets) sound = tt
-grouped_on None (Reset stream code) sound = tt
-grouped_on None (Settings ack pairs) sound = tt
-grouped_on None (Ping ack octets) sound = tt
-grouped_on None (GoAway last code debug) sound = tt
-grouped_on None (WindowUpdate stream increment) sound = tt
-grouped_on None (Continuation stream whole fragment) sound = tt
-grouped_on None (Unknown kind flags stream payload) sound = tt
 grouped_on (Some begun) (Continuation stream true fragment) sound =
     inside_by (stream == begun.stream) stream begun.stream _ refl sound
-grouped_on (Some begun) (Continuation stream false fragment) sound = tt
-grouped_on (Some begun) (Headers stream end whole fragment pad priority) sound = tt
-grouped_on (Some begun) (Data stream end octets pad) sound = tt
-grouped_on (Some begun) (Priority stream octets) sound = tt
-grouped_on (Some begun) (Reset stream code) sound = tt
-grouped_on (Some begun) (Settings ack pairs) sound = tt
-grouped_on (Some begun) (Ping ack octets) sound = tt
-grouped_on (Some begun) (GoAway last code debug) sound = tt
-grouped_on (Some begun) (WindowUpdate stream increment) sound = tt
-grouped_on (Some begun) (Unknown kind flags stream payload) sound = tt
+grouped_on None other sound = tt
+grouped_on (Some begun) other sound = tt
 
 step_by : (begun : Option Begun) (frame : Frame) (fault : Option BlockFault)
     → next_fault begun frame ≡ fault → IsStepOn frame (grouping_step begun frame fault)

@@ -23,25 +23,23 @@ use Rattle.h2_log.specs.LogCalls.{called, with_items, with_call}
 use Rattle.h2_log_laws.proofs.CallConditions.{none_holds}
 use Rattle.h2_log_laws.proofs.LogViewLemmas.{count_by_sums, stream_is_active}
 use Rattle.h2_log_laws.proofs.WindowsOfTwoEnds.{total-append}
+use Rattle.h2_log_laws.proofs.ItemLists.{total_none}
+use Rattle.h2_log_laws.proofs.ReplyInvariant.{chosen_low}
 use Rattle.h2_end_laws.specs.Written.{IsCredit}
-use Rattle.h2_end_laws.proofs.ReceiveWindows.{total_none, total_one}
+use Rattle.h2_end_laws.proofs.ReceiveWindows.{total_one}
 use Rattle.h2_end_laws.proofs.WrittenSteps.{Puts, puts_items}
 
 -- DATA without padding takes at most its octets of a stream.
-takes_on : (i id : ℕ) (end : Bool) (octets : List ℕ)
+few_on_stream : (i id : ℕ) (end : Bool) (octets : List ℕ)
     → data_on i (alone (Data id end octets None)) ≤ length octets
 unfolding data_on payload_of
-takes_on i id end octets = takes_by (id == i) (length octets)
-  where
-    takes_by : (b : Bool) (n : ℕ) → (if b then n else 0) ≤ n
-    takes_by true n = omega arith
-    takes_by false n = omega arith
+few_on_stream i id end octets = chosen_low (id == i) (length octets)
 
 -- It takes at most its octets of the connection.
-takes_of : (id : ℕ) (end : Bool) (octets : List ℕ)
+few_on_connection : (id : ℕ) (end : Bool) (octets : List ℕ)
     → data_of (alone (Data id end octets None)) ≤ length octets
 unfolding data_of payload_of
-takes_of id end octets = omega arith
+few_on_connection id end octets = omega arith
 
 -- A total of one item is its number.
 total_single : (f : Item → ℕ) (item : Item) → total f (item ∷ []) ≡ f item
@@ -156,7 +154,7 @@ one_count : (n m : ℕ) → Count n ≡ Count m → n ≡ m
 one_count n m is = cc
 
 -- the stream that sends DATA is active
-data_active : (log : Log) (id : ℕ) (octets : List ℕ) (end : Bool)
+pub data_active : (log : Log) (id : ℕ) (octets : List ℕ) (end : Bool)
     → refusal_of (log_view log) (SendData id octets end) ≡ None → active log id ≡ true
 unfolding conditions
 data_active log id octets end none = stream_is_active log id (none_holds _ none).1.0
@@ -179,9 +177,10 @@ windows_hold log id count octets end none answer some =
     let most = max_payload_sent log in
     rw (puts.2.sent, puts.2.received) (
       not_negative (given_on id log.received) _
-          (fits_after (data_on id) (takes_on id) (update_on id) credit log.sent most id octets end
+          (fits_after (data_on id) (few_on_stream id) (update_on id) credit log.sent most id
+          octets end
           count (given_on id log.received) puts.1 fits.0 fits.1),
       not_negative (given_on_connection log.received) _
-          (fits_after data_of takes_of update_of credit log.sent most id octets end
+          (fits_after data_of few_on_connection update_of credit log.sent most id octets end
           count (given_on_connection log.received) puts.1 fits.0 fits.2),
     )

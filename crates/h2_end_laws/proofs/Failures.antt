@@ -1,7 +1,8 @@
 -- What an end that has failed has written last: GOAWAY with its code, and nothing after it.
-use Rattle.std.proofs.Common.{◌≡◌, ◌≤◌, ℕ, ◌&&◌, not, max, Bool, true, false, if◌then◌else◌, List}
+use Rattle.std.proofs.Common.{◌≡◌, ◌≤◌, ℕ, ◌&&◌, not, max, Bool, true, false, List}
 use Rattle.std.proofs.Common.{[], ◌∷◌, ◌++◌, Option, Some, None, is_some, refl, sym, ap, ◌∙◌, inl}
 use Rattle.std.proofs.Common.{inr, arith, subst}
+use Rattle.std.proofs.Common.{◌+◌}
 use Rattle.std.proofs.lemmas.Bool.{both_ways}
 use Rattle.h2_frame.specs.declared.code.Code.{Code}
 use Rattle.h2_frame.specs.declared.code.Code.TheVariants.{InternalError}
@@ -22,14 +23,16 @@ use Rattle.h2_log.specs.LogView.{log_view}
 use Rattle.h2_log.specs.ItemRules.{Decoded, FrameStep, fails_with, begins_block, completes}
 use Rattle.h2_log.specs.ItemRules.{opened_by, frame_step}
 use Rattle.h2_log.specs.CallRules.{conditions, refusal_of, has_failed, refuse_fault}
-use Rattle.h2_log.specs.CallRules.{may_lack_memory, returns_before_put_out}
+use Rattle.h2_log.specs.CallRules.{may_fail_for_memory}
 use Rattle.h2_log.specs.LogSteps.{used, with_sent, with_reported, with_unreturned}
-use Rattle.h2_log.specs.LogSteps.{with_credit_returned, with_failure, with_verdict, with_step}
+use Rattle.h2_log.specs.LogSteps.{with_failure, with_verdict, with_step}
 use Rattle.h2_log.specs.LogSteps.{with_frame}
-use Rattle.h2_log.specs.LogCalls.{called, with_items, refused_with, before_put_out, with_call}
+use Rattle.h2_log.specs.LogCalls.{called, with_items, refused_with, with_call}
 use Rattle.h2_log.specs.LogCalls.{MayAnswer, accepts, refuses, lacks, fails, opened}
 use Rattle.h2_log.specs.Histories.{IsLog, begins, took_some, took_one, met_fault, ran_out_of_memory}
 use Rattle.h2_log.specs.Histories.{reported_one, called_one}
+use Rattle.h2_log_laws.proofs.CreditCases.{put_out_cases}
+use Rattle.h2_log_laws.proofs.PartsStay.{SamePart, stays_written}
 use Rattle.h2_log_laws.proofs.CallConditions.{none_holds}
 use Rattle.h2_log_laws.proofs.GrowthBySteps.{HoldsOfWrites, holds_sent, holds_unreturned}
 use Rattle.h2_log_laws.proofs.GrowthBySteps.{holds_sent_unreturned, holds_items, holds_ready}
@@ -38,17 +41,12 @@ use Rattle.h2_end_laws.proofs.BlockStreams.{IsItemOn, IsStepOn, step_on, opened_
 
 -- The second log has failed with the code of the first, or neither has failed.
 abbrev FailedAs : Log → Log → Type 0
-FailedAs old new = new.failed ≡ old.failed
+FailedAs = SamePart (λ log. log.failed)
 
 -- What is written and what is unreturned fail nothing.
 failed_as : HoldsOfWrites FailedAs
 failed_as =
-    record {
-      none = λ log. refl;
-      twice = λ one two three a b. b ∙ a;
-      sent = λ log item items. refl;
-      unreturned = λ log count. refl;
-    }
+    stays_written (λ log. log.failed) (λ log sent written turns. refl) (λ log count. refl)
 
 pub sent_failed : (log : Log) (items : List Item) → (with_sent log items).failed ≡ log.failed
 sent_failed log items = holds_sent FailedAs failed_as log items
@@ -56,7 +54,7 @@ sent_failed log items = holds_sent FailedAs failed_as log items
 pub unreturned_failed : (more : ℕ) (log : Log) → (with_unreturned more log).failed ≡ log.failed
 unreturned_failed more log = holds_unreturned FailedAs failed_as more log
 
-items_failed : (log : Log) (act : Act) (answer : Answer)
+pub items_failed : (log : Log) (act : Act) (answer : Answer)
     → (with_items log act answer).failed ≡ log.failed
 items_failed log act answer = holds_items FailedAs failed_as log act answer
 
@@ -101,7 +99,7 @@ fails_ends fault last log processed exact code is =
     })
 
 -- What was up and hasn't changed isn't failed.
-still_up : {Goal : Type 0} (old new : Option Code) (code : Code) → old ≡ None
+pub still_up : {Goal : Type 0} (old new : Option Code) (code : Code) → old ≡ None
     → new ≡ old → new ≡ Some code → Goal
 still_up old new code up same is = none_some code (sym up ∙ sym same ∙ is)
 
@@ -196,20 +194,6 @@ unfolding conditions
 only_put_out view (PutOut count) failed none = (count, refl)
 only_put_out view act failed none = absurd (both_ways _ (none_holds _ none).0 failed)
 
--- Output that is put out where nothing is returned first, by the test whether it is.
-same_put_out_by : (log put : Log) (given : ℕ) (b : Bool) → b ≡ false → SameOutput log put
-    → SameOutput log (record (if b then with_credit_returned put else put) { given = given })
-same_put_out_by log put given true not_set same = absurd (both_ways true not_set refl)
-same_put_out_by log put given false not_set same =
-    record {
-      role = same.role;
-      frames = same.frames;
-      sent = same.sent;
-      written = same.written;
-      reported = same.reported;
-      failed = same.failed;
-    }
-
 -- The output stays the same where a call is refused.
 same_called : (log : Log) (act : Act) (answer : Answer) → SameOutput log (called log act answer)
 same_called log act answer =
@@ -230,17 +214,25 @@ no_return failed code b is = rw is refl
 -- And where output is put out of a connection that has failed.
 same_put_out : (log : Log) (code : Code) (count given : ℕ) → log.failed ≡ Some code
     → SameOutput log (with_call log (PutOut count) (Count given))
-unfolding with_call before_put_out
+unfolding with_call
 same_put_out log code count given failed =
     let put = called log (PutOut count) (Count given) in
-    same_put_out_by log put _ (returns_before_put_out (log_view put))
-    (no_return log.failed code _ failed) (same_called log (PutOut count) (Count given))
+    put_out_cases (λ ready. SameOutput log (record ready { given = log.given + given })) put
+    (λ returns. absurd (both_ways _ (no_return log.failed code _ failed) returns))
+    (λ keeps. record {
+      role = refl;
+      frames = refl;
+      sent = refl;
+      written = refl;
+      reported = refl;
+      failed = refl;
+    })
 
 -- No call of a connection that has failed writes.
 pub same_output : (log : Log) (code : Code) (act : Act) (answer : Answer)
     → log.failed ≡ Some code → MayAnswer log act answer
     → SameOutput log (with_call log act answer)
-unfolding with_call may_lack_memory
+unfolding with_call may_fail_for_memory
 same_output log code act answer failed (accepts none is) =
     let put = only_put_out (log_view log) act (ap is_some failed) none in
     rw (is, put.1) (same_put_out log code put.0 _ failed)
@@ -250,7 +242,7 @@ same_output log code act answer failed (lacks none may is) =
     rw is (same_called log act (Refused Memory))
 same_output log code act answer failed (fails none may is) =
     let put = only_put_out (log_view log) act (ap is_some failed) none in
-    absurd (both_ways _ (rw put.1 at may) refl)
+    absurd (both_ways _ refl (rw put.1 at may))
 
 -- GOAWAY that stands last still does in a log with the same output.
 ends_still : (old new : Log) (code : Code) → SameOutput old new → EndsInGoAway old code

@@ -6,8 +6,8 @@ use Rattle.h2_frame.specs.declared.code.Code.{Code}
 use Rattle.h2_frame.specs.declared.code.Code.TheVariants.{ProtocolError, FlowControlError}
 use Rattle.h2_frame.specs.declared.code.Code.TheVariants.{StreamClosed, RefusedStream}
 use Rattle.h2_frame.specs.declared.code.Code.TheVariants.{EnhanceYourCalm}
-use Rattle.h2_frame.specs.Frames.{Data, Headers, Priority, Reset, Settings, Ping, GoAway}
-use Rattle.h2_frame.specs.Frames.{WindowUpdate, Continuation, Unknown}
+use Rattle.h2_frame.specs.Frames.{Data, Reset, Settings, Ping}
+use Rattle.h2_frame.specs.Frames.{WindowUpdate}
 use Rattle.h2_block.specs.Grouping.{Item, alone, block}
 use Rattle.h2_log.specs.States.{State, Idle, Active, ClosedByUs, Closed}
 use Rattle.h2_log.specs.View.{View}
@@ -74,11 +74,9 @@ update_coded : (codes : List Code) (state : State) (increment : ℕ) (above : Bo
     → Contains codes ProtocolError → Contains codes FlowControlError
     → HasCode codes (update_verdict state increment above)
 unfolding update_verdict
-update_coded codes Idle increment above protocol flow = tt
-update_coded codes ClosedByUs increment above protocol flow = tt
-update_coded codes Closed increment above protocol flow = tt
 update_coded codes Active increment above protocol flow =
     updated_by codes (increment == 0) above protocol flow
+update_coded codes other increment above protocol flow = tt
 
 connection_coded : (codes : List Code) (none above : Bool)
     → HasCode codes (if none then ConnectionFault ProtocolError
@@ -135,22 +133,17 @@ rules_coded view (Some decoded) (block stream end octets) =
     (third_of StreamClosed RefusedStream EnhanceYourCalm [])
 rules_coded view decoded (alone (Data stream end octets pad)) =
     data_coded (StreamClosed ∷ []) (view.state stream) _ _ _ (first_of StreamClosed [])
-rules_coded view decoded (alone (Headers stream end last fragment pad priority)) = tt
-rules_coded view decoded (alone (Priority stream octets)) = tt
 rules_coded view decoded (alone (Reset stream code)) = reset_coded [] (view.state stream)
 rules_coded view decoded (alone (Settings false pairs)) =
     settings_coded [] (settings_fault view pairs)
 rules_coded view decoded (alone (Settings true pairs)) = reply_coded [] view.settings_wait
-rules_coded view decoded (alone (Ping false octets)) = tt
 rules_coded view decoded (alone (Ping true octets)) =
     reply_coded [] (is_awaited_ping octets view.ping)
-rules_coded view decoded (alone (GoAway last code debug)) = tt
 rules_coded view decoded (alone (WindowUpdate stream increment)) =
     updates_coded (ProtocolError ∷ FlowControlError ∷ []) (stream == 0) (view.state stream)
     increment _ _ (first_of ProtocolError (FlowControlError ∷ []))
     (second_of ProtocolError FlowControlError [])
-rules_coded view decoded (alone (Continuation stream last fragment)) = tt
-rules_coded view decoded (alone (Unknown kind flags stream payload)) = tt
+rules_coded view decoded (alone frame) = tt
 
 -- The limits make nothing more of a verdict than a fault of the connection.
 limits_coded : (codes : List Code) (b : Bool) (verdict : Verdict) → HasCode codes verdict

@@ -17,7 +17,7 @@ use Rattle.h2_log.specs.declared.role.Role.{Role}
 use Rattle.h2_log.specs.Events.{Event}
 use Rattle.h2_log.specs.Acts.{Values}
 use Rattle.h2_log.specs.Log.{Log}
-use Rattle.h2_log.specs.Verdicts.{Verdict, ConnectionFault, StreamFault, NoEvent, Reported}
+use Rattle.h2_log.specs.Verdicts.{Verdict, ConnectionFault}
 use Rattle.h2_log.specs.LogView.{log_view}
 use Rattle.h2_log.specs.ItemRules.{Decoded, FrameStep, fails_with, begins_block, completes}
 use Rattle.h2_log.specs.ItemRules.{frame_step, grouping_step, grouped, may_be_first}
@@ -82,7 +82,7 @@ grouped_up log groups =
     }
 
 -- All frames of a log that hasn't failed group.
-groups_now : (log : Log) → AreGrouped log → log.failed ≡ None
+pub groups_now : (log : Log) → AreGrouped log → log.failed ≡ None
     → Groups log.frames (oldest_first log.received) log.begun
 groups_now log are up =
     let nothing = are.up up in
@@ -155,11 +155,7 @@ grouped_verdict : (old log : Log) (decoded : Option Decoded) (item : Item) (verd
 unfolding with_verdict
 grouped_verdict old log decoded item (ConnectionFault code) frame frames received before groups =
     grouped_fails old log frame code _ frames received before
-grouped_verdict old log decoded item (StreamFault code) frame frames received before groups =
-    grouped_replied log decoded item _ _ _ groups
-grouped_verdict old log decoded item NoEvent frame frames received before groups =
-    grouped_replied log decoded item _ _ _ groups
-grouped_verdict old log decoded item Reported frame frames received before groups =
+grouped_verdict old log decoded item other frame frames received before groups =
     grouped_replied log decoded item _ _ _ groups
 
 -- The log with one more frame.

@@ -16,19 +16,20 @@ use Rattle.h2_wire.proofs.ReadingLemmas.{none_some, one_code}
 use Rattle.h2_log.specs.declared.role.Role.{Role}
 use Rattle.h2_log.specs.Settings.{value_fault, peer_of, is_server}
 use Rattle.h2_log.specs.States.{State, Idle, Active, ClosedByUs, Closed}
-use Rattle.h2_log.specs.Verdicts.{Verdict, ConnectionFault, StreamFault, NoEvent, Reported}
+use Rattle.h2_log.specs.Verdicts.{Verdict, ConnectionFault}
 use Rattle.h2_log.specs.Verdicts.{data_verdict, reset_verdict, connection_update_verdict}
 use Rattle.h2_log.specs.Verdicts.{update_verdict, block_verdict, opening_verdict}
 use Rattle.h2_log.specs.View.{View}
 use Rattle.h2_log.specs.ItemRules.{Decoded, FrameStep, fails_with, begins_block, completes}
 use Rattle.h2_log.specs.ItemRules.{settings_fault, first_fault, verdict_of_fault, verdict_by_rules}
 use Rattle.h2_log.specs.ItemRules.{verdict_of_block, over_limits, verdict_of, grouped}
-use Rattle.h2_log.specs.ItemRules.{grouping_step, frame_step, may_be_first, is_awaited_ping}
-use Rattle.h2_log.specs.Log.{Log, last_processed}
+use Rattle.h2_log.specs.ItemRules.{grouping_step, frame_step, is_awaited_ping}
+use Rattle.h2_log.specs.Log.{Log}
 use Rattle.h2_log.specs.LogView.{log_view}
-use Rattle.h2_log.specs.LogSteps.{used, with_failure, with_sent, with_verdict, with_step, with_frame}
+use Rattle.h2_log.specs.LogSteps.{used, with_verdict, with_step, with_frame}
 use Rattle.h2_log.specs.LogSteps.{took_frame}
 use Rattle.h2_end_laws.proofs.Failures.{replied_failed}
+use Rattle.h2_end_laws.proofs.Failures.{still_up}
 
 -- The verdict isn't that the connection fails with INTERNAL_ERROR.
 abbrev IsNot : Verdict → Type 0
@@ -63,11 +64,9 @@ connection_not increment above =
 update_not : (state : State) (increment : ℕ) (above : Bool)
     → IsNot (update_verdict state increment above)
 unfolding update_verdict
-update_not Idle increment above = λ is. cc
-update_not ClosedByUs increment above = λ is. cc
-update_not Closed increment above = λ is. cc
 update_not Active increment above =
     if_not (increment == 0) _ _ (λ is. cc) (if_not above _ _ (λ is. cc) (λ is. cc))
+update_not other increment above = λ is. cc
 
 opening_not : (left full large : Bool) → IsNot (opening_verdict left full large)
 unfolding opening_verdict
@@ -127,27 +126,22 @@ rules_not : (view : View) (decoded : Option Decoded) (item : Item)
 unfolding verdict_by_rules
 rules_not view decoded (block stream end octets) = decoded_not view stream decoded
 rules_not view decoded (alone (Data stream end octets pad)) = data_not _ _ _ _
-rules_not view decoded (alone (Headers stream end whole fragment pad priority)) = λ is. cc
-rules_not view decoded (alone (Priority stream octets)) = λ is. cc
 rules_not view decoded (alone (Reset stream code)) = reset_not _
 rules_not view decoded (alone (Settings false pairs)) =
     fault_not (settings_fault view pairs) (settings_not view pairs)
 rules_not view decoded (alone (Settings true pairs)) =
     if_not view.settings_wait _ _ (λ is. cc) (λ is. cc)
-rules_not view decoded (alone (Ping false octets)) = λ is. cc
 rules_not view decoded (alone (Ping true octets)) =
     if_not (is_awaited_ping octets view.ping) _ _ (λ is. cc) (λ is. cc)
-rules_not view decoded (alone (GoAway last code debug)) = λ is. cc
 rules_not view decoded (alone (WindowUpdate stream increment)) =
     if_not (stream == 0) _ _ (connection_not increment _) (update_not _ increment _)
-rules_not view decoded (alone (Continuation stream whole fragment)) = λ is. cc
-rules_not view decoded (alone (Unknown kind flags stream payload)) = λ is. cc
+rules_not view decoded (alone frame) = λ is. cc
 
 calm_not : IsNot (ConnectionFault EnhanceYourCalm)
 calm_not = λ is. cc
 
 -- The verdict on an item never is.
-pub verdict_not : (view : View) (decoded : Option Decoded) (item : Item)
+verdict_not : (view : View) (decoded : Option Decoded) (item : Item)
     → verdict_of view decoded item ≢ ConnectionFault InternalError
 unfolding verdict_of over_limits
 verdict_not view decoded item = if_not _ _ _ calm_not (rules_not view decoded item)
@@ -165,29 +159,13 @@ inside_only false long = long_only long
 
 never_memory : (begun : Option Begun) (frame : Frame) → next_fault begun frame ≢ Some faults.Memory
 unfolding fault_outside fault_inside
-never_memory None (Data stream end octets pad) = λ is. cc
 never_memory None (Headers stream end whole fragment pad priority) =
     long_only (nat_lt max_block_octets (length fragment))
-never_memory None (Priority stream octets) = λ is. cc
-never_memory None (Reset stream code) = λ is. cc
-never_memory None (Settings ack pairs) = λ is. cc
-never_memory None (Ping ack octets) = λ is. cc
-never_memory None (GoAway last code debug) = λ is. cc
-never_memory None (WindowUpdate stream increment) = λ is. cc
-never_memory None (Continuation stream whole fragment) = λ is. cc
-never_memory None (Unknown kind flags stream payload) = λ is. cc
 never_memory (Some begun) (Continuation stream whole fragment) =
     inside_only (not (stream == begun.stream))
     (nat_lt max_block_octets (length begun.octets + length fragment))
-never_memory (Some begun) (Data stream end octets pad) = λ is. cc
-never_memory (Some begun) (Headers stream end whole fragment pad priority) = λ is. cc
-never_memory (Some begun) (Priority stream octets) = λ is. cc
-never_memory (Some begun) (Reset stream code) = λ is. cc
-never_memory (Some begun) (Settings ack pairs) = λ is. cc
-never_memory (Some begun) (Ping ack octets) = λ is. cc
-never_memory (Some begun) (GoAway last code debug) = λ is. cc
-never_memory (Some begun) (WindowUpdate stream increment) = λ is. cc
-never_memory (Some begun) (Unknown kind flags stream payload) = λ is. cc
+never_memory None other = λ is. cc
+never_memory (Some begun) other = λ is. cc
 
 -- The step of a frame doesn't fail the connection with it.
 abbrev StepIsNot : FrameStep → Type 0
@@ -245,11 +223,6 @@ step_not view frame =
     choose_not _ _ _ protocol_not
     (grouping_not view.begun frame (next_fault view.begun frame) (never_memory view.begun frame))
 
--- What was up and hasn't changed hasn't failed.
-still : {Goal : Type 0} (old new : Option Code) (code : Code) → old ≡ None → new ≡ old
-    → new ≡ Some code → Goal
-still old new code up same is = none_some code (sym up ∙ sym same ∙ is)
-
 verdict_up : (log : Log) (decoded : Option Decoded) (item : Item) (verdict : Verdict)
     → log.failed ≡ None → verdict ≢ ConnectionFault InternalError
     → (with_verdict log decoded item verdict).failed ≢ Some InternalError
@@ -257,12 +230,8 @@ unfolding with_verdict
 verdict_up log decoded item (ConnectionFault code) up other = λ is.
     let same : code ≡ InternalError = one_code code InternalError is in
     other (ap ConnectionFault same)
-verdict_up log decoded item (StreamFault code) up other =
-    still log.failed _ InternalError up (replied_failed log _ _ _ _ refl)
-verdict_up log decoded item NoEvent up other =
-    still log.failed _ InternalError up (replied_failed log _ _ _ _ refl)
-verdict_up log decoded item Reported up other =
-    still log.failed _ InternalError up (replied_failed log _ _ _ _ refl)
+verdict_up log decoded item another up other =
+    still_up log.failed _ InternalError up (replied_failed log _ _ _ _ refl)
 
 step_up : (log : Log) (decoded : Option Decoded) (step : FrameStep) → log.failed ≡ None
     → step ≢ fails_with InternalError

@@ -27,6 +27,7 @@ use Rattle.h2_end_laws.specs.Takes.{TakeAnswer, Took, Failed, events_answered, A
 use Rattle.h2_end_laws.specs.Takes.{MayTake, has_failed, reports_unprocessed, ends_no_frame}
 use Rattle.h2_end_laws.specs.Takes.{ends_frame, meets_fault, runs_out_of_memory, HadMemory}
 use Rattle.h2_end_laws.proofs.FrameEnds.{same_piece, no_frame_in, no_frame_at_fault}
+use Rattle.h2_end_laws.proofs.Runs.{one_last}
 
 -- What is decoded is made of its fields and the table after it.
 made_of : List Field → Entries → Decoded
@@ -124,14 +125,6 @@ frame_fault log piece octets unused others left frame fault framed at joined aga
     (log.input ++ others) (log.input ++ octets) left unused fault (fault_made log others fault at)
     framed (one_line log.input piece others left octets unused again joined)
 
--- the last of two lists that are one
-pub same_last : (frames : List Frame) (frame other : Frame)
-    → frames ++ frame ∷ [] ≡ frames ++ other ∷ [] → frame ≡ other
-same_last [] frame other same = cc
-same_last (first ∷ frames) frame other same =
-    let following : frames ++ frame ∷ [] ≡ frames ++ other ∷ [] = cc in
-    same_last frames frame other following
-
 -- Two calls answer the same, and have the same log after them.
 abbrev IsSame : (answer answered : TakeAnswer) (after other : Log) → Type 0
 IsSame answer answered after other = (answer ≡ answered) × (after ≡ other)
@@ -153,7 +146,7 @@ one_frame log after other piece octets unused others left frame another decoded 
     let used : octets ≡ others = same_following log.input log.input octets others refl stream in
     let completed_now : TakesFrame log.role log octets another =
     subst (λ (o : List ℕ). TakesFrame log.role log o another) (sym used) completed in
-    let frames : frame ≡ another = same_last log.frames frame another
+    let frames : frame ≡ another = one_last log.frames frame another
     (one_reading_lem (is_server log.role) (limits_from log) (log.input ++ octets) _ _ [] [] framed
     completed_now).0 in
     let reads_now : IsDecodedFor log seen frame =

@@ -39,11 +39,23 @@ items_begin role limits octets more frames sent read groups =
     }
 
 -- What is written of a log, of its role.
-written_of : (role : Role) (log : Log) → log.role ≡ role → log.written
+pub written_of : (role : Role) (log : Log) → log.role ≡ role → log.written
     ≡ expected_preface (not (is_server log.role)) ++ encoding_of_items max_frame_size_sent log.sent
     → log.written
     ≡ expected_preface (not (is_server role)) ++ encoding_of_items max_frame_size_sent log.sent
 written_of role log same written = rw same at written
+
+-- All that a log has written is read as the frames of its items, where these can be sent.
+pub output_read : (role : Role) (values : Values) (log : Log) (limits : Limits)
+    → IsLog role values log → ((place : ℕ) → max_frame_size_sent ≤ limits place)
+    → AllByRecursion (IsSendable max_frame_size_sent) log.sent
+    → Frames (not (is_server role)) limits log.written
+    (frames_of_items max_frame_size_sent log.sent) []
+output_read role values log limits is high sendable =
+    rw (written_of role log (stream_of_log role values log is).role
+    (turns_report role values log is).items)
+    (items_read max_frame_size_sent (not (is_server role)) limits log.sent (omega arith) high
+    sendable)
 
 -- A prefix of what a log has written, whose items can be sent.
 pub output_begins : (role : Role) (values : Values) (log : Log) (limits : Limits)
@@ -52,10 +64,6 @@ pub output_begins : (role : Role) (values : Values) (log : Log) (limits : Limits
     → AllByRecursion (IsSendable max_frame_size_sent) log.sent
     → IsPrefixOfItems role limits octets log.sent
 output_begins role values log limits octets more is joined high sendable =
-    let written = written_of role log (stream_of_log role values log is).role
-    (turns_report role values log is).items in
-    let read = items_read max_frame_size_sent (not (is_server role)) limits log.sent (omega arith)
-    high sendable in
     items_begin role limits octets more (frames_of_items max_frame_size_sent log.sent) log.sent
-    (rw (← written, joined) at read)
+    (rw joined at (output_read role values log limits is high sendable))
     (items_grouped max_frame_size_sent log.sent (omega arith) sendable)

@@ -24,7 +24,7 @@ use Rattle.h2_end_laws.proofs.OverNumbers.{open_answer, fields_active, used_belo
 use Rattle.h2_end_laws.proofs.OverSteps.{Holds, call_keeps}
 
 -- Where neither of two lists has such an item, their line has none.
-none_of_both : (p : Item → Bool) (one other : List Item) → list_any p one ≡ false
+pub none_of_both : (p : Item → Bool) (one other : List Item) → list_any p one ≡ false
     → list_any p other ≡ false → list_any p (one ++ other) ≡ false
 none_of_both p one other none no_other =
     false_from_ne_true _ (λ some. elim (any_either p one other some) [

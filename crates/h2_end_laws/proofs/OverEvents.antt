@@ -36,13 +36,14 @@ abbrev pub IsTaken : (before after : Log) → ℕ → Type 0
 IsTaken before after i = (Holds (IsPast i) before → ⊥) × Holds (WasUsed i) after
 
 -- A list isn't itself with one event more.
-no_event : {Goal : Type 0} (event : Event) (events : List Event) → events ≡ event ∷ events → Goal
+pub no_event : {Goal : Type 0} (event : Event) (events : List Event) → events ≡ event ∷ events
+    → Goal
 no_event event events is =
     let counted : length events ≡ suc (length events) = ap length is in
     absurd (omega (arith, counted))
 
 -- The event before the same events is the same.
-same_event : (event other : Event) (events : List Event) → event ∷ events ≡ other ∷ events
+pub same_event : (event other : Event) (events : List Event) → event ∷ events ≡ other ∷ events
     → event ≡ other
 same_event event other events is = cc
 
@@ -73,7 +74,7 @@ of_message P Q (alone (Data stream end octets pad)) goes is = goes stream is
 of_message P Q (alone frame) goes is = tt
 
 -- What was reported in the end, of an item that was read and replied to.
-replied_reported : (log : Log) (more : ℕ) (replies : List Item) (events : List Event)
+pub replied_reported : (log : Log) (more : ℕ) (replies : List Item) (events : List Event)
     → (with_reported (with_unreturned more (with_sent log replies)) events).reported
     ≡ events ++ log.reported
 replied_reported log more replies events =

@@ -1,16 +1,16 @@
 -- The numbers of streams that calls open: each is the next one, which is above all that were used.
-use Rattle.std.proofs.Common.{◌≡◌, ℕ, ◌≤◌, ◌<◌, ◌+◌, ◌%◌, ◌==◌, ◌&&◌, nat_le, Bool, true, false}
-use Rattle.std.proofs.Common.{if◌then◌else◌, List, [], ◌∷◌, ◌++◌, refl, sym, ap, ◌∙◌, inl, inr}
+use Rattle.std.proofs.Common.{◌≡◌, ℕ, ◌≤◌, ◌<◌, ◌+◌, ◌%◌, ◌==◌, Bool, true, false}
+use Rattle.std.proofs.Common.{if◌then◌else◌, List, ◌∷◌, ◌++◌, refl, sym, ap, ◌∙◌}
 use Rattle.std.proofs.Common.{arith, subst}
 use Rattle.std.specs.List.{list_any}
-use Rattle.std.proofs.lemmas.Bool.{both_ways, or_cases, or_left, and_parts, and_from, eqb-true}
-use Rattle.std.proofs.lemmas.Bool.{eq-eqb, leb-true, false_from_ne_true}
+use Rattle.std.proofs.lemmas.Bool.{or_left, and_parts, and_from, eqb-true}
+use Rattle.std.proofs.lemmas.Bool.{eq-eqb, false_from_ne_true}
 use Rattle.hpack.specs.declared.types.field.Field.{Field}
-use Rattle.h2_block.specs.Grouping.{Item, alone, block}
+use Rattle.h2_block.specs.Grouping.{Item, block}
 use Rattle.h2_log.specs.declared.role.Role.{Role}
 use Rattle.h2_log.specs.declared.role.Role.TheVariants.{Client, Server}
 use Rattle.h2_log.specs.Acts.{Values, Open, SendFields, Number, Done}
-use Rattle.h2_log.specs.Items.{is_block_on, opens_from, greatest_block}
+use Rattle.h2_log.specs.Items.{is_block_on, greatest_block}
 use Rattle.h2_log.specs.Settings.{is_server}
 use Rattle.h2_log.specs.States.{is_used}
 use Rattle.h2_log.specs.Log.{Log, active, next_number}
@@ -26,13 +26,10 @@ use Rattle.h2_log_laws.proofs.LogGrowth.{grows_call}
 use Rattle.h2_log_laws.proofs.LogViewLemmas.{stream_is_active}
 use Rattle.h2_log_laws.proofs.ReaderStates.{opens_here}
 use Rattle.h2_log_laws.proofs.StreamNumbers.{next_odd}
+use Rattle.h2_log_laws.proofs.StreamNumbers.{opens_low}
+use Rattle.h2_log_laws.proofs.InvariantSends.{client_since}
 use Rattle.h2_end_laws.specs.Over.{used}
 use Rattle.h2_end_laws.proofs.WrittenSteps.{call_writes}
-
--- What is no server is a client.
-client_by : (role : Role) → is_server role ≡ false → role ≡ Client
-client_by Client is = refl
-client_by Server is = absurd (both_ways true is refl)
 
 -- The number that a client's call answers.
 number_by : (role : Role) (id n : ℕ) → role ≡ Client
@@ -50,7 +47,7 @@ pub open_answer : (log : Log) (fields : List Field) (end : Bool) (id : ℕ)
     → MayAnswer log (Open fields end) (Number id) → (log.role ≡ Client) × (id ≡ next_number log)
 unfolding conditions
 open_answer log fields end id (accepts none is) =
-    let client = client_by log.role (neither_one _ _ (none_holds _ none).1.1.0) in
+    let client = client_since log.role (neither_one _ _ (none_holds _ none).1.1.0) in
     (client, number_by log.role id (next_number log) client is)
 open_answer log fields end id (refuses refusal holds is) = cc
 open_answer log fields end id (lacks none may is) = cc
@@ -65,18 +62,6 @@ fields_active log id fields end (accepts none is) =
 fields_active log id fields end (refuses refusal holds is) = cc
 fields_active log id fields end (lacks none may is) = cc
 fields_active log id fields end (fails none may is) = cc
-
--- A number from which a block opens is no greater than the greatest.
-opens_low : (i : ℕ) (items : List Item) → list_any (opens_from i) items ≡ true
-    → i ≤ greatest_block items
-unfolding opens_from greatest_block
-opens_low i [] some = absurd (both_ways false refl some)
-opens_low i (alone frame ∷ items) some = opens_low i items some
-opens_low i (block stream end octets ∷ items) some =
-    elim (or_cases (stream % 2 == 1 && nat_le i stream) (list_any (opens_from i) items) some) [
-      | inl here ↦ omega (arith, leb-true i stream (and_parts _ _ here).1)
-      | inr after ↦ omega (arith, opens_low i items after)
-    ]
 
 -- What is odd and no greater than the greatest is below the next, by whether there is a greatest.
 below_by : (i n : ℕ) (b : Bool) → n == 0 ≡ b → i % 2 ≡ 1 → i ≤ n
@@ -109,7 +94,7 @@ opening_uses Client i received sent client odd here =
 opening_uses Server i received sent client odd here = cc
 
 -- It stands there, behind what was written after it.
-block_there : (i : ℕ) (end : Bool) (octets : List ℕ) (credit sent : List Item)
+pub block_there : (i : ℕ) (end : Bool) (octets : List ℕ) (credit sent : List Item)
     → list_any (is_block_on i) (credit ++ (block i end octets ∷ sent)) ≡ true
 unfolding is_block_on
 block_there i end octets credit sent =

@@ -9,31 +9,22 @@ use Rattle.h2_log.specs.Items.{is_block_on}
 use Rattle.h2_log.specs.States.{State, Idle, Active, ClosedByUs, Closed, is_closed_by_us}
 use Rattle.h2_log.specs.Log.{Log, state}
 use Rattle.h2_log.specs.LogView.{log_view}
-use Rattle.h2_log.specs.Verdicts.{Verdict, ConnectionFault, StreamFault, NoEvent, Reported}
 use Rattle.h2_log.specs.Verdicts.{block_verdict, opening_verdict}
 use Rattle.h2_log.specs.ItemRules.{Decoded, peer_opens, verdict_by_rules}
 use Rattle.h2_log_laws.proofs.ReaderStates.{active_used, not_idle, state_is_active}
 use Rattle.h2_log_laws.proofs.ReplyInvariant.{used_more, used_here}
+use Rattle.h2_log_laws.proofs.LogViewLemmas.{closed_by_us_is}
 use Rattle.h2_end_laws.specs.Over.{used, IsOver}
 use Rattle.h2_end_laws.specs.Takes.{TakeAnswer, MayTake}
 use Rattle.h2_end_laws.proofs.OverCalls.{past_of, over_of}
 use Rattle.h2_end_laws.proofs.OverLists.{IsPast, WasUsed, past_sent, past_reported, past_read}
 use Rattle.h2_end_laws.proofs.OverSteps.{Holds, HoldsRead, take_keeps}
-use Rattle.h2_end_laws.proofs.ReadVerdicts.{Says, says_data, closed_by_us_is}
-
--- What holds in any case, a verdict says.
-says_any : (A : Type 0) (verdict : Verdict) → A → Says A A A verdict
-says_any A (ConnectionFault code) is = tt
-says_any A (StreamFault code) is = is
-says_any A NoEvent is = is
-says_any A Reported is = is
-
--- What no verdict has to say.
-says_nothing : (verdict : Verdict) → Says (Unit {0}) (Unit {0}) (Unit {0}) verdict
-says_nothing verdict = says_any (Unit {0}) verdict tt
+use Rattle.h2_end_laws.proofs.ReadVerdicts.{Says, says_data}
+use Rattle.h2_end_laws.proofs.ReadVerdicts.{says_any}
+use Rattle.h2_end_laws.proofs.ReadVerdicts.{says_nothing}
 
 -- The verdict on a block that may open its stream says this, and so does that on any block.
-says_opening : (F S T : Type 0) (left full large : Bool) → F → S → T
+pub says_opening : (F S T : Type 0) (left full large : Bool) → F → S → T
     → Says F S T (opening_verdict left full large)
 unfolding opening_verdict
 says_opening F S T true full large f s t = s
@@ -41,7 +32,7 @@ says_opening F S T false true large f s t = f
 says_opening F S T false false true f s t = f
 says_opening F S T false false false f s t = t
 
-says_block : (F S T : Type 0) (state : State) (opens left full ended large : Bool)
+pub says_block : (F S T : Type 0) (state : State) (opens left full ended large : Bool)
     → (state ≡ Idle → opens ≡ true → F × S × T) → (state ≡ Active → F × T)
     → (state ≡ ClosedByUs → S)
     → Says F S T (block_verdict state opens left full ended large)

@@ -1,36 +1,33 @@
 -- What calls leave of windows, and of what is owed.
-use Rattle.std.proofs.Common.{◌≡◌, ℕ, ◌+◌, ◌-◌, ◌≤◌, nat_lt, ◌&&◌, Bool, true, false}
-use Rattle.std.proofs.Common.{if◌then◌else◌, List, [], ◌∷◌, ◌++◌, pos, ◌-ℤ◌}
-use Rattle.std.proofs.Common.{refl, sym, ap, ◌∙◌, inl, inr, arith}
+use Rattle.std.proofs.Common.{◌≡◌, ℕ, ◌-◌, ◌≤◌, nat_lt, ◌&&◌, Bool, true, false}
+use Rattle.std.proofs.Common.{if◌then◌else◌, List, ◌∷◌, ◌++◌, pos, ◌-ℤ◌}
+use Rattle.std.proofs.Common.{refl, sym, ◌∙◌, inl, inr, arith}
 use Rattle.std.specs.Prelude.{int_lt}
 use Rattle.std.specs.List.{list_any}
 use Rattle.std.proofs.lemmas.Int.{ints}
 use Rattle.std.proofs.lemmas.Bool.{and_cases, and_left, and_right, ltb-false, le-ltb, cases_Bool}
 use Rattle.std.proofs.lemmas.Bool.Decides.{nat_tests}
 use Rattle.h2_block.specs.Grouping.{Item}
-use Rattle.h2_log.specs.Acts.{Act, Answer, Release, Done, OutOfMemory}
-use Rattle.h2_log.specs.Acts.{Refused}
+use Rattle.h2_log.specs.Acts.{Act, Answer, Release, Done}
 use Rattle.h2_log.specs.Events.{flow_on, reported_total}
 use Rattle.h2_log.specs.Items.{is_block_on, data_on, data_of, total}
-use Rattle.h2_log.specs.Limits.{full_output}
 use Rattle.h2_log.specs.Windows.{given_on, given_on_connection}
-use Rattle.h2_log.specs.Log.{Log, active, owed, released, unreleased, waiting}
+use Rattle.h2_log.specs.Log.{Log, active, owed, released, unreleased}
 use Rattle.h2_log.specs.LogView.{log_view}
 use Rattle.h2_log.specs.CallRules.{items_of}
-use Rattle.h2_log.specs.LogSteps.{with_sent, with_unreturned}
-use Rattle.h2_log.specs.LogCalls.{called, with_items, with_call}
+use Rattle.h2_log.specs.LogCalls.{with_call}
 use Rattle.h2_log_laws.proofs.ItemLists.{total_after}
 use Rattle.h2_log_laws.proofs.LogGrowth.{grows_call}
-use Rattle.h2_log_laws.proofs.LogHistory.{History, history_of, wrote_view, with_unreturned_view}
-use Rattle.h2_log_laws.proofs.LogHistory.{given_by, moved}
 use Rattle.h2_log_laws.proofs.ReleasedCredit.{released_here}
+use Rattle.h2_log_laws.proofs.ReleasedCredit.{unreleased_is}
+use Rattle.h2_log_laws.proofs.PartsStay.{call_calls}
 use Rattle.h2_end_laws.specs.Over.{has_room}
 use Rattle.h2_end_laws.proofs.OverCalls.{items_no_block}
 use Rattle.h2_end_laws.proofs.OverLists.{IsInactive, inactive_sent}
 use Rattle.h2_end_laws.proofs.OverSteps.{call_keeps}
 
 -- A window lets an octet through where less was taken than given.
-window_test : (given consumed : ℕ) → int_lt (pos 0) (pos given -ℤ pos consumed)
+pub window_test : (given consumed : ℕ) → int_lt (pos 0) (pos given -ℤ pos consumed)
     ≡ nat_lt consumed given
 window_test given consumed = grind (arith, nat_tests, ints)
 
@@ -63,35 +60,6 @@ pub no_room_by_call : (log : Log) (act : Act) (answer : Answer) (i : ℕ)
 no_room_by_call log act answer i none =
     let grows = grows_call log act answer in
     rw (grows.received, grows.sent) (no_room log i grows.items none)
-
--- What is written is no call.
-pub sent_calls : (log : Log) (items : List Item) → (with_sent log items).calls ≡ log.calls
-sent_calls log items = ap (λ (v : History). v.calls) (wrote_view log items)
-
-given_calls : (b : Bool) (v : History) → (given_by b v).calls ≡ v.calls
-given_calls true v = refl
-given_calls false v = refl
-
-pub due_calls : (more : ℕ) (log : Log) → (with_unreturned more log).calls ≡ log.calls
-due_calls more log =
-    ap (λ (v : History). v.calls) (with_unreturned_view more log)
-    ∙ given_calls (nat_lt 0 more && nat_lt (waiting log) full_output)
-    (moved (history_of log) [] [] [] log.calls (log.unreturned + more))
-
--- A call is one more.
-pub items_calls : (log : Log) (act : Act) (answer : Answer)
-    → (with_items log act answer).calls ≡ (act, answer) ∷ log.calls
-unfolding with_items
-items_calls log act answer =
-    due_calls _ (with_sent (called log act answer) (items_of (log_view log) act answer))
-    ∙ sent_calls (called log act answer) (items_of (log_view log) act answer)
-
-release_calls : (log : Log) (id count : ℕ) (answer : Answer)
-    → (with_call log (Release id count) answer).calls ≡ (Release id count, answer) ∷ log.calls
-unfolding with_call
-release_calls log id count (Refused refusal) = refl
-release_calls log id count OutOfMemory = sent_calls (called log (Release id count) OutOfMemory) _
-release_calls log id count answer = items_calls log (Release id count) answer
 
 -- What was released stays released.
 pub released_more : (i : ℕ) (act : Act) (answer : Answer) (calls : List (Act × Answer))
@@ -138,13 +106,11 @@ left_after : (log : Log) (id count i : ℕ) (answer : Answer)
     - released i ((Release id count, answer) ∷ log.calls)
 unfolding unreleased
 left_after log id count i answer =
-    rw ((grows_call log (Release id count) answer).reported, release_calls log id count answer)
+    rw (
+      (grows_call log (Release id count) answer).reported,
+      call_calls log (Release id count) answer,
+    )
     refl
-
-pub left_is : (log : Log) (i : ℕ)
-    → unreleased log i ≡ reported_total (flow_on i) log.reported - released i log.calls
-unfolding unreleased
-left_is log i = refl
 
 -- Once all that is owed was released, nothing is.
 pub none_owed : (log : Log) (id : ℕ)
@@ -157,7 +123,7 @@ none_owed log id =
         left_after log id (owed log id) id Done,
         released_here id (owed log id) log.calls,
         owed_active log id alive,
-        left_is log id,
+        unreleased_is log id,
       ))
       | inr over ↦ owed_inactive after id (release_inactive log id (owed log id) id Done over)
     ]
@@ -174,7 +140,7 @@ none_owed_more log id count i answer none =
         left_after log id count i answer,
         released_more i (Release id count) answer log.calls,
         owed_active log i alive,
-        left_is log i,
+        unreleased_is log i,
       ))
       | inr over ↦ owed_inactive after i (release_inactive log id count i answer over)
     ]

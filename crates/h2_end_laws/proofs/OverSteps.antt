@@ -1,29 +1,31 @@
 -- What items without a block on a stream keep, and events, and items that are read by their
 -- verdicts, a call of `take` keeps, and any other that writes no such block.
-use Rattle.std.proofs.Common.{◌≡◌, ℕ, ◌+◌, nat_lt, ◌&&◌, Bool, true, false}
-use Rattle.std.proofs.Common.{if◌then◌else◌, List, [], ◌∷◌, ◌++◌, Option, Some, None, refl}
+use Rattle.std.proofs.Common.{◌≡◌, ℕ, ◌+◌, false}
+use Rattle.std.proofs.Common.{List, [], ◌∷◌, ◌++◌, Option, Some, None, refl}
 use Rattle.std.specs.List.{list_any}
 use Rattle.h2_frame.specs.declared.code.Code.{Code}
 use Rattle.h2_frame.specs.declared.code.Code.TheVariants.{InternalError}
 use Rattle.h2_frame.specs.Codes.{code_number}
-use Rattle.h2_frame.specs.Frames.{Frame, Settings, Ping, GoAway, WindowUpdate}
+use Rattle.h2_frame.specs.Frames.{Frame, WindowUpdate}
 use Rattle.h2_wire.specs.Faults.{wire_fault_code}
-use Rattle.h2_block.specs.Grouping.{Item, alone, block}
+use Rattle.h2_block.specs.Grouping.{Item, alone}
 use Rattle.h2_log.specs.declared.role.Role.{Role}
 use Rattle.h2_log.specs.Items.{is_block_on}
 use Rattle.h2_log.specs.Events.{Event}
 use Rattle.h2_log.specs.Acts.{Act, Answer, Refuse, PutOut, Count, OutOfMemory, Refused}
-use Rattle.h2_log.specs.Limits.{full_output}
-use Rattle.h2_log.specs.Log.{Log, waiting}
+use Rattle.h2_log.specs.Log.{Log}
 use Rattle.h2_log.specs.LogView.{log_view}
 use Rattle.h2_log.specs.Verdicts.{Verdict, ConnectionFault, StreamFault, NoEvent, Reported}
 use Rattle.h2_log.specs.ItemRules.{Decoded, FrameStep, fails_with, begins_block, completes}
 use Rattle.h2_log.specs.ItemRules.{frame_step, replies_to, verdict_by_rules, verdict_of}
-use Rattle.h2_log.specs.CallRules.{items_of, returns_before_put_out}
+use Rattle.h2_log.specs.CallRules.{items_of}
 use Rattle.h2_log.specs.LogSteps.{read, used, with_sent, with_reported, with_unreturned}
-use Rattle.h2_log.specs.LogSteps.{with_credit_returned, with_failure, with_verdict, with_step}
+use Rattle.h2_log.specs.LogSteps.{with_failure, with_verdict, with_step}
 use Rattle.h2_log.specs.LogSteps.{with_frame, took_frame}
 use Rattle.h2_log.specs.LogCalls.{called, with_items, refused_with, before_put_out, with_call}
+use Rattle.h2_log_laws.proofs.CreditCases.{credit_cases, put_out_cases}
+use Rattle.h2_log_laws.proofs.ItemLists.{goaway_no_block}
+use Rattle.h2_log_laws.proofs.ItemLists.{replies_no_block}
 use Rattle.h2_end_laws.specs.Takes.{TakeAnswer, MayTake, has_failed, reports_unprocessed}
 use Rattle.h2_end_laws.specs.Takes.{ends_no_frame, ends_frame, meets_fault, runs_out_of_memory}
 use Rattle.h2_end_laws.proofs.ReadVerdicts.{Says, says_of}
@@ -46,23 +48,6 @@ credit_no_block : (i count : ℕ)
 unfolding is_block_on
 credit_no_block i count = refl
 
-goaway_no_block : (i last code : ℕ)
-    → list_any (is_block_on i) (alone (GoAway last code []) ∷ []) ≡ false
-unfolding is_block_on
-goaway_no_block i last code = refl
-
--- Nor is anything that is replied.
-replies_no_block : (i : ℕ) (verdict : Verdict) (item : Item)
-    → list_any (is_block_on i) (replies_to verdict item) ≡ false
-unfolding replies_to is_block_on
-replies_no_block i (ConnectionFault code) item = refl
-replies_no_block i (StreamFault code) item = refl
-replies_no_block i NoEvent (block stream end octets) = refl
-replies_no_block i NoEvent (alone (Settings false pairs)) = refl
-replies_no_block i NoEvent (alone (Ping false octets)) = refl
-replies_no_block i NoEvent (alone frame) = refl
-replies_no_block i Reported item = refl
-
 module _ (i : ℕ) (P : Role → List Item → List Item → List Event → Type 0)
     (sends : (role : Role) (received sent : List Item) (reported : List Event)
     (items : List Item) → list_any (is_block_on i) items ≡ false → P role received sent reported
@@ -75,18 +60,13 @@ module _ (i : ℕ) (P : Role → List Item → List Item → List Event → Type
   sent_keeps log (item ∷ items) none is =
       sends log.role log.received log.sent log.reported (item ∷ items) none is
 
-  -- What is due, by the test whether it is returned.
-  unreturned_by : (more : ℕ) (log : Log) (b : Bool) → Holds P log
-      → Holds P (if b then with_credit_returned (record log { unreturned = log.unreturned + more })
-      else record log { unreturned = log.unreturned + more })
-  unreturned_by more log true is =
-      sent_keeps (record log { unreturned = 0 }) _ (credit_no_block i (log.unreturned + more)) is
-  unreturned_by more log false is = is
-
+  -- What is due.
   unreturned_keeps : (more : ℕ) (log : Log) → Holds P log → Holds P (with_unreturned more log)
-  unfolding with_unreturned
-  unreturned_keeps more log is = unreturned_by more log (nat_lt 0 more && nat_lt (waiting log)
-      full_output) is
+  unreturned_keeps more log is =
+      credit_cases (Holds P) more log
+      (λ returns. sent_keeps (record log { unreturned = 0 }) _
+      (credit_no_block i (log.unreturned + more)) is)
+      (λ keeps. is)
 
   -- A failure.
   failure_keeps : (code : Code) (last : ℕ) (log : Log) → Holds P log
@@ -109,15 +89,12 @@ module _ (i : ℕ) (P : Role → List Item → List Item → List Event → Type
   refused_keeps log act answer (Some code) none is = failure_keeps code _ (called log act answer) is
   refused_keeps log act answer None none is = items_keep log act answer none is
 
-  ready_by : (log : Log) (b : Bool) → Holds P log
-      → Holds P (if b then with_credit_returned log else log)
-  ready_by log true is =
-      sent_keeps (record log { unreturned = 0 }) _ (credit_no_block i log.unreturned) is
-  ready_by log false is = is
-
   ready_keeps : (log : Log) → Holds P log → Holds P (before_put_out log)
-  unfolding before_put_out
-  ready_keeps log is = ready_by log (returns_before_put_out (log_view log)) is
+  ready_keeps log is =
+      put_out_cases (Holds P) log
+      (λ returns. sent_keeps (record log { unreturned = 0 }) _ (credit_no_block i log.unreturned)
+      is)
+      (λ keeps. is)
 
   pub call_keeps : (log : Log) (act : Act) (answer : Answer)
       → list_any (is_block_on i) (items_of (log_view log) act answer) ≡ false → Holds P log

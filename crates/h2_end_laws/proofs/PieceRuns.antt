@@ -254,21 +254,6 @@ lost_run role values init last marks log frame run read ends =
           (used_last log init left.0 last),
     )
 
--- Octets with which no frame ends, and then memory is refused.
-pub refused_run : (role : Role) (values : Values) (octets unparsed : List ℕ) (marks : List Mark)
-    (log : Log) → Run role values marks (bare log) → IsReadOf role log
-    → Frames (is_server role) payload_limits (log.input ++ octets) log.frames unparsed
-    → Run role values (OutOfMemory false ∷ back (each Octet octets) marks)
-    (bare (took_out_of_memory log octets))
-refused_run role values octets unparsed marks log run read again =
-    let same : AreSameBare (used log octets []) (used (bare (used log octets unparsed)) [] []) =
-    sym (used_bare (used log octets unparsed) [] [] ∙ used_twice log octets [] unparsed []
-    ∙ ap (λ (line : List ℕ). bare (used log line [])) (append-nil octets)) in (
-      bare (used log octets unparsed),
-      parts_run role values octets marks log unparsed run read again,
-      failure_same _ _ InternalError _ _ (last_used log octets unparsed) same,
-    )
-
 -- The same stream processed last in a bare log.
 last_here : (log : Log) → last_processed log ≡ last_processed (bare log)
 unfolding last_processed

@@ -1,24 +1,23 @@
 -- Frames for which no memory is refused.
-use Rattle.std.proofs.Common.{◌≡◌, ◌≢◌, ◌∙◌, ℕ, Bool, true, false, if◌then◌else◌, List, [], ◌∷◌}
-use Rattle.std.proofs.Common.{◌++◌, ◌+◌, ◌&&◌, ◌||◌, nat_le, nat_lt, Option, Some, None, length}
+use Rattle.std.proofs.Common.{◌≡◌, ◌≢◌, ◌∙◌, ℕ, Bool, true, false, if◌then◌else◌, List, []}
+use Rattle.std.proofs.Common.{◌++◌, ◌+◌, ◌&&◌, ◌||◌, nat_le, nat_lt, Option, Some, None}
 use Rattle.std.proofs.Common.{refl, sym, ap, subst, not}
 use Rattle.h2_frame.specs.declared.code.Code.TheVariants.{InternalError, EnhanceYourCalm}
 use Rattle.h2_frame.specs.declared.code.Code.TheVariants.{ProtocolError}
-use Rattle.h2_frame.specs.Frames.{Frame, Data, Headers, Priority, Reset, Settings, Ping, GoAway}
-use Rattle.h2_frame.specs.Frames.{WindowUpdate, Continuation, Unknown}
-use Rattle.h2_wire.specs.declared.fault.WireFault.{WireFault}
+use Rattle.h2_frame.specs.Frames.{Frame, Data, Priority, Ping}
+use Rattle.h2_frame.specs.Frames.{WindowUpdate, Unknown}
 use Rattle.h2_wire.proofs.ReadingLemmas.{none_some, same_following}
 use Rattle.h2_wire.proofs.FaultLemmas.{one_reading_lem}
 use Rattle.h2_block.specs.declared.fault.BlockFault.{BlockFault}
 use Rattle.h2_block.specs.Grouping.{Item, alone, Begun, next_fault}
 use Rattle.h2_log.specs.Settings.{is_server}
-use Rattle.h2_log.specs.Log.{Log, next_unprocessed}
+use Rattle.h2_log.specs.Log.{Log}
 use Rattle.h2_log.specs.LogView.{log_view}
-use Rattle.h2_log.specs.LogSteps.{limits_from, took_frame}
-use Rattle.h2_log.specs.Verdicts.{Verdict, ConnectionFault, StreamFault, NoEvent, Reported}
+use Rattle.h2_log.specs.LogSteps.{limits_from}
+use Rattle.h2_log.specs.Verdicts.{Verdict, ConnectionFault, NoEvent, Reported}
 use Rattle.h2_log.specs.View.{View}
 use Rattle.h2_log.specs.ItemRules.{FrameStep, fails_with, grouped, grouping_step, frame_step}
-use Rattle.h2_log.specs.ItemRules.{verdict_of, verdict_by_rules, over_limits, replies_to}
+use Rattle.h2_log.specs.ItemRules.{verdict_of, verdict_by_rules, over_limits}
 use Rattle.h2_log.specs.ItemRules.{is_awaited_ping, is_stream_fault, may_be_first}
 use Rattle.h2_log.specs.Limits.{max_output, max_resets}
 use Rattle.h2_log.specs.Histories.{TakesFrame, LacksMemory, to_report, to_keep, to_take}
@@ -28,7 +27,8 @@ use Rattle.h2_end_laws.specs.Takes.{ends_no_frame, ends_frame, meets_fault, runs
 use Rattle.h2_end_laws.specs.Promises.{NeedsNoMemory, IsFree}
 use Rattle.h2_end_laws.proofs.FrameEnds.{same_piece}
 use Rattle.h2_end_laws.proofs.NotInternal.{frame_up}
-use Rattle.h2_end_laws.proofs.OneTake.{one_line, frame_fault, same_last}
+use Rattle.h2_end_laws.proofs.OneTake.{one_line, frame_fault}
+use Rattle.h2_end_laws.proofs.Runs.{one_last}
 
 -- Where two frames end in a piece they are one.
 same_frame : (log : Log) (piece octets unused others left : List ℕ) (frame another : Frame)
@@ -41,13 +41,13 @@ same_frame log piece octets unused others left frame another joined again framed
     let used : octets ≡ others = same_following log.input log.input octets others refl stream in
     let completed_now : TakesFrame log.role log octets another =
     subst (λ (o : List ℕ). TakesFrame log.role log o another) (sym used) completed in
-    same_last log.frames frame another
+    one_last log.frames frame another
     (one_reading_lem (is_server log.role) (limits_from log) (log.input ++ octets) _ _ [] [] framed
     completed_now).0
 
 lacks_none : (log : Log) (piece octets unused : List ℕ) → piece ≡ octets ++ unused
     → NeedsNoMemory log piece → LacksMemory log.role log octets unused → ⊥
-lacks_none log piece octets unused joined promised (to_report none some) =
+lacks_none log piece octets unused joined promised (to_report none some due) =
     some promised.takes.all_reported
 lacks_none log piece octets unused joined promised (to_keep none takes keeps) =
     let all : piece ≡ unused = joined ∙ ap (λ (o : List ℕ). o ++ unused) none in
@@ -82,40 +82,35 @@ never_out_of_memory log after piece answer
     lacks_none log piece octets unused joined promised may
 
 -- Frames of these kinds take none.
-choose_free : (test : Bool) (one other : Verdict) (item : Item) → needs_memory one item ≡ false
-    → needs_memory other item ≡ false → needs_memory (if test then one else other) item ≡ false
-choose_free true one other item first second = first
-choose_free false one other item first second = second
+choose_free : (view : View) (test : Bool) (one other : Verdict) (item : Item)
+    → needs_memory view one item ≡ false → needs_memory view other item ≡ false
+    → needs_memory view (if test then one else other) item ≡ false
+choose_free view true one other item first second = first
+choose_free view false one other item first second = second
 
-limited_free : (resets waiting size : ℕ) (verdict : Verdict) (item : Item)
-    → needs_memory verdict item ≡ false
-    → needs_memory (over_limits resets waiting size verdict) item ≡ false
+limited_free : (view : View) (resets waiting size : ℕ) (verdict : Verdict) (item : Item)
+    → needs_memory view verdict item ≡ false
+    → needs_memory view (over_limits resets waiting size verdict) item ≡ false
 unfolding over_limits
-limited_free resets waiting size verdict item free =
-    choose_free ((is_stream_fault verdict && nat_le max_resets resets) || (nat_lt 0 size
+limited_free view resets waiting size verdict item free =
+    choose_free view ((is_stream_fault verdict && nat_le max_resets resets) || (nat_lt 0 size
     && nat_lt max_output (waiting + size))) (ConnectionFault EnhanceYourCalm) verdict item refl free
 
 item_free : (view : View) (frame : Frame) → IsFree view frame
-    → needs_memory (verdict_of view None (alone frame)) (alone frame) ≡ false
+    → needs_memory view (verdict_of view None (alone frame)) (alone frame) ≡ false
 unfolding verdict_of verdict_by_rules
 item_free view (Priority stream octets) free =
-    limited_free view.resets view.waiting _ NoEvent (alone (Priority stream octets)) refl
+    limited_free view view.resets view.waiting _ NoEvent (alone (Priority stream octets)) refl
 item_free view (Unknown kind flags stream payload) free =
-    limited_free view.resets view.waiting _ NoEvent (alone (Unknown kind flags stream payload)) refl
+    limited_free view view.resets view.waiting _ NoEvent (alone (Unknown kind flags stream payload)) refl
 item_free view (Ping true octets) free =
-    limited_free view.resets view.waiting _
+    limited_free view view.resets view.waiting _
     (if is_awaited_ping octets view.ping then Reported else NoEvent) (alone (Ping true octets))
-    (choose_free (is_awaited_ping octets view.ping) Reported NoEvent (alone (Ping true octets)) refl
+    (choose_free view (is_awaited_ping octets view.ping) Reported NoEvent (alone (Ping true octets)) refl
     refl)
 item_free view (WindowUpdate stream increment) free = rw free refl
 item_free view (Data stream false octets pad) free = rw free refl
-item_free view (Data stream true octets pad) free = absurd free
-item_free view (Headers stream end whole fragment pad priority) free = absurd free
-item_free view (Reset stream code) free = absurd free
-item_free view (Settings ack pairs) free = absurd free
-item_free view (Ping false octets) free = absurd free
-item_free view (GoAway last code debug) free = absurd free
-item_free view (Continuation stream whole fragment) free = absurd free
+item_free view other free = absurd free
 
 grouped_free : (view : View) (begun : Option Begun) (frame : Frame) → IsFree view frame
     → step_needs_memory view (grouped begun frame) ≡ false
@@ -137,20 +132,8 @@ grouped_free view (Some begun) (WindowUpdate stream increment) free =
     item_free view (WindowUpdate stream increment) free
 grouped_free view (Some begun) (Data stream false octets pad) free =
     item_free view (Data stream false octets pad) free
-grouped_free view None (Data stream true octets pad) free = absurd free
-grouped_free view None (Headers stream end whole fragment pad priority) free = absurd free
-grouped_free view None (Reset stream code) free = absurd free
-grouped_free view None (Settings ack pairs) free = absurd free
-grouped_free view None (Ping false octets) free = absurd free
-grouped_free view None (GoAway last code debug) free = absurd free
-grouped_free view None (Continuation stream whole fragment) free = absurd free
-grouped_free view (Some begun) (Data stream true octets pad) free = absurd free
-grouped_free view (Some begun) (Headers stream end whole fragment pad priority) free = absurd free
-grouped_free view (Some begun) (Reset stream code) free = absurd free
-grouped_free view (Some begun) (Settings ack pairs) free = absurd free
-grouped_free view (Some begun) (Ping false octets) free = absurd free
-grouped_free view (Some begun) (GoAway last code debug) free = absurd free
-grouped_free view (Some begun) (Continuation stream whole fragment) free = absurd free
+grouped_free view None other free = absurd free
+grouped_free view (Some begun) other free = absurd free
 
 grouping_free : (view : View) (begun : Option Begun) (frame : Frame) (fault : Option BlockFault)
     → IsFree view frame → step_needs_memory view (grouping_step begun frame fault) ≡ false

@@ -22,7 +22,7 @@ partial_prefix limit octets more partial nine =
     (sound, omega (arith, counted, less))
 
 -- A frame without its last octets is partial.
-pub frame_prefix : (limit : ℕ) (frame : Frame) (octets : List ℕ) (next : ℕ) (more : List ℕ)
+frame_prefix : (limit : ℕ) (frame : Frame) (octets : List ℕ) (next : ℕ) (more : List ℕ)
     → IsFrame limit frame (octets ++ next ∷ more) → IsPartial limit octets
 frame_prefix limit frame octets next more whole nine =
     let counted = length-append octets (next ∷ more) in
@@ -89,7 +89,7 @@ one_complete limits preceding frame frames octets whole unparsed more between so
     }
 
 -- A prefix of frames and a partial frame.
-pub body_prefix : (limits : Limits) (preceding : ℕ) (frames : List Frame)
+body_prefix : (limits : Limits) (preceding : ℕ) (frames : List Frame)
     (body unparsed octets more : List ℕ) → AreFrames limits preceding frames body
     → IsPartial (limits (preceding + length body + 9)) unparsed
     → octets ++ more ≡ body ++ unparsed

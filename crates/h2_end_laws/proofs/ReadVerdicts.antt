@@ -1,14 +1,16 @@
 -- What a verdict on an item says of the item's stream.
 use Rattle.std.proofs.Common.{◌≡◌, Bool, true, false, if◌then◌else◌, Option}
 use Rattle.std.proofs.Common.{refl}
+use Rattle.h2_frame.specs.declared.code.Code.{Code}
 use Rattle.h2_frame.specs.declared.code.Code.TheVariants.{EnhanceYourCalm}
 use Rattle.h2_block.specs.Grouping.{Item}
 use Rattle.h2_log.specs.Verdicts.{Verdict, ConnectionFault, StreamFault, NoEvent, Reported}
 use Rattle.h2_log.specs.Verdicts.{data_verdict}
-use Rattle.h2_log.specs.States.{State, Idle, Active, ClosedByUs, Closed, state_by}
+use Rattle.h2_log.specs.States.{State, Idle, Active, ClosedByUs, Closed}
 use Rattle.h2_log.specs.Log.{Log}
 use Rattle.h2_log.specs.LogView.{log_view}
 use Rattle.h2_log.specs.ItemRules.{Decoded, over_limits, verdict_by_rules, verdict_of}
+pub use Rattle.h2_log_laws.proofs.LogViewLemmas.{closed_by_us_is}
 
 -- what holds of a stream's fault, of an item of which nothing is reported, and of one that is
 -- reported
@@ -46,10 +48,17 @@ says_data F S T Active false true above f s t = f refl
 says_data F S T Active false false true f s t = tt
 says_data F S T Active false false false f s t = t refl
 
--- A stream in the state ClosedByUs is closed by this end.
-pub closed_by_us_is : (used active closed_by_us : Bool) → state_by used active closed_by_us
-    ≡ ClosedByUs → closed_by_us ≡ true
-closed_by_us_is false active closed_by_us is = cc
-closed_by_us_is true true closed_by_us is = cc
-closed_by_us_is true false true is = refl
-closed_by_us_is true false false is = cc
+-- What holds in any case, a verdict says.
+pub says_any : (A : Type 0) (verdict : Verdict) → A → Says A A A verdict
+says_any A (ConnectionFault code) is = tt
+says_any A other is = is
+
+-- What no verdict has to say.
+pub says_nothing : (verdict : Verdict) → Says (Unit {0}) (Unit {0}) (Unit {0}) verdict
+says_nothing verdict = says_any (Unit {0}) verdict tt
+
+-- What is said of each verdict but a fault of the connection holds where there is none.
+pub says_one : {P : Type 0} (verdict : Verdict)
+    → ((code : Code) → verdict ≡ ConnectionFault code → ⊥) → Says P P P verdict → P
+says_one (ConnectionFault code) up says = absurd (up code refl)
+says_one other up says = says

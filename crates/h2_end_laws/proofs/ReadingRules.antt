@@ -3,8 +3,8 @@ use Rattle.std.proofs.Common.{◌≡◌, ◌≢◌, ℕ, zero, suc, ◌<◌, ◌
 use Rattle.std.proofs.Common.{max, Bool, true, false, if◌then◌else◌, List, [], ◌∷◌}
 use Rattle.std.proofs.Common.{Option, Some, None, refl, inl, inr, arith}
 use Rattle.std.specs.List.{list_any}
-use Rattle.std.proofs.lemmas.Bool.{both_ways, or_parts, or_cases, or_left, or_right, and_parts}
-use Rattle.std.proofs.lemmas.Bool.{and_from, eq-eqb, leb-true, leb-false}
+use Rattle.std.proofs.lemmas.Bool.{both_ways, or_parts, or_cases, or_right, and_parts}
+use Rattle.std.proofs.lemmas.Bool.{leb-true, leb-false}
 use Rattle.h2_frame.specs.declared.code.Code.{Code}
 use Rattle.h2_frame.specs.declared.code.Code.TheVariants.{ProtocolError, FlowControlError}
 use Rattle.h2_frame.specs.Codes.{code_number}
@@ -14,7 +14,7 @@ use Rattle.h2_frame.specs.Encoding.{stream_of}
 use Rattle.h2_block.specs.Grouping.{Item, alone, block}
 use Rattle.h2_log.specs.declared.role.Role.{Role}
 use Rattle.h2_log.specs.declared.role.Role.TheVariants.{Client, Server}
-use Rattle.h2_log.specs.Items.{opens_from, is_block_on, is_goaway, is_goaway_below, stream_of_item}
+use Rattle.h2_log.specs.Items.{opens_from, is_goaway, is_goaway_below, stream_of_item}
 use Rattle.h2_log.specs.Events.{Event}
 use Rattle.h2_log.specs.Events.{processed_by, greatest_processed}
 use Rattle.h2_log.specs.Settings.{is_server}
@@ -30,15 +30,21 @@ use Rattle.h2_log.specs.ItemRules.{verdict_by_rules}
 use Rattle.h2_log.specs.ItemRules.{settings_fault, completes}
 use Rattle.h2_log.specs.ItemEffects.{events_of}
 use Rattle.h2_log.specs.Histories.{IsDecodedIn}
-use Rattle.h2_log_laws.proofs.ReaderStates.{active_used, opens_here}
+use Rattle.h2_log_laws.proofs.ReaderStates.{active_used}
 use Rattle.h2_log_laws.proofs.ReaderStates.{state_is_active}
 use Rattle.h2_log_laws.proofs.ReplyInvariant.{used_more}
+use Rattle.h2_log_laws.proofs.ReplyInvariant.{idle_unused}
+use Rattle.h2_log_laws.proofs.ReplyInvariant.{used_here}
+use Rattle.h2_log_laws.proofs.InvariantCalls.{odd_some}
+use Rattle.h2_log_laws.proofs.RulesByTests.{second_false}
+use Rattle.h2_log_laws.proofs.LogViewLemmas.{closed_by_us_is}
 use Rattle.h2_end_laws.specs.Readings.{Reading, its_fields, its_octets, its_reset}
 use Rattle.h2_end_laws.specs.Readings.{its_fault, its_goaway, its_acknowledgment, its_pong}
 use Rattle.h2_end_laws.specs.Readings.{MayBeSilent, AreEventsOf, fault_codes}
 use Rattle.h2_end_laws.proofs.FaultCodes.{HasCode}
 use Rattle.h2_end_laws.proofs.GoAwaysRead.{IsTypedGoAway, least_reported}
-use Rattle.h2_end_laws.proofs.ReadVerdicts.{Says, says_data, closed_by_us_is}
+use Rattle.h2_end_laws.proofs.ReadVerdicts.{Says, says_data}
+use Rattle.h2_end_laws.proofs.ReadVerdicts.{says_any}
 
 -- At a server, a number above all that were used is above all that were processed, and above the
 -- last stream of each own GOAWAY.
@@ -74,40 +80,12 @@ abbrev pub IsSeen : Option Decoded → Item → Type 0
 IsSeen None (block stream end octets) = ⊥
 IsSeen decoded item = Unit {0}
 
--- An idle stream isn't used.
-idle_unused : (used active closed_by_us : Bool) → state_by used active closed_by_us ≡ Idle → used
-    ≡ false
-idle_unused false active closed_by_us idle = refl
-idle_unused true true closed_by_us idle = absurd (cc)
-idle_unused true false true idle = absurd (cc)
-idle_unused true false false idle = absurd (cc)
-
--- one of two tests fails where the other holds
-other_false : (a b : Bool) → (a && b) ≡ false → a ≡ true → b ≡ false
-other_false true b both is = both
-other_false false b both is = absurd (both_ways false refl is)
-
 -- A stream that is active is used after an item.
 active_faults : (log : Log) (item : Item) (i : ℕ) → active log i ≡ true
     → is_used log.role i (item ∷ log.received) log.sent ≡ true
 active_faults log item i alive =
     used_more log.role i (item ∷ []) [] log.received log.sent
     (active_used log.role i log.received log.sent log.reported alive)
-
--- An idle stream that the peer may open is used after a block on it.
-idle_faults : (role : Role) (i : ℕ) (end : Bool) (octets : List ℕ) (received sent : List Item)
-    → (is_server role && i % 2 == 1) ≡ true
-    → is_used role i (block i end octets ∷ received) sent ≡ true
-unfolding is_used is_block_on
-idle_faults Client i end octets received sent opens = absurd (both_ways false refl opens)
-idle_faults Server i end octets received sent opens =
-    and_from _ _ opens (opens_here i (block i end octets ∷ received) opens (or_left (i == i) _
-    (eq-eqb i i refl)))
-
--- an odd number isn't nothing
-odd_some : (i : ℕ) → i % 2 == 1 ≡ true → i ≢ 0
-odd_some zero odd = λ none. both_ways false refl odd
-odd_some (suc i) odd = λ none. omega arith
 
 -- After an own GOAWAY an idle stream that the peer may open is above its last stream.
 idle_after_goaway : (role : Role) (i : ℕ) (received sent : List Item) (reported : List Event)
@@ -119,7 +97,7 @@ idle_after_goaway Client i received sent reported low unused opens goaway =
     absurd (both_ways false refl opens)
 idle_after_goaway Server i received sent reported low unused opens goaway =
     or_right _ _ ((low refl i (odd_some i opens)
-    (other_false (i % 2 == 1) _ unused opens)).1 goaway)
+    (second_false (i % 2 == 1) _ unused opens)).1 goaway)
 
 -- A block that opens is checked so, by whether GOAWAY was written.
 says_opening : (F S T : Type 0) (left full large : Bool) → F → (left ≡ true → S) → T
@@ -198,10 +176,8 @@ says_update_by F false false f = tt
 says_update : (F : Type 0) (state : State) (increment : ℕ) (above : Bool) → (state ≡ Active → F)
     → Says F (Unit {0}) (Unit {0}) (update_verdict state increment above)
 unfolding update_verdict
-says_update F Idle increment above f = tt
-says_update F ClosedByUs increment above f = tt
-says_update F Closed increment above f = tt
 says_update F Active increment above f = says_update_by F (increment == 0) above (f refl)
+says_update F other increment above f = tt
 
 says_updates : (F : Type 0) (b : Bool) (state : State) (increment : ℕ) (one other : Bool)
     → (state ≡ Active → F)
@@ -223,7 +199,7 @@ rules_say log (Some decoded) (block stream end octets) low =
     (IsSaid log (block stream end octets)) (state log stream) (peer_opens (log_view log) stream)
     _ _ _ _
     (λ is. active_faults log (block stream end octets) stream (state_is_active _ _ _ is))
-    (λ idle opens. idle_faults log.role stream end octets log.received log.sent opens)
+    (λ idle opens. used_here log.role stream end octets log.received log.sent opens)
     (λ is. closed_by_us_is _ _ _ is)
     (λ idle opens goaway. idle_after_goaway log.role stream log.received log.sent log.reported low
     (idle_unused _ _ _ idle) opens goaway)
@@ -233,8 +209,6 @@ rules_say log decoded (alone (Data stream end octets pad)) low =
     (is_closed_by_us log.role stream log.sent ≡ true) (Unit {0}) (state log stream) _ _ _
     (λ is. active_faults log (alone (Data stream end octets pad)) stream (state_is_active _ _ _ is))
     (λ is. closed_by_us_is _ _ _ is) (λ is. tt)
-rules_say log decoded (alone (Headers stream end last fragment pad priority)) low = tt
-rules_say log decoded (alone (Priority stream octets)) low = tt
 rules_say log decoded (alone (Reset stream code)) low =
     says_reset (IsFaulty log (alone (Reset stream code))) (active log stream ≡ false)
     (state log stream) (λ is. closed_inactive _ _ _ is) (λ is. over_inactive _ _ _ is)
@@ -244,26 +218,16 @@ rules_say log decoded (alone (Settings false pairs)) low =
 rules_say log decoded (alone (Settings true pairs)) low =
     says_reply (IsFaulty log (alone (Settings true pairs))) (settings_wait log ≡ false)
     (true ≡ true) (settings_wait log) (λ is. is) refl
-rules_say log decoded (alone (Ping false octets)) low = tt
 rules_say log decoded (alone (Ping true octets)) low =
     says_reply (IsFaulty log (alone (Ping true octets)))
     (is_awaited_ping octets (log_view log).ping ≡ false) (true ≡ true)
     (is_awaited_ping octets (log_view log).ping) (λ is. is) refl
-rules_say log decoded (alone (GoAway last code debug)) low = tt
 rules_say log decoded (alone (WindowUpdate stream increment)) low =
     says_updates (IsFaulty log (alone (WindowUpdate stream increment))) (stream == 0)
     (state log stream) increment _ _
     (λ is. active_faults log (alone (WindowUpdate stream increment)) stream
     (state_is_active _ _ _ is))
-rules_say log decoded (alone (Continuation stream last fragment)) low = tt
-rules_say log decoded (alone (Unknown kind flags stream payload)) low = tt
-
--- One fact, whatever the verdict.
-pub says_always : (T : Type 0) (verdict : Verdict) → T → Says T T T verdict
-says_always T (ConnectionFault code) t = tt
-says_always T (StreamFault code) t = t
-says_always T NoEvent t = t
-says_always T Reported t = t
+rules_say log decoded (alone frame) low = tt
 
 -- A block that doesn't decode is a fault of the connection.
 pub rules_see : (log : Log) (decoded : Option Decoded) (item : Item)
@@ -271,9 +235,9 @@ pub rules_see : (log : Log) (decoded : Option Decoded) (item : Item)
     (verdict_by_rules (log_view log) decoded item)
 unfolding verdict_by_rules
 rules_see log None (block stream end octets) = tt
-rules_see log (Some decoded) (block stream end octets) = says_always (Unit {0}) _ tt
-rules_see log None (alone frame) = says_always (Unit {0}) _ tt
-rules_see log (Some decoded) (alone frame) = says_always (Unit {0}) _ tt
+rules_see log (Some decoded) (block stream end octets) = says_any (Unit {0}) _ tt
+rules_see log None (alone frame) = says_any (Unit {0}) _ tt
+rules_see log (Some decoded) (alone frame) = says_any (Unit {0}) _ tt
 
 -- what is read of an item, by its verdict
 abbrev pub reading_of : Log → Option Decoded → Item → Verdict → Reading
@@ -314,10 +278,6 @@ events_said log (Some decoded) (block stream end octets) Reported none sees seen
 events_said log decoded (alone (Data stream end octets pad)) Reported none sees
     seen coded typed says =
     rw sees (its_octets stream end octets pad)
-events_said log decoded (alone (Headers stream end last fragment pad priority)) Reported none sees
-    seen coded typed says = tt
-events_said log decoded (alone (Priority stream octets)) Reported none sees seen coded typed says =
-    tt
 events_said log decoded (alone (Reset stream code)) Reported none sees seen coded typed says =
     rw sees (its_reset stream code)
 events_said log decoded (alone (Settings ack pairs)) Reported none sees seen coded typed says =
@@ -326,15 +286,10 @@ events_said log decoded (alone (Ping ack octets)) Reported none sees seen coded 
     rw (sees, says) (its_pong octets)
 events_said log decoded (alone (GoAway last code debug)) Reported none sees seen coded typed says =
     rw (sees, least_reported log last code debug typed) (its_goaway last code debug)
-events_said log decoded (alone (WindowUpdate stream increment)) Reported none sees
-    seen coded typed says = tt
-events_said log decoded (alone (Continuation stream last fragment)) Reported none sees
-    seen coded typed says = tt
-events_said log decoded (alone (Unknown kind flags stream payload)) Reported none sees
-    seen coded typed says = tt
+events_said log decoded (alone frame) Reported none sees seen coded typed says = tt
 
 -- Numbers from which a block opens are below those from which none does.
-pub opens_less : (a b : ℕ) (items : List Item) → list_any (opens_from a) items ≡ true
+opens_less : (a b : ℕ) (items : List Item) → list_any (opens_from a) items ≡ true
     → list_any (opens_from b) items ≡ false → a < b
 unfolding opens_from
 opens_less a b [] some none = absurd (both_ways false refl some)
@@ -348,7 +303,7 @@ opens_less a b (block stream end octets ∷ items) some none =
           omega (
             arith,
             leb-true a stream both.1,
-            leb-false b stream (other_false (stream % 2 == 1) (nat_le b stream) parts.0 both.0),
+            leb-false b stream (second_false (stream % 2 == 1) (nat_le b stream) parts.0 both.0),
           )
       | inr after ↦ opens_less a b items after parts.1
     ]
@@ -365,7 +320,7 @@ named_by true n i less = omega arith
 named_by false n i less = omega arith
 
 -- something is above nothing
-some_above : (i : ℕ) → i ≢ 0 → 0 < i
+pub some_above : (i : ℕ) → i ≢ 0 → 0 < i
 some_above zero some = absurd (some refl)
 some_above (suc i) some = omega arith
 

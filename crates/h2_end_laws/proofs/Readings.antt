@@ -1,38 +1,44 @@
 -- What every log has read, and what was reported of it.
-use Rattle.std.proofs.Common.{◌≡◌, ℕ, ◌+◌, ◌<◌, nat_lt, ◌&&◌, Bool, true, false, if◌then◌else◌}
+use Rattle.std.proofs.Common.{◌≡◌, ℕ, ◌<◌, true, false}
 use Rattle.std.proofs.Common.{List, [], ◌∷◌, ◌++◌, Option, Some, None, refl, sym, ap, ◌∙◌, inl, inr}
 use Rattle.std.proofs.Common.{arith, append_assoc}
+use Rattle.std.proofs.Common.{subst}
 use Rattle.std.specs.List.{list_any}
 use Rattle.std.proofs.lemmas.Bool.{both_ways, or_parts, or_left, lt-ltb}
 use Rattle.hpack.specs.Tables.{Entries}
 use Rattle.h2_frame.specs.declared.code.Code.{Code}
 use Rattle.h2_frame.specs.Codes.{code_number}
-use Rattle.h2_frame.specs.Frames.{Frame, Settings, Ping, GoAway, WindowUpdate}
+use Rattle.h2_frame.specs.Frames.{GoAway}
 use Rattle.h2_block.specs.Grouping.{Item, alone, block}
 use Rattle.h2_log.specs.declared.role.Role.{Role}
 use Rattle.h2_log.specs.declared.role.Role.TheVariants.{Server}
 use Rattle.h2_log.specs.Items.{opens_from, is_goaway, is_goaway_below}
 use Rattle.h2_log.specs.Events.{Event, UnprocessedEvent, processed_by, greatest_processed}
-use Rattle.h2_log.specs.Log.{Log, waiting, last_processed}
+use Rattle.h2_log.specs.Log.{Log}
 use Rattle.h2_log.specs.LogView.{log_view}
-use Rattle.h2_log.specs.Verdicts.{Verdict, ConnectionFault, StreamFault, NoEvent, Reported}
-use Rattle.h2_log.specs.ItemRules.{Decoded, replies_to, FrameStep, fails_with, begins_block}
-use Rattle.h2_log.specs.ItemRules.{completes, frame_step}
+use Rattle.h2_log.specs.Verdicts.{Verdict, ConnectionFault}
+use Rattle.h2_log.specs.ItemRules.{Decoded, replies_to}
+use Rattle.h2_log.specs.ItemRules.{completes}
 use Rattle.h2_log.specs.ItemEffects.{events_of, table_after}
-use Rattle.h2_log.specs.Limits.{full_output}
-use Rattle.h2_log.specs.LogSteps.{read, with_sent, with_reported, with_unreturned, with_failure}
-use Rattle.h2_log.specs.LogSteps.{with_credit_returned, with_verdict, with_step, with_frame}
+use Rattle.h2_log.specs.LogSteps.{read, with_sent, with_failure}
+use Rattle.h2_log.specs.LogSteps.{used}
 use Rattle.h2_log.specs.Histories.{IsDecodedIn}
+use Rattle.h2_log.specs.Acts.{Values}
 use Rattle.h2_log_laws.proofs.ItemLists.{any_after}
+use Rattle.h2_log_laws.proofs.ItemsThatCome.{comes_as_before, comes_up, comes_decoded}
 use Rattle.h2_log_laws.proofs.LogHistory.{any_either}
+use Rattle.h2_log_laws.proofs.LogInduction.{Replies}
+use Rattle.h2_log_laws.proofs.NoGoAways.{replies_none}
 use Rattle.h2_end_laws.specs.Readings.{Reading, IsEventOf, its_pong, AreEventsOf, DecodesTo}
 use Rattle.h2_end_laws.specs.Readings.{AreDecoded, items_read, events_read, events_of_items}
 use Rattle.h2_end_laws.specs.Readings.{AreReadings, fault_codes}
 use Rattle.h2_end_laws.specs.Replies.{replies_owed, replies_among}
 use Rattle.h2_end_laws.proofs.FaultCodes.{HasCode, verdict_coded}
-use Rattle.h2_end_laws.proofs.GoAwaysRead.{IsTypedGoAway, IsTypedStep, step_typed}
-use Rattle.h2_end_laws.proofs.SendableItems.{IsFit}
+use Rattle.h2_end_laws.proofs.GoAwaysRead.{IsTypedGoAway, item_typed}
+use Rattle.h2_end_laws.proofs.Replies.{replies_of_logs}
+use Rattle.h2_end_laws.proofs.FitItems.{comes_fit}
 use Rattle.h2_end_laws.proofs.ReadVerdicts.{Says, says_of}
+use Rattle.h2_end_laws.proofs.ReadVerdicts.{says_one}
 use Rattle.h2_end_laws.proofs.ReadingRules.{IsUnreported, IsLow, IsFaulty, IsSaid, IsSeen}
 use Rattle.h2_end_laws.proofs.ReadingRules.{rules_say, rules_see, reading_of, events_said}
 use Rattle.h2_end_laws.proofs.ReadingRules.{processed_low}
@@ -210,7 +216,7 @@ item_read : (log : Log) (decoded : Option Decoded) (item : Item) (verdict : Verd
     → PendingRead (events_of (log_view log) decoded verdict item) (read log decoded item)
 unfolding items_read events_read
 item_read log decoded item verdict none sees coded typed replied seen says are =
-    let is_seen = seen_by decoded item verdict none seen in
+    let is_seen = says_one verdict none seen in
     let said = events_said log decoded item verdict none sees is_seen coded typed says in
     let reading = reading_of log decoded item verdict in
     record {
@@ -237,13 +243,6 @@ item_read log decoded item verdict none sees coded typed replied seen says are =
             old.1,
           );
     }
-  where
-    seen_by : (decoded : Option Decoded) (item : Item) (verdict : Verdict)
-        → ((code : Code) → verdict ≡ ConnectionFault code → ⊥)
-        → Says (IsSeen decoded item) (IsSeen decoded item) (IsSeen decoded item) verdict
-        → IsSeen decoded item
-    seen_by decoded item (ConnectionFault code) none seen = absurd (none code refl)
-    seen_by decoded item verdict none seen = seen
 
 -- Items that are written.
 pub wrote_keeps : (events : List Event) (log : Log) (items : List Item)
@@ -255,33 +254,6 @@ wrote_keeps events log (item ∷ items) none are =
     wrote log.role log.received (item ∷ items) log.sent (events ++ log.reported) log.table
     log.failed none are
 
--- Events that are reported.
-pub reports_keep : (log : Log) (events : List Event) → PendingRead events log
-    → LogIsRead (with_reported log events)
-unfolding with_reported
-reports_keep log [] are = are
-reports_keep log (event ∷ events) are = are
-
--- An update is no GOAWAY.
-pub update_stays : (i count : ℕ) → list_any is_goaway (alone (WindowUpdate i count) ∷ []) ≡ false
-unfolding is_goaway
-update_stays i count = refl
-
--- What is unreturned.
-unreturned_by : (events : List Event) (more : ℕ) (log : Log) (b : Bool) → PendingRead events log
-    → PendingRead events (if b then with_credit_returned
-    (record log { unreturned = log.unreturned + more })
-    else record log { unreturned = log.unreturned + more })
-unreturned_by events more log true are =
-    wrote_keeps events (record log { unreturned = 0 }) _ (update_stays 0 _) are
-unreturned_by events more log false are = are
-
-pub unreturned_keeps : (events : List Event) (more : ℕ) (log : Log) → PendingRead events log
-    → PendingRead events (with_unreturned more log)
-unfolding with_unreturned
-unreturned_keeps events more log are =
-    unreturned_by events more log (nat_lt 0 more && nat_lt (waiting log) full_output) are
-
 -- A failure.
 pub failure_keeps : (code : Code) (last : ℕ) (log : Log) → LogIsRead log
     → LogIsRead (with_failure code last log)
@@ -290,53 +262,25 @@ failure_keeps code last log are =
     wrote_failure log.role log.received (alone (GoAway last (code_number code) []) ∷ []) log.sent
     log.reported log.table log.failed code are
 
--- Replies are no GOAWAY.
-replies_stay : (verdict : Verdict) (item : Item)
-    → list_any is_goaway (replies_to verdict item) ≡ false
-unfolding replies_to is_goaway
-replies_stay (ConnectionFault code) item = refl
-replies_stay (StreamFault code) item = refl
-replies_stay Reported item = refl
-replies_stay NoEvent (alone (Settings false pairs)) = refl
-replies_stay NoEvent (alone (Ping false octets)) = refl
-replies_stay NoEvent item = refl
-
--- An item, by its verdict.
-verdict_keeps : (log : Log) (decoded : Option Decoded) (item : Item) (verdict : Verdict)
-    → IsDecodedIn log decoded (completes item) → HasCode (fault_codes item) verdict
-    → IsTypedGoAway item → replies_among log.sent ≡ replies_owed log.received
-    → Says (IsSeen decoded item) (IsSeen decoded item) (IsSeen decoded item) verdict
-    → Says (IsFaulty log item) (IsUnreported log item) (IsSaid log item) verdict
-    → LogIsRead log → LogIsRead (with_verdict log decoded item verdict)
-unfolding with_verdict
-verdict_keeps log decoded item (ConnectionFault code) sees coded typed replied seen says are =
-    failure_keeps code _ log are
-verdict_keeps log decoded item verdict sees coded typed replied seen says are =
-    reports_keep _ _ (unreturned_keeps _ _ _ (wrote_keeps _ _ _ (replies_stay verdict item)
-    (item_read log decoded item verdict (λ other is. cc) sees coded typed replied seen says are)))
-
--- What a frame makes of the block that has begun.
-step_keeps : (log : Log) (decoded : Option Decoded) (step : FrameStep) → log.failed ≡ None
-    → IsDecodedIn log decoded step → IsTypedStep step
-    → replies_among log.sent ≡ replies_owed log.received → LogIsRead log
-    → LogIsRead (with_step log decoded step)
-unfolding with_step
-step_keeps log decoded (fails_with code) up sees typed replied are =
-    failure_keeps code (last_processed log) log are
-step_keeps log decoded (begins_block begun) up sees typed replied are = are
-step_keeps log decoded (completes item) up sees typed replied are =
-    let here = record log { begun = None } in
-    verdict_keeps here decoded item _ sees (verdict_coded (log_view here) decoded item) typed
-    replied
-    (says_of _ _ _ here decoded item (rules_see here decoded item))
-    (says_of _ _ _ here decoded item (rules_say here decoded item (are.low up))) are
-
--- A frame.
-pub frame_keeps : (log : Log) (decoded : Option Decoded) (frame : Frame) → log.failed ≡ None
-    → IsDecodedIn log decoded (frame_step (log_view log) frame) → IsFit frame
-    → replies_among log.sent ≡ replies_owed log.received → LogIsRead log
-    → LogIsRead (with_frame log decoded frame)
-unfolding with_frame
-frame_keeps log decoded frame up sees fit replied are =
-    step_keeps (record log { frames = log.frames ++ frame ∷ [] }) decoded
-    (frame_step (log_view log) frame) up sees (step_typed (log_view log) frame fit) replied are
+-- What Readings says of an item holds where the item comes and is no fault of the connection.
+pub replied_read : (role : Role) (values : Values) (log : Log) (decoded : Option Decoded)
+    (item : Item) (verdict : Verdict) → Replies role values log decoded item verdict
+    → LogIsRead log
+    → PendingRead (events_of (log_view log) decoded verdict item)
+    (with_sent (read log decoded item) (replies_to verdict item))
+unfolding used
+replied_read role values log decoded item verdict replies are =
+    let comes = replies.comes in
+    let typed = item_typed item (comes_fit role values log decoded item comes) in
+    let replied = comes_as_before comes (λ next. replies_among next.sent
+    ≡ replies_owed next.received) (replies_of_logs role values
+    comes.before comes.is) in
+    let up = comes_up comes in
+    wrote_keeps _ (read log decoded item) (replies_to verdict item) (replies_none verdict item)
+    (item_read log decoded item verdict replies.up (comes_decoded comes)
+    (subst (HasCode (fault_codes item)) replies.is (verdict_coded (log_view log) decoded item))
+    typed replied
+    (subst (Says (IsSeen decoded item) (IsSeen decoded item) (IsSeen decoded item)) replies.is
+    (says_of _ _ _ log decoded item (rules_see log decoded item)))
+    (subst (Says (IsFaulty log item) (IsUnreported log item) (IsSaid log item)) replies.is
+    (says_of _ _ _ log decoded item (rules_say log decoded item (are.low up)))) are)

@@ -1,13 +1,14 @@
 -- What keeps a stream's receive window, and what is owed of it, in step: items that are read, and
 -- calls.
-use Rattle.std.proofs.Common.{◌≡◌, ◌≢◌, ℕ, Bool, true, false}
-use Rattle.std.proofs.Common.{List, [], ◌∷◌, ◌++◌, length, Option, None}
+use Rattle.std.proofs.Common.{◌≡◌, ℕ, Bool, true, false}
+use Rattle.std.proofs.Common.{List, [], ◌∷◌, ◌++◌, length, Option}
 use Rattle.std.proofs.Common.{refl, ◌∙◌, inl, inr, arith}
+use Rattle.std.proofs.Common.{subst}
 use Rattle.std.proofs.lemmas.Bool.{both_ways, or_left, eq-eqb}
 use Rattle.std.proofs.lemmas.Bool.{ne_eqb, cases_eq}
 use Rattle.h2_frame.specs.declared.code.Code.{Code}
 use Rattle.h2_frame.specs.Codes.{code_number}
-use Rattle.h2_frame.specs.Frames.{Frame, Data, Headers, Priority, Reset, Settings, Ping, GoAway}
+use Rattle.h2_frame.specs.Frames.{Data, Headers, Priority, Reset, Settings, Ping, GoAway}
 use Rattle.h2_frame.specs.Frames.{WindowUpdate, Continuation, Unknown}
 use Rattle.h2_frame.specs.Encoding.{payload_of, stream_of}
 use Rattle.h2_block.specs.Grouping.{Item, alone, block}
@@ -17,21 +18,26 @@ use Rattle.h2_log.specs.Items.{stream_of_item}
 use Rattle.h2_log.specs.Events.{Event, DataEvent, ResetEvent, flow_on, reported_total}
 use Rattle.h2_log.specs.States.{is_closed_by_us}
 use Rattle.h2_log.specs.Log.{Log, active, state}
-use Rattle.h2_log.specs.Log.{last_processed}
 use Rattle.h2_log.specs.LogView.{log_view}
 use Rattle.h2_log.specs.Verdicts.{Verdict, ConnectionFault, StreamFault, NoEvent, Reported}
-use Rattle.h2_log.specs.ItemRules.{Decoded, replies_to, verdict_by_rules, FrameStep}
-use Rattle.h2_log.specs.ItemRules.{fails_with, begins_block, completes, frame_step}
+use Rattle.h2_log.specs.ItemRules.{Decoded, replies_to, verdict_by_rules}
 use Rattle.h2_log.specs.ItemEffects.{events_of}
 use Rattle.h2_log.specs.LogSteps.{read}
-use Rattle.h2_log.specs.LogSteps.{with_verdict, with_step, with_frame}
+use Rattle.h2_log.specs.LogSteps.{with_sent}
+use Rattle.h2_log.specs.Acts.{Values}
 use Rattle.h2_log_laws.proofs.ReaderStates.{active_parts}
 use Rattle.h2_log_laws.proofs.ReaderStates.{state_is_active}
 use Rattle.h2_log_laws.proofs.LogHistory.{History, history_of}
-use Rattle.h2_end_laws.proofs.ReadVerdicts.{Says, says_of, says_data, closed_by_us_is}
+use Rattle.h2_log_laws.proofs.LogInduction.{Replies}
+use Rattle.h2_log_laws.proofs.ItemLists.{total_none}
+use Rattle.h2_log_laws.proofs.LogViewLemmas.{closed_by_us_is}
+use Rattle.h2_end_laws.proofs.ReadVerdicts.{Says, says_of, says_data}
+use Rattle.h2_end_laws.proofs.ReadVerdicts.{says_nothing}
 use Rattle.h2_end_laws.proofs.ReceiveWindows.{IsAccounted, Steps, opened_in, quiet_steps}
-use Rattle.h2_end_laws.proofs.ReceiveWindows.{active_unclosed, log_step_keeps}
-use Rattle.h2_end_laws.proofs.ReceiveWindows.{failure_keeps, total_one, total_none, flow_none}
+use Rattle.h2_end_laws.proofs.ReceiveWindows.{active_unclosed}
+use Rattle.h2_end_laws.proofs.ReceiveWindows.{total_one, flow_none}
+use Rattle.h2_end_laws.proofs.ReceiveWindows.{PendingAccounted}
+use Rattle.h2_end_laws.proofs.ReceiveWindows.{step_keeps, sent_accounted}
 
 -- Items but DATA.
 abbrev pub IsOther : Item → Type 0
@@ -43,36 +49,17 @@ data_none : (item : Item) (i : ℕ) → IsOther item → data_on i item ≡ 0
 unfolding data_on
 data_none (block stream end octets) i other = refl
 data_none (alone (Data stream end octets pad)) i other = absurd other
-data_none (alone (Headers stream end last fragment pad priority)) i other = refl
-data_none (alone (Priority stream octets)) i other = refl
-data_none (alone (Reset stream code)) i other = refl
-data_none (alone (Settings ack pairs)) i other = refl
-data_none (alone (Ping ack octets)) i other = refl
-data_none (alone (GoAway last code debug)) i other = refl
-data_none (alone (WindowUpdate stream increment)) i other = refl
-data_none (alone (Continuation stream last fragment)) i other = refl
-data_none (alone (Unknown kind flags stream payload)) i other = refl
+data_none (alone frame) i other = refl
 
 -- No flow is reported of them.
 events_flow : (log : Log) (decoded : Option Decoded) (verdict : Verdict) (item : Item) (i : ℕ)
     → IsOther item
     → reported_total (flow_on i) (events_of (log_view log) decoded verdict item) ≡ 0
 unfolding events_of reported_total flow_on
-events_flow log decoded (ConnectionFault code) item i other = refl
-events_flow log decoded (StreamFault code) item i other = refl
-events_flow log decoded NoEvent item i other = refl
 events_flow log decoded Reported (block stream end octets) i other = refl
 events_flow log decoded Reported (alone (Data stream end octets pad)) i other = absurd other
-events_flow log decoded Reported (alone
-    (Headers stream end last fragment pad priority)) i other = refl
-events_flow log decoded Reported (alone (Priority stream octets)) i other = refl
-events_flow log decoded Reported (alone (Reset stream code)) i other = refl
-events_flow log decoded Reported (alone (Settings ack pairs)) i other = refl
-events_flow log decoded Reported (alone (Ping ack octets)) i other = refl
-events_flow log decoded Reported (alone (GoAway last code debug)) i other = refl
-events_flow log decoded Reported (alone (WindowUpdate stream increment)) i other = refl
-events_flow log decoded Reported (alone (Continuation stream last fragment)) i other = refl
-events_flow log decoded Reported (alone (Unknown kind flags stream payload)) i other = refl
+events_flow log decoded Reported (alone frame) i other = refl
+events_flow log decoded another item i other = refl
 
 -- Replies return nothing.
 replies_give : (verdict : Verdict) (item : Item) (i : ℕ)
@@ -134,7 +121,7 @@ closed_steps v i reads items events before closed gives flows =
     }
 
 -- A stream that is reset is closed by this end.
-reset_closed : (role : Role) (i code : ℕ) (sent : List Item)
+pub reset_closed : (role : Role) (i code : ℕ) (sent : List Item)
     → is_closed_by_us role i (alone (Reset i code) ∷ sent) ≡ true
 unfolding is_closed_by_us resets
 reset_closed role i code sent = or_left _ _ (or_left _ _ (eq-eqb i i refl))
@@ -213,13 +200,6 @@ abbrev pub IsReported : Log → Item → Type 0
 IsReported log (alone (Data stream end octets pad)) = active log stream ≡ true
 IsReported log item = Unit {0}
 
--- of other items nothing needs to be said
-says_nothing : (verdict : Verdict) → Says (Unit {0}) (Unit {0}) (Unit {0}) verdict
-says_nothing (ConnectionFault code) = tt
-says_nothing (StreamFault code) = tt
-says_nothing NoEvent = tt
-says_nothing Reported = tt
-
 -- So does the verdict by the rules.
 rules_say : (log : Log) (decoded : Option Decoded) (item : Item)
     → Says (Unit {0}) (IsSilent log item) (IsReported log item) (verdict_by_rules
@@ -257,59 +237,18 @@ item_steps log decoded (alone (Data stream end octets pad)) Reported i before no
     data_reported_steps log stream end octets pad i before says
 item_steps log decoded (block stream end octets) verdict i before none says =
     other_steps log decoded _ verdict i tt before
-item_steps log decoded (alone (Headers stream end last fragment pad priority)) verdict i before none
-    says = other_steps log decoded _ verdict i tt before
-item_steps log decoded (alone (Priority stream octets)) verdict i before none says =
-    other_steps log decoded _ verdict i tt before
-item_steps log decoded (alone (Reset stream code)) verdict i before none says =
-    other_steps log decoded _ verdict i tt before
-item_steps log decoded (alone (Settings ack pairs)) verdict i before none says =
-    other_steps log decoded _ verdict i tt before
-item_steps log decoded (alone (Ping ack octets)) verdict i before none says =
-    other_steps log decoded _ verdict i tt before
-item_steps log decoded (alone (GoAway last code debug)) verdict i before none says =
-    other_steps log decoded _ verdict i tt before
-item_steps log decoded (alone (WindowUpdate stream increment)) verdict i before none says =
-    other_steps log decoded _ verdict i tt before
-item_steps log decoded (alone (Continuation stream last fragment)) verdict i before none says =
-    other_steps log decoded _ verdict i tt before
-item_steps log decoded (alone (Unknown kind flags stream payload)) verdict i before none says =
+item_steps log decoded (alone frame) verdict i before none says =
     other_steps log decoded _ verdict i tt before
 
--- What stands still stands after an item, by its verdict.
-verdict_keeps : (log : Log) (decoded : Option Decoded) (item : Item) (verdict : Verdict) (i : ℕ)
-    → i ≢ 0 → IsAccounted (history_of log) i
-    → Says (Unit {0}) (IsSilent log item) (IsReported log item) verdict
-    → IsAccounted (history_of (with_verdict log decoded item verdict)) i
-unfolding with_verdict
-verdict_keeps log decoded item (ConnectionFault code) i some before says =
-    failure_keeps code _ log i before
-verdict_keeps log decoded item (StreamFault code) i some before says =
-    log_step_keeps log (read log decoded item) i (item ∷ []) _ _ log.calls _ some before refl
-    (item_steps log decoded item (StreamFault code) i before (λ other is. cc) says)
-verdict_keeps log decoded item NoEvent i some before says =
-    log_step_keeps log (read log decoded item) i (item ∷ []) _ _ log.calls _ some before refl
-    (item_steps log decoded item NoEvent i before (λ other is. cc) says)
-verdict_keeps log decoded item Reported i some before says =
-    log_step_keeps log (read log decoded item) i (item ∷ []) _ _ log.calls _ some before refl
-    (item_steps log decoded item Reported i before (λ other is. cc) says)
-
--- It still stands after what a frame makes of the block that has begun.
-frame_step_keeps : (log : Log) (decoded : Option Decoded) (step : FrameStep) (i : ℕ) → i ≢ 0
-    → IsAccounted (history_of log) i → IsAccounted (history_of (with_step log decoded step)) i
-unfolding with_step
-frame_step_keeps log decoded (fails_with code) i some before =
-    failure_keeps code (last_processed log) log i before
-frame_step_keeps log decoded (begins_block begun) i some before = before
-frame_step_keeps log decoded (completes item) i some before =
-    verdict_keeps (record log { begun = None }) decoded item _ i some before
-    (says_of _ _ _ (record log { begun = None }) decoded item
-    (rules_say (record log { begun = None }) decoded item))
-
--- It still stands after a frame.
-pub frame_keeps : (log : Log) (decoded : Option Decoded) (frame : Frame) (i : ℕ) → i ≢ 0
-    → IsAccounted (history_of log) i → IsAccounted (history_of (with_frame log decoded frame)) i
-unfolding with_frame
-frame_keeps log decoded frame i some before =
-    frame_step_keeps (record log { frames = log.frames ++ frame ∷ [] }) decoded
-    (frame_step (log_view log) frame) i some before
+-- What stands still stands, with its events, where an item comes and is no fault of the connection.
+pub replied_keeps : (role : Role) (values : Values) (i : ℕ) (log : Log) (decoded : Option Decoded)
+    (item : Item) (verdict : Verdict) → Replies role values log decoded item verdict
+    → IsAccounted (history_of log) i
+    → PendingAccounted i (events_of (log_view log) decoded verdict item)
+    (with_sent (read log decoded item) (replies_to verdict item))
+replied_keeps role values i log decoded item verdict replies before =
+    sent_accounted i _ (read log decoded item) (replies_to verdict item)
+    (step_keeps (history_of log) i (item ∷ []) _ _ log.calls log.unreturned before
+    (item_steps log decoded item verdict i before replies.up
+    (subst (Says (Unit {0}) (IsSilent log item) (IsReported log item)) replies.is
+    (says_of _ _ _ log decoded item (rules_say log decoded item)))))

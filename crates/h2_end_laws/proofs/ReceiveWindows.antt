@@ -1,8 +1,10 @@
 -- On an active stream that the peer hasn't ended, all DATA was reported, and what was released was
 -- returned.
-use Rattle.std.proofs.Common.{◌≡◌, ◌≢◌, ℕ, ◌+◌, ◌≤◌, nat_lt, ◌&&◌, Bool, true, false}
+use Rattle.std.proofs.Common.{◌≡◌, ◌≢◌, ℕ, ◌+◌, ◌≤◌, Bool, true, false}
 use Rattle.std.proofs.Common.{List, [], ◌∷◌, ◌++◌}
-use Rattle.std.proofs.Common.{refl, ap, ◌∙◌, inl, inr, arith}
+use Rattle.std.proofs.Common.{refl, inl, inr, arith}
+use Rattle.std.proofs.Common.{subst}
+use Rattle.std.proofs.Common.{sym}
 use Rattle.std.specs.List.{list_any}
 use Rattle.std.proofs.lemmas.Bool.{or_parts, or_from}
 use Rattle.std.proofs.lemmas.Bool.{cases_Bool}
@@ -14,22 +16,20 @@ use Rattle.h2_block.specs.Grouping.{Item, alone}
 use Rattle.h2_log.specs.declared.role.Role.{Role}
 use Rattle.h2_log.specs.declared.role.Role.TheVariants.{Client, Server}
 use Rattle.h2_log.specs.Items.{total, increment_on, data_on, is_block_on, ends, resets}
-use Rattle.h2_log.specs.Items.{is_goaway_below}
 use Rattle.h2_log.specs.Events.{Event, flow_on, reported_total}
 use Rattle.h2_log.specs.Acts.{Act, Answer}
-use Rattle.h2_log.specs.States.{openings, is_above, is_active, is_closed_by_us}
+use Rattle.h2_log.specs.States.{openings, is_active, is_closed_by_us}
 use Rattle.h2_log.specs.Log.{Log, active, released}
-use Rattle.h2_log.specs.Log.{waiting}
-use Rattle.h2_log.specs.Limits.{full_output}
-use Rattle.h2_log.specs.LogSteps.{with_sent, with_reported, with_unreturned, with_failure}
+use Rattle.h2_log.specs.LogSteps.{with_sent, with_failure}
 use Rattle.h2_log_laws.proofs.ItemLists.{none_after}
+use Rattle.h2_log_laws.proofs.ItemLists.{total_none}
 use Rattle.h2_log_laws.proofs.WindowsOfTwoEnds.{total-append}
 use Rattle.h2_log_laws.proofs.ReaderStates.{active_parts, lasts_parts}
 use Rattle.h2_log_laws.proofs.LogHistory.{History, history_of, active_in_view, moved, give}
-use Rattle.h2_log_laws.proofs.LogHistory.{given_by}
-use Rattle.h2_log_laws.proofs.LogHistory.{wrote_view, reports_view, with_unreturned_view}
+use Rattle.h2_log_laws.proofs.LogHistory.{wrote_view}
 use Rattle.h2_log_laws.proofs.LogHistory.{fails_view, reported_append}
 use Rattle.h2_log_laws.proofs.LogInvariant.{active_before}
+use Rattle.h2_log_laws.proofs.LogInvariant.{above_before}
 use Rattle.h2_log_laws.proofs.InvariantSteps.{update_elsewhere}
 
 -- Whether the stream was opened.
@@ -48,6 +48,19 @@ pub record IsAccounted (v : History) (i : ℕ) : Type 0 where
   pub whole : active_in_view v i ≡ true → list_any (ends i) v.received ≡ false
       → (total (increment_on i) v.sent ≡ released i v.calls)
       × (reported_total (flow_on i) v.reported ≡ total (data_on i) v.received)
+
+-- The same of a log of which these events are still to be reported.
+abbrev pub PendingAccounted : ℕ → List Event → Log → Type 0
+PendingAccounted i events log =
+    IsAccounted (record (history_of log) { reported = events ++ log.reported }) i
+
+-- It stands of a log with items that are sent, where it stands with these before the others.
+pub sent_accounted : (i : ℕ) (events : List Event) (log : Log) (items : List Item)
+    → IsAccounted (moved (history_of log) [] items events log.calls log.unreturned) i
+    → PendingAccounted i events (with_sent log items)
+sent_accounted i events log items is =
+    subst (λ (v : History). IsAccounted (record v { reported = events ++ v.reported }) i)
+    (sym (wrote_view log items)) is
 
 -- What a step must keep to, for that.
 pub record Steps (v : History) (i : ℕ) (reads items : List Item) (events : List Event)
@@ -71,13 +84,6 @@ unopened_before : (i : ℕ) (role : Role) (reads items received sent : List Item
 unopened_before i Client reads items received sent none = none_after (is_block_on i) items sent none
 unopened_before i Server reads items received sent none =
     none_after (is_block_on i) reads received none
-
--- what isn't above an own GOAWAY wasn't before
-above_before : (role : Role) (i : ℕ) (items sent : List Item) → is_above role i (items ++ sent)
-    ≡ false → is_above role i sent ≡ false
-unfolding is_above
-above_before Client i items sent none = refl
-above_before Server i items sent none = none_after (is_goaway_below i) items sent none
 
 -- what this end hasn't closed it hadn't closed before
 closed_before : (role : Role) (i : ℕ) (items sent : List Item)
@@ -165,15 +171,19 @@ pub total_one : (f : Item → ℕ) (item : Item) → f item ≡ 0 → total f (i
 unfolding total
 total_one f item none = omega (arith, none)
 
--- A total of none.
-pub total_none : (f : Item → ℕ) → total f [] ≡ 0
-unfolding total
-total_none f = refl
-
 -- Events that aren't there have no flow.
 pub flow_none : (i : ℕ) → reported_total (flow_on i) [] ≡ 0
 unfolding reported_total
 flow_none i = refl
+
+-- Nor does a step that has nothing to do with it change what stands, of whatever is unreturned.
+pub quiet_keeps : (v : History) (i : ℕ) (events : List Event) (calls : List (Act × Answer))
+    (unreturned : ℕ) → IsAccounted v i → reported_total (flow_on i) events ≡ 0
+    → released i calls ≡ released i v.calls
+    → IsAccounted (moved v [] [] events calls unreturned) i
+quiet_keeps v i events calls unreturned before flows same =
+    step_keeps v i [] [] events calls unreturned before
+    (quiet_steps v i [] [] events calls before (total_none _) (total_none _) flows same)
 
 -- What is unreturned may be returned.
 pub give_accounted : (v : History) (i : ℕ) → i ≢ 0 → IsAccounted v i → IsAccounted (give v) i
@@ -181,42 +191,6 @@ give_accounted v i some before =
     step_keeps v i [] (alone (WindowUpdate 0 v.unreturned) ∷ []) [] v.calls 0 before
     (quiet_steps v i [] (alone (WindowUpdate 0 v.unreturned) ∷ []) [] v.calls before (total_none _)
     (total_one _ _ (update_elsewhere i v.unreturned some)) (flow_none i) refl)
-
--- the same after a step, before its events, by the test whether it is returned
-given_accounted : (v : History) (i : ℕ) (reads items : List Item) (events : List Event)
-    (calls : List (Act × Answer)) (unreturned : ℕ) (b : Bool) → i ≢ 0
-    → IsAccounted (moved v reads items events calls unreturned) i
-    → IsAccounted (moved (given_by b (moved v reads items [] calls unreturned)) [] [] events
-    (given_by b (moved v reads items [] calls unreturned)).calls
-    (given_by b (moved v reads items [] calls unreturned)).unreturned) i
-given_accounted v i reads items events calls unreturned true some are =
-    give_accounted (moved v reads items events calls unreturned) i some are
-given_accounted v i reads items events calls unreturned false some are = are
-
--- A step of a log keeps what stands.
-pub log_step_keeps : (log base : Log) (i : ℕ) (reads items : List Item) (events : List Event)
-    (calls : List (Act × Answer)) (more : ℕ) → i ≢ 0 → IsAccounted (history_of log) i
-    → history_of base ≡ moved (history_of log) reads [] [] calls log.unreturned
-    → Steps (history_of log) i reads items events calls
-    → IsAccounted (history_of (with_reported (with_unreturned more (with_sent base items)) events))
-    i
-log_step_keeps log base i reads items events calls more some before is step =
-    let b = nat_lt 0 more && nat_lt (waiting (with_sent base items)) full_output in
-    let written : history_of (with_sent base items)
-    ≡ moved (history_of log) reads items [] calls log.unreturned =
-    wrote_view base items ∙ ap (λ (v : History). moved v [] items [] v.calls v.unreturned) is in
-    let returned : history_of (with_unreturned more (with_sent base items))
-    ≡ given_by b (moved (history_of log) reads items [] calls (log.unreturned + more)) =
-    with_unreturned_view more (with_sent base items)
-    ∙ ap (λ (v : History). given_by b (moved v [] [] [] v.calls (v.unreturned + more))) written in
-    let all : history_of (with_reported (with_unreturned more (with_sent base items)) events)
-    ≡ (λ (v : History). moved v [] [] events v.calls v.unreturned) (given_by b (moved
-    (history_of log) reads items [] calls (log.unreturned + more))) =
-    reports_view (with_unreturned more (with_sent base items)) events
-    ∙ ap (λ (v : History). moved v [] [] events v.calls v.unreturned) returned in
-    rw all (given_accounted (history_of log) i reads items events calls (log.unreturned + more) b
-    some
-    (step_keeps (history_of log) i reads items events calls (log.unreturned + more) before step))
 
 -- GOAWAY returns nothing
 goaway_gives : (i last code : ℕ) → increment_on i (alone (GoAway last code [])) ≡ 0

@@ -44,7 +44,7 @@ replay_closed role values _ _ _
     called_one (replay_closed role values acts log turns is) act answer typed may
 
 -- What octets add that `take` uses.
-adds_all : (log after : Log) (octets : List ℕ) (fault : Option Code)
+pub adds_all : (log after : Log) (octets : List ℕ) (fault : Option Code)
     → TakesAll log octets fault after → Adds is_of_take log after
 adds_all log after _ _ (is_done octets may) = adds_take log after octets _ may
 adds_all log after _ _ (goes_on {between = between} octets count event fault may more others) =

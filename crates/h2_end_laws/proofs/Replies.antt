@@ -2,36 +2,147 @@
 use Rattle.std.proofs.Common.{◌≡◌, ℕ, Bool, true, false}
 use Rattle.std.proofs.Common.{if◌then◌else◌, List, [], ◌∷◌, ◌++◌, Option, Some, None, refl}
 use Rattle.std.proofs.Common.{sym, ap, ◌∙◌}
+use Rattle.std.proofs.Common.{zero}
+use Rattle.std.proofs.Common.{suc}
+use Rattle.std.proofs.Common.{◌==◌}
+use Rattle.std.proofs.Common.{nat_le}
+use Rattle.std.proofs.Common.{◌&&◌}
+use Rattle.std.proofs.Common.{length}
+use Rattle.std.proofs.Common.{take}
+use Rattle.std.proofs.Common.{drop}
+use Rattle.std.proofs.Common.{append_assoc}
+use Rattle.std.proofs.Common.{subst}
 use Rattle.h2_frame.specs.declared.code.Code.{Code}
-use Rattle.h2_frame.specs.declared.code.Code.TheVariants.{InternalError}
-use Rattle.h2_frame.specs.Frames.{Frame, Settings, Ping}
-use Rattle.h2_wire.specs.Faults.{wire_fault_code}
+use Rattle.h2_frame.specs.Frames.{Settings, Ping}
+use Rattle.h2_frame.specs.Frames.{Data}
+use Rattle.h2_frame.specs.Frames.{WindowUpdate}
 use Rattle.h2_block.specs.Grouping.{Item, alone, block}
 use Rattle.h2_log.specs.declared.role.Role.{Role}
 use Rattle.h2_log.specs.Acts.{Values}
+use Rattle.h2_log.specs.Acts.{Act}
+use Rattle.h2_log.specs.Acts.{Answer}
+use Rattle.h2_log.specs.Acts.{Open}
+use Rattle.h2_log.specs.Acts.{SendFields}
+use Rattle.h2_log.specs.Acts.{SendData}
+use Rattle.h2_log.specs.Acts.{Release}
+use Rattle.h2_log.specs.Acts.{ResetStream}
+use Rattle.h2_log.specs.Acts.{Refuse}
+use Rattle.h2_log.specs.Acts.{SendPing}
+use Rattle.h2_log.specs.Acts.{SendGoAway}
+use Rattle.h2_log.specs.Acts.{ChangeSettings}
+use Rattle.h2_log.specs.Acts.{Number}
+use Rattle.h2_log.specs.Acts.{Count}
+use Rattle.h2_log.specs.Acts.{Done}
 use Rattle.h2_log.specs.Log.{Log}
 use Rattle.h2_log.specs.Verdicts.{Verdict, ConnectionFault, StreamFault, NoEvent, Reported}
 use Rattle.h2_log.specs.View.{View}
+use Rattle.h2_log.specs.View.{ended_in}
 use Rattle.h2_log.specs.LogView.{log_view}
-use Rattle.h2_log.specs.ItemRules.{Decoded, FrameStep, fails_with, begins_block, completes}
+use Rattle.h2_log.specs.ItemRules.{Decoded}
 use Rattle.h2_log.specs.ItemRules.{replies_to, verdict_by_rules, verdict_of_fault, settings_fault}
-use Rattle.h2_log.specs.ItemRules.{over_limits, verdict_of, frame_step}
-use Rattle.h2_log.specs.LogSteps.{used, read, with_sent, with_verdict, with_step, with_frame}
+use Rattle.h2_log.specs.ItemRules.{over_limits, verdict_of}
+use Rattle.h2_log.specs.LogSteps.{read, with_sent}
 use Rattle.h2_log.specs.LogCalls.{opened}
-use Rattle.h2_log.specs.Histories.{IsLog, begins, took_some, took_one, met_fault, ran_out_of_memory}
-use Rattle.h2_log.specs.Histories.{reported_one, called_one}
+use Rattle.h2_log.specs.LogCalls.{called}
+use Rattle.h2_log.specs.Histories.{IsLog}
+use Rattle.h2_log.specs.CallRules.{data_frames}
+use Rattle.h2_log.specs.CallRules.{data_items}
+use Rattle.h2_log.specs.CallRules.{items_of}
+use Rattle.h2_log.specs.CallRules.{answer_of}
+use Rattle.h2_log_laws.proofs.LogInduction.{IsLogInvariant, kept_by_logs}
+use Rattle.h2_end_laws.proofs.Unread.{wrote_reads}
 use Rattle.h2_end_laws.specs.Replies.{replies_owed, replies_among}
-use Rattle.h2_end_laws.proofs.Unread.{ReadsNothing, wrote_reads, replies_append, reads_twice}
-use Rattle.h2_end_laws.proofs.Unread.{reads_reported}
-use Rattle.h2_end_laws.proofs.Unread.{reads_unreturned, reads_fails, reads_call, reads_unprocessed}
 
 -- The replies that a log has written are those that are due.
-abbrev Replies : Log → Type 0
-Replies log = replies_among log.sent ≡ replies_owed log.received
+abbrev HasReplies : Log → Type 0
+HasReplies log = replies_among log.sent ≡ replies_owed log.received
 
--- They still are where nothing is read.
-replies_still : (old new : Log) → ReadsNothing old new → Replies old → Replies new
-replies_still old new none is = none.replies ∙ is ∙ ap replies_owed (sym none.received)
+-- The reply that an item is, or none, stands before those among the others.
+replies_first : (item : Item) (items : List Item) → replies_among (item ∷ items)
+    ≡ replies_among (item ∷ []) ++ replies_among items
+unfolding replies_among
+replies_first (block stream end octets) items = refl
+replies_first (alone (Settings true pairs)) items = refl
+replies_first (alone (Settings false pairs)) items = refl
+replies_first (alone (Ping true octets)) items = refl
+replies_first (alone (Ping false octets)) items = refl
+replies_first (alone frame) items = refl
+
+-- The replies among items after others.
+replies_append : (newer older : List Item) → replies_among (newer ++ older)
+    ≡ replies_among newer ++ replies_among older
+unfolding replies_among
+replies_append [] older = refl
+replies_append (item ∷ newer) older =
+    replies_first item (newer ++ older)
+    ∙ ap (λ (items : List Item). replies_among (item ∷ []) ++ items) (replies_append newer older)
+    ∙ sym (append_assoc (replies_among (item ∷ [])) (replies_among newer) (replies_among older))
+    ∙ ap (λ (items : List Item). items ++ replies_among older) (sym (replies_first item newer))
+
+-- DATA frames are no replies, by the test whether one more is enough.
+frames_replies_by : (b : Bool) (one : Item) (others : List Item) (last : Item)
+    → replies_among (one ∷ []) ≡ [] → replies_among (last ∷ []) ≡ [] → replies_among others ≡ []
+    → replies_among (if b then one ∷ [] else others ++ last ∷ []) ≡ []
+frames_replies_by true one others last none no_last no_others = none
+frames_replies_by false one others last none no_last no_others =
+    replies_append others (last ∷ []) ∙ rw (no_others, no_last) refl
+
+-- DATA is no reply
+data_replies : (id : ℕ) (end : Bool) (octets : List ℕ)
+    → replies_among (alone (Data id end octets None) ∷ []) ≡ []
+unfolding replies_among
+data_replies id end octets = refl
+
+-- none are no replies
+none_replies : replies_among [] ≡ []
+unfolding replies_among
+none_replies = refl
+
+-- DATA frames are no replies.
+frames_replies : (count most id : ℕ) (octets : List ℕ) (end : Bool)
+    → replies_among (data_frames count most id octets end) ≡ []
+unfolding data_frames
+frames_replies zero most id octets end = none_replies
+frames_replies (suc count) most id octets end =
+    frames_replies_by (nat_le (length octets) most) (alone (Data id end octets None)) _
+    (alone (Data id false (take most octets) None)) (data_replies id end octets)
+    (data_replies id false (take most octets)) (frames_replies count most id (drop most octets) end)
+
+-- Nor are none, or DATA frames.
+replies_if : (b : Bool) (items : List Item) → replies_among items ≡ []
+    → replies_among (if b then [] else items) ≡ []
+replies_if true items none = none_replies
+replies_if false items none = none
+
+-- What is written of a body is no reply.
+body_replies : (most id : ℕ) (octets : List ℕ) (end : Bool) (count : ℕ)
+    → replies_among (data_items most id octets end count) ≡ []
+unfolding data_items
+body_replies most id octets end count = replies_if _ _ (frames_replies (suc count) most id
+    (take count octets) (end && count == length octets))
+
+-- What credit is returned by is no reply, by whether the stream has ended.
+credit_replies : (b : Bool) (id count : ℕ) → replies_among (alone (WindowUpdate 0 count) ∷
+    (if b then [] else alone (WindowUpdate id count) ∷ [])) ≡ []
+unfolding replies_among
+credit_replies true id count = refl
+credit_replies false id count = refl
+
+-- What a call writes is no reply.
+call_replies : (view : View) (act : Act) (answer : Answer)
+    → replies_among (items_of view act answer) ≡ []
+unfolding items_of replies_among
+call_replies view (Open fields end) (Number id) = refl
+call_replies view (SendFields id fields end) Done = refl
+call_replies view (SendData id octets end) (Count count) = body_replies view.max_payload id octets
+    end count
+call_replies view (Release id count) Done = credit_replies (ended_in (view.stream id)) id count
+call_replies view (ResetStream id code) Done = refl
+call_replies view (Refuse id code) Done = refl
+call_replies view (SendPing octets) Done = refl
+call_replies view SendGoAway Done = refl
+call_replies view (ChangeSettings values) Done = refl
+call_replies view act answer = refl
 
 -- What is due for an item stands before what is due for the others.
 due_first : (item : Item) (items : List Item) → replies_owed (item ∷ items)
@@ -98,75 +209,51 @@ replied : (view : View) (decoded : Option Decoded) (item : Item)
 unfolding verdict_of over_limits
 replied view decoded item = replied_if _ _ _ item (replied_by_rules view decoded item)
 
--- After an item that is replied to as is due.
-reply_written : (log : Log) (decoded : Option Decoded) (item : Item) (replies : List Item)
-    → replies_among replies ≡ replies_owed (item ∷ []) → Replies log
-    → Replies (with_sent (read log decoded item) replies)
-reply_written log decoded item replies due is =
-    let wrote = wrote_reads (read log decoded item) replies in
-    ap replies_among wrote.3 ∙ replies_append replies log.sent
-    ∙ rw (due, is) (sym (due_first item log.received))
-    ∙ ap replies_owed (sym wrote.2)
+-- So it is where it is no fault of the connection.
+due_of : (verdict : Verdict) (item : Item)
+    → ((code : Code) → verdict ≡ ConnectionFault code → ⊥) → IsRepliedTo verdict item
+    → replies_among (replies_to verdict item) ≡ replies_owed (item ∷ [])
+due_of (ConnectionFault code) item up due = absurd (up code refl)
+due_of other item up due = due
 
--- After an item, by its verdict.
-verdict_replies : (log : Log) (decoded : Option Decoded) (item : Item) (verdict : Verdict)
-    → IsRepliedTo verdict item → Replies log → Replies (with_verdict log decoded item verdict)
-unfolding with_verdict
-verdict_replies log decoded item (ConnectionFault code) due is =
-    replies_still log _ (reads_fails code _ log) is
-verdict_replies log decoded item (StreamFault code) due is =
-    replies_still _ _ (reads_twice _ _ _ (reads_unreturned _ _) (reads_reported _ _))
-    (reply_written log decoded item (replies_to (StreamFault code) item) due is)
-verdict_replies log decoded item NoEvent due is =
-    replies_still _ _ (reads_twice _ _ _ (reads_unreturned _ _) (reads_reported _ _))
-    (reply_written log decoded item (replies_to NoEvent item) due is)
-verdict_replies log decoded item Reported due is =
-    replies_still _ _ (reads_twice _ _ _ (reads_unreturned _ _) (reads_reported _ _))
-    (reply_written log decoded item (replies_to Reported item) due is)
+-- Items are written, with these replies among them.
+replies_written : (log : Log) (items replies : List Item) → replies_among items ≡ replies
+    → replies_among (with_sent log items).sent ≡ replies ++ replies_among log.sent
+replies_written log items replies among =
+    ap replies_among (wrote_reads log items).3 ∙ replies_append items log.sent
+    ∙ ap (λ (line : List Item). line ++ replies_among log.sent) among
 
--- After what a frame makes of the block that has begun.
-step_replies : (log : Log) (decoded : Option Decoded) (step : FrameStep) → Replies log
-    → Replies (with_step log decoded step)
-unfolding with_step
-step_replies log decoded (fails_with code) is = replies_still log _ (reads_fails code _ log) is
-step_replies log decoded (begins_block begun) is = is
-step_replies log decoded (completes item) is =
-    let before = record log { begun = None } in
-    verdict_replies before decoded item _ (replied (log_view before) decoded item) is
-
--- After a frame.
-frame_replies : (log : Log) (decoded : Option Decoded) (frame : Frame) → Replies log
-    → Replies (with_frame log decoded frame)
-unfolding with_frame
-frame_replies log decoded frame is = step_replies _ decoded (frame_step (log_view log) frame) is
-
--- Octets that are used are no replies.
-used_replies : (log : Log) (octets unparsed : List ℕ) → Replies log
-    → Replies (used log octets unparsed)
-unfolding used
-used_replies log octets unparsed is = is
-
--- A new end has none.
-opened_replies : (role : Role) (values : Values) → Replies (opened role values)
+-- Each change of a log keeps it.
+replies_kept : (role : Role) (values : Values) → IsLogInvariant role values HasReplies
 unfolding opened with_sent replies_among replies_owed
-opened_replies role values = refl
+replies_kept role values =
+    record {
+      opening = λ in_range. refl;
+      used = λ log octets unparsed is. is;
+      framed = λ log frames is. is;
+      begun = λ log begun is. is;
+      replied = λ log decoded item verdict replies is.
+          let base = read log decoded item in
+          let due = due_of verdict item replies.up (subst (λ (v : Verdict). IsRepliedTo v item)
+          replies.is (replied (log_view log) decoded item)) in
+          replies_written base (replies_to verdict item) _ due
+          ∙ rw is (sym (due_first item log.received))
+          ∙ ap replies_owed (sym (wrote_reads base (replies_to verdict item)).2);
+      reported = λ log event events may is. is;
+      unreturned = λ log count is. is;
+      returned = λ log returns is. is;
+      failed = λ log code last names is. is;
+      sent = λ log act accepted is.
+          let answer = answer_of (log_view log) act in
+          let items = items_of (log_view log) act answer in
+          replies_written (called log act answer) items []
+          (call_replies (log_view log) act answer) ∙ is
+          ∙ ap replies_owed (sym (wrote_reads (called log act answer) items).2);
+      called = λ log act answer is_log none is. is;
+      given = λ log more is. is;
+    }
 
 -- Every log.
 pub replies_of_logs : (role : Role) (values : Values) (log : Log) → IsLog role values log
     → replies_among log.sent ≡ replies_owed log.received
-replies_of_logs role values _ (begins in_range) = opened_replies role values
-replies_of_logs role values _ (took_some {log = log} is takes octets unparsed read) =
-    used_replies log octets unparsed (replies_of_logs role values log is)
-replies_of_logs role values _ (took_one {log = log} is takes octets frame decoded read sees) =
-    frame_replies (used log octets []) decoded frame (used_replies log octets []
-    (replies_of_logs role values log is))
-replies_of_logs role values _ (met_fault {log = log} is takes octets fault at) =
-    replies_still (used log octets []) _ (reads_fails (wire_fault_code fault) _ _)
-    (used_replies log octets [] (replies_of_logs role values log is))
-replies_of_logs role values _ (ran_out_of_memory {log = log} is up octets may) =
-    replies_still (used log octets []) _ (reads_fails InternalError _ _)
-    (used_replies log octets [] (replies_of_logs role values log is))
-replies_of_logs role values _ (reported_one {log = log} is up some) =
-    replies_still log _ (reads_unprocessed log) (replies_of_logs role values log is)
-replies_of_logs role values _ (called_one {log = log} is act answer typed may) =
-    replies_still log _ (reads_call log act answer) (replies_of_logs role values log is)
+replies_of_logs role values = kept_by_logs role values HasReplies (replies_kept role values)

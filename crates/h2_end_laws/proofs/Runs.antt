@@ -59,7 +59,7 @@ no_longer frames frame line =
     let counted = simp length-append at (ap length line) in omega (arith, counted)
 
 -- The last of a list is one.
-one_last : (frames : List Frame) (frame other : Frame)
+pub one_last : (frames : List Frame) (frame other : Frame)
     → frames ++ frame ∷ [] ≡ frames ++ other ∷ [] → frame ≡ other
 one_last [] frame other line = cc
 one_last (first ∷ frames) frame other line =

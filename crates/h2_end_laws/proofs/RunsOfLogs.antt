@@ -134,7 +134,7 @@ memory_piece : (role : Role) (values : Values) (octets : List ℕ) (marks : List
     → Run role values marks (bare log)
     → Run role values (back (each Octet octets ++ OutOfMemory (is_in_frame may) ∷ []) marks)
     (bare (took_out_of_memory log octets))
-memory_piece role values octets marks log is up (unused, to_report none some) run =
+memory_piece role values octets marks log is up (unused, to_report none some due) run =
     subst (λ (line : List ℕ). Run role values
     (back (each Octet line ++ OutOfMemory false ∷ []) marks)
     (bare (took_out_of_memory log line))) (sym none)

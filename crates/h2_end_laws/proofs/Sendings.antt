@@ -63,19 +63,9 @@ wrote_keeps log (item ∷ items) none is =
 read_keeps : (log : Log) (decoded : Option Decoded) (item : Item) → is_settings item ≡ false
     → LogIsSent log → LogIsSent (read log decoded item)
 unfolding settings_received
-read_keeps log decoded (alone (Data stream end octets pad)) other is = is
-read_keeps log decoded (alone (Headers stream end last fragment pad priority)) other is = is
-read_keeps log decoded (alone (Priority stream octets)) other is = is
-read_keeps log decoded (alone (Reset stream code)) other is = is
-read_keeps log decoded (alone (Settings true pairs)) other is = is
 read_keeps log decoded (alone (Settings false pairs)) other is = absurd (both_ways true other refl)
-read_keeps log decoded (alone (Ping true octets)) other is = is
-read_keeps log decoded (alone (Ping false octets)) other is = is
-read_keeps log decoded (alone (GoAway last code debug)) other is = is
-read_keeps log decoded (alone (WindowUpdate stream increment)) other is = is
-read_keeps log decoded (alone (Continuation stream last fragment)) other is = is
-read_keeps log decoded (alone (Unknown kind flags stream payload)) other is = is
 read_keeps log decoded (block stream end octets) other is = is
+read_keeps log decoded (alone frame) other is = is
 
 -- An item that is read, and replied to.
 other_replied : (log : Log) (decoded : Option Decoded) (item : Item) (verdict : Verdict)

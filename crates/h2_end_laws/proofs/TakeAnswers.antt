@@ -22,6 +22,7 @@ use Rattle.h2_log.specs.Histories.{IsLog, took_some, took_one, met_fault, ran_ou
 use Rattle.h2_log.specs.Histories.{reported_one, TakesOctets, TakesPart, TakesFrame, TakesFault}
 use Rattle.h2_log.specs.Histories.{IsDecodedFor, MayRunOutOfMemory}
 use Rattle.h2_log.proofs.StreamLemmas.{Keeps-frame, Keeps-none, stream_of_log}
+use Rattle.h2_log_laws.proofs.PartsStay.{SamePart, stays_written}
 use Rattle.h2_log_laws.proofs.GrowthBySteps.{HoldsOfWrites, holds_sent, holds_unreturned}
 use Rattle.h2_log_laws.proofs.GrowthBySteps.{holds_sent_unreturned}
 use Rattle.h2_end_laws.specs.Takes.{TakeAnswer, Took, Failed, events_answered, MayTake, has_failed}
@@ -67,17 +68,12 @@ reported_is log (event ∷ events) = refl
 
 -- The second log has reported what the first has.
 abbrev ReportedAs : Log → Log → Type 0
-ReportedAs old new = new.reported ≡ old.reported
+ReportedAs = SamePart (λ log. log.reported)
 
 -- What is written and what is unreturned report nothing.
 reported_as : HoldsOfWrites ReportedAs
 reported_as =
-    record {
-      none = λ log. refl;
-      twice = λ one two three a b. b ∙ a;
-      sent = λ log item items. refl;
-      unreturned = λ log count. refl;
-    }
+    stays_written (λ log. log.reported) (λ log sent written turns. refl) (λ log count. refl)
 
 pub sent_reported : (log : Log) (items : List Item) → (with_sent log items).reported ≡ log.reported
 sent_reported log items = holds_sent ReportedAs reported_as log items

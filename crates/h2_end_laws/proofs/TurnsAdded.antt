@@ -27,12 +27,7 @@ pub record Adds (p : Turn → Bool) (log next : Log) : Type 0 where
 -- what is written
 abbrev pub is_output : Turn → Bool
 is_output (Out octets) = true
-is_output (In octets) = false
-is_output (Happened event) = false
-is_output (Called act) = false
-is_output (Answered answer) = false
-is_output (TakeCalled octets) = false
-is_output (TakeAnswered fault) = false
+is_output other = false
 
 -- what happens inside of `take`
 abbrev pub is_of_take : Turn → Bool
@@ -51,7 +46,7 @@ both_pass p [] turns here there = there
 both_pass p (turn ∷ more) turns here there = (here.0, both_pass p more turns here.1 there)
 
 -- A log that adds no turn.
-pub adds_none : (p : Turn → Bool) (log next : Log) → next.turns ≡ log.turns → Adds p log next
+adds_none : (p : Turn → Bool) (log next : Log) → next.turns ≡ log.turns → Adds p log next
 adds_none p log next same = record { news = []; turns = same; pass = tt }
 
 -- A log that adds one.

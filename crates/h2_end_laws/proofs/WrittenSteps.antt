@@ -1,36 +1,27 @@
 -- What each step writes: what is owed, and credit.
-use Rattle.std.proofs.Common.{◌≡◌, ℕ, nat_lt, ◌&&◌, Bool, true, false, if◌then◌else◌, List, [], ◌∷◌}
+use Rattle.std.proofs.Common.{◌≡◌, ℕ, List, [], ◌∷◌}
 use Rattle.std.proofs.Common.{◌++◌, Option, None, refl, sym, ap, ◌∙◌, inl, inr, append_assoc}
 use Rattle.std.proofs.Common.{append-nil, subst}
+use Rattle.std.proofs.Common.{◌+◌}
 use Rattle.h2_frame.specs.declared.code.Code.{Code}
 use Rattle.h2_frame.specs.Frames.{WindowUpdate}
 use Rattle.h2_block.specs.Grouping.{Item, alone}
-use Rattle.h2_log.specs.Items.{encoding_of_item, encoding_of_items}
+use Rattle.h2_log.specs.Items.{encoding_of_items}
 use Rattle.h2_log.specs.Events.{Event}
 use Rattle.h2_log.specs.Acts.{Act, Answer, Refuse, PutOut, Count, Done}
-use Rattle.h2_log.specs.Log.{Log, waiting}
+use Rattle.h2_log.specs.Log.{Log}
 use Rattle.h2_log.specs.LogView.{log_view}
-use Rattle.h2_log.specs.Limits.{full_output, max_frame_size_sent}
+use Rattle.h2_log.specs.Limits.{max_frame_size_sent}
 use Rattle.h2_log.specs.Verdicts.{Verdict, ConnectionFault}
 use Rattle.h2_log.specs.ItemRules.{Decoded, replies_to, verdict_of}
-use Rattle.h2_log.specs.CallRules.{answer_of, items_of, refuse_fault, returns_before_put_out}
+use Rattle.h2_log.specs.CallRules.{answer_of, items_of, refuse_fault}
 use Rattle.h2_log.specs.LogSteps.{read, with_sent, with_reported, with_unreturned, with_item}
 use Rattle.h2_log.specs.LogSteps.{with_credit_returned, with_verdict}
-use Rattle.h2_log.specs.LogCalls.{called, with_items, refused_with, before_put_out, with_call}
+use Rattle.h2_log.specs.LogCalls.{called, with_items, refused_with, with_call}
 use Rattle.h2_log.proofs.SentPayloads.{most_is_limit}
+use Rattle.h2_log_laws.proofs.CreditCases.{credit_cases, put_out_cases}
+use Rattle.h2_log_laws.proofs.TurnsOfLogs.{written_after}
 use Rattle.h2_end_laws.specs.Written.{IsCredit, Writes}
-
--- The encoding of one list after another.
-encoding_append : (most : ℕ) (newer older : List Item)
-    → encoding_of_items most (newer ++ older)
-    ≡ encoding_of_items most older ++ encoding_of_items most newer
-unfolding encoding_of_items
-encoding_append most [] older = sym (append-nil (encoding_of_items most older))
-encoding_append most (item ∷ newer) older =
-    ap (λ (octets : List ℕ). octets ++ encoding_of_item most item)
-    (encoding_append most newer older)
-    ∙ append_assoc (encoding_of_items most older) (encoding_of_items most newer)
-    (encoding_of_item most item)
 
 -- These items were written, and nothing was read.
 pub record Puts (before after : Log) (items : List Item) : Type 0 where
@@ -63,7 +54,7 @@ puts_twice one two three older newer a b =
           ∙ append_assoc one.written (encoding_of_items max_frame_size_sent older)
           (encoding_of_items max_frame_size_sent newer)
           ∙ ap (λ (octets : List ℕ). one.written ++ octets)
-          (sym (encoding_append max_frame_size_sent newer older));
+          (sym (written_after max_frame_size_sent newer older));
     }
 
 -- Items are written.
@@ -103,17 +94,13 @@ credit_returned log other received sent written =
           (puts_sent (record other { unreturned = 0 }) _);
     }
 
--- What is unreturned is added, by the test whether it is returned.
-credit_by : (log : Log) (count : ℕ) (b : Bool)
-    → PutsCredit log (if b then with_credit_returned (record log { unreturned = count })
-    else record log { unreturned = count })
-credit_by log count true = credit_returned log (record log { unreturned = count }) refl refl refl
-credit_by log count false = credit_none log (record log { unreturned = count }) refl refl refl
-
 -- What is unreturned is added.
 credit_of : (more : ℕ) (log : Log) → PutsCredit log (with_unreturned more log)
-unfolding with_unreturned
-credit_of more log = credit_by log _ (nat_lt 0 more && nat_lt (waiting log) full_output)
+credit_of more log =
+    credit_cases (PutsCredit log) more log
+    (λ returns. credit_returned log (record log { unreturned = log.unreturned + more }) refl refl
+    refl)
+    (λ keeps. credit_none log (record log { unreturned = log.unreturned + more }) refl refl refl)
 
 -- Items are written, and then credit.
 pub puts_items : (log base : Log) (items : List Item) (more : ℕ) → base.received ≡ log.received
@@ -183,24 +170,16 @@ unfolding with_items
 call_items log act answer =
     writes_items log (called log act answer) (items_of (log_view log) act answer) _ refl refl
 
--- Before output is put out credit alone is, by the test whether it is.
-put_out_by : (log put : Log) (given : ℕ) (b : Bool) → put.received ≡ log.received
-    → put.sent ≡ log.sent → put.written ≡ log.written
-    → PutsCredit log (record (if b then with_credit_returned put else put) { given = given })
-unfolding with_sent
-put_out_by log put given true received sent written =
-    credit_returned log (record put { given = given }) received sent written
-put_out_by log put given false received sent written =
-    credit_none log (record put { given = given }) received sent written
-
 -- A call that puts output out writes credit alone.
 put_out_writes : (log : Log) (count given : ℕ)
     → Writes log (with_call log (PutOut count) (Count given)) []
-unfolding with_call before_put_out
+unfolding with_call with_sent
 put_out_writes log count given =
     let put = called log (PutOut count) (Count given) in
-    writes_credit log _ (put_out_by log put _ (returns_before_put_out (log_view put)) refl refl
-    refl)
+    writes_credit log _
+    (put_out_cases (λ ready. PutsCredit log (record ready { given = log.given + given })) put
+    (λ returns. credit_returned log (record put { given = log.given + given }) refl refl refl)
+    (λ keeps. credit_none log (record put { given = log.given + given }) refl refl refl))
 
 -- A call with the answer of the rules.
 answered_writes : (log : Log) (act : Act)

@@ -1,5 +1,5 @@
 -- Octets with which an end doesn't run out of memory, however little there is.
-use Rattle.std.specs.Prelude.{◌≡◌, Bool, true, false, ℕ, List, ◌++◌, None}
+use Rattle.std.specs.Prelude.{◌≡◌, true, false, ℕ, List, ◌++◌, None}
 use Rattle.h2_frame.specs.Frames.{Frame, Data, Priority, Ping, WindowUpdate, Unknown}
 use Rattle.h2_wire.specs.Cutter.{BeginsWithFrame}
 use Rattle.h2_block.specs.Grouping.{alone}

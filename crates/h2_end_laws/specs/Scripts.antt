@@ -23,7 +23,7 @@ pub data Mark : Type 0 where
 -- Whether memory was refused for a frame that had ended.
 abbrev pub lacks_in_frame : {role : Role} → {log : Log} → {octets unused : List ℕ}
     → LacksMemory role log octets unused → Bool
-lacks_in_frame (to_report none some) = false
+lacks_in_frame (to_report none some due) = false
 lacks_in_frame (to_keep none takes keeps) = false
 lacks_in_frame (to_take takes frame ends needs) = true
 

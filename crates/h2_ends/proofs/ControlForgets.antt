@@ -5,7 +5,6 @@ use Rattle.h2_log.specs.Acts.{Values}
 use Rattle.h2_log.specs.Log.{active}
 use Rattle.h2_ends.specs.declared.end.End.{End}
 use Rattle.h2_ends.specs.declared.outgoing.Stream.{Stream}
-use Rattle.h2_ends.specs.declared.span.Span.{Span}
 use Rattle.h2_ends.specs.declared.span.Spans.{Spans}
 use Rattle.h2_ends.specs.Ends.{EndLog}
 use Rattle.h2_ends.specs.Heads.{KeepsOne}

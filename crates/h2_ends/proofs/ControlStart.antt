@@ -12,11 +12,11 @@ use Rattle.h2_conn.specs.Conn.{ConnRepresents}
 use Rattle.h2_log_laws.proofs.ReaderStates.{active_parts}
 use Rattle.h2_pair.specs.Tokens.{Token, tokens_sent, tokens_heard}
 use Rattle.h2_ends.specs.declared.end.End.{End}
-use Rattle.h2_ends.specs.declared.span.Span.{Span}
 use Rattle.h2_ends.specs.declared.span.Spans.{Spans}
 use Rattle.h2_ends.specs.Ends.{message_for, parts_on, tokens_given, tokens_of_parts}
 use Rattle.h2_ends.specs.Represents.{EndRepresents, IsKept, IsInStep, SendsInOrder, new_end}
-use Rattle.h2_ends.proofs.ReleaseSteps.{owed_inactive}
+use Rattle.h2_end_laws.proofs.OverRoom.{owed_inactive}
+use Rattle.h2_machine_laws.proofs.NewEnd.{new_is_active as none_active}
 
 -- The log of a new end has its role, and no call.
 opened_role : (role : Role) (values : Values) → (opened role values).role ≡ role
@@ -28,7 +28,7 @@ unfolding opened with_sent
 opened_calls role values = refl
 
 -- Without calls nothing was sent.
-none_sent : (i : ℕ) → tokens_sent i [] ≡ []
+pub none_sent : (i : ℕ) → tokens_sent i [] ≡ []
 unfolding tokens_sent
 none_sent i = refl
 
@@ -42,17 +42,9 @@ nothing_kept role values i =
       unsent = ap (tokens_sent i) (opened_calls role values) ∙ none_sent i;
     }
 
-none_given : (i : ℕ) → message_for i [] ≡ None
+pub none_given : (i : ℕ) → message_for i [] ≡ None
 unfolding message_for
 none_given i = refl
-
--- No stream is active.
-none_active : (role : Role) (values : Values) (i : ℕ) → active (opened role values) i ≡ false
-unfolding opened with_sent is_block_on
-none_active Client values i = false_from_ne_true _ (λ alive.
-    let has = (active_parts Client i _ _ _ alive).opened in cc)
-none_active Server values i = false_from_ne_true _ (λ alive.
-    let has = (active_parts Server i _ _ _ alive).opened in cc)
 
 -- So all that it was given to say is said,
 new_sends : (role : Role) (values : Values) (i : ℕ) → SendsInOrder (new_end role values) i

@@ -18,26 +18,7 @@ use Rattle.h2_message.specs.Phases.{phase_after_head, phase_after_final, place_a
 use Rattle.h2_message.specs.Phases.{place_after}
 use Rattle.h2_ends.specs.Ends.{InterimHanded, HeadHanded, BodyHanded, TrailersHanded}
 use Rattle.h2_ends.specs.Ends.{part_on, handed_at, handed_as}
-
--- After a part that is not taken nothing is.
-after_none : (reads : Reads) (parts : List (Part × Bool))
-    → phase_after_all reads None parts ≡ None
-unfolding phase_after_all
-after_none reads [] = refl
-after_none reads (part ∷ parts) = refl
-
--- The parts that follow are taken from the phase after those before.
-after_both : (reads : Reads) (phase : Option Phase) (parts more : List (Part × Bool))
-    → phase_after_all reads phase (parts ++ more)
-    ≡ phase_after_all reads (phase_after_all reads phase parts) more
-unfolding phase_after_all
-after_both reads None parts more =
-    after_none reads (parts ++ more) ∙ sym (after_none reads more)
-    ∙ ap (λ (phase : Option Phase). phase_after_all reads phase more)
-    (sym (after_none reads parts))
-after_both reads (Some phase) [] more = refl
-after_both reads (Some phase) (part ∷ parts) more =
-    after_both reads (phase_after reads phase part) parts more
+use Rattle.h2_message.proofs.PhaseSteps.{after_both, after_none}
 
 -- After no part the phase is the same.
 after_no_part : (reads : Reads) (phase : Option Phase) → phase_after_all reads phase [] ≡ phase

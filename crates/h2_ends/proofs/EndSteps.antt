@@ -28,7 +28,8 @@ use Rattle.h2_ends.specs.Heads.{KeepsOne}
 use Rattle.h2_end_laws.proofs.OverCalls.{over_by_call, used_by_call}
 use Rattle.h2_end_laws.proofs.OverReads.{over_by_take, used_by_take}
 use Rattle.h2_log_laws.proofs.LogGrowth.{grows_call}
-use Rattle.h2_ends.proofs.EndTokens.{call_adds_none, take_calls, take_role}
+use Rattle.h2_ends.proofs.EndTokens.{call_adds_none, take_calls}
+use Rattle.h2_pair.proofs.StepUnprocessed.{role_by_take as take_role}
 use Rattle.h2_ends.proofs.EndParts.{handed_elsewhere, handed_here}
 
 -- what an end keeps of a stream

@@ -15,7 +15,9 @@ use Rattle.h2_end_laws.proofs.OverSteps.{HoldsRead, take_keeps}
 use Rattle.h2_machine_laws.specs.Machines as steps
 use Rattle.h2_machine_laws.specs.Machines.{Step, log_after}
 use Rattle.h2_pair.specs.Tokens.{Token, tokens_of_call, tokens_sent}
-use Rattle.h2_pair.proofs.HeardCalls.{call_calls, step_calls}
+use Rattle.h2_pair.proofs.HeardCalls.{step_calls}
+use Rattle.h2_log_laws.proofs.PartsStay.{call_calls}
+use Rattle.h2_pair.proofs.StepUnprocessed.{role_by_take as take_role}
 
 -- After a call its tokens follow those that were sent before.
 pub call_tokens : (i : ℕ) (log : Log) (act : Act) (answer : Answer)
@@ -69,11 +71,3 @@ role_by one log item (ConnectionFault code) is = tt
 role_by one log item (StreamFault code) is = is
 role_by one log item NoEvent is = is
 role_by one log item Reported is = is
-
-pub take_role : (log after : Log) (piece : List ℕ) (answer : TakeAnswer)
-    → MayTake log piece answer after → after.role ≡ log.role
-take_role log after piece answer may =
-    take_keeps 0 (HasRole log.role) (λ role received sent reported items none is. is)
-    (λ role received sent reported events is. is)
-    (λ at decoded item is. role_by log.role at item (verdict_by_rules (log_view at) decoded item)
-    is) log after piece answer may refl

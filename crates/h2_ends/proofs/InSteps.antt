@@ -19,7 +19,7 @@ use Rattle.h2_end_laws.proofs.TakeAnswers.{log_after_take}
 use Rattle.h2_conn.specs.Conn.{ConnRepresents}
 use Rattle.h2_message.specs.Messages.{SentMessage}
 use Rattle.h2_pair.specs.Tokens.{Token, tokens_of_event, tokens_of_call, tokens_heard}
-use Rattle.h2_pair.proofs.HeardCalls.{call_calls}
+use Rattle.h2_log_laws.proofs.PartsStay.{call_calls}
 use Rattle.h2_ends.specs.declared.end.End.{End}
 use Rattle.h2_ends.specs.declared.outgoing.Stream.{Stream}
 use Rattle.h2_ends.specs.declared.span.Span.{Span}

@@ -2,9 +2,9 @@ pub mod EndTokens
 pub mod EndParts
 mod EndSteps
 mod InSteps
-mod TableSteps
+pub mod TableSteps
 mod ControlSteps
-mod ControlStart
+pub mod ControlStart
 mod ControlForgets
 mod TakeActive
 mod TakeInStep
@@ -16,18 +16,18 @@ mod TakeSteps
 mod RequestTable
 mod RequestSteps
 mod RequestGiven
-mod RequestSent
-mod RequestHeads
+pub mod RequestSent
+pub mod RequestHeads
 mod RequestRefusals
 mod RequestSends
 mod RequestOpens
 mod RespondHeads
-mod PumpWindows
+pub mod PumpWindows
 mod PumpRefusals
 mod PumpStuck
-mod PumpSteps
+pub mod PumpSteps
 mod PumpStays
-mod PumpTokens
+pub mod PumpTokens
 mod PumpEnds
 mod ReleaseSteps
 mod PumpCalls

@@ -4,7 +4,7 @@ use Rattle.std.proofs.Common.{if◌then◌else◌, refl, sym, ap, ◌∙◌, sub
 use Rattle.std.proofs.lemmas.Bool.{both_ways, eq-eqb, eqb-true, ne_eqb, cases_eq}
 use Rattle.h2_log.specs.declared.role.Role.{Role}
 use Rattle.h2_log.specs.Acts.{Values, Act, Answer}
-use Rattle.h2_log.specs.Log.{active, waiting}
+use Rattle.h2_log.specs.Log.{active}
 use Rattle.h2_log.specs.LogCalls.{MayAnswer, with_call}
 use Rattle.h2_log_laws.proofs.LogGrowth.{grows_call}
 use Rattle.h2_end_laws.specs.Over.{IsOver}

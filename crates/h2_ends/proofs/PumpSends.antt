@@ -22,7 +22,6 @@ use Rattle.h2_ends.specs.declared.outgoing.Outgoing.{Outgoing}
 use Rattle.h2_ends.specs.declared.outgoing.Outgoing.TheVariants as outgoings
 use Rattle.h2_ends.specs.declared.outgoing.Stream.{Stream}
 use Rattle.h2_ends.specs.declared.outgoing.Waiting.{Waiting}
-use Rattle.h2_ends.specs.declared.span.Span.{Span}
 use Rattle.h2_ends.specs.declared.span.Spans.{Spans}
 use Rattle.h2_ends.specs.Ends.{EndLog}
 use Rattle.h2_ends.specs.EndCalls as calls
@@ -44,7 +43,7 @@ use Rattle.h2_ends.proofs.PumpSteps.{pumps_until}
 use Rattle.h2_ends.proofs.PumpStuck.{data_none, fields_none, stuck_by_data, stuck_by_fields}
 use Rattle.h2_ends.proofs.PumpTokens.{octets_left, sent_more, waiting_goes_on, stuck_waiting}
 use Rattle.h2_ends.proofs.PumpTokens.{waits_after, sent_after_data, sent_after_fields, trailers_fit}
-use Rattle.h2_ends.proofs.PumpTokens.{trailers_left}
+use Rattle.h2_ends.proofs.PumpTokens.{trailers_left, body_waits, trailers_wait}
 use Rattle.h2_ends.proofs.PumpWindows.{none_without_room, data_waits, data_within, data_failed}
 use Rattle.h2_ends.proofs.PumpWindows.{fields_failed, fields_wait, refused_waits}
 
@@ -376,17 +375,19 @@ module _ (values : Values) (start : EndLog) (role : Role) (spans : Spans)
           lacks = lacks_after happened.log act refusal lacks;
         }
 
-    pub data_is_refused : (new : Conn) (refusal : Refusal) → IsTypedAct (data_act id waits)
+    pub data_is_refused : (new : Conn) (refusal : Refusal)
+        → waits.sent < length waits.body.items → IsTypedAct (data_act id waits)
         → MayAnswer happened.log (data_act id waits) (Refused refusal)
         → ConnRepresents values new (with_call happened.log (data_act id waits) (Refused refusal))
         → IsStopped count new (end_after_call happened (data_act id waits) (Refused refusal)) waits
         refusal
-    data_is_refused new refusal typed may conn_is =
+    data_is_refused new refusal some typed may conn_is =
         let octets = octets_left waits in
         let end = is_none waits.trailers in
         stopped new (data_act id waits) refusal may conn_is
         (λ i. refused_data i id octets end refusal) (λ i. data_closes_none i id octets end refusal)
-        (data_refused happened id octets end refusal next_here typed may)
+        (data_refused happened id octets end refusal next_here typed
+        (body_waits happened id waits waits_here some) may)
         (refused.data_refused happened.log id octets end refusal is.pumping.up is.alive goes_on may)
 
     module _ (new : Conn) (fields : List Field) (typed : IsTypedAct (SendFields id fields true))
@@ -421,17 +422,19 @@ module _ (values : Values) (start : EndLog) (role : Role) (spans : Spans)
                 (λ i other. fields_elsewhere i id fields true Done other);
           }
 
-      pub fields_are_refused : (refusal : Refusal)
+      pub fields_are_refused : (refusal : Refusal) → length waits.body.items ≤ waits.sent
           → MayAnswer happened.log (SendFields id fields true) (Refused refusal)
           → ConnRepresents values new
           (with_call happened.log (SendFields id fields true) (Refused refusal))
           → IsStopped count new
           (end_after_call happened (SendFields id fields true) (Refused refusal)) waits refusal
-      fields_are_refused refusal may conn_is =
+      fields_are_refused refusal none may conn_is =
+          let left = length-drop waits.sent waits.body.items in
           stopped new (SendFields id fields true) refusal may conn_is
           (λ i. refused_fields i id fields true refusal)
           (λ i. fields_close_none i id fields true refusal)
-          (trailers_refused happened id fields refusal next_here typed may)
+          (trailers_refused happened id fields refusal next_here typed
+          (trailers_wait happened id waits fields waits_here (omega (arith, left, none)) are) may)
           (refused.fields_refused happened.log id fields true refusal is.pumping.up is.alive goes_on
           (trailers_fit happened id waits fields waits_here are) may)
 

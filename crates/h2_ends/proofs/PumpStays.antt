@@ -22,11 +22,7 @@ use Rattle.h2_log_laws.proofs.ReaderStates.{active_parts, active_from, lasts_par
 use Rattle.h2_end_laws.specs.Written.{Writes, IsCredit}
 use Rattle.h2_end_laws.proofs.WrittenSteps.{call_writes}
 use Rattle.h2_ends.proofs.PumpWindows.{data_accepted, data_active}
-
--- Where neither of two lists has such an item, their line has none.
-pub none_of_both : (p : Item → Bool) (one other : List Item) → list_any p one ≡ false
-    → list_any p other ≡ false → list_any p (one ++ other) ≡ false
-none_of_both p one other none no_other = list_any-append p one other ∙ or_from _ _ none no_other
+use Rattle.h2_end_laws.proofs.OverCalls.{none_of_both}
 
 module _ (p : Item → Bool)
     (body : (id : ℕ) (end : Bool) (octets : List ℕ) → p (alone (Data id end octets None)) ≡ false)

@@ -82,7 +82,7 @@ next_is log last some =
     }
 
 -- What the reader answers, by its test.
-some_by : (b : Bool) (next id : ℕ) → (if b then None else Some next) ≡ Some id
+pub some_by : (b : Bool) (next id : ℕ) → (if b then None else Some next) ≡ Some id
     → (b ≡ false) × (next ≡ id)
 some_by true next id is = cc
 some_by false next id is = (refl, cc)
@@ -100,7 +100,7 @@ next_read log last id is =
     zero_test n none some = both_ways _ some (rw none refl)
 
 -- Where it answers none, none is above.
-none_by : (b : Bool) (next : ℕ) → (if b then None else Some next) ≡ None → b ≡ true
+pub none_by : (b : Bool) (next : ℕ) → (if b then None else Some next) ≡ None → b ≡ true
 none_by true next is = refl
 none_by false next is = cc
 

@@ -18,7 +18,7 @@ use Rattle.h2_end_laws.proofs.OverSteps.{call_keeps}
 use Rattle.h2_pair.specs.Quiet.{NoneCouldGo}
 use Rattle.h2_pair.specs.Tokens.{Token, FieldsToken, OctetToken, EndToken, tokens_of_call}
 use Rattle.h2_pair.specs.Tokens.{tokens_sent}
-use Rattle.h2_pair.proofs.HeardCalls.{call_calls}
+use Rattle.h2_log_laws.proofs.PartsStay.{call_calls}
 use Rattle.h2_ends.specs.Ends.{EndLog, tokens_out, tokens_said, tokens_waiting}
 use Rattle.h2_ends.specs.EndCalls.{IsStuckOn}
 use Rattle.h2_ends.specs.Pumping.{end_after_call}

@@ -27,7 +27,7 @@ use Rattle.h2_ends.specs.declared.outgoing.Waiting.{Waiting}
 use Rattle.h2_ends.specs.declared.outgoing.Outgoing.TheVariants as outgoings
 use Rattle.h2_ends.specs.Ends.{EndLog, message_for, tokens_given, tokens_out, tokens_said}
 use Rattle.h2_ends.specs.Ends.{tokens_waiting}
-use Rattle.h2_ends.specs.EndCalls.{IsStuckOn}
+use Rattle.h2_ends.specs.EndCalls.{IsStuckOn, BodyWaits, TrailersWait}
 use Rattle.h2_ends.specs.Pumping.{end_after_call}
 use Rattle.h2_ends.specs.Represents.{IsWaiting, IsOutgoing, tokens_kept}
 use Rattle.h2_ends.proofs.PumpStuck.{out_after, stuck_empty, stuck_octet}
@@ -74,7 +74,7 @@ waiting_goes_on role values end id waiting is waits = false_from_ne_true _ (λ h
     (ended_tokens id log.sent (lists_accepted log.calls) many here)))
 
 -- What waits on a stream is what is kept.
-said_is : (end : EndLog) (id : ℕ) (message : SentMessage)
+pub said_is : (end : EndLog) (id : ℕ) (message : SentMessage)
     → message_for id end.accepted ≡ Some message → tokens_said end id ≡ message_tokens message
 unfolding tokens_given message_tokens
 said_is end id message is = ap tokens_given is
@@ -119,6 +119,18 @@ stuck_waiting end id waiting waits some none =
     stuck_octet end id first.0 (each OctetToken first.1 ++ tail_kept waiting)
     (waiting_is_kept end id waiting waits
     ∙ ap (λ (octets : List ℕ). each OctetToken octets ++ tail_kept waiting) first.2) none
+
+-- Octets of a body that are left wait next.
+pub body_waits : (end : EndLog) (id : ℕ) (waiting : Waiting) → IsWaiting end id waiting
+    → waiting.sent < length waiting.body.items → BodyWaits end id (octets_left waiting)
+body_waits end id waiting waits some =
+    let left = length-drop waiting.sent waiting.body.items in
+    record {
+      some = λ none. let zero_left : length (octets_left waiting) ≡ 0 = ap length none in
+          omega (arith, left, zero_left, some);
+      after = tail_kept waiting;
+      next = waiting_is_kept end id waiting waits;
+    }
 
 -- What octets of a body send on their stream.
 data_tokens : (id : ℕ) (octets : List ℕ) (end : Bool) (n : ℕ)
@@ -255,6 +267,13 @@ trailers_kept waiting fields none are =
     no_octets : (octets : List ℕ) → length octets ≡ 0 → octets ≡ []
     no_octets [] none = refl
     no_octets (octet ∷ rest) none = absurd (omega (arith, none))
+
+-- Trailers wait, once no octets are left.
+pub trailers_wait : (end : EndLog) (id : ℕ) (waiting : Waiting) (fields : List Field)
+    → IsWaiting end id waiting → length (octets_left waiting) ≡ 0
+    → option_map (λ list. list.items) waiting.trailers ≡ Some fields → TrailersWait end id fields
+trailers_wait end id waiting fields waits none are =
+    waiting_is_kept end id waiting waits ∙ trailers_kept waiting fields none are
 
 pub sent_after_fields : (end : EndLog) (id : ℕ) (waiting : Waiting) (fields : List Field)
     → IsWaiting end id waiting → length (octets_left waiting) ≡ 0

@@ -12,17 +12,15 @@ use Rattle.h2_frame.specs.Frames.{Data}
 use Rattle.h2_frame.specs.Encoding.{payload_of}
 use Rattle.h2_block.specs.Grouping.{Item, alone}
 use Rattle.h2_log.specs.declared.refusal.Refusal.{Refusal}
-use Rattle.h2_log.specs.Acts.{Act, Answer, SendFields, SendData, Release, Count, Done, Refused}
+use Rattle.h2_log.specs.Acts.{Act, SendFields, SendData, Release, Count, Done, Refused}
 use Rattle.h2_log.specs.Items.{total, data_on, data_of}
 use Rattle.h2_log.specs.Limits.{max_data}
 use Rattle.h2_log.specs.Windows.{given_on, given_on_connection}
 use Rattle.h2_log.specs.Log.{Log, active, waiting, output, max_payload_sent}
 use Rattle.h2_log.specs.LogView.{log_view}
 use Rattle.h2_log.specs.CallRules.{conditions, refusal_of, data_count, data_frames, data_items}
-use Rattle.h2_log.specs.CallRules.{items_of, returns_credit}
-use Rattle.h2_log.specs.LogSteps.{with_sent, with_unreturned, with_credit_returned}
+use Rattle.h2_log.specs.CallRules.{items_of}
 use Rattle.h2_log.specs.LogCalls.{MayAnswer, accepts, refuses, lacks, fails, with_call, with_items}
-use Rattle.h2_log.specs.LogCalls.{called}
 use Rattle.h2_log.proofs.SentPayloads.{most_is_limit}
 use Rattle.h2_log_laws.proofs.CallConditions.{none_holds}
 use Rattle.h2_log_laws.proofs.ItemSizes.{size_of, size-frame, size-append}
@@ -30,6 +28,8 @@ use Rattle.h2_log_laws.proofs.LogViewLemmas.{stream_is_active, count_by_sums}
 use Rattle.h2_end_laws.specs.Over.{has_room}
 use Rattle.h2_end_laws.specs.Written.{Writes}
 use Rattle.h2_end_laws.proofs.WrittenSteps.{call_writes}
+use Rattle.h2_end_laws.proofs.OverRoom.{window_test}
+use Rattle.h2_pair.proofs.StepCalls.{call_given, call_failed}
 
 -- A call that sends octets is accepted, with the count of the rules.
 pub data_accepted : (log : Log) (id : ℕ) (octets : List ℕ) (end : Bool) (n : ℕ)
@@ -55,11 +55,6 @@ data_within log id octets end n may =
     let count = count_by_sums log id (length octets) (data_active log id octets end n may) in
     let is = (data_accepted log id octets end n may).1 in
     omega (arith, is, count)
-
--- A window lets an octet through where less was taken than given.
-window_test : (given consumed : ℕ) → int_lt (pos 0) (pos given -ℤ pos consumed)
-    ≡ nat_lt consumed given
-window_test given consumed = grind (arith, nat_tests, ints)
 
 -- Where none of some octets goes, a window is used up.
 no_room_by : (count given on given_all all : ℕ) → count ≢ 0
@@ -131,30 +126,6 @@ body_size most id octets end count some within =
           (omega (arith, length-take count octets)),
     ))
 
--- As much was given out, by the test whether credit is returned.
-due_given_by : (log : Log) (more : ℕ) (b : Bool)
-    → (if b then with_credit_returned (record log { unreturned = log.unreturned + more })
-    else record log { unreturned = log.unreturned + more }).given ≡ log.given
-unfolding with_sent
-due_given_by log more true = refl
-due_given_by log more false = refl
-
-due_given : (log : Log) (more : ℕ) → (with_unreturned more log).given ≡ log.given
-unfolding with_unreturned
-due_given log more = due_given_by log more (returns_credit more (waiting log))
-
-sent_given : (log : Log) (items : List Item) → (with_sent log items).given ≡ log.given
-unfolding with_sent
-sent_given log [] = refl
-sent_given log (item ∷ items) = refl
-
--- A call that writes items gives nothing out.
-items_given : (log : Log) (act : Act) (answer : Answer)
-    → (with_items log act answer).given ≡ log.given
-unfolding with_items
-items_given log act answer =
-    due_given _ _ ∙ sent_given (called log act answer) (items_of (log_view log) act answer)
-
 -- What is written waits.
 waits_by : (log after : Log) (items : List Item) → log.given ≤ length log.written
     → after.given ≡ log.given → Writes log after items
@@ -177,7 +148,7 @@ data_waits log id octets end n within may =
     let writes = call_writes log act (Count n) (ap Count (data_accepted log id octets end n may).1)
     (λ other code wrong. cc) in
     let waits = waits_by log (with_items log act (Count n)) (items_of (log_view log) act (Count n))
-    within (items_given log act (Count n)) writes in
+    within (call_given log act (Count n) (λ other is. cc)) writes in
     let size = body_size (max_payload_sent log) id octets end n (omega (arith, most))
     (data_within log id octets end n may) in
     omega (arith, waits, size)
@@ -191,7 +162,7 @@ fields_wait log id fields end within =
     let act = SendFields id fields end in
     let writes = call_writes log act Done refl (λ other code wrong. cc) in
     let waits = waits_by log (with_items log act Done) (items_of (log_view log) act Done)
-    within (items_given log act Done) writes in
+    within (call_given log act Done (λ other is. cc)) writes in
     omega (arith, waits)
 
 -- After a refused call as much waits, and the connection is as up as before.
@@ -206,39 +177,17 @@ unfolding with_call
 refused_failed log act refusal = refl
 
 -- Nothing that these calls write makes it fail.
-due_failed_by : (log : Log) (more : ℕ) (b : Bool)
-    → (if b then with_credit_returned (record log { unreturned = log.unreturned + more })
-    else record log { unreturned = log.unreturned + more }).failed ≡ log.failed
-unfolding with_sent
-due_failed_by log more true = refl
-due_failed_by log more false = refl
-
-due_failed : (log : Log) (more : ℕ) → (with_unreturned more log).failed ≡ log.failed
-unfolding with_unreturned
-due_failed log more = due_failed_by log more (returns_credit more (waiting log))
-
-sent_failed : (log : Log) (items : List Item) → (with_sent log items).failed ≡ log.failed
-unfolding with_sent
-sent_failed log [] = refl
-sent_failed log (item ∷ items) = refl
-
-items_failed : (log : Log) (act : Act) (answer : Answer)
-    → (with_items log act answer).failed ≡ log.failed
-unfolding with_items
-items_failed log act answer =
-    due_failed _ _ ∙ sent_failed (called log act answer) (items_of (log_view log) act answer)
-
 pub data_failed : (log : Log) (id : ℕ) (octets : List ℕ) (end : Bool) (n : ℕ)
     → (with_call log (SendData id octets end) (Count n)).failed ≡ log.failed
-unfolding with_call
-data_failed log id octets end n = items_failed log (SendData id octets end) (Count n)
+data_failed log id octets end n =
+    call_failed log (SendData id octets end) (Count n) (λ other code is. cc) (λ is. cc)
 
 pub fields_failed : (log : Log) (id : ℕ) (fields : List Field) (end : Bool)
     → (with_call log (SendFields id fields end) Done).failed ≡ log.failed
-unfolding with_call
-fields_failed log id fields end = items_failed log (SendFields id fields end) Done
+fields_failed log id fields end =
+    call_failed log (SendFields id fields end) Done (λ other code is. cc) (λ is. cc)
 
 pub release_failed : (log : Log) (id count : ℕ)
     → (with_call log (Release id count) Done).failed ≡ log.failed
-unfolding with_call
-release_failed log id count = items_failed log (Release id count) Done
+release_failed log id count =
+    call_failed log (Release id count) Done (λ other code is. cc) (λ is. cc)

@@ -15,6 +15,7 @@ use Rattle.h2_ends.specs.EndCalls.{IsStuckOn}
 use Rattle.h2_ends.specs.Quiet.{IsQuietEnd}
 use Rattle.h2_ends.specs.Represents.{EndRepresents}
 use Rattle.h2_ends.proofs.SendingRelease.{ReadsFailed, up_by}
+use Rattle.hpack.proofs.Tests.{not_false}
 
 -- What `waiting` and `due` answer of any log that the connection represents.
 abbrev pub ReadsWaiting : Conn → ℕ → Type 0
@@ -98,12 +99,8 @@ module _ (end : End) where
             → ((values : Values) (happened : EndLog) → EndRepresents values end happened
             → owes ≡ true → (i : ℕ) × (owed happened.log i ≢ 0)) → not owes ≡ false → IsNeverQuiet
         not_quiet_owing owes some answers = λ values happened is quiet.
-            let here = some values happened is (by_not owes answers) in
+            let here = some values happened is (not_false owes answers) in
             here.1 (quiet.none_owed here.0)
-          where
-            by_not : (b : Bool) → not b ≡ false → b ≡ true
-            by_not true is = refl
-            by_not false is = cc
 
         pub quiet_unless : (owes sends : Bool) → up ≡ true → (waits == 0) ≡ true
             → (due == 0) ≡ true → not owes ≡ true

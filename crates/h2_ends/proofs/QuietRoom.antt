@@ -10,6 +10,7 @@ use Rattle.h2_log.specs.Windows.{connection_send_window}
 use Rattle.h2_end_laws.specs.Over.{has_room}
 use Rattle.h2_ends.specs.Quiet.{HasRoom}
 use Rattle.h2_ends.proofs.PumpSteps.{zero_inactive}
+use Rattle.h2_log_laws.proofs.InvariantCalls.{active_some as not_zero}
 
 -- What the connection answers of its own window, as long as it is up,
 room_of_all : (log : Log) → log.failed ≡ None
@@ -17,11 +18,6 @@ room_of_all : (log : Log) → log.failed ≡ None
 room_of_all log up =
     ap (λ (b : Bool). if b then None else Some (connection_send_window log.received log.sent))
     (ap is_some up)
-
--- and of an active stream's.
-not_zero : (log : Log) (id : ℕ) → active log id ≡ true → id ≢ 0
-not_zero log id alive zero =
-    both_ways _ (zero_inactive log) (subst (λ (i : ℕ). active log i ≡ true) zero alive)
 
 room_of_stream : (log : Log) (id : ℕ) → log.failed ≡ None → active log id ≡ true
     → reader_room (log_view log) id ≡ Some (send_window log id)

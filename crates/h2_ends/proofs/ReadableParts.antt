@@ -15,6 +15,7 @@ use Rattle.h2_message.proofs.PhaseWhole.{body_parts, ended_more}
 use Rattle.h2_pair.specs.Tokens.{Token, FieldsToken, OctetToken, EndToken, end_tokens}
 use Rattle.h2_pair.specs.Tokens.{trailers_tokens, message_tokens, IsPrefixOfTokens, is_head_alone}
 use Rattle.h2_ends.specs.Ends.{IsNoEmptyPart, tokens_of_part, tokens_of_parts}
+use Rattle.h2_message.proofs.ReadingWhole.{one_sum as one_piece}
 
 -- the tokens after a head, of this body and these trailers
 abbrev rest_tokens : List ℕ → Option (List Field) → List Token
@@ -72,10 +73,6 @@ record BeginsRest (body : List ℕ) (trailers : Option (List Field)) (parts : Li
   pub whole : sum_by length pieces ≡ length body
   pub some : body_parts pieces trailers ≢ []
   pub begins : ended (body_parts pieces trailers) ≡ parts ++ more
-
--- None are, where all of the body comes in one piece;
-one_piece : (body : List ℕ) → sum_by length (body ∷ []) ≡ length body
-one_piece body = let all = sum_by-cons length body [] in omega (arith, all)
 
 none_yet : (body : List ℕ) (trailers : Option (List Field)) → BeginsRest body trailers []
 none_yet body trailers =

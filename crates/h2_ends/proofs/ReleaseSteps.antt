@@ -23,6 +23,7 @@ use Rattle.h2_ends.proofs.InSteps.{called_as}
 use Rattle.h2_ends.proofs.PumpRefusals.{release_refused}
 use Rattle.h2_ends.proofs.PumpSteps.{IsNext, zero_inactive}
 use Rattle.h2_ends.proofs.PumpWindows.{release_failed, refused_waits}
+use Rattle.h2_end_laws.proofs.OverRoom.{owed_inactive}
 
 -- Nothing is owed on any lower stream.
 abbrev pub OwesNoneBelow : EndLog → ℕ → Type 0
@@ -72,11 +73,6 @@ pub record IsReleasing (values : Values) (start : EndLog) (end : End) (happened 
   pub calls : Releasing start happened
   pub up : happened.log.failed ≡ None
   pub below : OwesNoneBelow happened id
-
--- Nothing is owed on a stream that isn't active.
-pub owed_inactive : (log : Log) (id : ℕ) → active log id ≡ false → owed log id ≡ 0
-unfolding owed
-owed_inactive log id over = rw over refl
 
 -- Nothing is owed below the span, which begins above that number, unless both are 0.
 none_below : (values : Values) (end : End) (start : EndLog) (j : ℕ)

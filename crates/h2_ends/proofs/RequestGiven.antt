@@ -6,7 +6,6 @@ use Rattle.h2_message.specs.Values.{message_value}
 use Rattle.h2_ends.specs.declared.end.End.{End}
 use Rattle.h2_ends.specs.declared.outgoing.Stream.{Stream}
 use Rattle.h2_ends.specs.declared.span.Span.{Span}
-use Rattle.h2_ends.specs.declared.span.Spans.{Spans}
 use Rattle.h2_pair.specs.Tokens.{is_head_alone}
 use Rattle.h2_ends.specs.Represents.{InSpan, kept_at}
 use Rattle.h2_ends.specs.Heads.{IsGiven, given_stream}

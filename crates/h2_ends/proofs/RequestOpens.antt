@@ -40,6 +40,7 @@ use Rattle.h2_ends.proofs.RequestRefusals.{open_too_large, trailers_refuse_open,
 use Rattle.h2_ends.proofs.RequestRefusals.{no_number_refuses, refused_sends_none}
 use Rattle.h2_ends.proofs.RequestSends.{unchanged_by}
 use Rattle.h2_ends.proofs.TableSteps.{ChangesAt, keeps_but}
+use Rattle.h2_log_laws.proofs.InvariantSends.{client_since as client_by}
 
 -- What holds of a result, by its test.
 pub on_err : {A E : Type 0} (result : Result A E) (P : Type 0) → is_err result ≡ true
@@ -120,11 +121,6 @@ opens_nowhere values old new end message result none typed is may conn role stre
     (λ refusal holds. refuses_head end.log (Open message.head (is_head_alone message)) message
     refusal (whatever_end (log_view end.log) message.head (is_head_alone message) true ∙ holds))
     typed is may conn role streams waiting
-
--- The number that comes next is new.
-client_by : (role : Role) → is_server role ≡ false → role ≡ Client
-client_by Client is = refl
-client_by Server is = absurd (both_ways true is refl)
 
 next_by : (log : Log) (id : ℕ) (b : Bool) → (is_some log.failed || is_server log.role) ≡ b
     → (if b then None else Some (next_number log)) ≡ Some id

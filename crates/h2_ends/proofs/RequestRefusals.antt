@@ -24,6 +24,7 @@ use Rattle.h2_conn.specs.Conn.{reader_next_number}
 use Rattle.h2_message.specs.Messages.{SentMessage, trailer_fields}
 use Rattle.h2_pair.specs.Tokens.{tokens_of_call}
 use Rattle.h2_ends.specs.EndCalls.{RefusesMessage}
+use Rattle.h2_log_laws.proofs.CallConditions.{first_kept as first_stays}
 
 -- a list of conditions, with C10 of a list at its end
 abbrev with_size : List (Bool × Refusal) → Bool → List (Bool × Refusal)
@@ -71,14 +72,6 @@ first_by : (b : Bool) (one : Refusal) (before after : Option Refusal) (refusal :
     → (if b then Some one else after) ≡ Some refusal
 first_by true one before after refusal goes is = is
 first_by false one before after refusal goes is = goes is
-
-first_stays : (conditions more : List (Bool × Refusal)) (refusal : Refusal)
-    → first_of conditions ≡ Some refusal → first_of (conditions ++ more) ≡ Some refusal
-unfolding first_of
-first_stays [] more refusal is = cc
-first_stays ((b, one) ∷ conditions) more refusal is =
-    first_by b one (first_of conditions) (first_of (conditions ++ more)) refusal
-    (first_stays conditions more refusal) is
 
 -- What refuses a message whose trailers may be sent is what refuses its head.
 pub refuses_fitting : (log : Log) (act : Act) (message : SentMessage) (refusal : Refusal)

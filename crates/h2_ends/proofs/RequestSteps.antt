@@ -8,7 +8,8 @@ use Rattle.h2_log.specs.Acts.{Values, Act, Answer, Open, SendFields, Number, Don
 use Rattle.h2_log.specs.CallRules.{conditions}
 use Rattle.h2_log.specs.Log.{Log}
 use Rattle.h2_log.specs.LogCalls.{MayAnswer, accepts, refuses, lacks, fails}
-use Rattle.h2_log_laws.proofs.CallConditions.{none_holds, none_since}
+use Rattle.h2_log_laws.proofs.CallConditions.{none_holds}
+use Rattle.hpack.proofs.Tests.{none_since}
 use Rattle.h2_log_laws.proofs.LogGrowth.{grows_call}
 use Rattle.h2_end_laws.specs.Over.{used}
 use Rattle.h2_message.specs.declared.message.Message.{Message}
@@ -29,6 +30,7 @@ use Rattle.h2_ends.specs.Heads.{KeepsOne, given_stream}
 use Rattle.h2_ends.proofs.EndSteps.{called_end, kept}
 use Rattle.h2_end_laws.specs.Activity.{call_may_close}
 use Rattle.h2_ends.proofs.InSteps.{in_step_called, active_called}
+use Rattle.hpack.proofs.Tests.{and_false as never_both}
 
 -- What is in a span is in a wider one.
 wider : (spans more : Spans) (stream : Option Stream) (happened : EndLog) (i : ℕ)
@@ -97,11 +99,6 @@ pub fields_keep : (i id : ℕ) (fields : List Field) (ends : Bool) → i ≢ id
     → call_may_close i (SendFields id fields ends) Done ≡ false
 unfolding call_may_close
 fields_keep i id fields ends other = rw (ne_eqb id i (λ same. other (sym same))) refl
-
--- Where one of two tests doesn't hold, not both do.
-never_both : (a : Bool) → (a && false) ≡ false
-never_both true = refl
-never_both false = refl
 
 -- So a head that isn't alone leaves its own stream open too.
 pub head_keeps : (i id : ℕ) (fields : List Field) (ends : Bool) → ends ≡ false

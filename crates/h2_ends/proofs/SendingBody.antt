@@ -16,7 +16,6 @@ use Rattle.h2_conn.specs.declared.conn.Conn.{Conn}
 use Rattle.h2_conn.specs.Conn.{ConnAnswers}
 use Rattle.h2_ends.specs.declared.outgoing.Stream.{Stream}
 use Rattle.h2_ends.specs.declared.outgoing.Waiting.{Waiting}
-use Rattle.h2_ends.specs.declared.span.Span.{Span}
 use Rattle.h2_ends.specs.declared.span.Spans.{Spans}
 use Rattle.h2_ends.specs.declared.sending.SendState.TheVariants.{Sent, Stuck}
 use Rattle.h2_ends.specs.declared.sending.SendState.{SendState}
@@ -199,7 +198,7 @@ module _ (conn : Conn) (id : ℕ) (waits : Waiting) (count : ℕ) (now new : Con
           then,
           gone_by values start role spans keeps id stream sum new then left refusal result stops
               (data_is_refused values start role spans keeps id stream sum now after left sends new
-              refusal typed_rest both.0 both.1),
+              refusal some typed_rest both.0 both.1),
         )
 
   -- Once no octets are left, there are no trailers,
@@ -243,5 +242,5 @@ module _ (conn : Conn) (id : ℕ) (waits : Waiting) (count : ℕ) (now new : Con
           then,
           gone_by values start role spans keeps id stream sum new then left refusal result stops
               (fields_are_refused values start role spans keeps id stream sum now after left sends
-              new fields typed are refusal both.0 both.1),
+              new fields typed are refusal none both.0 both.1),
         )

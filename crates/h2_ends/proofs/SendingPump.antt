@@ -5,13 +5,12 @@ use Rattle.h2_frame.specs.declared.code.Code.{Code}
 use Rattle.h2_log.specs.declared.refusal.Refusal.{Refusal}
 use Rattle.h2_log.specs.declared.refusal.Refusal.TheVariants.{Closed}
 use Rattle.h2_log.specs.Acts.{Values}
-use Rattle.h2_log.specs.Log.{Log, active, reader_next_live}
+use Rattle.h2_log.specs.Log.{Log, reader_next_live}
 use Rattle.h2_conn.specs.declared.conn.Conn.{Conn}
 use Rattle.h2_conn.specs.Conn.{ConnRepresents}
 use Rattle.h2_ends.specs.declared.end.End.{End}
 use Rattle.h2_ends.specs.declared.refusal.EndRefusal.TheVariants as refusals
 use Rattle.h2_ends.specs.declared.outgoing.Outgoing.TheVariants as outgoings
-use Rattle.h2_ends.specs.declared.outgoing.Waiting.{Waiting}
 use Rattle.h2_ends.specs.declared.sending.SendState.{SendState}
 use Rattle.h2_ends.specs.declared.sending.SendState.TheVariants.{Idle, Sent, Stuck, Full}
 use Rattle.h2_ends.specs.declared.span.Span.{Span}

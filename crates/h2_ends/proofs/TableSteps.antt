@@ -16,10 +16,10 @@ ChangesAt id stream old new =
     (q : ℕ) → kept_at q new ≡ cond (is_eq (nat_cmp id q)) stream (kept_at q old)
 
 -- A number is itself, and no other one.
-test_same : (id : ℕ) → is_eq (nat_cmp id id) ≡ true
+pub test_same : (id : ℕ) → is_eq (nat_cmp id id) ≡ true
 test_same id = unsigned_tied id id ∙ eq-eqb id id refl
 
-test_other : (id q : ℕ) → q ≢ id → is_eq (nat_cmp id q) ≡ false
+pub test_other : (id q : ℕ) → q ≢ id → is_eq (nat_cmp id q) ≡ false
 test_other id q other = unsigned_tied id q ∙ ne_eqb id q (λ same. other (sym same))
 
 -- Such entries keep all but that one.

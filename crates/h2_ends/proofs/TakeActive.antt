@@ -18,6 +18,9 @@ use Rattle.h2_end_laws.specs.Takes.{MayTake, Took, has_failed, reports_unprocess
 use Rattle.h2_end_laws.specs.Takes.{ends_no_frame, ends_frame, meets_fault, runs_out_of_memory}
 use Rattle.h2_end_laws.proofs.ReadVerdicts.{Says, says_of, says_data}
 use Rattle.h2_end_laws.proofs.TakeAnswers.{reported_is, sent_reported, unreturned_reported}
+use Rattle.h2_end_laws.proofs.OverEvents.{replied_reported, same_event}
+use Rattle.h2_end_laws.proofs.ReadVerdicts.{says_nothing}
+use Rattle.h2_end_laws.proofs.OverEvents.{no_event}
 
 -- The item is no DATA, or this holds of its stream.
 abbrev OfData : (ℕ → Type 0) → Item → Type 0
@@ -32,24 +35,6 @@ OfDataEvent P _ = Unit {0}
 -- The stream is active.
 abbrev IsActiveIn : Log → ℕ → Type 0
 IsActiveIn log i = active log i ≡ true
-
--- A list isn't itself with one event more.
-no_event : {Goal : Type 0} (event : Event) (events : List Event) → events ≡ event ∷ events → Goal
-no_event event events is =
-    let counted : length events ≡ suc (length events) = ap length is in
-    absurd (omega (arith, counted))
-
--- The event before the same events is the same.
-same_event : (event other : Event) (events : List Event) → event ∷ events ≡ other ∷ events
-    → event ≡ other
-same_event event other events is = cc
-
--- What no verdict has to say.
-says_nothing : (verdict : Verdict) → Says (Unit {0}) (Unit {0}) (Unit {0}) verdict
-says_nothing (ConnectionFault code) = tt
-says_nothing (StreamFault code) = tt
-says_nothing NoEvent = tt
-says_nothing Reported = tt
 
 -- By the rules DATA that is reported is of an active stream.
 data_by_rules : (log : Log) (decoded : Option Decoded) (item : Item)
@@ -82,14 +67,6 @@ reported_data P view decoded (alone (Ping ack octets)) event events of is =
 reported_data P view decoded (alone (GoAway last code debug)) event events of is =
     subst (OfDataEvent P) (same_event _ event events is) tt
 reported_data P view decoded (alone frame) event events of is = no_event event events is
-
--- What was reported in the end, of an item that was read and replied to.
-replied_reported : (log : Log) (more : ℕ) (replies : List Item) (events : List Event)
-    → (with_reported (with_unreturned more (with_sent log replies)) events).reported
-    ≡ events ++ log.reported
-replied_reported log more replies events =
-    reported_is _ events ∙ ap (λ (reported : List Event). events ++ reported)
-    (unreturned_reported more (with_sent log replies) ∙ sent_reported log replies)
 
 -- By the verdict.
 verdict_data : (P : ℕ → Type 0) (log : Log) (decoded : Option Decoded) (item : Item)

@@ -34,7 +34,7 @@ use Rattle.h2_ends.specs.declared.span.Span.{Span}
 use Rattle.h2_ends.specs.Represents.{EndRepresents, InSpan}
 use Rattle.h2_ends.specs.Taking.{IsReadOn, IsRead, MustRefuse, ReadsFields, ReadsData, HasReported}
 use Rattle.h2_ends.specs.Taking.{AnswersRefusal, IsResetBy, answer_of_report, code_unread}
-use Rattle.h2_ends.proofs.EndTokens.{take_role}
+use Rattle.h2_pair.proofs.StepUnprocessed.{role_by_take as take_role}
 use Rattle.h2_ends.proofs.TakeActive.{data_is_active}
 use Rattle.h2_ends.proofs.InSteps.{owes_taken}
 use Rattle.h2_ends.proofs.TakeInStep.{differs, passed_over, read_on, reported_wider}

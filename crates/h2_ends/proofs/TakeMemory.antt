@@ -1,12 +1,10 @@
 -- A client and a server don't run out of memory at a frame that needs none.
-use Rattle.std.proofs.Common.{◌≡◌, ◌≢◌, ◌∙◌, ℕ, Bool, List, Option, Some, None, refl, sym, ap}
-use Rattle.hpack.specs.declared.types.field.Field.{Field}
-use Rattle.h2_frame.specs.declared.code.Code.{Code}
+use Rattle.std.proofs.Common.{◌≡◌, ◌≢◌, ◌∙◌, ℕ, List, refl, sym, ap}
 use Rattle.h2_frame.specs.declared.code.Code.TheVariants.{InternalError}
 use Rattle.h2_end_laws.specs.Takes.{Failed}
 use Rattle.h2_end_laws.proofs.Promised.{never_out_of_memory}
-use Rattle.h2_message.specs.Reading.{Part, FieldsPart, OctetsPart}
-use Rattle.h2_ends.specs.Ends.{EndLog, EndAnswer, EndTook, EndFailed, part_of_event}
+use Rattle.h2_message.specs.Reading.{FieldsPart, OctetsPart}
+use Rattle.h2_ends.specs.Ends.{EndLog, EndAnswer, EndFailed, part_of_event}
 use Rattle.h2_ends.specs.EndTakes.{EndMayTake, EndNeedsNoMemory, fails, hands_nothing, passes}
 use Rattle.h2_ends.specs.EndTakes.{hands_out, refuses, runs_out_of_memory}
 

@@ -17,7 +17,7 @@ use Rattle.h2_end_laws.specs.Over.{IsOver, used}
 use Rattle.h2_end_laws.proofs.OverCalls.{used_by_call}
 use Rattle.h2_conn.specs.Conn.{ConnShows}
 use Rattle.h2_pair.specs.Tokens.{tokens_heard, IsPrefixOfTokens}
-use Rattle.h2_pair.proofs.HeardCalls.{call_calls}
+use Rattle.h2_log_laws.proofs.PartsStay.{call_calls}
 use Rattle.h2_ends.specs.declared.end.End.{End}
 use Rattle.h2_ends.specs.Ends.{EndLog, tokens_handed}
 use Rattle.h2_ends.specs.EndTakes.{end_with_log}

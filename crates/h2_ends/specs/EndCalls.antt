@@ -1,7 +1,7 @@
 -- What the calls of a client or a server may answer, and what has happened after them (RFC 9113,
 -- sections 8.1 and 6.9).
-use Rattle.std.specs.Prelude.{◌≡◌, ◌≢◌, ◌⊎◌, ◌≤◌, ◌<◌, ℕ, ◌+◌, Bool, true, false, ◌&&◌, List}
-use Rattle.std.specs.Prelude.{[], ◌∷◌, ◌++◌, length, ◌==◌, Option, Some, None, is_none}
+use Rattle.std.specs.Prelude.{map as each, ◌≡◌, ◌≢◌, ◌⊎◌, ◌≤◌, ◌<◌, ℕ, ◌+◌, Bool, true, false}
+use Rattle.std.specs.Prelude.{List, [], ◌∷◌, ◌++◌, Option, Some, None}
 use Rattle.std.specs.Prelude.{Result, Ok, Err}
 use Rattle.hpack.specs.declared.types.field.Field.{Field}
 use Rattle.h2_log.specs.declared.refusal.Refusal.{Refusal}
@@ -20,7 +20,7 @@ use Rattle.h2_message.specs.Messages.{SentMessage, trailer_fields, broken_by_req
 use Rattle.h2_message.specs.Messages.{broken_by_response}
 use Rattle.h2_message.specs.Phases.{asks_head_first}
 use Rattle.h2_pair.specs.Quiet.{IsStuck}
-use Rattle.h2_pair.specs.Tokens.{is_head_alone}
+use Rattle.h2_pair.specs.Tokens.{Token, FieldsToken, OctetToken, EndToken, is_head_alone}
 use Rattle.h2_ends.specs.declared.refusal.EndRefusal.{EndRefusal}
 use Rattle.h2_ends.specs.declared.refusal.EndRefusal.TheVariants as refusals
 use Rattle.h2_ends.specs.Ends.{EndLog, message_for, parts_on, tokens_waiting}
@@ -133,8 +133,19 @@ pub record IsNext (end : EndLog) (id : ℕ) : Type 0 where
   pub active : active end.log id ≡ true
   pub below : (j : ℕ) → j < id → IsStuckOn end j
 
+-- Of a body these octets wait next on a stream, some.
+pub record BodyWaits (end : EndLog) (id : ℕ) (octets : List ℕ) : Type 0 where
+  pub some : octets ≢ []
+  pub after : List Token
+  pub next : tokens_waiting end id ≡ each OctetToken octets ++ after
+
+-- These trailers wait on a stream, and nothing before them.
+abbrev pub TrailersWait : EndLog → ℕ → List Field → Type 0
+TrailersWait end id list = tokens_waiting end id ≡ FieldsToken list true ∷ EndToken ∷ []
+
 -- The calls of a `pump`: each is on an active stream, while nothing could go on any lower one; so
--- many octets of bodies were sent. The last one may have been refused: for this.
+-- many octets of bodies were sent. The last one may have been refused, where something waits: for
+-- this.
 -- rule: 8.1 (own) pump sends the lower streams first, and all that can go
 pub data Pumps : (end : EndLog) → (count : ℕ) → Option Refusal → (after : EndLog) → Type 0 where
   pumps_no_more : (end : EndLog) → Pumps end 0 None end
@@ -150,12 +161,12 @@ pub data Pumps : (end : EndLog) → (count : ℕ) → Option Refusal → (after 
       → Pumps (end_with_log end (with_call end.log (SendFields id list true) Done)) more refused
       after → Pumps end more refused after
   data_refused : (end : EndLog) (id : ℕ) (octets : List ℕ) (ends : Bool) (refusal : Refusal)
-      → IsNext end id → IsTypedAct (SendData id octets ends)
+      → IsNext end id → IsTypedAct (SendData id octets ends) → BodyWaits end id octets
       → MayAnswer end.log (SendData id octets ends) (Refused refusal)
       → Pumps end 0 (Some refusal)
       (end_with_log end (with_call end.log (SendData id octets ends) (Refused refusal)))
   trailers_refused : (end : EndLog) (id : ℕ) (list : List Field) (refusal : Refusal)
-      → IsNext end id → IsTypedAct (SendFields id list true)
+      → IsNext end id → IsTypedAct (SendFields id list true) → TrailersWait end id list
       → MayAnswer end.log (SendFields id list true) (Refused refusal)
       → Pumps end 0 (Some refusal)
       (end_with_log end (with_call end.log (SendFields id list true) (Refused refusal)))

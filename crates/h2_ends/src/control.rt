@@ -1,10 +1,14 @@
 //! The connection's own calls at an end.
 
-ghost use Rattle.std.specs.Prelude.{◌≡◌, IfOk, OnErr};
+ghost use Rattle.std.specs.Prelude.{◌≡◌, ◌+◌, ◌≤◌, min, false, vec_len, IfOk, IsOk, OnErr};
+ghost use Rattle.std.specs.Vec.{vec_capacity};
 ghost use Rattle.h2_log.specs.Acts.{ResetStream, SendPing, SendGoAway, ChangeSettings, PutOut};
-ghost use Rattle.h2_log.specs.Acts.{Count, Done};
+ghost use Rattle.h2_log.specs.Acts.{Values, Count, Done};
+ghost use Rattle.h2_log.specs.CallRules.{returns_before_put_out};
+ghost use Rattle.h2_log.specs.Log.{Log, waiting};
+ghost use Rattle.h2_log.specs.LogView.{log_view};
 ghost use Rattle.h2_config.specs.ConfigValues.{values_of};
-ghost use Rattle.h2_conn.specs.Conn.{GivesOut, answer_by};
+ghost use Rattle.h2_conn.specs.Conn.{ConnRepresents, GivesOut, answer_by};
 ghost use Rattle.h2_ends.specs.Represents.{EndAnswers};
 
 use crate::end::End;
@@ -55,6 +59,9 @@ impl End {
         ensures ok { IfOk result (λ given. GivesOut self.old.conn count given out.old.items
             out.new.items) }
         ensures err { OnErr result (out.new.items ≡ out.old.items) }
+        ensures room { (values : Values) (log : Log) → ConnRepresents values self.old.conn log
+            → returns_before_put_out (log_view log) ≡ false
+            → vec_len out.old + min count (waiting log) ≤ vec_capacity out.old → IsOk result }
     {
         self.conn.put_out(count, out)
     }

@@ -1,11 +1,16 @@
 //! A server.
 
-ghost use Rattle.std.specs.Prelude.{◌≡◌, ◌↔◌, true, IfOk, IfErr, OnErr};
+ghost use Rattle.std.specs.Prelude.{◌≡◌, ◌↔◌, ◌+◌, ◌≤◌, min, true, false, vec_len};
+ghost use Rattle.std.specs.Prelude.{IfOk, IfErr, IsOk, OnErr};
+ghost use Rattle.std.specs.Vec.{vec_capacity};
 ghost use Rattle.h2_config.specs.ConfigValues.{values_of};
 ghost use Rattle.h2_log.specs.declared.role.Role.TheVariants as roles;
 ghost use Rattle.h2_log.specs.Acts.{ResetStream, SendPing, SendGoAway, ChangeSettings, PutOut};
 ghost use Rattle.h2_log.specs.Acts.{Values, Count, Done};
-ghost use Rattle.h2_conn.specs.Conn.{GivesOut, answer_by};
+ghost use Rattle.h2_log.specs.CallRules.{returns_before_put_out};
+ghost use Rattle.h2_log.specs.Log.{Log, waiting};
+ghost use Rattle.h2_log.specs.LogView.{log_view};
+ghost use Rattle.h2_conn.specs.Conn.{ConnRepresents, GivesOut, answer_by};
 ghost use Rattle.h2_message.specs.Values.{message_value};
 ghost use Rattle.h2_ends.specs.Ends.{EndLog};
 ghost use Rattle.h2_ends.specs.Quiet.{IsQuietEnd};
@@ -176,6 +181,11 @@ impl Server {
         ensures ok { IfOk result (λ given. GivesOut self.old.end.conn count given out.old.items
             out.new.items) }
         ensures err { OnErr result (out.new.items ≡ out.old.items) }
+
+        // Where nothing is returned first, the capacity of `out` is enough.
+        ensures room { (values : Values) (log : Log) → ConnRepresents values self.old.end.conn log
+            → returns_before_put_out (log_view log) ≡ false
+            → vec_len out.old + min count (waiting log) ≤ vec_capacity out.old → IsOk result }
     {
         self.end.put_out(count, out)
     }

@@ -20,19 +20,13 @@ use Rattle.h2_engines.specs.ServerHistories.{AreOnce, AnswersAll, calm}
 use Rattle.h2_engines.proofs.SameRequests.{SameOn, same_on, stands_as}
 use Rattle.h2_engines.proofs.LinkInvariants.{holds_responding}
 use Rattle.h2_engines.proofs.TakeMessages.{keeps_by_call, taken_says}
+use Rattle.h2_ends.proofs.RequestSent.{accepted_here as message_here}
 
 -- A request that is to be answered is answered with what was kept of it.
 pub kept_to_answer : {end : EndLog} {id : ℕ} {request : Request} → IsToAnswer end id request
     → answer_to (parts_on id end.handed) ≡ Some (answer_with request.text.items request.to_head)
 unfolding answer_to
 kept_to_answer is = rw (is.came, is.request_is.text, is.request_is.to_head) refl
-
--- The message for a stream is the one that was accepted last for it,
-message_here : (id : ℕ) (message : SentMessage) (accepted : List (ℕ × SentMessage))
-    → message_for id ((id, message) ∷ accepted) ≡ Some message
-unfolding message_for
-message_here id message accepted =
-    ap (λ (b : Bool). if b then Some message else message_for id accepted) (eq-eqb id id refl)
 
 -- and for another one the one before.
 message_other : (id i : ℕ) (message : SentMessage) (accepted : List (ℕ × SentMessage)) → i ≢ id

@@ -33,7 +33,7 @@ use Rattle.h2_engines.specs.WithoutLink.{ClientTakesIn}
 use Rattle.h2_engines.proofs.MachineLaws.{holds_again}
 use Rattle.h2_engines.proofs.MachineViews.{client_held, begun, carried, links_alone, uses_alone}
 use Rattle.h2_engines.proofs.MachineViews.{all_in_part, goes_for, not_cut}
-use Rattle.h2_engines.proofs.ServeLinkLogs.{items_failed}
+use Rattle.h2_end_laws.proofs.Failures.{items_failed}
 
 -- Nothing has gone over the link.
 nothing_linked : (start : Traffic) (log : Log) → log.input ≡ [] → log.given ≡ 0

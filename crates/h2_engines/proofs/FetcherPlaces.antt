@@ -14,13 +14,10 @@ use Rattle.h2_message.proofs.PhaseWhole.{after_interim}
 use Rattle.h2_engines.specs.declared.fetcher.Coming.{Coming}
 use Rattle.h2_engines.specs.PartialMessages.{HasCome, interims_alone, head_and_body, interim_parts}
 use Rattle.h2_engines.specs.PartialMessages.{data_parts_of}
-use Rattle.h2_engines.proofs.NextParts.{after_both, is_begun, final_begun, stays_begun, one_more}
+use Rattle.h2_engines.proofs.NextParts.{is_begun, final_begun, stays_begun, one_more}
+use Rattle.h2_message.proofs.PhaseSteps.{after_both}
 use Rattle.h2_engines.proofs.NextParts.{place_later}
-
--- What is not nothing is something.
-some_not_none : {X : Type 0} (option : Option X) → (option ≡ None → ⊥) → is_some option ≡ true
-some_not_none None other = absurd (other refl)
-some_not_none (Some value) other = refl
+use Rattle.h2_message.proofs.ReadingRules.{some_not_none}
 
 -- After interim responses a head comes next.
 after_interims : (to_head : Bool) (interims : List (List Field))

@@ -54,9 +54,9 @@ pump_keeps P keep (pumps_data end id sent more octets ends refusal last next typ
     pump_keeps P keep rest (keep end (SendData id octets ends) (Count sent) tt holds)
 pump_keeps P keep (pumps_trailers end id more list refusal last next typed may rest) holds =
     pump_keeps P keep rest (keep end (SendFields id list true) Done tt holds)
-pump_keeps P keep (data_refused end id octets ends refusal next typed may) holds =
+pump_keeps P keep (data_refused end id octets ends refusal next typed waits may) holds =
     keep end (SendData id octets ends) (Refused refusal) tt holds
-pump_keeps P keep (trailers_refused end id list refusal next typed may) holds =
+pump_keeps P keep (trailers_refused end id list refusal next typed wait may) holds =
     keep end (SendFields id list true) (Refused refusal) tt holds
 
 pub pumped_keeps : (P : EndLog → Type 0) → CallsKeep P → (before : EndLog)

@@ -1,4 +1,5 @@
 -- What a machine makes of a piece, part by part, over a link or without one.
+use Rattle.std.proofs.lemmas.List.{take_rest}
 use Rattle.h2_engines.proofs.Names.{◌≡◌, ◌≢◌, ◌≤◌, ℕ, ◌+◌, ◌-◌, ◌^◌, Bool, true, false, List}
 use Rattle.h2_engines.proofs.Names.{length, take, drop, Some, None, Result, Ok, Err, refl, sym, ◌∙◌}
 use Rattle.h2_engines.proofs.Names.{subst, inl, inr, arith, length-drop, length-take, take_all}
@@ -215,17 +216,11 @@ pub takes_first : (writes : Bool) (now : Traffic) (held : MachineState) (piece :
 takes_first writes now held piece course base end is =
     record { after = end; turns = omega arith; driven = is }
 
--- what is left of a piece
-rest_is : (piece : List ℕ) (used : ℕ)
-    → take (length piece - used) (drop used piece) ≡ drop used piece
-rest_is piece used =
-    take_all (length piece - used) (drop used piece) (omega (arith, length-drop used piece))
-
 hears_rest : (old new : MachineState) (piece : List ℕ) (used : ℕ) (result : Result Heard LinkError)
     → Hears old new (take (length piece - used) (drop used piece)) result
     → Hears old new (drop used piece) result
 hears_rest old new piece used result hears =
-    subst (λ (octets : List ℕ). Hears old new octets result) (rest_is piece used) hears
+    subst (λ (octets : List ℕ). Hears old new octets result) (take_rest piece used) hears
 
 -- The rest of a piece was heard of;
 pub heard_rest : {writes : Bool} {course : Course} {now base : Traffic} {self : MachineState}
@@ -334,12 +329,6 @@ unfolding TakenSo
 no_round_rest all on =
     let out : 2 ^ 64 - 1 ≤ length on.after.log.turns = omega (arith, all, on.turns) in
     (on.after, omega (arith, on.turns), ends_going on.driven (has_stalled refl (inr out)))
-
--- Octets of a piece that were heard of, are within it.
-pub within_rest : (piece : List ℕ) (used count : ℕ) → used ≤ length piece
-    → count ≤ length (take (length piece - used) (drop used piece)) → used + count ≤ length piece
-within_rest piece used count within few =
-    omega (arith, length-take (length piece - used) (drop used piece), length-drop used piece)
 
 -- Where branches of the code join, a machine and a link are those of a branch.
 pub moved_to : {M : Type 0} {L : Type 0} → (P : M → L → Type 0) → {self after : M} → {link now : L}

@@ -47,10 +47,8 @@ pub use Rattle.h2_log.specs.Events.{Event, ResetEvent}
 pub use Rattle.h2_log.specs.Limits.{full_output}
 pub use Rattle.h2_log.specs.Log.{Log}
 pub use Rattle.h2_log.specs.LogCalls.{called, MayAnswer, accepts, refuses, lacks, fails}
-pub use Rattle.h2_log.specs.LogSteps.{with_credit_returned}
 pub use Rattle.h2_log.specs.LogView.{log_view}
 pub use Rattle.h2_log.specs.Settings.{is_server}
-pub use Rattle.h2_log.specs.Verdicts.{Verdict, ConnectionFault, StreamFault, NoEvent, Reported}
 pub use Rattle.h2_log.specs.declared.refusal.Refusal.{Refusal}
 pub use Rattle.h2_log.specs.declared.refusal.Refusal.TheVariants.{Memory, TooManyResets}
 pub use Rattle.h2_log.specs.declared.role.Role.TheVariants.{Server, Client}
@@ -69,7 +67,7 @@ pub use Rattle.h2_message.specs.declared.reading.Place.{Place}
 pub use Rattle.h2_message.specs.declared.reading.Reads.{Reads}
 pub use Rattle.h2_message.specs.declared.reading.Reads.TheVariants.{Requests, Responses}
 pub use Rattle.h2_pair.proofs.FaultsInvariant.{first_in, later_in}
-pub use Rattle.h2_pair.proofs.HeardCalls.{call_calls}
+pub use Rattle.h2_log_laws.proofs.PartsStay.{call_calls}
 pub use Rattle.h2_pair.proofs.LogOutput.{gives_call}
 pub use Rattle.h2_pair.proofs.StepCalls.{call_given}
 pub use Rattle.h2_pair.specs.Pairs.{given_out}

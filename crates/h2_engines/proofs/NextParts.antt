@@ -12,26 +12,7 @@ use Rattle.h2_message.specs.Reading.{AreSoundInterims, ended, message_parts, fin
 use Rattle.h2_message.specs.Phases.{is_short, phase_in_body, phase_after_final, phase_after_head}
 use Rattle.h2_message.specs.Phases.{phase_after_data, phase_after, phase_after_all, ends}
 use Rattle.h2_message.specs.Phases.{place_at_head, place_in}
-
--- After a part that is not taken nothing is.
-pub after_none : (reads : Reads) (parts : List (Part × Bool))
-    → phase_after_all reads None parts ≡ None
-unfolding phase_after_all
-after_none reads [] = refl
-after_none reads (part ∷ parts) = refl
-
--- The parts that follow are taken from the phase after those before.
-pub after_both : (reads : Reads) (phase : Option Phase) (parts more : List (Part × Bool))
-    → phase_after_all reads phase (parts ++ more)
-    ≡ phase_after_all reads (phase_after_all reads phase parts) more
-unfolding phase_after_all
-after_both reads None parts more =
-    after_none reads (parts ++ more) ∙ sym (after_none reads more)
-    ∙ ap (λ (phase : Option Phase). phase_after_all reads phase more)
-    (sym (after_none reads parts))
-after_both reads (Some phase) [] more = refl
-after_both reads (Some phase) (part ∷ parts) more =
-    after_both reads (phase_after reads phase part) parts more
+use Rattle.h2_message.proofs.PhaseSteps.{after_both, after_none}
 
 -- Whether no head comes next.
 abbrev pub is_begun : Option Phase → Bool

@@ -12,19 +12,13 @@ use Rattle.h2_engines.specs.declared.request.Next.{Next}
 use Rattle.h2_engines.specs.declared.request.Next.TheVariants as nexts
 use Rattle.h2_engines.specs.PartialMessages.{ChangesAt, request_at, EndsKept, EndsRequest}
 use Rattle.h2_engines.specs.PartialMessages.{AddsOctets, IsLonger, room_of}
+use Rattle.h2_ends.proofs.TableSteps.{test_other, test_same}
 
 -- other entries, with another one at a number
 abbrev pub HasEntry : ℕ → Option Request → (old new : List (ℕ × Request)) → Type 0
 HasEntry id now old new =
     (q : ℕ) → lookup (is_at (nat_cmp q)) new
     ≡ cond (is_eq (nat_cmp id q)) now (lookup (is_at (nat_cmp q)) old)
-
--- A number is itself, and no other one.
-test_same : (id : ℕ) → is_eq (nat_cmp id id) ≡ true
-test_same id = unsigned_tied id id ∙ eq-eqb id id refl
-
-test_other : (id q : ℕ) → q ≢ id → is_eq (nat_cmp id q) ≡ false
-test_other id q other = unsigned_tied id q ∙ ne_eqb id q (λ same. other (sym same))
 
 -- Such entries keep all but that one.
 pub changes_one : (old new : Requests) (id : ℕ) (now : Option Request)

@@ -9,6 +9,7 @@ use Rattle.h2_log_laws.proofs.NextStreams.{next_passes, next_found}
 use Rattle.h2_log_laws.proofs.ReaderStates.{active_parts}
 use Rattle.h2_link.specs.declared.error.LinkError.TheVariants as errors
 use Rattle.h2_engines.specs.ServerSteps.{FinishedSo}
+use Rattle.h2_ends.proofs.PumpSteps.{none_by, zero_inactive, some_by}
 
 -- How many octets are held while the connection is up.
 held_by : (failed : Option Code) (count : ℕ) → failed ≡ None
@@ -24,12 +25,6 @@ none_held : (octets : List ℕ) → length octets ≤ 0 → octets ≡ []
 none_held [] few = refl
 none_held (octet ∷ octets) few = absurd (omega arith)
 
--- The next stream is active.
-some_by : (b : Bool) (next id : ℕ) → (if b then None else Some next) ≡ Some id
-    → (b ≡ false) × (next ≡ id)
-some_by true next id is = cc
-some_by false next id is = (refl, cc)
-
 test_by : (next : ℕ) → next == 0 ≡ false → next ≢ 0
 test_by next some none = both_ways (next == 0) some (rw none refl)
 
@@ -44,16 +39,6 @@ is_next log last id is =
 some_next : (next : Option ℕ) → is_some next ≡ true → (id : ℕ) × (next ≡ Some id)
 some_next None some = cc
 some_next (Some id) some = (id, refl)
-
--- Where there is none, no stream is active.
-zero_inactive : (log : Log) → active log 0 ≡ false
-zero_inactive log = false_from_ne_true _ (λ alive.
-    let odd = (active_parts log.role 0 log.received log.sent log.reported alive).odd in
-    let wrong : 0 ≡ 1 = eqb-true 0 1 odd in omega (arith, wrong))
-
-none_by : (b : Bool) (next : ℕ) → (if b then None else Some next) ≡ None → b ≡ true
-none_by true next is = refl
-none_by false next is = cc
 
 up_by : (failed none : Bool) → failed ≡ false → (failed || none) ≡ true → none ≡ true
 up_by true none up is = cc

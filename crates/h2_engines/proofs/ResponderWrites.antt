@@ -11,7 +11,8 @@ use Rattle.h2_engines.specs.Failures.{error_after}
 use Rattle.h2_engines.specs.Linked.{Traffic, IsLinked}
 use Rattle.h2_engines.specs.Machines.{WritesOut}
 use Rattle.h2_engines.specs.ServerSteps.{IsSameOfMessages}
-use Rattle.h2_engines.proofs.ResponderOutput.{put_out_failed, refused_failed, put_out_octets}
+use Rattle.h2_engines.proofs.ResponderOutput.{put_out_failed, put_out_octets}
+use Rattle.h2_ends.proofs.PumpWindows.{refused_failed}
 use Rattle.h2_engines.proofs.ResponderOutput.{given_more}
 use Rattle.h2_engines.proofs.ResponderEnds.{same_itself, same_twice, same_by_call, given_within}
 use Rattle.h2_engines.proofs.ResponderEnds.{gives_as, linked_by, takes_first, given_first}

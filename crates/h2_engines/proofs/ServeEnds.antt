@@ -27,6 +27,7 @@ use Rattle.h2_engines.specs.WithoutLink as alone
 use Rattle.h2_engines.proofs.AnswerRequests.{kept_all}
 use Rattle.h2_engines.proofs.MachineViews.{server_held, no_message, begun, carried, links_alone}
 use Rattle.h2_engines.proofs.MachineViews.{uses_alone, all_in_part, goes_for, not_cut}
+use Rattle.h2_ends.proofs.ControlStart.{none_sent, none_given as none_accepted}
 
 -- A server that goes on is one that is driven.
 serving_driven : {values : Values} {start now : Traffic} {responder : Responder} {end : EndLog}
@@ -73,14 +74,6 @@ new_links values start =
 new_calls : (values : Values) → (opened Server values).calls ≡ []
 unfolding opened with_sent
 new_calls values = refl
-
-none_accepted : (i : ℕ) → message_for i [] ≡ None
-unfolding message_for
-none_accepted i = refl
-
-none_sent : (i : ℕ) → tokens_sent i [] ≡ []
-unfolding tokens_sent
-none_sent i = refl
 
 new_sends : (values : Values) → SendsAll (new_end Server values)
 unfolding tokens_given

@@ -1,49 +1,40 @@
 -- What calls and octets that were taken leave of the input and the output of a log.
-use Rattle.h2_engines.proofs.Names.{◌≡◌, ◌≢◌, ◌≤◌, ℕ, List, [], ◌++◌, length, take, refl, sym, ap}
-use Rattle.h2_engines.proofs.Names.{◌∙◌, append_assoc, append-nil, take-append-le}
-use Rattle.h2_engines.proofs.Names.{Act, Answer, Refuse, PutOut, OutOfMemory, Refused, Log}
-use Rattle.h2_engines.proofs.Names.{Keeps-call, TakeAnswer, MayTake, reports_unprocessed}
-use Rattle.h2_engines.proofs.Names.{ends_no_frame, ends_frame, meets_fault, sent_failed, given_out}
-use Rattle.h2_engines.proofs.Names.{gives_call, call_given, Result, EndRefusal, EndLog}
+use Rattle.h2_engines.proofs.Names.{◌≡◌, ◌≢◌, ◌≤◌, ℕ, List, length, refl, sym, ◌∙◌, subst, Act}
+use Rattle.h2_engines.proofs.Names.{Answer, Refuse, PutOut, OutOfMemory, Refused, Log, Keeps-call}
+use Rattle.h2_engines.proofs.Names.{TakeAnswer, MayTake, reports_unprocessed, ends_no_frame}
+use Rattle.h2_engines.proofs.Names.{ends_frame, meets_fault, sent_failed, given_out, gives_call}
+use Rattle.h2_engines.proofs.Names.{call_given, Result, EndRefusal, EndLog}
 use Rattle.h2_log.specs.LogCalls.{with_items, with_call}
 use Rattle.h2_end_laws.specs.Takes.{has_failed, runs_out_of_memory}
 use Rattle.h2_end_laws.proofs.Failures.{unreturned_failed}
 use Rattle.h2_machine_laws.specs.Machines as steps
 use Rattle.h2_machine_laws.specs.Machines.{Step, log_after}
+use Rattle.h2_pair.proofs.CarriedOctets.{given_same}
+use Rattle.h2_pair.proofs.LogOutput.{Adds, adds_reads}
 use Rattle.h2_pair.proofs.StepsOfLogs.{step_adds, IsNoCall}
 use Rattle.h2_ends.specs.EndCalls.{MayPump, MayReleaseAll}
 use Rattle.h2_engines.specs.Linked.{Traffic, IsLinked}
 use Rattle.h2_engines.specs.ServerSteps.{IsSameOfMessages}
 use Rattle.h2_engines.proofs.LinkInvariants.{IsQuiet, CallsKeep, pumped_keeps, released_keeps}
 use Rattle.h2_engines.proofs.TakeMessages.{KeepsCalls, keeps_by_call}
+use Rattle.h2_end_laws.proofs.Failures.{items_failed}
 
 -- Octets were added to the output, and as many were given out.
-pub record Writes (before after : Log) : Type 0 where
-  pub octets : List ℕ
-  pub written : after.written ≡ before.written ++ octets
-  pub given : after.given ≡ before.given
+abbrev pub Writes : Log → Log → Type 0
+Writes = Adds
 
 -- No change,
 pub writes_none : (log : Log) → Writes log log
-writes_none log = record { octets = []; written = sym (append-nil log.written); given = refl }
+writes_none = adds_reads.failures.writes.none
 
 -- and one after another.
 pub writes_twice : {one two three : Log} → Writes one two → Writes two three → Writes one three
-writes_twice {one} a b =
-    record {
-      octets = a.octets ++ b.octets;
-      written = b.written ∙ ap (λ (octets : List ℕ). octets ++ b.octets) a.written ∙ append_assoc
-          one.written a.octets b.octets;
-      given = b.given ∙ a.given;
-    }
+writes_twice {one} {two} {three} = adds_reads.failures.writes.twice one two three
 
 -- The same octets are given out.
 pub writes_given : {before after : Log} → before.given ≤ length before.written
     → Writes before after → given_out after ≡ given_out before
-writes_given {before} {after} within writes =
-    ap (λ (count : ℕ). take count after.written) writes.given ∙ ap
-    (λ (written : List ℕ). take before.given written) writes.written ∙ take-append-le
-    before.given before.written writes.octets within
+writes_given {before} {after} = given_same before after
 
 -- A call that puts no output out.
 pub call_writes : (log : Log) (act : Act) (answer : Answer) → ((count : ℕ) → act ≢ PutOut count)
@@ -54,29 +45,21 @@ call_writes log act answer other =
       octets = gives.octets;
       written = gives.written;
       given = call_given log act answer other;
+      items = gives.items;
+      sent = gives.sent;
     }
 
 -- Octets that were taken.
 step_writes : (log : Log) {after : Log} (step : Step) → IsNoCall step → after ≡ log_after log step
     → Writes log after
-step_writes log step none same =
-    let adds = step_adds log step none in
-    record {
-      octets = adds.octets;
-      written = ap (λ (new : Log). new.written) same ∙ adds.written;
-      given = ap (λ (new : Log). new.given) same ∙ adds.given;
-    }
+step_writes log {after} step none same =
+    subst (λ (new : Log). Writes log new) (sym same) (step_adds log step none)
 
 pub take_writes : {log after : Log} {piece : List ℕ} {answer : TakeAnswer}
     → MayTake log piece answer after → Writes log after
 unfolding log_after
 take_writes {log} (has_failed code failed answers same) =
-    let none = writes_none log in
-    record {
-      octets = none.octets;
-      written = ap (λ (new : Log). new.written) same ∙ none.written;
-      given = ap (λ (new : Log). new.given) same;
-    }
+    subst (λ (new : Log). Writes log new) (sym same) (writes_none log)
 take_writes {log} (reports_unprocessed up some answers same) =
     step_writes log steps.reports_unprocessed (λ act said wrong. cc) same
 take_writes {log} {piece} (ends_no_frame takes unparsed part answers same) =
@@ -104,12 +87,6 @@ goes_twice a b =
       input = b.input ∙ a.input;
       failed = b.failed ∙ a.failed;
     }
-
--- A quiet call fails nothing.
-pub items_failed : (log : Log) (act : Act) (answer : Answer)
-    → (with_items log act answer).failed ≡ log.failed
-unfolding with_items
-items_failed log act answer = unreturned_failed _ _ ∙ sent_failed _ _
 
 call_failed : (log : Log) (act : Act) (answer : Answer) → IsQuiet act answer
     → (with_call log act answer).failed ≡ log.failed

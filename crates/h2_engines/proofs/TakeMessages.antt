@@ -11,7 +11,8 @@ use Rattle.h2_engines.proofs.Names.{later_in, call_calls, ◌∙◌}
 use Rattle.h2_log.specs.LogCalls.{with_call}
 use Rattle.h2_ends.specs.Ends.{handed_as, parts_on, reads_on}
 use Rattle.h2_ends.specs.EndTakes.{AnswersRefused, IsReadableWith, fails, refuses}
-use Rattle.h2_ends.proofs.EndTokens.{take_calls, take_role}
+use Rattle.h2_ends.proofs.EndTokens.{take_calls}
+use Rattle.h2_pair.proofs.StepUnprocessed.{role_by_take as take_role}
 use Rattle.h2_ends.proofs.TakeRefusing.{memory_fails}
 use Rattle.h2_log_laws.proofs.LogGrowth.{grows_call}
 

@@ -14,6 +14,7 @@ use Rattle.h2_engines.proofs.NextParts.{no_octets_first, goes_with}
 use Rattle.h2_engines.proofs.SameRequests.{SameOn}
 use Rattle.h2_engines.proofs.TakeMessages as read
 use Rattle.h2_engines.proofs.TakeMessages.{KeepsCalls, HandsAsRead}
+use Rattle.h2_ends.proofs.RequestHeads.{server_reads as reads_requests}
 
 -- What a server's end may hand out: the head of a request where nothing of it has come; octets and
 -- trailers after that, where it hasn't ended; or what is no part of a request.
@@ -65,13 +66,6 @@ hands_part end id (first ∷ parts) (OctetsPart octets, last) are readable =
     subst (HandsOut end) (as_body Requests (first ∷ parts) id octets last) (hands_body id octets
     last (some_parts first parts are)
     (ap ends are ∙ goes_with (first ∷ parts) (OctetsPart octets, last) readable))
-
--- A server reads requests.
-reads_requests : (end : EndLog) (id : ℕ) → end.log.role ≡ Server → reads_on end id ≡ Requests
-unfolding reads_on
-reads_requests end id role =
-    ap (λ (b : Bool). if b then Requests
-    else Responses (asked_head (message_for id end.accepted))) (ap is_server role)
 
 hands_as_read : (end : EndLog) (id : ℕ) (part : Part × Bool) {reads : Reads} → reads ≡ Requests
     → IsReadable reads (parts_on id end.handed ++ part ∷ [])

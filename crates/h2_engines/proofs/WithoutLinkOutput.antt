@@ -1,10 +1,9 @@
 -- How many octets a call puts out of the output of a log: as many as were asked for, or all.
-use Rattle.h2_engines.proofs.Names.{◌≡◌, ◌≤◌, ◌<◌, ℕ, ◌+◌, ◌-◌, Bool, true, false, if◌then◌else◌}
-use Rattle.h2_engines.proofs.Names.{List, [], ◌∷◌, ◌++◌, length, take, drop, refl, sym, ap, ◌∙◌}
-use Rattle.h2_engines.proofs.Names.{arith, length-append, append-nil, take_all, length-drop}
-use Rattle.h2_engines.proofs.Names.{length-take, PutOut, Count, returns_before_put_out, Log}
-use Rattle.h2_engines.proofs.Names.{with_credit_returned, MayAnswer, accepts, refuses, lacks, fails}
-use Rattle.h2_engines.proofs.Names.{called, log_view, given_out}
+use Rattle.h2_engines.proofs.Names.{◌≡◌, ◌≤◌, ◌<◌, ℕ, ◌+◌, ◌-◌, if◌then◌else◌, List, [], ◌∷◌, ◌++◌}
+use Rattle.h2_engines.proofs.Names.{length, take, drop, refl, sym, ap, ◌∙◌, arith, length-append}
+use Rattle.h2_engines.proofs.Names.{append-nil, take_all, length-drop, length-take, PutOut, Count}
+use Rattle.h2_engines.proofs.Names.{returns_before_put_out, Log, MayAnswer, accepts, refuses, lacks}
+use Rattle.h2_engines.proofs.Names.{fails, called, log_view, given_out}
 use Rattle.std.proofs.Common.{min}
 use Rattle.h2_frame.specs.Frames.{WindowUpdate}
 use Rattle.h2_block.specs.Grouping.{alone}
@@ -15,6 +14,7 @@ use Rattle.h2_log.specs.LogSteps.{with_sent}
 use Rattle.h2_log.specs.LogCalls.{before_put_out, with_call}
 use Rattle.h2_log.proofs.SentPayloads.{most_is_limit}
 use Rattle.h2_log_laws.proofs.ItemSizes.{size-update}
+use Rattle.h2_log_laws.proofs.CreditCases.{put_out_cases}
 use Rattle.h2_engines.specs.WithoutLink.{PutsOut}
 use Rattle.h2_engines.proofs.ResponderOutput.{given_more, put_out_octets}
 
@@ -28,16 +28,22 @@ answered (lacks none may is) = cc
 answered (fails none may is) = cc
 
 -- Credit that is returned first makes the output longer.
-ready_size : (log : Log) (b : Bool)
-    → length (if b then with_credit_returned log else log).written
-    ≡ length log.written + (if b then update_size else 0)
+ready_size : (log : Log) → length (before_put_out log).written
+    ≡ length log.written + (if returns_before_put_out (log_view log) then update_size else 0)
 unfolding with_sent
-ready_size log true =
+ready_size log =
+    put_out_cases (λ (next : Log). length next.written ≡ length log.written
+    + (if returns_before_put_out (log_view log) then update_size else 0)) log
+    (λ returns.
     let update = alone (WindowUpdate 0 log.unreturned) ∷ [] in
     let size : length (encoding_of_items (max_payload_sent log) update) ≡ 13 =
     rw (most_is_limit log.received) (size-update 0 log.unreturned) in
-    omega (arith, length-append log.written (encoding_of_items (max_payload_sent log) update), size)
-ready_size log false = omega arith
+    rw returns (omega (
+      arith,
+      length-append log.written (encoding_of_items (max_payload_sent log) update),
+      size,
+    )))
+    (λ keeps. rw keeps (omega arith))
 
 -- As many are put out as were asked for, or all that wait.
 record PutsCount (log after : Log) (count given : ℕ) : Type 0 where
@@ -45,26 +51,18 @@ record PutsCount (log after : Log) (count given : ℕ) : Type 0 where
   within : given ≤ count
   all : given < count → length after.written ≤ log.given + given
 
-puts_by : (log put : Log) (count : ℕ) {given : ℕ} (b : Bool)
-    → length put.written ≡ length log.written → log.given ≤ length log.written
-    → given ≡ min count ((length log.written - log.given) + (if b then update_size else 0))
-    → PutsCount log (record (if b then with_credit_returned put else put) {
-      given = log.given + given;
-    }) count given
-puts_by log put count b written within is =
-    let size = ready_size put b in
-    record {
-      fits = omega (arith, size, written, within, is);
-      within = omega (arith, is);
-      all = λ few. omega (arith, size, written, within, is, few);
-    }
-
 puts_count : {log : Log} {count given : ℕ} → log.given ≤ length log.written
     → MayAnswer log (PutOut count) (Count given)
     → PutsCount log (with_call log (PutOut count) (Count given)) count given
-unfolding with_call before_put_out waiting output
+unfolding with_call waiting output
 puts_count {log} {count} {given} within may =
-    puts_by log (called log (PutOut count) (Count given)) count _ refl within (answered may)
+    let size = ready_size (called log (PutOut count) (Count given)) in
+    let is = answered may in
+    record {
+      fits = omega (arith, size, within, is);
+      within = omega (arith, is);
+      all = λ few. omega (arith, size, within, is, few);
+    }
 
 -- What was given out then.
 call_given : (log : Log) (count given : ℕ)

@@ -19,7 +19,8 @@ use Rattle.h2_engines.specs.WithoutLink.{ClientPutsOut}
 use Rattle.h2_engines.proofs.MachineLaws.{puts_at, keeps_same}
 use Rattle.h2_engines.proofs.MachineViews.{server_held, client_held, no_message, begun}
 use Rattle.h2_engines.proofs.ResponderEnds.{same_twice, same_by_call, given_within}
-use Rattle.h2_engines.proofs.ResponderOutput.{put_out_failed, refused_failed}
+use Rattle.h2_engines.proofs.ResponderOutput.{put_out_failed}
+use Rattle.h2_ends.proofs.PumpWindows.{refused_failed}
 use Rattle.h2_engines.proofs.ResponderStalls.{put_out_ends}
 use Rattle.h2_engines.proofs.WithoutLinkOutput.{puts_out}
 use Rattle.h2_engines.proofs.WithoutLinkSends.{sent_same, sent_given, sent_error, sends_at}

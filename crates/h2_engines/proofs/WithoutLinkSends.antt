@@ -21,6 +21,7 @@ use Rattle.h2_engines.proofs.ResponderStalls.{pump_ends}
 use Rattle.h2_engines.proofs.ServeLinkLogs.{writes_given, StaysOn, released_stays, pumped_stays}
 use Rattle.h2_engines.proofs.ServeLinkLogs.{stays_same, stays_none, stays_twice}
 use Rattle.h2_engines.proofs.TurnsPassed.{turns_of_pump, turns_of_release}
+use Rattle.h2_conn.proofs.AskMemory.{none_of as none_failed}
 
 -- What `failed` answers of any log that the connection represents.
 abbrev pub ReadsFailed : Conn → Option Code → Type 0
@@ -40,10 +41,6 @@ failed_sends old failed done reads some values end represents = (
   has_failed (λ none. some_failed failed some
       (reads values end.log represents.streams.conn ∙ none)) refl,
 )
-
-pub none_failed : (failed : Option Code) → is_some failed ≡ false → failed ≡ None
-none_failed None up = refl
-none_failed (Some code) up = cc
 
 is_up : (conn : Conn) (failed : Option Code) (values : Values) (log : Log)
     → ReadsFailed conn failed → is_some failed ≡ false → ConnRepresents values conn log

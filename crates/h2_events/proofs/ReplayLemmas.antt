@@ -24,15 +24,7 @@ use Rattle.h2_conn.specs.Conn.{ConnRepresents}
 use Rattle.h2_events.specs.Replayer.{first_values, EndReplays, TakesPiece, joined}
 use Rattle.h2_events.specs.Report.{IsReplayOf, TakesInput, FailsInInput, ReplayReports}
 use Rattle.h2_events.specs.Report.{ReplayReportsOctets, status_of}
-
--- The turns of a log grow while octets are handed to `take`.
-turns_added : (log after : Log) (octets : List ℕ) (fault : Option Code)
-    → TakesAll log octets fault after → Adds is_of_take log after
-turns_added log after _ _ (is_done octets may) = adds_take log after octets _ may
-turns_added log after _ _ (goes_on {between = between} octets count event fault may more others) =
-    adds_twice is_of_take log between after (adds_take log between octets _ may)
-    (turns_added between after (drop count octets) fault others)
-turns_added log after _ _ (has_fault octets code may) = adds_take log after octets _ may
+use Rattle.h2_end_laws.proofs.ReplayedLogs.{adds_all as turns_added}
 
 -- The connection has failed with the code of a fault that is met in them, and with none otherwise.
 failed_after : (log after : Log) (octets : List ℕ) (fault : Option Code)

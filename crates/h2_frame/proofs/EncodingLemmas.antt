@@ -237,7 +237,7 @@ above_0 : (stream : ℕ) → nat_lt 0 stream ≡ true → 0 < stream
 above_0 stream passed = grind (arith, nat_tests)
 
 -- a number below another passes the test of it
-below_test : (number bound : ℕ) → nat_lt number bound ≡ true → number < bound
+pub below_test : (number bound : ℕ) → nat_lt number bound ≡ true → number < bound
 below_test number bound passed = grind (arith, nat_tests)
 
 -- What is written carries the frame after its head.
@@ -319,10 +319,10 @@ length-prioritized : (fragment priority : List ℕ) → length priority ≡ 5
 length-prioritized fragment priority five = omega (arith, length-append priority fragment)
 
 -- from orders to their tests
-le_passes : (a b : ℕ) → a ≤ b → nat_le a b ≡ true
+pub le_passes : (a b : ℕ) → a ≤ b → nat_le a b ≡ true
 le_passes a b order = grind (arith, nat_tests)
 
-le_fails : (a b : ℕ) → b < a → nat_le a b ≡ false
+pub le_fails : (a b : ℕ) → b < a → nat_le a b ≡ false
 le_fails a b order = grind (arith, nat_tests)
 
 lt_fails : (a b : ℕ) → b ≤ a → nat_lt a b ≡ false

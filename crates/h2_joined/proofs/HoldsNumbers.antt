@@ -26,6 +26,7 @@ use Rattle.h2_ends.specs.Ends.{part_of_event}
 use Rattle.h2_joined.specs.declared.act.Side.{Side}
 use Rattle.h2_joined.specs.declared.act.Side.TheVariants.{Client, Server}
 use Rattle.h2_joined.proofs.HoldsSides.{IsPairAt, has_role_at}
+use Rattle.h2_pair.proofs.Lists.{all_older as all_later}
 
 -- A number that items open is below 2^31, where each of them can be sent.
 opens_low : (i : ℕ) (items : List Item) → AllByRecursion (IsSendable max_frame_size_sent) items
@@ -45,12 +46,6 @@ was_opened : (role : Role) (i : ℕ) (received sent : List Item)
     → list_any (opens_from i) (openings role received sent) ≡ true
 unfolding is_used
 was_opened role i received sent was = (and_parts _ _ was).1
-
--- What all of two lists are, all of the second are.
-all_later : {X : Type 0} (P : X → Type 0) (one other : List X) → AllByRecursion P (one ++ other)
-    → AllByRecursion P other
-all_later P [] other all = all
-all_later P (first ∷ one) other all = all_later P one other all.1
 
 -- At either end of a pair: a client has written what opens its streams, and a server has read it.
 used_low_at : (side : Side) (client_values server_values : Values) (one other : Half)

@@ -1,5 +1,5 @@
 -- One call of the connection at either end keeps what holds of two joined ends.
-use Rattle.std.proofs.Common.{◌≡◌, ◌≢◌, inl, inr, ℕ, true, List, ◌∷◌, ◌++◌, refl, sym, ap, ◌∙◌}
+use Rattle.std.proofs.Common.{◌≡◌, ◌≢◌, inl, inr, ℕ, true, false, List, ◌∷◌, ◌++◌, refl, sym, ap, ◌∙◌}
 use Rattle.std.proofs.Common.{append-nil, subst}
 use Rattle.std.proofs.lemmas.Bool.{both_ways}
 use Rattle.h2_log.specs.Acts.{Values, Act, Answer, IsTypedAct, Open, SendFields, SendData, Release}
@@ -8,7 +8,7 @@ use Rattle.h2_log.specs.Acts.{Done, OutOfMemory}
 use Rattle.h2_log.specs.View.{View}
 use Rattle.h2_log.specs.Log.{Log}
 use Rattle.h2_log.specs.LogView.{log_view}
-use Rattle.h2_log.specs.CallRules.{answer_of, may_lack_memory}
+use Rattle.h2_log.specs.CallRules.{answer_of, may_fail_for_memory}
 use Rattle.h2_log.specs.LogCalls.{MayAnswer, with_call, accepts, refuses, lacks, fails}
 use Rattle.h2_log_laws.proofs.LogGrowth.{grows_call}
 use Rattle.h2_message.specs.Messages.{SentMessage}
@@ -16,7 +16,7 @@ use Rattle.h2_pair.specs.Pairs.{IsPair, calls, client_steps, server_steps}
 use Rattle.h2_pair.specs.Tokens.{tokens_heard}
 use Rattle.h2_pair.specs.Undisturbed.{IsUndisturbed, IsUndisturbedStep, LeavesUp, WasAsked}
 use Rattle.h2_pair.proofs.FaultsInvariant.{first_or_later}
-use Rattle.h2_pair.proofs.HeardCalls.{call_calls}
+use Rattle.h2_log_laws.proofs.PartsStay.{call_calls}
 use Rattle.h2_pair.proofs.StepCalls.{call_gives_nothing}
 use Rattle.h2_pair.proofs.StepUnprocessed.{call_reports_all}
 use Rattle.h2_ends.specs.Ends.{EndLog}
@@ -25,6 +25,7 @@ use Rattle.h2_joined.specs.declared.act.Side.TheVariants.{Client, Server}
 use Rattle.h2_joined.specs.Joints.{JointEnd, Made, half_of, with_happened, with_given}
 use Rattle.h2_joined.specs.Headline.{WasResetAt}
 use Rattle.h2_joined.proofs.JointHolds.{IsCalm, EndHolds, AcceptWell, AllHadMemory}
+use Rattle.h2_log_laws.proofs.CallConditions.{answer_in_memory as in_memory}
 
 -- What holds between two calls of an act: all but the order, which holds again after the last one.
 pub record JointStays (client_values server_values : Values) (made : List Made)
@@ -68,23 +69,11 @@ ordinary_of_act made side act answer ordinary =
 pub ordinary_stays_in : (act : Act) → IsOrdinary act → (count : ℕ) → act ≢ PutOut count
 ordinary_stays_in act ordinary count is = absurd (subst IsOrdinary is ordinary)
 
--- Only the refusal of a stream answers that memory was refused.
-in_memory : (view : View) (act : Act) → answer_of view act ≢ OutOfMemory
-in_memory view (Open fields end) is = cc
-in_memory view (SendFields id fields end) is = cc
-in_memory view (SendData id octets end) is = cc
-in_memory view (Release id count) is = cc
-in_memory view (ResetStream id code) is = cc
-in_memory view (Refuse id code) is = cc
-in_memory view (SendPing octets) is = cc
-in_memory view SendGoAway is = cc
-in_memory view (PutOut count) is = cc
-in_memory view (ChangeSettings values) is = cc
-
-may_lack : (act : Act) → ((id code : ℕ) → act ≢ Refuse id code) → may_lack_memory act ≡ true
-unfolding may_lack_memory
-may_lack (Refuse id code) other = absurd (other id code refl)
-may_lack act other = refl
+never_fails : (view : View) (act : Act) → ((id code : ℕ) → act ≢ Refuse id code)
+    → may_fail_for_memory view act ≡ false
+unfolding may_fail_for_memory
+never_fails view (Refuse id code) other = absurd (other id code refl)
+never_fails view act other = refl
 
 pub answers_in_memory : (log : Log) (act : Act) (answer : Answer)
     → ((id code : ℕ) → act ≢ Refuse id code) → MayAnswer log act answer → answer ≢ OutOfMemory
@@ -93,7 +82,7 @@ answers_in_memory log act answer other (accepts none is) out =
 answers_in_memory log act answer other (refuses refusal holds is) out = cc
 answers_in_memory log act answer other (lacks none may is) out = cc
 answers_in_memory log act answer other (fails none may is) out =
-    both_ways _ may (may_lack act other)
+    both_ways _ (never_fails (log_view log) act other) may
 
 -- Nor does another call make the connection fail.
 leaves_up : (log : Log) (act : Act) → ((id code : ℕ) → act ≢ Refuse id code) → LeavesUp log act

@@ -37,9 +37,11 @@ holds_by_pumps Holds kept _ _ _ _
     holds_by_pumps Holds kept
     (end_with_log end (with_call end.log (SendFields id list true) Done)) after more refused others
     (kept end (SendFields id list true) Done holds tt typed may)
-holds_by_pumps Holds kept _ _ _ _ (data_refused end id octets ends refusal next typed may) holds =
+holds_by_pumps Holds kept _ _ _ _
+    (data_refused end id octets ends refusal next typed waits may) holds =
     kept end (SendData id octets ends) (Refused refusal) holds tt typed may
-holds_by_pumps Holds kept _ _ _ _ (trailers_refused end id list refusal next typed may) holds =
+holds_by_pumps Holds kept _ _ _ _
+    (trailers_refused end id list refusal next typed wait may) holds =
     kept end (SendFields id list true) (Refused refusal) holds tt typed may
 
 -- and those of a release of all that is owed.

@@ -21,6 +21,7 @@ use Rattle.h2_joined.specs.Joints.{JointEnd, Made, half_of}
 use Rattle.h2_joined.specs.Headline.{AreQuiet, WasResetIn, ReportsNoFault}
 use Rattle.h2_joined.proofs.JointHolds.{JointHolds, EndHolds, AllHadMemory}
 use Rattle.h2_joined.proofs.JointOrder.{server_hands, client_hands}
+use Rattle.h2_ends.proofs.PumpTokens.{said_is as said_of}
 
 -- An end whose connection reports no fault reports none.
 reports_no_fault : (made : List Made) (side peer : Side) (one other : EndLog)
@@ -92,12 +93,6 @@ reset_in made client server i client_holds server_holds (inr (inl (code, asked))
     inl (Server, code, server_holds.asked i code asked)
 reset_in made client server i client_holds server_holds (inr (inr named)) =
     inr (client_holds.reported (UnprocessedEvent i) (no_part i) named)
-
--- An end that has accepted a message sends it, and what waits of it is stuck.
-said_of : (end : EndLog) (i : ℕ) (message : SentMessage)
-    → message_for i end.accepted ≡ Some message → tokens_said end i ≡ message_tokens message
-unfolding tokens_given
-said_of end i message is = ap tokens_given is
 
 sending_of : (end : EndLog) (i : ℕ) (message : SentMessage)
     → message_for i end.accepted ≡ Some message → (sends : SendsInOrder end i)

@@ -1,23 +1,19 @@
 -- A connection that has failed stays failed. So where memory was not refused where it counts, it
 -- was not in any act.
-use Rattle.std.proofs.Common.{◌≡◌, ◌≢◌, ℕ, suc, Bool, true, false, if◌then◌else◌, List}
-use Rattle.std.proofs.Common.{take, drop}
-use Rattle.std.proofs.Common.{Option, Some, None, Result, Ok, Err, refl, sym, ap, subst, ◌∙◌}
+use Rattle.std.proofs.Common.{◌≡◌, ◌≢◌, ℕ, suc, List, take, drop, Option, Some, None, Result, Ok}
+use Rattle.std.proofs.Common.{Err, refl, ap, subst, ◌∙◌}
 use Rattle.h2_frame.specs.declared.code.Code.{Code}
 use Rattle.h2_frame.specs.declared.code.Code.TheVariants.{InternalError}
-use Rattle.h2_log.specs.Acts.{Values, Act, Answer, IsTypedAct, Number, Count, Done, OutOfMemory}
-use Rattle.h2_log.specs.Acts.{Refused, Open, SendFields, Refuse, PutOut}
+use Rattle.h2_log.specs.Acts.{Values, Act, Answer, Number, Count, Done, OutOfMemory, Refused, Open}
+use Rattle.h2_log.specs.Acts.{SendFields, Refuse, PutOut}
 use Rattle.h2_log.specs.Log.{Log}
-use Rattle.h2_log.specs.LogView.{log_view}
-use Rattle.h2_log.specs.CallRules.{returns_before_put_out}
-use Rattle.h2_log.specs.LogSteps.{with_sent, with_credit_returned}
-use Rattle.h2_log.specs.LogCalls.{MayAnswer, with_call, called, with_items, before_put_out}
-use Rattle.h2_end_laws.proofs.Failures.{sent_failed, unreturned_failed}
+use Rattle.h2_log.specs.LogCalls.{MayAnswer, with_call}
 use Rattle.h2_end_laws.proofs.TakeAnswers.{log_after_take}
 use Rattle.h2_end_laws.specs.Takes.{Took, Failed}
 use Rattle.h2_log.specs.Events.{FieldsEvent}
 use Rattle.h2_message.specs.Messages.{SentMessage}
 use Rattle.h2_pair.specs.Tokens.{is_head_alone}
+use Rattle.h2_pair.proofs.StepCalls.{call_failed}
 use Rattle.h2_ends.specs.declared.refusal.EndRefusal.{EndRefusal}
 use Rattle.h2_ends.specs.Ends.{EndLog, EndAnswer, EndTook, EndFailed}
 use Rattle.h2_ends.specs.EndTakes.{EndMayTake, AnswersRefused, end_with_log, fails, hands_nothing}
@@ -37,39 +33,11 @@ use Rattle.h2_joined.proofs.JointCalls.{IsOrdinary, answers_in_memory}
 use Rattle.h2_joined.proofs.JointChains.{KeptByCalls, holds_by_pump, holds_by_release}
 use Rattle.h2_joined.proofs.JointChains.{holds_by_refused_request, holds_by_refused_response}
 
--- What a call writes does not make the connection fail,
-items_failed : (log : Log) (act : Act) (answer : Answer)
-    → (with_items log act answer).failed ≡ log.failed
-unfolding with_items
-items_failed log act answer = unreturned_failed _ _ ∙ sent_failed _ _
-
--- nor what is returned before octets are given out,
-put_out_by : (log : Log) (b : Bool) → (if b then with_credit_returned log else log).failed
-    ≡ log.failed
-unfolding with_sent
-put_out_by log true = refl
-put_out_by log false = refl
-
-put_out_failed : (log : Log) → (before_put_out log).failed ≡ log.failed
-unfolding before_put_out
-put_out_failed log = put_out_by log (returns_before_put_out (log_view log))
-
--- nor any call but the refusal of a stream.
-call_keeps : (log : Log) (act : Act) (answer : Answer)
-    → ((id code : ℕ) → act ≢ Refuse id code) → answer ≢ OutOfMemory
-    → (with_call log act answer).failed ≡ log.failed
-unfolding with_call
-call_keeps log act (Refused refusal) other out = refl
-call_keeps log act OutOfMemory other out = absurd (out refl)
-call_keeps log (Refuse id code) answer other out = absurd (other id code refl)
-call_keeps log (PutOut count) (Count given) other out =
-    put_out_failed (called log (PutOut count) (Count given))
-call_keeps log act answer other out = items_failed log act answer
-
+-- No call but the refusal of a stream makes the connection fail.
 call_stays : (log : Log) (act : Act) (answer : Answer) → ((id code : ℕ) → act ≢ Refuse id code)
     → MayAnswer log act answer → (with_call log act answer).failed ≡ log.failed
 call_stays log act answer other may =
-    call_keeps log act answer other (answers_in_memory log act answer other may)
+    call_failed log act answer other (answers_in_memory log act answer other may)
 
 -- An end has failed with this code.
 abbrev HasFailed : Code → EndLog → Type 0

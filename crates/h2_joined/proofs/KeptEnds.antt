@@ -42,9 +42,11 @@ pump_says before count refused after (pumps_trailers end id more list refusal la
     rest) =
     let says = pump_says _ more refusal last rest in
     record { accepted = says.accepted; handed = says.handed }
-pump_says before count refused after (data_refused end id octets ends refusal next typed may) =
+pump_says before count refused after
+    (data_refused end id octets ends refusal next typed waits may) =
     record { accepted = refl; handed = refl }
-pump_says before count refused after (trailers_refused end id list refusal next typed may) =
+pump_says before count refused after
+    (trailers_refused end id list refusal next typed wait may) =
     record { accepted = refl; handed = refl }
 
 pub pumped_says : (before : EndLog) (result : Result ℕ EndRefusal) (after : EndLog)

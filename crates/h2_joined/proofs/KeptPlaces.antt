@@ -15,6 +15,7 @@ use Rattle.h2_joined.specs.declared.store.EventPlace.{EventPlace}
 use Rattle.h2_joined.specs.declared.store.EventPlace.TheVariants as places
 use Rattle.h2_joined.specs.Stored.{part_of, field_of, fields_of, event_of, IsSpan, IsFieldPlace}
 use Rattle.h2_joined.specs.Stored.{IsEventPlace}
+use Rattle.h2_pair.proofs.Lists.{all_both as all_joined}
 
 -- The item at a place of a list, with what is made of it.
 pub made_at : {A B : Type 0} (f : A → B) (items : List A) (i : ℕ) (other : A) → i < length items
@@ -63,11 +64,6 @@ all_dropped : {A : Type 0} (P : A → Type 0) (n : ℕ) (items : List A) → All
 all_dropped P zero items all = all
 all_dropped P (suc n) [] all = tt
 all_dropped P (suc n) (item ∷ items) all = all_dropped P n items all.1
-
-pub all_joined : {A : Type 0} (P : A → Type 0) (one other : List A) → AllByRecursion P one
-    → AllByRecursion P other → AllByRecursion P (one ++ other)
-all_joined P [] other all others = others
-all_joined P (item ∷ one) other all others = (all.0, all_joined P one other all.1 others)
 
 -- The fields of a span stay,
 listed : (octets more : List ℕ) (fields others : List FieldPlace) (list : Span)

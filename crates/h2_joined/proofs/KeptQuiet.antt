@@ -13,6 +13,7 @@ use Rattle.h2_joined.specs.declared.pipe.Pipe.{Pipe}
 use Rattle.h2_joined.specs.Headline.{AreQuiet}
 use Rattle.h2_joined.specs.Joints.{JointEnd, Made}
 use Rattle.h2_joined.specs.Kept.{HoldsOctets, JoinedRepresents}
+use Rattle.h2_ends.proofs.PumpTokens.{no_octets}
 
 -- what `len` of a pipe answers
 abbrev pub CountsPipe : Pipe → ℕ → Type 0
@@ -29,10 +30,6 @@ TellsBoth joined quiet = (client_values server_values : Values) (made : List Mad
     (client server : JointEnd)
     → JoinedRepresents client_values server_values joined made client server
     → (quiet ≡ true) ↔ AreQuiet client server
-
-no_octets : (octets : List ℕ) → length octets ≡ 0 → octets ≡ []
-no_octets [] none = refl
-no_octets (octet ∷ octets) none = absurd (omega (arith, none))
 
 -- Octets are on the pipe to an end.
 some_octets : (octets : List ℕ) (count : ℕ) → count ≡ length octets → 0 < count

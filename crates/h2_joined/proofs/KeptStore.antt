@@ -23,7 +23,7 @@ use Rattle.h2_joined.specs.Stored.{KeepsMore, KeepsOctets, KeepsField, AreFields
 use Rattle.h2_joined.specs.Stored.{KeepsList, IsPlaced, PlacesEvent, Fits, most_octets}
 use Rattle.h2_joined.specs.Kept.{KeepsHanded}
 use Rattle.h2_joined.proofs.KeptPlaces.{fields_more, events_more, fields_within, events_within}
-use Rattle.h2_joined.proofs.KeptPlaces.{all_joined}
+use Rattle.h2_pair.proofs.Lists.{all_both as all_joined}
 
 -- The same items are the same events, wherever they lie.
 same_events : (old new : Store) → KeepsItems old new → events_of new ≡ events_of old

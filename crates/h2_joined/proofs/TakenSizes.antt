@@ -53,6 +53,7 @@ use Rattle.h2_ends.specs.EndTakes.{EndMayTake, AnswersRefused, fails, hands_noth
 use Rattle.h2_ends.specs.EndTakes.{hands_out, refuses, runs_out_of_memory}
 use Rattle.h2_ends.specs.Represents.{EndRepresents}
 use Rattle.h2_joined.specs.Stored.{Fits}
+use Rattle.h2_wire.proofs.ReadingLemmas.{some_frames as frames_some}
 
 -- A body has at most 65,536 octets, of a frame,
 abbrev FitsFrame : Frame → Type 0
@@ -117,11 +118,6 @@ last_fits limits same preceding [] frame octets are =
     frame_fits (limits (preceding + 9)) frame are.0 (same (preceding + 9)) are.3
 last_fits limits same preceding (other ∷ frames) frame octets are =
     last_fits limits same (preceding + length are.0) frames frame are.1 are.4
-
--- Some frame isn't none.
-frames_some : (frames : List Frame) (frame : Frame) → frames ++ frame ∷ [] ≡ [] → ⊥
-frames_some [] frame is = cc
-frames_some (other ∷ frames) frame is = cc
 
 read_fits : (expects : Bool) (limits : Limits) → ((place : ℕ) → limits place ≡ 16384)
     → (stream : List ℕ) (frames : List Frame) (frame : Frame) (unparsed : List ℕ)

@@ -29,6 +29,7 @@ use Rattle.h2_log.specs.Verdicts.{block_verdict, connection_update_verdict, data
 use Rattle.h2_log.specs.Verdicts.{opening_verdict, reset_verdict, update_verdict}
 use Rattle.h2_log.specs.CallRules.{changed_pairs, conditions, data_frames, data_items}
 use Rattle.h2_log.specs.CallRules.{encoder_after_call, first_of, items_of, may_lack_memory}
+use Rattle.h2_log.specs.CallRules.{may_fail_for_memory}
 use Rattle.h2_log.specs.CallRules.{opening_pairs, refuse_fault, stream_of_act}
 use Rattle.h2_log.specs.Items.{data_of, data_on, encoding_of_item, encoding_of_items, ends}
 use Rattle.h2_log.specs.Items.{greatest_block, increment_on, is_block_on, is_goaway}
@@ -64,7 +65,7 @@ unfolding bits_of number_of octets_of groups code_in code huffman_bits continuat
     greatest_block greatest_processed grouped grouping_step increment_on is_above is_active
     is_block_on is_closed_by_us is_goaway is_goaway_below is_over is_used items_of
     last_processed least_block least_goaway max_payload_sent_by max_streams may_be_first
-    may_lack_memory newest_ping next_active next_number next_unprocessed one_ack one_acked
+    may_fail_for_memory may_lack_memory newest_ping next_active next_number next_unprocessed one_ack one_acked
     one_answer one_ping one_pong one_reset one_settings opened opened_by opening_pairs
     opening_verdict opens_from output over_limits overflows owed owed_at_close payload_limit
     processed_by refuse_fault refused_with released replies_to reported_total

@@ -161,6 +161,13 @@ data_count view (Some stream) count =
     min count (min (min (at_least_none stream.send_window)
     (at_least_none view.send_window)) max_data)
 
+-- Whether a call that sends octets of a body sends nothing, and so takes no memory: none of the
+-- octets may be sent, and it isn't that there are none and the stream ends.
+-- rule: calls (own) A call that sends nothing takes no memory
+abbrev pub sends_no_data : View → ℕ → List ℕ → Bool → Bool
+sends_no_data view id octets end =
+    data_count view (view.stream id) (length octets) == 0 && not (length octets == 0 && end)
+
 -- the answer to a call that isn't refused
 -- rule: calls (own) A call does what it says, or is refused for its first condition
 abbrev pub answer_of : View → Act → Answer
@@ -262,11 +269,22 @@ encoder_after_call encoder (Open fields end) (Number id) = after_block encoder f
 encoder_after_call encoder (SendFields id fields end) Done = after_block encoder fields
 encoder_after_call encoder act answer = encoder
 
--- Whether a call is refused where an allocation is. Refusing a stream isn't: it makes the
--- connection fail instead.
-unfoldable pub may_lack_memory : Act → Bool
-may_lack_memory (Refuse id code) = false
-may_lack_memory _ = true
+-- Whether a call that no condition refuses may be refused since an allocation is: refusing a stream
+-- isn't, nor is a call that sends nothing of a body, or that puts nothing out.
+-- rule: calls (own) A call that sends nothing takes no memory
+unfoldable pub may_lack_memory : View → Act → Bool
+may_lack_memory view (Refuse id code) = false
+may_lack_memory view (SendData id octets end) = not (sends_no_data view id octets end)
+may_lack_memory view (PutOut count) =
+    returns_before_put_out view || nat_lt 0 (min count view.waiting)
+may_lack_memory view act = true
+
+-- Whether the connection may fail with INTERNAL_ERROR at a call that no condition refuses, since an
+-- allocation is: where a stream is refused and the connection doesn't fail of itself.
+-- rule: 5.4 (own) Being out of memory hides no other fault of the connection
+unfoldable pub may_fail_for_memory : View → Act → Bool
+may_fail_for_memory view (Refuse id code) = not (is_some (refuse_fault view code))
+may_fail_for_memory view act = false
 
 -- The readers: what an end answers of itself. Once the connection has failed only `waiting` goes
 -- on.

@@ -18,7 +18,7 @@ use Rattle.h2_log.specs.ItemRules.{frame_step}
 use Rattle.h2_log.specs.LogSteps.{limits_from, took_part, took_frame, took_fault}
 use Rattle.h2_log.specs.LogSteps.{took_out_of_memory, took_none}
 use Rattle.h2_log.specs.LogCalls.{MayAnswer, with_call, opened}
-use Rattle.h2_log.specs.Memory.{frame_needs_memory, KeepsOctets}
+use Rattle.h2_log.specs.Memory.{credit_needs_memory, frame_needs_memory, KeepsOctets}
 
 -- the limit of the peer's table of fields: the own value 1 that is in force (RFC 9113, section
 -- 4.3.1)
@@ -73,7 +73,9 @@ TakesFault role log octets fault =
 -- rule: 5.4 (own) Out of memory is INTERNAL_ERROR
 -- rule: 5.4 (own) Being out of memory hides no other fault of the connection
 pub data LacksMemory (role : Role) (log : Log) (octets unused : List ℕ) : Type 0 where
-  to_report : octets ≡ [] → next_unprocessed log ≢ 0 → LacksMemory role log octets unused
+  to_report : octets ≡ [] → next_unprocessed log ≢ 0
+      → credit_needs_memory (log_view log) (next_unprocessed log) ≡ true
+      → LacksMemory role log octets unused
   to_keep : octets ≡ [] → TakesOctets log → KeepsOctets log unused
       → LacksMemory role log octets unused
   to_take : TakesOctets log → (frame : Frame) → TakesFrame role log octets frame

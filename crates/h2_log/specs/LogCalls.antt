@@ -14,8 +14,8 @@ use Rattle.h2_log.specs.Settings.{is_server}
 use Rattle.h2_log.specs.Log.{Log, last_processed, max_payload_sent_by}
 use Rattle.h2_log.specs.LogView.{log_view}
 use Rattle.h2_log.specs.CallRules.{refusal_of, answer_of, items_of, refuse_fault, stream_of_act}
-use Rattle.h2_log.specs.CallRules.{encoder_after_call, may_lack_memory, returns_before_put_out}
-use Rattle.h2_log.specs.CallRules.{opening_pairs}
+use Rattle.h2_log.specs.CallRules.{encoder_after_call, may_lack_memory, may_fail_for_memory}
+use Rattle.h2_log.specs.CallRules.{returns_before_put_out, opening_pairs}
 use Rattle.h2_log.specs.LogSteps.{with_sent, with_unreturned, with_credit_returned, owed_at_close}
 use Rattle.h2_log.specs.LogSteps.{with_failure}
 use Rattle.h2_log.specs.declared.role.Role.{Role}
@@ -62,18 +62,18 @@ with_call log (PutOut count) (Count given) = record (before_put_out (called log 
 with_call log act answer = with_items log act answer
 
 -- The call may have this answer: the rules' where no condition holds, and otherwise the refusal for
--- the first one that does; or an allocation was refused where no condition holds, and the call is
--- refused for it, or, of `Refuse`, the connection fails.
+-- the first one that does; or an allocation was refused where no condition holds and the call takes
+-- memory, and the call is refused for it, or, of `Refuse`, the connection fails.
 -- rule: calls (own) A call does what it says, or is refused for its first condition
 pub data MayAnswer (log : Log) (act : Act) (answer : Answer) : Type 0 where
   accepts : refusal_of (log_view log) act ≡ None → answer ≡ answer_of (log_view log) act
       → MayAnswer log act answer
   refuses : (refusal : Refusal) → refusal_of (log_view log) act ≡ Some refusal → answer
       ≡ Refused refusal → MayAnswer log act answer
-  lacks : refusal_of (log_view log) act ≡ None → may_lack_memory act ≡ true → answer
+  lacks : refusal_of (log_view log) act ≡ None → may_lack_memory (log_view log) act ≡ true → answer
       ≡ Refused Memory → MayAnswer log act answer
-  fails : refusal_of (log_view log) act ≡ None → may_lack_memory act ≡ false → answer
-      ≡ OutOfMemory → MayAnswer log act answer
+  fails : refusal_of (log_view log) act ≡ None → may_fail_for_memory (log_view log) act ≡ true
+      → answer ≡ OutOfMemory → MayAnswer log act answer
 
 -- the log of an end that has written nothing but a client's preface
 -- rule: 3.4 Both ends begin with SETTINGS

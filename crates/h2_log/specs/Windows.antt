@@ -6,7 +6,6 @@ use Rattle.h2_log.specs.Items.{data_on, data_of, increment_on, total}
 use Rattle.h2_log.specs.Settings.{value_read, own_value}
 
 -- the window of the connection at first, and of a stream before any SETTINGS
--- rule: 6.9.2 INITIAL_WINDOW_SIZE shifts the window of each stream
 -- rule: 6.9.2 A new stream has its initial windows
 abbrev pub first_window : ℕ
 first_window = 65535

@@ -1,6 +1,6 @@
 -- PING, GOAWAY, RST_STREAM, acknowledgments, later blocks, DATA and WINDOW_UPDATE that an end may
 -- write are no fault for its reader.
-use Rattle.std.proofs.Common.{◌≡◌, ◌⊎◌, ◌≢◌, ℕ, zero, suc, ◌+◌, ◌≤◌, ◌<◌, ◌&&◌, nat_lt, Bool, true}
+use Rattle.std.proofs.Common.{◌≡◌, ◌⊎◌, ◌≢◌, ℕ, zero, suc, ◌+◌, ◌≤◌, ◌<◌, nat_lt, Bool, true}
 use Rattle.std.proofs.Common.{false, if◌then◌else◌, List, [], ◌++◌, length, Option, None, Some}
 use Rattle.std.proofs.Common.{refl, ap, ◌∙◌, inl, inr, arith}
 use Rattle.std.proofs.lemmas.Bool.{lt-ltb, le-ltb, ne_eqb, and_left, and_right}
@@ -61,9 +61,7 @@ used_not_idle role received sent unread log i used reader =
 reset_sound : (state : State) → (state ≡ Idle → ⊥) → is_fault (reset_verdict state) ≡ false
 unfolding reset_verdict
 reset_sound Idle used = absurd (used refl)
-reset_sound Active used = refl
-reset_sound ClosedByUs used = refl
-reset_sound Closed used = refl
+reset_sound other used = refl
 
 -- RST_STREAM is no fault.
 pub reset_lem : (role : Role) (received sent unread : List Item) (log : Log) (i code : ℕ)

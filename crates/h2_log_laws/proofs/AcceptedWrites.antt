@@ -2,8 +2,8 @@
 use Rattle.std.proofs.Common.{◌≡◌, ◌⊎◌, ℕ, zero, suc, ◌≤◌, Bool, true, false, List, Option, None}
 use Rattle.std.proofs.Common.{Some, inl, inr, arith}
 use Rattle.hpack.specs.Lists.{list_size}
-use Rattle.h2_frame.specs.Frames.{Data, Headers, Priority, Reset, Settings, Ping, GoAway}
-use Rattle.h2_frame.specs.Frames.{WindowUpdate, Continuation, Unknown}
+use Rattle.h2_frame.specs.Frames.{Data, Reset, Settings, Ping, GoAway}
+use Rattle.h2_frame.specs.Frames.{WindowUpdate}
 use Rattle.h2_block.specs.Grouping.{Item, alone, block}
 use Rattle.h2_log.specs.declared.role.Role.{Role}
 use Rattle.h2_log.specs.Log.{Log}
@@ -67,10 +67,6 @@ written_lem role received sent unread log decoded (alone
     decoded_none log decoded (alone (Data i end octets pad)) fair
     (data_lem role received sent unread log i end octets pad with_sent allowed.0 allowed.1 reader)
 written_lem role received sent unread log decoded (alone
-    (Headers i end whole fragment pad priority)) with_sent allowed reader fair = absurd allowed
-written_lem role received sent unread log decoded (alone
-    (Priority i octets)) with_sent allowed reader fair = absurd allowed
-written_lem role received sent unread log decoded (alone
     (Reset i code)) with_sent allowed reader fair =
     decoded_none log decoded (alone (Reset i code)) fair
     (reset_lem role received sent unread log i code with_sent allowed.1 reader)
@@ -91,7 +87,5 @@ written_lem role received sent unread log decoded (alone
     (WindowUpdate i increment)) with_sent allowed reader fair =
     decoded_none log decoded (alone (WindowUpdate i increment)) fair
     (any_update_lem role received sent unread log i increment with_sent allowed.1 reader)
-written_lem role received sent unread log decoded (alone
-    (Continuation i whole fragment)) with_sent allowed reader fair = absurd allowed
-written_lem role received sent unread log decoded (alone
-    (Unknown kind flags i payload)) with_sent allowed reader fair = absurd allowed
+written_lem role received sent unread log decoded (alone frame) with_sent allowed reader fair =
+    absurd allowed

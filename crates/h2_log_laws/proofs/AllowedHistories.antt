@@ -2,8 +2,8 @@
 use Rattle.std.proofs.Common.{◌≡◌, ◌⊎◌, ◌≢◌, ℕ, ◌+◌, ◌≤◌, false, List, [], ◌∷◌, ◌++◌, refl, ap, inl}
 use Rattle.std.proofs.Common.{inr, arith}
 use Rattle.std.proofs.lemmas.Bool.{cases_eq, eq-eqb, ne_eqb}
-use Rattle.h2_frame.specs.Frames.{Data, Headers, Priority, Reset, Settings, Ping, GoAway}
-use Rattle.h2_frame.specs.Frames.{WindowUpdate, Continuation, Unknown}
+use Rattle.h2_frame.specs.Frames.{Settings}
+use Rattle.h2_frame.specs.Frames.{WindowUpdate}
 use Rattle.h2_block.specs.Grouping.{Item, alone, block}
 use Rattle.h2_log.specs.declared.role.Role.{Role}
 use Rattle.h2_log.specs.declared.role.Role.TheVariants.{Client, Server}
@@ -115,19 +115,12 @@ increment_or : (item : Item) → ((stream increment : ℕ) × (item
     ≡ alone (WindowUpdate stream increment))) ⊎ ((i : ℕ) → increment_on i item ≡ 0)
 unfolding increment_on
 increment_or (block stream end octets) = inr (λ i. refl)
-increment_or (alone (Data stream end octets pad)) = inr (λ i. refl)
-increment_or (alone (Headers stream end whole fragment pad priority)) = inr (λ i. refl)
-increment_or (alone (Priority stream octets)) = inr (λ i. refl)
-increment_or (alone (Reset stream code)) = inr (λ i. refl)
-increment_or (alone (Settings ack pairs)) = inr (λ i. refl)
-increment_or (alone (Ping ack octets)) = inr (λ i. refl)
-increment_or (alone (GoAway last code debug)) = inr (λ i. refl)
 increment_or (alone (WindowUpdate stream increment)) = inl (stream, increment, refl)
-increment_or (alone (Continuation stream whole fragment)) = inr (λ i. refl)
-increment_or (alone (Unknown kind flags stream payload)) = inr (λ i. refl)
+increment_or (alone frame) = inr (λ i. refl)
 
 -- a WINDOW_UPDATE gives its increment to its own stream
-increment_here : (i increment : ℕ) → increment_on i (alone (WindowUpdate i increment)) ≡ increment
+pub increment_here : (i increment : ℕ)
+    → increment_on i (alone (WindowUpdate i increment)) ≡ increment
 unfolding increment_on
 increment_here i increment = rw (eq-eqb i i refl) refl
 

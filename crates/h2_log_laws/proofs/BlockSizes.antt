@@ -1,16 +1,13 @@
 -- How many octets a block takes: no more than the size of its list, and those of two updates.
-use Rattle.std.proofs.Common.{◌≡◌, ℕ, zero, suc, ◌+◌, ◌-◌, ◌/◌, ◌%◌, ◌≤◌, ◌==◌, nat_lt, nat_le}
+use Rattle.std.proofs.Common.{◌≡◌, ℕ, suc, ◌+◌, ◌-◌, ◌/◌, ◌%◌, ◌≤◌, ◌==◌, nat_lt, nat_le}
 use Rattle.std.proofs.Common.{if◌then◌else◌, Bool, true, false, List, [], ◌∷◌, ◌++◌, length, refl}
 use Rattle.std.proofs.Common.{arith, length-append, flat_map}
 use Rattle.std.proofs.lemmas.Bool.{leb-true}
 use Rattle.std.proofs.lemmas.List.Sums.{sum_by-cons}
-use Rattle.hpack_text.specs.Integers.{all_ones, continuation_of, integer}
+use Rattle.hpack_text.specs.Integers.{continuation_of, integer}
 use Rattle.hpack_text.specs.Strings.{string}
 use Rattle.hpack_text.specs.Huffman.{huffman_bits}
 use Rattle.hpack.specs.declared.types.field.Field.{Field}
-use Rattle.hpack.specs.declared.types.literal.Literal.{Literal}
-use Rattle.hpack.specs.declared.types.literal.Literal.TheVariants.{WithIndexing, WithoutIndexing}
-use Rattle.hpack.specs.declared.types.literal.Literal.TheVariants.{NeverIndexed}
 use Rattle.hpack.specs.Tables.{Entries}
 use Rattle.hpack.specs.Lists.{EncoderState, list_size}
 use Rattle.hpack.specs.Choice.{Choice, indexed, literal, choice, literal_head, encoding_of_field}
@@ -18,6 +15,8 @@ use Rattle.hpack.specs.Choice.{after_choice, encoding_of_fields, size_updates, a
 use Rattle.hpack.specs.Choice.{block_of}
 use Rattle.h2_block.specs.Grouping.{max_block_octets}
 use Rattle.h2_log.specs.Limits.{max_list}
+use Rattle.hpack.proofs.RoomLemmas.{head_short as head_fits, integer_short as integer_is_short}
+use Rattle.hpack.proofs.RoomLemmas.{continuation_short as few_groups}
 
 -- The continuation octets, by the test whether one is enough.
 few_groups_by : (more unparsed : ℕ) (b : Bool)
@@ -27,25 +26,12 @@ few_groups_by : (more unparsed : ℕ) (b : Bool)
 few_groups_by more unparsed true few = omega arith
 few_groups_by more unparsed false few = omega arith
 
--- Continuation octets are at most one more than the groups that may follow the first.
-few_groups : (more unparsed : ℕ) → length (continuation_of more unparsed) ≤ suc more
-unfolding continuation_of
-few_groups zero unparsed = omega arith
-few_groups (suc more) unparsed = few_groups_by more unparsed (nat_lt unparsed 128)
-    (few_groups more (unparsed / 128))
-
 -- The octets of an integer, by the test whether it stands in the prefix.
 integer_short_by : (first ones value : ℕ) (b : Bool)
     → length (if b then (first + value) ∷ [] else (first + ones) ∷ continuation_of 4
     (value - ones)) ≤ 6
 integer_short_by first ones value true = omega arith
 integer_short_by first ones value false = omega (arith, few_groups 4 (value - ones))
-
--- An integer takes at most six octets.
-integer_is_short : (prefix first value : ℕ) → length (integer prefix first value) ≤ 6
-unfolding integer
-integer_is_short prefix first value = integer_short_by first (all_ones prefix) value (nat_lt value
-    (all_ones prefix))
 
 -- The octets of a string, by the test whether it is Huffman coded.
 string_by : (text : List ℕ) (b : Bool) → nat_le (length (huffman_bits text)) (length text) ≡ b
@@ -70,12 +56,6 @@ string_by text false is = omega (
 string_fits : (text : List ℕ) → length (string text) ≤ 6 + length text
 unfolding string
 string_fits text = string_by text (nat_le (length (huffman_bits text)) (length text)) refl
-
--- A literal's head takes at most six octets.
-head_fits : (kind : Literal) (index : ℕ) → length (literal_head kind index) ≤ 6
-head_fits WithIndexing index = integer_is_short 6 0x40 index
-head_fits WithoutIndexing index = integer_is_short 4 0x00 index
-head_fits NeverIndexed index = integer_is_short 4 0x10 index
 
 -- A literal's name, or nothing in its place, takes at most six octets more than the name.
 name_fits : (name : List ℕ) (b : Bool) → length (if b then string name else []) ≤ 6 + length name

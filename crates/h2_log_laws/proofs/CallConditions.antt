@@ -1,10 +1,12 @@
 -- What a call that isn't refused says: none of its conditions holds.
 use Rattle.std.proofs.Common.{◌≡◌, ◌||◌, if◌then◌else◌, Bool, true, false, List, [], ◌∷◌, Option}
-use Rattle.std.proofs.Common.{Some, None, refl, ◌&&◌, not}
+use Rattle.std.proofs.Common.{Some, None, refl, ◌&&◌, not, ◌++◌, ◌≢◌}
 use Rattle.std.proofs.lemmas.Bool.{both_ways}
-use Rattle.std.specs.Option.{is_some}
 use Rattle.h2_log.specs.declared.refusal.Refusal.{Refusal}
-use Rattle.h2_log.specs.CallRules.{first_of}
+use Rattle.h2_log.specs.Acts.{Act, Open, SendFields, SendData, Release, ResetStream, Refuse}
+use Rattle.h2_log.specs.Acts.{SendPing, SendGoAway, PutOut, ChangeSettings, OutOfMemory}
+use Rattle.h2_log.specs.View.{View}
+use Rattle.h2_log.specs.CallRules.{first_of, answer_of}
 
 -- Where nothing refuses, a condition doesn't hold, by its test.
 first_false_by : (b : Bool) (refusal : Refusal) (after : Option Refusal)
@@ -52,17 +54,28 @@ unfolding first_of
 first_none true refusal after none = absurd (cc)
 first_none false refusal after none = (refl, none)
 
--- what isn't some is none
-pub none_since : {X : Type 0} (o : Option X) → is_some o ≡ false → o ≡ None
-none_since None none = refl
-none_since (Some x) none = absurd (both_ways true none refl)
-
--- a test whose negation fails holds
-pub not_false : (b : Bool) → not b ≡ false → b ≡ true
-not_false true is = refl
-not_false false is = absurd (both_ways true is refl)
-
 -- a test that doesn't fail where another holds
 pub and_other : (a b : Bool) → (not a && b) ≡ false → a ≡ false → b ≡ false
 and_other true b both is = absurd (both_ways true is refl)
 and_other false b both is = both
+
+-- The first condition that holds is the first among more.
+pub first_kept : (conditions more : List (Bool × Refusal)) (refusal : Refusal)
+    → first_of conditions ≡ Some refusal → first_of (conditions ++ more) ≡ Some refusal
+unfolding first_of
+first_kept [] more refusal is = cc
+first_kept ((true, first) ∷ conditions) more refusal is = is
+first_kept ((false, first) ∷ conditions) more refusal is = first_kept conditions more refusal is
+
+-- No call that is accepted answers that memory was refused.
+pub answer_in_memory : (view : View) (act : Act) → answer_of view act ≢ OutOfMemory
+answer_in_memory view (Open fields end) is = cc
+answer_in_memory view (SendFields id fields end) is = cc
+answer_in_memory view (SendData id octets end) is = cc
+answer_in_memory view (Release id count) is = cc
+answer_in_memory view (ResetStream id code) is = cc
+answer_in_memory view (Refuse id code) is = cc
+answer_in_memory view (SendPing octets) is = cc
+answer_in_memory view SendGoAway is = cc
+answer_in_memory view (PutOut count) is = cc
+answer_in_memory view (ChangeSettings values) is = cc

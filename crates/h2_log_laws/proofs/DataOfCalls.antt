@@ -85,13 +85,13 @@ goes_on_data role i received sent octets pad goes =
     }
 
 -- what DATA takes of its stream
-takes_on : (i : ℕ) (end : Bool) (octets : List ℕ) → data_on i (alone (Data i end octets None))
+pub takes_on : (i : ℕ) (end : Bool) (octets : List ℕ) → data_on i (alone (Data i end octets None))
     ≡ length octets
 unfolding data_on payload_of
 takes_on i end octets = rw (eq-eqb i i refl) refl
 
 -- what DATA takes of the connection
-takes_of : (i : ℕ) (end : Bool) (octets : List ℕ) → data_of (alone (Data i end octets None))
+pub takes_of : (i : ℕ) (end : Bool) (octets : List ℕ) → data_of (alone (Data i end octets None))
     ≡ length octets
 unfolding data_of payload_of
 takes_of i end octets = refl

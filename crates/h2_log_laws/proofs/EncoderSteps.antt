@@ -7,8 +7,7 @@ use Rattle.hpack.specs.Written.{IsValidEncoder}
 use Rattle.hpack.specs.Limits.{after_limit}
 use Rattle.hpack.proofs.LimitLemmas.{limit_preserves}
 use Rattle.hpack.proofs.WrittenBlocks.{block_goes_on}
-use Rattle.h2_frame.specs.Frames.{Data, Headers, Priority, Reset, Settings, Ping, GoAway}
-use Rattle.h2_frame.specs.Frames.{WindowUpdate, Continuation, Unknown}
+use Rattle.h2_frame.specs.Frames.{Headers, Settings}
 use Rattle.h2_block.specs.Grouping.{Item, alone, block}
 use Rattle.h2_log.specs.Events.{Event}
 use Rattle.h2_log.specs.Acts.{Act, Answer, Open, SendFields, SendData, Release, ResetStream, Refuse}
@@ -58,7 +57,7 @@ pair_limited encoder before id value true writing is = (
 pair_limited encoder before id value false writing is = (writing, is)
 
 -- Pairs of SETTINGS set the limit.
-pairs_limited : (encoder : EncoderState) (before : ℕ) (pairs : List (ℕ × ℕ))
+pub pairs_limited : (encoder : EncoderState) (before : ℕ) (pairs : List (ℕ × ℕ))
     → IsValidEncoder encoder → encoder.limit ≡ min before 4096
     → IsValidEncoder (encoder_after_settings encoder pairs)
     × ((encoder_after_settings encoder pairs).limit ≡ min (value_after 1 before pairs) 4096)
@@ -80,30 +79,13 @@ read_limited log decoded (alone (Settings false pairs)) is =
       limit = both.1;
     }
 read_limited log decoded (alone
-    (Settings true pairs)) is = record { writing = is.writing; limit = is.limit }
-read_limited log decoded (alone
-    (Data stream end octets pad)) is = record { writing = is.writing; limit = is.limit }
-read_limited log decoded (alone
     (Headers stream end whole fragment pad priority)) is = record {
       writing = is.writing;
       limit = is.limit;
     }
-read_limited log decoded (alone
-    (Priority stream octets)) is = record { writing = is.writing; limit = is.limit }
-read_limited log decoded (alone
-    (Reset stream code)) is = record { writing = is.writing; limit = is.limit }
-read_limited log decoded (alone
-    (Ping ack octets)) is = record { writing = is.writing; limit = is.limit }
-read_limited log decoded (alone
-    (GoAway last code debug)) is = record { writing = is.writing; limit = is.limit }
-read_limited log decoded (alone
-    (WindowUpdate stream increment)) is = record { writing = is.writing; limit = is.limit }
-read_limited log decoded (alone
-    (Continuation stream whole fragment)) is = record { writing = is.writing; limit = is.limit }
-read_limited log decoded (alone
-    (Unknown kind flags stream payload)) is = record { writing = is.writing; limit = is.limit }
 read_limited log decoded
     (block stream end octets) is = record { writing = is.writing; limit = is.limit }
+read_limited log decoded (alone frame) is = record { writing = is.writing; limit = is.limit }
 
 -- A block that is written leaves an encoder that writes blocks, with its limit.
 block_limited : (encoder : EncoderState) (act : Act) (answer : Answer) → IsValidEncoder encoder

@@ -1,35 +1,30 @@
 -- The SETTINGS_MAX_FRAME_SIZE that an end has received is 16,384 at least: a lower one is a fault,
 -- and isn't among what was received.
 use Rattle.std.proofs.Common.{◌≡◌, ℕ, ◌≤◌, ◌==◌, nat_lt, ◌&&◌, ◌||◌, Bool, true, false}
-use Rattle.std.proofs.Common.{if◌then◌else◌, List, [], ◌∷◌, ◌++◌, Option, Some, None, refl, sym}
+use Rattle.std.proofs.Common.{if◌then◌else◌, List, [], ◌∷◌, Option, Some, None, refl, sym}
 use Rattle.std.proofs.Common.{subst, arith}
 use Rattle.std.proofs.lemmas.Bool.{or_parts, ltb-false}
 use Rattle.h2_frame.specs.declared.code.Code.{Code}
 use Rattle.h2_frame.specs.declared.code.Code.TheVariants.{EnhanceYourCalm, ProtocolError}
-use Rattle.h2_frame.specs.declared.code.Code.TheVariants.{FlowControlError, InternalError}
-use Rattle.h2_frame.specs.Codes.{code_number}
-use Rattle.h2_frame.specs.Frames.{Frame, Data, Headers, Priority, Reset, Settings, Ping, GoAway}
-use Rattle.h2_frame.specs.Frames.{WindowUpdate, Continuation, Unknown}
-use Rattle.h2_wire.specs.Faults.{wire_fault_code}
+use Rattle.h2_frame.specs.declared.code.Code.TheVariants.{FlowControlError}
+use Rattle.h2_frame.specs.Frames.{Settings}
 use Rattle.h2_block.specs.Grouping.{Item, alone, block}
 use Rattle.h2_log.specs.declared.role.Role.{Role}
 use Rattle.h2_log.specs.Acts.{Values}
-use Rattle.h2_log.specs.Events.{Event, UnprocessedEvent}
 use Rattle.h2_log.specs.Settings.{value_fault, value_after, value_read}
-use Rattle.h2_log.specs.Log.{Log, last_processed, max_payload_sent, max_payload_sent_by}
-use Rattle.h2_log.specs.Log.{next_unprocessed}
+use Rattle.h2_log.specs.Log.{Log, max_payload_sent, max_payload_sent_by}
 use Rattle.h2_log.specs.LogView.{log_view}
-use Rattle.h2_log.specs.Verdicts.{Verdict, ConnectionFault, StreamFault, NoEvent, Reported}
-use Rattle.h2_log.specs.ItemRules.{Decoded, FrameStep, fails_with, begins_block, completes}
-use Rattle.h2_log.specs.ItemRules.{first_fault, frame_step, over_limits, replies_to}
+use Rattle.h2_log.specs.Verdicts.{Verdict, ConnectionFault}
+use Rattle.h2_log.specs.ItemRules.{Decoded}
+use Rattle.h2_log.specs.ItemRules.{first_fault, over_limits}
 use Rattle.h2_log.specs.ItemRules.{settings_fault, verdict_by_rules, verdict_of, verdict_of_fault}
-use Rattle.h2_log.specs.LogSteps.{read, with_sent, with_reported, with_unreturned, with_failure}
-use Rattle.h2_log.specs.LogSteps.{with_verdict, with_step, with_frame, used, owed_at_close}
+use Rattle.h2_log.specs.LogSteps.{read, with_sent}
 use Rattle.h2_log.specs.LogCalls.{opened}
-use Rattle.h2_log.specs.Histories.{IsLog, begins, took_some, took_one, met_fault, ran_out_of_memory}
-use Rattle.h2_log.specs.Histories.{reported_one, called_one}
-use Rattle.h2_log_laws.proofs.LogGrowth.{Grows, grows_twice, grows_wrote, grows_with_unreturned}
-use Rattle.h2_log_laws.proofs.LogGrowth.{grows_call}
+use Rattle.h2_log.specs.LogCalls.{called}
+use Rattle.h2_log.specs.Histories.{IsLog}
+use Rattle.h2_log.specs.CallRules.{answer_of}
+use Rattle.h2_log_laws.proofs.LogInduction.{IsLogInvariant, kept_by_logs}
+use Rattle.h2_log_laws.proofs.LogGrowth.{Grows, grows_wrote}
 
 -- the value that was received last isn't below 16,384
 abbrev IsEnough : List Item → Type 0
@@ -59,7 +54,7 @@ pair_enough value before true none enough = ltb-false value 16384 (or_parts _ _ 
 pair_enough value before false none enough = enough
 
 -- Pairs without a fault set none.
-pairs_enough : (log : Log) (before : ℕ) (pairs : List (ℕ × ℕ))
+pub pairs_enough : (log : Log) (before : ℕ) (pairs : List (ℕ × ℕ))
     → settings_fault (log_view log) pairs ≡ None → 16384 ≤ before
     → 16384 ≤ value_after 5 before pairs
 unfolding settings_fault value_after value_fault
@@ -82,22 +77,12 @@ item_enough : (log : Log) (decoded : Option Decoded) (item : Item) (v : Verdict)
     → IsEnough (item ∷ log.received)
 unfolding value_read verdict_by_rules
 item_enough log decoded (block stream end octets) v is up enough = enough
-item_enough log decoded (alone (Data stream end octets pad)) v is up enough = enough
-item_enough log decoded (alone (Headers stream end whole fragment pad priority)) v is up enough =
-    enough
-item_enough log decoded (alone (Priority stream octets)) v is up enough = enough
-item_enough log decoded (alone (Reset stream code)) v is up enough = enough
 item_enough log decoded (alone (Settings false pairs)) v is up enough =
     pairs_enough log _ pairs (no_fault _ v is up) enough
-item_enough log decoded (alone (Settings true pairs)) v is up enough = enough
-item_enough log decoded (alone (Ping ack octets)) v is up enough = enough
-item_enough log decoded (alone (GoAway last code debug)) v is up enough = enough
-item_enough log decoded (alone (WindowUpdate stream increment)) v is up enough = enough
-item_enough log decoded (alone (Continuation stream whole fragment)) v is up enough = enough
-item_enough log decoded (alone (Unknown kind flags stream payload)) v is up enough = enough
+item_enough log decoded (alone frame) v is up enough = enough
 
 -- A verdict after the limits that is no fault of the connection is that before them, by the test.
-within_limits : (over : Bool) (rules v : Verdict)
+pub within_limits : (over : Bool) (rules v : Verdict)
     → (if over then ConnectionFault EnhanceYourCalm else rules) ≡ v
     → ((code : Code) → v ≡ ConnectionFault code → ⊥) → rules ≡ v
 within_limits true rules v is up = absurd (up EnhanceYourCalm (sym is))
@@ -108,97 +93,36 @@ grown_enough : (old new : Log) → Grows old new → IsEnough old.received → I
 grown_enough old new grows enough =
     subst (λ (received : List Item). IsEnough received) (sym grows.received) enough
 
--- A log whose events were reported, too.
-reported_enough : (log : Log) (events : List Event) → IsEnough log.received
-    → IsEnough (with_reported log events).received
-unfolding with_reported
-reported_enough log [] enough = enough
-reported_enough log (event ∷ events) enough = enough
-
--- A connection that fails, too.
-failed_enough : (code : Code) (last : ℕ) (log : Log) → IsEnough log.received
-    → IsEnough (with_failure code last log).received
-failed_enough code last log enough =
-    grown_enough log (with_sent log (alone (GoAway last (code_number code) []) ∷ []))
-    (grows_wrote log _) enough
-
--- After an item that was read without a fault of the connection it is enough.
-read_enough : (log : Log) (decoded : Option Decoded) (item : Item) (v : Verdict) (more : ℕ)
-    (events : List Event) → verdict_of (log_view log) decoded item ≡ v
-    → ((code : Code) → v ≡ ConnectionFault code → ⊥) → IsEnough log.received
-    → IsEnough (with_reported (with_unreturned more
-    (with_sent (read log decoded item) (replies_to v item))) events).received
-unfolding verdict_of over_limits
-read_enough log decoded item v more events is up enough =
-    reported_enough _ events (grown_enough (read log decoded item) _
-    (grows_twice (read log decoded item) (with_sent (read log decoded item) (replies_to v item)) _
-    (grows_wrote _ _) (grows_with_unreturned more _))
-    (item_enough log decoded item v (within_limits _ _ v is up) up enough))
-
--- After an item it is enough, by its verdict.
-verdict_enough : (log : Log) (decoded : Option Decoded) (item : Item) (v : Verdict)
-    → verdict_of (log_view log) decoded item ≡ v → IsEnough log.received
-    → IsEnough (with_verdict log decoded item v).received
-unfolding with_verdict
-verdict_enough log decoded item (ConnectionFault code) is enough = failed_enough code _ log enough
-verdict_enough log decoded item (StreamFault code) is enough =
-    read_enough log decoded item (StreamFault code) _ _ is (λ other same. cc) enough
-verdict_enough log decoded item NoEvent is enough =
-    read_enough log decoded item NoEvent _ _ is (λ other same. cc) enough
-verdict_enough log decoded item Reported is enough =
-    read_enough log decoded item Reported _ _ is (λ other same. cc) enough
-
--- So it is after what a frame makes of the block that has begun.
-step_enough : (log : Log) (decoded : Option Decoded) (step : FrameStep) → IsEnough log.received
-    → IsEnough (with_step log decoded step).received
-unfolding with_step
-step_enough log decoded (fails_with code) enough = failed_enough code _ log enough
-step_enough log decoded (begins_block begun) enough = enough
-step_enough log decoded (completes item) enough =
-    verdict_enough (record log { begun = None }) decoded item _ refl enough
-
--- After a frame it is enough.
-frame_enough : (log : Log) (decoded : Option Decoded) (frame : Frame) → IsEnough log.received
-    → IsEnough (with_frame log decoded frame).received
-unfolding with_frame
-frame_enough log decoded frame enough =
-    step_enough (record log { frames = log.frames ++ frame ∷ [] }) decoded
-    (frame_step (log_view log) frame) enough
-
--- After octets were used it is enough.
-used_enough : (log : Log) (octets unparsed : List ℕ) → IsEnough log.received
-    → IsEnough (used log octets unparsed).received
-unfolding used
-used_enough log octets unparsed enough = enough
-
--- At a new end it is enough.
-new_enough : (role : Role) (values : Values) → IsEnough (opened role values).received
-unfolding opened with_sent value_read
-new_enough role values = omega arith
+-- Each change of a log keeps it.
+enough_kept : (role : Role) (values : Values)
+    → IsLogInvariant role values (λ log. IsEnough log.received)
+unfolding opened with_sent value_read verdict_of over_limits
+enough_kept role values =
+    record {
+      opening = λ in_range. omega arith;
+      used = λ log octets unparsed enough. enough;
+      framed = λ log frames enough. enough;
+      begun = λ log begun enough. enough;
+      replied = λ log decoded item verdict replies enough.
+          grown_enough (read log decoded item) _ (grows_wrote (read log decoded item) _)
+          (item_enough log decoded item verdict (within_limits _ _ verdict replies.is
+          replies.up) replies.up enough);
+      reported = λ log event events may enough. enough;
+      unreturned = λ log count enough. enough;
+      returned = λ log returns enough. enough;
+      failed = λ log code last names enough. enough;
+      sent = λ log act accepted enough.
+          let base = called log act (answer_of (log_view log) act) in
+          grown_enough base _ (grows_wrote base _) enough;
+      called = λ log act answer is none enough. enough;
+      given = λ log more enough. enough;
+    }
 
 -- It is enough in every log that comes about.
-pub frame_size_enough : (role : Role) (values : Values) (log : Log) → IsLog role values log
+frame_size_enough : (role : Role) (values : Values) (log : Log) → IsLog role values log
     → IsEnough log.received
-frame_size_enough role values _ (begins in_range) = new_enough role values
-frame_size_enough role values _ (took_some {log = log} is takes octets unparsed part) =
-    used_enough log octets unparsed (frame_size_enough role values log is)
-frame_size_enough role values _ (took_one {log = log} is takes octets frame decoded part sees) =
-    frame_enough (used log octets []) decoded frame
-    (used_enough log octets [] (frame_size_enough role values log is))
-frame_size_enough role values _ (met_fault {log = log} is takes octets fault at) =
-    failed_enough (wire_fault_code fault) (last_processed log) (used log octets [])
-    (used_enough log octets [] (frame_size_enough role values log is))
-frame_size_enough role values _ (ran_out_of_memory {log = log} is up octets may) =
-    failed_enough InternalError (last_processed log) (used log octets [])
-    (used_enough log octets [] (frame_size_enough role values log is))
-frame_size_enough role values _ (reported_one {log = log} is up some) =
-    let more = owed_at_close log (with_reported log (UnprocessedEvent (next_unprocessed log) ∷ []))
-    (next_unprocessed log) in
-    reported_enough (with_unreturned more log) (UnprocessedEvent (next_unprocessed log) ∷ [])
-    (grown_enough log (with_unreturned more log) (grows_with_unreturned more log)
-    (frame_size_enough role values log is))
-frame_size_enough role values _ (called_one {log = log} is act answer typed may) =
-    grown_enough log _ (grows_call log act answer) (frame_size_enough role values log is)
+frame_size_enough role values =
+    kept_by_logs role values (λ log. IsEnough log.received) (enough_kept role values)
 
 -- No payload is sent that is greater than the value that was received last.
 pub sent_payload_fits : (role : Role) (values : Values) (log : Log) → IsLog role values log

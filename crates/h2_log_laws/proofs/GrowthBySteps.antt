@@ -1,7 +1,7 @@
--- A relation of two logs that holds of a log and itself, of one change after another and of each
--- small change holds of the log before a step and the log after it.
-use Rattle.std.proofs.Common.{map as each, ◌≢◌, ℕ, ◌+◌, nat_lt, ◌&&◌, Bool, true, false}
-use Rattle.std.proofs.Common.{if◌then◌else◌, List, [], ◌∷◌, ◌++◌, Option, Some, None, refl}
+-- A relation of two logs holds between the log before a step and the log after it, where it holds
+-- of a log and itself, of each small change, and of one change after another.
+use Rattle.std.proofs.Common.{map as each, ◌≢◌, ℕ, ◌+◌}
+use Rattle.std.proofs.Common.{List, [], ◌∷◌, ◌++◌, Option, Some, None, refl}
 use Rattle.h2_frame.specs.declared.code.Code.{Code}
 use Rattle.h2_frame.specs.declared.code.Code.TheVariants.{InternalError}
 use Rattle.h2_frame.specs.Frames.{Frame}
@@ -10,18 +10,18 @@ use Rattle.h2_log.specs.Items.{encoding_of_items}
 use Rattle.h2_log.specs.Events.{Event}
 use Rattle.h2_log.specs.Acts.{Act, Answer, Refuse, PutOut, Number, Count, Done, OutOfMemory}
 use Rattle.h2_log.specs.Acts.{Refused, In, Out, Happened}
-use Rattle.h2_log.specs.Log.{Log, waiting, max_payload_sent}
+use Rattle.h2_log.specs.Log.{Log, max_payload_sent}
 use Rattle.h2_log.specs.LogView.{log_view}
-use Rattle.h2_log.specs.Limits.{full_output}
 use Rattle.h2_log.specs.Verdicts.{Verdict, ConnectionFault, StreamFault, NoEvent, Reported}
 use Rattle.h2_log.specs.ItemRules.{Decoded, FrameStep, fails_with, begins_block, completes}
 use Rattle.h2_log.specs.ItemRules.{frame_step, replies_to}
 use Rattle.h2_log.specs.ItemEffects.{events_of}
-use Rattle.h2_log.specs.CallRules.{items_of, returns_before_put_out}
+use Rattle.h2_log.specs.CallRules.{items_of}
 use Rattle.h2_log.specs.LogSteps.{read, used, limits_from, with_sent, with_reported}
 use Rattle.h2_log.specs.LogSteps.{with_unreturned, with_credit_returned, with_failure, with_verdict}
 use Rattle.h2_log.specs.LogSteps.{with_step, with_frame, took_none}
 use Rattle.h2_log.specs.LogCalls.{called, with_items, refused_with, before_put_out, with_call}
+use Rattle.h2_log_laws.proofs.CreditCases.{credit_cases, put_out_cases}
 
 -- R holds where more is sent, and credit becomes due and is returned.
 pub record HoldsOfWrites (R : Log → Log → Type 0) : Type 0 where
@@ -83,24 +83,17 @@ module _ (R : Log → Log → Type 0) (holds : HoldsOfWrites R) where
   holds_sent log (item ∷ items) = holds.sent log item items
 
   -- All that is unreturned is returned.
-  pub holds_returned : (log : Log) → R log (with_credit_returned log)
+  holds_returned : (log : Log) → R log (with_credit_returned log)
   holds_returned log =
       holds.twice log (record log { unreturned = 0 }) _ (holds.unreturned log 0) (holds_sent _ _)
 
-  -- More is unreturned, by the test whether it is returned.
-  holds_unreturned_by : (more : ℕ) (log : Log) (b : Bool)
-      → R log (if b then with_credit_returned (record log { unreturned = log.unreturned + more })
-      else record log { unreturned = log.unreturned + more })
-  holds_unreturned_by more log true =
-      holds.twice log (record log { unreturned = log.unreturned + more }) _
-      (holds.unreturned log _) (holds_returned _)
-  holds_unreturned_by more log false = holds.unreturned log _
-
   -- More is unreturned.
   pub holds_unreturned : (more : ℕ) (log : Log) → R log (with_unreturned more log)
-  unfolding with_unreturned
   holds_unreturned more log =
-      holds_unreturned_by more log (nat_lt 0 more && nat_lt (waiting log) full_output)
+      credit_cases (R log) more log
+      (λ returns. holds.twice log (record log { unreturned = log.unreturned + more }) _
+      (holds.unreturned log _) (holds_returned _))
+      (λ keeps. holds.unreturned log _)
 
   -- Items are sent, and more is unreturned.
   pub holds_sent_unreturned : (log : Log) (items : List Item) (more : ℕ)
@@ -115,15 +108,10 @@ module _ (R : Log → Log → Type 0) (holds : HoldsOfWrites R) where
   holds_items log act answer =
       holds_sent_unreturned (called log act answer) (items_of (log_view log) act answer) _
 
-  -- Before output is put out, by the test whether what is unreturned is returned.
-  holds_ready_by : (log : Log) (b : Bool) → R log (if b then with_credit_returned log else log)
-  holds_ready_by log true = holds_returned log
-  holds_ready_by log false = holds.none log
-
   -- Before output is put out.
   pub holds_ready : (log : Log) → R log (before_put_out log)
-  unfolding before_put_out
-  holds_ready log = holds_ready_by log (returns_before_put_out (log_view log))
+  holds_ready log =
+      put_out_cases (R log) log (λ returns. holds_returned log) (λ keeps. holds.none log)
 
 module _ (R : Log → Log → Type 0) (holds : HoldsOfFailures R) where
   -- The connection fails, and GOAWAY is sent.
@@ -153,20 +141,15 @@ module _ (R : Log → Log → Type 0) (holds : HoldsOfFailures R) where
   holds_other_call log act answer other = holds_items R holds.writes log act answer
 
 module _ (R : Log → Log → Type 0) (holds : HoldsOfCalls R) where
-  -- Output is put out, by the test whether what is unreturned is returned before.
-  holds_put_out_by : (log : Log) (given : ℕ) (b : Bool)
-      → R log (record (if b then with_credit_returned log else log) { given = log.given + given })
-  unfolding with_sent
-  holds_put_out_by log given true =
-      holds.failures.writes.twice log (with_credit_returned log) _
-      (holds_returned R holds.failures.writes log) (holds.given (with_credit_returned log) given)
-  holds_put_out_by log given false = holds.given log given
-
   -- Output is put out.
   holds_put_out : (log : Log) (given : ℕ)
       → R log (record (before_put_out log) { given = log.given + given })
-  unfolding before_put_out
-  holds_put_out log given = holds_put_out_by log given (returns_before_put_out (log_view log))
+  unfolding with_sent
+  holds_put_out log given =
+      put_out_cases (λ next. R log (record next { given = log.given + given })) log
+      (λ returns. holds.failures.writes.twice log (with_credit_returned log) _
+      (holds_returned R holds.failures.writes log) (holds.given (with_credit_returned log) given))
+      (λ keeps. holds.given log given)
 
   -- A call that was made.
   pub holds_call : (log : Log) (act : Act) (answer : Answer)
@@ -184,7 +167,7 @@ module _ (R : Log → Log → Type 0) (holds : HoldsOfCalls R) where
 
 module _ (R : Log → Log → Type 0) (holds : HoldsOfReads R) where
   -- Events are reported.
-  pub holds_reported : (log : Log) (events : List Event) → R log (with_reported log events)
+  holds_reported : (log : Log) (events : List Event) → R log (with_reported log events)
   unfolding with_reported
   holds_reported log [] = holds.failures.writes.none log
   holds_reported log (event ∷ events) = holds.reported log event events
@@ -203,7 +186,7 @@ module _ (R : Log → Log → Type 0) (holds : HoldsOfReads R) where
       (holds_reported after _))
 
   -- An item, by its verdict.
-  pub holds_verdict : (log : Log) (decoded : Option Decoded) (item : Item) (verdict : Verdict)
+  holds_verdict : (log : Log) (decoded : Option Decoded) (item : Item) (verdict : Verdict)
       → R log (with_verdict log decoded item verdict)
   unfolding with_verdict
   holds_verdict log decoded item (ConnectionFault code) = holds_failure R holds.failures code _ log
@@ -213,7 +196,7 @@ module _ (R : Log → Log → Type 0) (holds : HoldsOfReads R) where
   holds_verdict log decoded item Reported = holds_item log decoded item Reported _
 
   -- What a frame makes of the block that has begun.
-  pub holds_step : (log : Log) (decoded : Option Decoded) (step : FrameStep)
+  holds_step : (log : Log) (decoded : Option Decoded) (step : FrameStep)
       → R log (with_step log decoded step)
   unfolding with_step
   holds_step log decoded (fails_with code) = holds_failure R holds.failures code _ log

@@ -13,24 +13,31 @@ use Rattle.h2_log.specs.declared.refusal.Refusal.{Refusal}
 use Rattle.h2_log.specs.Items.{total, increment_on, one_ping, one_answer}
 use Rattle.h2_log.specs.Settings.{settings_count, one_ack}
 use Rattle.h2_log.specs.Events.{reported_total, one_pong}
-use Rattle.h2_log.specs.Acts.{Values, AreInRange, Act, Answer, Open, SendFields, SendData, Release}
+use Rattle.h2_log.specs.Acts.{Values, AreInRange, Act, Answer, Release}
 use Rattle.h2_log.specs.Acts.{ResetStream, Refuse, SendPing, SendGoAway, PutOut, ChangeSettings}
 use Rattle.h2_log.specs.Acts.{Count, Done, OutOfMemory, Refused}
 use Rattle.h2_log.specs.Log.{Log, active, released, acked, last_processed, newest_ping, ping_waits}
 use Rattle.h2_log.specs.LogView.{log_view}
-use Rattle.h2_log.specs.CallRules.{may_lack_memory, returns_before_put_out, conditions, refusal_of}
+use Rattle.h2_log.specs.CallRules.{may_fail_for_memory, conditions, refusal_of}
 use Rattle.h2_log.specs.CallRules.{items_of, stream_of_act, refuse_fault, changed_pairs}
-use Rattle.h2_log.specs.LogSteps.{with_sent, with_reported, with_credit_returned, owed_at_close}
-use Rattle.h2_log.specs.LogCalls.{called, with_items, refused_with, before_put_out, with_call}
+use Rattle.h2_log.specs.LogSteps.{with_sent, with_reported, owed_at_close}
+use Rattle.h2_log.specs.LogCalls.{called, with_items, refused_with, with_call}
 use Rattle.h2_log.specs.Allowed.{AllowedHistory, writes, active_by_items}
-use Rattle.h2_log_laws.proofs.CallConditions.{first_none, none_since, and_other}
+use Rattle.h2_log_laws.proofs.CallConditions.{first_none, none_holds, and_other}
+use Rattle.hpack.proofs.Tests.{none_since}
+use Rattle.h2_log_laws.proofs.CreditCases.{put_out_cases}
 use Rattle.h2_log_laws.proofs.InvariantSteps.{give_represents, fails_represents}
 use Rattle.h2_log_laws.proofs.InvariantSteps.{recalled_represents, step_log}
-use Rattle.h2_log_laws.proofs.LogHistory.{History, history_of, active_in_view, given_by}
+use Rattle.h2_log_laws.proofs.LogHistory.{History, history_of, active_in_view}
 use Rattle.h2_log_laws.proofs.LogInvariant.{Good, Represents, Moves}
 use Rattle.h2_log_laws.proofs.LogViewLemmas.{when_some, stream_is_active}
 use Rattle.h2_log_laws.proofs.ReaderStates.{active_parts, active_from}
 use Rattle.h2_log_laws.proofs.ReplyInvariant.{active_resets}
+use Rattle.h2_log_laws.proofs.LogInduction.{WritesNone}
+use Rattle.h2_log_laws.proofs.LogInduction.{refused}
+use Rattle.h2_log_laws.proofs.LogInduction.{no_memory}
+use Rattle.h2_log_laws.proofs.LogInduction.{fails_instead}
+use Rattle.h2_log_laws.proofs.LogInduction.{puts_out}
 
 -- An active stream is active by what was read and written.
 pub active_is_active : (log : Log) (i : ℕ) → active log i ≡ true
@@ -47,7 +54,7 @@ active_is_active log i active =
     })
 
 -- an odd number isn't nothing
-odd_some : (i : ℕ) → i % 2 == 1 ≡ true → i ≢ 0
+pub odd_some : (i : ℕ) → i % 2 == 1 ≡ true → i ≢ 0
 odd_some zero odd = λ none. both_ways false refl odd
 odd_some (suc i) odd = λ none. omega arith
 
@@ -139,13 +146,12 @@ pub reset_represents : (role : Role) (log : Log) (id code : ℕ) → Represents 
     → Represents role (history_of (with_call log (ResetStream id code) Done))
 unfolding conditions with_call items_of stream_of_act released
 reset_represents role log id code represents none =
-    let c1 = first_none _ _ _ none in
-    let c2 = first_none _ _ _ c1.1 in
-    let up = none_since log.failed c1.0 in
+    let holds = none_holds _ none in
+    let up = none_since log.failed holds.0 in
     items_represent role log (ResetStream id code) Done (alone
     (Reset id code) ∷ []) represents up refl
     (reset_moves (history_of log) _ id code _ (represents.good up) represents.with_sent
-    (stream_is_active log id c2.0) (λ j. refl))
+    (stream_is_active log id holds.1.0) (λ j. refl))
 
 -- a fault of refusing, by the tests that make it
 pub no_fault : (b other : Bool) → (if b then Some InternalError
@@ -164,13 +170,12 @@ refuse_by role log id code (Some fault) represents none is =
     (recalled_represents role (history_of log) ((Refuse id code, Done) ∷ log.calls)
     (λ j. refl) represents) (none_since log.failed (first_none _ _ _ none).0)
 refuse_by role log id code None represents none is =
-    let c1 = first_none _ _ _ none in
-    let c2 = first_none _ _ _ c1.1 in
-    let up = none_since log.failed c1.0 in
+    let holds = none_holds _ none in
+    let up = none_since log.failed holds.0 in
     let other = no_fault (code == 2) _ is in
     items_represent role log (Refuse id code) Done (alone (Reset id code) ∷ []) represents up refl
     (reset_moves (history_of log) _ id code _ (represents.good up) represents.with_sent
-    (stream_is_active log id (and_other (code == 2) _ c2.0 other)) (λ j. refl))
+    (stream_is_active log id (and_other (code == 2) _ holds.1.0 other)) (λ j. refl))
 
 -- The invariant holds after refusing a stream.
 pub refuse_represents : (role : Role) (log : Log) (id code : ℕ) (answer : Answer)
@@ -182,18 +187,18 @@ refuse_represents role log id code answer represents none done = rw done
 
 -- The invariant holds after a connection that fails in a call, which was refused an allocation and
 -- can't be refused.
-pub failed_represents : (role : Role) (log : Log) (act : Act) → may_lack_memory act ≡ false
-    → Represents role (history_of log)
+pub failed_represents : (role : Role) (log : Log) (act : Act)
+    → may_fail_for_memory (log_view log) act ≡ true → Represents role (history_of log)
     → refusal_of (log_view log) act ≡ None → Represents role (history_of
     (with_call log act OutOfMemory))
-unfolding with_call conditions released may_lack_memory
+unfolding with_call conditions released may_fail_for_memory
 failed_represents role log (Refuse id code) may represents none =
     fails_represents role InternalError (last_processed log) (called log
     (Refuse id code) OutOfMemory)
     (recalled_represents role (history_of log) ((Refuse id code, OutOfMemory) ∷ log.calls)
     (λ j. refl) represents)
     (none_since log.failed (first_none _ _ _ none).0)
-failed_represents role log act may represents none = absurd (both_ways true may refl)
+failed_represents role log act may represents none = absurd (both_ways false refl may)
 
 -- The invariant holds after sending a PING.
 pub ping_represents : (role : Role) (log : Log) (octets : List ℕ)
@@ -201,13 +206,11 @@ pub ping_represents : (role : Role) (log : Log) (octets : List ℕ)
     → Represents role (history_of (with_call log (SendPing octets) Done))
 unfolding conditions with_call items_of stream_of_act released one_ack one_answer increment_on
 ping_represents role log octets represents none =
-    let c1 = first_none _ _ _ none in
-    let c2 = first_none _ _ _ c1.1 in
-    let c3 = first_none _ _ _ c2.1 in
-    let up = none_since log.failed c1.0 in
+    let holds = none_holds _ none in
+    let up = none_since log.failed holds.0 in
     let good = represents.good up in
     let answered = ltb-false (reported_total one_pong log.reported) (total one_ping log.sent)
-    (sym (when_some (ping_waits log) (newest_ping log.sent)) ∙ c3.0) in
+    (sym (when_some (ping_waits log) (newest_ping log.sent)) ∙ holds.1.1.0) in
     let ponged = good.ponged in
     items_represent role log (SendPing octets) Done (alone
     (Ping false octets) ∷ []) represents up refl
@@ -224,8 +227,8 @@ pub leave_represents : (role : Role) (log : Log) → Represents role (history_of
     → Represents role (history_of (with_call log SendGoAway Done))
 unfolding conditions with_call items_of stream_of_act released one_ack one_answer increment_on
 leave_represents role log represents none =
-    let c1 = first_none _ _ _ none in
-    let up = none_since log.failed c1.0 in
+    let holds = none_holds _ none in
+    let up = none_since log.failed holds.0 in
     let good = represents.good up in
     items_represent role log SendGoAway Done (alone (GoAway
     (last_processed log) 0 []) ∷ []) represents up refl
@@ -241,12 +244,10 @@ pub change_represents : (role : Role) (log : Log) (values : Values)
     → Represents role (history_of (with_call log (ChangeSettings values) Done))
 unfolding conditions with_call items_of stream_of_act released one_ack one_answer increment_on
 change_represents role log values represents ok none =
-    let c1 = first_none _ _ _ none in
-    let c2 = first_none _ _ _ c1.1 in
-    let c3 = first_none _ _ _ c2.1 in
-    let up = none_since log.failed c1.0 in
+    let holds = none_holds _ none in
+    let up = none_since log.failed holds.0 in
     let good = represents.good up in
-    let applied = ltb-false (acked log) (settings_count log.sent) c3.0 in
+    let applied = ltb-false (acked log) (settings_count log.sent) holds.1.1.0 in
     let read = good.acked in
     items_represent role log (ChangeSettings values) Done (alone (Settings false
     (changed_pairs log.role values)) ∷ []) represents up refl
@@ -263,21 +264,6 @@ change_represents role log values represents ok none =
     )) refl refl
     (λ j. refl) (λ j. refl))
 
--- what is due, by the test whether it is returned
-ready_by : (log : Log) (b : Bool) → history_of (if b then with_credit_returned log else log)
-    ≡ given_by b (history_of log)
-unfolding with_sent
-ready_by log true = refl
-ready_by log false = refl
-
--- what stands, by the same test
-given_represents : (role : Role) (v : History) (b : Bool) → Represents role v → (b ≡ true
-    → v.failed ≡ None) → (b ≡ true → v.unreturned ≢ 0)
-    → Represents role (given_by b v)
-given_represents role v true represents up some = give_represents role v represents (up refl)
-    (some refl)
-given_represents role v false represents up some = represents
-
 -- something is due
 unreturned_some : (unreturned : ℕ) → nat_lt 0 unreturned ≡ true → unreturned ≢ 0
 unreturned_some unreturned test = let some = ltb-true 0 unreturned test in λ none. omega arith
@@ -286,12 +272,29 @@ unreturned_some unreturned test = let some = ltb-true 0 unreturned test in λ no
 pub put_out_represents : (role : Role) (log : Log) (count given : ℕ)
     → Represents role (history_of log)
     → Represents role (history_of (with_call log (PutOut count) (Count given)))
-unfolding with_call before_put_out released
+unfolding with_call with_sent released
 put_out_represents role log count given represents =
     let next = called log (PutOut count) (Count given) in
-    let test = returns_before_put_out (log_view next) in
-    rw (ready_by next test) (given_represents role (history_of next) test
-    (recalled_represents role (history_of log) ((PutOut count, Count given) ∷ log.calls)
-    (λ j. refl) represents)
-    (λ is. none_since log.failed (not-true (is_some log.failed) (and_parts _ _ is).0))
-    (λ is. unreturned_some log.unreturned (and_parts _ _ (and_parts _ _ is).1).0))
+    let same = recalled_represents role (history_of log) ((PutOut count, Count given) ∷ log.calls)
+    (λ j. refl) represents in
+    put_out_cases (λ ready. Represents role (history_of ready)) next
+    (λ is. give_represents role (history_of next) same
+    (none_since log.failed (not-true (is_some log.failed) (and_parts _ _ is).0))
+    (unreturned_some log.unreturned (and_parts _ _ (and_parts _ _ is).1).0))
+    (λ is. same)
+
+-- A call that is out of memory releases nothing.
+pub released_out_of_memory : (i : ℕ) (act : Act) (calls : List (Act × Answer))
+    → released i ((act, OutOfMemory) ∷ calls) ≡ released i calls
+unfolding released
+released_out_of_memory i (Release id count) calls = refl
+released_out_of_memory i act calls = refl
+
+-- Nor does any call that writes no items of its own.
+pub released_none : (i : ℕ) (act : Act) (answer : Answer) (calls : List (Act × Answer))
+    → WritesNone act answer → released i ((act, answer) ∷ calls) ≡ released i calls
+unfolding released
+released_none i _ _ calls (refused act refusal) = released_refused i act refusal calls
+released_none i _ _ calls (no_memory act) = released_out_of_memory i act calls
+released_none i _ _ calls (fails_instead id code) = refl
+released_none i _ _ calls (puts_out count given) = refl

@@ -5,8 +5,8 @@ use Rattle.std.proofs.lemmas.Bool.{both_ways}
 use Rattle.h2_frame.specs.declared.code.Code.{Code}
 use Rattle.h2_frame.specs.declared.code.Code.TheVariants.{ProtocolError, FlowControlError}
 use Rattle.h2_frame.specs.declared.code.Code.TheVariants.{EnhanceYourCalm}
-use Rattle.h2_frame.specs.Frames.{Frame, Data, Headers, Priority, Reset, Settings, Ping, GoAway}
-use Rattle.h2_frame.specs.Frames.{WindowUpdate, Continuation, Unknown}
+use Rattle.h2_frame.specs.Frames.{Frame, Data, Reset, Settings, Ping, GoAway}
+use Rattle.h2_frame.specs.Frames.{WindowUpdate}
 use Rattle.h2_frame.specs.Encoding.{stream_of}
 use Rattle.h2_block.specs.Grouping.{Item, alone, block}
 use Rattle.h2_log.specs.declared.role.Role.{Role}
@@ -73,10 +73,8 @@ data_fits R T Active false false false r t = t refl
 -- RST_STREAM is checked so.
 reset_fits : (R T : Type 0) (state : State) → T → Fits R T (reset_verdict state)
 unfolding reset_verdict
-reset_fits R T Idle t = tt
 reset_fits R T Active t = t
-reset_fits R T ClosedByUs t = tt
-reset_fits R T Closed t = tt
+reset_fits R T other t = tt
 
 -- A fault of SETTINGS is checked so.
 fault_fits : (R T : Type 0) (fault : Option Code) → Fits R T (verdict_of_fault fault)
@@ -108,10 +106,8 @@ update_by R T false false r = tt
 update_fits : (R T : Type 0) (state : State) (increment : ℕ) (above : Bool) → (state ≡ Active
     → R) → Fits R T (update_verdict state increment above)
 unfolding update_verdict
-update_fits R T Idle increment above r = tt
-update_fits R T ClosedByUs increment above r = tt
-update_fits R T Closed increment above r = tt
 update_fits R T Active increment above r = update_by R T (increment == 0) above (r refl)
+update_fits R T other increment above r = tt
 
 -- WINDOW_UPDATE is checked so.
 updates_fit : (R T : Type 0) (b : Bool) (state : State) (increment : ℕ) (one other : Bool)
@@ -182,8 +178,6 @@ rules_fit log decoded (alone (Data stream end octets pad)) with_sent =
     ≡ true) (state log stream) _ _ _
     (active_faults log (alone (Data stream end octets pad)) refl refl) (λ is. state_is_active _ _ _
     is)
-rules_fit log decoded (alone (Headers stream end last fragment pad priority)) with_sent = tt
-rules_fit log decoded (alone (Priority stream octets)) with_sent = tt
 rules_fit log decoded (alone (Reset stream code)) with_sent = reset_fits (Resets log (alone
     (Reset stream code))) (Unit {0}) (state log stream) tt
 rules_fit log decoded (alone (Settings false pairs)) with_sent =
@@ -191,16 +185,13 @@ rules_fit log decoded (alone (Settings false pairs)) with_sent =
     ≡ true) (settings_fault (log_view log) pairs)
 rules_fit log decoded (alone (Settings true pairs)) with_sent = reported_fits (Resets log (alone
     (Settings true pairs))) (true ≡ true) (settings_wait log) refl
-rules_fit log decoded (alone (Ping false octets)) with_sent = tt
 rules_fit log decoded (alone (Ping true octets)) with_sent = reported_fits (Resets log (alone
     (Ping true octets))) (true ≡ true) _ refl
-rules_fit log decoded (alone (GoAway last code debug)) with_sent = tt
 rules_fit log decoded (alone (WindowUpdate stream increment)) with_sent =
     updates_fit (Resets log (alone (WindowUpdate stream increment))) (Unit {0}) (stream == 0)
     (state log stream) increment _ _
     (active_faults log (alone (WindowUpdate stream increment)) refl refl)
-rules_fit log decoded (alone (Continuation stream last fragment)) with_sent = tt
-rules_fit log decoded (alone (Unknown kind flags stream payload)) with_sent = tt
+rules_fit log decoded (alone frame) with_sent = tt
 
 -- Each item is checked so.
 verdict_fits : (log : Log) (decoded : Option Decoded) (item : Item)
@@ -224,12 +215,6 @@ reported_moves log decoded (block stream end octets) with_sent with_reported =
 reported_moves log decoded (alone
     (Data stream end octets pad)) with_sent with_reported = data_reported
     (history_of log) stream end octets pad with_sent with_reported
-reported_moves log decoded (alone
-    (Headers stream end last fragment pad priority)) with_sent with_reported = none_reported
-    (history_of log) _ _ 0 with_sent refl refl (omega arith)
-reported_moves log decoded (alone
-    (Priority stream octets)) with_sent with_reported = none_reported
-    (history_of log) _ _ 0 with_sent refl refl (omega arith)
 reported_moves log decoded (alone (Reset stream code)) with_sent with_reported =
     one_reported (history_of log) stream (alone (Reset stream code))
     (ResetEvent stream code false) with_sent refl refl (omega arith) (omega arith) (λ j. refl)
@@ -247,15 +232,8 @@ reported_moves log decoded (alone (Ping false octets)) with_sent with_reported =
 reported_moves log decoded (alone (GoAway last code debug)) with_sent with_reported =
     one_reported (history_of log) _ (alone (GoAway last code debug)) _ with_sent refl refl
     (omega arith) (omega arith) (λ j. refl) (λ j. refl)
-reported_moves log decoded (alone
-    (WindowUpdate stream increment)) with_sent with_reported = none_reported
-    (history_of log) _ _ 0 with_sent refl refl (omega arith)
-reported_moves log decoded (alone
-    (Continuation stream last fragment)) with_sent with_reported = none_reported
-    (history_of log) _ _ 0 with_sent refl refl (omega arith)
-reported_moves log decoded (alone
-    (Unknown kind flags stream payload)) with_sent with_reported = none_reported
-    (history_of log) _ _ 0 with_sent refl refl (omega arith)
+reported_moves log decoded (alone frame) with_sent with_reported =
+    none_reported (history_of log) _ _ 0 with_sent refl refl (omega arith)
 
 -- SETTINGS take nothing of a window.
 none_of_settings : (pairs : List (ℕ × ℕ)) → data_of (alone (Settings false pairs)) ≤ 0
@@ -286,33 +264,12 @@ ignored_moves : (log : Log) (decoded : Option Decoded) (item : Item) → Good (h
 unfolding replies_to events_of discarded_flow one_settings one_ping
 ignored_moves log decoded (block stream end octets) good with_sent = none_reported
     (history_of log) _ _ _ with_sent refl refl (omega arith)
-ignored_moves log decoded (alone (Data stream end octets pad)) good with_sent = none_reported
-    (history_of log) _ _ _ with_sent refl refl (omega arith)
-ignored_moves log decoded (alone
-    (Headers stream end last fragment pad priority)) good with_sent = none_reported
-    (history_of log) _ _ _ with_sent refl refl (omega arith)
-ignored_moves log decoded (alone (Priority stream octets)) good with_sent = none_reported
-    (history_of log) _ _ _ with_sent refl refl (omega arith)
-ignored_moves log decoded (alone (Reset stream code)) good with_sent = none_reported
-    (history_of log) _ _ _ with_sent refl refl (omega arith)
 ignored_moves log decoded (alone (Settings false pairs)) good with_sent = settings_answered
     (history_of log) _ pairs _ good with_sent (none_of_settings pairs)
-ignored_moves log decoded (alone (Settings true pairs)) good with_sent = none_reported
-    (history_of log) _ _ _ with_sent refl refl (omega arith)
 ignored_moves log decoded (alone (Ping false octets)) good with_sent = ping_answered
     (history_of log) _ octets _ good with_sent (none_of_ping octets)
-ignored_moves log decoded (alone (Ping true octets)) good with_sent = none_reported
-    (history_of log) _ _ _ with_sent refl refl (omega arith)
-ignored_moves log decoded (alone (GoAway last code debug)) good with_sent = none_reported
-    (history_of log) _ _ _ with_sent refl refl (omega arith)
-ignored_moves log decoded (alone (WindowUpdate stream increment)) good with_sent = none_reported
-    (history_of log) _ _ _ with_sent refl refl (omega arith)
-ignored_moves log decoded (alone
-    (Continuation stream last fragment)) good with_sent = none_reported
-    (history_of log) _ _ _ with_sent refl refl (omega arith)
-ignored_moves log decoded (alone
-    (Unknown kind flags stream payload)) good with_sent = none_reported
-    (history_of log) _ _ _ with_sent refl refl (omega arith)
+ignored_moves log decoded (alone frame) good with_sent =
+    none_reported (history_of log) _ _ _ with_sent refl refl (omega arith)
 
 -- The invariant holds after an item, by its verdict.
 verdict_represents : (role : Role) (log : Log) (decoded : Option Decoded) (item : Item)

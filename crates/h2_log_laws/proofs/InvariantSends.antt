@@ -25,7 +25,8 @@ use Rattle.h2_log.specs.Limits.{max_list}
 use Rattle.h2_log.specs.LogCalls.{with_call}
 use Rattle.h2_log.specs.Allowed.{AllowedHistory, writes, MayContinue, active_by_items}
 use Rattle.h2_log_laws.proofs.BlockSizes.{block_is_gathered}
-use Rattle.h2_log_laws.proofs.CallConditions.{first_none, none_since, and_other}
+use Rattle.h2_log_laws.proofs.CallConditions.{none_holds, and_other}
+use Rattle.hpack.proofs.Tests.{none_since}
 use Rattle.h2_log_laws.proofs.DataOfCalls.{count_of, data_ack, none_of_items, data_items_written}
 use Rattle.h2_log_laws.proofs.InvariantCalls.{writes_only, writes_one, items_represent}
 use Rattle.h2_log_laws.proofs.InvariantCalls.{active_is_active}
@@ -121,7 +122,7 @@ open_with role log fields end number represents up server low went few small is 
     )) (λ j. refl))
 
 -- a choice that fails
-client_number : (b : Bool) (n : ℕ) → b ≡ false → (if b then 0 else n) ≡ n
+pub client_number : (b : Bool) (n : ℕ) → b ≡ false → (if b then 0 else n) ≡ n
 client_number true n is = absurd (both_ways true is refl)
 client_number false n is = refl
 
@@ -139,21 +140,16 @@ pub open_represents : (role : Role) (log : Log) (fields : List Field) (end : Boo
 unfolding conditions
 open_represents role log fields end represents none =
     let view = log_view log in
-    let c1 = first_none _ _ _ none in
-    let c2 = first_none _ _ _ c1.1 in
-    let c3 = first_none _ _ _ c2.1 in
-    let c4 = first_none _ _ _ c3.1 in
-    let c5 = first_none _ _ _ c4.1 in
-    let c6 = first_none _ _ _ c5.1 in
-    let server = or_parts (is_server log.role) (nat_lt greatest_number view.next_number) c3.0 in
-    let went = or_parts view.goaway_sent (is_some view.goaway_received) c4.0 in
+    let holds = none_holds _ none in
+    let server = or_parts (is_server log.role) (nat_lt greatest_number view.next_number) holds.1.1.0 in
+    let went = or_parts view.goaway_sent (is_some view.goaway_received) holds.1.1.1.0 in
     let read : goaway_read log ≡ false = sym (when_some (goaway_read log)
     (least_goaway log.received)) ∙ went.1 in
     open_with role log fields end view.next_number represents
-    (none_since log.failed c1.0) server.0 server.1 (went.0, read)
+    (none_since log.failed holds.0) server.0 server.1 (went.0, read)
     (leb-false (streams_allowed log) (active_count log) (and_other
-    (is_server log.role) _ c2.0 server.0))
-    (ltb-false max_list (list_size fields) c6.0) (number_of_client log server.0)
+    (is_server log.role) _ holds.1.0 server.0))
+    (ltb-false max_list (list_size fields) holds.1.1.1.1.1.0) (number_of_client log server.0)
 
 -- The invariant holds after writing further fields.
 pub fields_represent : (role : Role) (log : Log) (id : ℕ) (fields : List Field) (end : Bool)
@@ -162,21 +158,17 @@ pub fields_represent : (role : Role) (log : Log) (id : ℕ) (fields : List Field
     → Represents role (history_of (with_call log (SendFields id fields end) Done))
 unfolding conditions with_call items_of stream_of_act released
 fields_represent role log id fields end represents none =
-    let c1 = first_none _ _ _ none in
-    let c2 = first_none _ _ _ c1.1 in
-    let c3 = first_none _ _ _ c2.1 in
-    let c4 = first_none _ _ _ c3.1 in
-    let c5 = first_none _ _ _ c4.1 in
-    let up = none_since log.failed c1.0 in
+    let holds = none_holds _ none in
+    let up = none_since log.failed holds.0 in
     let good = represents.good up in
     items_represent role log (SendFields id fields end) Done (block id end
     (block_of log.encoder fields) ∷ []) represents up refl
     (block_writes (history_of log) _ id end (block_of log.encoder fields) _ (writes (block id end
     (block_of log.encoder fields)) represents.with_sent (
       good.returned,
-      inr (active_goes log id (stream_is_active log id c2.0) (open_out log id
-          (stream_is_active log id c2.0) c3.0)),
-      block_is_gathered log.encoder fields (ltb-false max_list (list_size fields) c5.0),
+      inr (active_goes log id (stream_is_active log id holds.1.0) (open_out log id
+          (stream_is_active log id holds.1.0) holds.1.1.0)),
+      block_is_gathered log.encoder fields (ltb-false max_list (list_size fields) holds.1.1.1.1.0),
     )) (λ j. refl))
 
 -- DATA answers nothing
@@ -186,7 +178,7 @@ unfolding one_answer
 data_answer id end octets = refl
 
 -- DATA gives nothing
-data_gives : (j id : ℕ) (end : Bool) (octets : List ℕ)
+pub data_gives : (j id : ℕ) (end : Bool) (octets : List ℕ)
     → increment_on j (alone (Data id end octets None)) ≡ 0
 unfolding increment_on
 data_gives j id end octets = refl
@@ -199,20 +191,18 @@ pub data_represents : (role : Role) (log : Log) (id : ℕ) (octets : List ℕ) (
     (length octets)))))
 unfolding conditions with_call items_of stream_of_act released
 data_represents role log id octets end represents none =
-    let c1 = first_none _ _ _ none in
-    let c2 = first_none _ _ _ c1.1 in
-    let c3 = first_none _ _ _ c2.1 in
-    let up = none_since log.failed c1.0 in
+    let holds = none_holds _ none in
+    let up = none_since log.failed holds.0 in
     let good = represents.good up in
     let count = count_of log id (length octets) in
-    let alive = stream_is_active log id c2.0 in
+    let alive = stream_is_active log id holds.1.0 in
     items_represent role log (SendData id octets end) (Count (count_of log id (length octets)))
     (data_items (max_payload_sent log) id octets end (count_of log id
     (length octets))) represents up refl
     (writes_only (history_of log) _ (data_items (max_payload_sent log) id octets end
     (count_of log id (length octets))) _
     (data_items_written log id octets end alive represents.with_sent good.returned
-    (active_goes log id alive (open_out log id alive c3.0)))
+    (active_goes log id alive (open_out log id alive holds.1.1.0)))
     (none_of_items one_ack data_ack (max_payload_sent log) id octets end count)
     (none_of_items one_answer data_answer (max_payload_sent log) id octets end count)
     (λ j. none_of_items (increment_on j) (data_gives j)

@@ -4,9 +4,20 @@ use Rattle.std.proofs.Common.{[], ◌∷◌, ◌++◌, refl, arith}
 use Rattle.std.specs.List.{list_any}
 use Rattle.std.proofs.lemmas.Bool.{or_right, false_from_ne_true, both_ways}
 use Rattle.h2_block.specs.Grouping.{Item}
+use Rattle.h2_block.specs.Grouping.{alone}
+use Rattle.h2_block.specs.Grouping.{block}
 use Rattle.h2_log.specs.Items.{total}
+use Rattle.h2_log.specs.Items.{is_goaway}
+use Rattle.h2_log.specs.Items.{is_goaway_below}
+use Rattle.h2_log.specs.Items.{is_block_on}
 use Rattle.h2_log.specs.Settings.{settings_count}
 use Rattle.h2_log.specs.States.{count_below}
+use Rattle.h2_log.specs.Verdicts.{Verdict}
+use Rattle.h2_log.specs.Verdicts.{NoEvent}
+use Rattle.h2_log.specs.ItemRules.{replies_to}
+use Rattle.h2_frame.specs.Frames.{GoAway}
+use Rattle.h2_frame.specs.Frames.{Settings}
+use Rattle.h2_frame.specs.Frames.{Ping}
 
 -- What some item of a list passes, some item of a longer list passes.
 pub any_after : {X : Type 0} (p : X → Bool) → (more xs : List X) → list_any p xs ≡ true
@@ -61,3 +72,23 @@ count_below_more zero one other goes = omega arith
 count_below_more (suc n) one other goes =
     count_step (one n) (other n) (count_below n one) (count_below n other) (goes n)
     (count_below_more n one other goes)
+
+-- An item that is no GOAWAY is none below a number.
+pub below_quiet : (i : ℕ) (item : Item) → is_goaway item ≡ false → is_goaway_below i item ≡ false
+unfolding is_goaway is_goaway_below
+below_quiet i (alone (GoAway last code debug)) none = absurd (both_ways true none refl)
+below_quiet i item none = refl
+
+pub goaway_no_block : (i last code : ℕ)
+    → list_any (is_block_on i) (alone (GoAway last code []) ∷ []) ≡ false
+unfolding is_block_on
+goaway_no_block i last code = refl
+
+pub replies_no_block : (i : ℕ) (verdict : Verdict) (item : Item)
+    → list_any (is_block_on i) (replies_to verdict item) ≡ false
+unfolding replies_to is_block_on
+replies_no_block i NoEvent (block stream end octets) = refl
+replies_no_block i NoEvent (alone (Settings false pairs)) = refl
+replies_no_block i NoEvent (alone (Ping false octets)) = refl
+replies_no_block i NoEvent (alone frame) = refl
+replies_no_block i other item = refl

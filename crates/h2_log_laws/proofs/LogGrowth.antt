@@ -20,7 +20,7 @@ pub record Grows (old new : Log) : Type 0 where
   pub up : new.failed ≡ None → old.failed ≡ None
 
 -- A log that changes none of these grows by nothing.
-pub grows_none : (old new : Log) → new.role ≡ old.role → new.received ≡ old.received
+grows_none : (old new : Log) → new.role ≡ old.role → new.received ≡ old.received
     → new.reported ≡ old.reported → new.sent ≡ old.sent → new.failed ≡ old.failed → Grows old new
 grows_none old new role received reported sent failed =
     record {

@@ -1,23 +1,29 @@
 -- What of a log matters to what it may write, and what more at the front of its lists changes.
 use Rattle.std.proofs.Common.{◌≡◌, ◌⊎◌, ◌≢◌, ℕ, zero, suc, zero-add, suc-add, ◌+◌, ◌-◌, ◌≤◌, ◌<◌}
-use Rattle.std.proofs.Common.{◌&&◌, not, nat_lt, Bool, true, false, if◌then◌else◌, List, [], ◌∷◌}
+use Rattle.std.proofs.Common.{◌&&◌, not, nat_lt, Bool, true, if◌then◌else◌, List, [], ◌∷◌}
 use Rattle.std.proofs.Common.{◌++◌, Option, Some, refl, inl, inr, arith}
+use Rattle.std.proofs.Common.{false}
 use Rattle.std.specs.List.{list_any}
 use Rattle.std.proofs.lemmas.Bool.{or_cases, or_left, or_right, cases_eq}
+use Rattle.std.proofs.lemmas.Bool.{or_from}
+use Rattle.std.proofs.lemmas.Bool.{or_parts}
 use Rattle.h2_frame.specs.declared.code.Code.{Code}
 use Rattle.h2_frame.specs.Frames.{GoAway, WindowUpdate}
 use Rattle.h2_block.specs.Grouping.{Item, alone}
 use Rattle.h2_log.specs.declared.role.Role.{Role}
 use Rattle.h2_log.specs.Settings.{settings_count}
 use Rattle.h2_log.specs.Events.{Event, flow_on, reported_total}
+use Rattle.h2_log.specs.Events.{greatest_processed}
 use Rattle.h2_log.specs.Acts.{Act, Answer}
 use Rattle.h2_log.specs.States.{is_active}
 use Rattle.h2_log.specs.Log.{Log, released, unreleased, waiting}
 use Rattle.h2_frame.specs.Codes.{code_number}
-use Rattle.h2_log.specs.LogSteps.{with_sent, with_reported, with_unreturned, with_credit_returned}
+use Rattle.h2_log.specs.LogSteps.{with_sent, with_reported, with_unreturned}
 use Rattle.h2_log.specs.LogSteps.{with_failure, owed_at_close, used}
 use Rattle.h2_log.specs.Limits.{full_output}
+use Rattle.h2_log.specs.CallRules.{returns_credit}
 use Rattle.h2_log_laws.specs.Sums.{sum_below}
+use Rattle.h2_log_laws.proofs.CreditCases.{both_by}
 
 -- what of a log matters to what it may write
 pub record History : Type 0 where
@@ -97,23 +103,14 @@ unfolding with_reported
 reports_view log [] = refl
 reports_view log (event ∷ events) = refl
 
--- what more is due, by the test whether it is returned
-with_unreturned_by : (more : ℕ) (log : Log) (b : Bool)
-    → history_of (if b then with_credit_returned
-    (record log { unreturned = log.unreturned + more })
-    else record log { unreturned = log.unreturned + more })
-    ≡ given_by b (moved (history_of log) [] [] [] log.calls (log.unreturned + more))
-unfolding with_sent
-with_unreturned_by more log true = refl
-with_unreturned_by more log false = refl
-
 -- More is due, or all is returned.
 pub with_unreturned_view : (more : ℕ) (log : Log)
     → history_of (with_unreturned more log) ≡ given_by (nat_lt 0 more && nat_lt
     (waiting log) full_output) (moved (history_of log) [] [] [] log.calls (log.unreturned + more))
-unfolding with_unreturned
-with_unreturned_view more log = with_unreturned_by more log (nat_lt 0 more && nat_lt
-    (waiting log) full_output)
+unfolding with_unreturned with_sent
+with_unreturned_view more log =
+    both_by (λ (next : Log) (v : History). history_of next ≡ v)
+    (returns_credit more (waiting log)) refl refl
 
 -- What a stream leaves owing is seen in the views.
 pub owing_view : (before after : Log) (i : ℕ) → owed_at_close before after i
@@ -198,3 +195,18 @@ sum_moves (suc n) i down up f g below less here = elim (cases_eq i n) [
         (omega arith) less here,
   )
 ]
+
+-- What no event of two lists passes.
+pub none_both : {X : Type 0} (p : X → Bool) (xs ys : List X) → list_any p xs ≡ false
+    → list_any p ys ≡ false → list_any p (xs ++ ys) ≡ false
+none_both p [] ys here there = there
+none_both p (x ∷ xs) ys here there =
+    let parts = or_parts (p x) (list_any p xs) here in or_from _ _ parts.0
+    (none_both p xs ys parts.1 there)
+
+-- More events have no lesser greatest number.
+pub processed_after : (events reported : List Event)
+    → greatest_processed reported ≤ greatest_processed (events ++ reported)
+unfolding greatest_processed
+processed_after [] reported = omega arith
+processed_after (event ∷ events) reported = omega (arith, processed_after events reported)

@@ -1,7 +1,8 @@
--- What a new end's log has, and each small change of a log keeps, every log has that comes about.
--- Of each change its record says where what is read, sent and reported comes from.
-use Rattle.std.proofs.Common.{map as each, ◌≡◌, ◌≢◌, ◌<◌, ℕ, ◌+◌, nat_lt, ◌&&◌, not, max, Bool}
-use Rattle.std.proofs.Common.{true, false, if◌then◌else◌, List, [], ◌∷◌, ◌++◌, Option, Some}
+-- What a new end's log has, and each small change of a log keeps, every log has that comes about:
+-- of a log alone, or of a log with the events that are still to be reported of it. Of each change
+-- its record says where what is read, sent and reported comes from.
+use Rattle.std.proofs.Common.{map as each, ◌≡◌, ◌≢◌, ◌<◌, ◌≤◌, ℕ, ◌+◌, nat_lt, not, max}
+use Rattle.std.proofs.Common.{true, List, [], ◌∷◌, ◌++◌, Option, Some}
 use Rattle.std.proofs.Common.{None, is_some, refl, arith}
 use Rattle.std.proofs.lemmas.Bool.{and_parts, ltb-true}
 use Rattle.h2_frame.specs.declared.code.Code.{Code}
@@ -21,14 +22,15 @@ use Rattle.h2_log.specs.Verdicts.{Verdict, ConnectionFault, StreamFault, NoEvent
 use Rattle.h2_log.specs.ItemRules.{Decoded, FrameStep, fails_with, begins_block, completes}
 use Rattle.h2_log.specs.ItemRules.{frame_step, replies_to, verdict_of, opened_by}
 use Rattle.h2_log.specs.ItemEffects.{events_of}
-use Rattle.h2_log.specs.CallRules.{refusal_of, answer_of, items_of, refuse_fault}
+use Rattle.h2_log.specs.CallRules.{refusal_of, answer_of, items_of, refuse_fault, returns_credit}
 use Rattle.h2_log.specs.LogSteps.{read, used, limits_from, with_sent, with_reported}
 use Rattle.h2_log.specs.LogSteps.{with_unreturned, with_credit_returned, with_failure, with_verdict}
 use Rattle.h2_log.specs.LogSteps.{with_step, with_frame}
-use Rattle.h2_log.specs.LogCalls.{opened, called, with_items, refused_with, before_put_out}
+use Rattle.h2_log.specs.LogCalls.{opened, called, with_items, refused_with}
 use Rattle.h2_log.specs.LogCalls.{with_call, MayAnswer, accepts, refuses, lacks, fails}
 use Rattle.h2_log.specs.Histories.{IsLog, begins, took_some, took_one, met_fault, ran_out_of_memory}
 use Rattle.h2_log.specs.Histories.{reported_one, called_one, TakesOctets, TakesFrame, IsDecodedFor}
+use Rattle.h2_log_laws.proofs.CreditCases.{credit_cases, put_out_cases}
 use Rattle.h2_log_laws.proofs.LogGrowth.{Grows, grows_twice, grows_wrote, grows_with_unreturned}
 
 -- An item comes at this log: the octets of its last frame were used, and no field block is open.
@@ -51,6 +53,20 @@ pub record Comes (role : Role) (values : Values) (decoded : Option Decoded) (ite
     begun = None;
   }
 
+-- A frame ends at this log, which begins a field block or goes on with it: this is what has come
+-- of the block then.
+pub record BeginsBlock (role : Role) (values : Values) (begun : Begun) (log : Log) : Type 0 where
+  -- the log before its octets
+  pub before : Log
+  pub is : IsLog role values before
+  -- the octets, and the frame that ends with them
+  pub octets : List ℕ
+  pub frame : Frame
+  pub framed : TakesFrame role before octets frame
+  pub step : frame_step (log_view (used before octets [])) frame ≡ begins_block begun
+  -- the block that had begun before is the log's
+  pub same : log.begun ≡ before.begun
+
 -- An item comes that is no fault of the connection, and has this verdict.
 pub record Replies (role : Role) (values : Values) (log : Log) (decoded : Option Decoded)
     (item : Item) (verdict : Verdict) : Type 0 where
@@ -72,7 +88,7 @@ pub data MayReport (role : Role) (values : Values) (log : Log) : List Event → 
 -- fault, also the one that it opens.
 pub data NamesLast (role : Role) (values : Values) (log : Log) : ℕ → Type 0 where
   processed : NamesLast role values log (last_processed log)
-  opening : (decoded : Option Decoded) (item : Item) (code : Code)
+  of_fault : (decoded : Option Decoded) (item : Item) (code : Code)
       → Comes role values decoded item log
       → verdict_of (log_view log) decoded item ≡ ConnectionFault code
       → NamesLast role values log (max (last_processed log) (opened_by (log_view log) decoded item))
@@ -112,9 +128,10 @@ pub data FailsWith (log : Log) : Act → Answer → Code → Type 0 where
 pub record IsKeptByCall (P : Log → Type 0) (log : Log) (act : Act) (answer : Answer) : Type 0 where
   -- credit becomes due, and is returned
   pub credit : IsKeptByCredit P
-  -- more octets of the output are put out
+  -- any number of octets more of the output is put out
   pub given : (next : Log) (more : ℕ) → P next → P (record next { given = next.given + more })
-  -- the connection fails, and GOAWAY is sent
+  -- the connection fails, and GOAWAY is sent. The answer is any one, `other`: that of the call is
+  -- tied to the code alone.
   pub failed : (other : Answer) (code : Code) → FailsWith log act answer code
       → P (called log act other)
       → P (with_failure code (last_processed log) (called log act other))
@@ -123,7 +140,7 @@ pub record IsKeptByCall (P : Log → Type 0) (log : Log) (act : Act) (answer : A
       → ((id code : ℕ) → act ≡ Refuse id code → refuse_fault (log_view log) code ≡ None) → P log
       → P (with_sent (called log act (answer_of (log_view log) act))
       (items_of (log_view log) act (answer_of (log_view log) act)))
-  -- the call writes no items of its own
+  -- the call writes no items of its own, with any answer, `other`, with which calls write none
   pub called : (other : Answer) → WritesNone act other → P log → P (called log act other)
 
 -- A call is accepted and the connection stays up.
@@ -133,7 +150,65 @@ pub record Accepts (role : Role) (values : Values) (log : Log) (act : Act) : Typ
   pub none : refusal_of (log_view log) act ≡ None
   pub up : (id code : ℕ) → act ≡ Refuse id code → refuse_fault (log_view log) code ≡ None
 
--- What P needs to hold of every log. Where P says nothing of what a field changes, `is` proves it.
+-- What P needs to hold of every log, together with the events that are still to be reported of it:
+-- of an item those that it makes, from when it is read to when they are reported, and of a stream
+-- that the peer doesn't process the event that names it, while credit is returned for it. Otherwise
+-- there are none.
+pub record IsPendingInvariant (role : Role) (values : Values) (P : List Event → Log → Type 0)
+    : Type 0 where
+  -- a new end's log has it: SETTINGS were sent
+  pub opening : AreInRange values → P [] (opened role values)
+  -- octets are used
+  pub used : (log : Log) (octets unparsed : List ℕ) → P [] log
+      → P [] (record log {
+        input = log.input ++ octets;
+        limits = limits_from log;
+        unparsed = unparsed;
+        turns = In octets ∷ log.turns;
+      })
+  -- a frame ends. The frames may be any then: P can't know more of them here.
+  pub framed : (log : Log) (frames : List Frame) → P [] log → P [] (record log { frames = frames })
+  -- a field block begins or goes on
+  pub begun : (log : Log) (begun : Begun) → BeginsBlock role values begun log → P [] log
+      → P [] (record log { begun = Some begun })
+  -- an item is complete, so no field block is open
+  pub complete : (log : Log) → P [] log → P [] (record log { begun = None })
+  -- the item is read and is no fault of the connection, and is replied to: its events are pending
+  pub replied : (log : Log) (decoded : Option Decoded) (item : Item) (verdict : Verdict)
+      → Replies role values log decoded item verdict → P [] log
+      → P (events_of (log_view log) decoded verdict item)
+      (with_sent (read log decoded item) (replies_to verdict item))
+  -- a stream is to be reported that the peer doesn't process: its event is pending
+  pub named : (log : Log) → IsLog role values log → log.failed ≡ None → next_unprocessed log ≢ 0
+      → P [] log → P (UnprocessedEvent (next_unprocessed log) ∷ []) log
+  -- the events are reported, if there are any
+  pub reported : (log : Log) (event : Event) (events : List Event)
+      → MayReport role values log (event ∷ events) → P (event ∷ events) log
+      → P [] (record log {
+        reported = event ∷ events ++ log.reported;
+        turns = each Happened (event ∷ events) ++ log.turns;
+      })
+  -- any number of octets of the connection's window is unreturned
+  pub unreturned : (events : List Event) (log : Log) (count : ℕ) → P events log
+      → P events (record log { unreturned = count })
+  -- all that is unreturned is returned, by WINDOW_UPDATE of the connection
+  pub returned : (events : List Event) (log : Log) → ReturnsCredit log → P events log
+      → P events (with_credit_returned log)
+  -- the connection fails, and GOAWAY is sent
+  pub failed : (log : Log) (code : Code) (last : ℕ) → NamesLast role values log last → P [] log
+      → P [] (with_failure code last log)
+  -- a call is accepted, and its items are sent
+  pub sent : (log : Log) (act : Act) → Accepts role values log act → P [] log
+      → P [] (with_sent (called log act (answer_of (log_view log) act))
+      (items_of (log_view log) act (answer_of (log_view log) act)))
+  -- a call is made that writes no items of its own
+  pub called : (log : Log) (act : Act) (answer : Answer) → IsLog role values log
+      → WritesNone act answer → P [] log → P [] (called log act answer)
+  -- any number of octets more of the output is put out
+  pub given : (log : Log) (more : ℕ) → P [] log → P [] (record log { given = log.given + more })
+
+-- What P needs to hold of every log, whatever is still to be reported of it. Where P says nothing
+-- of what a field changes, `is` proves it.
 pub record IsLogInvariant (role : Role) (values : Values) (P : Log → Type 0) : Type 0 where
   -- a new end's log has it: SETTINGS were sent
   pub opening : AreInRange values → P (opened role values)
@@ -145,9 +220,9 @@ pub record IsLogInvariant (role : Role) (values : Values) (P : Log → Type 0) :
         unparsed = unparsed;
         turns = In octets ∷ log.turns;
       })
-  -- a frame ends
+  -- a frame ends. The frames may be any then: P can't know more of them here.
   pub framed : (log : Log) (frames : List Frame) → P log → P (record log { frames = frames })
-  -- a field block begins, goes on or is complete
+  -- a field block begins, goes on or is complete, with any octets
   pub begun : (log : Log) (begun : Option Begun) → P log → P (record log { begun = begun })
   -- an item is read that is no fault of the connection, and replied to
   pub replied : (log : Log) (decoded : Option Decoded) (item : Item) (verdict : Verdict)
@@ -160,7 +235,7 @@ pub record IsLogInvariant (role : Role) (values : Values) (P : Log → Type 0) :
         reported = event ∷ events ++ log.reported;
         turns = each Happened (event ∷ events) ++ log.turns;
       })
-  -- more of the connection's window is unreturned
+  -- any number of octets of the connection's window is unreturned
   pub unreturned : (log : Log) (count : ℕ) → P log → P (record log { unreturned = count })
   -- all that is unreturned is returned, by WINDOW_UPDATE of the connection
   pub returned : (log : Log) → ReturnsCredit log → P log → P (with_credit_returned log)
@@ -174,29 +249,29 @@ pub record IsLogInvariant (role : Role) (values : Values) (P : Log → Type 0) :
   -- a call is made that writes no items of its own
   pub called : (log : Log) (act : Act) (answer : Answer) → IsLog role values log
       → WritesNone act answer → P log → P (called log act answer)
-  -- more octets of the output are put out
+  -- any number of octets more of the output is put out
   pub given : (log : Log) (more : ℕ) → P log → P (record log { given = log.given + more })
 
-module _ (P : Log → Type 0) (kept : IsKeptByCredit P) where
-  -- What is unreturned, by the test whether it is returned.
-  unreturned_by : (more : ℕ) (log : Log) (b : Bool)
-      → (nat_lt 0 more && nat_lt (waiting log) full_output) ≡ b → P log
-      → P (if b then with_credit_returned (record log { unreturned = log.unreturned + more })
-      else record log { unreturned = log.unreturned + more })
-  unfolding waiting output
-  unreturned_by more log true test is =
-      let parts = and_parts (nat_lt 0 more) (nat_lt (waiting log) full_output) test in
-      let some = ltb-true 0 more parts.0 in
-      kept.returned (record log { unreturned = log.unreturned + more })
-      (record { some = omega arith; space = ltb-true (waiting log) full_output parts.1 })
-      (kept.unreturned log _ is)
-  unreturned_by more log false test is = kept.unreturned log _ is
+-- Credit is returned where more becomes due than none, and less than the full output waits.
+returning : (more : ℕ) (log : Log) → more ≤ log.unreturned
+    → returns_credit more (waiting log) ≡ true → ReturnsCredit log
+returning more log least test =
+    let parts = and_parts (nat_lt 0 more) (nat_lt (waiting log) full_output) test in
+    record {
+      some = omega (arith, ltb-true 0 more parts.0, least);
+      space = ltb-true (waiting log) full_output parts.1;
+    }
 
-  -- What is unreturned.
-  pub kept_by_credit : (more : ℕ) (log : Log) → P log → P (with_unreturned more log)
-  unfolding with_unreturned
-  kept_by_credit more log is =
-      unreturned_by more log (nat_lt 0 more && nat_lt (waiting log) full_output) refl is
+-- What is unreturned.
+pub kept_by_credit : (P : Log → Type 0) → IsKeptByCredit P → (more : ℕ) (log : Log) → P log
+    → P (with_unreturned more log)
+unfolding waiting output
+kept_by_credit P kept more log is =
+    credit_cases P more log
+    (λ returns. kept.returned (record log { unreturned = log.unreturned + more })
+    (returning more (record log { unreturned = log.unreturned + more }) (omega arith) returns)
+    (kept.unreturned log _ is))
+    (λ keeps. kept.unreturned log _ is)
 
 module _ (P : Log → Type 0) (log : Log) where
   -- A call that is accepted, and writes its items.
@@ -222,35 +297,27 @@ module _ (P : Log → Type 0) (log : Log) where
       let equal : code ≡ number = cc in
       rw (← equal) same) is
 
-  -- Output is put out, by the tests whether what is unreturned is returned before.
-  put_out_by : {act : Act} {answer : Answer} (next : Log) (count : ℕ) (failed credit : Bool)
-      → IsKeptByCall P log act answer
-      → (nat_lt 0 next.unreturned && nat_lt (waiting next) full_output) ≡ credit → P next
-      → P (record (if not failed && credit then with_credit_returned next else next) {
-        given = next.given + count;
-      })
-  unfolding with_sent
-  put_out_by next count false true kept test is =
-      let parts = and_parts (nat_lt 0 next.unreturned) (nat_lt (waiting next) full_output) test in
-      kept.given (with_credit_returned next) count (kept.credit.returned next (record {
-        some = ltb-true 0 next.unreturned parts.0;
-        space = ltb-true (waiting next) full_output parts.1;
-      }) is)
-  put_out_by next count false false kept test is = kept.given next count is
-  put_out_by next count true credit kept test is = kept.given next count is
+  -- A call that puts output out.
+  put_out_kept : {answer : Answer} (count given : ℕ) → IsKeptByCall P log (PutOut count) answer
+      → P log → P (with_call log (PutOut count) (Count given))
+  unfolding with_call with_sent
+  put_out_kept count given kept is =
+      let next = called log (PutOut count) (Count given) in
+      let now = kept.called (Count given) (puts_out count given) is in
+      put_out_cases (λ ready. P (record ready { given = log.given + given })) next
+      (λ returns. kept.given (with_credit_returned next) given
+      (kept.credit.returned next (returning next.unreturned next (omega arith)
+      (and_parts (not (is_some log.failed)) _ returns).1) now))
+      (λ keeps. kept.given next given now)
 
   -- A call that is accepted.
   accepted_kept : {answer : Answer} (act : Act) → IsKeptByCall P log act answer
       → answer ≡ answer_of (log_view log) act → refusal_of (log_view log) act ≡ None → P log
       → P (with_call log act (answer_of (log_view log) act))
-  unfolding with_call before_put_out waiting output
+  unfolding with_call
   accepted_kept (Refuse id code) kept same none is =
       refused_kept id code (refuse_fault (log_view log) code) kept same none refl is
-  accepted_kept (PutOut count) kept same none is =
-      let answer = answer_of (log_view log) (PutOut count) in
-      put_out_by (called log (PutOut count) answer) _ (is_some log.failed)
-      (nat_lt 0 log.unreturned && nat_lt (waiting log) full_output) kept refl
-      (kept.called answer (puts_out count _) is)
+  accepted_kept (PutOut count) kept same none is = put_out_kept count _ kept is
   accepted_kept act kept same none is = items_kept act kept none (λ id code wrong. cc) is
 
   -- A call.
@@ -267,23 +334,23 @@ module _ (P : Log → Type 0) (log : Log) where
       rw same (kept.failed OutOfMemory InternalError (out_of_memory act answer same)
       (kept.called OutOfMemory (no_memory act) is))
 
-module _ (role : Role) (values : Values) (P : Log → Type 0)
-    (kept : IsLogInvariant role values P) where
+module _ (role : Role) (values : Values) (P : List Event → Log → Type 0)
+    (kept : IsPendingInvariant role values P) where
   -- Credit.
-  credit : IsKeptByCredit P
-  credit = record { unreturned = kept.unreturned; returned = kept.returned }
+  credit : (events : List Event) → IsKeptByCredit (P events)
+  credit events = record { unreturned = kept.unreturned events; returned = kept.returned events }
 
   -- What is reported.
-  reported_kept : (log : Log) (events : List Event) → MayReport role values log events → P log
-      → P (with_reported log events)
+  reported_kept : (log : Log) (events : List Event) → MayReport role values log events
+      → P events log → P [] (with_reported log events)
   unfolding with_reported
   reported_kept log [] may is = is
   reported_kept log (event ∷ events) may is = kept.reported log event events may is
 
   -- An item that is no fault of the connection.
   item_kept : (log : Log) (decoded : Option Decoded) (item : Item) (verdict : Verdict) (more : ℕ)
-      → Replies role values log decoded item verdict → P log
-      → P (with_reported (with_unreturned more
+      → Replies role values log decoded item verdict → P [] log
+      → P [] (with_reported (with_unreturned more
       (with_sent (read log decoded item) (replies_to verdict item)))
       (events_of (log_view log) decoded verdict item))
   item_kept log decoded item verdict more replies is =
@@ -293,15 +360,16 @@ module _ (role : Role) (values : Values) (P : Log → Type 0)
       (of_item log decoded item verdict replies
       (grows_twice base replied (with_unreturned more replied)
       (grows_wrote base (replies_to verdict item)) (grows_with_unreturned more replied)))
-      (kept_by_credit P credit more replied (kept.replied log decoded item verdict replies is))
+      (kept_by_credit (P _) (credit _) more replied
+      (kept.replied log decoded item verdict replies is))
 
   -- An item, by its verdict.
   verdict_kept : (log : Log) (decoded : Option Decoded) (item : Item) (verdict : Verdict)
       → Comes role values decoded item log → verdict_of (log_view log) decoded item ≡ verdict
-      → P log → P (with_verdict log decoded item verdict)
+      → P [] log → P [] (with_verdict log decoded item verdict)
   unfolding with_verdict
   verdict_kept log decoded item (ConnectionFault code) comes verdict_is is =
-      kept.failed log code _ (opening decoded item code comes verdict_is) is
+      kept.failed log code _ (of_fault decoded item code comes verdict_is) is
   verdict_kept log decoded item (StreamFault code) comes verdict_is is =
       item_kept log decoded item (StreamFault code) _
       (record { comes = comes; is = verdict_is; up = λ other same. cc }) is
@@ -314,30 +382,42 @@ module _ (role : Role) (values : Values) (P : Log → Type 0)
 
   -- What a frame makes of the block that has begun.
   step_kept : (log : Log) (decoded : Option Decoded) (step : FrameStep)
+      → ((begun : Begun) → step ≡ begins_block begun → BeginsBlock role values begun log)
       → ((item : Item) → step ≡ completes item
       → Comes role values decoded item (record log { begun = None }))
-      → P log → P (with_step log decoded step)
+      → P [] log → P [] (with_step log decoded step)
   unfolding with_step
-  step_kept log decoded (fails_with code) comes is = kept.failed log code _ processed is
-  step_kept log decoded (begins_block begun) comes is = kept.begun log (Some begun) is
-  step_kept log decoded (completes item) comes is =
+  step_kept log decoded (fails_with code) started comes is = kept.failed log code _ processed is
+  step_kept log decoded (begins_block begun) started comes is =
+      kept.begun log begun (started begun refl) is
+  step_kept log decoded (completes item) started comes is =
       verdict_kept (record log { begun = None }) decoded item _ (comes item refl) refl
-      (kept.begun log None is)
+      (kept.complete log is)
 
   -- Octets that are used.
-  used_kept : (log : Log) (octets unparsed : List ℕ) → P log → P (used log octets unparsed)
+  used_kept : (log : Log) (octets unparsed : List ℕ) → P [] log → P [] (used log octets unparsed)
   unfolding used
   used_kept log octets unparsed is = kept.used log octets unparsed is
 
   -- A frame that ends.
   frame_kept : (log : Log) (octets : List ℕ) (frame : Frame) (decoded : Option Decoded)
       → IsLog role values log → TakesOctets log → TakesFrame role log octets frame
-      → IsDecodedFor log decoded frame → P log → P (with_frame (used log octets []) decoded frame)
-  unfolding with_frame
+      → IsDecodedFor log decoded frame → P [] log
+      → P [] (with_frame (used log octets []) decoded frame)
+  unfolding with_frame used
   frame_kept log octets frame decoded is_log takes framed sees is =
       let here = used log octets [] in
       step_kept (record here { frames = here.frames ++ frame ∷ [] }) decoded
       (frame_step (log_view here) frame)
+      (λ begun same. record {
+        before = log;
+        is = is_log;
+        octets = octets;
+        frame = frame;
+        framed = framed;
+        step = same;
+        same = refl;
+      })
       (λ item same. record {
         before = log;
         is = is_log;
@@ -353,11 +433,11 @@ module _ (role : Role) (values : Values) (P : Log → Type 0)
 
   -- A call.
   call_kept : (log : Log) (act : Act) (answer : Answer) → IsLog role values log → IsTypedAct act
-      → MayAnswer log act answer → P log → P (with_call log act answer)
+      → MayAnswer log act answer → P [] log → P [] (with_call log act answer)
   unfolding last_processed
   call_kept log act answer is_log typed =
-      kept_by_call P log act answer (record {
-        credit = credit;
+      kept_by_call (P []) log act answer (record {
+        credit = credit [];
         given = kept.given;
         failed = λ other code fails. kept.failed (called log act other) code _ processed;
         sent = λ none up. kept.sent log act
@@ -365,22 +445,43 @@ module _ (role : Role) (values : Values) (P : Log → Type 0)
         called = λ other. kept.called log act other is_log;
       })
 
-  -- Every log has it.
-  pub kept_by_logs : (log : Log) → IsLog role values log → P log
+  -- Every log has it, with nothing to be reported.
+  pub pending_by_logs : (log : Log) → IsLog role values log → P [] log
   unfolding used last_processed
-  kept_by_logs _ (begins in_range) = kept.opening in_range
-  kept_by_logs _ (took_some {log = log} is takes octets unparsed read) =
-      used_kept log octets unparsed (kept_by_logs log is)
-  kept_by_logs _ (took_one {log = log} is takes octets frame decoded read sees) =
-      frame_kept log octets frame decoded is takes read sees (kept_by_logs log is)
-  kept_by_logs _ (met_fault {log = log} is takes octets fault at) =
+  pending_by_logs _ (begins in_range) = kept.opening in_range
+  pending_by_logs _ (took_some {log = log} is takes octets unparsed read) =
+      used_kept log octets unparsed (pending_by_logs log is)
+  pending_by_logs _ (took_one {log = log} is takes octets frame decoded read sees) =
+      frame_kept log octets frame decoded is takes read sees (pending_by_logs log is)
+  pending_by_logs _ (met_fault {log = log} is takes octets fault at) =
       kept.failed (used log octets []) (wire_fault_code fault) _ processed
-      (used_kept log octets [] (kept_by_logs log is))
-  kept_by_logs _ (ran_out_of_memory {log = log} is up octets may) =
+      (used_kept log octets [] (pending_by_logs log is))
+  pending_by_logs _ (ran_out_of_memory {log = log} is up octets may) =
       kept.failed (used log octets []) InternalError _ processed
-      (used_kept log octets [] (kept_by_logs log is))
-  kept_by_logs _ (reported_one {log = log} is up some) =
+      (used_kept log octets [] (pending_by_logs log is))
+  pending_by_logs _ (reported_one {log = log} is up some) =
       reported_kept _ _ (of_unprocessed log is up some (grows_with_unreturned _ log))
-      (kept_by_credit P credit _ log (kept_by_logs log is))
-  kept_by_logs _ (called_one {log = log} is act answer typed may) =
-      call_kept log act answer is typed may (kept_by_logs log is)
+      (kept_by_credit (P _) (credit _) _ log (kept.named log is up some (pending_by_logs log is)))
+  pending_by_logs _ (called_one {log = log} is act answer typed may) =
+      call_kept log act answer is typed may (pending_by_logs log is)
+
+-- Every log has what says nothing of what is still to be reported.
+pub kept_by_logs : (role : Role) (values : Values) (P : Log → Type 0)
+    → IsLogInvariant role values P → (log : Log) → IsLog role values log → P log
+kept_by_logs role values P kept =
+    pending_by_logs role values (λ events. P) (record {
+      opening = kept.opening;
+      used = kept.used;
+      framed = kept.framed;
+      begun = λ log begun begins. kept.begun log (Some begun);
+      complete = λ log. kept.begun log None;
+      replied = kept.replied;
+      named = λ log is_log up some is. is;
+      reported = kept.reported;
+      unreturned = λ events. kept.unreturned;
+      returned = λ events. kept.returned;
+      failed = kept.failed;
+      sent = kept.sent;
+      called = kept.called;
+      given = kept.given;
+    })

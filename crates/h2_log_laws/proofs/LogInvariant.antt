@@ -79,7 +79,7 @@ openings_before p Client reads items received sent none = none_after p items sen
 openings_before p Server reads items received sent none = none_after p reads received none
 
 -- what isn't above after more that was written, wasn't before
-above_before : (role : Role) (j : ℕ) (items sent : List Item) → is_above role j (items ++ sent)
+pub above_before : (role : Role) (j : ℕ) (items sent : List Item) → is_above role j (items ++ sent)
     ≡ false → is_above role j sent ≡ false
 unfolding is_above
 above_before Client j items sent none = refl
@@ -119,7 +119,7 @@ active_before role j reads items received sent events reported active open_befor
     })
 
 -- what is owed and left owing, by whether the stream was active and is
-pub moves_by : (before after : Bool) (one other flow out : ℕ) → (after ≡ true → (before
+moves_by : (before after : Bool) (one other flow out : ℕ) → (after ≡ true → (before
     ≡ true) ⊎ (one ≡ 0)) → (out ≢ 0 → before ≡ true)
     → other + out ≤ one + flow
     → (if after then other else 0) + ((if before && not after then other else 0) + out) ≤
@@ -241,7 +241,7 @@ whole_after v i reads items events calls discarded unreturned good moves is n =
     )
 
 -- A step keeps what is good.
-pub step_good : (v : History) (i : ℕ) (reads items : List Item) (events : List Event)
+step_good : (v : History) (i : ℕ) (reads items : List Item) (events : List Event)
     (calls : List (Act × Answer)) (discarded unreturned : ℕ) → Good v
     → Moves v i reads items events calls discarded → unreturned
     ≡ v.unreturned + (discarded + owing v (moved v reads items events calls unreturned) i)

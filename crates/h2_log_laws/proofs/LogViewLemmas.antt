@@ -3,6 +3,7 @@
 use Rattle.std.proofs.Common.{◌≡◌, ℕ, ◌+◌, ◌-◌, min, not, Bool, true, false, if◌then◌else◌, ◌&&◌}
 use Rattle.std.proofs.Common.{◌==◌, nat_lt, ℤ, pos, negsuc, ◌+ℤ◌, ◌-ℤ◌, List, Option, Some, length}
 use Rattle.std.proofs.Common.{subst, refl, ap, ap₂, ◌∙◌, arith}
+use Rattle.std.proofs.Common.{◌≤◌}
 use Rattle.std.specs.Prelude.{int_lt}
 use Rattle.std.specs.Option.{is_some}
 use Rattle.std.specs.List.{list_any}
@@ -11,10 +12,15 @@ use Rattle.std.proofs.lemmas.Bool.{both_ways}
 use Rattle.std.proofs.lemmas.Bool.Decides.{nat_tests}
 use Rattle.hpack.specs.Lists.{list_size}
 use Rattle.h2_frame.specs.Frames.{Data, WindowUpdate}
+use Rattle.h2_frame.specs.Frames.{Reset}
 use Rattle.h2_frame.specs.Encoding.{payload_of}
 use Rattle.h2_block.specs.Grouping.{alone, block}
+use Rattle.h2_block.specs.Grouping.{Item}
 use Rattle.h2_log.specs.Items.{data_on, data_of, ends, total}
 use Rattle.h2_log.specs.States.{State, Idle, Active, ClosedByUs, Closed, when}
+use Rattle.h2_log.specs.States.{state_by}
+use Rattle.h2_log.specs.States.{greatest_number}
+use Rattle.h2_log.specs.States.{is_above}
 use Rattle.h2_log.specs.Windows.{greatest_window, given_on, given_on_connection, granted_on}
 use Rattle.h2_log.specs.Windows.{granted_on_connection, connection_send_window, passes}
 use Rattle.h2_log.specs.Windows.{is_above_greatest}
@@ -24,9 +30,18 @@ use Rattle.h2_log.specs.Log.{Log, acked, state, active, send_window, unreleased,
 use Rattle.h2_log.specs.LogView.{stream_of_log, log_view}
 use Rattle.h2_log.specs.Verdicts.{data_verdict, update_verdict, connection_update_verdict}
 use Rattle.h2_log.specs.Verdicts.{block_verdict}
+use Rattle.h2_log.specs.Verdicts.{Verdict}
+use Rattle.h2_log.specs.Verdicts.{Reported}
 use Rattle.h2_log.specs.ItemRules.{Decoded, exceeds_stream, overflows_stream, peer_opens}
 use Rattle.h2_log.specs.ItemRules.{is_at_capacity, verdict_by_rules}
 use Rattle.h2_log.specs.CallRules.{is_no_stream, at_least_none, data_count}
+use Rattle.h2_log.specs.ItemEffects.{least_last}
+use Rattle.h2_log.specs.ItemEffects.{events_of}
+use Rattle.h2_log.specs.declared.role.Role.{Role}
+use Rattle.h2_log.specs.declared.role.Role.TheVariants.{Client}
+use Rattle.h2_log.specs.declared.role.Role.TheVariants.{Server}
+use Rattle.h2_log.specs.Settings.{is_server}
+use Rattle.h2_log.specs.Events.{reports_unprocessed}
 use Rattle.h2_log_laws.proofs.ReaderStates.{state_is_active}
 
 -- Whether there is one is the test.
@@ -40,7 +55,7 @@ pub stream_there : (log : Log) (i : ℕ) → active log i ≡ true → (log_view
 stream_there log i active = ap (λ (b : Bool). when b (stream_of_log log i)) active
 
 -- there is one only where the test holds
-there_by : (b : Bool) (stream : StreamView) → not (is_some (when b stream)) ≡ false → b ≡ true
+pub there_by : (b : Bool) (stream : StreamView) → not (is_some (when b stream)) ≡ false → b ≡ true
 there_by true stream is = refl
 there_by false stream is = absurd (both_ways true is refl)
 
@@ -89,19 +104,15 @@ data_same Active a b p q x y one two three = rw (one, two refl, three refl) refl
 update_same : (s : State) (n : ℕ) (x y : Bool) → (s ≡ Active → x ≡ y) → update_verdict s n x
     ≡ update_verdict s n y
 unfolding update_verdict
-update_same Idle n x y same = refl
-update_same ClosedByUs n x y same = refl
-update_same Closed n x y same = refl
 update_same Active n x y same = rw (same refl) refl
+update_same other n x y same = refl
 
 -- and that on a block
 block_same : (s : State) (opens left full ended was large : Bool) → (s ≡ Active → ended ≡ was)
     → block_verdict s opens left full ended large ≡ block_verdict s opens left full was large
 unfolding block_verdict
-block_same Idle opens left full ended was large same = refl
-block_same Closed opens left full ended was large same = refl
-block_same ClosedByUs opens left full ended was large same = refl
 block_same Active opens left full ended was large same = rw (same refl) refl
+block_same other opens left full ended was large same = refl
 
 -- The verdict on DATA, by sums.
 pub data_by_sums : (log : Log) (decoded : Option Decoded) (i : ℕ) (end : Bool) (octets : List ℕ)
@@ -169,3 +180,43 @@ count_by_sums log i count active =
     ap (λ (stream : Option StreamView). data_count (log_view log) stream count)
     (stream_there log i active)
     ∙ ap₂ (λ (one other : ℕ). min count (min (min one other) max_data)) on all
+
+-- the least last stream with one more, by whether there was one
+pub least_by : (b : Bool) (last n : ℕ) → last ≤ greatest_number → (b ≡ false → n ≡ greatest_number)
+    → least_last last (when b n) ≡ min last n
+least_by true last n low none = refl
+least_by false last n low none = omega (arith, low, none refl)
+
+-- A stream in the state ClosedByUs is.
+pub closed_by_us_is : (used active closed_by_us : Bool)
+    → state_by used active closed_by_us ≡ ClosedByUs
+    → closed_by_us ≡ true
+closed_by_us_is true false true is = refl
+closed_by_us_is true true closed_by_us is = cc
+closed_by_us_is true false false is = cc
+closed_by_us_is false active closed_by_us is = cc
+
+-- At a server an active stream is no greater than the greatest that was processed.
+pub last_is : (role : Role) (n : ℕ) → role ≡ Server → (if is_server role then n else 0) ≡ n
+last_is Server n server = refl
+last_is Client n server = cc
+
+-- A number in the state ClosedByUs was used, and in the state Idle it wasn't.
+pub closed_used : (used active closed : Bool) → state_by used active closed ≡ ClosedByUs
+    → used ≡ true
+closed_used true active closed is = refl
+closed_used false active closed is = cc
+
+-- The events of an item report no stream as unprocessed.
+pub events_unnamed : (log : Log) (decoded : Option Decoded) (v : Verdict) (item : Item) (i : ℕ)
+    → list_any (reports_unprocessed i) (events_of (log_view log) decoded v item) ≡ false
+unfolding events_of reports_unprocessed
+events_unnamed log decoded Reported (alone (Reset stream code)) i = refl
+events_unnamed log decoded v item i = refl
+
+-- a client is above no own GOAWAY
+pub client_above : (role : Role) (i : ℕ) (sent : List Item) → role ≡ Client
+    → is_above role i sent ≡ false
+unfolding is_above
+client_above Client i sent is = refl
+client_above Server i sent is = cc

@@ -9,6 +9,9 @@ use Rattle.h2_block.specs.Grouping.{Item, alone, block}
 use Rattle.h2_log.specs.Items.{is_block_on, greatest_block}
 use Rattle.h2_log.specs.States.{least_block, openings}
 use Rattle.h2_log.specs.Log.{Log, active, next_active}
+use Rattle.h2_log.specs.Log.{next_unprocessed}
+use Rattle.h2_log.specs.Log.{least_goaway}
+use Rattle.h2_log.specs.Settings.{is_server}
 use Rattle.h2_log_laws.proofs.StreamNumbers.{block_below}
 use Rattle.h2_log_laws.proofs.ReaderStates.{active_parts}
 
@@ -95,3 +98,19 @@ pub active_counted : (log : Log) (i : ℕ) → active log i ≡ true
     → i ≤ greatest_block (openings log.role log.received log.sent)
 active_counted log i alive = block_below i (openings log.role log.received log.sent)
     (active_parts log.role i log.received log.sent log.reported alive).opened
+
+-- the next stream that is reported is active, by the role
+next_is_active_by : (b : Bool) (least_last : ℕ) (test : ℕ → Bool) → (if b then 0 else least_last) ≢
+    0 → (least_last ≢ 0 → test least_last ≡ true) → test (if b then 0 else least_last) ≡ true
+next_is_active_by true least_last test some passes = absurd (some refl)
+next_is_active_by false least_last test some passes = passes some
+
+-- The next stream that is reported is active.
+pub next_is_active : (log : Log) → next_unprocessed log ≢ 0
+    → active log (next_unprocessed log) ≡ true
+unfolding next_unprocessed
+next_is_active log some =
+    (and_parts _ _ (next_is_active_by (is_server log.role) (least_block (λ j. active log j && nat_lt
+    (least_goaway log.received) j) log.sent)
+    (λ j. active log j && nat_lt (least_goaway log.received) j) some
+    (least_passes (λ j. active log j && nat_lt (least_goaway log.received) j) log.sent))).0

@@ -95,7 +95,7 @@ opens_here i (block stream end octets ∷ items) odd here = elim (or_cases (stre
     ]
 
 -- What stands among the openings at the writer stands among those at the reader.
-pub openings_after : (p : Item → Bool) (role : Role) (received sent unread : List Item)
+openings_after : (p : Item → Bool) (role : Role) (received sent unread : List Item)
     → list_any p (openings role received sent) ≡ true
     → list_any p (openings (peer_of role) sent (unread ++ received)) ≡ true
 openings_after p Client received sent unread here = here
@@ -128,7 +128,7 @@ not_idle true false true used idle = cc
 not_idle true false false used idle = cc
 
 -- A used stream that is active where it isn't closed by this end is active or closed by this end.
-pub active_or_closed_by_us : (used active closed_by_us : Bool) → used ≡ true → (closed_by_us
+active_or_closed_by_us : (used active closed_by_us : Bool) → used ≡ true → (closed_by_us
     ≡ false → active ≡ true)
     → (state_by used active closed_by_us ≡ Active) ⊎ (state_by used active closed_by_us
     ≡ ClosedByUs)

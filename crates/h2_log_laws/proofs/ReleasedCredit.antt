@@ -1,7 +1,7 @@
 -- What is released of a stream is no more than was read, on the stream and on the connection.
 use Rattle.std.proofs.Common.{◌≡◌, ◌≢◌, ℕ, suc, ◌+◌, ◌-◌, ◌≤◌, ◌==◌, nat_lt, Bool, true, false}
 use Rattle.std.proofs.Common.{if◌then◌else◌, List, [], ◌∷◌, ◌++◌, None, refl, sym, ap, ◌∙◌, arith}
-use Rattle.std.proofs.lemmas.Bool.{both_ways, eqb-false, ne_eqb, eq-eqb, or_parts, ltb-false}
+use Rattle.std.proofs.lemmas.Bool.{both_ways, eqb-false, ne_eqb, or_parts, ltb-false}
 use Rattle.h2_frame.specs.Frames.{WindowUpdate}
 use Rattle.h2_block.specs.Grouping.{Item, alone}
 use Rattle.h2_log.specs.declared.role.Role.{Role}
@@ -18,17 +18,14 @@ use Rattle.h2_log.specs.Allowed.{HasAcknowledged, AllowedHistory, writes, active
 use Rattle.h2_log.specs.Allowed.{MayUpdateWindow}
 use Rattle.h2_log_laws.specs.Sums.{sum_below}
 use Rattle.h2_log_laws.proofs.ItemLists.{total_one, total_none}
-use Rattle.h2_log_laws.proofs.CallConditions.{first_none, none_since}
+use Rattle.h2_log_laws.proofs.CallConditions.{none_holds}
+use Rattle.hpack.proofs.Tests.{none_since}
 use Rattle.h2_log_laws.proofs.InvariantCalls.{active_is_active, active_some, items_represent}
 use Rattle.h2_log_laws.proofs.InvariantSteps.{update_elsewhere, update_here}
 use Rattle.h2_log_laws.proofs.LogHistory.{History, history_of, active_in_view, left, owes}
 use Rattle.h2_log_laws.proofs.LogInvariant.{Good, Represents, Moves}
 use Rattle.h2_log_laws.proofs.LogViewLemmas.{stream_is_active, owed_there}
-
--- an update gives to its stream
-pub gives_here : (i count : ℕ) → increment_on i (alone (WindowUpdate i count)) ≡ count
-unfolding increment_on
-gives_here i count = rw (eq-eqb i i refl) refl
+use Rattle.h2_log_laws.proofs.AllowedHistories.{increment_here}
 
 -- an update gives to no other stream
 pub gives_elsewhere : (i j count : ℕ) → (i ≡ j → ⊥) → increment_on j (alone (WindowUpdate i count))
@@ -47,22 +44,22 @@ gives_released i j count calls = refl
 pub released_here : (i count : ℕ) (calls : List (Act × Answer))
     → released i ((Release i count, Done) ∷ calls) ≡ count + released i calls
 released_here i count calls = sym (gives_released i i count calls)
-    ∙ ap (λ (n : ℕ). n + released i calls) (gives_here i count)
+    ∙ ap (λ (n : ℕ). n + released i calls) (increment_here i count)
 
 -- what is owed on an active stream
-owes_active : (v : History) (i : ℕ) → active_in_view v i ≡ true → owes v i
+pub owes_active : (v : History) (i : ℕ) → active_in_view v i ≡ true → owes v i
     ≡ reported_total (flow_on i) v.reported - released i v.calls
 unfolding owes left
 owes_active v i active = rw active refl
 
 -- the same of a log
-unreleased_is : (log : Log) (i : ℕ) → unreleased log i
+pub unreleased_is : (log : Log) (i : ℕ) → unreleased log i
     ≡ reported_total (flow_on i) log.reported - released i log.calls
 unfolding unreleased
 unreleased_is log i = refl
 
 -- what is owed on one stream is no more than on all
-owes_one : (v : History) (i : ℕ) → owes v i ≤ sum_below (suc i) (owes v)
+pub owes_one : (v : History) (i : ℕ) → owes v i ≤ sum_below (suc i) (owes v)
 unfolding sum_below
 owes_one v i = omega arith
 
@@ -201,14 +198,11 @@ pub release_represents : (role : Role) (log : Log) (id count : ℕ)
     → Represents role (history_of (with_call log (Release id count) Done))
 unfolding conditions with_call items_of stream_of_act
 release_represents role log id count represents none =
-    let c1 = first_none _ _ _ none in
-    let c2 = first_none _ _ _ c1.1 in
-    let c3 = first_none _ _ _ c2.1 in
-    let c4 = first_none _ _ _ c3.1 in
-    let up = none_since log.failed c1.0 in
-    let is_active_here = stream_is_active log id c2.0 in
+    let holds = none_holds _ none in
+    let up = none_since log.failed holds.0 in
+    let is_active_here = stream_is_active log id holds.1.0 in
     let stream = (log_view log).stream id in
-    let owing = or_parts (count == 0) (nat_lt (owed_on stream) count) c4.0 in
+    let owing = or_parts (count == 0) (nat_lt (owed_on stream) count) holds.1.1.1.0 in
     items_represent role log (Release id count) Done (updates id count (ended_in
     ((log_view log).stream id))) represents up refl
     (release_moves (history_of log) id count (ended_in ((log_view log).stream id))

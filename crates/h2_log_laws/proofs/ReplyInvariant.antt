@@ -4,8 +4,7 @@ use Rattle.std.proofs.Common.{List, [], ◌∷◌, ◌++◌, length, Option, ref
 use Rattle.std.specs.List.{list_any}
 use Rattle.std.proofs.lemmas.Bool.{and_parts, and_from, eqb-true, ne_eqb, both_ways, or_cases}
 use Rattle.std.proofs.lemmas.Bool.{or_left, or_from, false_from_ne_true, eq-eqb, cases_eq}
-use Rattle.h2_frame.specs.Frames.{Data, Headers, Priority, Reset, Settings, Ping, GoAway}
-use Rattle.h2_frame.specs.Frames.{WindowUpdate, Continuation, Unknown}
+use Rattle.h2_frame.specs.Frames.{Data, Reset, Settings, Ping}
 use Rattle.h2_frame.specs.Encoding.{payload_of}
 use Rattle.h2_block.specs.Grouping.{Item, alone, block}
 use Rattle.h2_log.specs.declared.role.Role.{Role}
@@ -49,26 +48,9 @@ allowed_reset : (role : Role) (i : ℕ) (received sent : List Item) (item : Item
 unfolding resets
 allowed_reset role i received sent (block stream end octets) allowed is = absurd
     (both_ways false refl is)
-allowed_reset role i received sent (alone (Data stream end octets pad)) allowed is = absurd
-    (both_ways false refl is)
-allowed_reset role i received sent (alone
-    (Headers stream end whole fragment pad priority)) allowed is = absurd (both_ways false refl is)
-allowed_reset role i received sent (alone (Priority stream octets)) allowed is = absurd
-    (both_ways false refl is)
 allowed_reset role i received sent (alone (Reset stream code)) allowed is = rw (←
     (eqb-true stream i is)) (allowed.1).used
-allowed_reset role i received sent (alone (Settings ack pairs)) allowed is = absurd
-    (both_ways false refl is)
-allowed_reset role i received sent (alone (Ping ack octets)) allowed is = absurd
-    (both_ways false refl is)
-allowed_reset role i received sent (alone (GoAway last code debug)) allowed is = absurd
-    (both_ways false refl is)
-allowed_reset role i received sent (alone (WindowUpdate stream increment)) allowed is = absurd
-    (both_ways false refl is)
-allowed_reset role i received sent (alone
-    (Continuation stream whole fragment)) allowed is = absurd (both_ways false refl is)
-allowed_reset role i received sent (alone (Unknown kind flags stream payload)) allowed is = absurd
-    (both_ways false refl is)
+allowed_reset role i received sent (alone frame) allowed is = absurd (both_ways false refl is)
 
 -- an opening resets nothing
 settings_reset : (i : ℕ) (ack : Bool) (pairs : List (ℕ × ℕ))
@@ -92,7 +74,8 @@ resets_used role i received _ (writes {sent = sent} item with_sent allowed) some
     ])
 
 -- an idle stream isn't used
-idle_unused : (used active closed_by_us : Bool) → state_by used active closed_by_us ≡ Idle → used
+pub idle_unused : (used active closed_by_us : Bool) → state_by used active closed_by_us ≡ Idle
+    → used
     ≡ false
 idle_unused false active closed_by_us idle = refl
 idle_unused true true closed_by_us idle = absurd (cc)
@@ -249,15 +232,15 @@ unfolding flow_on
 flow_elsewhere i end octets n j other = rw (ne_eqb i j (λ same. other (sym same))) refl
 
 -- a number or nothing is no more than the number
-fits_by : (b : Bool) (n : ℕ) → (if b then n else 0) ≤ n
-fits_by true n = omega arith
-fits_by false n = omega arith
+pub chosen_low : (b : Bool) (n : ℕ) → (if b then n else 0) ≤ n
+chosen_low true n = omega arith
+chosen_low false n = omega arith
 
 -- no more flow than octets
 flow_fits : (i : ℕ) (end : Bool) (octets : List ℕ) (n j : ℕ)
     → flow_on j (DataEvent i octets n end) ≤ n
 unfolding flow_on
-flow_fits i end octets n j = fits_by (i == j) n
+flow_fits i end octets n j = chosen_low (i == j) n
 
 -- A step that reports of DATA on an active stream.
 pub data_reported : (v : History) (i : ℕ) (end : Bool) (octets : List ℕ) (pad : Option ℕ)

@@ -1,9 +1,8 @@
 -- Settings that were read, and own ones that are in force.
-use Rattle.std.proofs.Common.{◌≡◌, ◌⊎◌, ℕ, ◌+◌, ◌≤◌, ◌<◌, ◌==◌, nat_le, ◌&&◌, true, false, List, []}
+use Rattle.std.proofs.Common.{◌≡◌, ◌⊎◌, ℕ, ◌+◌, ◌≤◌, ◌<◌, ◌==◌, nat_le, ◌&&◌, false, List, []}
 use Rattle.std.proofs.Common.{◌∷◌, ◌++◌, refl, ap, sym, ◌∙◌, inl, inr, arith}
 use Rattle.std.proofs.lemmas.Bool.{cases_eq, eq-eqb, ne_eqb, le-leb, lt-leb, and_left, and_right}
-use Rattle.h2_frame.specs.Frames.{Data, Headers, Priority, Reset, Settings, Ping, GoAway}
-use Rattle.h2_frame.specs.Frames.{WindowUpdate, Continuation, Unknown}
+use Rattle.h2_frame.specs.Frames.{Settings}
 use Rattle.h2_block.specs.Grouping.{Item, alone, block}
 use Rattle.h2_log.specs.Settings.{value_read, value_after, one_settings, settings_count}
 use Rattle.h2_log.specs.Settings.{up_to_settings, own_value, one_ack}
@@ -18,34 +17,16 @@ pub settings_or : (item : Item) → ((pairs : List (ℕ × ℕ)) × (item
     ≡ alone (Settings false pairs))) ⊎ (one_settings item ≡ 0)
 unfolding one_settings
 settings_or (block stream end octets) = inr refl
-settings_or (alone (Data stream end octets pad)) = inr refl
-settings_or (alone (Headers stream end whole fragment pad priority)) = inr refl
-settings_or (alone (Priority stream octets)) = inr refl
-settings_or (alone (Reset stream code)) = inr refl
-settings_or (alone (Settings true pairs)) = inr refl
 settings_or (alone (Settings false pairs)) = inl (pairs, refl)
-settings_or (alone (Ping ack octets)) = inr refl
-settings_or (alone (GoAway last code debug)) = inr refl
-settings_or (alone (WindowUpdate stream increment)) = inr refl
-settings_or (alone (Continuation stream whole fragment)) = inr refl
-settings_or (alone (Unknown kind flags stream payload)) = inr refl
+settings_or (alone frame) = inr refl
 
 -- What counts as no SETTINGS changes no value.
 pub value_kept : (id first : ℕ) (item : Item) (items : List Item) → one_settings item ≡ 0
     → value_read id first (item ∷ items) ≡ value_read id first items
 unfolding one_settings value_read
 value_kept id first (block stream end octets) items none = refl
-value_kept id first (alone (Data stream end octets pad)) items none = refl
-value_kept id first (alone (Headers stream end whole fragment pad priority)) items none = refl
-value_kept id first (alone (Priority stream octets)) items none = refl
-value_kept id first (alone (Reset stream code)) items none = refl
-value_kept id first (alone (Settings true pairs)) items none = refl
 value_kept id first (alone (Settings false pairs)) items none = absurd (omega arith)
-value_kept id first (alone (Ping ack octets)) items none = refl
-value_kept id first (alone (GoAway last code debug)) items none = refl
-value_kept id first (alone (WindowUpdate stream increment)) items none = refl
-value_kept id first (alone (Continuation stream whole fragment)) items none = refl
-value_kept id first (alone (Unknown kind flags stream payload)) items none = refl
+value_kept id first (alone frame) items none = refl
 
 -- SETTINGS change each value that they name.
 pub value_changed : (id first : ℕ) (pairs : List (ℕ × ℕ)) (items : List Item)

@@ -1,23 +1,36 @@
 -- The numbers of streams that were written, and what a stream that is reported as unprocessed says
 -- of what was read.
 use Rattle.std.proofs.Common.{◌≡◌, ◌⊎◌, ◌≢◌, ℕ, ◌+◌, ◌≤◌, ◌<◌, ◌==◌, ◌%◌, ◌&&◌, ◌||◌, nat_lt, max}
-use Rattle.std.proofs.Common.{Bool, true, false, if◌then◌else◌, List, [], ◌∷◌, refl, inl, inr}
+use Rattle.std.proofs.Common.{Bool, true, false, if◌then◌else◌, List, [], ◌∷◌, refl, inl, inr, ◌^◌}
 use Rattle.std.proofs.Common.{arith}
+use Rattle.std.proofs.Common.{nat_le}
+use Rattle.std.proofs.Common.{leb-true}
 use Rattle.std.specs.List.{list_any}
 use Rattle.std.proofs.lemmas.Bool.{both_ways, eqb-true, or_cases, cases_lt, eq-eqb, le-ltb}
 use Rattle.std.proofs.lemmas.Bool.{and_right, and_left, true_from_ne_false}
+use Rattle.std.proofs.lemmas.Bool.{and_from}
+use Rattle.std.proofs.lemmas.Bool.{and_parts}
+use Rattle.std.proofs.lemmas.Bool.{or_left}
 use Rattle.h2_frame.specs.Frames.{Data, Headers, Priority, Reset, Settings, Ping, GoAway}
 use Rattle.h2_frame.specs.Frames.{WindowUpdate, Continuation, Unknown}
 use Rattle.h2_block.specs.Grouping.{Item, alone, block}
 use Rattle.h2_log.specs.declared.role.Role.{Role}
 use Rattle.h2_log.specs.declared.role.Role.TheVariants.{Client, Server}
 use Rattle.h2_log.specs.Items.{is_block_on, greatest_block, is_goaway}
+use Rattle.h2_log.specs.Items.{opens_from}
 use Rattle.h2_log.specs.Settings.{is_server}
 use Rattle.h2_log.specs.States.{least_block, greatest_number}
+use Rattle.h2_log.specs.States.{is_used}
 use Rattle.h2_log.specs.Log.{Log, active, next_number, next_unprocessed, least_goaway}
 use Rattle.h2_log.specs.Allowed.{AllowedHistory, starts, reads, writes, Allowed, MayOpen}
 use Rattle.h2_log.specs.Allowed.{MayContinue}
 use Rattle.h2_log_laws.proofs.ReaderStates.{active_parts}
+use Rattle.h2_log_laws.proofs.ReaderStates.{opens_here}
+
+-- A stream's number, or 0, by a test.
+pub number_or_none : (test : Bool) (id : ℕ) → id < 2 ^ 31 → (if test then id else 0) < 2 ^ 31
+number_or_none true id small = small
+number_or_none false id small = omega arith
 
 -- the greater of two numbers is one of them
 max_is : (a b : ℕ) → (max a b ≡ a) ⊎ (max a b ≡ b)
@@ -71,7 +84,7 @@ odd_allowed role i received sent (inr goes) = eqb-true (i % 2) 1
     (active_parts role i received sent [] goes.active).odd
 
 -- The greater of two numbers is odd, of which one is odd, and the other odd or nothing.
-pub odd_max : (i n : ℕ) → i % 2 ≡ 1 → (n ≡ 0) ⊎ (n % 2 ≡ 1) → max i n % 2 ≡ 1
+odd_max : (i n : ℕ) → i % 2 ≡ 1 → (n ≡ 0) ⊎ (n % 2 ≡ 1) → max i n % 2 ≡ 1
 odd_max i n odd (inl none) = let is : max i n ≡ i = omega arith in rw is odd
 odd_max i n odd (inr also) = elim (max_is i n) [
   | inl one ↦ rw one odd
@@ -88,7 +101,7 @@ odd_by role received sent (block i end octets) allowed odd = inr (odd_max i (gre
     (odd_allowed role i received sent allowed.1) odd)
 
 -- The greatest number of a block that was written is odd, if there is one.
-pub odd_blocks : (role : Role) (received sent : List Item) → AllowedHistory role received sent
+odd_blocks : (role : Role) (received sent : List Item) → AllowedHistory role received sent
     → (greatest_block sent ≡ 0) ⊎ (greatest_block sent % 2 ≡ 1)
 unfolding greatest_block
 odd_blocks role _ _ (starts values ok) = inl refl
@@ -146,7 +159,8 @@ least_none test (block stream end octets ∷ items) none =
     (least_none test items (λ j below. none j (omega arith)))
 
 -- a server names no stream
-next_of : (role : Role) (n : ℕ) → (if is_server role then 0 else n) ≢ 0 → (role ≡ Client) × (n ≢ 0)
+pub next_of : (role : Role) (n : ℕ) → (if is_server role then 0 else n) ≢ 0
+    → (role ≡ Client) × (n ≢ 0)
 next_of Client n some = (refl, some)
 next_of Server n some = absurd (some refl)
 
@@ -163,3 +177,26 @@ next_left log with_sent some =
     and_right (active log j) (nat_lt (least_goaway log.received) j)
     (le-ltb (least_goaway log.received) j (omega
     (arith, last_none log.received none, client_low log.received log.sent client))))))
+
+-- A number from which a block opens is no greater than the greatest.
+pub opens_low : (i : ℕ) (items : List Item) → list_any (opens_from i) items ≡ true
+    → i ≤ greatest_block items
+unfolding opens_from greatest_block
+opens_low i [] some = absurd (both_ways false refl some)
+opens_low i (alone frame ∷ items) some = opens_low i items some
+opens_low i (block stream end octets ∷ items) some =
+    elim (or_cases (stream % 2 == 1 && nat_le i stream) (list_any (opens_from i) items) some) [
+      | inl here ↦ omega (arith, leb-true i stream (and_parts _ _ here).1)
+      | inr after ↦ omega (arith, opens_low i items after)
+    ]
+
+-- a client's block uses its number
+pub opening_uses : (role : Role) (i : ℕ) (end : Bool) (octets : List ℕ) (received sent : List Item)
+    → role ≡ Client → i % 2 ≡ 1
+    → is_used role i received (block i end octets ∷ sent) ≡ true
+unfolding is_used is_block_on
+opening_uses Client i end octets received sent is odd =
+    and_from _ _ (eq-eqb (i % 2) 1 odd)
+    (opens_here i (block i end octets ∷ sent) (eq-eqb (i % 2) 1 odd)
+    (or_left _ _ (eq-eqb i i refl)))
+opening_uses Server i end octets received sent is odd = cc

@@ -1,4 +1,4 @@
-//! What is read of the items that were written.
+//! What is read of the items that were written, and with which greatest payloads they were.
 
 ghost use Rattle.std.specs.Prelude.{ℕ, ◌^◌, ◌<◌, ◌≤◌, Bool, List, [], ◌++◌, None};
 ghost use Rattle.std.specs.List.{AllByRecursion};
@@ -11,6 +11,7 @@ ghost use Rattle.h2_log.specs.Settings.{value_read};
 ghost use Rattle.h2_log.specs.Log.{Log, max_payload_sent};
 ghost use Rattle.h2_log.specs.Histories.{IsLog};
 ghost use Rattle.h2_log_laws.specs.Sending.{IsSendable, frames_of_items, oldest_first};
+ghost use Rattle.h2_log_laws.specs.Sizes.{WrittenBySizes};
 
 // contract: 4.1 What an end sends is read as its frames, without a fault
 /// What is written of items that can be sent, whatever the greatest payload is, is read as their
@@ -32,4 +33,13 @@ pub fn written_items_are_read()
 pub fn payload_fits()
     ensures { (role : Role) (values : Values) (log : Log) → IsLog role values log
         → max_payload_sent log ≤ value_read 5 16384 log.received }
+{}
+
+// contract: 4.2 (own) Payloads of at most 16,384 octets are sent
+/// All that an end has written is a client's preface and its items, each as it is encoded with the
+/// greatest payload that was in force then: 16,384 octets or more, up to the own limit (RFC 9113,
+/// section 4.2).
+pub fn output_by_sizes()
+    ensures { (role : Role) (values : Values) (log : Log) → IsLog role values log
+        → WrittenBySizes log }
 {}

@@ -17,7 +17,8 @@ use Rattle.h2_machine_laws.proofs.ViewsAgree.{view_beside, views_agree}
 use Rattle.h2_machine_laws.proofs.WaitingOutput.{waits_much}
 
 -- The view of a machine that hasn't failed is its log's, but for the parts that are its own.
-pub views_alike : (values : Values) (e : End) (log : Log) → Represents values e log → e.failed ≡ None
+pub views_alike : (values : Values) (e : End) (log : Log) → Represents values e log
+    → e.failed ≡ None
     → end_view e ≡ view_beside e log
 views_alike values e log represents up =
     views_agree e log represents.role represents.failed (waits_much e log represents.output)

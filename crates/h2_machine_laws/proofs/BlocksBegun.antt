@@ -5,8 +5,8 @@ use Rattle.std.proofs.Common.{false, List, length, length-append, Option, Some, 
 use Rattle.std.proofs.Common.{sym, arith, ltb-false, eqb-true}
 use Rattle.h2_frame.specs.declared.code.Code.TheVariants.{ProtocolError}
 use Rattle.h2_frame.specs.Encoding.{stream_of}
-use Rattle.h2_frame.specs.Frames.{Frame, Data, Headers, Priority, Reset, Settings, Ping, GoAway}
-use Rattle.h2_frame.specs.Frames.{WindowUpdate, Continuation, Unknown}
+use Rattle.h2_frame.specs.Frames.{Frame, Headers}
+use Rattle.h2_frame.specs.Frames.{Continuation}
 use Rattle.h2_block.specs.declared.fault.BlockFault.TheVariants.{Interrupted, TooLong}
 use Rattle.h2_block.specs.Grouping.{alone, block, Begun, max_block_octets, next_fault}
 use Rattle.h2_block.specs.Grouping.{fault_outside, fault_inside}
@@ -53,29 +53,13 @@ continuation_fits begun i false fragment true false same is =
 grouping_fits : (begun : Option Begun) (frame : Frame)
     → StepFits (stream_of frame) (grouping_step begun frame (next_fault begun frame))
 unfolding grouping_step grouped fault_outside fault_inside stream_of
-grouping_fits None (Data i end octets pad) = tt
 grouping_fits None (Headers i end last fragment pad priority) =
     headers_fit i end last fragment pad priority (nat_lt max_block_octets (length fragment)) refl
-grouping_fits None (Priority i octets) = tt
-grouping_fits None (Reset i code) = tt
-grouping_fits None (Settings ack pairs) = tt
-grouping_fits None (Ping ack octets) = tt
-grouping_fits None (GoAway last code debug) = tt
-grouping_fits None (WindowUpdate i increment) = tt
-grouping_fits None (Continuation i last fragment) = tt
-grouping_fits None (Unknown kind flags i payload) = tt
-grouping_fits (Some begun) (Data i end octets pad) = tt
-grouping_fits (Some begun) (Headers i end last fragment pad priority) = tt
-grouping_fits (Some begun) (Priority i octets) = tt
-grouping_fits (Some begun) (Reset i code) = tt
-grouping_fits (Some begun) (Settings ack pairs) = tt
-grouping_fits (Some begun) (Ping ack octets) = tt
-grouping_fits (Some begun) (GoAway last code debug) = tt
-grouping_fits (Some begun) (WindowUpdate i increment) = tt
 grouping_fits (Some begun) (Continuation i last fragment) =
     continuation_fits begun i last fragment (i == begun.stream)
     (nat_lt max_block_octets (length begun.octets + length fragment)) refl refl
-grouping_fits (Some begun) (Unknown kind flags i payload) = tt
+grouping_fits None other = tt
+grouping_fits (Some begun) other = tt
 
 -- What a frame makes of the block that has begun, by the test whether it may come.
 first_fits : (i : ℕ) (b : Bool) (step : FrameStep) → StepFits i step

@@ -1,5 +1,5 @@
 -- Of every log that comes about there is a machine that represents it and is bounded.
-use Rattle.std.proofs.Common.{◌≡◌, ◌+◌, ◌≤◌, false, None, ap, sym, ◌∙◌, arith, subst}
+use Rattle.std.proofs.Common.{◌≡◌, ◌+◌, ◌≤◌, true, None, ap, sym, ◌∙◌, arith, subst}
 use Rattle.std.proofs.lemmas.Bool.{both_ways}
 use Rattle.h2_wire.specs.Faults.{wire_fault_code}
 use Rattle.h2_frame.specs.declared.code.Code.TheVariants.{InternalError}
@@ -12,7 +12,7 @@ use Rattle.h2_log.specs.View.{View}
 use Rattle.h2_log.specs.declared.refusal.Refusal.{Refusal}
 use Rattle.h2_log.specs.declared.refusal.Refusal.TheVariants.{Memory}
 use Rattle.h2_log.specs.LogCalls.{MayAnswer, accepts, refuses, lacks, fails}
-use Rattle.h2_log.specs.CallRules.{refusal_of, answer_of, may_lack_memory}
+use Rattle.h2_log.specs.CallRules.{refusal_of, answer_of, may_fail_for_memory}
 use Rattle.h2_log.specs.Histories.{IsLog, begins, took_some, took_one, met_fault}
 use Rattle.h2_log.specs.Histories.{ran_out_of_memory, reported_one, called_one, TakesPart}
 use Rattle.h2_log.specs.Histories.{TakesFrame, TakesFault, MayRunOutOfMemory}
@@ -50,12 +50,13 @@ refused_bounded e act refusal bounded = bounded
 
 -- A call that isn't refused, and to which memory was refused so that the connection fails.
 failing_bounded : (values : Values) (e : End) (log : Log) (act : Act) → Represents values e log
-    → refusal_of (log_view log) act ≡ None → may_lack_memory act ≡ false → IsBounded e
+    → refusal_of (log_view log) act ≡ None → may_fail_for_memory (log_view log) act ≡ true
+    → IsBounded e
     → IsBounded (end_after e act OutOfMemory)
-unfolding end_after may_lack_memory
+unfolding end_after may_fail_for_memory
 failing_bounded values e log act s none fails_so bounded =
-    let log_up = up_since log act (λ count same. both_ways (may_lack_memory act) fails_so
-    (ap may_lack_memory same)) none in
+    let log_up = up_since log act (λ count same. both_ways _
+    (ap (may_fail_for_memory (log_view log)) same) fails_so) none in
     failed_bounded e InternalError e.streams.last_processed
     (is_up e (s.failed ∙ log_up) bounded)
 

@@ -19,9 +19,10 @@ use Rattle.h2_machine.specs.End.{End, OwnSettings, end_view, owed_entry}
 use Rattle.h2_machine.specs.Machine.{close_stream, fail, after_frame, after_call, new_end}
 use Rattle.h2_log_laws.proofs.ItemSizes.{size-goaway, size-opening}
 use Rattle.h2_machine_laws.specs.Bounds.{goaway_size, max_active, IsBounded}
-use Rattle.h2_machine_laws.proofs.EveryEnd.{returned_keeps, frame_keeps, call_keeps}
+use Rattle.h2_machine_laws.proofs.EveryCall.{call_keeps}
+use Rattle.h2_machine_laws.proofs.EveryEnd.{returned_keeps, frame_keeps}
 use Rattle.h2_machine_laws.proofs.EndInvariants.{IsEndInvariant, without_entry}
-use Rattle.h2_machine_laws.proofs.RulesAtEnds.{same_some}
+use Rattle.h2_log_laws.proofs.RulesByTests.{same_some}
 
 -- the bounds of own values, in force and to come
 abbrev pub OwnWithin : OwnSettings → Type 0
@@ -121,7 +122,7 @@ bounds_kept =
           (h.0, h.1, h.2, h.3, ((h.4.1 values awaited).max_streams, λ others is. absurd (cc)), h.5);
       awaits = λ e values range h.
           (h.0, h.1, h.2, h.3, (h.4.0, λ next. same_some AreInRange values next (range tt)), h.5);
-      left = λ e h. h;
+      goaway_sent = λ e h. h;
       beside = λ e ping received h. h;
     }
 

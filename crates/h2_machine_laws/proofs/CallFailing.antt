@@ -1,6 +1,6 @@
 -- A call that is refused, and one by which the connection fails, preserve that an end represents
 -- its log.
-use Rattle.std.proofs.Common.{◌≡◌, ℕ, ◌==◌, true, List, []}
+use Rattle.std.proofs.Common.{◌≡◌, ℕ, ◌==◌, true, []}
 use Rattle.std.proofs.Common.{◌∷◌, Option, Some, None, refl, sym, ap, subst, ◌∙◌}
 use Rattle.h2_frame.specs.declared.code.Code.{Code}
 use Rattle.h2_frame.specs.declared.code.Code.TheVariants.{InternalError}
@@ -9,7 +9,7 @@ use Rattle.h2_block.specs.Grouping.{alone}
 use Rattle.h2_machine.specs.End.{end_view, End}
 use Rattle.h2_log.specs.LogView.{log_view}
 use Rattle.h2_log.specs.View.{View}
-use Rattle.h2_log.specs.Acts.{Values, Act, Answer, IsTypedAct, Open, Release, Refuse, Done}
+use Rattle.h2_log.specs.Acts.{Values, Act, Answer, IsTypedAct, Open, Refuse, Done}
 use Rattle.h2_log.specs.Acts.{OutOfMemory, Refused}
 use Rattle.h2_log.specs.Log.{Log, active, last_processed, released}
 use Rattle.h2_frame.specs.Codes.{code_number}
@@ -22,7 +22,9 @@ use Rattle.h2_machine.specs.Machine.{queue_output, fail, after_refuse, after_cal
 use Rattle.h2_machine.specs.Represents.{Represents}
 use Rattle.h2_log.specs.declared.refusal.Refusal.{Refusal}
 use Rattle.h2_log_laws.proofs.InvariantCalls.{released_refused, no_fault}
-use Rattle.h2_log_laws.proofs.CallConditions.{first_none, and_other}
+use Rattle.h2_log_laws.proofs.InvariantCalls.{released_out_of_memory}
+use Rattle.h2_log_laws.proofs.CallConditions.{and_other}
+use Rattle.h2_log_laws.proofs.CallConditions.{none_holds}
 use Rattle.h2_log_laws.proofs.LogViewLemmas.{stream_is_active}
 use Rattle.h2_machine_laws.proofs.CallReset.{reset_up}
 use Rattle.h2_machine_laws.proofs.GoAwaysSent.{active_processed}
@@ -44,7 +46,7 @@ called_failing values e log act answer code quiet represents up =
     (called_streams e.streams (core log) ((act, answer) ∷ log.calls) quiet represents.streams)
 
 -- An end whose connection fails by a call that releases nothing represents its log.
-pub fails_represent : (values : Values) (e : End) (log : Log) (act : Act) (answer : Answer)
+fails_represent : (values : Values) (e : End) (log : Log) (act : Act) (answer : Answer)
     (code : Code) → ((i : ℕ) → released i ((act, answer) ∷ log.calls) ≡ released i log.calls)
     → Represents values e log → e.failed ≡ None
     → IsLog e.role values (with_failure code (last_processed log) (called log act answer))
@@ -99,13 +101,6 @@ refused_represents values e log act refusal represents typed may =
       used = represents.used;
     }
 
--- A call that is out of memory releases nothing.
-released_out_of_memory : (i : ℕ) (act : Act) (calls : List (Act × Answer))
-    → released i ((act, OutOfMemory) ∷ calls) ≡ released i calls
-unfolding released
-released_out_of_memory i (Release id count) calls = refl
-released_out_of_memory i act calls = refl
-
 -- An end that is out of memory represents its log.
 pub out_of_memory_represents : (values : Values) (e : End) (log : Log) (act : Act)
     → Represents values e log → IsTypedAct act → MayAnswer log act OutOfMemory
@@ -131,10 +126,9 @@ refused_active : (log : Log) (id code : ℕ) → refusal_of (log_view log) (Refu
     → refuse_fault (log_view log) code ≡ None → active log id ≡ true
 unfolding conditions refuse_fault
 refused_active log id code none is =
-    let c1 = first_none _ _ _ none in
-    let c2 = first_none _ _ _ c1.1 in
+    let holds = none_holds _ none in
     let other = no_fault (code == code_number InternalError) _ is in
-    stream_is_active log id (and_other (code == code_number InternalError) _ c2.0 other)
+    stream_is_active log id (and_other (code == code_number InternalError) _ holds.1.0 other)
 
 -- A stream is refused, by what that makes of the connection.
 refuse_by : (values : Values) (e : End) (log : Log) (id code : ℕ) (x : Option Code)

@@ -1,5 +1,5 @@
 -- After each call an end represents its log.
-use Rattle.std.proofs.Common.{◌≡◌, ℕ, ◌%◌, ◌≤◌, ◌<◌, Bool, true, false, if◌then◌else◌, List, None}
+use Rattle.std.proofs.Common.{◌≡◌, ℕ, ◌%◌, ◌≤◌, ◌<◌, Bool, true, if◌then◌else◌, List, None}
 use Rattle.std.proofs.Common.{refl, sym, ap, subst, ◌∙◌}
 use Rattle.hpack.specs.declared.types.field.Field.{Field}
 use Rattle.std.proofs.lemmas.Bool.{both_ways, or_parts}
@@ -11,7 +11,7 @@ use Rattle.h2_log.specs.Acts.{ResetStream, Refuse, SendPing, SendGoAway, PutOut,
 use Rattle.h2_log.specs.Acts.{Number, OutOfMemory, Refused}
 use Rattle.h2_log.specs.Settings.{is_server, settings_count}
 use Rattle.h2_log.specs.Log.{Log, acked, active, last_processed, next_number, max_payload_sent}
-use Rattle.h2_log.specs.CallRules.{conditions, refusal_of, answer_of, may_lack_memory}
+use Rattle.h2_log.specs.CallRules.{conditions, refusal_of, answer_of, may_fail_for_memory}
 use Rattle.h2_log.specs.LogCalls.{MayAnswer, accepts, refuses, lacks, fails, with_call}
 use Rattle.h2_machine.specs.End.{End}
 use Rattle.h2_machine.specs.Machine.{after_call}
@@ -25,7 +25,8 @@ use Rattle.h2_log_laws.proofs.InvariantLogs.{log_represents}
 use Rattle.h2_log_laws.proofs.StreamNumbers.{next_odd}
 use Rattle.h2_log_laws.proofs.AllowedHistories.{wrote_settings}
 use Rattle.h2_log_laws.proofs.InvariantSends.{client_since}
-use Rattle.h2_log_laws.proofs.CallConditions.{first_none, none_since}
+use Rattle.h2_log_laws.proofs.CallConditions.{first_none, none_holds}
+use Rattle.hpack.proofs.Tests.{none_since}
 use Rattle.h2_log_laws.proofs.LogViewLemmas.{stream_is_active, open_out}
 use Rattle.h2_machine_laws.proofs.CallFailing.{refused_represents, out_of_memory_represents}
 use Rattle.h2_machine_laws.proofs.CallFailing.{refuse_represents}
@@ -85,31 +86,23 @@ call_up : (values : Values) (e : End) (log : Log) (act : Act) → Represents val
     → Up (after_call e act) (with_call log act (answer_of (log_view log) act))
 unfolding conditions
 call_up values e log (Open fields end) represents none sound no_put no_refuse up =
-    let c1 = first_none _ _ _ none in
-    let c2 = first_none _ _ _ c1.1 in
-    let c3 = first_none _ _ _ c2.1 in
-    let server = or_parts (is_server log.role) _ c3.0 in
+    let holds = none_holds _ none in
+    let server = or_parts (is_server log.role) _ holds.1.1.0 in
     opened_up values e log fields end represents (client_since log.role server.0) sound up
 call_up values e log (SendFields id fields end) represents none sound no_put no_refuse up =
-    let c1 = first_none _ _ _ none in
-    let c2 = first_none _ _ _ c1.1 in
-    let c3 = first_none _ _ _ c2.1 in
-    let active = stream_is_active log id c2.0 in
-    fields_up e log id fields end active (open_out log id active c3.0) up
+    let holds = none_holds _ none in
+    let active = stream_is_active log id holds.1.0 in
+    fields_up e log id fields end active (open_out log id active holds.1.1.0) up
 call_up values e log (SendData id octets end) represents none sound no_put no_refuse up =
-    let c1 = first_none _ _ _ none in
-    let c2 = first_none _ _ _ c1.1 in
-    let c3 = first_none _ _ _ c2.1 in
-    let active = stream_is_active log id c2.0 in
-    data_up e log id octets end active (open_out log id active c3.0) sound.size up
+    let holds = none_holds _ none in
+    let active = stream_is_active log id holds.1.0 in
+    data_up e log id octets end active (open_out log id active holds.1.1.0) sound.size up
 call_up values e log (Release id count) represents none sound no_put no_refuse up =
-    let c1 = first_none _ _ _ none in
-    let c2 = first_none _ _ _ c1.1 in
-    release_up e log id count (stream_is_active log id c2.0) up
+    let holds = none_holds _ none in
+    release_up e log id count (stream_is_active log id holds.1.0) up
 call_up values e log (ResetStream id code) represents none sound no_put no_refuse up =
-    let c1 = first_none _ _ _ none in
-    let c2 = first_none _ _ _ c1.1 in
-    reset_call_up e log id code (stream_is_active log id c2.0) up
+    let holds = none_holds _ none in
+    reset_call_up e log id code (stream_is_active log id holds.1.0) up
 call_up values e log (Refuse id code) represents none sound no_put no_refuse up =
     absurd (no_refuse id code refl)
 call_up values e log (SendPing octets) represents none sound no_put no_refuse up =
@@ -172,12 +165,12 @@ refused_law values e log act refusal represents typed may = refused_represents v
 failing_law : (values : Values) (e : End) (log : Log) (act : Act) → Represents values e log
     → IsTypedAct act
     → MayAnswer log act OutOfMemory → refusal_of (log_view log) act ≡ None
-    → may_lack_memory act ≡ false
+    → may_fail_for_memory (log_view log) act ≡ true
     → Represents values (end_after e act OutOfMemory) (with_call log act OutOfMemory)
-unfolding end_after may_lack_memory
+unfolding end_after may_fail_for_memory
 failing_law values e log act represents typed may none fails_so =
-    let log_up = up_since log act (λ count same. both_ways (may_lack_memory act) fails_so
-    (ap may_lack_memory same)) none in
+    let log_up = up_since log act (λ count same. both_ways _
+    (ap (may_fail_for_memory (log_view log)) same) fails_so) none in
     out_of_memory_represents values e log act represents typed may (represents.failed ∙ log_up)
 
 -- After each call an end represents its log, if that is sound.

@@ -15,7 +15,7 @@ use Rattle.h2_log.specs.Items.{data_on, increment_on, is_block_on, ends, resets,
 use Rattle.h2_log.specs.Items.{greatest_block}
 use Rattle.h2_log.specs.Events.{reports_unprocessed, Event}
 use Rattle.h2_log.specs.Settings.{own_value, value_read}
-use Rattle.h2_log.specs.States.{openings, is_above, count_below}
+use Rattle.h2_log.specs.States.{openings, count_below}
 use Rattle.h2_log.specs.Windows.{first_window, given_on, granted_on, window}
 use Rattle.h2_log.specs.Log.{Log, unreleased, released}
 use Rattle.h2_log.specs.LogView.{log_view}
@@ -39,6 +39,7 @@ use Rattle.h2_machine_laws.proofs.SentQuietItems.{goaways_sent, ping_sent}
 use Rattle.h2_machine_laws.proofs.StreamsSame.{count_apart, SameAt, same_stream, said_set}
 use Rattle.h2_machine_laws.proofs.ViewsAgree.{view_beside}
 use Rattle.h2_log_laws.proofs.StreamNumbers.{block_below}
+use Rattle.h2_log_laws.proofs.LogViewLemmas.{client_above}
 
 -- Nothing was read, written or reported of a number, and nothing is kept back of it.
 pub record IsClearBy (received sent : List Item) (reported : List Event) (kept i : ℕ) : Type 0 where
@@ -64,12 +65,6 @@ block_here : (role : Role) (i : ℕ) (end : Bool) (octets : List ℕ) (received 
 unfolding is_block_on
 block_here Client i end octets received sent is = rw (eq-eqb i i refl) refl
 block_here Server i end octets received sent is = cc
-
--- a client is above no own GOAWAY
-above_none : (role : Role) (i : ℕ) (sent : List Item) → role ≡ Client → is_above role i sent ≡ false
-unfolding is_above
-above_none Client i sent is = refl
-above_none Server i sent is = cc
 
 -- the greatest number at a client
 greatest_client : (role : Role) (received sent : List Item) → role ≡ Client
@@ -113,7 +108,7 @@ active_new c i end octets client odd clear =
     active_from c.role i c.received (block i end octets ∷ c.sent) c.reported (record {
       odd = eq-eqb (i % 2) 1 odd;
       opened = block_here c.role i end octets c.received c.sent client;
-      below = above_none c.role i (block i end octets ∷ c.sent) client;
+      below = client_above c.role i (block i end octets ∷ c.sent) client;
       lasts = lasts_from i c.received (block i end octets ∷ c.sent) (record {
         ended = and_left (list_any (ends i) c.received) _ clear.ended_in;
         unreset = clear.reset_in;

@@ -23,12 +23,12 @@ use Rattle.h2_machine.specs.End.{End, Entry, StreamMap, active_entry}
 use Rattle.h2_log.specs.View.{StreamView, View, ended_in}
 use Rattle.h2_machine.specs.Machine.{queue_output, after_release, after_call}
 use Rattle.h2_log.specs.Events.{Event}
-use Rattle.h2_log_laws.proofs.ReleasedCredit.{gives_here, released_here, updates}
+use Rattle.h2_log_laws.proofs.ReleasedCredit.{released_here, updates}
 use Rattle.h2_machine_laws.proofs.LogCore.{Core, core, CoreFacts, core_facts, Advances, confirmed}
 use Rattle.h2_machine_laws.proofs.LogCore.{active_by_items, said, kept_back}
 use Rattle.h2_machine_laws.proofs.OneItemMore.{total_quiet, own_quiet}
 use Rattle.h2_machine_laws.proofs.OwedAtClose.{owes_active}
-use Rattle.h2_machine_laws.proofs.OwedSums.{get_set}
+use Rattle.h2_machine.proofs.SetEntries.{get_set}
 use Rattle.h2_machine_laws.proofs.RepresentedSteps.{Up, views_of_up, wrote_up, nothing_unreturned}
 use Rattle.h2_machine_laws.proofs.RepresentedSteps.{wrote_active}
 use Rattle.h2_machine_laws.proofs.SentConnectionItems.{update_other, widened_advances, computing}
@@ -38,6 +38,7 @@ use Rattle.h2_machine_laws.proofs.SentQuietItems.{quiet_sent}
 use Rattle.h2_machine_laws.proofs.StreamsSame.{same_stream, streams_set, active_some}
 use Rattle.h2_log_laws.proofs.ItemLists.{total_one}
 use Rattle.h2_log_laws.proofs.LogViewLemmas.{stream_there}
+use Rattle.h2_log_laws.proofs.AllowedHistories.{increment_here}
 
 -- A number of a stream that is set twice, at each number.
 twice_at : (v w x : Option Entry) (b : Bool)
@@ -119,7 +120,7 @@ granted_said c id count =
     (ap (window (given_on id c.received)) (sym (total_quiet (data_on id) item c.sent refl)))
     (let more : total (increment_on id) (item ∷ c.sent) ≡ count + total (increment_on id) c.sent =
     total_one (increment_on id) item c.sent
-    ∙ ap (λ (n : ℕ). n + total (increment_on id) c.sent) (gives_here id count) in
+    ∙ ap (λ (n : ℕ). n + total (increment_on id) c.sent) (increment_here id count) in
     let own = own_quiet 4 first_window (confirmed c) item c.sent refl in
     sym (ap (λ (n : ℕ). window n (total (data_on id) c.received)) (rw (own, more) refl)
     ∙ more_granted (own_value 4 first_window (confirmed c) c.sent)

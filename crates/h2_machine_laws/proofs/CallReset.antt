@@ -88,7 +88,7 @@ reset_advances h c id code count active_is one g =
     }
 
 -- What is owed where a number is active.
-pub entry_owes : (l r : Bool) (s : StreamView) → l ≡ true → owed_entry (entry_by l r s) ≡ s.owed
+entry_owes : (l r : Bool) (s : StreamView) → l ≡ true → owed_entry (entry_by l r s) ≡ s.owed
 entry_owes true r s is = refl
 entry_owes false r s is = cc
 

@@ -28,7 +28,7 @@ use Rattle.h2_log_laws.proofs.LogViewLemmas.{natural_by, stream_there}
 use Rattle.h2_machine_laws.proofs.CallSendItems.{adds_block, adds_all}
 use Rattle.h2_machine_laws.proofs.LogCore.{core, core_facts, Going}
 use Rattle.h2_machine_laws.proofs.OwedAtClose.{owes_active, owes_all}
-use Rattle.h2_machine_laws.proofs.OwedSums.{get_set_same}
+use Rattle.h2_machine.proofs.SetEntries.{get_set_same}
 use Rattle.h2_machine_laws.proofs.RepresentedSteps.{called_going, Up, views_of_up, queue_by}
 use Rattle.h2_machine_laws.proofs.RepresentedSteps.{wrote_up, called_up, with_unreturned_up}
 use Rattle.h2_machine_laws.proofs.RepresentedSteps.{nothing_unreturned, wrote_active, wrote_owes}

@@ -6,7 +6,6 @@ use Rattle.std.specs.List.{list_any}
 use Rattle.std.proofs.lemmas.List.{length-take-le}
 use Rattle.std.proofs.lemmas.Bool.{eqb-true, ne_eqb, eq-eqb, leb-false}
 use Rattle.h2_frame.specs.Frames.{Data}
-use Rattle.h2_frame.specs.Encoding.{payload_of}
 use Rattle.h2_block.specs.Grouping.{Item, alone, block}
 use Rattle.h2_log.specs.declared.role.Role.{Role}
 use Rattle.h2_log.specs.declared.role.Role.TheVariants.{Client, Server}
@@ -20,6 +19,8 @@ use Rattle.h2_machine_laws.proofs.SentConnectionItems.{computing}
 use Rattle.h2_machine_laws.proofs.SentQuietItems.{above_quiet}
 use Rattle.h2_machine_laws.proofs.SentStreamItems.{Adds}
 use Rattle.h2_log_laws.proofs.ItemLists.{total_one}
+use Rattle.h2_log_laws.proofs.DataOfCalls.{takes_on}
+use Rattle.h2_log_laws.proofs.DataOfCalls.{takes_of}
 
 -- A test that passes only where another does adds nothing to it.
 or_within : (a b : Bool) → (a ≡ true → b ≡ true) → (a || b) ≡ b
@@ -122,18 +123,6 @@ adds_none role received id sent goes =
       reset_count = refl;
     }
 
--- DATA consumes as much of its stream's window as it has octets.
-data_takes : (id : ℕ) (end : Bool) (octets : List ℕ)
-    → data_on id (alone (Data id end octets None)) ≡ length octets
-unfolding data_on payload_of
-data_takes id end octets = rw (eq-eqb id id refl) refl
-
--- And of the connection's.
-data_takes_all : (id : ℕ) (end : Bool) (octets : List ℕ)
-    → data_of (alone (Data id end octets None)) ≡ length octets
-unfolding data_of payload_of
-data_takes_all id end octets = refl
-
 -- One DATA more is written.
 adds_data : (role : Role) (received : List Item) (id : ℕ) (end : Bool) (octets : List ℕ)
     (sent mid : List Item) (k : ℕ) → Adds role received id sent mid k false
@@ -154,13 +143,13 @@ adds_data role received id end octets sent mid k a =
       data_here = omega (
         arith,
         total_one (data_on id) item mid,
-        data_takes id end octets,
+        takes_on id end octets,
         a.data_here,
       );
       data_all = omega (
         arith,
         total_one data_of item mid,
-        data_takes_all id end octets,
+        takes_of id end octets,
         a.data_all,
       );
       increments = λ i. total_quiet (increment_on i) item mid refl ∙ a.increments i;
@@ -198,7 +187,7 @@ frames_by role received id most end octets sent mid after k false test a followi
     (after ++ alone (Data id false (take most octets) None) ∷ mid) n end) sum all)
 
 -- The DATA of octets are written.
-pub adds_frames : (count : ℕ) (role : Role) (received : List Item) (id most : ℕ) (end : Bool)
+adds_frames : (count : ℕ) (role : Role) (received : List Item) (id most : ℕ) (end : Bool)
     (octets : List ℕ) (sent mid : List Item) (k : ℕ)
     → length octets < count → 1 ≤ most → Adds role received id sent mid k false
     → Adds role received id sent (data_frames count most id octets end ++ mid) (length octets + k)

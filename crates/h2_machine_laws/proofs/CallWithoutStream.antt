@@ -1,5 +1,5 @@
 -- The calls that concern no stream preserve that an end represents its log.
-use Rattle.std.proofs.Common.{◌≡◌, ℕ, ◌+◌, ◌-◌, ◌≤◌, min, Bool, true, false, if◌then◌else◌, List}
+use Rattle.std.proofs.Common.{◌≡◌, ℕ, ◌+◌, ◌-◌, ◌≤◌, min, true, false, if◌then◌else◌, List}
 use Rattle.std.proofs.Common.{[], ◌∷◌, length, drop, Option, Some, None, refl, sym, ap, subst, ◌∙◌}
 use Rattle.std.proofs.Common.{arith, length-append}
 use Rattle.std.proofs.lemmas.List.{drop-drop, drop_min, length-drop}
@@ -16,7 +16,7 @@ use Rattle.h2_log.specs.Settings.{is_server, settings_count}
 use Rattle.h2_log.specs.Log.{Log, acked, active, last_processed, waiting, output, released}
 use Rattle.h2_log.specs.Log.{max_payload_sent}
 use Rattle.h2_log.proofs.SentPayloads.{most_is_limit}
-use Rattle.h2_log.specs.LogSteps.{with_sent, with_credit_returned}
+use Rattle.h2_log.specs.LogSteps.{with_sent}
 use Rattle.h2_log.specs.LogCalls.{called, before_put_out, MayAnswer, with_items, with_call}
 use Rattle.h2_log.specs.CallRules.{first_of, items_of, answer_of, stream_of_act, encoder_after_call}
 use Rattle.h2_log.specs.CallRules.{changed_pairs, conditions, refusal_of, update_size}
@@ -33,6 +33,7 @@ use Rattle.h2_machine_laws.proofs.SentConnectionItems.{ping_advances, goaway_adv
 use Rattle.h2_machine_laws.proofs.SentConnectionItems.{settings_advance}
 use Rattle.h2_machine_laws.proofs.SentQuietItems.{called_streams}
 use Rattle.h2_machine_laws.proofs.WaitingOutput.{OutputOf}
+use Rattle.h2_log_laws.proofs.CreditCases.{both_by, put_out_cases}
 use Rattle.h2_log_laws.proofs.ItemSizes.{size-update}
 
 -- A PING is sent.
@@ -111,31 +112,19 @@ put_out_waits e log count n is w =
       given = omega arith;
     }
 
--- Making ready puts nothing out, by the test.
-ready_given_by : (log : Log) (b : Bool) → (if b then with_credit_returned log else log).given
-    ≡ log.given
-unfolding with_sent
-ready_given_by log true = refl
-ready_given_by log false = refl
-
 -- Making ready puts nothing out.
 pub ready_given : (log : Log) → (before_put_out log).given ≡ log.given
-unfolding before_put_out
-ready_given log = ready_given_by log _
-
--- As much waits once a call is recorded, by the test.
-ready_waits_by : (log : Log) (act : Act) (answer : Answer) (b : Bool)
-    → waiting (if b then with_credit_returned (called log act answer) else called log act answer)
-    ≡ waiting (if b then with_credit_returned log else log)
-unfolding waiting output with_sent
-ready_waits_by log act answer true = refl
-ready_waits_by log act answer false = refl
+unfolding with_sent
+ready_given log =
+    put_out_cases (λ ready. ready.given ≡ log.given) log (λ returns. refl) (λ keeps. refl)
 
 -- As much waits once a call is recorded.
 ready_waits : (log : Log) (act : Act) (answer : Answer)
     → waiting (before_put_out (called log act answer)) ≡ waiting (before_put_out log)
-unfolding before_put_out waiting output
-ready_waits log act answer = ready_waits_by log act answer _
+unfolding before_put_out waiting output with_sent
+ready_waits log act answer =
+    both_by (λ (one other : Log). waiting one ≡ waiting other)
+    (returns_before_put_out (log_view log)) refl refl
 
 -- An end that hasn't failed puts octets out.
 put_out_up : (e : End) (log : Log) (count n : ℕ) → n ≡ min count (waiting (before_put_out log))
@@ -166,24 +155,18 @@ put_out_up e log count n is up =
     })
     (record (before_put_out base) { given = k + n })) (ready_given base) all
 
--- As much waits after credit was returned, by the test.
-ready_size_by : (log : Log) (b : Bool) → log.given ≤ length log.written
-    → waiting (if b then with_credit_returned log else log) ≡ waiting log +
-    (if b then update_size else 0)
-unfolding waiting output with_sent
-ready_size_by log true given =
-    let update = alone (WindowUpdate 0 log.unreturned) ∷ [] in
-    let size : length (encoding_of_items (max_payload_sent log) update) ≡ 13 =
-    rw (most_is_limit log.received) (size-update 0 log.unreturned) in
-    omega (arith, length-append log.written (encoding_of_items (max_payload_sent log) update), size)
-ready_size_by log false given = omega arith
-
 -- As much waits once an end is ready as the rules say.
 ready_size : (log : Log) → log.given ≤ length log.written
     → waiting (before_put_out log) ≡ waiting log +
     (if returns_before_put_out (log_view log) then update_size else 0)
-unfolding before_put_out
-ready_size log given = ready_size_by log (returns_before_put_out (log_view log)) given
+unfolding before_put_out waiting output with_sent
+ready_size log given =
+    let update = alone (WindowUpdate 0 log.unreturned) ∷ [] in
+    let size : length (encoding_of_items (max_payload_sent log) update) ≡ 13 =
+    rw (most_is_limit log.received) (size-update 0 log.unreturned) in
+    let more = length-append log.written (encoding_of_items (max_payload_sent log) update) in
+    both_by (λ (ready : Log) (n : ℕ). waiting ready ≡ waiting log + n)
+    (returns_before_put_out (log_view log)) (omega (arith, more, size, given)) (omega arith)
 
 -- An end that has failed is ready.
 pub ready_failed_at : (e : End) (code : Code) → e.failed ≡ Some code → before_put_out_at e ≡ e
@@ -196,7 +179,7 @@ unfolding before_put_out
 ready_failed log code is = rw is refl
 
 -- A call that puts octets out is never refused.
-never_refused : (e : End) (count : ℕ) → refusal_of (end_view e) (PutOut count) ≡ None
+pub never_refused : (e : End) (count : ℕ) → refusal_of (end_view e) (PutOut count) ≡ None
 unfolding conditions first_of
 never_refused e count = refl
 

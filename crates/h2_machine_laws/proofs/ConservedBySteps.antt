@@ -16,10 +16,12 @@ use Rattle.h2_machine.specs.End.{stream_in, owed_entry, owed_total}
 use Rattle.h2_machine.specs.Machine.{close_stream, shifted_entry, recv_shifted_entry, each_entry}
 use Rattle.h2_machine.specs.Machine.{new_stream, after_frame, after_call, new_end}
 use Rattle.h2_machine_laws.specs.Bounds.{KeepsConnectionWindow}
-use Rattle.h2_machine_laws.proofs.EveryEnd.{returned_keeps, frame_keeps, call_keeps}
+use Rattle.h2_machine_laws.proofs.EveryCall.{call_keeps}
+use Rattle.h2_machine_laws.proofs.EveryEnd.{returned_keeps, frame_keeps}
 use Rattle.h2_machine_laws.proofs.EndInvariants.{IsEndInvariant}
 use Rattle.h2_machine_laws.proofs.OwedSums.{total-insert, total-remove, total-each, total-empty}
-use Rattle.h2_machine_laws.proofs.OwedSums.{get_set_other, get_removed_none, get_each_none}
+use Rattle.h2_machine_laws.proofs.OwedSums.{get_each_none}
+use Rattle.h2_machine.proofs.SetEntries.{get_set_other, get_removed_none}
 use Rattle.h2_machine_laws.proofs.RulesAtEnds.{active_used}
 
 -- The sum of a receive window, of what is owed on streams, and of what is unreturned, is the first
@@ -151,7 +153,7 @@ window_kept =
           (recv_shifted_entry e.own.in_force.initial_window values.initial_window)
           (λ x. (shifts_keep _ _ x).1) h;
       awaits = λ e values range h. h;
-      left = λ e h. h;
+      goaway_sent = λ e h. h;
       beside = λ e ping received h. h;
     }
 

@@ -20,9 +20,11 @@ use Rattle.h2_machine_laws.proofs.ConservedBySteps.{clear_after}
 use Rattle.h2_machine_laws.proofs.EntryCounts.{one_active, one_reset, count_in, count-insert}
 use Rattle.h2_machine_laws.proofs.EntryCounts.{count-remove, count-each, count-empty}
 use Rattle.h2_machine_laws.proofs.EntryCounts.{active_counted, reset_counted}
-use Rattle.h2_machine_laws.proofs.EveryEnd.{returned_keeps, frame_keeps, call_keeps}
+use Rattle.h2_machine_laws.proofs.EveryCall.{call_keeps}
+use Rattle.h2_machine_laws.proofs.EveryEnd.{returned_keeps, frame_keeps}
 use Rattle.h2_machine_laws.proofs.EndInvariants.{IsEndInvariant}
-use Rattle.h2_machine_laws.proofs.OwedSums.{get_removed_none, get_each_none}
+use Rattle.h2_machine_laws.proofs.OwedSums.{get_each_none}
+use Rattle.h2_machine.proofs.SetEntries.{get_removed_none}
 use Rattle.h2_machine_laws.proofs.RulesAtEnds.{active_used}
 
 -- So many entries are active, at most so many are of streams that were reset, and nothing is kept
@@ -149,7 +151,7 @@ counts_kept =
           (recv_shifted_entry e.own.in_force.initial_window values.initial_window)
           (λ x. (shifts_count _ _ x).1) h;
       awaits = λ e values range h. h;
-      left = λ e h. h;
+      goaway_sent = λ e h. h;
       beside = λ e ping received h. h;
     }
 

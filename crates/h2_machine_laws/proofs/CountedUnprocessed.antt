@@ -10,7 +10,7 @@ use Rattle.h2_machine.specs.Machine.{close_unprocessed, first_active, is_active_
 use Rattle.h2_machine.specs.Machine.{unprocessed_of_end}
 use Rattle.h2_machine_laws.specs.Ranges.{CountsEntries}
 use Rattle.h2_machine_laws.proofs.CountedBySteps.{counted, is_counted, counts_ended}
-use Rattle.h2_machine_laws.proofs.NextUnprocessed.{first_found}
+use Rattle.h2_machine.proofs.SortedEntries.{first_found}
 
 -- An active entry has a stream.
 stream_of_entry : (y : Option Entry) (x : Entry) → y ≡ Some x → is_active_entry x ≡ true
@@ -30,7 +30,7 @@ next_active Server m (Some last) some = absurd (some refl)
 next_active Client m (Some last) some =
     let n : ℕ = first_active last (map.entries m) in
     let f = first_found last (map.entries m) (map.entries_sorted m) some in
-    stream_of_entry (map.get m n) f.x (map.get-entries m n ∙ f.found) f.active_by_items
+    stream_of_entry (map.get m n) f.x (map.get-entries m n ∙ f.found) f.active
 
 -- The next stream that is reported as unprocessed is over.
 pub unprocessed_counts : (e : End) (i : ℕ)

@@ -9,8 +9,10 @@ use Rattle.std.specs.FinMap.Entries.{below_all, by_order}
 use Rattle.h2_machine.specs.End.{Entry, active_entry, reset_entry, StreamMap}
 use Rattle.h2_machine.specs.Machine.{each_entry}
 use Rattle.h2_machine_laws.specs.Ranges.{count_active, count_reset}
-use Rattle.h2_machine_laws.proofs.OwedSums.{first, second, not_found, get_removed_same}
-use Rattle.h2_machine_laws.proofs.OwedSums.{inserted_again, gone, changed, entries_changed}
+use Rattle.h2_machine.proofs.SortedEntries.{first, second, not_found}
+use Rattle.h2_machine.proofs.SetEntries.{get_removed_same}
+use Rattle.h2_machine_laws.proofs.OwedSums.{inserted_again, gone}
+use Rattle.h2_machine.proofs.ChangedEntries.{changed, entries_changed}
 
 -- one for an active entry
 abbrev pub one_active : Option Entry → ℕ

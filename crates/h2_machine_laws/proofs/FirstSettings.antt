@@ -15,7 +15,7 @@ use Rattle.h2_log.specs.Events.{Event, UnprocessedEvent}
 use Rattle.h2_log.specs.Settings.{one_settings, settings_count}
 use Rattle.h2_log.specs.Log.{Log, next_unprocessed}
 use Rattle.h2_log.specs.LogView.{log_view}
-use Rattle.h2_log.specs.Verdicts.{Verdict, ConnectionFault, StreamFault, NoEvent, Reported}
+use Rattle.h2_log.specs.Verdicts.{Verdict, ConnectionFault}
 use Rattle.h2_log.specs.ItemRules.{Decoded, FrameStep, fails_with, begins_block, completes}
 use Rattle.h2_log.specs.ItemRules.{verdict_of, may_be_first, frame_step, grouping_step}
 use Rattle.h2_log.specs.ItemRules.{grouped}
@@ -41,7 +41,7 @@ same_start : (old new : Log) → new.frames ≡ old.frames → new.received ≡ 
 same_start old new frames received s = rw (frames, received) s
 
 -- Events are no items that were read.
-reported_received : (log : Log) (events : List Event)
+pub reported_received : (log : Log) (events : List Event)
     → (with_reported log events).received ≡ log.received
 unfolding with_reported
 reported_received log [] = refl
@@ -65,9 +65,7 @@ verdict_received : (log : Log) (decoded : Option Decoded) (item : Item) (v : Ver
 unfolding with_verdict
 verdict_received log decoded item (ConnectionFault code) up = let wrong : Some code ≡ None = up in
     cc
-verdict_received log decoded item (StreamFault code) up = read_received log decoded item _ _ _
-verdict_received log decoded item NoEvent up = read_received log decoded item _ _ _
-verdict_received log decoded item Reported up = read_received log decoded item _ _ _
+verdict_received log decoded item other up = read_received log decoded item _ _ _
 
 -- After an item that completes there are as many SETTINGS more as it counts.
 item_counts : (log : Log) (decoded : Option Decoded) (item : Item)
@@ -173,7 +171,7 @@ none_start log s =
     ∙ (grows_with_unreturned more log).received) s
 
 -- A log that hasn't failed has frames just where it has SETTINGS.
-pub starts_with_settings : (role : Role) (values : Values) (log : Log) → IsLog role values log
+starts_with_settings : (role : Role) (values : Values) (log : Log) → IsLog role values log
     → log.failed ≡ None → StartsWithSettings log
 starts_with_settings role values _ (begins in_range) up = begins_start role values
 starts_with_settings role values _ (took_some {log = log} is takes octets unparsed read) up =

@@ -114,7 +114,7 @@ unfolding max_payload_sent_by
 most_of received enough = omega arith
 
 -- Every log that hasn't failed is sound.
-pub sound_of : (role : Role) (values : Values) (log : Log) → IsLog role values log
+sound_of : (role : Role) (values : Values) (log : Log) → IsLog role values log
     → log.failed ≡ None → IsSound log
 sound_of role values log came up =
     let up_log = up_log_of role values log came up in

@@ -1,33 +1,32 @@
 -- At a server that hasn't failed no active stream is above the last one that was processed, whether
 -- a GOAWAY was sent or not. So the GOAWAY of a failure closes none.
-use Rattle.std.proofs.Common.{◌≡◌, ℕ, ◌+◌, ◌≤◌, ◌<◌, ◌||◌, nat_lt, Bool, true, false, if◌then◌else◌}
+use Rattle.std.proofs.Common.{◌≡◌, ℕ, ◌≤◌, ◌<◌, ◌||◌, nat_lt, Bool, true, false}
 use Rattle.std.proofs.Common.{List, [], ◌∷◌, ◌++◌, Some, None, refl, sym, ◌∙◌, arith}
 use Rattle.std.specs.List.{list_any}
 use Rattle.std.proofs.lemmas.Bool.{both_ways, or_left, or_right, lt-ltb, ltb-false, ltb-true}
 use Rattle.h2_frame.specs.declared.code.Code.TheVariants.{InternalError}
-use Rattle.h2_frame.specs.Frames.{Data, Settings, Ping, GoAway, WindowUpdate}
+use Rattle.h2_frame.specs.Frames.{GoAway}
 use Rattle.h2_block.specs.Grouping.{Item, alone}
 use Rattle.h2_log.specs.declared.role.Role.{Role}
 use Rattle.h2_log.specs.declared.role.Role.TheVariants.{Client, Server}
-use Rattle.h2_log.specs.Items.{is_goaway, is_goaway_below, total}
+use Rattle.h2_log.specs.Items.{is_goaway, is_goaway_below}
 use Rattle.h2_log.specs.Events.{greatest_processed}
-use Rattle.h2_log.specs.Acts.{Values, Act, SendData, Release, SendGoAway, PutOut, OutOfMemory}
+use Rattle.h2_log.specs.Acts.{Values, Act, SendGoAway, OutOfMemory}
 use Rattle.h2_log.specs.Settings.{is_server}
 use Rattle.h2_log.specs.States.{is_above}
 use Rattle.h2_log.specs.Log.{Log, active, last_processed}
 use Rattle.h2_log.specs.LogView.{log_view}
-use Rattle.h2_log.specs.Verdicts.{Verdict, ConnectionFault, StreamFault, NoEvent, Reported}
-use Rattle.h2_log.specs.ItemRules.{replies_to}
-use Rattle.h2_log.specs.View.{ended_in}
 use Rattle.h2_log.specs.CallRules.{items_of, answer_of}
 use Rattle.h2_log.specs.LogSteps.{read, with_sent}
 use Rattle.h2_log.specs.LogCalls.{opened, called, with_call}
 use Rattle.h2_log.specs.Histories.{IsLog}
 use Rattle.h2_log_laws.proofs.ReaderStates.{active_parts}
-use Rattle.h2_log_laws.proofs.DataOfCalls.{none_of_items}
-use Rattle.h2_log_laws.proofs.LogGrowth.{grows_wrote}
-use Rattle.h2_log_laws.proofs.LogInduction.{IsLogInvariant, kept_by_logs}
-use Rattle.h2_machine_laws.proofs.UpInvariant.{IsUpLog, processed_after}
+use Rattle.h2_log_laws.proofs.UpByLogs.{IsUpInvariant, up_by_logs}
+use Rattle.h2_log_laws.proofs.LogHistory.{processed_after}
+use Rattle.h2_log_laws.proofs.ReplyInvariant.{chosen_low}
+use Rattle.h2_log_laws.proofs.NoGoAways.{items_none}
+use Rattle.h2_log_laws.proofs.NoGoAways.{replies_none}
+use Rattle.h2_machine_laws.proofs.UpInvariant.{IsUpLog}
 use Rattle.h2_machine_laws.proofs.UpInvariantLogs.{up_log_of}
 
 -- Where one of the items is GOAWAY, one has a last stream no greater than this number.
@@ -66,52 +65,6 @@ low_wrote log [] none low = low
 low_wrote log (item ∷ items) none low =
     low_more (greatest_processed log.reported) (item ∷ items) log.sent none low
 
--- No reply is a GOAWAY.
-pub replies_none : (v : Verdict) (item : Item) → list_any is_goaway (replies_to v item) ≡ false
-unfolding replies_to is_goaway
-replies_none (ConnectionFault code) item = refl
-replies_none (StreamFault code) item = refl
-replies_none NoEvent (alone (Settings false pairs)) = refl
-replies_none NoEvent (alone (Ping false octets)) = refl
-replies_none NoEvent item = refl
-replies_none Reported item = refl
-
--- how many are GOAWAY, of one item
-pub one_goaway : Item → ℕ
-one_goaway item = if is_goaway item then 1 else 0
-
--- Where none is counted, none is one.
-pub none_counted : (items : List Item) → total one_goaway items ≡ 0
-    → list_any is_goaway items ≡ false
-unfolding total one_goaway
-none_counted [] none = refl
-none_counted (item ∷ items) none = by (is_goaway item) none (none_counted items)
-  where
-    by : (b : Bool) → (if b then 1 else 0) + total one_goaway items ≡ 0
-        → (total one_goaway items ≡ 0 → list_any is_goaway items ≡ false)
-        → (b || list_any is_goaway items) ≡ false
-    by true none all = absurd (omega (arith, none))
-    by false none all = all (omega (arith, none))
-
--- DATA is none.
-pub data_counted : (id : ℕ) (end : Bool) (octets : List ℕ)
-    → one_goaway (alone (Data id end octets None)) ≡ 0
-unfolding one_goaway is_goaway
-data_counted id end octets = refl
-
--- Nor are the updates of a release, by the test.
-pub release_none : (id count : ℕ) (ended : Bool)
-    → list_any is_goaway (alone (WindowUpdate 0 count) ∷
-    (if ended then [] else alone (WindowUpdate id count) ∷ [])) ≡ false
-unfolding is_goaway
-release_none id count true = refl
-release_none id count false = refl
-
--- The last stream that was processed is no greater than the greatest, by the role.
-pub last_low : (b : Bool) (n : ℕ) → (if b then n else 0) ≤ n
-last_low true n = omega arith
-last_low false n = omega arith
-
 -- The GOAWAY of a call has the last stream that was processed.
 low_goaway : (log : Log) (items : List Item) → last_processed log ≤ greatest_processed log.reported
     → HasLow (greatest_processed log.reported) (alone (GoAway (last_processed log) 0 []) ∷ items)
@@ -134,16 +87,9 @@ low_items : (log : Log) (act : Act) → IsLow log
     → HasLow (greatest_processed log.reported)
     (items_of (log_view log) act (answer_of (log_view log) act) ++ log.sent)
 unfolding items_of is_goaway last_processed
-low_items log (SendData id octets end) low =
-    low_none_of log (SendData id octets end) (none_counted _ (none_of_items one_goaway data_counted
-    (log_view log).max_payload id octets end _)) low
-low_items log (Release id count) low =
-    low_none_of log (Release id count)
-    (release_none id count (ended_in ((log_view log).stream id))) low
 low_items log SendGoAway low =
-    low_goaway log log.sent (last_low (is_server log.role) (greatest_processed log.reported))
-low_items log (PutOut count) low = low
-low_items log act low = low_none_of log act refl low
+    low_goaway log log.sent (chosen_low (is_server log.role) (greatest_processed log.reported))
+low_items log act low = low_none_of log act (items_none (log_view log) act (λ same. cc)) low
 
 -- Items are written that keep it.
 low_sent : (log : Log) (items : List Item)
@@ -162,40 +108,27 @@ low_opened : (role : Role) (values : Values) → IsLow (opened role values)
 unfolding opened with_sent is_goaway
 low_opened role values i above some = absurd (both_ways false refl some)
 
--- A log has this as long as it hasn't failed.
-abbrev IsLowUp : Log → Type 0
-IsLowUp log = log.failed ≡ None → IsLow log
-
--- Each change of a log keeps it.
-low_kept : (role : Role) (values : Values) → IsLogInvariant role values IsLowUp
+-- Each change of a log keeps it, as long as the connection is up.
+low_kept : (role : Role) (values : Values) → IsUpInvariant role values
+    (λ role received sent reported calls. HasLow (greatest_processed reported) sent)
 unfolding is_goaway
 low_kept role values =
     record {
-      opening = λ in_range up. low_opened role values;
-      used = λ log octets unparsed low. low;
-      framed = λ log frames low. low;
-      begun = λ log begun low. low;
-      replied = λ log decoded item verdict replies low up.
-          low_wrote (read log decoded item) _ (replies_none verdict item)
-          (low ((grows_wrote (read log decoded item) _).up up));
-      reported = λ log event events may low up.
-          low_up _ _ log.sent (processed_after (event ∷ events) log.reported) (low up);
-      unreturned = λ log count low. low;
-      returned = λ log returns low up.
-          low_wrote (record log { unreturned = 0 }) _ refl
-          (low ((grows_wrote (record log { unreturned = 0 }) _).up up));
-      failed = λ log code last names low up. let wrong : Some code ≡ None = up in cc;
-      sent = λ log act accepted low up.
-          let base = called log act (answer_of (log_view log) act) in
-          low_sent base _ (low_items log act (low ((grows_wrote base _).up up)));
+      opening = λ in_range. low_opened role values;
+      replied = λ log decoded item verdict replies.
+          low_wrote (read log decoded item) _ (replies_none verdict item);
+      reported = λ log event events may.
+          low_up _ _ log.sent (processed_after (event ∷ events) log.reported);
+      returned = λ log returns. low_more _ (_ ∷ []) log.sent refl;
+      sent = λ log act accepted low.
+          low_sent (called log act (answer_of (log_view log) act)) _ (low_items log act low);
       called = λ log act answer is_log none low. low;
-      given = λ log more low. low;
     }
 
 -- Where a log that hasn't failed has a GOAWAY, one has a last stream that was processed, or 0.
 low_of : (role : Role) (values : Values) (log : Log) → IsLog role values log → log.failed ≡ None
     → IsLow log
-low_of role values log is = kept_by_logs role values IsLowUp (low_kept role values) log is
+low_of role values = up_by_logs role values _ (low_kept role values)
 
 -- what is above an own GOAWAY, at a server
 above_server : (role : Role) (i : ℕ) (sent : List Item) → is_server role ≡ true
@@ -205,7 +138,7 @@ above_server Client i sent is = cc
 above_server Server i sent is = refl
 
 -- the greatest stream that a server processed
-processed_at_server : (log : Log) → is_server log.role ≡ true
+pub processed_at_server : (log : Log) → is_server log.role ≡ true
     → last_processed log ≡ greatest_processed log.reported
 unfolding last_processed
 processed_at_server log is = rw is refl

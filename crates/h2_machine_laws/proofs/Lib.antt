@@ -8,7 +8,7 @@ pub mod BoundsOfFrames
 pub mod BoundsOfSteps
 mod CallFailing
 mod CallLaw
-mod CallOpen
+pub mod CallOpen
 pub mod CallRefusals
 mod CallRelease
 mod CallReset
@@ -25,10 +25,10 @@ pub mod CountedUnprocessed
 mod EachStream
 mod EndInvariants
 mod EntryCounts
+mod EveryCall
 mod EveryEnd
 pub mod EveryStep
-mod EveryUpLog
-mod FirstSettings
+pub mod FirstSettings
 pub mod FreshNumbers
 pub mod GoAwaysSent
 mod ItemsApart
@@ -41,7 +41,7 @@ mod OneAwaited
 mod OneItemMore
 mod OwedAtClose
 pub mod OwedOnStreams
-mod OwedSums
+pub mod OwedSums
 mod QuietNumbers
 pub mod RangesOfCalls
 pub mod RangesOfFrames
@@ -53,7 +53,7 @@ mod RecvConnectionItems
 mod RecvData
 mod RecvEvents
 pub mod RecvFrames
-mod RecvItems
+pub mod RecvItems
 mod RecvOpenings
 mod RecvPong
 mod RecvRead
@@ -78,9 +78,9 @@ mod SentStreamItems
 mod SoundLogs
 mod StreamRanges
 mod StreamsSame
-mod TableRanges
+pub mod TableRanges
 mod UpInvariant
 mod UpInvariantLogs
-mod UpInvariantReads
+pub mod UpInvariantReads
 mod ViewsAgree
 pub mod WaitingOutput

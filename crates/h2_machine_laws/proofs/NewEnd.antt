@@ -39,7 +39,7 @@ unfolding data_on data_of increment_on is_block_on ends resets is_goaway one_pin
 computing = tt
 
 -- No stream is active where there is none.
-new_is_active : (role : Role) (values : Values) (i : ℕ) → active (opened role values) i ≡ false
+pub new_is_active : (role : Role) (values : Values) (i : ℕ) → active (opened role values) i ≡ false
 unfolding computing
 new_is_active Client values i =
     and_left _ _ (and_left _ _ (and_left _ _ (and_right (i % 2 == 1) _ refl)))

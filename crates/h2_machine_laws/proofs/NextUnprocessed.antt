@@ -1,14 +1,11 @@
 -- The next stream that is to be reported as unprocessed is the same at an end as at its log: the
 -- least active number above the last one. So is the next active stream.
-use Rattle.std.proofs.Common.{◌≡◌, ◌≢◌, ℕ, zero, suc, ◌≤◌, ◌<◌, Bool, true, false, nat_lt, ◌&&◌}
-use Rattle.std.proofs.Common.{cond, T, if◌then◌else◌, List, [], ◌∷◌, Some, None, Less, Equal}
-use Rattle.std.proofs.Common.{Greater, Ordering, refl, sym, ap, ◌∙◌, arith}
+use Rattle.std.proofs.Common.{◌≡◌, ℕ, Bool, true, false, nat_lt, ◌&&◌}
+use Rattle.std.proofs.Common.{if◌then◌else◌, Some, None}
+use Rattle.std.proofs.Common.{refl, sym, ap, ◌∙◌, arith}
 use Rattle.std.specs.List.{list_any}
 use Rattle.std.specs.FinMap as map
-use Rattle.std.specs.FinMap.Entries.{below_all}
-use Rattle.std.specs.Ordering.{nat_cmp, is_eq}
-use Rattle.std.specs.Cmp.{ranked}
-use Rattle.std.proofs.lemmas.Bool.{both_ways, and_parts, and_right, ltb-true, lt-ltb}
+use Rattle.std.proofs.lemmas.Bool.{both_ways, and_parts, and_right, ltb-true}
 use Rattle.std.proofs.lemmas.Bool.{le-ltb}
 use Rattle.h2_log.specs.Log.{least_goaway, Log, active, next_active, next_unprocessed}
 use Rattle.h2_log.specs.Acts.{Values}
@@ -20,94 +17,14 @@ use Rattle.h2_machine.specs.End.{End, Entry, active_entry, reset_entry, Streams}
 use Rattle.h2_log.specs.View.{StreamView}
 use Rattle.h2_machine.specs.Machine.{first_active, is_active_entry, unprocessed_of_end}
 use Rattle.h2_machine.specs.Represents.{Represents, entry_by}
+use Rattle.h2_machine.proofs.SortedEntries.{first_found, first_least, two_least}
 use Rattle.h2_log.specs.declared.role.Role.{Role}
 use Rattle.h2_log.specs.declared.role.Role.TheVariants.{Client, Server}
 use Rattle.h2_machine_laws.proofs.LogCore.{said, core, Going, going, StreamsOf}
-use Rattle.h2_machine_laws.proofs.OwedSums.{first, second, not_found}
 use Rattle.h2_machine_laws.proofs.RecvVerdict.{entry_said}
-use Rattle.h2_machine_laws.proofs.RecvVerdictLimits.{found_after, found_first}
 use Rattle.h2_log_laws.proofs.NextStreams.{next_passes, next_found}
 use Rattle.h2_log_laws.proofs.StreamNumbers.{client_low, last_none, least_none}
 use Rattle.h2_log_laws.proofs.InvariantLogs.{written_is_allowed}
-
--- A number that is found, is active, and is above another.
-pub record Found (above n : ℕ) (es : List (ℕ × Entry)) : Type 0 where
-  pub x : Entry
-  pub found : map.find nat_cmp n es ≡ Some x
-  pub active_by_items : is_active_entry x ≡ true
-  pub higher : nat_lt above n ≡ true
-
--- The first active number is found, by the test of the first entry.
-first_by : (above : ℕ) (e : ℕ × Entry) (es : List (ℕ × Entry)) (b : Bool)
-    → (is_active_entry e.1 && nat_lt above e.0) ≡ b → T (below_all nat_cmp e.0 es)
-    → (first_active above es ≢ 0 → Found above (first_active above es) es)
-    → (if b then e.0 else first_active above es) ≢ 0
-    → Found above (if b then e.0 else first_active above es) (e ∷ es)
-first_by above e es true is h after some =
-    let both = and_parts (is_active_entry e.1) (nat_lt above e.0) is in
-    record { x = e.1; found = found_first e es; active_by_items = both.0; higher = both.1 }
-first_by above e es false is h after some =
-    let unparsed = after some in
-    record {
-      x = unparsed.x;
-      found = found_after (first_active above es) e es unparsed.x h
-          unparsed.found;
-      active_by_items = unparsed.active_by_items;
-      higher = unparsed.higher;
-    }
-
--- The first active number is found.
-pub first_found : (above : ℕ) (es : List (ℕ × Entry)) → T (map.is_sorted nat_cmp es)
-    → first_active above es ≢ 0 → Found above (first_active above es) es
-unfolding first_active
-first_found above [] h some = absurd (some refl)
-first_found above (e ∷ es) h some =
-    first_by above e es (is_active_entry e.1 && nat_lt above e.0) refl
-    (first (below_all nat_cmp e.0 es) (map.is_sorted nat_cmp es) h)
-    (first_found above es (second (below_all nat_cmp e.0 es) (map.is_sorted nat_cmp es) h)) some
-
--- A number after the first entry: the first active one is there, or no greater.
-least_by : (above i : ℕ) (e : ℕ × Entry) (es : List (ℕ × Entry)) (b : Bool)
-    → (is_active_entry e.1 && nat_lt above e.0) ≡ b → e.0 < i
-    → (first_active above es ≢ 0) × (first_active above es ≤ i)
-    → ((if b then e.0 else first_active above es) ≢ 0) × ((if b then e.0 else first_active above es)
-    ≤ i)
-least_by above i e es true is below unparsed =
-    let higher : above < e.0 = ltb-true above e.0 (and_parts (is_active_entry e.1)
-    (nat_lt above e.0) is).1 in (omega arith, omega arith)
-least_by above i e es false is below unparsed = unparsed
-
--- An active number above another: the first active one is there and no greater, by how it compares
--- with the first entry.
-least_at : (above i : ℕ) (e : ℕ × Entry) (es : List (ℕ × Entry)) (x : Entry) (r : Ordering)
-    → nat_cmp i e.0 ≡ r → T (below_all nat_cmp e.0 es)
-    → (map.find nat_cmp i es ≡ Some x → (first_active above es ≢ 0) × (first_active above es ≤ i))
-    → cond (is_eq r) (Some e.1) (map.find nat_cmp i es) ≡ Some x → is_active_entry x ≡ true
-    → above < i
-    → ((if is_active_entry e.1 && nat_lt above e.0 then e.0 else first_active above es) ≢ 0)
-    × ((if is_active_entry e.1 && nat_lt above e.0 then e.0 else first_active above es) ≤ i)
-least_at above i e es x Less is h after found alive higher =
-    let none : map.find nat_cmp i es ≡ None = not_found i e.0 es is h in absurd (cc)
-least_at above i e es x Greater is h after found alive higher =
-    least_by above i e es (is_active_entry e.1 && nat_lt above e.0) refl (ranked i e.0 Greater
-    (sym is)) (after found)
-least_at above i e es x Equal is h after found alive higher =
-    let same : e.1 ≡ x = cc in
-    let at : i ≡ e.0 = map.nat_cmp-IsAntisymmetric i e.0 is in
-    let here : above < e.0 = omega (arith, at, higher) in
-    rw (same, alive, lt-ltb above e.0 here) (omega (arith, here), omega (arith, at))
-
--- An active number above another: the first active one is there and no greater.
-first_least : (above i : ℕ) (es : List (ℕ × Entry)) (x : Entry) → T (map.is_sorted nat_cmp es)
-    → map.find nat_cmp i es ≡ Some x → is_active_entry x ≡ true → above < i
-    → (first_active above es ≢ 0) × (first_active above es ≤ i)
-unfolding first_active
-first_least above i [] x h found alive higher = absurd (cc)
-first_least above i (e ∷ es) x h found alive higher =
-    least_at above i e es x (nat_cmp i e.0) refl (first (below_all nat_cmp e.0 es)
-    (map.is_sorted nat_cmp es) h)
-    (λ after. first_least above i es x (second (below_all nat_cmp e.0 es) (map.is_sorted nat_cmp es)
-    h) after alive higher) found alive higher
 
 -- what is kept and living is an active stream
 living_is_active : (active was : Bool) (s : StreamView) (x : Entry) → entry_by active was s ≡ Some x
@@ -116,17 +33,6 @@ living_is_active true was s x is alive = refl
 living_is_active false true s x is alive = let same : reset_entry ≡ x = cc in
     absurd (both_ways false refl (rw (← same) at alive))
 living_is_active false false s x is alive = absurd (cc)
-
--- Two numbers that are there just where the other is and no greater are the same.
-two_least : (m n : ℕ) → (m ≢ 0 → (n ≢ 0) × (n ≤ m)) → (n ≢ 0 → (m ≢ 0) × (m ≤ n)) → m ≡ n
-two_least zero zero one two = refl
-two_least (suc m) zero one two = absurd ((one (λ is. absurd (omega (arith, is)))).0 refl)
-two_least zero (suc n) one two = absurd ((two (λ is. absurd (omega (arith, is)))).0 refl)
-two_least (suc m) (suc n) one two = omega (
-  arith,
-  (one (λ is. absurd (omega (arith, is)))).1,
-  (two (λ is. absurd (omega (arith, is)))).1,
-)
 
 -- The first active number above another is the next active stream of the log.
 pub next_active_same : (streams : Streams) (log : Log) (id : ℕ) → StreamsOf streams (core log)
@@ -139,7 +45,7 @@ next_active_same streams log id are =
     some in
     let kept : map.get streams.entries n ≡ Some f.x = map.get-entries streams.entries n ∙ f.found in
     let alive : active log n ≡ true = living_is_active (active log n) (list_any (resets n) log.sent)
-    (said (core log) n) f.x (sym (are.entries n) ∙ kept) f.active_by_items in
+    (said (core log) n) f.x (sym (are.entries n) ∙ kept) f.active in
     next_found log id n alive (ltb-true id n f.higher))
     (λ some.
     let n : ℕ = next_active log id in

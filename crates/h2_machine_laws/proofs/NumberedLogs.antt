@@ -4,15 +4,15 @@ use Rattle.std.proofs.Common.{◌≡◌, ◌≢◌, ◌⊎◌, ℕ, ◌≤◌, �
 use Rattle.std.proofs.Common.{true, false, ◌&&◌, ◌||◌, List, [], ◌∷◌, ◌++◌, Option}
 use Rattle.std.proofs.Common.{Some, None, refl, sym, subst, ◌∙◌, inl, inr, arith}
 use Rattle.std.specs.List.{list_any}
-use Rattle.std.proofs.lemmas.Bool.{both_ways, or_cases, or_left, and_parts, and_from}
-use Rattle.std.proofs.lemmas.Bool.{eqb-true, eq-eqb, ne_eqb, cases_eq}
+use Rattle.std.proofs.lemmas.Bool.{both_ways, or_cases, and_parts}
+use Rattle.std.proofs.lemmas.Bool.{eqb-true, ne_eqb, cases_eq}
+use Rattle.std.proofs.lemmas.Bool.{or_parts}
 use Rattle.h2_frame.specs.declared.code.Code.{Code}
 use Rattle.h2_frame.specs.declared.code.Code.TheVariants.{ProtocolError}
-use Rattle.h2_frame.specs.Frames.{Data, Headers, Priority, Reset, Settings, Ping, GoAway}
-use Rattle.h2_frame.specs.Frames.{WindowUpdate, Continuation, Unknown}
+use Rattle.h2_frame.specs.Frames.{Data, Reset, GoAway}
+use Rattle.h2_frame.specs.Frames.{WindowUpdate}
 use Rattle.h2_block.specs.Grouping.{Item, alone, block}
 use Rattle.h2_log.specs.declared.role.Role.{Role}
-use Rattle.h2_log.specs.declared.role.Role.TheVariants.{Client, Server}
 use Rattle.h2_log.specs.Items.{data_on, increment_on, is_block_on, ends, resets, is_goaway, total}
 use Rattle.h2_log.specs.Items.{is_goaway_below, greatest_block}
 use Rattle.h2_log.specs.Events.{Event, flow_on, reported_total, greatest_processed}
@@ -28,15 +28,18 @@ use Rattle.h2_log.specs.ItemRules.{Decoded, verdict_by_rules, verdict_of_block}
 use Rattle.h2_log.specs.LogSteps.{read, with_sent, with_reported}
 use Rattle.h2_machine.specs.Represents.{goaway_sent_last}
 use Rattle.h2_log_laws.proofs.LogHistory.{reported_append}
-use Rattle.h2_log_laws.proofs.ReaderStates.{active_parts, state_idle, opens_here}
+use Rattle.h2_log_laws.proofs.LogHistory.{none_both}
+use Rattle.h2_log_laws.proofs.ReaderStates.{active_parts, state_idle}
 use Rattle.h2_machine_laws.proofs.LogCore.{core}
 use Rattle.h2_machine_laws.proofs.OneItemMore.{any_quiet}
 use Rattle.h2_log_laws.proofs.ItemLists.{total_one}
+use Rattle.h2_log_laws.proofs.ItemLists.{below_quiet}
+use Rattle.h2_log_laws.proofs.ReplyInvariant.{used_here}
+use Rattle.h2_log_laws.proofs.LogViewLemmas.{closed_used}
 use Rattle.h2_machine_laws.proofs.QuietNumbers.{AreOdd, unused_before}
-use Rattle.h2_machine_laws.proofs.RecvItems.{active_in, closed_used, used_odd}
+use Rattle.h2_machine_laws.proofs.RecvItems.{active_in, used_odd}
 use Rattle.h2_machine_laws.proofs.RecvVerdictCases.{block_is_reported, block_is_fault}
 use Rattle.h2_machine_laws.proofs.RecvVerdictCases.{block_is_ignored}
-use Rattle.h2_machine_laws.proofs.UpInvariant.{none_both}
 
 -- There is one GOAWAY at most, whose last stream is no greater than this number.
 pub record OneGoAway (n : ℕ) (sent : List Item) : Type 0 where
@@ -65,12 +68,6 @@ pub record Numbered (role : Role) (received sent : List Item) (reported : List E
 abbrev pub IsNumbered : Log → Type 0
 IsNumbered log = Numbered log.role log.received log.sent log.reported log.calls
 
--- An item that is no GOAWAY is none below a number.
-below_quiet : (i : ℕ) (item : Item) → is_goaway item ≡ false → is_goaway_below i item ≡ false
-unfolding is_goaway is_goaway_below
-below_quiet i (alone (GoAway last code debug)) none = absurd (both_ways true none refl)
-below_quiet i item none = refl
-
 -- It leaves the last stream of the newest one.
 last_quiet : (item : Item) (sent : List Item) → is_goaway item ≡ false
     → goaway_sent_last (item ∷ sent) ≡ goaway_sent_last sent
@@ -87,17 +84,12 @@ one_more n item sent none g =
       last = λ some. rw (last_quiet item sent none) (g.last (rw none at some));
     }
 
--- neither of two
-pub neither : (a b : Bool) → (a || b) ≡ false → (a ≡ false) × (b ≡ false)
-neither true b is = absurd (both_ways true is refl)
-neither false b is = (refl, is)
-
 -- Such items are sent.
 more_sent : (n : ℕ) (items sent : List Item) → list_any is_goaway items ≡ false → OneGoAway n sent
     → OneGoAway n (items ++ sent)
 more_sent n [] sent none g = g
 more_sent n (item ∷ items) sent none g =
-    let both = neither (is_goaway item) (list_any is_goaway items) none in
+    let both = or_parts (is_goaway item) (list_any is_goaway items) none in
     one_more n item (items ++ sent) both.0 (more_sent n items sent both.1 g)
 
 -- nothing more
@@ -226,16 +218,6 @@ read_odd log decoded (block i end octets) v is on odd j here =
       | inr before ↦ odd j before
     ]
 
--- a block uses its number at a server
-block_uses : (role : Role) (i : ℕ) (end : Bool) (octets : List ℕ) (received sent : List Item)
-    → (is_server role && i % 2 == 1) ≡ true
-    → is_used role i (block i end octets ∷ received) sent ≡ true
-unfolding is_used is_block_on
-block_uses Client i end octets received sent opens = absurd (both_ways false refl opens)
-block_uses Server i end octets received sent opens =
-    and_from _ _ opens (opens_here i (block i end octets ∷ received) opens
-    (or_left _ _ (eq-eqb i i refl)))
-
 -- What an item says of a number.
 abbrev SaysNothing : ℕ → Item → Type 0
 SaysNothing i item = (ends i item ≡ false) × (resets i item ≡ false) × (increment_on i item ≡ 0)
@@ -260,7 +242,7 @@ says_nothing log decoded (block stream end octets) v i is on some idle unused =
           elim (block_log_state log decoded stream v is on) [
             | inl wrong ↦ let both : Idle ≡ Active = sym idle_here ∙ wrong in cc
             | inr (inl wrong) ↦ let both : Idle ≡ ClosedByUs = sym idle_here ∙ wrong in cc
-            | inr (inr (again, opens)) ↦ absurd (both_ways _ here (block_uses log.role stream end
+            | inr (inr (again, opens)) ↦ absurd (both_ways _ here (used_here log.role stream end
                 octets log.received log.sent opens))
           ]
       | inr other ↦ (rw (ne_eqb stream i other) refl, refl, refl, refl)
@@ -273,10 +255,6 @@ says_nothing log decoded (alone (Data stream end octets pad)) v i is on some idl
           absurd (on ProtocolError (sym is ∙ rw idle_here refl))
       | inr other ↦ (rw (ne_eqb stream i other) refl, refl, refl, rw (ne_eqb stream i other) refl)
     ]
-says_nothing log decoded (alone (Headers stream end whole fragment pad priority)) v i is on some
-    idle unused = (refl, refl, refl, refl)
-says_nothing log decoded (alone (Priority stream octets)) v i is on some idle unused =
-    (refl, refl, refl, refl)
 says_nothing log decoded (alone (Reset stream code)) v i is on some idle unused =
     elim (cases_eq stream i) [
       | inl same ↦
@@ -285,12 +263,6 @@ says_nothing log decoded (alone (Reset stream code)) v i is on some idle unused 
           absurd (on ProtocolError (sym is ∙ rw idle_here refl))
       | inr other ↦ (refl, ne_eqb stream i other, refl, refl)
     ]
-says_nothing log decoded (alone (Settings ack pairs)) v i is on some idle unused =
-    (refl, refl, refl, refl)
-says_nothing log decoded (alone (Ping ack octets)) v i is on some idle unused =
-    (refl, refl, refl, refl)
-says_nothing log decoded (alone (GoAway last code debug)) v i is on some idle unused =
-    (refl, refl, refl, refl)
 says_nothing log decoded (alone (WindowUpdate stream increment)) v i is on some idle unused =
     elim (cases_eq stream i) [
       | inl same ↦
@@ -300,10 +272,7 @@ says_nothing log decoded (alone (WindowUpdate stream increment)) v i is on some 
           absurd (on ProtocolError (sym is ∙ rw (number, idle_here) refl))
       | inr other ↦ (refl, refl, rw (ne_eqb stream i other) refl, refl)
     ]
-says_nothing log decoded (alone (Continuation stream whole fragment)) v i is on some idle unused =
-    (refl, refl, refl, refl)
-says_nothing log decoded (alone (Unknown kind flags stream payload)) v i is on some idle unused =
-    (refl, refl, refl, refl)
+says_nothing log decoded (alone frame) v i is on some idle unused = (refl, refl, refl, refl)
 
 -- An item lessens no greatest number.
 greatest_read : (item : Item) (received : List Item)

@@ -1,6 +1,6 @@
 -- Every log that hasn't failed has one own GOAWAY at most, and so on: calls and frames keep it.
 use Rattle.std.proofs.Common.{◌≡◌, ◌≢◌, ℕ, ◌+◌, ◌-◌, ◌≤◌, ◌==◌, nat_lt, Bool, true, false}
-use Rattle.std.proofs.Common.{if◌then◌else◌, List, [], ◌∷◌, Option, Some, None, refl, ap, subst}
+use Rattle.std.proofs.Common.{if◌then◌else◌, List, [], ◌∷◌, Option, None, refl, ap, subst}
 use Rattle.std.proofs.Common.{◌∙◌, arith}
 use Rattle.std.specs.List.{list_any}
 use Rattle.std.proofs.lemmas.Bool.{both_ways, or_parts, ltb-false, eqb-true}
@@ -14,12 +14,12 @@ use Rattle.h2_log.specs.declared.role.Role.TheVariants.{Client, Server}
 use Rattle.h2_log.specs.Items.{is_goaway, is_goaway_below, greatest_block, stream_of_item, total}
 use Rattle.h2_log.specs.Events.{flow_on, reported_total, greatest_processed, processed_by}
 use Rattle.h2_log.specs.Events.{reports_unprocessed, Event}
-use Rattle.h2_log.specs.Acts.{Values, Act, Answer, SendData, Release, SendGoAway}
+use Rattle.h2_log.specs.Acts.{Values, Act, Release, SendGoAway}
 use Rattle.h2_log.specs.LogView.{log_view}
 use Rattle.h2_log.specs.Settings.{is_server}
 use Rattle.h2_log.specs.States.{Active}
 use Rattle.h2_log.specs.Log.{Log, state, last_processed, next_unprocessed, released, unreleased}
-use Rattle.h2_log.specs.View.{ended_in, owed_on}
+use Rattle.h2_log.specs.View.{owed_on}
 use Rattle.h2_log.specs.Verdicts.{Verdict, StreamFault, Reported}
 use Rattle.h2_log.specs.ItemRules.{Decoded, verdict_by_rules}
 use Rattle.h2_log.specs.ItemEffects.{events_of}
@@ -27,26 +27,26 @@ use Rattle.h2_log.specs.CallRules.{items_of, answer_of, refusal_of, conditions}
 use Rattle.h2_log.specs.LogSteps.{read, with_sent, with_reported}
 use Rattle.h2_log.specs.LogCalls.{opened, called}
 use Rattle.h2_log.specs.Histories.{IsLog}
-use Rattle.h2_log_laws.proofs.DataOfCalls.{none_of_items}
-use Rattle.h2_log_laws.proofs.InvariantCalls.{released_refused}
-use Rattle.h2_log_laws.proofs.CallConditions.{first_none}
-use Rattle.h2_log_laws.proofs.LogGrowth.{grows_wrote}
+use Rattle.h2_log_laws.proofs.InvariantCalls.{released_none}
+use Rattle.h2_log_laws.proofs.CallConditions.{none_holds}
 use Rattle.h2_log_laws.proofs.LogViewLemmas.{stream_is_active, owed_there}
-use Rattle.h2_log_laws.proofs.LogInduction.{IsLogInvariant, kept_by_logs, MayReport, of_item}
-use Rattle.h2_log_laws.proofs.LogInduction.{of_unprocessed, WritesNone, refused, no_memory}
-use Rattle.h2_log_laws.proofs.LogInduction.{fails_instead, puts_out}
-use Rattle.h2_machine_laws.proofs.GoAwaysSent.{one_goaway, none_counted, replies_none, data_counted}
-use Rattle.h2_machine_laws.proofs.GoAwaysSent.{release_none}
+use Rattle.h2_log_laws.proofs.LogViewLemmas.{events_unnamed}
+use Rattle.h2_log_laws.proofs.LogInduction.{MayReport, of_item}
+use Rattle.h2_log_laws.proofs.LogInduction.{of_unprocessed}
+use Rattle.h2_log_laws.proofs.ReplyInvariant.{chosen_low}
+use Rattle.h2_log_laws.proofs.NoGoAways.{items_none}
+use Rattle.h2_log_laws.proofs.NoGoAways.{replies_none}
+use Rattle.h2_log_laws.proofs.UpByLogs.{IsUpInvariant}
+use Rattle.h2_log_laws.proofs.UpByLogs.{up_by_logs}
 use Rattle.h2_machine_laws.proofs.LogCore.{core}
 use Rattle.h2_machine_laws.proofs.NumberedLogs.{IsNumbered, goaway_sent, sent_numbered}
 use Rattle.h2_machine_laws.proofs.NumberedLogs.{reported_numbered, read_numbered, EventsFit}
+use Rattle.h2_machine_laws.proofs.NumberedLogs.{Numbered}
 use Rattle.h2_machine_laws.proofs.QuietNumbers.{unused_before}
 use Rattle.h2_machine_laws.proofs.RecvItems.{active_in, active_low}
-use Rattle.h2_machine_laws.proofs.RecvStreamFaults.{test_low}
 use Rattle.h2_machine_laws.proofs.RecvVerdictCases.{data_is_fault, reset_is_fault, update_is_fault}
 use Rattle.h2_machine_laws.proofs.UpInvariant.{openings_server}
 use Rattle.h2_machine_laws.proofs.UpInvariantLogs.{rules_is}
-use Rattle.h2_machine_laws.proofs.UpInvariantReads.{events_unnamed}
 
 -- The number of an active stream is no greater than the greatest that was read, at a server.
 active_read_low : (log : Log) (i : ℕ) → is_server log.role ≡ true → state log i ≡ Active
@@ -81,7 +81,7 @@ events_low : (log : Log) (decoded : Option Decoded) (v : Verdict) (item : Item)
 unfolding events_of greatest_processed processed_by greatest_block
 events_low log decoded (StreamFault code) item is server =
     let low = fault_low log decoded item code is server in
-    let test = test_low (code_number code == 11) (stream_of_item item) in
+    let test = chosen_low (code_number code == 11) (stream_of_item item) in
     omega (arith, low, test)
 events_low log decoded Reported (alone (Data i end octets pad)) is server = omega arith
 events_low log decoded v item is server = omega arith
@@ -113,16 +113,13 @@ released_within : (log : Log) (id count : ℕ) → refusal_of (log_view log) (Re
     → count ≤ unreleased log id
 unfolding conditions
 released_within log id count none =
-    let c1 = first_none _ _ _ none in
-    let c2 = first_none _ _ _ c1.1 in
-    let c3 = first_none _ _ _ c2.1 in
-    let c4 = first_none _ _ _ c3.1 in
+    let holds = none_holds _ none in
     let stream = (log_view log).stream id in
-    let owing = or_parts (count == 0) (nat_lt (owed_on stream) count) c4.0 in
+    let owing = or_parts (count == 0) (nat_lt (owed_on stream) count) holds.1.1.1.0 in
     omega (
       arith,
       ltb-false (owed_on stream) count owing.1,
-      owed_there log id (stream_is_active log id c2.0),
+      owed_there log id (stream_is_active log id holds.1.0),
     )
 
 -- what was released with a release more, by the test whether it is of this stream
@@ -191,28 +188,13 @@ items_numbered : (log base : Log) (act : Act) → refusal_of (log_view log) act 
     → base.sent ≡ log.sent → base.received ≡ log.received → IsNumbered log → IsNumbered base
     → IsNumbered (with_sent base (items_of (log_view log) act (answer_of (log_view log) act)))
 unfolding items_of is_goaway last_processed conditions
-items_numbered log base (SendData id octets end) none sent received f g =
-    sent_numbered base _ (none_counted _ (none_of_items one_goaway data_counted
-    (log_view log).max_payload id octets end _)) g
-items_numbered log base (Release id count) none sent received f g =
-    sent_numbered base _ (release_none id count (ended_in ((log_view log).stream id))) g
 items_numbered log base SendGoAway none sent received f g =
-    let c1 = first_none _ _ _ none in
-    let c2 = first_none _ _ _ c1.1 in
-    goaway_numbered base (last_processed log) (ap (list_any is_goaway) sent ∙ c2.0)
+    let holds = none_holds _ none in
+    goaway_numbered base (last_processed log) (ap (list_any is_goaway) sent ∙ holds.1.0)
     (rw received (last_is_low log.role (greatest_processed log.reported)
     (greatest_block log.received) f.processed)) g
-items_numbered log base act none sent received f g = sent_numbered base _ refl g
-
--- A call that writes no items of its own releases nothing.
-none_released : (act : Act) (answer : Answer) (i : ℕ) (calls : List (Act × Answer))
-    → WritesNone act answer → released i ((act, answer) ∷ calls) ≡ released i calls
-unfolding released
-none_released _ _ i calls (refused act refusal) = released_refused i act refusal calls
-none_released _ _ i calls (no_memory (Release id count)) = refl
-none_released _ _ i calls (no_memory act) = refl
-none_released _ _ i calls (fails_instead id code) = refl
-none_released _ _ i calls (puts_out count given) = refl
+items_numbered log base act none sent received f g =
+    sent_numbered base _ (items_none (log_view log) act (λ same. cc)) g
 
 -- A new end's log has it.
 opened_numbered : (role : Role) (values : Values) → IsNumbered (opened role values)
@@ -233,52 +215,35 @@ opened_numbered role values =
       released = λ i. omega arith;
     }
 
--- A log has this as long as it hasn't failed.
-abbrev IsNumberedUp : Log → Type 0
-IsNumberedUp log = log.failed ≡ None → IsNumbered log
-
--- Each change of a log keeps it.
-keeps_numbered : (role : Role) (values : Values) → IsLogInvariant role values IsNumberedUp
-unfolding is_goaway with_reported
-keeps_numbered role values =
+-- Each change of a log keeps it, as long as the connection is up.
+numbered_kept : (role : Role) (values : Values) → IsUpInvariant role values Numbered
+unfolding is_goaway with_reported with_sent
+numbered_kept role values =
     record {
-      opening = λ in_range up. opened_numbered role values;
-      used = λ log octets unparsed f. f;
-      framed = λ log frames f. f;
-      begun = λ log begun f. f;
-      replied = λ log decoded item verdict replies f up.
+      opening = λ in_range. opened_numbered role values;
+      replied = λ log decoded item verdict replies f.
           sent_numbered (read log decoded item) _ (replies_none verdict item)
           (read_numbered log decoded item verdict
-          (rules_is log decoded item verdict replies.is replies.up) replies.up
-          (f ((grows_wrote (read log decoded item) _).up up)));
-      reported = λ log event events may f up.
-          reported_numbered log (event ∷ events) (events_fit role values log (event ∷ events) may)
-          (f up);
-      unreturned = λ log count f. f;
-      returned = λ log returns f up.
-          sent_numbered (record log { unreturned = 0 }) _ refl
-          (f ((grows_wrote (record log { unreturned = 0 }) _).up up));
-      failed = λ log code last names f up. let wrong : Some code ≡ None = up in cc;
-      sent = λ log act accepted f up.
-          let base = called log act (answer_of (log_view log) act) in
-          let g = f ((grows_wrote base _).up up) in
-          items_numbered log base act accepted.none refl refl g
-          (called_numbered log act accepted.none g);
-      called = λ log act answer is_log none f up.
-          let g = f up in
-          record {
-            goaways = g.goaways;
-            processed = g.processed;
-            odd = g.odd;
-            unnamed = g.unnamed;
-            unread = g.unread;
-            released = λ i. rw (none_released act answer i log.calls none) (g.released i);
-          };
-      given = λ log more f. f;
+          (rules_is log decoded item verdict replies.is replies.up) replies.up f);
+      reported = λ log event events may.
+          reported_numbered log (event ∷ events) (events_fit role values log (event ∷ events) may);
+      returned = λ log returns.
+          sent_numbered (record log { unreturned = 0 })
+          (alone (WindowUpdate 0 log.unreturned) ∷ []) refl;
+      sent = λ log act accepted f.
+          items_numbered log (called log act (answer_of (log_view log) act)) act accepted.none refl
+          refl f (called_numbered log act accepted.none f);
+      called = λ log act answer is_log none f. record {
+        goaways = f.goaways;
+        processed = f.processed;
+        odd = f.odd;
+        unnamed = f.unnamed;
+        unread = f.unread;
+        released = λ i. rw (released_none i act answer log.calls none) (f.released i);
+      };
     }
 
 -- Every log that hasn't failed has it.
 pub numbered_of : (role : Role) (values : Values) (log : Log) → IsLog role values log
     → log.failed ≡ None → IsNumbered log
-numbered_of role values log is =
-    kept_by_logs role values IsNumberedUp (keeps_numbered role values) log is
+numbered_of role values = up_by_logs role values Numbered (numbered_kept role values)

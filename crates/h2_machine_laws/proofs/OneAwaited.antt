@@ -12,14 +12,14 @@ use Rattle.h2_log.specs.Settings.{one_settings, settings_count}
 use Rattle.h2_log.specs.Log.{Log, acked, newest_ping, ping_waits}
 use Rattle.h2_log.specs.LogView.{log_view}
 use Rattle.h2_log.specs.View.{ended_in}
-use Rattle.h2_log.specs.Verdicts.{Verdict, ConnectionFault, StreamFault, NoEvent, Reported}
+use Rattle.h2_log.specs.Verdicts.{Verdict, NoEvent}
 use Rattle.h2_log.specs.ItemRules.{replies_to}
 use Rattle.h2_log.specs.CallRules.{conditions, refusal_of, items_of, answer_of, data_items}
 use Rattle.h2_log.specs.LogSteps.{read, with_sent}
 use Rattle.h2_log.specs.LogCalls.{opened, called}
 use Rattle.h2_log.specs.Histories.{IsLog}
 use Rattle.h2_log_laws.proofs.DataOfCalls.{none_of_items}
-use Rattle.h2_log_laws.proofs.CallConditions.{first_none}
+use Rattle.h2_log_laws.proofs.CallConditions.{none_holds}
 use Rattle.h2_log_laws.proofs.LogInduction.{IsLogInvariant, kept_by_logs}
 use Rattle.h2_log_laws.proofs.LogHistory.{reported_append, settings_append}
 use Rattle.h2_log_laws.proofs.WindowsOfTwoEnds.{total-append}
@@ -63,12 +63,9 @@ one_wrote log items none one = one_sent log items (one_more items log.sent log.r
 -- No reply awaits anything.
 replies_none : (v : Verdict) (item : Item) → AwaitNothing (replies_to v item)
 unfolding replies_to one_ping one_settings total settings_count
-replies_none (ConnectionFault code) item = record { pings = refl; settings = refl }
-replies_none (StreamFault code) item = record { pings = refl; settings = refl }
 replies_none NoEvent (alone (Settings false pairs)) = record { pings = refl; settings = refl }
 replies_none NoEvent (alone (Ping false octets)) = record { pings = refl; settings = refl }
-replies_none NoEvent item = record { pings = refl; settings = refl }
-replies_none Reported item = record { pings = refl; settings = refl }
+replies_none other item = record { pings = refl; settings = refl }
 
 -- SETTINGS are counted by a sum.
 settings_total : (items : List Item) → settings_count items ≡ total one_settings items
@@ -100,11 +97,9 @@ ping_one : (log : Log) (octets : List ℕ) → refusal_of (log_view log) (SendPi
     → LogAwaitsOne log → AwaitsOne (alone (Ping false octets) ∷ log.sent) log.reported
 unfolding conditions one_ping one_settings total settings_count
 ping_one log octets none one =
-    let c1 = first_none _ _ _ none in
-    let c2 = first_none _ _ _ c1.1 in
-    let c3 = first_none _ _ _ c2.1 in
+    let holds = none_holds _ none in
     let answered = ltb-false (reported_total one_pong log.reported) (total one_ping log.sent)
-    (sym (when_some (ping_waits log) (newest_ping log.sent)) ∙ c3.0) in
+    (sym (when_some (ping_waits log) (newest_ping log.sent)) ∙ holds.1.1.0) in
     record { pings = omega (arith, answered); settings = omega (arith, one.settings) }
 
 -- SETTINGS are sent where none await their acknowledgment.
@@ -113,10 +108,8 @@ settings_one : (log : Log) (values : Values) (pairs : List (ℕ × ℕ))
     → LogAwaitsOne log → AwaitsOne (alone (Settings false pairs) ∷ log.sent) log.reported
 unfolding conditions one_ping one_settings total settings_count
 settings_one log values pairs none one =
-    let c1 = first_none _ _ _ none in
-    let c2 = first_none _ _ _ c1.1 in
-    let c3 = first_none _ _ _ c2.1 in
-    let answered = ltb-false (acked log) (settings_count log.sent) c3.0 in
+    let holds = none_holds _ none in
+    let answered = ltb-false (acked log) (settings_count log.sent) holds.1.1.0 in
     record { pings = omega (arith, one.pings); settings = omega (arith, answered) }
 
 -- The items of a call that is accepted keep it where none awaits anything.

@@ -71,7 +71,7 @@ window_of_a_log values e log n represents up above =
     (represents.running up).windows.recv
 
 -- What is under way may be added in two steps.
-in_steps : (send_window : ℤ) (back others : ℕ)
+pub in_steps : (send_window : ℤ) (back others : ℕ)
     → send_window +ℤ pos (back + others) ≡ (send_window +ℤ pos back) +ℤ pos others
 in_steps send_window back others = omega (arith, ints)
 

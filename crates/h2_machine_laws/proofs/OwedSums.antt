@@ -1,44 +1,21 @@
 -- Sums over the streams that are kept: what an entry that is set, removed or changed makes of what
 -- is owed on all streams.
-use Rattle.std.proofs.Common.{zero, suc, ◌<◌, ◌≤◌, ap₂, length, ◌==◌, ◌≢◌, if◌then◌else◌, eq-eqb}
-use Rattle.std.proofs.Common.{ne_eqb, eqb-true, ◌≡◌, ℕ, ◌+◌, ◌&&◌, Bool, true, false, cond, T, List}
-use Rattle.std.proofs.Common.{[], ◌∷◌, map as each, Option, Some, None, Less, Equal, Greater}
-use Rattle.std.proofs.Common.{Ordering, refl, sym, ap, subst, ◌∙◌, arith}
-use Rattle.std.specs.Ordering.{nat_cmp, is_lt, is_eq}
-use Rattle.std.specs.Cmp.{nat_cmp_total, unsigned_tied}
+use Rattle.std.proofs.Common.{zero, suc, ◌<◌, ◌≤◌, length, ◌==◌, ◌≢◌, if◌then◌else◌}
+use Rattle.std.proofs.Common.{eqb-true, ◌≡◌, ℕ, ◌+◌, Bool, true, false, cond, T, List}
+use Rattle.std.proofs.Common.{[], ◌∷◌, Option, Some, None, Less, Equal, Greater}
+use Rattle.std.proofs.Common.{Ordering, refl, sym, ap, ◌∙◌, arith}
+use Rattle.std.specs.Ordering.{nat_cmp, is_eq}
+use Rattle.std.specs.Cmp.{nat_cmp_total}
 use Rattle.std.proofs.lemmas.Bool.{eqb-false}
 use Rattle.std.specs.FinMap as map
 use Rattle.std.specs.FinMap.Entries.{below_all, by_order}
 use Rattle.h2_log_laws.specs.Sums.{sum_below}
 use Rattle.h2_machine.specs.End.{Entry, StreamMap, owed_entry, owed_sum, owed_total}
 use Rattle.h2_machine.specs.Machine.{each_entry}
-
--- The first part of a test that holds, holds.
-pub first : (a b : Bool) → T (a && b) → T a
-first true b p = tt
-first false b p = p
-
--- So does the second.
-pub second : (a b : Bool) → T (a && b) → T b
-second true b p = p
-second false b p = absurd p
-
--- An order that is below is `Less`.
-pub less : (o : Ordering) → T (is_lt o) → o ≡ Less
-less Less p = refl
-less Equal p = absurd p
-less Greater p = absurd p
-
--- A key below one that is below all others is not found among these.
-pub not_found : (q x : ℕ) (es : List (ℕ × Entry)) → nat_cmp q x ≡ Less → T (below_all nat_cmp x es)
-    → map.find nat_cmp q es ≡ None
-not_found q x [] p h = refl
-not_found q x (e ∷ es) p h =
-    let below : nat_cmp q e.0 ≡ Less =
-    nat_cmp_total.trans q x e.0 p
-    (less (nat_cmp x e.0) (first (is_lt (nat_cmp x e.0)) (below_all nat_cmp x es) h)) in
-    ap (λ (r : Ordering). cond (is_eq r) (Some e.1) (map.find nat_cmp q es)) below
-    ∙ not_found q x es p (second (is_lt (nat_cmp x e.0)) (below_all nat_cmp x es) h)
+use Rattle.h2_machine.proofs.ChangedEntries.{changed, entries_changed}
+use Rattle.h2_machine.proofs.SetEntries.{get_set, get_removed, get_removed_same}
+use Rattle.h2_machine.proofs.SetEntries.{get_removed_other}
+use Rattle.h2_machine.proofs.SortedEntries.{first, second, not_found}
 
 -- the sum after an entry that is set, by how its key compares with the first
 sum_inserted_by : (k : ℕ) (v : Entry) (e : ℕ × Entry) (es : List (ℕ × Entry)) (r : Ordering)
@@ -74,58 +51,6 @@ total-insert m k v =
     map.entries-insert nat_cmp_total m k v in
     let found : map.get m k ≡ map.find nat_cmp k (map.entries m) = map.get-entries m k in
     rw (inserted, found) (sum_inserted k v (map.entries m) (map.entries_sorted m))
-
--- A number is itself.
-same_number : (k : ℕ) → (k == k) ≡ true
-same_number k = eq-eqb k k refl
-
--- A number isn't another.
-other_number : (q k : ℕ) → q ≢ k → (q == k) ≡ false
-other_number q k apart = ne_eqb q k apart
-
--- what is kept after an entry that is set
-pub get_set : (m : StreamMap) (k : ℕ) (v : Entry) (q : ℕ)
-    → map.get (map.insert m k v) q ≡ (if q == k then Some v else map.get m q)
-get_set m k v q =
-    map.get-insert nat_cmp_total m k v q
-    ∙ ap (λ (b : Bool). if b then Some v else map.get m q) (unsigned_tied q k)
-
--- what is kept after an entry that is removed
-pub get_removed : (m : StreamMap) (k q : ℕ)
-    → map.get (map.remove m k) q ≡ (if q == k then None else map.get m q)
-get_removed m k q =
-    map.get-remove nat_cmp_total m k q
-    ∙ ap (λ (b : Bool). if b then None else map.get m q) (unsigned_tied q k)
-
--- At the number itself, the entry is the one that was set.
-pub get_set_same : (m : StreamMap) (k : ℕ) (v : Entry) → map.get (map.insert m k v) k ≡ Some v
-get_set_same m k v =
-    get_set m k v k ∙ ap (λ (b : Bool). if b then Some v else map.get m k) (same_number k)
-
--- At another number the entry is what it was.
-pub get_set_other : (m : StreamMap) (k : ℕ) (v : Entry) (q : ℕ) → q ≢ k
-    → map.get (map.insert m k v) q ≡ map.get m q
-get_set_other m k v q apart =
-    get_set m k v q ∙ ap (λ (b : Bool). if b then Some v else map.get m q) (other_number q k apart)
-
--- At the number itself nothing is kept once it was removed.
-pub get_removed_same : (m : StreamMap) (k : ℕ) → map.get (map.remove m k) k ≡ None
-get_removed_same m k =
-    get_removed m k k ∙ ap (λ (b : Bool). if b then None else map.get m k) (same_number k)
-
--- At another number the entry is what it was.
-pub get_removed_other : (m : StreamMap) (k q : ℕ) → q ≢ k → map.get (map.remove m k) q ≡ map.get m q
-get_removed_other m k q apart =
-    get_removed m k q ∙ ap (λ (b : Bool). if b then None else map.get m q) (other_number q k apart)
-
--- Where nothing was kept, nothing is kept once a number was removed.
-pub get_removed_none : (m : StreamMap) (k q : ℕ) → map.get m q ≡ None
-    → map.get (map.remove m k) q ≡ None
-get_removed_none m k q none = get_removed m k q ∙ choice (q == k)
-  where
-    choice : (b : Bool) → (if b then None else map.get m q) ≡ None
-    choice true = refl
-    choice false = none
 
 -- An entry that is removed and inserted again, at each number.
 inserted_again_at : (m : StreamMap) (k : ℕ) (v : Entry) (q : ℕ) → map.get m k ≡ Some v → (b : Bool)
@@ -189,35 +114,10 @@ total-empty =
     (sym (map.len-entries map.empty) ∙ map.len-empty nat_cmp Entry)
 
 -- Nothing is owed where nothing is kept of any number.
-pub total_of_none : (m : StreamMap) → ((i : ℕ) → map.get m i ≡ None) → owed_total m ≡ 0
+total_of_none : (m : StreamMap) → ((i : ℕ) → map.get m i ≡ None) → owed_total m ≡ 0
 total_of_none m none =
     ap owed_total (map.same_map nat_cmp_total map.nat_cmp-IsAntisymmetric m map.empty
     (λ q. none q ∙ sym (map.get-empty nat_cmp q))) ∙ total-empty
-
--- entries, each of which is changed
-abbrev pub changed : (Entry → Entry) → List (ℕ × Entry) → List (ℕ × Entry)
-changed change es = each (λ entry. (entry.0, change entry.1)) es
-
--- a key that is below all, where the entries are changed
-below_changed : (change : Entry → Entry) (x : ℕ) (es : List (ℕ × Entry))
-    → below_all nat_cmp x (changed change es) ≡ below_all nat_cmp x es
-below_changed change x [] = refl
-below_changed change x (e ∷ es) =
-    ap (λ (b : Bool). is_lt (nat_cmp x e.0) && b) (below_changed change x es)
-
--- Entries that are changed stay in order.
-sorted_changed : (change : Entry → Entry) (es : List (ℕ × Entry))
-    → map.is_sorted nat_cmp (changed change es) ≡ map.is_sorted nat_cmp es
-sorted_changed change [] = refl
-sorted_changed change (e ∷ es) =
-    ap₂ (λ (a b : Bool). a && b) (below_changed change e.0 es) (sorted_changed change es)
-
--- the entries of streams that are changed
-pub entries_changed : (change : Entry → Entry) (m : StreamMap)
-    → map.entries (each_entry change m) ≡ changed change (map.entries m)
-entries_changed change m =
-    map.entries-from_sorted nat_cmp (changed change (map.entries m))
-    (subst T (sym (sorted_changed change (map.entries m))) (map.entries_sorted m))
 
 -- Changes that keep what is owed on each keep the sum.
 sum_changed : (change : Entry → Entry) (es : List (ℕ × Entry))

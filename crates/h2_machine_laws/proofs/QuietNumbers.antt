@@ -6,19 +6,20 @@ use Rattle.std.specs.List.{list_any}
 use Rattle.std.proofs.lemmas.Bool.{both_ways, or_cases, or_left, or_right, or_from, and_from}
 use Rattle.std.proofs.lemmas.Bool.{eqb-true, eq-eqb, ne_eqb, cases_eq, le-leb, leb-true, leb-false}
 use Rattle.std.proofs.lemmas.Bool.{false_from_ne_true}
-use Rattle.h2_frame.specs.Frames.{Data, Headers, Priority, Reset, Settings, Ping, GoAway}
-use Rattle.h2_frame.specs.Frames.{WindowUpdate, Continuation, Unknown}
+use Rattle.h2_frame.specs.Frames.{Data, Settings}
 use Rattle.h2_block.specs.Grouping.{Item, alone, block}
 use Rattle.h2_log.specs.declared.role.Role.{Role}
-use Rattle.h2_log.specs.declared.role.Role.TheVariants.{Client, Server}
 use Rattle.h2_log.specs.Items.{data_on, is_block_on, opens_from, ends, total, greatest_block}
 use Rattle.h2_log.specs.States.{openings, is_used}
 use Rattle.h2_log.specs.Allowed.{AllowedHistory, starts, reads, writes, Allowed}
-use Rattle.h2_log_laws.proofs.ReaderStates.{active_parts, active_used, opens_here}
+use Rattle.h2_machine.proofs.SortedEntries.{both_same}
+use Rattle.h2_log_laws.proofs.ReaderStates.{active_parts, active_used}
 use Rattle.h2_log_laws.proofs.ReplyInvariant.{used_more}
 use Rattle.h2_machine_laws.proofs.OneItemMore.{any_quiet}
 use Rattle.h2_log_laws.proofs.ItemLists.{total_one}
-use Rattle.h2_machine_laws.proofs.UpInvariant.{opens_low}
+use Rattle.h2_log_laws.proofs.StreamNumbers.{opens_low}
+use Rattle.h2_log_laws.proofs.StreamNumbers.{opening_uses}
+use Rattle.h2_log_laws.proofs.InvariantCalls.{odd_some}
 
 -- All blocks have odd numbers.
 abbrev pub AreOdd : List Item → Type 0
@@ -45,10 +46,6 @@ opens_from_odd i (block stream end octets ∷ items) some odd low =
         let high : stream < i = leb-false i stream is in
         or_right _ _ (others (omega (arith, low, high)))
 
--- An odd number is some number.
-odd_some : (i : ℕ) → (i % 2 == 1) ≡ true → i ≢ 0
-odd_some i odd none = let one = eqb-true (i % 2) 1 odd in absurd (omega (arith, one, none))
-
 -- So a number was used just where it is odd and no greater than the greatest.
 pub used_is : (role : Role) (i : ℕ) (received sent : List Item)
     → AreOdd (openings role received sent)
@@ -57,17 +54,12 @@ pub used_is : (role : Role) (i : ℕ) (received sent : List Item)
 unfolding is_used
 used_is role i received sent odd = by (i % 2 == 1) refl
   where
-    both : (a b : Bool) → (a ≡ true → b ≡ true) → (b ≡ true → a ≡ true) → a ≡ b
-    both true b there back = sym (there refl)
-    both false true there back = back refl
-    both false false there back = refl
-
     by : (b : Bool) → (i % 2 == 1) ≡ b
         → (b && list_any (opens_from i) (openings role received sent))
         ≡ (b && nat_le i (greatest_block (openings role received sent)))
     by false is = refl
     by true is =
-        both _ _ (λ some. le-leb i _ (opens_low i (openings role received sent) some))
+        both_same _ _ (λ some. le-leb i _ (opens_low i (openings role received sent) some))
         (λ low. opens_from_odd i (openings role received sent) (odd_some i is) odd
         (leb-true i _ low))
 
@@ -111,17 +103,6 @@ unused_before role i news items received sent unused =
     false_from_ne_true _ (λ used. both_ways _ unused
     (used_more role i news items received sent used))
 
--- a client's block uses its number
-opening_uses : (role : Role) (i : ℕ) (end : Bool) (octets : List ℕ) (received sent : List Item)
-    → role ≡ Client → i % 2 ≡ 1
-    → is_used role i received (block i end octets ∷ sent) ≡ true
-unfolding is_used is_block_on
-opening_uses Client i end octets received sent is odd =
-    and_from _ _ (eq-eqb (i % 2) 1 odd)
-    (opens_here i (block i end octets ∷ sent) (eq-eqb (i % 2) 1 odd)
-    (or_left _ _ (eq-eqb i i refl)))
-opening_uses Server i end octets received sent is odd = cc
-
 -- Nothing was ended and no DATA sent.
 abbrev pub IsUntouched : ℕ → List Item → Type 0
 IsUntouched i items = (list_any (ends i) items ≡ false) × (total (data_on i) items ≡ 0)
@@ -159,19 +140,7 @@ item_quiet role i received sent (alone (Data stream end octets pad)) allowed unu
           (active_used role stream received sent [] (allowed.1).goes_on.active)))
       | inr other ↦ (rw (ne_eqb stream i other) refl, rw (ne_eqb stream i other) refl)
     ]
-item_quiet role i received sent (alone (Headers stream end whole fragment pad priority)) allowed
-    unused = (refl, refl)
-item_quiet role i received sent (alone (Priority stream octets)) allowed unused = (refl, refl)
-item_quiet role i received sent (alone (Reset stream code)) allowed unused = (refl, refl)
-item_quiet role i received sent (alone (Settings ack pairs)) allowed unused = (refl, refl)
-item_quiet role i received sent (alone (Ping ack octets)) allowed unused = (refl, refl)
-item_quiet role i received sent (alone (GoAway last code debug)) allowed unused = (refl, refl)
-item_quiet role i received sent (alone (WindowUpdate stream increment)) allowed unused =
-    (refl, refl)
-item_quiet role i received sent (alone (Continuation stream whole fragment)) allowed unused =
-    (refl, refl)
-item_quiet role i received sent (alone (Unknown kind flags stream payload)) allowed unused =
-    (refl, refl)
+item_quiet role i received sent (alone frame) allowed unused = (refl, refl)
 
 -- A number that wasn't used was neither ended nor sent DATA on.
 pub sent_quiet : (role : Role) (i : ℕ) (received sent : List Item)

@@ -25,9 +25,10 @@ use Rattle.h2_machine.specs.End.{any_above}
 use Rattle.h2_machine.specs.Machine.{close_stream, with_table_after, after_frame, after_call}
 use Rattle.h2_machine.specs.Machine.{new_end}
 use Rattle.h2_machine_laws.specs.Ranges.{ValuesAreInRange, IsDecodedAt}
-use Rattle.h2_machine_laws.proofs.EveryEnd.{returned_keeps, frame_keeps, call_keeps}
+use Rattle.h2_machine_laws.proofs.EveryCall.{call_keeps}
+use Rattle.h2_machine_laws.proofs.EveryEnd.{returned_keeps, frame_keeps}
 use Rattle.h2_machine_laws.proofs.EndInvariants.{Known, IsEndInvariant, without_entry}
-use Rattle.h2_machine_laws.proofs.RulesAtEnds.{same_some}
+use Rattle.h2_log_laws.proofs.RulesByTests.{same_some}
 use Rattle.h2_machine_laws.proofs.StreamRanges.{StreamsFit, set_fits, reset_fits, removed_fits}
 use Rattle.h2_machine_laws.proofs.StreamRanges.{send_shifted_fits, recv_shifted_fits, NoneAbove}
 use Rattle.h2_machine_laws.proofs.StreamRanges.{none_above, none_above_same, new_fits_stream}
@@ -201,7 +202,7 @@ ranges_kept =
           let own : OwnFit (record e.own { awaited = Some values }) =
           (h.3.0, h.3.1, λ others. same_some AreInRange values others (range tt)) in
           (h.0, h.1, h.2, own, h.4, h.5);
-      left = λ e h.
+      goaway_sent = λ e h.
           let most : e.streams.last_processed ≤ greatest_number = omega (arith, h.0.0, h.0.1) in
           let sent : NumbersFit e.streams.highest e.streams.last_processed
           (Some e.streams.last_processed) =

@@ -32,7 +32,7 @@ use Rattle.h2_machine_laws.proofs.CallOpen.{count_high, none_above}
 use Rattle.h2_machine_laws.proofs.LogCore.{StreamsOf, said, Core, core, CoreFacts, core_facts}
 use Rattle.h2_machine_laws.proofs.LogCore.{Advances, Going, active_by_items, greatest_used}
 use Rattle.h2_machine_laws.proofs.LogCore.{processed}
-use Rattle.h2_machine_laws.proofs.OwedSums.{get_set_same}
+use Rattle.h2_machine.proofs.SetEntries.{get_set_same}
 use Rattle.h2_machine_laws.proofs.RecvBeside.{beside_of, beside_table, beside_read}
 use Rattle.h2_machine_laws.proofs.RecvBeside.{beside_reported, advances_with}
 use Rattle.h2_machine_laws.proofs.OwedAtClose.{none_owing, dead_owing}
@@ -317,7 +317,7 @@ closed_dead c i closed =
     ])
 
 -- Streams of which the log says the same, where perhaps a greater number was used.
-pub streams_higher : (s : Streams) (highest : ℕ) (c d : Core) → ((j : ℕ) → SameAt j c d)
+streams_higher : (s : Streams) (highest : ℕ) (c d : Core) → ((j : ℕ) → SameAt j c d)
     → highest ≡ greatest_used d → greatest_used c ≤ greatest_used d → processed d ≡ processed c
     → total one_reset d.sent ≡ total one_reset c.sent → StreamsOf s c
     → StreamsOf (record s { highest = highest }) d
@@ -338,7 +338,7 @@ streams_higher s highest c d same is more shown count g =
     }
 
 -- The greatest number that was used after a block, by the role.
-pub highest_block : (role : Role) (i h : ℕ) (end : Bool) (octets : List ℕ)
+highest_block : (role : Role) (i h : ℕ) (end : Bool) (octets : List ℕ)
     (received sent : List Item) → (is_server role ≡ true → (i % 2 == 1) ≡ true)
     → h ≡ greatest_block (openings role received sent)
     → (if is_server role && i % 2 == 1 && nat_lt h i then i else h)
@@ -353,7 +353,7 @@ highest_block Server i h end octets received sent odd is =
     by false most = let low : i ≤ h = ltb-false h i most in omega (arith, low, is)
 
 -- A block lessens no greatest number.
-pub used_more : (role : Role) (i : ℕ) (end : Bool) (octets : List ℕ) (received sent : List Item)
+used_more : (role : Role) (i : ℕ) (end : Bool) (octets : List ℕ) (received sent : List Item)
     → greatest_block (openings role received sent)
     ≤ greatest_block (openings role (block i end octets ∷ received) sent)
 unfolding greatest_block

@@ -31,7 +31,7 @@ use Rattle.h2_machine_laws.proofs.ItemsApart.{data_apart}
 use Rattle.h2_machine_laws.proofs.LogCore.{StreamsOf, said, Core, core, CoreFacts, core_facts}
 use Rattle.h2_machine_laws.proofs.LogCore.{Advances, Going, confirmed, active_by_items}
 use Rattle.h2_machine_laws.proofs.OwedAtClose.{none_owing, owes_all}
-use Rattle.h2_machine_laws.proofs.OwedSums.{get_set_same}
+use Rattle.h2_machine.proofs.SetEntries.{get_set_same}
 use Rattle.h2_machine_laws.proofs.RecvEvents.{reported_by, report, ChangesNoStream, active_reported}
 use Rattle.h2_machine_laws.proofs.RecvEvents.{same_reported, taken_kept}
 use Rattle.h2_machine_laws.proofs.RecvRead.{reads, read_step, same_read}

@@ -13,8 +13,8 @@ use Rattle.h2_block.specs.Grouping.{Item, alone, block}
 use Rattle.h2_log.specs.Items.{resets, is_goaway}
 use Rattle.h2_log.specs.LogView.{log_view}
 use Rattle.h2_log.specs.Settings.{is_server, settings_count}
-use Rattle.h2_log.specs.States.{Idle, Active, ClosedByUs, openings, is_used, is_above}
-use Rattle.h2_log.specs.States.{is_closed_by_us, state_by, greatest_number}
+use Rattle.h2_log.specs.States.{Active, openings, is_used, is_above}
+use Rattle.h2_log.specs.States.{is_closed_by_us, greatest_number}
 use Rattle.h2_log.specs.Windows.{connection_recv_window}
 use Rattle.h2_log.specs.Log.{Log, state}
 use Rattle.h2_log.specs.Verdicts.{Verdict, ConnectionFault, StreamFault, NoEvent, Reported}
@@ -30,9 +30,12 @@ use Rattle.h2_log_laws.proofs.AllowedHistories.{increments_read}
 use Rattle.h2_log_laws.proofs.ReaderStates.{active_parts, active_used, state_active}
 use Rattle.h2_log_laws.proofs.ReaderStates.{state_is_active}
 use Rattle.h2_log_laws.proofs.ReplyInvariant.{resets_used}
+use Rattle.h2_log_laws.proofs.ReplyInvariant.{idle_unused}
 use Rattle.h2_log_laws.proofs.StreamNumbers.{block_below}
 use Rattle.h2_machine_laws.proofs.CallOpen.{IsClear}
-use Rattle.h2_machine_laws.proofs.RulesAtEnds.{within_window}
+use Rattle.h2_log_laws.proofs.RulesByTests.{within_window}
+use Rattle.h2_log_laws.proofs.LogViewLemmas.{closed_by_us_is}
+use Rattle.h2_log_laws.proofs.LogViewLemmas.{closed_used}
 use Rattle.h2_machine_laws.proofs.LogCore.{Core, core, Going, active_by_items, greatest_used}
 use Rattle.h2_machine_laws.proofs.RecvBlocks.{later_reported, block_ignored, closed_dead}
 use Rattle.h2_machine_laws.proofs.RecvConnectionFault.{fault_after}
@@ -56,7 +59,7 @@ use Rattle.h2_machine_laws.proofs.RecvVerdictCases.{reset_is_reported, reset_is_
 use Rattle.h2_machine_laws.proofs.RecvVerdictCases.{reset_is_fault}
 use Rattle.h2_machine_laws.proofs.RecvVerdictCases.{update_is_fault, update_is_reported}
 use Rattle.h2_machine_laws.proofs.UpInvariantLogs.{rules_is}
-use Rattle.h2_machine_laws.proofs.UpInvariantReads.{above_none, closed_by_us_is, fault_reported}
+use Rattle.h2_machine_laws.proofs.UpInvariantReads.{above_none, fault_reported}
 use Rattle.h2_machine_laws.proofs.UpInvariantReads.{fault_resets, reported_by}
 use Rattle.h2_machine_laws.proofs.WaitingOutput.{Waits}
 
@@ -65,7 +68,7 @@ pub active_in : (log : Log) (i : ℕ) → state log i ≡ Active → active_by_i
 active_in log i is = state_is_active _ _ _ is
 
 -- In another state it isn't.
-pub dead_in : (log : Log) (i : ℕ) → Sound (core log) → state log i ≢ Active
+dead_in : (log : Log) (i : ℕ) → Sound (core log) → state log i ≢ Active
     → active_by_items (core log) i ≡ false
 dead_in log i sound other =
     false_from_ne_true _ (λ alive.
@@ -78,18 +81,6 @@ pub active_low : (c : Core) (i : ℕ) → active_by_items c i ≡ true → i ≤
 active_low c i alive =
     block_below i (openings c.role c.received c.sent)
     (active_parts c.role i c.received c.sent c.reported alive).opened
-
--- A number in the state ClosedByUs was used, and in the state Idle it wasn't.
-pub closed_used : (used active closed : Bool) → state_by used active closed ≡ ClosedByUs
-    → used ≡ true
-closed_used true active closed is = refl
-closed_used false active closed is = cc
-
-pub idle_unused : (used active closed : Bool) → state_by used active closed ≡ Idle → used ≡ false
-idle_unused true true closed is = cc
-idle_unused true false true is = cc
-idle_unused true false false is = cc
-idle_unused false active closed is = refl
 
 -- A number that was used is odd.
 pub used_odd : (role : Role) (i : ℕ) (c : Core) → is_used c.role i c.received c.sent ≡ true
@@ -258,9 +249,6 @@ item_at_fault e log decoded (alone (Data i end octets pad)) code is sound w g =
     data_fault e log decoded i end octets pad code alive
     (fits e (core log) (length (payload_of (Data i end octets pad))) g both.1)
     (λ server. sound.active_taken server i alive) w g
-item_at_fault e log decoded (alone (Headers i end whole fragment pad priority)) code is sound w g =
-    cc
-item_at_fault e log decoded (alone (Priority i octets)) code is sound w g = cc
 item_at_fault e log decoded (alone (Reset i other)) code is sound w g =
     absurd (reset_is_fault (state log i) code is)
 item_at_fault e log decoded (alone (Settings false pairs)) code is sound w g =
@@ -271,20 +259,17 @@ item_at_fault e log decoded (alone (Settings true pairs)) code is sound w g =
     test_resets : (b : Bool) → (if b then Reported else NoEvent) ≢ StreamFault code
     test_resets true is = cc
     test_resets false is = cc
-item_at_fault e log decoded (alone (Ping false octets)) code is sound w g = cc
 item_at_fault e log decoded (alone (Ping true octets)) code is sound w g =
     absurd (test_resets _ is)
   where
     test_resets : (b : Bool) → (if b then Reported else NoEvent) ≢ StreamFault code
     test_resets true is = cc
     test_resets false is = cc
-item_at_fault e log decoded (alone (GoAway last other debug)) code is sound w g = cc
 item_at_fault e log decoded (alone (WindowUpdate i increment)) code is sound w g =
     let alive = active_in log i (update_is_fault (i == 0) (state log i) increment _ _ code is) in
     update_fault e log decoded i increment code alive
     (λ server. sound.active_taken server i alive) w g
-item_at_fault e log decoded (alone (Continuation i whole fragment)) code is sound w g = cc
-item_at_fault e log decoded (alone (Unknown kind flags i payload)) code is sound w g = cc
+item_at_fault e log decoded (alone frame) code is sound w g = cc
 
 -- An item without an event.
 item_unreported : (e : End) (log : Log) (decoded : Option Decoded) (item : Item)
@@ -335,9 +320,6 @@ item_reported e log decoded (alone (Data i end octets pad)) is typed sound w g =
     data_reported e log decoded i end octets pad (active_in log i both.0)
     (fits e (core log) (length (payload_of (Data i end octets pad))) g both.1)
     (sound.released i) w g
-item_reported e log decoded (alone (Headers i end whole fragment pad priority)) is typed sound w g =
-    cc
-item_reported e log decoded (alone (Priority i octets)) is typed sound w g = cc
 item_reported e log decoded (alone (Reset i code)) is typed sound w g =
     reset_reported e log decoded i code (active_in log i (reset_is_reported (state log i) is)) w g
 item_reported e log decoded (alone (Settings false pairs)) is typed sound w g =
@@ -345,15 +327,13 @@ item_reported e log decoded (alone (Settings false pairs)) is typed sound w g =
 item_reported e log decoded (alone (Settings true pairs)) is typed sound w g =
     let values = some_of e.own.awaited (g.own.awaits ∙ reported_by _ is) in
     ack_reported e log decoded pairs values.0 values.1 sound.settings w g
-item_reported e log decoded (alone (Ping false octets)) is typed sound w g = cc
 item_reported e log decoded (alone (Ping true octets)) is typed sound w g =
     pong_reported e log decoded octets sound.pings w g
 item_reported e log decoded (alone (GoAway last code debug)) is typed sound w g =
     goaway_reported e log decoded last code debug (typed last code debug refl) w g
 item_reported e log decoded (alone (WindowUpdate i increment)) is typed sound w g =
     absurd (update_is_reported (i == 0) (state log i) increment _ _ is)
-item_reported e log decoded (alone (Continuation i whole fragment)) is typed sound w g = cc
-item_reported e log decoded (alone (Unknown kind flags i payload)) is typed sound w g = cc
+item_reported e log decoded (alone frame) is typed sound w g = cc
 
 -- After an item with its verdict an end keeps what its log says.
 pub item_after : (e : End) (log : Log) (decoded : Option Decoded) (item : Item) (v : Verdict)

@@ -48,10 +48,6 @@ pub record MayBeOpened (c : Core) (i : ℕ) : Type 0 where
   pub below : is_above c.role i c.sent ≡ false
   pub processed : greatest_processed c.reported ≤ greatest_used c
 
--- Nothing was opened with such a number.
-pub fresh_dead : (c : Core) (i : ℕ) → greatest_used c < i → active_by_items c i ≡ false
-fresh_dead c i rises = none_above c i rises
-
 -- A block opens its stream at a server.
 opened_here : (role : Role) (i : ℕ) (end : Bool) (octets : List ℕ) (received sent : List Item)
     → role ≡ Server
@@ -177,7 +173,7 @@ opening_reported e log decoded i end octets may w g =
     let event : Event = FieldsEvent i (fields_of decoded) end in
     let q = fields_harmless i (fields_of decoded) end in
     let flow = fields_flow i (fields_of decoded) end in
-    let dead = fresh_dead c i may.rises in
+    let dead = none_above c i may.rises in
     let streams : Streams = record e.streams {
       entries = map.insert e.streams.entries i (active_entry (opened_stream (core_facts e) end));
       active_count = e.streams.active_count + 1;

@@ -32,7 +32,7 @@ use Rattle.h2_machine_laws.proofs.LogCore.{Going, active_by_items, greatest_used
 use Rattle.h2_machine_laws.proofs.RecvBlocks.{block_common, block_gives, block_takes}
 use Rattle.h2_machine_laws.proofs.ItemsApart.{block_apart}
 use Rattle.h2_machine_laws.proofs.OwedAtClose.{dead_owing}
-use Rattle.h2_machine_laws.proofs.RecvOpenings.{MayBeOpened, used_here, fresh_dead}
+use Rattle.h2_machine_laws.proofs.RecvOpenings.{MayBeOpened, used_here}
 use Rattle.h2_machine_laws.proofs.RecvReturnedCredit.{After, returned}
 use Rattle.h2_machine_laws.proofs.RecvStreamFaults.{with_fault, fault_same, fault_dead}
 use Rattle.h2_machine_laws.proofs.RecvStreamFaults.{fault_resets, fault_used, fault_advances}
@@ -45,7 +45,7 @@ fresh_none : (e : End) (c : Core) (i : ℕ) → MayBeOpened c i → Going e c
     → map.get e.streams.entries i ≡ None
 fresh_none e c i may g =
     g.streams.entries i ∙ ap (λ (b : Bool). entry_by b (list_any (resets i) c.sent) (said c i))
-    (fresh_dead c i may.rises)
+    (none_above c i may.rises)
     ∙ ap (λ (b : Bool). entry_by false b (said c i)) may.clear.reset_out
 
 -- The greatest stream that was processed is the new one, where the code says so.
@@ -82,7 +82,7 @@ refused_streams h c i code count end octets may none g =
     let used : greatest_used d ≡ i = fault_used c i code item
     ∙ used_here c.role i end octets c.received c.sent may.server rises in
     let still : (j : ℕ) → active_by_items d j ≡ active_by_items c j = λ j. elim (cases_eq j i) [
-      | inl here ↦ rw here (dead ∙ sym (fresh_dead c i rises))
+      | inl here ↦ rw here (dead ∙ sym (none_above c i rises))
       | inr other ↦ (same j other).active
     ] in
     let next : (i - greatest_used c) + (greatest_used c + 1) ≡ i + 1 = omega (arith, rises) in
@@ -138,7 +138,7 @@ new_fault e log decoded i end octets code may w g =
       last_processed = if n == 11 then i else e.streams.last_processed;
       resets = e.streams.resets + 1;
     } in
-    let dead = fresh_dead c i may.rises in
+    let dead = none_above c i may.rises in
     let owed : owed_entry (map.get e.streams.entries i) ≡ 0 = ap owed_entry none in
     rw (is_fresh_here e log i w.same_role may g)
     (returned (record (queue_output (with_table_after e decoded item) (alone (Reset i n) ∷ [])) {

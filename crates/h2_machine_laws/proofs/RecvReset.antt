@@ -35,7 +35,7 @@ use Rattle.h2_machine_laws.proofs.WaitingOutput.{Waits}
 
 -- What an end keeps where an item on a stream that isn't active is read, which gives nothing and
 -- may take of the connection's window.
-pub dead_read : (h : CoreFacts) (c : Core) (item : Item) (i recv_window : ℕ) → IsCommon item
+dead_read : (h : CoreFacts) (c : Core) (item : Item) (i recv_window : ℕ) → IsCommon item
     → ((j : ℕ) → j ≢ i → IsApart j item) → is_block_on i item ≡ false
     → greatest_used (reads c item) ≡ greatest_used c → ((j : ℕ) → increment_on j item ≡ 0)
     → recv_window + data_of item ≡ h.windows.recv → active_by_items c i ≡ false → Advances h c
@@ -189,7 +189,7 @@ unfolding is_goaway least_goaway one_settings
 data_common i end octets pad = record { leaves = refl; least = λ items. refl; settings = refl }
 
 -- It opens nothing, gives nothing, and takes its payload.
-pub data_opens : (i : ℕ) (end : Bool) (octets : List ℕ) (pad : Option ℕ) (j : ℕ)
+data_opens : (i : ℕ) (end : Bool) (octets : List ℕ) (pad : Option ℕ) (j : ℕ)
     → is_block_on j (alone (Data i end octets pad)) ≡ false
 unfolding is_block_on
 data_opens i end octets pad j = refl

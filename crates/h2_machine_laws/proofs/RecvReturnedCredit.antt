@@ -1,21 +1,22 @@
 -- What is unreturned is added, and perhaps returned at an end as at its log, and events are
 -- reported that change little of what an end keeps.
-use Rattle.std.proofs.Common.{◌≡◌, ℕ, ◌+◌, Bool, true, false, nat_lt, ◌&&◌, if◌then◌else◌, List, []}
+use Rattle.std.proofs.Common.{◌≡◌, ℕ, ◌+◌, List, []}
 use Rattle.std.proofs.Common.{◌∷◌, ◌++◌, None, refl, arith}
 use Rattle.h2_frame.specs.Frames.{WindowUpdate}
 use Rattle.h2_block.specs.Grouping.{alone}
 use Rattle.h2_log.specs.Events.{Event}
 use Rattle.h2_log.specs.Log.{Log, waiting}
 use Rattle.h2_log.specs.LogSteps.{with_sent, with_reported, with_unreturned, with_credit_returned}
-use Rattle.h2_log.specs.Limits.{full_output}
+use Rattle.h2_log.specs.CallRules.{returns_credit}
+use Rattle.h2_log_laws.proofs.CreditCases.{both_by}
 use Rattle.h2_machine.specs.End.{End}
-use Rattle.h2_machine.specs.Machine.{return_credit, add_unreturned}
+use Rattle.h2_machine.specs.Machine.{add_unreturned}
 use Rattle.h2_machine_laws.proofs.LogCore.{StreamsOf, Core, CoreFacts, Advances, Going, core}
 use Rattle.h2_machine_laws.proofs.LogCore.{core_facts}
 use Rattle.h2_machine_laws.proofs.SentConnectionItems.{widened_advances}
 use Rattle.h2_machine_laws.proofs.SentQuietItems.{unreturned_advances}
 use Rattle.h2_machine_laws.proofs.WaitingOutput.{Waits, reports_connection}
-use Rattle.h2_machine_laws.proofs.WaitingOutput.{with_unreturned_connection_by, waits_much}
+use Rattle.h2_machine_laws.proofs.WaitingOutput.{credit_connection, waits_much}
 
 -- An end and the log for which it stands, but for what it takes for it to come about.
 pub record After (e : End) (log : Log) : Type 0 where
@@ -50,39 +51,6 @@ unfolding with_reported
 reports_core log [] = refl
 reports_core log (event ∷ events) = refl
 
--- What is unreturned is added, and perhaps returned, by the test whether it is returned, and events
--- are reported.
-returned_by : (e : End) (log : Log) (events : List Event) (more : ℕ) (b : Bool) → Waits e log
-    → e.windows.unreturned ≡ log.unreturned → Advances (core_facts e)
-    (record (core log) { reported = events ++ log.reported })
-    → After (if b then return_credit (record e {
-      windows = record e.windows {
-        unreturned =
-            e.windows.unreturned + more;
-      };
-    }) else record e {
-      windows = record e.windows {
-        unreturned =
-            e.windows.unreturned + more;
-      };
-    })
-    (with_reported (if b then with_credit_returned (record log {
-      unreturned = log.unreturned + more;
-    }) else record log { unreturned = log.unreturned + more }) events)
-unfolding with_sent
-returned_by e log events more true waits same g =
-    after_going _ _ (reports_connection e.role e.failed _ _ events (with_unreturned_connection_by
-    e.role e.failed e.output.waiting log more e.windows.unreturned true same waits))
-    (rw (reports_core (with_credit_returned (record log { unreturned = log.unreturned + more }))
-    events) (paid (core_facts e) (record (core log) { reported = events ++ log.reported }) more g))
-returned_by e log events more false waits same g =
-    after_going _ _ (reports_connection e.role e.failed e.output.waiting
-    (record log { unreturned = log.unreturned + more }) events
-    waits)
-    (rw (reports_core (record log { unreturned = log.unreturned + more }) events)
-    (unreturned_advances (core_facts e) (record (core log) { reported = events ++ log.reported })
-    (e.windows.unreturned + more) (log.unreturned + more) (omega (arith, same)) g))
-
 -- What is unreturned is added, and perhaps returned at an end as at its log, and events are
 -- reported.
 pub returned : (e : End) (log : Log) (events : List Event) (n more : ℕ) → n ≡ more → Waits e log
@@ -90,11 +58,21 @@ pub returned : (e : End) (log : Log) (events : List Event) (n more : ℕ) → n 
     → Advances (core_facts e) (record (core log) { reported = events ++ log.reported }) → After
     (add_unreturned n e) (with_reported (with_unreturned more log)
     events)
-unfolding add_unreturned with_unreturned
+unfolding add_unreturned with_unreturned with_sent
 returned e log events n more same waits unreturned g =
+    let after = record (core log) { reported = events ++ log.reported } in
     rw (same, waits_much e log waits.output)
-    (returned_by e log events more (nat_lt 0 more && nat_lt (waiting log) full_output) waits
-    unreturned g)
+    (both_by (λ (x : End) (next : Log). After x (with_reported next events))
+    (returns_credit more (waiting log))
+    (after_going _ _ (reports_connection e.role e.failed _ _ events (credit_connection e.role
+    e.failed e.output.waiting log more e.windows.unreturned unreturned waits))
+    (rw (reports_core (with_credit_returned (record log { unreturned = log.unreturned + more }))
+    events) (paid (core_facts e) after more g)))
+    (after_going _ _ (reports_connection e.role e.failed e.output.waiting
+    (record log { unreturned = log.unreturned + more }) events waits)
+    (rw (reports_core (record log { unreturned = log.unreturned + more }) events)
+    (unreturned_advances (core_facts e) after (e.windows.unreturned + more)
+    (log.unreturned + more) (omega (arith, unreturned)) g))))
 
 -- nothing more is unreturned, and events are reported
 unsettled_none : (e : End) (log : Log) (events : List Event) → Waits e log → e.windows.unreturned

@@ -24,7 +24,8 @@ use Rattle.h2_machine.specs.Machine.{each_entry, shifted_entry, first_allowed, a
 use Rattle.h2_machine.specs.Machine.{queue_output, with_encoder, after_ignored}
 use Rattle.h2_machine.specs.Represents.{entry_by}
 use Rattle.h2_log_laws.proofs.SettingsLists.{value_kept, value_changed}
-use Rattle.h2_machine_laws.proofs.EachStream.{changed_entry, get_each, each_by, shifted}
+use Rattle.h2_machine_laws.proofs.EachStream.{each_by, shifted}
+use Rattle.h2_machine.proofs.ChangedEntries.{changed_entry, get_each}
 use Rattle.h2_machine_laws.proofs.LogCore.{said, Core, core, CoreFacts, core_facts, Advances, Going}
 use Rattle.h2_machine_laws.proofs.LogCore.{StreamsOf, active_by_items}
 use Rattle.h2_machine_laws.proofs.OneItemMore.{total_quiet}

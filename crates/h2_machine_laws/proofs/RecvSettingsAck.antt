@@ -23,7 +23,8 @@ use Rattle.h2_log.specs.View.{StreamView}
 use Rattle.h2_machine.specs.Machine.{each_entry, recv_shifted_entry, apply_own_settings}
 use Rattle.h2_machine.specs.Machine.{after_reported}
 use Rattle.h2_machine.specs.Represents.{AwaitsValues, entry_by}
-use Rattle.h2_machine_laws.proofs.EachStream.{changed_entry, get_each, each_by, shifted}
+use Rattle.h2_machine_laws.proofs.EachStream.{each_by, shifted}
+use Rattle.h2_machine.proofs.ChangedEntries.{changed_entry, get_each}
 use Rattle.h2_machine_laws.proofs.LogCore.{said, Core, core, CoreFacts, core_facts, Advances, Going}
 use Rattle.h2_machine_laws.proofs.LogCore.{confirmed, active_by_items}
 use Rattle.h2_machine_laws.proofs.OwedAtClose.{dead_owing, zero_dead}

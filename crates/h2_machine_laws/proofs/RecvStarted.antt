@@ -23,7 +23,7 @@ use Rattle.h2_machine.specs.Machine.{receive_block, widen_send_window, apply_own
 use Rattle.h2_machine.specs.Machine.{with_table_after, with_begun, after_reported, after_ignored}
 use Rattle.h2_machine.specs.Machine.{after_stream_fault, after_verdict, after_step, after_frame}
 use Rattle.h2_machine_laws.proofs.RulesAtEnds.{verdict_within_limits}
-use Rattle.h2_machine_laws.proofs.RecvUnprocessed.{returned_keeps}
+use Rattle.h2_machine_laws.proofs.RecvUnprocessed.{credit_leaves}
 use Rattle.h2_machine_laws.proofs.UpInvariantReads.{fault_reported, fault_resets}
 
 -- whether the first frame has come
@@ -32,7 +32,7 @@ started e = e.reading.started
 
 -- What is unreturned says nothing of that.
 returned_started : (n : ℕ) (e : End) → started (add_unreturned n e) ≡ started e
-returned_started n e = returned_keeps started e n (λ x. refl) (λ m. refl)
+returned_started n e = credit_leaves started e n (λ x. refl) (λ m. refl)
 
 -- Nor does a stream that is over, by the tests.
 update_started : (e : End) (i : ℕ) (stream : StreamView)
@@ -80,15 +80,9 @@ reported_started e decoded (block i end octets) =
     block_started (with_table_after e decoded (block i end octets)) i end (stream_at e i)
 reported_started e decoded (alone (Data i end octets pad)) =
     data_started e i _ end (stream_at e i)
-reported_started e decoded (alone (Headers i end whole fragment pad priority)) = refl
-reported_started e decoded (alone (Priority i octets)) = refl
 reported_started e decoded (alone (Reset i code)) = returned_started _ _
 reported_started e decoded (alone (Settings ack pairs)) = own_started e e.own.awaited
-reported_started e decoded (alone (Ping ack octets)) = refl
-reported_started e decoded (alone (GoAway last code debug)) = refl
-reported_started e decoded (alone (WindowUpdate i increment)) = refl
-reported_started e decoded (alone (Continuation i whole fragment)) = refl
-reported_started e decoded (alone (Unknown kind flags i payload)) = refl
+reported_started e decoded (alone frame) = refl
 
 -- An item without an event leaves it, or it has come with it.
 ignored_started : (e : End) (decoded : Option Decoded) (item : Item) → started e ≡ true

@@ -51,13 +51,14 @@ use Rattle.h2_machine_laws.proofs.StreamsSame.{streams_closed, said_reset, same_
 use Rattle.h2_machine_laws.proofs.StreamsSame.{active_some}
 use Rattle.h2_machine_laws.proofs.WaitingOutput.{Waits, wrote_connection}
 use Rattle.h2_log_laws.proofs.ReaderStates.{active_parts, lasts_parts}
+use Rattle.h2_log_laws.proofs.ReplyInvariant.{chosen_low}
 
 -- The event of a fault is harmless, and reports no flow.
-pub fault_harmless : (i code : ℕ) → ChangesNoStream (ResetEvent i code true)
+fault_harmless : (i code : ℕ) → ChangesNoStream (ResetEvent i code true)
 unfolding one_acked one_pong reports_unprocessed
 fault_harmless i code = record { acks = refl; pongs = refl; names = λ j. refl }
 
-pub fault_flow : (i code j : ℕ) → flow_on j (ResetEvent i code true) ≡ 0
+fault_flow : (i code j : ℕ) → flow_on j (ResetEvent i code true) ≡ 0
 unfolding flow_on
 fault_flow i code j = refl
 
@@ -66,11 +67,6 @@ pub fault_shows : (i code : ℕ)
     → processed_by (ResetEvent i code true) ≡ (if code == 11 then i else 0)
 unfolding processed_by
 fault_shows i code = refl
-
--- what a test leaves is no greater
-pub test_low : (b : Bool) (i : ℕ) → (if b then i else 0) ≤ i
-test_low true i = omega arith
-test_low false i = omega arith
 
 -- the core with an item that was read, the RST_STREAM that replies to it, and the event
 abbrev pub with_fault : Core → ℕ → ℕ → Item → Core
@@ -176,7 +172,7 @@ fault_streams h c i code count item common apart used alive taken one g =
     (said_reset h.streams.entries i c d g.streams.entries same (fault_dead c i code item)
     (reset_here i code c.sent)) (fault_used c i code item ∙ used)
     (taken_low (is_server c.role) event c.reported (λ server.
-    let low = test_low (code == 11) i in omega (arith, taken server, low, fault_shows i code)))
+    let low = chosen_low (code == 11) i in omega (arith, taken server, low, fault_shows i code)))
     (fault_resets c i code item h.streams.resets g.streams.resets) g.streams)
 
 -- the end of which an item is a fault of a stream, before that is reset

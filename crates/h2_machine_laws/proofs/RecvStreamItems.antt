@@ -1,5 +1,5 @@
 -- What GOAWAY, WINDOW_UPDATE and RST_STREAM make of an end and of its log.
-use Rattle.std.proofs.Common.{◌≡◌, ℕ, ◌≤◌, ◌+◌, Bool, true, false, ◌==◌, min, if◌then◌else◌}
+use Rattle.std.proofs.Common.{◌≡◌, ℕ, ◌≤◌, ◌+◌, Bool, true, false, ◌==◌, if◌then◌else◌}
 use Rattle.std.proofs.Common.{pos, ◌+ℤ◌, ◌-ℤ◌, List, [], ◌∷◌, Option, Some, refl, ap, sym, ◌∙◌, inl}
 use Rattle.std.proofs.Common.{inr, arith, zero-add}
 use Rattle.std.specs.List.{list_any}
@@ -17,7 +17,7 @@ use Rattle.h2_log.specs.Events.{reports_unprocessed, processed_by}
 use Rattle.h2_log.specs.Settings.{value_read, one_settings}
 use Rattle.h2_log.specs.Windows.{first_window, given_on}
 use Rattle.h2_log.specs.Log.{least_goaway, Log}
-use Rattle.h2_log.specs.States.{greatest_number, when}
+use Rattle.h2_log.specs.States.{greatest_number}
 use Rattle.h2_log.specs.Verdicts.{NoEvent, Reported}
 use Rattle.h2_log.specs.ItemRules.{Decoded, replies_to}
 use Rattle.h2_log.specs.LogSteps.{read, with_sent, with_reported, with_unreturned, owed_at_close}
@@ -26,7 +26,9 @@ use Rattle.h2_log.specs.ItemEffects.{events_of, discarded_flow, least_last}
 use Rattle.h2_machine.specs.End.{End, active_entry, stream_at}
 use Rattle.h2_machine.specs.Machine.{widen_send_window, set_stream, after_ignored, after_reported}
 use Rattle.h2_log_laws.proofs.StreamNumbers.{last_none}
-use Rattle.h2_log_laws.proofs.ReleasedCredit.{gives_elsewhere, gives_here}
+use Rattle.h2_log_laws.proofs.ReleasedCredit.{gives_elsewhere}
+use Rattle.h2_log_laws.proofs.LogViewLemmas.{least_by}
+use Rattle.h2_log_laws.proofs.AllowedHistories.{increment_here}
 use Rattle.h2_machine_laws.proofs.ItemsApart.{update_apart}
 use Rattle.h2_machine_laws.proofs.LogCore.{said, Core, core, CoreFacts, core_facts, Advances, Going}
 use Rattle.h2_machine_laws.proofs.LogCore.{active_by_items, greatest_used}
@@ -39,12 +41,6 @@ use Rattle.h2_machine_laws.proofs.RecvVerdict.{stream_said, none_said}
 use Rattle.h2_machine_laws.proofs.StreamsSame.{streams_same, streams_set, SameAt, active_some}
 use Rattle.h2_machine_laws.proofs.StreamsSame.{same_stream}
 use Rattle.h2_machine_laws.proofs.WaitingOutput.{Waits}
-
--- the least last stream with one more, by whether there was one
-least_by : (b : Bool) (last n : ℕ) → last ≤ greatest_number → (b ≡ false → n ≡ greatest_number)
-    → least_last last (when b n) ≡ min last n
-least_by true last n low none = refl
-least_by false last n low none = omega (arith, low, none refl)
 
 -- GOAWAY touches nothing of any stream.
 goaway_same : (i : ℕ) (c : Core) (last code : ℕ) (debug : List ℕ)
@@ -179,7 +175,7 @@ update_said c i n =
     (wider (value_read 4 first_window c.received) n (total (increment_on i) c.received)
     (total (data_on i) c.sent)
     ∙ sym (ap (λ (k : ℕ). pos (value_read 4 first_window c.received + (k + total (increment_on i)
-    c.received)) -ℤ pos (total (data_on i) c.sent)) (gives_here i n)))
+    c.received)) -ℤ pos (total (data_on i) c.sent)) (increment_here i n)))
     (rw zero-add refl) refl refl refl
 
 -- What an end keeps where a WINDOW_UPDATE of an active stream is read.

@@ -1,28 +1,26 @@
 -- A stream that the peer doesn't process is reported at an end as at its log.
-use Rattle.std.proofs.Common.{◌≡◌, ◌≢◌, ℕ, ◌+◌, ◌-◌, Bool, true, false, not, ◌==◌, nat_lt, ◌&&◌}
-use Rattle.std.proofs.Common.{if◌then◌else◌, List, [], ◌∷◌, length, None, refl, ap, sym, ◌∙◌}
+use Rattle.std.proofs.Common.{◌≡◌, ◌≢◌, ℕ, ◌+◌, ◌-◌, true, false, not, ◌==◌}
+use Rattle.std.proofs.Common.{List, [], ◌∷◌, length, None, refl, ap, sym, ◌∙◌}
 use Rattle.std.proofs.Common.{zero-add}
 use Rattle.std.specs.List.{list_any}
 use Rattle.std.specs.FinMap as map
-use Rattle.std.proofs.lemmas.Bool.{both_ways, and_parts, eq-eqb, ne_eqb, false_from_ne_true}
-use Rattle.std.proofs.lemmas.Bool.{or_left}
-use Rattle.h2_log.specs.Log.{least_goaway, Log, active, unreleased, released, next_unprocessed}
-use Rattle.h2_log.specs.Log.{waiting}
+use Rattle.std.proofs.lemmas.Bool.{both_ways, eq-eqb, ne_eqb, false_from_ne_true}
+use Rattle.std.proofs.lemmas.Bool.{or_left, cond_both}
+use Rattle.h2_log.specs.Log.{Log, active, unreleased, released, next_unprocessed}
 use Rattle.h2_log.specs.Acts.{Values}
 use Rattle.h2_log.specs.Events.{Event, UnprocessedEvent, flow_on, one_acked, one_pong}
 use Rattle.h2_log.specs.Events.{reported_total, reports_unprocessed, processed_by}
 use Rattle.h2_log.specs.Settings.{is_server}
-use Rattle.h2_log.specs.States.{least_block}
 use Rattle.h2_log.specs.LogSteps.{took_none, with_reported, with_sent, with_unreturned}
-use Rattle.h2_log.specs.LogSteps.{with_credit_returned, owed_at_close}
-use Rattle.h2_log.specs.Limits.{full_output}
+use Rattle.h2_log.specs.LogSteps.{owed_at_close}
 use Rattle.h2_log.specs.CallRules.{returns_credit}
 use Rattle.h2_log.specs.Histories.{reported_one}
 use Rattle.h2_machine.specs.End.{End, owed_entry}
 use Rattle.h2_machine.specs.Machine.{return_credit, add_unreturned, close_unprocessed}
 use Rattle.h2_machine.specs.Represents.{Represents, RepresentsWhileUp}
+use Rattle.h2_log_laws.proofs.CreditCases.{credit_cases}
 use Rattle.h2_log_laws.proofs.ReaderStates.{active_parts, lasts_parts}
-use Rattle.h2_log_laws.proofs.NextStreams.{least_passes}
+use Rattle.h2_log_laws.proofs.NextStreams.{next_is_active}
 use Rattle.h2_machine_laws.proofs.ConservedBySteps.{holds, is_whole, ended, lacks_none}
 use Rattle.h2_machine_laws.proofs.LogCore.{Core, core, CoreFacts, core_facts, Advances, Going}
 use Rattle.h2_machine_laws.proofs.LogCore.{active_by_items, kept_back, going, runs}
@@ -106,40 +104,22 @@ unprocessed_advances h c n alive g =
     (named_dead c n) (lasts_parts n c.received c.sent parts.lasts).kept) refl
     (taken_kept (is_server c.role) event c.reported (not_taken n)) g.streams.resets g.streams) g
 
--- A part of an end that doesn't hang on windows and output doesn't hang on what is unreturned, by
--- the test whether it is returned.
-returned_keeps_by : {A : Type 0} (part : End → A) (e : End) (more : ℕ) (b : Bool)
-    → ((x : End) → part (return_credit x) ≡ part x)
-    → ((n : ℕ) → part (record e { windows = record e.windows { unreturned = n } }) ≡ part e)
-    → part (if b then return_credit (record e {
-      windows = record e.windows { unreturned = e.windows.unreturned + more };
-    }) else record e { windows = record e.windows { unreturned = e.windows.unreturned + more } })
-    ≡ part e
-returned_keeps_by part e more true gives keeps = gives _ ∙ keeps (e.windows.unreturned + more)
-returned_keeps_by part e more false gives keeps = keeps (e.windows.unreturned + more)
-
--- Such a part doesn't hang on what is unreturned.
-pub returned_keeps : {A : Type 0} (part : End → A) (e : End) (more : ℕ)
+-- A part of an end that doesn't hang on windows and output doesn't hang on what is unreturned.
+pub credit_leaves : {A : Type 0} (part : End → A) (e : End) (more : ℕ)
     → ((x : End) → part (return_credit x) ≡ part x)
     → ((n : ℕ) → part (record e { windows = record e.windows { unreturned = n } }) ≡ part e)
     → part (add_unreturned more e) ≡ part e
 unfolding add_unreturned
-returned_keeps part e more gives keeps =
-    returned_keeps_by part e more (returns_credit more (length e.output.waiting)) gives keeps
-
--- The frames of a log don't hang on what is unreturned, by the test.
-returned_frames_by : (log : Log) (more : ℕ) (b : Bool)
-    → (if b then with_credit_returned (record log { unreturned = log.unreturned + more }) else
-    record log { unreturned = log.unreturned + more }).frames ≡ log.frames
-unfolding with_sent
-returned_frames_by log more true = refl
-returned_frames_by log more false = refl
+credit_leaves part e more gives keeps =
+    let kept = keeps (e.windows.unreturned + more) in
+    cond_both (returns_credit more (length e.output.waiting)) _ _
+    (λ (x : End). part x ≡ part e) (λ is. gives _ ∙ kept) (λ is. kept)
 
 -- The frames of a log don't hang on what is unreturned.
 pub returned_frames : (log : Log) (more : ℕ) → (with_unreturned more log).frames ≡ log.frames
-unfolding with_unreturned
-returned_frames log more = returned_frames_by log more (nat_lt 0 more && nat_lt (waiting log)
-    full_output)
+unfolding with_sent
+returned_frames log more =
+    credit_cases (λ next. next.frames ≡ log.frames) more log (λ returns. refl) (λ keeps. refl)
 
 -- The frames of a log don't hang on events.
 pub reported_frames : (log : Log) (events : List Event) → (with_reported log events).frames
@@ -159,21 +139,6 @@ named_owing e log n alive g =
     let owing = owes_all log (with_reported log (UnprocessedEvent n ∷ [])) n alive
     (named_dead (core log) n) in
     zero-add _ ∙ owed ∙ sym (owing ∙ ap (λ (x : ℕ). x - released n log.calls) (zero-add _))
-
--- the next stream that is reported is active, by the role
-next_is_active_by : (b : Bool) (least_last : ℕ) (test : ℕ → Bool) → (if b then 0 else least_last) ≢
-    0 → (least_last ≢ 0 → test least_last ≡ true) → test (if b then 0 else least_last) ≡ true
-next_is_active_by true least_last test some passes = absurd (some refl)
-next_is_active_by false least_last test some passes = passes some
-
--- The next stream that is reported is active.
-next_is_active : (log : Log) → next_unprocessed log ≢ 0 → active log (next_unprocessed log) ≡ true
-unfolding next_unprocessed
-next_is_active log some =
-    (and_parts _ _ (next_is_active_by (is_server log.role) (least_block (λ j. active log j && nat_lt
-    (least_goaway log.received) j) log.sent)
-    (λ j. active log j && nat_lt (least_goaway log.received) j) some
-    (least_passes (λ j. active log j && nat_lt (least_goaway log.received) j) log.sent))).0
 
 -- A machine that reports a stream as unprocessed represents the log with it.
 pub unprocessed_represents : (values : Values) (e : End) (log : Log) → Represents values e log
@@ -200,9 +165,9 @@ unprocessed_represents values e log s up some =
     (unprocessed_advances (core_facts e) (core log) n alive g) in
     let whole : KeepsConnectionWindow e = record { whole = s.whole; used = s.used } in
     let begun : (close_unprocessed e n).reading.started ≡ e.reading.started =
-    returned_keeps (λ (x : End). x.reading.started) next owed (λ x. refl) (λ m. refl) in
+    credit_leaves (λ (x : End). x.reading.started) next owed (λ x. refl) (λ m. refl) in
     let role : (close_unprocessed e n).role ≡ e.role =
-    returned_keeps (λ (x : End). x.role) next owed (λ x. refl) (λ m. refl) in
+    credit_leaves (λ (x : End). x.role) next owed (λ x. refl) (λ m. refl) in
     represents_by values (close_unprocessed e n) (took_none log) (rw role
     (reported_one s.came up some)) b.waits b.streams
     (λ still. runs (close_unprocessed e n) (took_none log) (begun ∙ r.started

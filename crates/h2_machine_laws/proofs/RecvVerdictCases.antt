@@ -93,10 +93,8 @@ data_is_ignored Active false false false is = cc
 -- its stream.
 pub reset_is_reported : (s : State) → reset_verdict s ≡ Reported → s ≡ Active
 unfolding reset_verdict
-reset_is_reported Idle is = cc
 reset_is_reported Active is = refl
-reset_is_reported ClosedByUs is = cc
-reset_is_reported Closed is = cc
+reset_is_reported other is = cc
 
 pub reset_is_ignored : (s : State) → reset_verdict s ≡ NoEvent → s ≢ Active
 unfolding reset_verdict
@@ -127,10 +125,8 @@ update_is_fault true s increment over above code is =
     none true b code is = cc
     none false true code is = cc
     none false false code is = cc
-update_is_fault false Idle increment over above code is = cc
 update_is_fault false Active increment over above code is = refl
-update_is_fault false ClosedByUs increment over above code is = cc
-update_is_fault false Closed increment over above code is = cc
+update_is_fault false other increment over above code is = cc
 
 -- None is reported.
 pub update_is_reported : (zero : Bool) (s : State) (increment : ℕ) (over above : Bool)
@@ -146,7 +142,6 @@ update_is_reported true s increment over above is = by (increment == 0) over is
     by true b is = cc
     by false true is = cc
     by false false is = cc
-update_is_reported false Idle increment over above is = cc
 update_is_reported false Active increment over above is = by (increment == 0) above is
   where
     by : (a b : Bool)
@@ -156,5 +151,4 @@ update_is_reported false Active increment over above is = by (increment == 0) ab
     by true b is = cc
     by false true is = cc
     by false false is = cc
-update_is_reported false ClosedByUs increment over above is = cc
-update_is_reported false Closed increment over above is = cc
+update_is_reported false other increment over above is = cc

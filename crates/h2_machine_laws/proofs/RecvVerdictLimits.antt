@@ -1,15 +1,12 @@
 -- The verdict of an item after the limits, and the number that it opens, are the same at an end as
 -- at its log.
-use Rattle.std.proofs.Common.{ℤ, ◌∙◌, ◌≡◌, ℕ, ◌+◌, Bool, true, false, ◌==◌, nat_lt, ◌||◌, cond, T}
-use Rattle.std.proofs.Common.{if◌then◌else◌, List, [], ◌∷◌, length, Option, Some, None, Less, Equal}
-use Rattle.std.proofs.Common.{Greater, Ordering, refl, ap, ap₂, sym, inl, inr, arith}
+use Rattle.std.proofs.Common.{ℤ, ◌∙◌, ◌≡◌, ℕ, ◌+◌, Bool, true, false, ◌==◌, nat_lt}
+use Rattle.std.proofs.Common.{if◌then◌else◌, List, [], ◌∷◌, length, Option, Some}
+use Rattle.std.proofs.Common.{refl, ap, ap₂, sym, inl, inr, arith}
 use Rattle.std.specs.List.{list_any}
 use Rattle.std.specs.FinMap as map
-use Rattle.std.specs.FinMap.Entries.{below_all}
-use Rattle.std.specs.Ordering.{nat_cmp, is_lt, is_eq}
-use Rattle.std.specs.Cmp.{unsigned_tied}
 use Rattle.std.proofs.lemmas.Bool.{and_parts, and_from, or_cases, or_left, or_right, both_ways}
-use Rattle.std.proofs.lemmas.Bool.{eqb-true, eq-eqb}
+use Rattle.std.proofs.lemmas.Bool.{eqb-true}
 use Rattle.std.proofs.lemmas.Bool.Decides.{nat_tests}
 use Rattle.h2_frame.specs.Frames.{Data, Reset, Settings, Ping}
 use Rattle.h2_frame.specs.Frames.{WindowUpdate}
@@ -30,101 +27,14 @@ use Rattle.h2_log.specs.ItemRules.{settings_fault, verdict_of_fault, verdict_by_
 use Rattle.h2_log.specs.ItemRules.{is_awaited_ping}
 use Rattle.h2_log.specs.View.{StreamView, ended_in}
 use Rattle.h2_machine.specs.Represents.{entry_by}
+use Rattle.h2_machine.proofs.SortedEntries.{above_found, any_found, both_same}
 use Rattle.h2_log_laws.proofs.LogViewLemmas.{int_above}
 use Rattle.h2_machine_laws.proofs.LogCore.{said, Core, core, Going}
-use Rattle.h2_machine_laws.proofs.OwedSums.{first, second, less}
 use Rattle.h2_machine_laws.proofs.RecvVerdict.{Sound, active_said, state_same, block_verdict_same}
 use Rattle.h2_machine_laws.proofs.RecvVerdict.{recv_same, send_same}
 use Rattle.h2_machine_laws.proofs.ViewsAgree.{stream_same}
 use Rattle.h2_machine_laws.proofs.WaitingOutput.{Waits, waits_much}
 use Rattle.h2_log_laws.proofs.ReaderStates.{active_parts}
-
--- Two tests that hold where the other does are the same.
-pub both_same : (a b : Bool) → (a ≡ true → b ≡ true) → (b ≡ true → a ≡ true) → a ≡ b
-both_same true b there back = sym (there refl)
-both_same false true there back = back refl
-both_same false false there back = refl
-
--- A key that is below all others isn't found among them.
-not_itself : (x : ℕ) (es : List (ℕ × Entry)) → T (below_all nat_cmp x es) → map.find nat_cmp x es
-    ≡ None
-not_itself x [] h = refl
-not_itself x (e ∷ es) h =
-    ap (λ (r : Ordering). cond (is_eq r) (Some e.1) (map.find nat_cmp x es)) (less (nat_cmp x e.0)
-    (first (is_lt (nat_cmp x e.0)) (below_all nat_cmp x es) h))
-    ∙ not_itself x es (second (is_lt (nat_cmp x e.0)) (below_all nat_cmp x es) h)
-
--- What is found after an entry is found with it, by how its key compares.
-found_by : (i : ℕ) (e : ℕ × Entry) (es : List (ℕ × Entry)) (x : Entry) (r : Ordering)
-    → nat_cmp i e.0 ≡ r → T (below_all nat_cmp e.0 es)
-    → map.find nat_cmp i es ≡ Some x → cond (is_eq r) (Some e.1) (map.find nat_cmp i es) ≡ Some x
-found_by i e es x Less is h found = found
-found_by i e es x Greater is h found = found
-found_by i e es x Equal is h found =
-    let same : i ≡ e.0 = map.nat_cmp-IsAntisymmetric i e.0 is in
-    let none : map.find nat_cmp i es ≡ None = rw same (not_itself e.0 es h) in
-    cc
-
--- What is found after an entry is found with it.
-pub found_after : (i : ℕ) (e : ℕ × Entry) (es : List (ℕ × Entry)) (x : Entry)
-    → T (below_all nat_cmp e.0 es)
-    → map.find nat_cmp i es ≡ Some x → map.find nat_cmp i (e ∷ es) ≡ Some x
-found_after i e es x h found = found_by i e es x (nat_cmp i e.0) refl h found
-
--- The first entry is found.
-pub found_first : (e : ℕ × Entry) (es : List (ℕ × Entry)) → map.find nat_cmp e.0 (e ∷ es) ≡ Some e.1
-found_first e es = ap (λ (b : Bool). cond b (Some e.1) (map.find nat_cmp e.0 es))
-    (unsigned_tied e.0 e.0 ∙ eq-eqb e.0 e.0 refl)
-
--- An entry that is brought above the greatest window.
-record Above (old new : ℕ) (es : List (ℕ × Entry)) : Type 0 where
-  pub i : ℕ
-  pub x : Entry
-  pub found : map.find nat_cmp i es ≡ Some x
-  pub above : above_by_shift old new x ≡ true
-
--- Where some entry is brought above the greatest window, it is found.
-above_found : (old new : ℕ) (es : List (ℕ × Entry)) → T (map.is_sorted nat_cmp es)
-    → any_above old new es ≡ true → Above old new es
-unfolding any_above
-above_found old new [] h some = absurd (both_ways false refl some)
-above_found old new (e ∷ es) h some = elim (or_cases (above_by_shift old new e.1)
-    (any_above old new es) some) [
-      | inl here ↦ record { i = e.0; x = e.1; found = found_first e es; above = here }
-      | inr after ↦
-          let unparsed = above_found old new es (second (below_all nat_cmp e.0 es)
-          (map.is_sorted nat_cmp es) h) after in
-          record {
-            i = unparsed.i;
-            x = unparsed.x;
-            found = found_after unparsed.i e es unparsed.x (first (below_all nat_cmp e.0 es)
-                (map.is_sorted nat_cmp es) h) unparsed.found;
-            above = unparsed.above;
-          }
-    ]
-
--- An entry that is found is brought above the greatest window, by how its key compares.
-any_found_by : (old new i : ℕ) (e : ℕ × Entry) (es : List (ℕ × Entry)) (x : Entry) (r : Ordering)
-    → (map.find nat_cmp i es ≡ Some x → any_above old new es ≡ true)
-    → cond (is_eq r) (Some e.1) (map.find nat_cmp i es) ≡ Some x → above_by_shift old new x ≡ true
-    → (above_by_shift old new e.1 || any_above old new es) ≡ true
-any_found_by old new i e es x Less after found above = or_right (above_by_shift old new e.1)
-    (any_above old new es) (after found)
-any_found_by old new i e es x Greater after found above = or_right (above_by_shift old new e.1)
-    (any_above old new es) (after found)
-any_found_by old new i e es x Equal after found above =
-    let same : e.1 ≡ x = cc in or_left (above_by_shift old new e.1) (any_above old new es)
-    (rw same above)
-
--- An entry that is found is brought above the greatest window.
-any_found : (old new i : ℕ) (es : List (ℕ × Entry)) (x : Entry) → map.find nat_cmp i es ≡ Some x
-    → above_by_shift old new x ≡ true
-    → any_above old new es ≡ true
-unfolding any_above
-any_found old new i [] x found above = absurd (cc)
-any_found old new i (e ∷ es) x found above =
-    any_found_by old new i e es x (nat_cmp i e.0) (λ after. any_found old new i es x after above)
-    found above
 
 -- A number among the blocks that passes.
 record Passing (test : ℕ → Bool) : Type 0 where
@@ -226,7 +136,7 @@ faults_same e log (pair ∷ pairs) role g = rw (
 ) refl
 
 -- The verdict on an item is the same before the limits.
-pub verdict_same : (e : End) (log : Log) (decoded : Option Decoded) (item : Item)
+verdict_same : (e : End) (log : Log) (decoded : Option Decoded) (item : Item)
     → e.role ≡ log.role → Sound (core log)
     → Going e (core log) → verdict_by_rules (end_view e) decoded item ≡ verdict_by_rules
     (log_view log) decoded item

@@ -59,7 +59,7 @@ part_represents values e log octets unparsed s takes part =
 
 -- A machine that makes the connection fail represents a log that fails with the same code and the
 -- same last stream.
-pub failing_represents : (values : Values) (e : End) (log : Log) (code : Code) (last other : ℕ)
+failing_represents : (values : Values) (e : End) (log : Log) (code : Code) (last other : ℕ)
     → IsLog e.role values (with_failure code other log)
     → last ≡ other → Waits e log
     → (is_server log.role ≡ true → (i : ℕ) → active log i ≡ true → i ≤ other)

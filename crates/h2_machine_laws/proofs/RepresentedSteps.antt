@@ -1,7 +1,7 @@
 -- An end that is up represents its log: what is written joins what waits, and what is unreturned is
 -- returned.
-use Rattle.std.proofs.Common.{◌==◌, not, ◌≡◌, ℕ, ◌+◌, nat_lt, ◌&&◌, Bool, true, false}
-use Rattle.std.proofs.Common.{if◌then◌else◌, List, [], ◌∷◌, ◌++◌, length, None, refl, sym, ap}
+use Rattle.std.proofs.Common.{◌==◌, not, ◌≡◌, ℕ, ◌+◌}
+use Rattle.std.proofs.Common.{List, [], ◌∷◌, ◌++◌, length, None, refl, sym, ap}
 use Rattle.std.proofs.Common.{subst, ◌∙◌, arith}
 use Rattle.h2_frame.specs.Frames.{WindowUpdate}
 use Rattle.h2_block.specs.Grouping.{Item, alone}
@@ -11,11 +11,10 @@ use Rattle.h2_log.specs.View.{View}
 use Rattle.h2_log.specs.Acts.{Values, Act, Answer, IsTypedAct}
 use Rattle.h2_log.specs.Log.{Log, active, released, unreleased}
 use Rattle.h2_log.specs.States.{is_active}
-use Rattle.h2_log.specs.Limits.{full_output}
 use Rattle.h2_log.specs.LogSteps.{with_sent, with_unreturned, with_credit_returned, owed_at_close}
 use Rattle.h2_log.specs.LogCalls.{called, before_put_out, MayAnswer, with_call}
 use Rattle.h2_log.specs.CallRules.{encoder_after_call, refusal_of, answer_of, items_of}
-use Rattle.h2_log.specs.CallRules.{returns_before_put_out}
+use Rattle.h2_log.specs.CallRules.{returns_credit, returns_before_put_out}
 use Rattle.h2_log.specs.Histories.{called_one}
 use Rattle.h2_machine.specs.Machine.{queue_output, with_encoder, return_credit, add_unreturned}
 use Rattle.h2_machine.specs.Machine.{after_call, before_put_out_at}
@@ -28,6 +27,7 @@ use Rattle.h2_machine_laws.proofs.SentConnectionItems.{widened_advances}
 use Rattle.h2_machine_laws.proofs.SentQuietItems.{unreturned_advances, called_advances}
 use Rattle.h2_machine_laws.proofs.ViewsAgree.{view_beside, views_agree}
 use Rattle.h2_machine_laws.proofs.WaitingOutput.{OutputOf, wrote_output, waits_much}
+use Rattle.h2_log_laws.proofs.CreditCases.{both_by}
 use Rattle.h2_log_laws.proofs.InvariantLogs.{log_represents}
 
 -- An end that hasn't failed represents a log, but for what the log's history and the connection's
@@ -126,7 +126,7 @@ wrote_up e f log items role up same waits started run =
         }
 
 -- All that is unreturned is returned.
-pub return_credit_up : (e : End) (log : Log) → Up e log
+return_credit_up : (e : End) (log : Log) → Up e log
     → Up (return_credit e) (with_credit_returned log)
 unfolding with_sent
 return_credit_up e log is =
@@ -164,27 +164,17 @@ unreturned_up e log more is =
           (log.unreturned + more) (ap (λ (n : ℕ). n + more) is.going.windows.unreturned) is.going;
     }
 
--- More is unreturned, by the test whether all is returned.
-with_unreturned_by : (e : End) (log : Log) (more : ℕ) (b : Bool) → Up e log
-    → Up (if b then return_credit
-    (record e { windows = record e.windows { unreturned = e.windows.unreturned + more } }) else
-    record e { windows = record e.windows { unreturned = e.windows.unreturned + more } })
-    (if b then with_credit_returned (record log { unreturned = log.unreturned + more }) else record
-    log { unreturned = log.unreturned + more })
-with_unreturned_by e log more true is = return_credit_up _ _ (unreturned_up e log more is)
-with_unreturned_by e log more false is = unreturned_up e log more is
-
 -- What is unreturned is added.
 pub with_unreturned_up : (e : End) (log : Log) (here there : ℕ) → here ≡ there → Up e log
     → Up (add_unreturned here e) (with_unreturned there log)
 unfolding add_unreturned with_unreturned
 with_unreturned_up e log here there same is =
-    rw (← same, ← (waits_much e log is.waits))
-    (with_unreturned_by e log here (nat_lt 0 here && nat_lt (length e.output.waiting)
-    full_output) is)
+    rw (← same, ← (waits_much e log is.waits)) (both_by Up
+    (returns_credit here (length e.output.waiting))
+    (return_credit_up _ _ (unreturned_up e log here is)) (unreturned_up e log here is))
 
 -- Nothing more is unreturned.
-pub with_unreturned_none : (log : Log) → with_unreturned 0 log ≡ log
+with_unreturned_none : (log : Log) → with_unreturned 0 log ≡ log
 unfolding with_unreturned
 with_unreturned_none log = let none : log.unreturned + 0 ≡ log.unreturned =
     omega arith in ap (λ (n : ℕ). record log { unreturned = n }) none
@@ -221,12 +211,6 @@ called_up e log act answer keeps same is =
           is.going;
     }
 
--- An end makes ready to put octets out, by the test.
-ready_by : (e : End) (log : Log) (b : Bool) → Up e log
-    → Up (if b then return_credit e else e) (if b then with_credit_returned log else log)
-ready_by e log true is = return_credit_up e log is
-ready_by e log false is = is
-
 -- An end that is up is viewed as its log is.
 pub views_of_up : (e : End) (log : Log) → Up e log → end_view e ≡ view_beside e log
 views_of_up e log is =
@@ -245,9 +229,7 @@ unfolding before_put_out_at before_put_out
 ready_up e log is =
     let test : returns_before_put_out (end_view e) ≡ returns_before_put_out (log_view log) =
     ap (λ (view : View). returns_before_put_out view) (views_of_up e log is) in
-    subst (λ (b : Bool). Up (before_put_out_at e) (if b then with_credit_returned log else log))
-    test
-    (ready_by e log (returns_before_put_out (end_view e)) is)
+    rw test (both_by Up (returns_before_put_out (log_view log)) (return_credit_up e log is) is)
 
 -- What is active after items that are written.
 pub wrote_active : (log : Log) (items : List Item) (i : ℕ)

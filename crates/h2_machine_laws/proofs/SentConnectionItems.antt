@@ -233,7 +233,7 @@ active_goaway c i last code false is low =
     ∙ (active_parts c.role i c.received _ c.reported active_is).opened))) ∙ sym is
 
 -- The streams are the same after a GOAWAY with a last stream that no active one is above.
-pub goaway_streams : (s : Streams) (c : Core) (last code : ℕ)
+goaway_streams : (s : Streams) (c : Core) (last code : ℕ)
     → (is_server c.role ≡ true → (i : ℕ) → active_by_items c i ≡ true → i ≤ last)
     → StreamsOf s c → StreamsOf s (sends c (alone (GoAway last code [])))
 unfolding computing granted_on

@@ -6,17 +6,17 @@ use Rattle.h2_block.specs.Grouping.{Item}
 use Rattle.h2_log.specs.declared.role.Role.{Role}
 use Rattle.h2_log.specs.declared.role.Role.TheVariants.{Client, Server}
 use Rattle.h2_log.specs.Items.{is_goaway, greatest_block}
-use Rattle.h2_log.specs.Events.{greatest_processed}
 use Rattle.h2_log.specs.Acts.{Values}
 use Rattle.h2_log.specs.Settings.{is_server}
 use Rattle.h2_log.specs.States.{openings, is_above, when}
-use Rattle.h2_log.specs.Log.{Log, last_processed}
+use Rattle.h2_log.specs.Log.{Log}
 use Rattle.h2_log.specs.Histories.{IsLog}
 use Rattle.h2_log.specs.Allowed.{AllowedHistory}
 use Rattle.h2_machine.specs.End.{is_beyond}
 use Rattle.h2_machine.specs.Represents.{goaway_sent_last}
 use Rattle.h2_log_laws.proofs.InvariantLogs.{log_represents}
 use Rattle.h2_machine_laws.proofs.GoAwaysSent.{active_processed}
+use Rattle.h2_machine_laws.proofs.GoAwaysSent.{processed_at_server}
 use Rattle.h2_machine_laws.proofs.LogCore.{core}
 use Rattle.h2_machine_laws.proofs.NumberedLogs.{OneGoAway}
 use Rattle.h2_machine_laws.proofs.NumberedSteps.{numbered_of}
@@ -53,12 +53,6 @@ used_at_server role received sent n server low =
     let same = ap greatest_block (openings_server role received sent server) in
     omega (arith, low, same)
 
--- the greatest stream that a server processed
-taken_at_server : (log : Log) → is_server log.role ≡ true
-    → last_processed log ≡ greatest_processed log.reported
-unfolding last_processed
-taken_at_server log server = rw server refl
-
 -- Every log that hasn't failed is sound.
 pub sound_log : (role : Role) (values : Values) (log : Log) → IsLog role values log
     → log.failed ≡ None → Sound (core log)
@@ -90,7 +84,7 @@ sound_log role values log came up =
           (f.processed server);
       active_taken = λ server i alive.
           let low = active_processed role values log came up server i alive in
-          omega (arith, low, taken_at_server log server);
+          omega (arith, low, processed_at_server log server);
       pings = one.pings;
       settings = one.settings;
       released = f.released;

@@ -16,8 +16,8 @@ use Rattle.h2_machine.specs.End.{Entry, active_entry, reset_entry, StreamMap, st
 use Rattle.h2_machine.specs.End.{above_by_shift, any_above}
 use Rattle.h2_machine.specs.Machine.{shifted_entry, recv_shifted_entry, each_entry}
 use Rattle.h2_log_laws.proofs.CallConditions.{neither_one, neither_other}
-use Rattle.h2_machine_laws.proofs.EachStream.{changed_entry, get_each}
-use Rattle.h2_machine_laws.proofs.OwedSums.{get_set, get_removed}
+use Rattle.h2_machine.proofs.ChangedEntries.{changed_entry, get_each}
+use Rattle.h2_machine.proofs.SetEntries.{get_set, get_removed}
 
 -- A stream's windows are in their ranges, by the initial windows of the peer and of this end.
 pub record WindowsFit (peer own : ℕ) (stream : StreamView) : Type 0 where

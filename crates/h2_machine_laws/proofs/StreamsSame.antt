@@ -14,8 +14,8 @@ use Rattle.h2_log_laws.proofs.ReaderStates.{active_parts}
 use Rattle.h2_log_laws.proofs.StreamNumbers.{block_below}
 use Rattle.h2_machine_laws.proofs.LogCore.{Core, said, AreSaid, StreamsOf, active_by_items}
 use Rattle.h2_machine_laws.proofs.LogCore.{greatest_used, processed}
-use Rattle.h2_machine_laws.proofs.OwedSums.{get_set_same, get_set_other, get_removed_same}
-use Rattle.h2_machine_laws.proofs.OwedSums.{get_removed_other}
+use Rattle.h2_machine.proofs.SetEntries.{get_set_same, get_set_other, get_removed_same}
+use Rattle.h2_machine.proofs.SetEntries.{get_removed_other}
 
 -- Entries are the same by their parts.
 entry_same : (l k w v : Bool) (s t : StreamView) → l ≡ k → w ≡ v → (k ≡ true → s ≡ t)
@@ -86,7 +86,7 @@ count_apart (suc m) i f g below same = rw (
 ) refl
 
 -- Where one number less passes, the count is one less.
-pub count_less : (n i : ℕ) (f g : ℕ → Bool) → i < n → ((j : ℕ) → j ≢ i → f j ≡ g j) → g i ≡ true
+count_less : (n i : ℕ) (f g : ℕ → Bool) → i < n → ((j : ℕ) → j ≢ i → f j ≡ g j) → g i ≡ true
     → f i ≡ false → count_below n f + 1 ≡ count_below n g
 unfolding count_below
 count_less zero i f g below same was is = absurd (omega (arith, below))
@@ -195,7 +195,7 @@ streams_set s i stream c d same was active is greatest shown count g =
     }
 
 -- Where a stream was active and isn't, the count is one less.
-pub one_less : (c d : Core) (i n : ℕ) → greatest_used d ≡ greatest_used c
+one_less : (c d : Core) (i n : ℕ) → greatest_used d ≡ greatest_used c
     → ((j : ℕ) → j ≢ i → SameAt j c d) → active_by_items c i ≡ true → active_by_items d i ≡ false
     → n ≡ count_below (greatest_used c + 1) (active_by_items c)
     → n - 1 ≡ count_below (greatest_used d + 1) (active_by_items d)

@@ -16,7 +16,7 @@ pub record IsWithin (table : Entries) (maximum : ℕ) : Type 0 where
   pub size : table_size table.entries ≤ maximum
 
 -- A literal leaves a table within its maximum.
-literal_within : (kind : Literal) (table : Entries) (maximum : ℕ) (new : Entry)
+pub literal_within : (kind : Literal) (table : Entries) (maximum : ℕ) (new : Entry)
     → IsWithin table maximum → IsWithin (after_literal kind table new) maximum
 literal_within WithIndexing table maximum new h =
     record {
@@ -27,7 +27,8 @@ literal_within WithoutIndexing table maximum new h = h
 literal_within NeverIndexed table maximum new h = h
 
 -- So does each field.
-step_within : (table : Entries) (octets : List ℕ) (field : Field) (after : Entries) (maximum : ℕ)
+pub step_within : (table : Entries) (octets : List ℕ) (field : Field) (after : Entries)
+    (maximum : ℕ)
     → Step table octets field after → IsWithin table maximum → IsWithin after maximum
 step_within table octets field after maximum (by_index index encoded found plain same) h =
     subst (λ (t : Entries). IsWithin t maximum) (sym same) h
@@ -37,7 +38,7 @@ step_within table octets field after maximum
     (literal_within kind table maximum (record { name = field.name; value = field.value }) h)
 
 -- So do the fields of a block.
-fields_within : (table : Entries) (octets : List ℕ) (fields : List Field) (after : Entries)
+pub fields_within : (table : Entries) (octets : List ℕ) (fields : List Field) (after : Entries)
     (maximum : ℕ) → Fields table octets fields after → IsWithin table maximum
     → IsWithin after maximum
 fields_within table octets [] after maximum encoded h =
@@ -47,7 +48,7 @@ fields_within table octets (field ∷ fields) after maximum encoded h =
     (step_within table encoded.0 field encoded.2 maximum encoded.4 h)
 
 -- Updates leave a table within its maximum.
-updates_within : (limit : ℕ) (table : Entries) (octets maxima : List ℕ) (after : Entries)
+pub updates_within : (limit : ℕ) (table : Entries) (octets maxima : List ℕ) (after : Entries)
     (others : List ℕ) → Updates limit table octets maxima after others
     → IsWithin table table.maximum → IsWithin after after.maximum
 updates_within limit table octets [] after others updates h =

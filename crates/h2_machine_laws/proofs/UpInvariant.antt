@@ -1,30 +1,29 @@
 -- What every log that hasn't failed has: no more is acknowledged and answered than was sent, and so
 -- on; and what keeps it.
-use Rattle.std.proofs.Common.{◌≡◌, ℕ, ◌+◌, ◌≤◌, ◌<◌, ◌==◌, ◌%◌, nat_lt, nat_le, ◌&&◌, ◌||◌, Bool}
-use Rattle.std.proofs.Common.{true, false, if◌then◌else◌, List, [], ◌∷◌, ◌++◌, Option, Some, None}
-use Rattle.std.proofs.Common.{refl, sym, ap, ◌∙◌, inl, inr, arith}
+use Rattle.std.proofs.Common.{◌≡◌, ℕ, ◌+◌, ◌≤◌, ◌<◌, ◌==◌, ◌%◌, ◌||◌, Bool}
+use Rattle.std.proofs.Common.{true, false, List, [], ◌∷◌, ◌++◌}
+use Rattle.std.proofs.Common.{refl, sym, ap, ◌∙◌, arith}
 use Rattle.std.specs.List.{list_any}
-use Rattle.std.proofs.lemmas.Bool.{both_ways, or_cases, or_from, or_parts, ltb-false, and_parts}
-use Rattle.std.proofs.lemmas.Bool.{and_right, leb-true, false_from_ne_true}
-use Rattle.h2_frame.specs.declared.code.Code.{Code}
-use Rattle.h2_frame.specs.declared.code.Code.TheVariants.{ProtocolError, FlowControlError}
+use Rattle.std.proofs.lemmas.Bool.{both_ways}
+use Rattle.std.proofs.lemmas.Bool.{and_right, false_from_ne_true}
 use Rattle.h2_block.specs.Grouping.{Item, alone, block}
-use Rattle.h2_log.specs.LogView.{log_view}
 use Rattle.h2_log.specs.Items.{data_on, increment_on, is_block_on, opens_from, ends, resets}
 use Rattle.h2_log.specs.Items.{is_goaway, one_ping, total, greatest_block}
 use Rattle.h2_log.specs.Events.{Event, one_acked, one_pong, reported_total, greatest_processed}
 use Rattle.h2_log.specs.Events.{reports_unprocessed}
-use Rattle.h2_log.specs.Settings.{is_server, settings_count, value_read, value_after, value_fault}
+use Rattle.h2_log.specs.Settings.{is_server, settings_count, value_read}
 use Rattle.h2_log.specs.States.{openings, is_active, is_used}
 use Rattle.h2_log.specs.Log.{Log}
-use Rattle.h2_log.specs.ItemRules.{settings_fault, first_fault}
 use Rattle.h2_log.specs.declared.role.Role.{Role}
 use Rattle.h2_log.specs.declared.role.Role.TheVariants.{Client, Server}
 use Rattle.h2_log_laws.proofs.ItemLists.{none_after, settings_after, total_after}
 use Rattle.h2_log_laws.proofs.ReaderStates.{active_parts, lasts_parts}
 use Rattle.h2_log_laws.proofs.LogInvariant.{active_before}
 use Rattle.h2_log_laws.proofs.LogHistory.{reported_append}
+use Rattle.h2_log_laws.proofs.LogHistory.{none_both}
+use Rattle.h2_log_laws.proofs.LogHistory.{processed_after}
 use Rattle.h2_log_laws.proofs.LogGrowth.{Grows}
+use Rattle.h2_log_laws.proofs.StreamNumbers.{opens_low}
 use Rattle.h2_machine_laws.proofs.OneItemMore.{any_quiet, total_quiet}
 
 -- Nothing was read or reported of a number.
@@ -64,7 +63,7 @@ greatest_after (alone frame ∷ more) items = greatest_after more items
 greatest_after (block stream end octets ∷ more) items = omega (arith, greatest_after more items)
 
 -- More that was written keeps this.
-up_log_more : (role : Role) (received items sent : List Item) (reported : List Event)
+pub up_log_more : (role : Role) (received items sent : List Item) (reported : List Event)
     → IsUpLogBy role received sent reported → IsUpLogBy role received (items ++ sent) reported
 up_log_more role received items sent reported f =
     record {
@@ -101,15 +100,8 @@ pub record Reads (role : Role) (received sent news : List Item) (reported events
       → i ≤ greatest_processed (events ++ reported)
   pub clear : role ≡ Client → (i : ℕ) → greatest_block sent < i → IsUnseen (item ∷ []) events i
 
--- More events have no lesser greatest number.
-pub processed_after : (events reported : List Event)
-    → greatest_processed reported ≤ greatest_processed (events ++ reported)
-unfolding greatest_processed
-processed_after [] reported = omega arith
-processed_after (event ∷ events) reported = omega (arith, processed_after events reported)
-
 -- A test that one item doesn't pass.
-pub one_none : {X : Type 0} (p : X → Bool) (x : X) → list_any p (x ∷ []) ≡ false → p x ≡ false
+one_none : {X : Type 0} (p : X → Bool) (x : X) → list_any p (x ∷ []) ≡ false → p x ≡ false
 one_none p x none = by (p x) none
   where
     by : (b : Bool) → (b || false) ≡ false → b ≡ false
@@ -120,18 +112,6 @@ one_none p x none = by (p x) none
 one_total : (f : Item → ℕ) (item : Item) → total f (item ∷ []) ≡ 0 → f item ≡ 0
 unfolding total
 one_total f item none = omega (arith, none)
-
--- What no event of two lists passes.
-pub none_both : {X : Type 0} (p : X → Bool) (xs ys : List X) → list_any p xs ≡ false
-    → list_any p ys ≡ false → list_any p (xs ++ ys) ≡ false
-none_both p [] ys here there = there
-none_both p (x ∷ xs) ys here there =
-    let parts = or_split (p x) (list_any p xs) here in or_from _ _ parts.0
-    (none_both p xs ys parts.1 there)
-  where
-    or_split : (a b : Bool) → (a || b) ≡ false → (a ≡ false) × (b ≡ false)
-    or_split true b is = absurd (both_ways true is refl)
-    or_split false b is = (refl, is)
 
 -- what is active after an item was, or it is the item's stream, by the item
 active_processed_by : (role : Role) (received items sent news : List Item)
@@ -214,18 +194,6 @@ up_log_read role received items sent news reported events item is f r =
           };
     }
 
--- A number from which a block opens is no greater than the greatest.
-pub opens_low : (i : ℕ) (items : List Item) → list_any (opens_from i) items ≡ true
-    → i ≤ greatest_block items
-unfolding opens_from greatest_block
-opens_low i [] some = absurd (both_ways false refl some)
-opens_low i (alone frame ∷ items) some = opens_low i items some
-opens_low i (block stream end octets ∷ items) some =
-    elim (or_cases (stream % 2 == 1 && nat_le i stream) (list_any (opens_from i) items) some) [
-      | inl here ↦ omega (arith, leb-true i stream (and_parts _ _ here).1)
-      | inr after ↦ omega (arith, opens_low i items after)
-    ]
-
 -- At a client a number above all that were used is idle.
 pub idle_above : (role : Role) (i : ℕ) (received sent : List Item) → role ≡ Client
     → greatest_block sent < i → is_used role i received sent ≡ false
@@ -234,36 +202,3 @@ idle_above Client i received sent is above =
     and_right (i % 2 == 1) _ (false_from_ne_true (list_any (opens_from i) sent)
     (λ some. let low = opens_low i sent some in omega arith))
 idle_above Server i received sent is above = cc
-
--- Where the first fault is none, none has one.
-first_none_of : (x : Option Code) (above : Bool) (after : Option Code)
-    → first_fault x above after ≡ None → (x ≡ None) × (after ≡ None)
-first_none_of (Some code) above after is = cc
-first_none_of None true after is = cc
-first_none_of None false after is = (refl, is)
-
--- A value without a fault isn't one of these.
-third_false : (a b c : Bool) → (if a then Some ProtocolError else if b then Some FlowControlError
-    else if c then Some ProtocolError else None) ≡ None → c ≡ false
-third_false true b c is = cc
-third_false false true c is = cc
-third_false false false true is = cc
-third_false false false false is = refl
-
--- A frame size that isn't at fault is at least 16,384, by the tests.
-size_by : (value before : ℕ) (is five : Bool) → is ≡ five
-    → (is && (nat_lt value 16384 || nat_lt 16777215 value)) ≡ false → 16384 ≤ before
-    → 16384 ≤ (if is then value else before)
-size_by value before true five same fault enough = ltb-false value 16384 (or_parts _ _ fault).0
-size_by value before false five same fault enough = enough
-
--- Pairs without a fault set no lesser frame size.
-pub pairs_size : (log : Log) (before : ℕ) (pairs : List (ℕ × ℕ))
-    → settings_fault (log_view log) pairs ≡ None → 16384 ≤ before
-    → 16384 ≤ value_after 5 before pairs
-unfolding settings_fault value_after value_fault
-pairs_size log before [] none enough = enough
-pairs_size log before (pair ∷ pairs) none enough =
-    let both = first_none_of _ _ _ none in
-    pairs_size log (if pair.0 == 5 then pair.1 else before) pairs both.1
-    (size_by pair.1 before (pair.0 == 5) _ refl (third_false _ _ _ both.0) enough)

@@ -1,11 +1,13 @@
--- Every log that hasn't failed has what is asked of it; and what each step keeps.
+-- Every log that hasn't failed has what is asked of it, with the events that are still to be
+-- reported of it.
 use Rattle.std.proofs.Common.{◌≡◌, ◌≢◌, ℕ, ◌≤◌, ◌==◌, max, nat_lt, ◌&&◌, ◌||◌, Bool, true, false}
 use Rattle.std.proofs.Common.{if◌then◌else◌, List, [], ◌∷◌, ◌++◌, Option, None, refl, sym, ap}
 use Rattle.std.proofs.Common.{◌∙◌, arith}
+use Rattle.std.proofs.Common.{Some}
 use Rattle.std.specs.List.{list_any}
 use Rattle.std.proofs.lemmas.Bool.{both_ways, or_left, eq-eqb, ne_eqb}
 use Rattle.h2_frame.specs.declared.code.Code.{Code}
-use Rattle.h2_frame.specs.declared.code.Code.TheVariants.{EnhanceYourCalm}
+use Rattle.h2_frame.specs.Frames.{WindowUpdate}
 use Rattle.h2_block.specs.Grouping.{Item, alone, block}
 use Rattle.h2_log.specs.LogView.{log_view}
 use Rattle.h2_log.specs.Items.{resets, stream_of_item, total, greatest_block, is_block_on}
@@ -15,47 +17,39 @@ use Rattle.h2_log.specs.Acts.{Values}
 use Rattle.h2_log.specs.Settings.{is_server, settings_count, value_read}
 use Rattle.h2_log.specs.States.{least_block}
 use Rattle.h2_log.specs.Log.{Log, next_unprocessed}
-use Rattle.h2_log.specs.Verdicts.{Verdict, ConnectionFault, StreamFault, NoEvent, Reported}
+use Rattle.h2_log.specs.Verdicts.{Verdict, ConnectionFault, StreamFault}
 use Rattle.h2_log.specs.ItemRules.{Decoded}
 use Rattle.h2_log.specs.ItemRules.{over_limits, replies_to, verdict_by_rules}
 use Rattle.h2_log.specs.ItemRules.{verdict_of}
-use Rattle.h2_log.specs.LogSteps.{read, with_sent, with_reported, with_unreturned, owed_at_close}
-use Rattle.h2_log.specs.LogSteps.{used, took_none}
+use Rattle.h2_log.specs.LogSteps.{read, with_sent}
 use Rattle.h2_log.specs.ItemEffects.{events_of}
-use Rattle.h2_log.specs.LogCalls.{opened, with_call}
+use Rattle.h2_log.specs.LogCalls.{opened}
+use Rattle.h2_log.specs.LogCalls.{called}
 use Rattle.h2_log.specs.Histories.{IsLog}
 use Rattle.h2_log.specs.declared.role.Role.{Role}
 use Rattle.h2_log.specs.declared.role.Role.TheVariants.{Client, Server}
-use Rattle.h2_log_laws.proofs.ItemLists.{any_after}
+use Rattle.h2_log.specs.CallRules.{answer_of}
+use Rattle.h2_log.specs.CallRules.{items_of}
 use Rattle.h2_log_laws.proofs.ReaderStates.{active_parts}
 use Rattle.h2_log_laws.proofs.LogInvariant.{active_before}
-use Rattle.h2_log_laws.proofs.LogGrowth.{grows_twice, grows_wrote, grows_with_unreturned}
-use Rattle.h2_log_laws.proofs.LogGrowth.{grows_call}
-use Rattle.h2_machine_laws.proofs.EveryUpLog.{every_up_log}
-use Rattle.h2_machine_laws.proofs.UpInvariant.{IsUpLog, IsUpLogBy, up_log_grown, up_log_read}
-use Rattle.h2_machine_laws.proofs.UpInvariant.{openings_server, greatest_after}
+use Rattle.h2_log_laws.proofs.LogGrowth.{grows_wrote}
+use Rattle.h2_log_laws.proofs.FrameSizes.{within_limits}
+use Rattle.h2_log_laws.proofs.LogInduction.{IsPendingInvariant, pending_by_logs}
+use Rattle.h2_machine_laws.proofs.UpInvariant.{IsUpLog, IsUpLogBy, up_log_grown, up_log_more}
+use Rattle.h2_machine_laws.proofs.UpInvariant.{up_log_read}
+use Rattle.h2_machine_laws.proofs.UpInvariant.{openings_server}
 use Rattle.h2_machine_laws.proofs.UpInvariantReads.{item_reads}
 
--- A verdict after the limits that is no fault of the connection is that before them, by the test.
-over_limits_by : (b : Bool) (v x : Verdict) → (if b then ConnectionFault EnhanceYourCalm else v) ≡ x
-    → ((code : Code) → x ≡ ConnectionFault code → ⊥) → v ≡ x
-over_limits_by true v x is none = absurd (none EnhanceYourCalm (sym is))
-over_limits_by false v x is none = is
+-- The same of a log of which these events are still to be reported.
+abbrev PendingUp : List Event → Log → Type 0
+PendingUp events log = IsUpLogBy log.role log.received log.sent (events ++ log.reported)
 
 -- A verdict after the limits that is no fault of the connection is that before them.
 pub rules_is : (log : Log) (decoded : Option Decoded) (item : Item) (v : Verdict)
     → verdict_of (log_view log) decoded item ≡ v → ((code : Code) → v ≡ ConnectionFault code → ⊥)
     → verdict_by_rules (log_view log) decoded item ≡ v
 unfolding verdict_of over_limits
-rules_is log decoded item v is none = over_limits_by _ _ v is none
-
--- Events that are reported are newer.
-reports_up_log : (log : Log) (events : List Event)
-    → IsUpLogBy log.role log.received log.sent (events ++ log.reported)
-    → IsUpLog (with_reported log events)
-unfolding with_reported
-reports_up_log log [] f = f
-reports_up_log log (event ∷ events) f = f
+rules_is log decoded item v is none = within_limits _ _ v is none
 
 -- A stream that is reset in reply was reset.
 reply_resets : (log : Log) (decoded : Option Decoded) (item : Item) (v : Verdict) (code : Code)
@@ -65,33 +59,21 @@ reply_resets : (log : Log) (decoded : Option Decoded) (item : Item) (v : Verdict
 unfolding replies_to with_sent resets
 reply_resets log decoded item (StreamFault other) code is =
     or_left _ _ (eq-eqb (stream_of_item item) (stream_of_item item) refl)
-reply_resets log decoded item (ConnectionFault other) code is = cc
-reply_resets log decoded item NoEvent code is = cc
-reply_resets log decoded item Reported code is = cc
+reply_resets log decoded item another code is = cc
 
 -- An item that is read, with a verdict that is no fault of the connection, keeps this.
-reported_up_log : (log : Log) (decoded : Option Decoded) (item : Item) (v : Verdict) (more : ℕ)
+replied_up_log : (log : Log) (decoded : Option Decoded) (item : Item) (v : Verdict)
     → verdict_of (log_view log) decoded item ≡ v
     → ((code : Code) → v ≡ ConnectionFault code → ⊥) → IsUpLog log
-    → IsUpLog (with_reported (with_unreturned more
-    (with_sent (read log decoded item) (replies_to v item)))
-    (events_of (log_view log) decoded v item))
-reported_up_log log decoded item v more is none f =
+    → PendingUp (events_of (log_view log) decoded v item)
+    (with_sent (read log decoded item) (replies_to v item))
+replied_up_log log decoded item v is none f =
     let first = with_sent (read log decoded item) (replies_to v item) in
-    let returned = grows_with_unreturned more first in
-    let g = grows_twice (read log decoded item) first (with_unreturned more first)
-    (grows_wrote (read log decoded item) (replies_to v item)) returned in
-    let reset = λ (code : Code) (fault : v ≡ StreamFault code). ap
-    (list_any (resets (stream_of_item item))) returned.sent
-    ∙ any_after (resets (stream_of_item item)) returned.items first.sent
-    (reply_resets log decoded item v code fault) in
-    let reads = item_reads log decoded v item g.items (with_unreturned more first).sent
-    (rules_is log decoded item v is none) g.sent none reset f in
-    let up_log = up_log_read log.role log.received g.items log.sent
-    (with_unreturned more first).sent log.reported (events_of (log_view log) decoded v item)
-    item g.sent f reads in
-    reports_up_log (with_unreturned more first) (events_of (log_view log) decoded v item)
-    (rw (g.role, g.received, g.reported) up_log)
+    let g = grows_wrote (read log decoded item) (replies_to v item) in
+    let reads = item_reads log decoded v item g.items first.sent
+    (rules_is log decoded item v is none) g.sent none (reply_resets log decoded item v) f in
+    rw (g.role, g.received, g.reported) (up_log_read log.role log.received g.items log.sent
+    first.sent log.reported (events_of (log_view log) decoded v item) item g.sent f reads)
 
 -- The least number that passes is no greater than the greatest.
 least_low : (test : ℕ → Bool) (items : List Item) → least_block test items ≤ greatest_block items
@@ -145,22 +127,6 @@ unprocessed_up_log role received sent reported n low f =
           };
     }
 
--- Reporting it keeps this.
-none_up_log : (log : Log) → IsUpLog log → IsUpLog (took_none log)
-none_up_log log f =
-    let g = grows_with_unreturned
-    (owed_at_close log (with_reported log (UnprocessedEvent (next_unprocessed log) ∷ []))
-    (next_unprocessed log)) log in
-    let after = with_unreturned
-    (owed_at_close log (with_reported log (UnprocessedEvent (next_unprocessed log) ∷ []))
-    (next_unprocessed log)) log in
-    let up_log = up_log_grown log after g f in
-    let low = next_low log in
-    let same = ap greatest_block g.sent in
-    reports_up_log after (UnprocessedEvent (next_unprocessed log) ∷ [])
-    (unprocessed_up_log after.role after.received after.sent after.reported (next_unprocessed log)
-    (omega (arith, greatest_after g.items log.sent)) up_log)
-
 -- A new end's log has it.
 begins_up_log : (role : Role) (values : Values) → IsUpLog (opened role values)
 unfolding opened with_sent reported_total value_read total settings_count resets greatest_block
@@ -183,19 +149,40 @@ begins_up_log role values =
       };
     }
 
+-- Each change of a log keeps it, as long as the connection is up.
+up_kept : (role : Role) (values : Values)
+    → IsPendingInvariant role values (λ events log. log.failed ≡ None → PendingUp events log)
+unfolding with_sent
+up_kept role values =
+    record {
+      opening = λ in_range up. begins_up_log role values;
+      used = λ log octets unparsed f. f;
+      framed = λ log frames f. f;
+      begun = λ log begun begins f. f;
+      complete = λ log f. f;
+      replied = λ log decoded item v replies f up.
+          replied_up_log log decoded item v replies.is replies.up
+          (f ((grows_wrote (read log decoded item) _).up up));
+      named = λ log is was some f up.
+          unprocessed_up_log log.role log.received log.sent log.reported (next_unprocessed log)
+          (next_low log) (f up);
+      reported = λ log event events may f. f;
+      unreturned = λ events log count f. f;
+      returned = λ events log returns f up.
+          up_log_more log.role log.received (alone (WindowUpdate 0 log.unreturned) ∷ []) log.sent
+          (events ++ log.reported) (f up);
+      failed = λ log code last names f up. let wrong : Some code ≡ None = up in cc;
+      sent = λ log act accepted f up.
+          let base = called log act (answer_of (log_view log) act) in
+          let g = grows_wrote base (items_of (log_view log) act (answer_of (log_view log) act)) in
+          up_log_grown base _ g (f (g.up up));
+      called = λ log act answer is none f. f;
+      given = λ log more f. f;
+    }
+
 -- A log that hasn't failed is such a log.
 pub up_log_of : (role : Role) (values : Values) (log : Log) → IsLog role values log
     → log.failed ≡ None → IsUpLog log
-unfolding used
-up_log_of =
-    every_up_log IsUpLog
-    (record {
-      used = λ log octets unparsed f. f;
-      frames = λ log frames f. f;
-      begun = λ log begun f. f;
-      item = reported_up_log;
-      unprocessed = none_up_log;
-      call = λ log act answer may f up. up_log_grown log (with_call log act answer)
-          (grows_call log act answer) f;
-    })
-    begins_up_log
+up_log_of role values =
+    pending_by_logs role values (λ events log. log.failed ≡ None → PendingUp events log)
+    (up_kept role values)

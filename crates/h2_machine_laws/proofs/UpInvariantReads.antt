@@ -14,10 +14,10 @@ use Rattle.h2_log.specs.LogView.{log_view}
 use Rattle.h2_log.specs.Items.{data_on, increment_on, is_block_on, ends, resets, is_goaway}
 use Rattle.h2_log.specs.Items.{is_goaway_below, one_ping, total, greatest_block, stream_of_item}
 use Rattle.h2_log.specs.Events.{one_acked, one_pong, reported_total, greatest_processed}
-use Rattle.h2_log.specs.Events.{processed_by, reports_unprocessed}
+use Rattle.h2_log.specs.Events.{processed_by}
 use Rattle.h2_log.specs.Settings.{settings_count, value_read}
 use Rattle.h2_log.specs.States.{State, Idle, Active, ClosedByUs, Closed, is_above, is_closed_by_us}
-use Rattle.h2_log.specs.States.{state_by, when}
+use Rattle.h2_log.specs.States.{when}
 use Rattle.h2_log.specs.Log.{Log, acked, state, ping_waits, newest_ping}
 use Rattle.h2_log.specs.Verdicts.{Verdict, ConnectionFault, StreamFault, NoEvent, Reported}
 use Rattle.h2_log.specs.Verdicts.{data_verdict, reset_verdict, update_verdict, block_verdict}
@@ -29,14 +29,11 @@ use Rattle.h2_log.specs.declared.role.Role.{Role}
 use Rattle.h2_log.specs.declared.role.Role.TheVariants.{Client, Server}
 use Rattle.h2_log_laws.proofs.ItemLists.{any_after, total_one, total_none}
 use Rattle.h2_log_laws.proofs.ReaderStates.{state_idle}
-use Rattle.h2_machine_laws.proofs.UpInvariant.{IsUpLog, Reads, idle_above, pairs_size}
-
--- The events of an item report no stream as unprocessed.
-pub events_unnamed : (log : Log) (decoded : Option Decoded) (v : Verdict) (item : Item) (i : ℕ)
-    → list_any (reports_unprocessed i) (events_of (log_view log) decoded v item) ≡ false
-unfolding events_of reports_unprocessed
-events_unnamed log decoded Reported (alone (Reset stream code)) i = refl
-events_unnamed log decoded v item i = refl
+use Rattle.h2_log_laws.proofs.LogViewLemmas.{closed_by_us_is}
+use Rattle.h2_log_laws.proofs.LogViewLemmas.{events_unnamed}
+use Rattle.h2_log_laws.proofs.FrameSizes.{pairs_enough}
+use Rattle.h2_log_laws.proofs.RulesByTests.{no_settings_fault}
+use Rattle.h2_machine_laws.proofs.UpInvariant.{IsUpLog, Reads, idle_above}
 
 -- Where a number is idle, at a client, a block on it is a fault of the connection.
 block_fault : (log : Log) (decoded : Option Decoded) (i : ℕ) → log.role ≡ Client
@@ -100,11 +97,6 @@ pub fault_resets : (x : Option Code) (code : Code) → verdict_of_fault x ≡ St
 fault_resets None code is = cc
 fault_resets (Some other) code is = cc
 
--- Where it gives no event, there is no fault.
-fault_no_event : (x : Option Code) → verdict_of_fault x ≡ NoEvent → x ≡ None
-fault_no_event None is = refl
-fault_no_event (Some code) is = cc
-
 -- What is reported by a test passes it.
 pub reported_by : (b : Bool) → (if b then Reported else NoEvent) ≡ Reported → b ≡ true
 reported_by true is = refl
@@ -154,11 +146,11 @@ size_of log decoded (StreamFault code) (alone (Settings false pairs)) is none f 
     absurd (fault_resets _ code is)
 size_of log decoded Reported (alone (Settings false pairs)) is none f = absurd (fault_reported _ is)
 size_of log decoded NoEvent (alone (Settings false pairs)) is none f =
-    pairs_size log _ pairs (fault_no_event _ is) f.size
+    pairs_enough log _ pairs (no_settings_fault _ is) f.size
 size_of log decoded v item is none f = f.size
 
 -- GOAWAY below a number is GOAWAY.
-pub below_goaway : (i : ℕ) (sent : List Item) → list_any (is_goaway_below i) sent ≡ true
+below_goaway : (i : ℕ) (sent : List Item) → list_any (is_goaway_below i) sent ≡ true
     → list_any is_goaway sent ≡ true
 unfolding is_goaway_below is_goaway
 below_goaway i [] some = absurd (both_ways false refl some)
@@ -172,15 +164,6 @@ unfolding is_above
 above_none Client i sent none = refl
 above_none Server i sent none =
     false_from_ne_true _ (λ some. both_ways _ none (below_goaway i sent some))
-
--- A stream in the state ClosedByUs is.
-pub closed_by_us_is : (used active closed_by_us : Bool)
-    → state_by used active closed_by_us ≡ ClosedByUs
-    → closed_by_us ≡ true
-closed_by_us_is true false true is = refl
-closed_by_us_is true true closed_by_us is = cc
-closed_by_us_is true false false is = cc
-closed_by_us_is false active closed_by_us is = cc
 
 -- A block that is ignored is on a stream that this end has closed, where no GOAWAY was written, by
 -- its state.

@@ -35,7 +35,7 @@ stream_same s c i streams =
     ∙ entry_stream (active_by_items c i) (list_any (resets i) c.sent) (said c i)
 
 -- Each stream is active where the log says so, and is the stream that it says.
-pub stream_agrees : (e : End) (log : Log) (i : ℕ) → StreamsOf e.streams (core log)
+stream_agrees : (e : End) (log : Log) (i : ℕ) → StreamsOf e.streams (core log)
     → stream_at e i ≡ when (active log i) (stream_of_log log i)
 unfolding unreleased
 stream_agrees e log i streams = stream_same e.streams (core log) i streams

@@ -1,7 +1,7 @@
 -- An end's role, whether it has failed, and what waits of its output, are the log's: what steps
 -- make
 -- of them.
-use Rattle.std.proofs.Common.{◌≡◌, ℕ, ◌+◌, Bool, true, false, if◌then◌else◌, List, [], ◌∷◌, ◌++◌}
+use Rattle.std.proofs.Common.{◌≡◌, ℕ, ◌+◌, List, [], ◌∷◌, ◌++◌}
 use Rattle.std.proofs.Common.{length, Option, Some, refl, ap, sym, ◌∙◌, arith, append-nil}
 use Rattle.std.proofs.Common.{length-append, length-drop}
 use Rattle.std.proofs.lemmas.List.{drop-append-le}
@@ -113,17 +113,13 @@ unfolding with_reported
 reports_connection role failed waits log [] s = s
 reports_connection role failed waits log (event ∷ events) s = s
 
--- What is unreturned, by the test whether it is returned.
-pub with_unreturned_connection_by : (role : Role) (failed : Option Code) (waits : List ℕ)
-    (log : Log) (more unreturned : ℕ) (b : Bool) → unreturned ≡ log.unreturned
-    → ConnectionFacts role failed waits log
-    → ConnectionFacts role failed (if b then waits
-    ++ encoding_of_items max_frame_size_sent (alone (WindowUpdate 0
-    (unreturned + more)) ∷ []) else waits)
-    (if b then with_credit_returned (record log { unreturned = log.unreturned + more }) else record
-    log { unreturned = log.unreturned + more })
+-- What is unreturned is returned.
+pub credit_connection : (role : Role) (failed : Option Code) (waits : List ℕ) (log : Log)
+    (more unreturned : ℕ) → unreturned ≡ log.unreturned → ConnectionFacts role failed waits log
+    → ConnectionFacts role failed (waits
+    ++ encoding_of_items max_frame_size_sent (alone (WindowUpdate 0 (unreturned + more)) ∷ []))
+    (with_credit_returned (record log { unreturned = log.unreturned + more }))
 unfolding with_sent
-with_unreturned_connection_by role failed waits log more unreturned true same s =
+credit_connection role failed waits log more unreturned same s =
     rw same (wrote_connection role failed waits log (alone (WindowUpdate 0 (log.unreturned + more)))
     [] s)
-with_unreturned_connection_by role failed waits log more unreturned false same s = s

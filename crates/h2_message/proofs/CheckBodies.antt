@@ -5,17 +5,13 @@ use Rattle.std.specs.Str.{bytes_eq}
 use Rattle.hpack.specs.declared.types.field.Field.{Field}
 use Rattle.h2_message.specs.Fields.{status_of}
 use Rattle.h2_message.specs.Messages.{is_without_content}
+use Rattle.hpack.proofs.LimitLemmas.{or_assoc as without-by}
 
 -- What follows a test that holds may be anything.
 pub or-where : (bad first second : Bool) → (bad ≡ false → first ≡ second)
     → (bad || first) ≡ (bad || second)
 or-where true first second same = refl
 or-where false first second same = same refl
-
-without-by : (to_head first second : Bool)
-    → ((to_head || first) || second) ≡ (to_head || (first || second))
-without-by true first second = refl
-without-by false first second = refl
 
 -- A response has no content to HEAD, or by its status.
 pub without : (to_head none : Bool) (fields : List Field) → none ≡ is_without_content false fields

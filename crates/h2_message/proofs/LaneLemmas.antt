@@ -10,6 +10,7 @@ use Rattle.std.proofs.lemmas.Simd.{map-map, mask_l-mod, zip2_splat, zip2_splat_l
 use Rattle.std.specs.List.{list_any}
 use Rattle.std.specs.Simd.{first_chunks}
 use lib.Lanes.{mask_l, top, zip2}
+use Rattle.hpack.proofs.LimitLemmas.{or_assoc as or-assoc}
 
 -- twice a number is zero where the number is
 twice_zero : (m : ℕ) → eqb (0 + 2 * m) 0 ≡ eqb m 0
@@ -107,10 +108,6 @@ one_of_name low from_a to_z high colon =
     (and_full from_a to_z)
     ∙ ap (λ n. top 7 (bit_or (bit_or n (full high)) (full colon))) (or_full low (from_a && to_z))
     ∙ one_of_three (low || (from_a && to_z)) high colon
-
-or-assoc : (a b c : Bool) → ((a || b) || c) ≡ (a || (b || c))
-or-assoc true b c = refl
-or-assoc false b c = refl
 
 or_with_false : (a : Bool) → a ≡ (a || false)
 or_with_false true = refl

@@ -16,6 +16,7 @@ use Rattle.h2_message.specs.Reading.{IsWellRead, as_read, final_rules, compared_
 use Rattle.h2_message.specs.Reading.{IsDeclared, AreSoundTrailers}
 use Rattle.h2_message.proofs.ReadingRules.{NoneHold, none_hold, none_broken}
 use Rattle.h2_message.proofs.ReadingWhole.{no_interims}
+use Rattle.hpack.proofs.Tests.{not_false as same_by_test}
 
 -- Trailers of which no condition holds are sound, and so are none.
 sound_trailers : (trailers : Option (List Field))
@@ -23,11 +24,6 @@ sound_trailers : (trailers : Option (List Field))
 unfolding AreSoundTrailers trailer_fields
 sound_trailers None hold = tt
 sound_trailers (Some fields) hold = none_broken (trailer_rules fields) hold
-
--- equal by their test
-same_by_test : (test : Bool) → not test ≡ false → test ≡ true
-same_by_test true same = refl
-same_by_test false same = cc
 
 -- A length that doesn't differ is the declared one.
 declared_same : (declared : Option ℕ) (sum count : ℕ) → differs_from declared count ≡ false

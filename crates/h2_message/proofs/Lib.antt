@@ -1,10 +1,10 @@
 mod LaneLemmas
 mod OctetLemmas
 mod ClassLemmas
-mod ReadingRules
-mod PhaseSteps
+pub mod ReadingRules
+pub mod PhaseSteps
 pub mod PhaseWhole
-mod ReadingWhole
+pub mod ReadingWhole
 mod ReadingSteps
 mod PhaseEnds
 mod ReadingHeads

@@ -12,7 +12,8 @@ use Rattle.h2_message.specs.Fields.{has_bad_status, is_interim, has_bad_length, 
 use Rattle.h2_message.specs.Reading.{final_rules, compared_length}
 use Rattle.h2_message.specs.Phases.{phase_in_body, phase_after_final, phase_after_head}
 use Rattle.h2_message.specs.Phases.{place_at_head}
-use Rattle.h2_message.proofs.ReadingRules.{none_hold, none_not_some, some_not_none, interim_status}
+use Rattle.h2_message.proofs.ReadingRules.{none_hold, some_not_none, interim_status}
+use Rattle.hpack.proofs.Tests.{none_since as none_not_some}
 use Rattle.h2_message.proofs.ReadingRules.{final_status}
 use Rattle.h2_message.proofs.PhaseWhole.{after_final, after_interim}
 

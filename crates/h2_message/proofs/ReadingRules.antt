@@ -33,10 +33,6 @@ pub some_not_none : {X : Type 0} (option : Option X) → (option ≡ None → �
 some_not_none None other = absurd (other refl)
 some_not_none (Some value) other = refl
 
-pub none_not_some : {X : Type 0} (option : Option X) → is_some option ≡ false → option ≡ None
-none_not_some None none = refl
-none_not_some (Some value) none = cc
-
 -- Whether the rule that is found is one.
 pub known_rule : (found rule : Option Malformed) (test : Bool) → test ≡ is_some found → found ≡ rule
     → is_some rule ≡ test

@@ -17,7 +17,7 @@ use Rattle.h2_message.specs.Reading.{AreSoundInterims, trailers_parts, message_p
 use Rattle.h2_message.specs.Reading.{ended, IsReadable}
 use Rattle.h2_message.specs.Phases.{is_short, phase_in_body, phase_after_final, phase_after_head}
 use Rattle.h2_message.specs.Phases.{phase_after_data, phase_after, phase_after_all}
-use Rattle.h2_message.proofs.ReadingRules.{none_not_some}
+use Rattle.hpack.proofs.Tests.{none_since as none_not_some}
 use Rattle.h2_message.proofs.PhaseSteps.{after_none}
 use Rattle.h2_message.proofs.PhaseWhole.{body_parts, ended_more}
 use Rattle.h2_message.proofs.ReadingWhole.{WholeBody, WholeMessage, Completes, something_comes}

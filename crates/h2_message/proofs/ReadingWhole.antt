@@ -51,7 +51,7 @@ Completes reads (InBody left) rest = WholeBody left rest
 Completes reads AtEnd rest = rest ≡ []
 
 -- The sum of one length.
-one_sum : (octets : List ℕ) → sum_by length (octets ∷ []) ≡ length octets
+pub one_sum : (octets : List ℕ) → sum_by length (octets ∷ []) ≡ length octets
 one_sum octets = rw sum_by-cons (omega arith)
 
 -- a head that breaks no rule and declares no length

@@ -17,11 +17,6 @@ use Rattle.h2_message.specs.Messages.{first_broken}
 use Rattle.h2_message.specs.Scans.{IsScan, HasPseudo}
 use Rattle.h2_message.proofs.ScanPseudo.{kept-any}
 
--- What `is_none` says.
-pub none-is : (some none : Bool) → some ≡ not none → none ≡ not some
-none-is some true is = ap not (sym is)
-none-is some false is = ap not (sym is)
-
 three-lack : (a b c : Bool)
     → ((not a || not b) || not c) ≡ (not a || (not b || (not c || false)))
 three-lack false b c = refl

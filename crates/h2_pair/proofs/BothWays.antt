@@ -8,7 +8,7 @@ use Rattle.h2_log.specs.Settings.{is_server}
 use Rattle.h2_log.specs.LogCalls.{opened}
 use Rattle.h2_log.specs.Histories.{IsLog}
 use Rattle.h2_pair.specs.Pairs.{Half, HalfStep, IsPair, begins, client_steps, server_steps}
-use Rattle.h2_pair.proofs.PairLogs.{half_comes_about, other_same, both_logs}
+use Rattle.h2_pair.proofs.PairLogs.{both_logs}
 
 -- Two ends of opposite roles, whose logs come about.
 pub record AreEnds (writer reader : Half) : Type 0 where
@@ -19,36 +19,6 @@ pub record AreEnds (writer reader : Half) : Type 0 where
   pub opposite : is_server reader_role ≡ not (is_server writer_role)
   pub writer_log : IsLog writer_role writer_values writer.log
   pub reader_log : IsLog reader_role reader_values reader.log
-
--- They stay so when the writer makes a step.
-pub after_writer : (writer reader : Half) {new_writer new_reader : Half} → AreEnds writer reader
-    → HalfStep writer reader new_writer new_reader → AreEnds new_writer new_reader
-after_writer writer reader ends step =
-    record {
-      writer_role = ends.writer_role;
-      reader_role = ends.reader_role;
-      writer_values = ends.writer_values;
-      reader_values = ends.reader_values;
-      opposite = ends.opposite;
-      writer_log = half_comes_about _ _ writer reader ends.writer_log step;
-      reader_log = other_same writer reader step (IsLog ends.reader_role ends.reader_values)
-          ends.reader_log;
-    }
-
--- And when the reader does.
-pub after_reader : (writer reader : Half) {new_writer new_reader : Half} → AreEnds writer reader
-    → HalfStep reader writer new_reader new_writer → AreEnds new_writer new_reader
-after_reader writer reader ends step =
-    record {
-      writer_role = ends.writer_role;
-      reader_role = ends.reader_role;
-      writer_values = ends.writer_values;
-      reader_values = ends.reader_values;
-      opposite = ends.opposite;
-      writer_log = other_same reader writer step (IsLog ends.writer_role ends.writer_values)
-          ends.writer_log;
-      reader_log = half_comes_about _ _ reader writer ends.reader_log step;
-    }
 
 -- The ends of a pair, one way and the other.
 pub ends_to_server : (client_values server_values : Values) (client server : Half)
@@ -79,17 +49,36 @@ ends_to_client client_values server_values client server is =
       reader_log = both.client_log;
     }
 
+-- One direction of a pair: from the end that writes to the one that reads.
+pub data IsDirection : Half → Half → Type 0 where
+  to_server : {client_values server_values : Values} {client server : Half}
+      → IsPair client_values server_values client server → IsDirection client server
+  to_client : {client_values server_values : Values} {client server : Half}
+      → IsPair client_values server_values client server → IsDirection server client
+
+-- Its ends, and the other direction.
+pub ends_of : (writer reader : Half) → IsDirection writer reader → AreEnds writer reader
+ends_of _ _ (to_server is) = ends_to_server _ _ _ _ is
+ends_of _ _ (to_client is) = ends_to_client _ _ _ _ is
+
+pub back_of : (writer reader : Half) → IsDirection writer reader → IsDirection reader writer
+back_of _ _ (to_server is) = to_client is
+back_of _ _ (to_client is) = to_server is
+
 -- a new end
 abbrev pub new_half : Role → Values → Half
 new_half role values = record { log = opened role values; incoming = []; lost = [] }
 
--- What stands between new ends, and steps at either end keep.
+-- What stands between new ends, and steps at either end keep: of each the pair before and after is
+-- known.
 pub record IsKept (P : Half → Half → Type 0) : Type 0 where
   pub at_first : (role other : Role) (values others : Values)
       → P (new_half role values) (new_half other others)
-  pub by_writer : (writer reader : Half) {new_writer new_reader : Half} → AreEnds writer reader
+  pub by_writer : (writer reader : Half) {new_writer new_reader : Half}
+      → IsDirection writer reader → IsDirection new_writer new_reader
       → HalfStep writer reader new_writer new_reader → P writer reader → P new_writer new_reader
-  pub by_reader : (writer reader : Half) {new_writer new_reader : Half} → AreEnds writer reader
+  pub by_reader : (writer reader : Half) {new_writer new_reader : Half}
+      → IsDirection writer reader → IsDirection new_writer new_reader
       → HalfStep reader writer new_reader new_writer → P writer reader → P new_writer new_reader
 
 -- It stands in both directions between the ends of every pair.
@@ -102,17 +91,21 @@ both_ways P kept client_values server_values _ _ (begins in_range others_in_rang
 )
 both_ways P kept client_values server_values _ _
     (client_steps {client = client} {server = server} is step) =
-    let before = both_ways P kept client_values server_values client server is in (
-      kept.by_writer client server
-          (ends_to_server client_values server_values client server is) step before.0,
-      kept.by_reader server client
-          (ends_to_client client_values server_values client server is) step before.1,
+    let before = both_ways P kept client_values server_values client server is in
+    let after = client_steps is step in (
+      kept.by_writer client server (to_server is) (to_server after) step before.0,
+      kept.by_reader server client (to_client is) (to_client after) step before.1,
     )
 both_ways P kept client_values server_values _ _
     (server_steps {client = client} {server = server} is step) =
-    let before = both_ways P kept client_values server_values client server is in (
-      kept.by_reader client server
-          (ends_to_server client_values server_values client server is) step before.0,
-      kept.by_writer server client
-          (ends_to_client client_values server_values client server is) step before.1,
+    let before = both_ways P kept client_values server_values client server is in
+    let after = server_steps is step in (
+      kept.by_reader client server (to_server is) (to_server after) step before.0,
+      kept.by_writer server client (to_client is) (to_client after) step before.1,
     )
+
+-- So it stands in each direction.
+pub each_way : (P : Half → Half → Type 0) → IsKept P → (writer reader : Half)
+    → IsDirection writer reader → P writer reader
+each_way P kept _ _ (to_server is) = (both_ways P kept _ _ _ _ is).0
+each_way P kept _ _ (to_client is) = (both_ways P kept _ _ _ _ is).1

@@ -1,6 +1,8 @@
--- Items are carried from one end to the other.
-use Rattle.std.proofs.Common.{◌≡◌, ◌⊎◌, inl, inr, ℕ, List, ◌++◌, take, drop, None, sym}
-use Rattle.std.proofs.Common.{ap, ◌∙◌, append_assoc, append-nil}
+-- The items that one end has received are the first of those that the other has sent, and lie in
+-- the octets that this one has given out.
+use Rattle.std.proofs.Common.{◌≡◌, ◌⊎◌, inl, inr, ℕ, List, ◌++◌, take, drop, None, sym, refl, ap}
+use Rattle.std.proofs.Common.{◌∙◌, append_assoc, append-nil, ◌≤◌, length, not, arith, subst}
+use Rattle.std.proofs.Common.{length-append, length-take}
 use Rattle.std.proofs.lemmas.List.{take-append-drop}
 use Rattle.h2_block.specs.Grouping.{Item}
 use Rattle.h2_log.specs.declared.role.Role.{Role}
@@ -9,18 +11,28 @@ use Rattle.h2_log.specs.LogSteps.{with_sent}
 use Rattle.h2_log.specs.LogCalls.{opened}
 use Rattle.h2_log_laws.proofs.LogGrowth.{grows_call}
 use Rattle.h2_pair.specs.Pairs.{Half, HalfStep, calls, takes, loses, IsPair}
-use Rattle.h2_pair.specs.Directions.{CarriesOctets, AreUnderWay}
-use Rattle.h2_pair.proofs.LogOutput.{gives_call}
-use Rattle.h2_pair.proofs.StepsOfLogs.{step_up, step_adds}
-use Rattle.h2_pair.proofs.BothWays.{AreEnds, after_reader, both_ways, new_half}
-use Rattle.h2_pair.proofs.CarriedOctets.{carries_is_kept}
+use Rattle.h2_pair.specs.Directions.{AreUnderWay}
+use Rattle.h2_pair.proofs.LogOutput.{gives_call, Gives, gives_reads}
+use Rattle.h2_pair.proofs.StepsOfLogs.{step_up, step_holds}
+use Rattle.h2_pair.proofs.BothWays.{AreEnds, IsDirection, to_server, to_client, ends_of, IsKept}
+use Rattle.h2_pair.proofs.BothWays.{each_way, new_half}
+use Rattle.h2_pair.proofs.CarriedOctets.{carried}
 use Rattle.h2_pair.proofs.ItemsRead.{received_first, step_same_or_up}
+use Rattle.h2_wire.specs.Streams.{expected_preface}
+use Rattle.h2_log.specs.Settings.{is_server}
+use Rattle.h2_log.proofs.StreamLemmas.{stream_of_log}
+use Rattle.h2_pair.proofs.PairLogs.{half_comes_about, other_same}
+use Rattle.h2_pair.proofs.WaitingCarried.{LieIn, received_lie}
 
--- Octets and items are carried.
-record Carries (writer reader : Half) : Type 0 where
-  pub octets : CarriesOctets writer reader
+-- what stands before the items of an end's output
+abbrev pub before : Role → ℕ
+before role = length (expected_preface (not (is_server role)))
+
+-- Items are under way, and those that were received lie in what was given out.
+pub record Carries (writer reader : Half) : Type 0 where
   pub way : List Item
   pub under_way : AreUnderWay writer.log reader.log way
+  pub lie : LieIn (before writer.log.role) writer.log.given reader.log.received
 
 -- The output begins with the input of the other end.
 begins_with_input : (input pipe written : List ℕ) (given : ℕ) → input ++ pipe ≡ take given written
@@ -30,80 +42,97 @@ begins_with_input input pipe written given is =
     ∙ ap (λ (octets : List ℕ). octets ++ drop given written) (sym is)
     ∙ append_assoc input pipe (drop given written)
 
--- Between ends whose reader is up they are, where octets are.
-up_carries : (writer reader : Half) → AreEnds writer reader → reader.log.failed ≡ None
-    → CarriesOctets writer reader → Carries writer reader
-up_carries writer reader ends up octets =
-    let first = received_first ends.writer_role ends.reader_role ends.writer_values
-    ends.reader_values writer.log reader.log _ ends.opposite ends.writer_log ends.reader_log
-    (begins_with_input reader.log.input _ writer.log.written writer.log.given octets.carried) up in
-    record { octets = octets; way = first.0; under_way = first.1 }
+-- It has no more octets than were given out.
+input_within : (input pipe written : List ℕ) (given : ℕ) → input ++ pipe ≡ take given written
+    → length input ≤ given
+input_within input pipe written given is =
+    let same : length (input ++ pipe) ≡ length (take given written) = ap length is in
+    omega (arith, same, length-append input pipe, length-take given written)
 
--- More was sent.
-more_sent : (sent more way received after : List Item) → after ≡ more ++ sent
-    → sent ≡ way ++ received → after ≡ (more ++ way) ++ received
-more_sent sent more way received after is before =
-    is ∙ ap (λ (items : List Item). more ++ items) before ∙ sym (append_assoc more way received)
+-- Items lie in more octets, too.
+lie_more : (preceding count more : ℕ) (items : List Item) → count ≤ more
+    → LieIn preceding count items → LieIn preceding more items
+lie_more preceding count more items few (inl none) = inl none
+lie_more preceding count more items few (inr fits) = inr (omega (arith, few, fits))
 
--- As much was received.
-same_received : (sent way received after : List Item) → after ≡ received → sent ≡ way ++ received
-    → sent ≡ way ++ after
-same_received sent way received after is before =
-    before ∙ ap (λ (items : List Item). way ++ items) (sym is)
-
--- By a step of the writer.
-writer_way : (writer reader : Half) {new_writer new_reader : Half}
-    → HalfStep writer reader new_writer new_reader → (way : List Item)
-    → AreUnderWay writer.log reader.log way
-    → (after : List Item) × AreUnderWay new_writer.log new_reader.log after
-writer_way writer reader (calls act answer typed may) way before =
-    let gives = gives_call writer.log act answer in (
-      gives.items ++ way,
-      more_sent writer.log.sent gives.items way reader.log.received _ gives.sent
-          before,
-    )
-writer_way writer reader (takes step rest may none came) way before =
-    let adds = step_adds writer.log step none in (
-      adds.items ++ way,
-      more_sent writer.log.sent adds.items way reader.log.received _ adds.sent
-          before,
-    )
-writer_way writer reader (loses octets rest failed came) way before = (way, before)
-
-writer_carries : (writer reader : Half) {new_writer new_reader : Half} → AreEnds writer reader
-    → HalfStep writer reader new_writer new_reader → Carries writer reader
-    → Carries new_writer new_reader
-writer_carries writer reader ends step before =
-    let way = writer_way writer reader step before.way before.under_way in
+-- Between ends whose reader is up it is so by the octets.
+up_carries : (writer reader : Half) → IsDirection writer reader → reader.log.failed ≡ None
+    → Carries writer reader
+up_carries writer reader is up =
+    let ends = ends_of writer reader is in
+    let octets = carried writer reader is in
+    let joined = begins_with_input reader.log.input _ writer.log.written writer.log.given
+    octets.carried in
+    let first = received_first writer reader _ ends joined up in
     record {
-      octets = carries_is_kept.by_writer writer reader ends step before.octets;
-      way = way.0;
-      under_way = way.1;
+      way = first.0;
+      under_way = first.1;
+      lie = subst (λ (role : Role). LieIn (before role) writer.log.given reader.log.received)
+          (sym (stream_of_log _ _ writer.log ends.writer_log).role)
+          (lie_more _ (length reader.log.input) writer.log.given reader.log.received
+          (input_within reader.log.input _ writer.log.written writer.log.given octets.carried)
+          (received_lie writer reader _ ends joined up));
     }
 
--- By a step of the reader: either it has received the same, or it is up.
-reader_way : (writer reader : Half) {new_writer new_reader : Half}
-    → HalfStep reader writer new_reader new_writer → (way : List Item)
-    → AreUnderWay writer.log reader.log way
-    → AreUnderWay new_writer.log new_reader.log way ⊎ (new_reader.log.failed ≡ None)
-reader_way writer reader (calls act answer typed may) way before =
-    inl (same_received writer.log.sent way reader.log.received _
-    (grows_call reader.log act answer).received before)
-reader_way writer reader (takes step rest may none came) way before =
-    elim (step_same_or_up reader.log step none (step_up reader.log step none may)) [
-      | inl same ↦ inl (same_received writer.log.sent way reader.log.received _ same before)
-      | inr up ↦ inr up
-    ]
-reader_way writer reader (loses octets rest failed came) way before = inl before
+-- A step of the writer: more was sent, no less given out, and the same received.
+writer_gives : (writer reader : Half) {new_writer new_reader : Half}
+    → HalfStep writer reader new_writer new_reader
+    → Gives writer.log new_writer.log × (new_reader.log.received ≡ reader.log.received)
+writer_gives writer reader (calls act answer typed may) =
+    (gives_call writer.log act answer, refl)
+writer_gives writer reader (takes step rest may none came) =
+    (step_holds Gives gives_reads writer.log step none, refl)
+writer_gives writer reader (loses octets rest failed came) =
+    (gives_reads.failures.writes.none writer.log, refl)
 
-reader_carries : (writer reader : Half) {new_writer new_reader : Half} → AreEnds writer reader
+-- The role of an end stays.
+same_role : (writer reader : Half) {new_writer new_reader : Half} → AreEnds writer reader
+    → HalfStep writer reader new_writer new_reader → new_writer.log.role ≡ writer.log.role
+same_role writer reader {new_writer} {new_reader} ends step =
+    (stream_of_log _ _ new_writer.log (half_comes_about ends.writer_role ends.writer_values writer
+    reader ends.writer_log step)).role ∙ sym (stream_of_log _ _ writer.log ends.writer_log).role
+
+writer_carries : (writer reader : Half) {new_writer new_reader : Half}
+    → IsDirection writer reader → IsDirection new_writer new_reader
+    → HalfStep writer reader new_writer new_reader → Carries writer reader
+    → Carries new_writer new_reader
+writer_carries writer reader {new_writer} {new_reader} is now step carries =
+    let both = writer_gives writer reader step in
+    record {
+      way = both.0.items ++ carries.way;
+      under_way = both.0.sent ∙ ap (λ (items : List Item). both.0.items ++ items)
+          (carries.under_way ∙ ap (λ (items : List Item). carries.way ++ items) (sym both.1))
+          ∙ sym (append_assoc both.0.items carries.way new_reader.log.received);
+      lie = rw (same_role writer reader (ends_of writer reader is) step, both.1)
+          (lie_more _ writer.log.given new_writer.log.given _ both.0.given carries.lie);
+    }
+
+-- A step of the reader: either it has received the same, or it is up.
+reader_same_or_up : (writer reader : Half) {new_writer new_reader : Half}
+    → HalfStep reader writer new_reader new_writer
+    → (new_reader.log.received ≡ reader.log.received) ⊎ (new_reader.log.failed ≡ None)
+reader_same_or_up writer reader (calls act answer typed may) =
+    inl (grows_call reader.log act answer).received
+reader_same_or_up writer reader (takes step rest may none came) =
+    step_same_or_up reader.log step none (step_up reader.log step none may)
+reader_same_or_up writer reader (loses octets rest failed came) = inl refl
+
+reader_carries : (writer reader : Half) {new_writer new_reader : Half}
+    → IsDirection writer reader → IsDirection new_writer new_reader
     → HalfStep reader writer new_reader new_writer → Carries writer reader
     → Carries new_writer new_reader
-reader_carries writer reader {new_writer} {new_reader} ends step before =
-    let octets = carries_is_kept.by_reader writer reader ends step before.octets in
-    elim (reader_way writer reader step before.way before.under_way) [
-      | inl under_way ↦ record { octets = octets; way = before.way; under_way = under_way }
-      | inr up ↦ up_carries new_writer new_reader (after_reader writer reader ends step) up octets
+reader_carries writer reader {new_writer} {new_reader} is now step carries =
+    elim (reader_same_or_up writer reader step) [
+      | inl same ↦ record {
+        way = carries.way;
+        under_way = other_same reader writer step
+            (λ log. AreUnderWay log new_reader.log carries.way)
+            (carries.under_way ∙ ap (λ (items : List Item). carries.way ++ items) (sym same));
+        lie = other_same reader writer step
+            (λ log. LieIn (before log.role) log.given new_reader.log.received)
+            (rw same carries.lie);
+      }
+      | inr up ↦ up_carries new_writer new_reader now up
     ]
 
 -- New ends.
@@ -112,18 +141,27 @@ new_carries : (role other : Role) (values others : Values)
 unfolding opened with_sent
 new_carries role other values others =
     record {
-      octets = carries_is_kept.at_first role other values others;
       way = (opened role values).sent;
       under_way = sym (append-nil (opened role values).sent);
+      lie = inl refl;
     }
 
--- They are carried both ways, by every pair.
+-- It is so in each direction of every pair.
+carries_is_kept : IsKept Carries
+carries_is_kept =
+    record { at_first = new_carries; by_writer = writer_carries; by_reader = reader_carries }
+
+pub items_carried : (writer reader : Half) → IsDirection writer reader → Carries writer reader
+items_carried = each_way Carries carries_is_kept
+
+pub way_of : (writer reader : Half) → IsDirection writer reader
+    → (way : List Item) × AreUnderWay writer.log reader.log way
+way_of writer reader is =
+    let carries = items_carried writer reader is in (carries.way, carries.under_way)
+
 pub items_both_ways : (client_values server_values : Values) (client server : Half)
     → IsPair client_values server_values client server
     → ((way : List Item) × AreUnderWay client.log server.log way)
     × ((way : List Item) × AreUnderWay server.log client.log way)
 items_both_ways client_values server_values client server is =
-    let both = both_ways Carries
-    (record { at_first = new_carries; by_writer = writer_carries; by_reader = reader_carries })
-    client_values server_values client server is in
-    ((both.0.way, both.0.under_way), (both.1.way, both.1.under_way))
+    (way_of client server (to_server is), way_of server client (to_client is))

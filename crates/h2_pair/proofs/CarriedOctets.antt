@@ -1,6 +1,6 @@
 -- Octets are carried from one end to the other.
-use Rattle.std.proofs.Common.{◌≡◌, ◌≤◌, ℕ, List, [], ◌++◌, length, take, refl, sym, ap}
-use Rattle.std.proofs.Common.{◌∙◌, append_assoc}
+use Rattle.std.proofs.Common.{◌≡◌, ◌≤◌, ℕ, List, [], ◌++◌, length, take, refl, sym, ap, ◌∙◌}
+use Rattle.std.proofs.Common.{append_assoc}
 use Rattle.std.proofs.lemmas.List.{take-append-drop, take-append-le, take-take}
 use Rattle.h2_log.specs.declared.role.Role.{Role}
 use Rattle.h2_log.specs.Acts.{Values}
@@ -10,14 +10,14 @@ use Rattle.h2_log.specs.LogCalls.{opened, with_call}
 use Rattle.h2_log.proofs.StreamLemmas.{Keeps-call}
 use Rattle.h2_machine_laws.specs.Machines.{log_after}
 use Rattle.h2_pair.specs.Pairs.{Half, HalfStep, calls, takes, loses, given_out, given_since}
-use Rattle.h2_pair.specs.Pairs.{octets_used, IsPair}
+use Rattle.h2_pair.specs.Pairs.{octets_used}
 use Rattle.h2_pair.specs.Directions.{CarriesOctets}
 use Rattle.h2_pair.proofs.LogOutput.{Adds, Gives, gives_call}
 use Rattle.h2_pair.proofs.StepsOfLogs.{step_up, step_input, step_adds, given_within}
-use Rattle.h2_pair.proofs.BothWays.{AreEnds, IsKept, both_ways, new_half}
+use Rattle.h2_pair.proofs.BothWays.{IsDirection, ends_of, IsKept, each_way, new_half}
 
 -- Where octets are added and no fewer given out, those given out before are the first.
-given_more : (old new : Log) → old.given ≤ length old.written → Gives old new
+pub given_more : (old new : Log) → old.given ≤ length old.written → Gives old new
     → given_out new ≡ given_out old ++ given_since old new
 given_more old new within gives =
     let first : take old.given (given_out new) ≡ given_out old =
@@ -28,7 +28,7 @@ given_more old new within gives =
     ∙ ap (λ (octets : List ℕ). octets ++ given_since old new) first
 
 -- Where octets are added alone, the same are given out.
-given_same : (old new : Log) → old.given ≤ length old.written → Adds old new
+pub given_same : (old new : Log) → old.given ≤ length old.written → Adds old new
     → given_out new ≡ given_out old
 given_same old new within adds =
     ap (λ (count : ℕ). take count new.written) adds.given
@@ -44,25 +44,28 @@ joined_more input lost incoming more given is =
     ∙ ap (λ (octets : List ℕ). octets ++ more) is
 
 -- By a step of the writer.
-writer_carries : (writer reader : Half) {new_writer new_reader : Half} → AreEnds writer reader
+writer_carries : (writer reader : Half) {new_writer new_reader : Half}
+    → IsDirection writer reader → IsDirection new_writer new_reader
     → HalfStep writer reader new_writer new_reader → CarriesOctets writer reader
     → CarriesOctets new_writer new_reader
-writer_carries writer reader ends (calls act answer typed may) before =
+writer_carries writer reader is now (calls act answer typed may) before =
     let after = with_call writer.log act answer in
     let more = given_more writer.log after
-    (given_within _ _ writer.log ends.writer_log) (gives_call writer.log act answer) in
+    (given_within _ _ writer.log (ends_of writer reader is).writer_log)
+    (gives_call writer.log act answer) in
     record {
       carried = joined_more reader.log.input reader.lost reader.incoming
           (given_since writer.log after) (given_out writer.log) before.carried ∙ sym more;
       none_lost = before.none_lost;
     }
-writer_carries writer reader ends (takes step rest may none came) before =
+writer_carries writer reader is now (takes step rest may none came) before =
     record {
       carried = before.carried ∙ sym (given_same writer.log (log_after writer.log step)
-          (given_within _ _ writer.log ends.writer_log) (step_adds writer.log step none));
+          (given_within _ _ writer.log (ends_of writer reader is).writer_log)
+          (step_adds writer.log step none));
       none_lost = before.none_lost;
     }
-writer_carries writer reader ends (loses octets rest failed came) before =
+writer_carries writer reader is now (loses octets rest failed came) before =
     record { carried = before.carried; none_lost = before.none_lost }
 
 -- Octets of the pipe are used, where none was lost.
@@ -79,17 +82,18 @@ lost_joined input lost incoming octets rest given came is =
     ap (λ (line : List ℕ). input ++ line) (append_assoc lost octets rest) ∙ rw came at is
 
 -- By a step of the reader.
-reader_carries : (writer reader : Half) {new_writer new_reader : Half} → AreEnds writer reader
+reader_carries : (writer reader : Half) {new_writer new_reader : Half}
+    → IsDirection writer reader → IsDirection new_writer new_reader
     → HalfStep reader writer new_reader new_writer → CarriesOctets writer reader
     → CarriesOctets new_writer new_reader
-reader_carries writer reader ends (calls act answer typed may) before =
+reader_carries writer reader is now (calls act answer typed may) before =
     let keeps = Keeps-call reader.log act answer in
     record {
       carried = ap (λ (input : List ℕ). input ++ (reader.lost ++ reader.incoming)) keeps.input
           ∙ before.carried;
       none_lost = λ up. before.none_lost (keeps.up up);
     }
-reader_carries writer reader ends (takes step rest may none came) before =
+reader_carries writer reader is now (takes step rest may none came) before =
     let lost = before.none_lost (step_up reader.log step none may) in
     record {
       carried = ap (λ (input : List ℕ). input ++ (reader.lost ++ rest))
@@ -98,7 +102,7 @@ reader_carries writer reader ends (takes step rest may none came) before =
           (given_out writer.log) lost came before.carried;
       none_lost = λ up. lost;
     }
-reader_carries writer reader ends (loses octets rest failed came) before =
+reader_carries writer reader is now (loses octets rest failed came) before =
     record {
       carried = lost_joined reader.log.input reader.lost reader.incoming octets rest
           (given_out writer.log) came before.carried;
@@ -111,12 +115,10 @@ new_carries : (role other : Role) (values others : Values)
 unfolding opened with_sent
 new_carries role other values others = record { carried = refl; none_lost = λ up. refl }
 
--- They are carried both ways, by every pair.
-pub carries_is_kept : IsKept CarriesOctets
+-- They are carried in each direction of every pair.
+carries_is_kept : IsKept CarriesOctets
 carries_is_kept =
     record { at_first = new_carries; by_writer = writer_carries; by_reader = reader_carries }
 
-pub carried_both_ways : (client_values server_values : Values) (client server : Half)
-    → IsPair client_values server_values client server
-    → CarriesOctets client server × CarriesOctets server client
-carried_both_ways = both_ways CarriesOctets carries_is_kept
+pub carried : (writer reader : Half) → IsDirection writer reader → CarriesOctets writer reader
+carried = each_way CarriesOctets carries_is_kept

@@ -1,5 +1,5 @@
 -- The connection's window is conserved between the ends of a pair.
-use Rattle.std.proofs.Common.{◌≡◌, ℕ, ◌<◌, List, None, ◌∙◌, arith}
+use Rattle.std.proofs.Common.{◌≡◌, ℕ, ◌<◌, List, None, ◌∙◌, arith, ◌+◌, ℤ, pos, ◌+ℤ◌, ap}
 use Rattle.h2_block.specs.Grouping.{Item}
 use Rattle.h2_log.specs.Acts.{Values}
 use Rattle.h2_log.specs.Items.{total, data_of, increment_on}
@@ -7,12 +7,10 @@ use Rattle.h2_log.specs.Log.{Log, owed}
 use Rattle.h2_log.specs.Windows.{connection_send_window}
 use Rattle.h2_log_laws.specs.Sums.{sum_below}
 use Rattle.h2_log_laws.proofs.WindowsOfTwoEnds.{connection_meets}
-use Rattle.std.proofs.Common.{◌+◌, ℤ, pos, ◌+ℤ◌, ap}
-use Rattle.std.proofs.lemmas.Int.{ints}
 use Rattle.h2_machine.specs.End.{End}
 use Rattle.h2_machine.specs.Represents.{Represents}
 use Rattle.h2_machine_laws.proofs.EveryStep.{every_log_has_machine}
-use Rattle.h2_machine_laws.proofs.OwedOnStreams.{window_of_a_log}
+use Rattle.h2_machine_laws.proofs.OwedOnStreams.{window_of_a_log, in_steps}
 use Rattle.h2_pair.specs.Pairs.{Half}
 use Rattle.h2_pair.specs.Directions.{AreUnderWay, BoundsStreams, ConservesConnection}
 use Rattle.h2_pair.proofs.BothWays.{AreEnds}
@@ -22,11 +20,6 @@ below_of : (values : Values) (e : End) (log : Log) (bound : ℕ) → Represents 
     → BoundsStreams log bound → e.streams.highest < bound
 below_of values e log bound represents below =
     let same = represents.streams.highest in omega (arith, same, below)
-
--- What is under way may be added in two steps.
-in_steps : (send_window : ℤ) (back others : ℕ)
-    → send_window +ℤ pos (back + others) ≡ (send_window +ℤ pos back) +ℤ pos others
-in_steps send_window back others = omega (arith, ints)
 
 -- It is, as long as the reader hasn't failed.
 pub connection_conserved : (writer reader : Half) (way back : List Item) (bound : ℕ)

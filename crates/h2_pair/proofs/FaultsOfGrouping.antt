@@ -2,11 +2,10 @@
 -- that the other has written.
 use Rattle.std.proofs.Common.{◌≡◌, ℕ, ◌==◌, not, ◌&&◌, Bool, true, false, if◌then◌else◌, List, []}
 use Rattle.std.proofs.Common.{◌∷◌, ◌++◌, length, Option, Some, None, refl, sym, ap, ◌∙◌, arith}
-use Rattle.std.proofs.Common.{append-nil, subst}
+use Rattle.std.proofs.Common.{subst}
 use Rattle.std.proofs.lemmas.Bool.{both_ways, ne_eqb}
 use Rattle.h2_frame.specs.declared.code.Code.TheVariants.{ProtocolError}
-use Rattle.h2_frame.specs.Frames.{Frame, Data, Headers, Priority, Reset, Settings, Ping, GoAway}
-use Rattle.h2_frame.specs.Frames.{WindowUpdate, Continuation, Unknown}
+use Rattle.h2_frame.specs.Frames.{Frame, Headers, Settings, Continuation}
 use Rattle.h2_block.specs.declared.fault.BlockFault.{BlockFault}
 use Rattle.h2_block.specs.declared.fault.BlockFault.TheVariants.{Interrupted, Stray}
 use Rattle.h2_block.specs.Grouping.{Item, alone, block, Begun, Groups, next_fault, fault_outside}
@@ -26,8 +25,7 @@ use Rattle.h2_log.specs.Histories.{IsLog}
 use Rattle.h2_log_laws.specs.Sending.{frames_of_item, frames_of_items, oldest_first}
 use Rattle.h2_log_laws.proofs.InvariantLogs.{written_is_allowed}
 use Rattle.h2_log_laws.proofs.OutputRead.{items_grouped as all_grouped}
-use Rattle.h2_end_laws.specs.Grouped.{AreGrouped}
-use Rattle.h2_end_laws.proofs.Grouped.{items_grouped}
+use Rattle.h2_end_laws.proofs.Grouped.{items_grouped, groups_now}
 use Rattle.h2_end_laws.proofs.GroupedPrefixes.{prefix_grouped}
 use Rattle.h2_end_laws.proofs.SendableCalls.{written_sendable}
 use Rattle.h2_pair.proofs.ItemsRead.{newest_before}
@@ -102,56 +100,12 @@ step_next writer reader None (Headers stream end true fragment pad priority) lat
 step_next writer reader None (Headers stream end false fragment pad priority) later sound line = tt
 step_next writer reader None (Continuation stream whole fragment) later sound line =
     none_some Stray (sym sound)
-step_next writer reader None (Data stream end octets pad) later sound line =
-    next_item writer reader (alone (Data stream end octets pad)) later line
-step_next writer reader None (Priority stream octets) later sound line =
-    next_item writer reader (alone (Priority stream octets)) later line
-step_next writer reader None (Reset stream code) later sound line =
-    next_item writer reader (alone (Reset stream code)) later line
-step_next writer reader None (Settings ack pairs) later sound line =
-    next_item writer reader (alone (Settings ack pairs)) later line
-step_next writer reader None (Ping ack octets) later sound line =
-    next_item writer reader (alone (Ping ack octets)) later line
-step_next writer reader None (GoAway last code debug) later sound line =
-    next_item writer reader (alone (GoAway last code debug)) later line
-step_next writer reader None (WindowUpdate stream increment) later sound line =
-    next_item writer reader (alone (WindowUpdate stream increment)) later line
-step_next writer reader None (Unknown kind flags stream payload) later sound line =
-    next_item writer reader (alone (Unknown kind flags stream payload)) later line
+step_next writer reader None frame later sound line =
+    next_item writer reader (alone frame) later line
 step_next writer reader (Some begun) (Continuation stream true fragment) later sound line =
     next_item writer reader (block begun.stream begun.end (begun.octets ++ fragment)) later line
 step_next writer reader (Some begun) (Continuation stream false fragment) later sound line = tt
-step_next writer reader (Some begun) (Data stream end octets pad) later sound line =
-    none_some Interrupted (sym sound)
-step_next writer reader (Some begun) (Headers stream end whole fragment pad priority) later sound
-    line = none_some Interrupted (sym sound)
-step_next writer reader (Some begun) (Priority stream octets) later sound line =
-    none_some Interrupted (sym sound)
-step_next writer reader (Some begun) (Reset stream code) later sound line =
-    none_some Interrupted (sym sound)
-step_next writer reader (Some begun) (Settings ack pairs) later sound line =
-    none_some Interrupted (sym sound)
-step_next writer reader (Some begun) (Ping ack octets) later sound line =
-    none_some Interrupted (sym sound)
-step_next writer reader (Some begun) (GoAway last code debug) later sound line =
-    none_some Interrupted (sym sound)
-step_next writer reader (Some begun) (WindowUpdate stream increment) later sound line =
-    none_some Interrupted (sym sound)
-step_next writer reader (Some begun) (Unknown kind flags stream payload) later sound line =
-    none_some Interrupted (sym sound)
-
--- All frames of an end that is up group.
-groups_now : (log : Log) → AreGrouped log → log.failed ≡ None
-    → Groups log.frames (oldest_first log.received) log.begun
-groups_now log are up =
-    let frames : are.preceding ≡ log.frames =
-    sym (append-nil are.preceding)
-    ∙ ap (λ (last : List Frame). are.preceding ++ last) (sym (are.up up).0) ∙ sym are.joined in
-    let first : Groups log.frames (oldest_first log.received) are.begun =
-    subst (λ (line : List Frame). Groups line (oldest_first log.received) are.begun) frames
-    are.groups in
-    subst (λ (begun : Option Begun). Groups log.frames (oldest_first log.received) begun)
-    (sym (are.up up).1) first
+step_next writer reader (Some begun) frame later sound line = none_some Interrupted (sym sound)
 
 -- By the fault of the frame: there is none, since the frames of the items group.
 fault_next : (writer reader : Log) (frame : Frame) (later : List Frame)

@@ -1,23 +1,20 @@
 -- An item that comes next of those that the other end has written is no fault: its blocks decode,
 -- and what may be written is no fault for its reader.
-use Rattle.std.proofs.Common.{◌≡◌, inl, inr, ℕ, ◌+◌, ◌≤◌, Bool, true, false, List, [], ◌∷◌, ◌++◌}
-use Rattle.std.proofs.Common.{Option, Some, None, refl, sym, ap, ◌∙◌, arith, append_assoc}
+use Rattle.std.proofs.Common.{◌≡◌, inl, inr, ℕ, ◌≤◌, Bool, true, false, List, [], ◌∷◌, ◌++◌, Option}
+use Rattle.std.proofs.Common.{Some, None, refl, sym, ap, ◌∙◌, append_assoc}
 use Rattle.std.specs.List.{Contains, list_any}
-use Rattle.std.proofs.lemmas.Bool.{both_ways}
-use Rattle.std.proofs.lemmas.List.Elements.{Contains-append_left}
+use Rattle.std.proofs.lemmas.List.Elements.{Contains-append_left, Contains-push}
 use Rattle.hpack.specs.declared.types.field.Field.{Field}
-use Rattle.hpack.specs.Tables.{Entries}
-use Rattle.hpack.specs.Blocks.{Block}
 use Rattle.hpack.specs.Lists.{list_size}
 use Rattle.hpack.proofs.BlockLemmas.{one_block_lem}
 use Rattle.h2_frame.specs.declared.code.Code.{Code}
 use Rattle.h2_block.specs.Grouping.{Item, alone, block}
 use Rattle.h2_log.specs.declared.role.Role.{Role}
-use Rattle.h2_log.specs.declared.role.Role.TheVariants.{Client, Server}
+use Rattle.h2_log.specs.declared.role.Role.TheVariants.{Client}
 use Rattle.h2_log.specs.Events.{reports_unprocessed}
 use Rattle.h2_log.specs.Items.{total, is_goaway_below}
 use Rattle.h2_log.specs.Limits.{max_list}
-use Rattle.h2_log.specs.Settings.{own_value, one_ack, peer_of, is_server}
+use Rattle.h2_log.specs.Settings.{one_ack, peer_of}
 use Rattle.h2_log.specs.Log.{Log, acked}
 use Rattle.h2_log.specs.LogView.{log_view}
 use Rattle.h2_log.specs.Verdicts.{is_fault}
@@ -28,70 +25,24 @@ use Rattle.h2_log_laws.specs.Accepting.{IsDecodable}
 use Rattle.h2_log_laws.proofs.AcceptedSettings.{first_settings_lem}
 use Rattle.h2_log_laws.proofs.AcceptedWrites.{written_lem}
 use Rattle.h2_log_laws.proofs.AllowedHistories.{origin_lem}
-use Rattle.h2_log_laws.proofs.ItemLists.{total_none}
+use Rattle.h2_log_laws.proofs.InvariantSends.{client_since}
 use Rattle.h2_end_laws.specs.Sendings.{lists_accepted}
-use Rattle.h2_pair.specs.HeaderTables.{DecodeInOrder, HeaderTablesInStep}
+use Rattle.h2_pair.specs.HeaderTables.{HeaderTablesInStep}
 use Rattle.h2_pair.proofs.NamedUnprocessed.{IsNamed}
-use Rattle.h2_pair.proofs.FaultsInvariant.{first_in, later_in}
-
--- The oldest of items that decode in order: where it is a block, it decodes to one of the lists.
-pub record DecodesFirst (first : Entries) (limit : ℕ) (octets : List ℕ)
-    (lists : List (List Field)) : Type 0 where
-  pub fields : List Field
-  pub after : Entries
-  pub among : Contains lists fields
-  pub decodes : Block first limit octets fields after
-
--- With no acknowledgment before it, it decodes at the limit that is in force.
-limit_at_first : (sent : List Item) (count : ℕ)
-    → own_value 1 4096 (count + total one_ack []) sent ≡ own_value 1 4096 count sent
-limit_at_first sent count =
-    let none : count + total one_ack [] ≡ count = rw (total_none one_ack) (omega arith) in
-    ap (λ (acks : ℕ). own_value 1 4096 acks sent) none
-
--- With one list more.
-decodes_more : (first : Entries) (limit : ℕ) (octets : List ℕ) (list : List Field)
-    (older lists : List (List Field)) → lists ≡ list ∷ older
-    → DecodesFirst first limit octets older → DecodesFirst first limit octets lists
-decodes_more first limit octets list older lists are found =
-    record {
-      fields = found.fields;
-      after = found.after;
-      among = rw are (later_in list older found.fields found.among);
-      decodes = found.decodes;
-    }
-
-oldest_decodes : (newer : List Item) (stream : ℕ) (end : Bool) (octets : List ℕ)
-    (sent : List Item) (count : ℕ) (first : Entries) (lists : List (List Field)) (last : Entries)
-    → DecodeInOrder sent count first (newer ++ block stream end octets ∷ []) lists last
-    → DecodesFirst first (own_value 1 4096 count sent) octets lists
-oldest_decodes [] stream end octets sent count first lists last
-    (fields, older, between, are, (none, same), decodes) =
-    record {
-      fields = fields;
-      after = last;
-      among = rw are (first_in fields older);
-      decodes = rw (same, limit_at_first sent count) at decodes;
-    }
-oldest_decodes (alone frame ∷ newer) stream end octets sent count first lists last decodes =
-    oldest_decodes newer stream end octets sent count first lists last decodes
-oldest_decodes (block other ended others ∷ newer) stream end octets sent count first lists last
-    (fields, older, between, are, before, decodes) =
-    decodes_more first (own_value 1 4096 count sent) octets fields older lists are
-    (oldest_decodes newer stream end octets sent count first older between before)
+use Rattle.h2_pair.proofs.HeardLists.{OldestList, oldest_list}
 
 -- What was seen of a block that decodes is its fields, and these are small.
 block_decodable : (log : Log) (stream : ℕ) (end : Bool) (octets : List ℕ)
     (lists : List (List Field)) (decoded : Option Decoded)
     → ((fields : List Field) → Contains lists fields → list_size fields ≤ max_list)
-    → DecodesFirst log.table (table_limit log) octets lists → IsDecoded log octets decoded
+    → OldestList log.table (table_limit log) octets lists → IsDecoded log octets decoded
     → IsDecodable decoded (block stream end octets)
 block_decodable log stream end octets lists None small found sees =
     sees found.fields found.after found.decodes
 block_decodable log stream end octets lists (Some decoded) small found sees =
     let one = one_block_lem log.table decoded.after found.after (table_limit log) octets
     decoded.fields found.fields sees found.decodes in
-    rw one.0 (small found.fields found.among)
+    rw one.0 (small found.fields (rw found.are (Contains-push found.newer found.fields)))
 
 -- Of what comes next under way something is decoded, or it is no block.
 pub item_decodable : (writer reader : Log) (newer : List Item) (item : Item)
@@ -103,7 +54,7 @@ pub item_decodable : (writer reader : Log) (newer : List Item) (item : Item)
     → IsDecodable decoded item
 item_decodable writer reader newer (alone frame) decoded small tables none = none
 item_decodable writer reader newer (block stream end octets) decoded small tables sees =
-    let found = oldest_decodes newer stream end octets reader.sent (acked reader) reader.table
+    let found = oldest_list newer stream end octets reader.sent (acked reader) reader.table
     tables.under_way writer.encoder.table tables.decode in
     block_decodable reader stream end octets tables.under_way decoded
     (λ fields here. small fields (rw tables.accepted (Contains-append_left tables.under_way
@@ -118,16 +69,11 @@ opening_sound role reader item decoded opening decodable =
     rw opening.opening (ap (λ (fault : Option Code). is_fault (verdict_of_fault fault))
     (first_settings_lem role opening.values reader opening.in_range opening.first))
 
--- An end that is no server is a client.
-client_of : (role : Role) → is_server role ≡ false → role ≡ Client
-client_of Client none = refl
-client_of Server none = absurd (both_ways true none refl)
-
 -- What was named unprocessed was named at a client.
 named_here : (log : Log) → IsNamed log → (i : ℕ)
     → list_any (reports_unprocessed i) log.reported ≡ true
     → (log.role ≡ Client) × (list_any (is_goaway_below i) log.received ≡ true)
-named_here log named i here = (client_of log.role (named i here).0, (named i here).1)
+named_here log named i here = (client_since log.role (named i here).0, (named i here).1)
 
 -- What comes next is no fault.
 pub item_sound : (role : Role) (writer reader : Log) (newer back : List Item) (item : Item)

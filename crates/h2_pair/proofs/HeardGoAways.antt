@@ -1,44 +1,38 @@
 -- A server that is up says by no GOAWAY that it doesn't process a stream on which it has sent part
 -- of a message (RFC 9113, section 6.8).
-use Rattle.std.proofs.Common.{◌≡◌, inl, inr, ℕ, zero, suc, ◌≤◌, ◌==◌, nat_le, ◌&&◌, not, Bool, true}
-use Rattle.std.proofs.Common.{false, if◌then◌else◌, List, [], ◌∷◌, ◌++◌, length, take, drop, Some}
-use Rattle.std.proofs.Common.{None, is_some, refl, ap, ◌∙◌, arith, subst}
-use Rattle.std.specs.List.{list_any}
+use Rattle.std.proofs.Common.{◌≡◌, inl, inr, ℕ, ◌≤◌, ◌==◌, Bool, true, false, if◌then◌else◌, List}
+use Rattle.std.proofs.Common.{[], ◌∷◌, ◌++◌, None, refl, ap, ◌∙◌, arith, subst}
+use Rattle.std.specs.List.{list_any, AllByRecursion}
 use Rattle.std.proofs.lemmas.Bool.{both_ways, or_from, eqb-true, le-ltb, or_cases}
 use Rattle.std.proofs.lemmas.List.Folds.{list_any-append}
 use Rattle.hpack.specs.declared.types.field.Field.{Field}
-use Rattle.h2_frame.specs.declared.code.Code.{Code}
 use Rattle.h2_frame.specs.Frames.{Data, Settings, Ping, GoAway, WindowUpdate}
 use Rattle.h2_block.specs.Grouping.{Item, alone, block}
 use Rattle.h2_log.specs.declared.role.Role.{Role}
 use Rattle.h2_log.specs.declared.role.Role.TheVariants.{Server}
 use Rattle.h2_log.specs.Items.{is_goaway_below}
-use Rattle.h2_log.specs.Events.{Event, greatest_processed}
-use Rattle.h2_log.specs.Acts.{Values, Act, Open, SendFields, SendData, Release, ResetStream, Refuse}
-use Rattle.h2_log.specs.Acts.{SendPing, SendGoAway, PutOut, ChangeSettings}
+use Rattle.h2_log.specs.Events.{greatest_processed}
+use Rattle.h2_log.specs.Acts.{Values, Act, Open, SendFields, SendData, Release, SendGoAway}
 use Rattle.h2_log.specs.Settings.{is_server}
-use Rattle.h2_log.specs.States.{is_above, when}
+use Rattle.h2_log.specs.States.{is_above}
 use Rattle.h2_log.specs.Log.{Log, active, last_processed}
 use Rattle.h2_log.specs.LogView.{log_view}
-use Rattle.h2_log.specs.View.{StreamView, ended_in}
+use Rattle.h2_log.specs.View.{ended_in}
 use Rattle.h2_log.specs.Verdicts.{Verdict, ConnectionFault, StreamFault, NoEvent, Reported}
 use Rattle.h2_log.specs.ItemRules.{replies_to}
-use Rattle.h2_log.specs.CallRules.{conditions, items_of, answer_of, refusal_of, data_items}
-use Rattle.h2_log.specs.CallRules.{data_frames}
+use Rattle.h2_log.specs.CallRules.{conditions, items_of, answer_of, refusal_of}
 use Rattle.h2_log.specs.LogSteps.{read, with_sent}
 use Rattle.h2_log.specs.LogCalls.{opened, called}
 use Rattle.h2_log.specs.Histories.{IsLog}
 use Rattle.h2_log.proofs.StreamLemmas.{stream_of_log}
-use Rattle.h2_log_laws.proofs.CallConditions.{first_none, neither_one}
-use Rattle.h2_log_laws.proofs.LogGrowth.{grows_wrote}
-use Rattle.h2_log_laws.proofs.LogHistory.{any_either}
+use Rattle.h2_log_laws.proofs.CallConditions.{none_holds, neither_one}
+use Rattle.h2_log_laws.proofs.LogGrowth.{grows_wrote, fails_down}
+use Rattle.h2_log_laws.proofs.LogHistory.{any_either, processed_after}
+use Rattle.h2_log_laws.proofs.LogViewLemmas.{stream_is_active}
+use Rattle.h2_pair.proofs.DataItems.{data_all}
 use Rattle.h2_log_laws.proofs.LogInduction.{IsLogInvariant, kept_by_logs}
 use Rattle.h2_log_laws.proofs.ReaderStates.{active_parts}
 use Rattle.h2_machine_laws.proofs.GoAwaysSent.{active_processed}
-
--- A connection that failed isn't up.
-not_some : (code : Code) → Some code ≡ None → ⊥
-not_some code is = cc
 
 -- Whether the item is part of a message on the stream.
 unfoldable pub speaks : ℕ → Item → Bool
@@ -85,13 +79,6 @@ wrote_below log [] fit is = is
 wrote_below log (item ∷ items) fit is =
     below_more (greatest_processed log.reported) log.sent (item ∷ items) fit is
 
--- Events keep it.
-processed_more : (events reported : List Event)
-    → greatest_processed reported ≤ greatest_processed (events ++ reported)
-unfolding greatest_processed
-processed_more [] reported = omega arith
-processed_more (event ∷ events) reported = omega (arith, processed_more events reported)
-
 -- Items that are no part of a message and no GOAWAY fit.
 abbrev AreQuiet : List Item → Type 0
 AreQuiet items = (i : ℕ) → (list_any (speaks i) items ≡ false)
@@ -120,108 +107,44 @@ unfolding replies_to speaks is_goaway_below
 replies_quiet (ConnectionFault code) item i = (refl, refl)
 replies_quiet (StreamFault code) item i = (refl, refl)
 replies_quiet Reported item i = (refl, refl)
-replies_quiet NoEvent (block stream end octets) i = (refl, refl)
-replies_quiet NoEvent (alone (Settings true pairs)) i = (refl, refl)
 replies_quiet NoEvent (alone (Settings false pairs)) i = (refl, refl)
-replies_quiet NoEvent (alone (Ping true octets)) i = (refl, refl)
 replies_quiet NoEvent (alone (Ping false octets)) i = (refl, refl)
-replies_quiet NoEvent (alone frame) i = (refl, refl)
+replies_quiet NoEvent item i = (refl, refl)
 
--- DATA of one stream is of no other, and is no GOAWAY.
-record IsData (id : ℕ) (items : List Item) : Type 0 where
-  pub only : (i : ℕ) → list_any (speaks i) items ≡ true → id ≡ i
-  pub stays : (i : ℕ) → list_any (is_goaway_below i) items ≡ false
+-- The item is part of no message on another stream, and is no GOAWAY.
+record IsOn (id : ℕ) (item : Item) : Type 0 where
+  pub only : (i : ℕ) → speaks i item ≡ true → id ≡ i
+  pub stays : (i : ℕ) → is_goaway_below i item ≡ false
 
-one_data : (id : ℕ) (octets : List ℕ) (end : Bool)
-    → IsData id (alone (Data id end octets None) ∷ [])
+data_on_stream : (id : ℕ) (end : Bool) (octets : List ℕ) → IsOn id (alone (Data id end octets None))
 unfolding speaks is_goaway_below
-one_data id octets end =
-    record {
-      only = λ i here. elim (or_cases (id == i) false here) [
-        | inl now ↦ eqb-true id i now
-        | inr wrong ↦ absurd (both_ways false refl wrong)
-      ];
-      stays = λ i. refl;
-    }
+data_on_stream id end octets = record { only = λ i. eqb-true id i; stays = λ i. refl }
 
-both_data : (id : ℕ) (one other : List Item) → IsData id one → IsData id other
-    → IsData id (one ++ other)
-both_data id one other here there =
-    record {
-      only = λ i now. elim (any_either (speaks i) one other now) [
-        | inl first ↦ here.only i first
-        | inr after ↦ there.only i after
-      ];
-      stays = λ i. list_any-append (is_goaway_below i) one other
-          ∙ or_from _ _ (here.stays i) (there.stays i);
-    }
-
-either_data : (id : ℕ) (b : Bool) (one other : List Item) → IsData id one → IsData id other
-    → IsData id (if b then one else other)
-either_data id true one other here there = here
-either_data id false one other here there = there
-
-none_data : (id : ℕ) → IsData id []
-none_data id = record { only = λ i here. absurd (both_ways false refl here); stays = λ i. refl }
-
-frames_data : (count most id : ℕ) (octets : List ℕ) (end : Bool)
-    → IsData id (data_frames count most id octets end)
-unfolding data_frames
-frames_data zero most id octets end = none_data id
-frames_data (suc count) most id octets end =
-    either_data id (nat_le (length octets) most) _ _ (one_data id octets end)
-    (both_data id (data_frames count most id (drop most octets) end) _
-    (frames_data count most id (drop most octets) end) (one_data id (take most octets) false))
-
-items_data : (most id : ℕ) (octets : List ℕ) (end : Bool) (count : ℕ)
-    → IsData id (data_items most id octets end count)
-unfolding data_items
-items_data most id octets end count =
-    either_data id (count == 0 && not (length octets == 0 && end)) _ _ (none_data id)
-    (frames_data (suc count) most id (take count octets) (end && count == length octets))
-
-block_data : (id : ℕ) (end : Bool) (octets : List ℕ) → IsData id (block id end octets ∷ [])
+block_on_stream : (id : ℕ) (end : Bool) (octets : List ℕ) → IsOn id (block id end octets)
 unfolding speaks is_goaway_below
-block_data id end octets =
-    record {
-      only = λ i here. elim (or_cases (id == i) false here) [
-        | inl now ↦ eqb-true id i now
-        | inr wrong ↦ absurd (both_ways false refl wrong)
-      ];
-      stays = λ i. refl;
-    }
+block_on_stream id end octets = record { only = λ i. eqb-true id i; stays = λ i. refl }
 
--- A stream that a view has is active.
-viewed_active : (b : Bool) (stream : StreamView) → not (is_some (when b stream)) ≡ false
-    → b ≡ true
-viewed_active true stream some = refl
-viewed_active false stream some = absurd (both_ways true some refl)
+-- So it is with all of them.
+only_on : (id i : ℕ) (items : List Item) → AllByRecursion (IsOn id) items
+    → list_any (speaks i) items ≡ true → id ≡ i
+only_on id i [] all here = absurd (both_ways false refl here)
+only_on id i (item ∷ items) all here =
+    elim (or_cases (speaks i item) (list_any (speaks i) items) here) [
+      | inl now ↦ all.0.only i now
+      | inr later ↦ only_on id i items all.1 later
+    ]
 
-fields_active : (log : Log) (id : ℕ) (fields : List Field) (end : Bool)
-    → refusal_of (log_view log) (SendFields id fields end) ≡ None → active log id ≡ true
-unfolding conditions
-fields_active log id fields end none =
-    let c1 = first_none _ _ _ none in
-    let c2 = first_none _ _ _ c1.1 in
-    viewed_active (active log id) _ c2.0
-
-data_active : (log : Log) (id : ℕ) (octets : List ℕ) (end : Bool)
-    → refusal_of (log_view log) (SendData id octets end) ≡ None → active log id ≡ true
-unfolding conditions
-data_active log id octets end none =
-    let c1 = first_none _ _ _ none in
-    let c2 = first_none _ _ _ c1.1 in
-    viewed_active (active log id) _ c2.0
+none_below : (id i : ℕ) (items : List Item) → AllByRecursion (IsOn id) items
+    → list_any (is_goaway_below i) items ≡ false
+none_below id i [] all = refl
+none_below id i (item ∷ items) all = or_from _ _ (all.0.stays i) (none_below id i items all.1)
 
 -- A server opens nothing.
 opens_nothing : (log : Log) (fields : List Field) (end : Bool) → log.role ≡ Server
     → refusal_of (log_view log) (Open fields end) ≡ None → ⊥
 unfolding conditions
 opens_nothing log fields end server none =
-    let c1 = first_none _ _ _ none in
-    let c2 = first_none _ _ _ c1.1 in
-    let c3 = first_none _ _ _ c2.1 in
-    both_ways _ (neither_one _ _ c3.0) (ap is_server server)
+    both_ways _ (neither_one _ _ (none_holds _ none).1.1.0) (ap is_server server)
 
 -- At a server that is up, an active stream is kept.
 record IsServer (log : Log) : Type 0 where
@@ -231,13 +154,14 @@ record IsServer (log : Log) : Type 0 where
       → IsStillProcessed (greatest_processed log.reported) i log.sent
 
 stream_fits : (log : Log) (id : ℕ) (items : List Item) → IsServer log → active log id ≡ true
-    → IsData id items → KeepProcessed (greatest_processed log.reported) log.sent items
+    → AllByRecursion (IsOn id) items
+    → KeepProcessed (greatest_processed log.reported) log.sent items
 stream_fits log id items server alive is =
     record {
       spoken = λ i here. subst (λ (j : ℕ). IsStillProcessed (greatest_processed log.reported) j
           log.sent)
-          (is.only i here) (server.kept id alive);
-      above = λ i low. is.stays i;
+          (only_on id i items is here) (server.kept id alive);
+      above = λ i low. none_below id i items is;
     }
 
 -- GOAWAY names the last stream that was processed.
@@ -263,22 +187,19 @@ updates_quiet id count false i = (refl, refl)
 items_fit : (log : Log) (act : Act) → IsServer log → refusal_of (log_view log) act ≡ None
     → KeepProcessed (greatest_processed log.reported) log.sent
     (items_of (log_view log) act (answer_of (log_view log) act))
-unfolding items_of speaks is_goaway_below
+unfolding items_of speaks is_goaway_below conditions
 items_fit log (Open fields end) server none =
     absurd (opens_nothing log fields end server.server none)
 items_fit log (SendFields id fields end) server none =
-    stream_fits log id _ server (fields_active log id fields end none) (block_data id end _)
+    stream_fits log id _ server (stream_is_active log id (none_holds _ none).1.0)
+    (block_on_stream id end _, tt)
 items_fit log (SendData id octets end) server none =
-    stream_fits log id _ server (data_active log id octets end none)
-    (items_data (log_view log).max_payload id octets end _)
+    stream_fits log id _ server (stream_is_active log id (none_holds _ none).1.0)
+    (data_all (IsOn id) id (data_on_stream id) (log_view log).max_payload octets end _)
 items_fit log (Release id count) server none =
     quiet_fits _ _ _ (updates_quiet id count (ended_in ((log_view log).stream id)))
-items_fit log (ResetStream id code) server none = quiet_fits _ _ _ (λ i. (refl, refl))
-items_fit log (Refuse id code) server none = quiet_fits _ _ _ (λ i. (refl, refl))
-items_fit log (SendPing octets) server none = quiet_fits _ _ _ (λ i. (refl, refl))
 items_fit log SendGoAway server none = goaway_fits log server.server
-items_fit log (PutOut count) server none = quiet_fits _ _ _ (λ i. (refl, refl))
-items_fit log (ChangeSettings values) server none = quiet_fits _ _ _ (λ i. (refl, refl))
+items_fit log act server none = quiet_fits _ _ _ (λ i. (refl, refl))
 
 -- A new end has sent no part of a message.
 opened_below : (role : Role) (values : Values) → IsBelow (opened role values)
@@ -315,14 +236,14 @@ keeps_below values =
       reported = λ log event events may is up i here.
           let old = is up i here in
           record {
-            low = omega (arith, old.low, processed_more (event ∷ events) log.reported);
+            low = omega (arith, old.low, processed_after (event ∷ events) log.reported);
             below = old.below;
           };
       unreturned = λ log count is. is;
       returned = λ log returns is up.
           wrote_quiet (record log { unreturned = 0 }) _ (update_quiet log.unreturned)
           (is ((grows_wrote (record log { unreturned = 0 }) _).up up));
-      failed = λ log code last names is up. absurd (not_some code up);
+      failed = λ log code last names is up. absurd (fails_down code last log up);
       called = λ log act answer is_log none is. is;
       sent = λ log act accepted is up.
           let answer = answer_of (log_view log) act in

@@ -9,8 +9,6 @@ use Rattle.hpack.specs.Tables.{Entries}
 use Rattle.hpack.specs.Blocks.{Block}
 use Rattle.hpack.specs.Lists.{EncoderState}
 use Rattle.hpack.proofs.BlockLemmas.{one_block_lem}
-use Rattle.hpack.specs.Choice.{block_of}
-use Rattle.h2_frame.specs.Frames.{Frame, Settings}
 use Rattle.h2_block.specs.Grouping.{Item, alone, block}
 use Rattle.h2_log.specs.Items.{total}
 use Rattle.h2_log.specs.Settings.{own_value, one_ack}
@@ -19,8 +17,7 @@ use Rattle.h2_log.specs.ItemRules.{Decoded, completes}
 use Rattle.h2_log.specs.Histories.{IsDecodedIn, IsDecoded, table_limit}
 use Rattle.h2_log_laws.proofs.ItemLists.{total_none}
 use Rattle.h2_end_laws.specs.Sendings.{lists_accepted, EncodesInOrder, sent_nothing}
-use Rattle.h2_end_laws.specs.Sendings.{sent_acknowledgment, sent_block, sent_other}
-use Rattle.h2_end_laws.specs.Sendings.{changes_encoder}
+use Rattle.h2_end_laws.specs.Sendings.{sent_acknowledgment, sent_block, sent_other, changes_encoder}
 use Rattle.h2_pair.specs.HeaderTables.{block_count, DecodeInOrder, HeaderTablesInStep}
 use Rattle.h2_pair.proofs.HeardReads.{lists_after}
 
@@ -41,7 +38,7 @@ same_back one other back others same many =
     ∙ drop-append_seam other others
 
 -- The oldest of items that decode in order, where it is a block, and the oldest of their lists.
-record OldestList (first : Entries) (limit : ℕ) (octets : List ℕ)
+pub record OldestList (first : Entries) (limit : ℕ) (octets : List ℕ)
     (lists : List (List Field)) : Type 0 where
   pub fields : List Field
   pub after : Entries
@@ -67,7 +64,7 @@ one_more first limit octets list older lists are found =
       decodes = found.decodes;
     }
 
-oldest_list : (newer : List Item) (stream : ℕ) (end : Bool) (octets : List ℕ)
+pub oldest_list : (newer : List Item) (stream : ℕ) (end : Bool) (octets : List ℕ)
     (sent : List Item) (count : ℕ) (first : Entries) (lists : List (List Field)) (last : Entries)
     → DecodeInOrder sent count first (newer ++ block stream end octets ∷ []) lists last
     → OldestList first (own_value 1 4096 count sent) octets lists
@@ -150,37 +147,16 @@ unfolding block_count changes_encoder
 unchanged_count (alone frame) sent none = refl
 unchanged_count (block stream end octets) sent none = absurd (both_ways true none refl)
 
-acknowledgment_count : (frame : Frame) (sent : List Item)
-    → block_count (alone frame ∷ sent) ≡ block_count sent
-unfolding block_count
-acknowledgment_count frame sent = refl
-
-block_more : (stream : ℕ) (end : Bool) (octets : List ℕ) (sent : List Item)
-    → block_count (block stream end octets ∷ sent) ≡ 1 + block_count sent
-unfolding block_count
-block_more stream end octets sent = refl
-
-nothing_count : block_count [] ≡ 0
-unfolding block_count
-nothing_count = refl
-
 -- There is a block for each list.
 pub blocks_of_lists : (sent : List Item) (settings : List (List (ℕ × ℕ)))
     (lists : List (List Field)) (encoder : EncoderState)
     → EncodesInOrder sent settings lists encoder
     → length lists ≡ block_count sent
-blocks_of_lists _ _ _ _ sent_nothing = sym nothing_count
-blocks_of_lists _ _ _ _ (sent_acknowledgment {sent = sent} {settings = settings} {lists = lists}
-    {encoder = encoder} is pairs) =
-    blocks_of_lists sent settings lists encoder is ∙ sym (acknowledgment_count
-    (Settings true []) sent)
-blocks_of_lists _ _ _ _ (sent_block {sent = sent} {settings = settings} {lists = lists}
-    {encoder = encoder} is stream end fields) =
-    omega (
-      arith,
-      blocks_of_lists sent settings lists encoder is,
-      block_more stream end (block_of encoder fields) sent,
-    )
-blocks_of_lists _ _ _ _ (sent_other {sent = sent} {settings = settings} {lists = lists}
-    {encoder = encoder} is item none) =
+unfolding block_count
+blocks_of_lists _ _ _ _ sent_nothing = refl
+blocks_of_lists _ _ _ _ (sent_acknowledgment {sent} {settings} {lists} {encoder} is pairs) =
+    blocks_of_lists sent settings lists encoder is
+blocks_of_lists _ _ _ _ (sent_block {sent} {settings} {lists} {encoder} is stream end fields) =
+    omega (arith, blocks_of_lists sent settings lists encoder is)
+blocks_of_lists _ _ _ _ (sent_other {sent} {settings} {lists} {encoder} is item none) =
     blocks_of_lists sent settings lists encoder is ∙ sym (unchanged_count item sent none)

@@ -1,16 +1,15 @@
 -- What a stream on which something was sent is like, and how a message ends.
-use Rattle.std.proofs.Common.{map as each, ◌≡◌, inl, inr, ℕ, ◌==◌, ◌%◌, ◌&&◌}
-use Rattle.std.proofs.Common.{Bool, true, false, List, [], ◌∷◌, ◌++◌, Option, None}
-use Rattle.std.proofs.Common.{Some, refl, sym, ap, ◌∙◌, append_assoc, arith, subst, length}
+use Rattle.std.proofs.Common.{map as each, ◌≡◌, inl, inr, ℕ, ◌==◌, ◌%◌, Bool, true, false, List, []}
+use Rattle.std.proofs.Common.{◌∷◌, ◌++◌, Option, None, Some, refl, sym, ap, ◌∙◌, append_assoc}
+use Rattle.std.proofs.Common.{arith, subst, length}
 use Rattle.std.specs.List.{list_any}
-use Rattle.std.proofs.lemmas.Bool.{both_ways, or_parts, or_cases, eqb-true, eq-eqb}
-use Rattle.std.proofs.lemmas.Bool.{or_left, or_right, or_from, and_parts}
+use Rattle.std.proofs.lemmas.Bool.{both_ways, or_parts, or_cases, eqb-true, eq-eqb, or_left}
+use Rattle.std.proofs.lemmas.Bool.{or_right, or_from, and_parts}
 use Rattle.std.proofs.lemmas.List.Folds.{list_any-append}
 use Rattle.hpack.specs.declared.types.field.Field.{Field}
-use Rattle.h2_frame.specs.Frames.{Frame, Data, Settings}
+use Rattle.h2_frame.specs.Frames.{Data, Settings}
 use Rattle.h2_block.specs.Grouping.{Item, alone, block}
 use Rattle.h2_log.specs.declared.role.Role.{Role}
-use Rattle.h2_log.specs.declared.role.Role.TheVariants.{Client, Server}
 use Rattle.h2_log.specs.Allowed.{AllowedHistory, Allowed, MayContinue, MayOpen, starts, reads}
 use Rattle.h2_log.specs.Allowed.{writes}
 use Rattle.h2_log.specs.Items.{is_block_on, ends}
@@ -23,6 +22,7 @@ use Rattle.h2_pair.specs.Tokens.{Token, FieldsToken, OctetToken, EndToken, end_t
 use Rattle.h2_pair.specs.Tokens.{is_head_alone, trailers_tokens, message_tokens}
 use Rattle.h2_pair.proofs.HeardTokens.{item_tokens, frame_tokens, tokens_of_items}
 use Rattle.h2_pair.proofs.HeardGoAways.{speaks}
+use Rattle.h2_end_laws.proofs.ActivityStays.{opened_after}
 
 -- The stream was opened, with an odd number.
 pub record IsOpened (role : Role) (i : ℕ) (received sent : List Item) : Type 0 where
@@ -30,18 +30,12 @@ pub record IsOpened (role : Role) (i : ℕ) (received sent : List Item) : Type 0
   pub opened : list_any (is_block_on i) (openings role received sent) ≡ true
 
 -- It stays so.
-openings_more : (role : Role) (i : ℕ) (news items received sent : List Item)
-    → list_any (is_block_on i) (openings role received sent) ≡ true
-    → list_any (is_block_on i) (openings role (news ++ received) (items ++ sent)) ≡ true
-openings_more Client i news items received sent here = any_after (is_block_on i) items sent here
-openings_more Server i news items received sent here = any_after (is_block_on i) news received here
-
 opened_more : (role : Role) (i : ℕ) (news items received sent : List Item)
     → IsOpened role i received sent → IsOpened role i (news ++ received) (items ++ sent)
 opened_more role i news items received sent is =
     record {
       odd = is.odd;
-      opened = openings_more role i news items received sent is.opened;
+      opened = opened_after role i news items received sent is.opened;
     }
 
 -- A stream on which an end goes on was opened.
@@ -130,53 +124,22 @@ is_end EndToken = true
 is_end (FieldsToken list end) = false
 is_end (OctetToken octet) = false
 
--- Some token of either.
-in_front : (one other : List Token) → list_any is_end one ≡ true
-    → list_any is_end (one ++ other) ≡ true
-in_front [] other here = absurd (both_ways false refl here)
-in_front (token ∷ one) other here = elim (or_cases (is_end token) (list_any is_end one) here) [
-  | inl now ↦ or_left (is_end token) _ now
-  | inr after ↦ or_right (is_end token) _ (in_front one other after)
-]
-
 -- An item with END_STREAM carries the end.
-ending : (tokens : List Token) → list_any is_end (tokens ++ end_tokens true) ≡ true
-unfolding is_end end_tokens
-ending [] = refl
-ending (token ∷ tokens) = or_right (is_end token) _ (ending tokens)
-
-block_ending : (i stream : ℕ) (end : Bool) (octets : List ℕ) (list : List Field)
-    → (stream == i && end) ≡ true
-    → list_any is_end (item_tokens i (block stream end octets) list) ≡ true
-unfolding item_tokens
-block_ending i stream true octets list here =
-    let same : (stream == i) ≡ true = (and_parts (stream == i) true here).0 in
-    rw same (ending (FieldsToken list true ∷ []))
-block_ending i stream false octets list here =
-    absurd (both_ways false refl ((and_parts (stream == i) false here).1))
-
-data_ending : (i stream : ℕ) (end : Bool) (octets : List ℕ) (pad : Option ℕ)
-    → (stream == i && end) ≡ true
-    → list_any is_end (frame_tokens i (Data stream end octets pad)) ≡ true
-unfolding frame_tokens
-data_ending i stream true octets pad here =
-    let same : (stream == i) ≡ true = (and_parts (stream == i) true here).0 in
-    rw same (ending (each OctetToken octets))
-data_ending i stream false octets pad here =
-    absurd (both_ways false refl ((and_parts (stream == i) false here).1))
-
-alone_ending : (i : ℕ) (frame : Frame) → ends i (alone frame) ≡ true
-    → list_any is_end (item_tokens i (alone frame) []) ≡ true
-unfolding ends item_tokens
-alone_ending i (Data stream end octets pad) here = data_ending i stream end octets pad here
-alone_ending i frame here = absurd (both_ways false refl here)
-
-block_ends : (i stream : ℕ) (end : Bool) (octets : List ℕ)
-    → ends i (block stream end octets) ≡ true → (stream == i && end) ≡ true
-unfolding ends
-block_ends i stream end octets here = here
+item_ending : (i : ℕ) (item : Item) (list : List Field) → ends i item ≡ true
+    → list_any is_end (item_tokens i item list) ≡ true
+unfolding ends item_tokens frame_tokens end_tokens is_end
+item_ending i (block stream end octets) list here =
+    let both = and_parts (stream == i) end here in rw (both.0, both.1) refl
+item_ending i (alone (Data stream end octets pad)) list here =
+    let both = and_parts (stream == i) end here in
+    rw (both.0, both.1) (any_after is_end (each OctetToken octets) (EndToken ∷ []) refl)
+item_ending i item list here = absurd (both_ways false refl here)
 
 -- So do items, with a list for each block.
+in_front : (one other : List Token) → list_any is_end one ≡ true
+    → list_any is_end (one ++ other) ≡ true
+in_front one other here = list_any-append is_end one other ∙ or_left _ _ here
+
 pub ended_tokens : (i : ℕ) (items : List Item) (lists : List (List Field))
     → length lists ≡ block_count items → list_any (ends i) items ≡ true
     → list_any is_end (tokens_of_items i items lists) ≡ true
@@ -184,7 +147,8 @@ unfolding tokens_of_items block_count
 ended_tokens i [] lists many here = absurd (both_ways false refl here)
 ended_tokens i (alone frame ∷ items) lists many here =
     elim (or_cases (ends i (alone frame)) (list_any (ends i) items) here) [
-      | inl now ↦ any_after is_end (tokens_of_items i items lists) _ (alone_ending i frame now)
+      | inl now ↦ any_after is_end (tokens_of_items i items lists) _
+          (item_ending i (alone frame) [] now)
       | inr before ↦ in_front (tokens_of_items i items lists) _
           (ended_tokens i items lists many before)
     ]
@@ -192,7 +156,7 @@ ended_tokens i (block stream end octets ∷ items) [] many here = absurd (omega 
 ended_tokens i (block stream end octets ∷ items) (list ∷ lists) many here =
     elim (or_cases (ends i (block stream end octets)) (list_any (ends i) items) here) [
       | inl now ↦ any_after is_end (tokens_of_items i items lists) _
-          (block_ending i stream end octets list (block_ends i stream end octets now))
+          (item_ending i (block stream end octets) list now)
       | inr before ↦ in_front (tokens_of_items i items lists) _
           (ended_tokens i items lists (omega (arith, many)) before)
     ]

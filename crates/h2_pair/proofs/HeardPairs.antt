@@ -1,6 +1,6 @@
 -- What an end of a pair has heard on a stream is a prefix of what the other one was given for it.
-use Rattle.std.proofs.Common.{◌≡◌, ℕ, List, [], ◌∷◌, ◌++◌, length, Option, None, refl}
-use Rattle.std.proofs.Common.{sym, ap, ◌∙◌, arith, append_assoc, length-append}
+use Rattle.std.proofs.Common.{◌≡◌, ℕ, List, [], ◌∷◌, ◌++◌, length, Option, None, refl, sym, ap, ◌∙◌}
+use Rattle.std.proofs.Common.{arith, append_assoc, length-append}
 use Rattle.hpack.specs.declared.types.field.Field.{Field}
 use Rattle.h2_frame.specs.declared.code.Code.{Code}
 use Rattle.h2_frame.specs.declared.code.Code.TheVariants.{InternalError}
@@ -8,7 +8,6 @@ use Rattle.h2_frame.specs.Frames.{Frame}
 use Rattle.h2_wire.specs.Faults.{wire_fault_code}
 use Rattle.h2_block.specs.Grouping.{Item}
 use Rattle.h2_log.specs.declared.role.Role.{Role}
-use Rattle.h2_log.specs.declared.role.Role.TheVariants.{Client, Server}
 use Rattle.h2_log.specs.Acts.{Values}
 use Rattle.h2_log.specs.Log.{Log}
 use Rattle.h2_log.specs.LogCalls.{opened, with_call}
@@ -22,21 +21,21 @@ use Rattle.h2_end_laws.proofs.Sendings.{log_sent}
 use Rattle.h2_end_laws.proofs.Unread.{reads_fails, reads_unprocessed}
 use Rattle.h2_machine_laws.specs.Machines.{uses_part, ends_frame, meets_fault, runs_out_of_memory}
 use Rattle.h2_machine_laws.specs.Machines.{reports_unprocessed, is_called, Step, MayStep, log_after}
-use Rattle.h2_pair.specs.Pairs.{Half, HalfStep, calls, takes, loses, IsPair, begins, client_steps}
-use Rattle.h2_pair.specs.Pairs.{server_steps}
+use Rattle.h2_pair.specs.Pairs.{Half, HalfStep, calls, takes, loses, IsPair}
 use Rattle.h2_pair.specs.Directions.{AreUnderWay}
-use Rattle.h2_pair.specs.HeaderTables.{HeaderTablesInStep, block_count}
+use Rattle.h2_pair.specs.HeaderTables.{block_count}
 use Rattle.h2_pair.specs.Tokens.{Token, tokens_sent, tokens_heard, IsPrefixOfTokens}
 use Rattle.h2_pair.proofs.StepsOfLogs.{IsNoCall}
-use Rattle.h2_pair.proofs.PairLogs.{both_logs}
-use Rattle.h2_pair.proofs.CarriedItems.{items_both_ways}
-use Rattle.h2_pair.proofs.TablesOfPairs.{tables_to_server, tables_to_client}
+use Rattle.h2_pair.proofs.BothWays.{IsDirection, to_server, to_client, ends_of, IsKept, each_way}
+use Rattle.h2_pair.proofs.CarriedItems.{way_of}
+use Rattle.h2_pair.proofs.TablesOfPairs.{tables_of}
 use Rattle.h2_pair.proofs.HeardTokens.{tokens_of_items, tokens_split, prefix_more}
 use Rattle.h2_pair.proofs.HeardSent.{tokens_carried}
 use Rattle.h2_pair.proofs.HeardReads.{LogHeard, heard_prefix, lists_after}
-use Rattle.h2_pair.proofs.HeardSteps.{heard_grows, heard_failure, heard_unprocessed}
-use Rattle.h2_pair.proofs.HeardSteps.{no_item, one_item, frame_heard, heard_used, opened_heard}
-use Rattle.h2_pair.proofs.HeardCalls.{call_calls, step_calls, lists_more}
+use Rattle.h2_pair.proofs.HeardSteps.{heard_grows, heard_failure, heard_unprocessed, no_item}
+use Rattle.h2_pair.proofs.HeardSteps.{one_item, frame_heard, heard_used, opened_heard}
+use Rattle.h2_pair.proofs.HeardCalls.{step_calls, lists_more}
+use Rattle.h2_log_laws.proofs.PartsStay.{call_calls}
 use Rattle.h2_pair.proofs.HeardLists.{next_lists, lists_count, blocks_joined, blocks_of_lists}
 
 -- The lists that the reader's blocks decoded to are the first of those that the writer was given;
@@ -86,34 +85,24 @@ none_read writer reader new is same heard =
       heard = heard;
     }
 
--- What is known of the ends before a step of the reader, and what is under way after it.
-record IsStepped (writer reader : Half) (new : Log) : Type 0 where
-  pub role : Role
-  pub values : Values
-  pub reader_log : IsLog role values reader.log
-  pub tables : (way : List Item) → reader.log.failed ≡ None
-      → AreUnderWay writer.log reader.log way → HeaderTablesInStep writer.log reader.log way
-  pub way : List Item
-  pub under_way : AreUnderWay writer.log new way
-  pub before : IsHeardBy writer.log reader.log
-
 -- After a frame.
 frame_read : (writer reader : Half) (octets : List ℕ) (decoded : Option Decoded) (frame : Frame)
-    → reader.log.failed ≡ None → IsDecodedFor reader.log decoded frame
-    → IsStepped writer reader (with_frame (used reader.log octets []) decoded frame)
+    (way : List Item) → IsDirection writer reader → reader.log.failed ≡ None
+    → IsDecodedFor reader.log decoded frame
+    → AreUnderWay writer.log (with_frame (used reader.log octets []) decoded frame) way
+    → IsHeardBy writer.log reader.log
     → IsHeardBy writer.log (with_frame (used reader.log octets []) decoded frame)
-frame_read writer reader octets decoded frame up sees known =
-    let before = known.before in
-    let low = (log_read known.role known.values reader.log known.reader_log).low up in
-    elim (frame_heard reader.log octets decoded frame before.lists low sees before.heard) [
+frame_read writer reader octets decoded frame way is up sees under_way before =
+    let low = (log_read _ _ reader.log (ends_of writer reader is).reader_log).low up in
+    elim (frame_heard reader.log octets decoded frame before.lists low before.heard) [
       | no_item same heard ↦ none_read writer.log reader.log _ before same heard
-      | one_item item came seen heard ↦
-          let line : writer.log.sent ≡ (known.way ++ item ∷ []) ++ reader.log.received =
-          known.under_way ∙ ap (λ (items : List Item). known.way ++ items) came
-          ∙ sym (append_assoc known.way (item ∷ []) reader.log.received) in
-          let next = next_lists writer.log reader.log known.way item decoded before.lists
+      | one_item item completed came heard ↦
+          let line : writer.log.sent ≡ (way ++ item ∷ []) ++ reader.log.received =
+          under_way ∙ ap (λ (items : List Item). way ++ items) came
+          ∙ sym (append_assoc way (item ∷ []) reader.log.received) in
+          let next = next_lists writer.log reader.log way item decoded before.lists
           before.later before.accepted before.count
-          (known.tables (known.way ++ item ∷ []) up line) seen in
+          (tables_of writer reader (way ++ item ∷ []) is line) (rw completed at sees) in
           record {
             lists = lists_after decoded item before.lists;
             later = next.0;
@@ -142,50 +131,40 @@ failed_read writer reader octets code last is =
     (λ i. heard_failure i code last (used reader.log octets []) now.lists (now.heard i))
 
 -- After any step that is no call.
-step_read : (writer reader : Half) (step : Step) → IsNoCall step → MayStep reader.log step
-    → IsStepped writer reader (log_after reader.log step)
+step_read : (writer reader : Half) (step : Step) (way : List Item) → IsDirection writer reader
+    → IsNoCall step → MayStep reader.log step
+    → AreUnderWay writer.log (log_after reader.log step) way → IsHeardBy writer.log reader.log
     → IsHeardBy writer.log (log_after reader.log step)
 unfolding MayStep log_after
-step_read writer reader (uses_part octets unparsed) none may known =
-    used_read writer reader octets unparsed known.before
-step_read writer reader (ends_frame octets frame decoded) none (up, read, sees) known =
-    frame_read writer reader octets decoded frame up.up sees known
-step_read writer reader (meets_fault octets fault) none may known =
-    failed_read writer reader octets (wire_fault_code fault) _ known.before
-step_read writer reader (runs_out_of_memory octets) none may known =
-    failed_read writer reader octets InternalError _ known.before
-step_read writer reader reports_unprocessed none may known =
-    none_read writer.log reader.log (took_none reader.log) known.before
+step_read writer reader (uses_part octets unparsed) way is none may under_way before =
+    used_read writer reader octets unparsed before
+step_read writer reader (ends_frame octets frame decoded) way is none (up, read, sees) under_way
+    before = frame_read writer reader octets decoded frame way is up.up sees under_way before
+step_read writer reader (meets_fault octets fault) way is none may under_way before =
+    failed_read writer reader octets (wire_fault_code fault) _ before
+step_read writer reader (runs_out_of_memory octets) way is none may under_way before =
+    failed_read writer reader octets InternalError _ before
+step_read writer reader reports_unprocessed way is none may under_way before =
+    none_read writer.log reader.log (took_none reader.log) before
     (reads_unprocessed reader.log).received
-    (λ i. heard_unprocessed i reader.log known.before.lists (known.before.heard i))
-step_read writer reader (is_called act answer) none may known = absurd (none act answer refl)
+    (λ i. heard_unprocessed i reader.log before.lists (before.heard i))
+step_read writer reader (is_called act answer) way is none may under_way before =
+    absurd (none act answer refl)
 
 -- After a step of the reader.
-reader_heard : (writer reader : Half) {new_writer new_reader : Half} (role : Role)
-    (values : Values) → IsLog role values reader.log
-    → ((way : List Item) → reader.log.failed ≡ None → AreUnderWay writer.log reader.log way
-    → HeaderTablesInStep writer.log reader.log way)
-    → (way : List Item) → HalfStep reader writer new_reader new_writer
-    → AreUnderWay new_writer.log new_reader.log way → IsHeardBy writer.log reader.log
-    → IsHeardBy new_writer.log new_reader.log
-reader_heard writer reader role values is tables way (calls act answer typed may) under_way before =
+reader_heard : (writer reader : Half) {new_writer new_reader : Half} → IsDirection writer reader
+    → IsDirection new_writer new_reader → HalfStep reader writer new_reader new_writer
+    → IsHeardBy writer.log reader.log → IsHeardBy new_writer.log new_reader.log
+reader_heard writer reader is now (calls act answer typed may) before =
     let grows = grows_call reader.log act answer in
     none_read writer.log reader.log (with_call reader.log act answer) before grows.received
     (λ i. heard_grows i reader.log (with_call reader.log act answer) before.lists grows
     (before.heard i))
-reader_heard writer reader role values is tables way (takes step rest may none came) under_way
-    before =
-    step_read writer reader step none may (record {
-      role = role;
-      values = values;
-      reader_log = is;
-      tables = tables;
-      way = way;
-      under_way = under_way;
-      before = before;
-    })
-reader_heard writer reader role values is tables way (loses octets rest failed came) under_way
-    before = before
+reader_heard writer reader is now (takes step rest may none came) before =
+    let way = way_of writer (record reader { log = log_after reader.log step; incoming = rest })
+    now in
+    step_read writer reader step way.0 is none may way.1 before
+reader_heard writer reader is now (loses octets rest failed came) before = before
 
 -- New ends.
 opened_by : (role other : Role) (values others : Values)
@@ -200,38 +179,18 @@ opened_by role other values others =
       heard = λ i. opened_heard i other others;
     }
 
--- Both ends of every pair.
-pub pair_heard : (client_values server_values : Values) (client server : Half)
-    → IsPair client_values server_values client server
-    → IsHeardBy client.log server.log × IsHeardBy server.log client.log
-pair_heard client_values server_values _ _ (begins in_range others_in_range) = (
-  opened_by Client Server client_values server_values,
-  opened_by Server Client server_values client_values,
-)
-pair_heard client_values server_values new_client new_server
-    (client_steps {client = client} {server = server} is step) =
-    let before = pair_heard client_values server_values client server is in
-    let both = both_logs client_values server_values client server is in
-    let way = (items_both_ways client_values server_values new_client new_server
-    (client_steps is step)).1 in (
-      writer_heard client server step before.0,
-      reader_heard server client Client client_values both.client_log
-          (λ items up under_way. tables_to_client client_values server_values client server items is
-          under_way) way.0 step way.1
-          before.1,
-    )
-pair_heard client_values server_values new_client new_server
-    (server_steps {client = client} {server = server} is step) =
-    let before = pair_heard client_values server_values client server is in
-    let both = both_logs client_values server_values client server is in
-    let way = (items_both_ways client_values server_values new_client new_server
-    (server_steps is step)).0 in (
-      reader_heard client server Server server_values both.server_log
-          (λ items up under_way. tables_to_server client_values server_values client server items is
-          under_way) way.0 step way.1
-          before.0,
-      writer_heard server client step before.1,
-    )
+-- In each direction of every pair.
+heard_is_kept : IsKept (λ writer reader. IsHeardBy writer.log reader.log)
+heard_is_kept =
+    record {
+      at_first = opened_by;
+      by_writer = λ writer reader is now step. writer_heard writer reader step;
+      by_reader = reader_heard;
+    }
+
+pub is_heard : (writer reader : Half) → IsDirection writer reader
+    → IsHeardBy writer.log reader.log
+is_heard = each_way (λ writer reader. IsHeardBy writer.log reader.log) heard_is_kept
 
 -- What was given to the writer is what the reader's items carry, and then what those under way do.
 pub given_in_order : (i : ℕ) (role : Role) (values : Values) (writer reader : Log)
@@ -260,34 +219,28 @@ given_in_order i role values writer reader way log under_way is =
     ∙ tokens_split i way reader.received is.later is.lists later
 
 -- So what was heard is a prefix of what was given.
-prefix_of_given : (i : ℕ) (role : Role) (values : Values) (writer reader : Log)
-    (way : List Item) → IsLog role values writer → AreUnderWay writer reader way
-    → IsHeardBy writer reader
-    → IsPrefixOfTokens (tokens_heard i reader.reported) (tokens_sent i writer.calls)
-prefix_of_given i role values writer reader way log under_way is =
-    rw (given_in_order i role values writer reader way log under_way is)
-    (prefix_more (tokens_heard i reader.reported) (tokens_of_items i reader.received is.lists)
-    (tokens_of_items i way is.later) (heard_prefix reader.role i reader.received reader.sent
-    reader.reported is.lists (is.heard i)))
+hears : (writer reader : Half) (i : ℕ) → IsDirection writer reader
+    → IsPrefixOfTokens (tokens_heard i reader.log.reported) (tokens_sent i writer.log.calls)
+hears writer reader i is =
+    let way = way_of writer reader is in
+    let heard = is_heard writer reader is in
+    rw (given_in_order i _ _ writer.log reader.log way.0 (ends_of writer reader is).writer_log
+    way.1 heard)
+    (prefix_more (tokens_heard i reader.log.reported)
+    (tokens_of_items i reader.log.received heard.lists) (tokens_of_items i way.0 heard.later)
+    (heard_prefix reader.log.role i reader.log.received reader.log.sent reader.log.reported
+    heard.lists (heard.heard i)))
 
 -- At the server, and at the client.
 pub server_hears : (client_values server_values : Values) (client server : Half) (i : ℕ)
     → IsPair client_values server_values client server
     → IsPrefixOfTokens (tokens_heard i server.log.reported) (tokens_sent i client.log.calls)
-server_hears client_values server_values client server i is =
-    let way = (items_both_ways client_values server_values client server is).0 in
-    prefix_of_given i Client client_values client.log server.log way.0
-    (both_logs client_values server_values client server is).client_log way.1
-    (pair_heard client_values server_values client server is).0
+server_hears client_values server_values client server i is = hears client server i (to_server is)
 
 pub client_hears : (client_values server_values : Values) (client server : Half) (i : ℕ)
     → IsPair client_values server_values client server
     → IsPrefixOfTokens (tokens_heard i client.log.reported) (tokens_sent i server.log.calls)
-client_hears client_values server_values client server i is =
-    let way = (items_both_ways client_values server_values client server is).1 in
-    prefix_of_given i Server server_values server.log client.log way.0
-    (both_logs client_values server_values client server is).server_log way.1
-    (pair_heard client_values server_values client server is).1
+client_hears client_values server_values client server i is = hears server client i (to_client is)
 
 -- What is heard is a prefix of the message that the tokens sent begin.
 pub begins_message : (heard sent waiting whole : List Token) → IsPrefixOfTokens heard sent

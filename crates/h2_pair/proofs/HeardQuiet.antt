@@ -1,9 +1,9 @@
 -- Once an undisturbed pair is quiet, a message was heard whole, if what waits of it could not go.
-use Rattle.std.proofs.Common.{◌≡◌, ◌≢◌, inl, inr, ℕ, zero, suc, ◌+◌, ◌≤◌, ◌&&◌}
-use Rattle.std.proofs.Common.{Bool, true, false, List, [], ◌∷◌, ◌++◌, None, refl, sym}
-use Rattle.std.proofs.Common.{ap, ◌∙◌, append-nil, arith, length, ℤ, pos, ◌+ℤ◌, int_lt}
+use Rattle.std.proofs.Common.{◌≡◌, ◌≢◌, inl, inr, ℕ, zero, suc, ◌+◌, ◌≤◌, ◌&&◌, Bool, true, false}
+use Rattle.std.proofs.Common.{List, [], ◌∷◌, ◌++◌, None, refl, sym, ap, ◌∙◌, append-nil, arith}
+use Rattle.std.proofs.Common.{length, ℤ, pos, ◌+ℤ◌, int_lt}
 use Rattle.std.specs.List.{list_any}
-use Rattle.std.proofs.lemmas.Bool.{both_ways, cases_Bool}
+use Rattle.std.proofs.lemmas.Bool.{both_ways, cases_Bool, false_from_ne_true}
 use Rattle.std.proofs.lemmas.Bool.Decides.{nat_tests}
 use Rattle.std.proofs.lemmas.Int.{ints}
 use Rattle.h2_frame.specs.Frames.{Settings}
@@ -14,8 +14,7 @@ use Rattle.h2_log.specs.Acts.{Values, AreInRange}
 use Rattle.h2_log.specs.Allowed.{AllowedHistory, Allowed, starts, reads, writes}
 use Rattle.h2_log.specs.CallRules.{opening_pairs, changed_pairs}
 use Rattle.h2_log.specs.Events.{reports_unprocessed}
-use Rattle.h2_log.specs.Items.{ends, resets, total, data_on, data_of, increment_on}
-use Rattle.h2_log.specs.Items.{greatest_block}
+use Rattle.h2_log.specs.Items.{ends, resets, total, data_on, data_of, increment_on, greatest_block}
 use Rattle.h2_log.specs.Settings.{value_read, value_after, is_server}
 use Rattle.h2_log.specs.States.{is_above, is_closed_by_us, openings}
 use Rattle.h2_log.specs.Log.{Log, active, owed, send_window}
@@ -26,15 +25,15 @@ use Rattle.h2_log_laws.proofs.InvariantLogs.{written_is_allowed}
 use Rattle.h2_log_laws.proofs.ItemLists.{total_none}
 use Rattle.h2_log_laws.proofs.ReaderStates.{active_from, lasts_from}
 use Rattle.h2_end_laws.specs.Sendings.{lists_accepted, settings_received}
-use Rattle.h2_end_laws.proofs.ReadVerdicts.{closed_by_us_is}
+use Rattle.h2_log_laws.proofs.LogViewLemmas.{closed_by_us_is}
 use Rattle.h2_end_laws.proofs.Sendings.{log_sent}
 use Rattle.h2_pair.specs.Pairs.{Half, IsPair}
 use Rattle.h2_pair.specs.Directions.{AreUnderWay}
 use Rattle.h2_pair.specs.Undisturbed.{IsUndisturbed}
 use Rattle.h2_pair.specs.Quiet.{IsQuiet, WasReset, IsSending, IsStuck, CouldGo, NoneCouldGo}
 use Rattle.h2_pair.specs.Tokens.{Token, FieldsToken, OctetToken, EndToken, tokens_sent}
-use Rattle.h2_message.specs.Messages.{SentMessage}
 use Rattle.h2_pair.specs.Tokens.{tokens_heard, message_tokens}
+use Rattle.h2_message.specs.Messages.{SentMessage}
 use Rattle.h2_pair.proofs.PairLogs.{both_logs}
 use Rattle.h2_pair.proofs.BothWays.{AreEnds, ends_to_server, ends_to_client}
 use Rattle.h2_pair.proofs.ConnectionWindows.{connection_conserved}
@@ -42,12 +41,12 @@ use Rattle.h2_pair.proofs.NamedUnprocessed.{log_named}
 use Rattle.h2_pair.proofs.StreamWindows.{stream_conserved}
 use Rattle.h2_pair.proofs.HeardGoAways.{speaks}
 use Rattle.h2_pair.proofs.HeardLists.{blocks_of_lists}
-use Rattle.h2_pair.proofs.HeardMessages.{spoken_opened, silent_tokens, ended_tokens}
-use Rattle.h2_pair.proofs.HeardMessages.{unended}
+use Rattle.h2_pair.proofs.HeardMessages.{spoken_opened, silent_tokens, ended_tokens, unended}
 use Rattle.h2_pair.proofs.HeardSent.{tokens_carried}
-use Rattle.h2_pair.proofs.HeardWhole.{not_so, IsQuietStream, client_kept, server_kept, unnamed}
-use Rattle.h2_pair.proofs.HeardWhole.{closed_how, above_server, client_above, cut_off, pair_settled}
-use Rattle.h2_pair.proofs.HeardWhole.{server_hears_all, client_hears_all}
+use Rattle.h2_pair.proofs.HeardWhole.{IsQuietStream, client_kept, server_kept, unnamed, closed_how}
+use Rattle.h2_pair.proofs.HeardWhole.{above_server, cut_off, pair_settled, server_hears_all}
+use Rattle.h2_pair.proofs.HeardWhole.{client_hears_all}
+use Rattle.h2_log_laws.proofs.LogViewLemmas.{client_above}
 
 -- The initial window that an end has sent last is at least 1.
 opening_window : (role : Role) (values : Values) → AreInRange values
@@ -162,7 +161,7 @@ goes_on_by : (role : Role) (values : Values) (log : Log) (i : ℕ) (message : Se
     (token : Token) (others : List Token) → IsLog role values log
     → message_tokens message ≡ tokens_sent i log.calls ++ token ∷ others
     → list_any (ends i) log.sent ≡ false
-goes_on_by role values log i message token others is waits = not_so _ (λ here.
+goes_on_by role values log i message token others is waits = false_from_ne_true _ (λ here.
     let many : length (lists_accepted log.calls) ≡ _ =
     blocks_of_lists log.sent (settings_received log.received) (lists_accepted log.calls)
     log.encoder (log_sent role values log is) in
@@ -233,18 +232,19 @@ client_idle client_values server_values client server i message token others pai
           (client_above Client i client.log.sent refl) goes
           (ap (list_any (resets i)) settled.to_client ∙ server_kept client.log server.log i settled)
           (client_kept client.log server.log i settled) (unnamed client.log server.log i settled);
-      unclosed = not_so _ (λ closed. elim (closed_how server.log.role i server.log.sent closed) [
-        | inl reset ↦ both_ways _ (server_kept client.log server.log i settled) reset
-        | inr above ↦ cut_off client.log server.log i settled opened.odd opened.opened
-            (above_server server.log.role i server.log.sent settled.server_role above)
-      ]);
+      unclosed = false_from_ne_true _ (λ closed.
+          elim (closed_how server.log.role i server.log.sent closed) [
+            | inl reset ↦ both_ways _ (server_kept client.log server.log i settled) reset
+            | inr above ↦ cut_off client.log server.log i settled opened.odd opened.opened
+                (above_server server.log.role i server.log.sent settled.server_role above)
+          ]);
       goes_on = ap (list_any (ends i)) settled.to_server ∙ goes;
     }
 
 -- And one of a server at the client.
 server_unnamed : (values : Values) (log : Log) (i : ℕ) → IsLog Server values log
     → log.role ≡ Server → list_any (reports_unprocessed i) log.reported ≡ false
-server_unnamed values log i is own = not_so _ (λ here.
+server_unnamed values log i is own = false_from_ne_true _ (λ here.
     both_ways _ (log_named Server values log is i here).0 (ap is_server own))
 
 server_idle : (client_values server_values : Values) (client server : Half) (i : ℕ)
@@ -267,16 +267,17 @@ server_idle client_values server_values client server i message token others pai
       none_owed = quiet.to_client.none_owed;
       none_unreturned = quiet.to_client.none_unreturned;
       alive = active_by Server server_values server.log i is settled.server_role spoken
-          (not_so _ (λ above. both_ways _ (settled.spoken i spoken).below
+          (false_from_ne_true _ (λ above. both_ways _ (settled.spoken i spoken).below
           (above_server Server i server.log.sent refl above))) goes
           (ap (list_any (resets i)) settled.to_server ∙ client_kept client.log server.log i settled)
           (server_kept client.log server.log i settled)
           (server_unnamed server_values server.log i is settled.server_role);
-      unclosed = not_so _ (λ closed. elim (closed_how client.log.role i client.log.sent closed) [
-        | inl reset ↦ both_ways _ (client_kept client.log server.log i settled) reset
-        | inr above ↦ both_ways _ (client_above client.log.role i client.log.sent
-            settled.client_role) above
-      ]);
+      unclosed = false_from_ne_true _ (λ closed.
+          elim (closed_how client.log.role i client.log.sent closed) [
+            | inl reset ↦ both_ways _ (client_kept client.log server.log i settled) reset
+            | inr above ↦ both_ways _ (client_above client.log.role i client.log.sent
+                settled.client_role) above
+          ]);
       goes_on = ap (list_any (ends i)) settled.to_client ∙ goes;
     }
 

@@ -1,11 +1,8 @@
 -- What an end has heard on a stream is what the items that it has read carry, as long as it hasn't
 -- closed the stream; and a prefix of that from then on.
-use Rattle.std.proofs.Common.{◌≡◌, ◌⊎◌, inl, inr, ℕ, ◌==◌, Bool, true, false}
-use Rattle.std.proofs.Common.{List, [], ◌∷◌, ◌++◌, Option, Some, None, refl, sym}
-use Rattle.std.proofs.Common.{ap, ◌∙◌, append_assoc, append-nil, subst}
-use Rattle.std.specs.List.{list_any}
-use Rattle.std.proofs.lemmas.Bool.{both_ways, or_left, or_right, or_from, eqb-true}
-use Rattle.std.proofs.lemmas.Bool.{eq-eqb, cases_Bool, or_cases}
+use Rattle.std.proofs.Common.{◌≡◌, ◌⊎◌, inl, inr, ℕ, ◌==◌, true, List, [], ◌∷◌, ◌++◌, Option, Some}
+use Rattle.std.proofs.Common.{None, refl, sym, ap, ◌∙◌, append_assoc, append-nil, subst}
+use Rattle.std.proofs.lemmas.Bool.{both_ways, eqb-true, cases_Bool}
 use Rattle.hpack.specs.declared.types.field.Field.{Field}
 use Rattle.h2_frame.specs.declared.code.Code.{Code}
 use Rattle.h2_frame.specs.Codes.{code_number}
@@ -14,47 +11,30 @@ use Rattle.h2_frame.specs.Encoding.{stream_of}
 use Rattle.h2_block.specs.Grouping.{Item, alone, block}
 use Rattle.h2_log.specs.declared.role.Role.{Role}
 use Rattle.h2_log.specs.Events.{Event}
-use Rattle.h2_log.specs.declared.role.Role.TheVariants.{Client, Server}
-use Rattle.h2_log.specs.Items.{stream_of_item, resets, is_goaway_below}
-use Rattle.h2_log.specs.States.{State, Idle, Active, ClosedByUs, Closed, state_by, is_active}
-use Rattle.h2_log.specs.States.{is_used, is_above, is_closed_by_us}
-use Rattle.h2_log.specs.Log.{Log, active, state}
+use Rattle.h2_log.specs.Items.{stream_of_item}
+use Rattle.h2_log.specs.States.{Idle, Active, is_used, is_closed_by_us}
+use Rattle.h2_log.specs.Log.{Log, state}
 use Rattle.h2_log.specs.LogView.{log_view}
 use Rattle.h2_log.specs.View.{View}
 use Rattle.h2_log.specs.Verdicts.{Verdict, ConnectionFault, StreamFault, NoEvent, Reported}
-use Rattle.h2_log.specs.Verdicts.{block_verdict, opening_verdict}
 use Rattle.h2_log.specs.ItemRules.{Decoded, replies_to, verdict_by_rules, peer_opens}
 use Rattle.h2_log.specs.ItemEffects.{events_of, fields_of}
-use Rattle.h2_log_laws.proofs.ItemLists.{any_after}
-use Rattle.h2_log_laws.proofs.ReaderStates.{active_parts, lasts_parts, not_idle, state_is_active}
+use Rattle.h2_log_laws.proofs.ReaderStates.{not_idle, state_is_active}
 use Rattle.h2_log_laws.proofs.ReplyInvariant.{used_more, used_here}
-use Rattle.h2_end_laws.proofs.ReadVerdicts.{Says, says_data}
+use Rattle.h2_end_laws.proofs.OverReads.{OfMessage, says_block}
+use Rattle.h2_end_laws.proofs.ReadVerdicts.{Says, says_data, says_any}
 use Rattle.h2_end_laws.proofs.ReadingRules.{IsFaulty, IsUnreported, IsSaid}
-use Rattle.h2_pair.specs.Tokens.{Token, tokens_of_event}
-use Rattle.h2_pair.specs.Tokens.{tokens_heard, IsPrefixOfTokens}
+use Rattle.h2_end_laws.proofs.ReceiveWindows.{active_unclosed}
+use Rattle.h2_pair.specs.Tokens.{Token, tokens_of_event, tokens_heard, IsPrefixOfTokens}
 use Rattle.h2_pair.proofs.HeardTokens.{frame_tokens, item_tokens, tokens_of_items, prefix_same}
+use Rattle.h2_log_laws.proofs.LogViewLemmas.{closed_used}
+use Rattle.h2_end_laws.proofs.ActivityFrames.{closed_more}
+use Rattle.h2_end_laws.proofs.ReceiveWindowSteps.{reset_closed}
 
 -- This end has closed the stream, and its number is used.
 pub record IsGone (role : Role) (i : ℕ) (received sent : List Item) : Type 0 where
   pub closed : is_closed_by_us role i sent ≡ true
   pub used : is_used role i received sent ≡ true
-
--- What is above an own GOAWAY stays so.
-above_more : (role : Role) (i : ℕ) (items sent : List Item) → is_above role i sent ≡ true
-    → is_above role i (items ++ sent) ≡ true
-unfolding is_above
-above_more Client i items sent above = absurd (both_ways false refl above)
-above_more Server i items sent above = any_after (is_goaway_below i) items sent above
-
--- What this end has closed stays closed.
-closed_more : (role : Role) (i : ℕ) (items sent : List Item) → is_closed_by_us role i sent ≡ true
-    → is_closed_by_us role i (items ++ sent) ≡ true
-unfolding is_closed_by_us
-closed_more role i items sent closed =
-    elim (or_cases (list_any (resets i) sent) (is_above role i sent) closed) [
-      | inl reset ↦ or_left _ _ (any_after (resets i) items sent reset)
-      | inr above ↦ or_right _ _ (above_more role i items sent above)
-    ]
 
 -- It stays so.
 pub gone_more : (role : Role) (i : ℕ) (news items received sent : List Item)
@@ -111,19 +91,12 @@ fault_carries : (i : ℕ) (view : View) (decoded : Option Decoded) (code : Code)
 unfolding events_of tokens_heard tokens_of_event
 fault_carries i view decoded code item reported = append-nil (tokens_heard i reported)
 
--- An item of another stream carries nothing on this one.
-other_carries : (i : ℕ) (item : Item) (list : List Field) → (stream_of_item item == i) ≡ false
-    → item_tokens i item list ≡ []
-unfolding item_tokens frame_tokens stream_of_item stream_of
-other_carries i (block stream end octets) list other = rw other refl
-other_carries i (alone (Data stream end octets pad)) list other = rw other refl
-other_carries i (alone frame) list other = refl
-
--- The item is no part of a message, or its stream has this property.
-abbrev pub OfMessage : (ℕ → Type 0) → Item → Type 0
-OfMessage P (block stream end octets) = P stream
-OfMessage P (alone (Data stream end octets pad)) = P stream
-OfMessage P (alone frame) = Unit {0}
+-- What the stream of an item has, it has where the item is part of a message.
+of_stream : (P : ℕ → Type 0) (item : Item) → P (stream_of_item item) → OfMessage P item
+unfolding stream_of_item stream_of
+of_stream P (block stream end octets) is = is
+of_stream P (alone (Data stream end octets pad)) is = is
+of_stream P (alone frame) is = tt
 
 -- An item carries nothing on a stream, or the stream has the property.
 nothing_or : (P : ℕ → Type 0) (i : ℕ) (item : Item) (list : List Field) → OfMessage P item
@@ -146,49 +119,6 @@ says_both F S T A B C (ConnectionFault code) one other = tt
 says_both F S T A B C (StreamFault code) one other = (one, other)
 says_both F S T A B C NoEvent one other = (one, other)
 says_both F S T A B C Reported one other = (one, other)
-
--- What no verdict says, by what it is.
-says_nothing : (verdict : Verdict) → Says (Unit {0}) (Unit {0}) (Unit {0}) verdict
-says_nothing (ConnectionFault code) = tt
-says_nothing (StreamFault code) = tt
-says_nothing NoEvent = tt
-says_nothing Reported = tt
-
--- A block that opens a stream, and one that doesn't.
-says_opening : (S T : Type 0) (left full large : Bool) → S → T
-    → Says (Unit {0}) S T (opening_verdict left full large)
-unfolding opening_verdict
-says_opening S T true full large s t = s
-says_opening S T false true large s t = tt
-says_opening S T false false true s t = tt
-says_opening S T false false false s t = t
-
-says_block : (S T : Type 0) (state : State) (opens left full ended large : Bool)
-    → (state ≡ ClosedByUs → S) → (state ≡ Idle → opens ≡ true → S) → (state ≡ Active → T)
-    → (state ≡ Idle → T) → Says (Unit {0}) S T (block_verdict state opens left full ended large)
-unfolding block_verdict
-says_block S T Idle true left full ended large c o a n =
-    says_opening S T left full large (o refl refl) (n refl)
-says_block S T Idle false left full ended large c o a n = tt
-says_block S T Closed opens left full ended large c o a n = tt
-says_block S T ClosedByUs opens left full ended large c o a n = c refl
-says_block S T Active opens left full true large c o a n = tt
-says_block S T Active opens left full false true c o a n = tt
-says_block S T Active opens left full false false c o a n = a refl
-
--- A stream that this end has closed is used.
-closed_used : (used active closed_by_us : Bool) → state_by used active closed_by_us ≡ ClosedByUs
-    → used ≡ true
-closed_used false active closed_by_us is = absurd (cc)
-closed_used true active closed_by_us is = refl
-
--- One that is active isn't closed by this end.
-active_unclosed : (role : Role) (i : ℕ) (received sent : List Item) (reported : List Event)
-    → is_active role i received sent reported ≡ true → is_closed_by_us role i sent ≡ false
-unfolding is_closed_by_us
-active_unclosed role i received sent reported active =
-    let parts = active_parts role i received sent reported active in
-    or_from _ _ (lasts_parts i received sent parts.lasts).kept parts.below
 
 -- An active stream isn't gone, nor is an idle one.
 active_stays : (log : Log) (i : ℕ) → state log i ≡ Active
@@ -217,11 +147,15 @@ unfolding verdict_by_rules
 rules_used log None (block stream end octets) = tt
 rules_used log (Some decoded) (block stream end octets) =
     let item = block stream end octets in
-    says_block (IsUsedBy log item stream) (Stays log stream) (state log stream)
+    says_block (Unit {0}) (IsUsedBy log item stream) (Stays log stream) (state log stream)
     (peer_opens (log_view log) stream) _ _ _ _
+    (λ idle opens. (
+      tt,
+      used_here log.role stream end octets log.received log.sent opens,
+      idle_stays log stream idle,
+    ))
+    (λ is. (tt, active_stays log stream is))
     (λ is. used_more log.role stream (item ∷ []) [] log.received log.sent (closed_used _ _ _ is))
-    (λ idle opens. used_here log.role stream end octets log.received log.sent opens)
-    (active_stays log stream) (idle_stays log stream)
 rules_used log decoded (alone (Data stream end octets pad)) =
     let item = alone (Data stream end octets pad) in
     says_data (Unit {0}) (IsUsedBy log item stream) (Stays log stream) (state log stream) _ _ _
@@ -229,7 +163,7 @@ rules_used log decoded (alone (Data stream end octets pad)) =
     (λ is. used_more log.role stream (item ∷ []) [] log.received log.sent (closed_used _ _ _ is))
     (active_stays log stream)
 rules_used log decoded (alone frame) =
-    says_nothing (verdict_by_rules (log_view log) decoded (alone frame))
+    says_any (Unit {0}) (verdict_by_rules (log_view log) decoded (alone frame)) tt
 
 -- What is silent of a message is on a stream that is gone.
 abbrev IsSilent : Log → Item → ℕ → Type 0
@@ -307,30 +241,20 @@ heard_reported role i received sent after reported lists view decoded item goes 
     some_heard (goes gone) (prefix_by _ _ _ _ _ same (item_carries i decoded item received lists)
     prefix)
 
--- A stream that is reset is closed by this end.
-reset_closes : (role : Role) (i stream code : ℕ) (sent : List Item) → stream ≡ i
-    → is_closed_by_us role i (alone (Reset stream code) ∷ sent) ≡ true
-unfolding is_closed_by_us resets
-reset_closes role i stream code sent same =
-    or_left _ _ (or_left (stream == i) _ (eq-eqb stream i same))
-
 -- A fault of a stream carries nothing on the others, and the stream is gone.
 fault_goes : (log : Log) (i : ℕ) (item : Item) (code : ℕ) (due : List Item) (list : List Field)
     → IsFaulty log item
     → (item_tokens i item list ≡ []) ⊎ IsGone log.role i (item ∷ log.received)
     (due ++ (alone (Reset (stream_of_item item) code) ∷ log.sent))
-fault_goes log i item code due list used = elim (cases_Bool (stream_of_item item == i)) [
-  | inl same ↦
-      let equal = eqb-true (stream_of_item item) i same in
-      let reset = alone (Reset (stream_of_item item) code) in
-      let used_now : is_used log.role i (item ∷ log.received) log.sent ≡ true =
-      subst (λ (j : ℕ). is_used log.role j (item ∷ log.received) log.sent ≡ true) equal used in
-      inr (gone_more log.role i [] due (item ∷ log.received) (reset ∷ log.sent) (record {
-        closed = reset_closes log.role i (stream_of_item item) code log.sent equal;
-        used = used_more log.role i [] (reset ∷ []) (item ∷ log.received) log.sent used_now;
-      }))
-  | inr other ↦ inl (other_carries i item list other)
-]
+fault_goes log i item code due list used =
+    let stream = stream_of_item item in
+    let reset = alone (Reset stream code) in
+    nothing_or (λ j. IsGone log.role j (item ∷ log.received) (due ++ (reset ∷ log.sent))) i item
+    list (of_stream _ item (gone_more log.role stream [] due (item ∷ log.received)
+    (reset ∷ log.sent) (record {
+      closed = reset_closed log.role stream code log.sent;
+      used = used_more log.role stream [] (reset ∷ []) (item ∷ log.received) log.sent used;
+    })))
 
 -- What is known of an item that is read.
 abbrev pub IsRuled : Log → Item → Verdict → Type 0

@@ -1,22 +1,19 @@
 -- What an end was given for a stream is what the items that it has sent carry, with the lists of
 -- its calls.
-use Rattle.std.proofs.Common.{map as each, ◌≡◌, ℕ, zero, suc, ◌<◌, ◌==◌, nat_le}
-use Rattle.std.proofs.Common.{◌&&◌, not, Bool, true, false, if◌then◌else◌, List, [], ◌∷◌, ◌++◌}
-use Rattle.std.proofs.Common.{length, take, drop, None, refl, sym, ap, ◌∙◌, arith}
-use Rattle.std.proofs.Common.{append_assoc, append-nil, length-drop, inl, inr}
+use Rattle.std.proofs.Common.{map as each, ◌≡◌, ℕ, zero, suc, ◌<◌, ◌==◌, nat_le, ◌&&◌, not, Bool}
+use Rattle.std.proofs.Common.{true, false, if◌then◌else◌, List, [], ◌∷◌, ◌++◌, length, take, drop}
+use Rattle.std.proofs.Common.{None, refl, sym, ap, ◌∙◌, arith, append_assoc, append-nil}
+use Rattle.std.proofs.Common.{length-drop, eq-eqb}
 use Rattle.std.specs.List.{list_any}
-use Rattle.std.proofs.lemmas.Bool.{both_ways, or_parts, leb-false, and_parts, not-true}
-use Rattle.std.proofs.lemmas.Bool.{cases_Bool, eqb-true}
+use Rattle.std.proofs.lemmas.Bool.{both_ways, or_parts, leb-false, and_parts, not-true, eqb-true}
+use Rattle.std.proofs.lemmas.Bool.{false_from_ne_true, and_from}
 use Rattle.std.proofs.lemmas.List.{map-append, take-append-drop, length-take}
 use Rattle.hpack.specs.declared.types.field.Field.{Field}
 use Rattle.h2_frame.specs.Codes.{code_number}
 use Rattle.h2_frame.specs.Frames.{Data, GoAway, WindowUpdate, Settings, Ping}
 use Rattle.h2_block.specs.Grouping.{Item, alone, block}
 use Rattle.h2_log.specs.declared.role.Role.{Role}
-use Rattle.h2_log.specs.declared.refusal.Refusal.{Refusal}
-use Rattle.h2_log.specs.Acts.{Values, Act, Answer, Open, SendFields, SendData, Release, ResetStream}
-use Rattle.h2_log.specs.Acts.{Refuse, SendPing, SendGoAway, PutOut, ChangeSettings}
-use Rattle.h2_log.specs.Acts.{Count, Done, OutOfMemory, Refused}
+use Rattle.h2_log.specs.Acts.{Values, Act, Answer, Open, SendFields, SendData, Release, Done}
 use Rattle.h2_log.specs.Log.{Log, max_payload_sent, max_payload_sent_by}
 use Rattle.h2_log.specs.LogView.{log_view}
 use Rattle.h2_log.specs.View.{ended_in}
@@ -29,8 +26,8 @@ use Rattle.h2_log.specs.Histories.{IsLog}
 use Rattle.h2_log_laws.proofs.LogInduction.{IsLogInvariant, kept_by_logs, WritesNone, refused}
 use Rattle.h2_log_laws.proofs.LogInduction.{no_memory, fails_instead, puts_out}
 use Rattle.h2_end_laws.specs.Sendings.{lists_accepted}
-use Rattle.h2_pair.specs.Tokens.{Token, OctetToken, end_tokens, tokens_of_call}
-use Rattle.h2_pair.specs.Tokens.{tokens_sent}
+use Rattle.h2_pair.specs.Tokens.{Token, OctetToken, end_tokens, tokens_of_call, tokens_sent}
+use Rattle.h2_pair.proofs.HeardCalls.{silent_lists}
 use Rattle.h2_pair.proofs.HeardTokens.{frame_tokens, item_tokens, tokens_of_items}
 
 -- Items and calls carry the same on the stream.
@@ -77,12 +74,9 @@ unfolding replies_to carries
 replies_untold (ConnectionFault code) item = refl
 replies_untold (StreamFault code) item = refl
 replies_untold Reported item = refl
-replies_untold NoEvent (block stream end octets) = refl
-replies_untold NoEvent (alone (Settings true pairs)) = refl
 replies_untold NoEvent (alone (Settings false pairs)) = refl
-replies_untold NoEvent (alone (Ping true octets)) = refl
 replies_untold NoEvent (alone (Ping false octets)) = refl
-replies_untold NoEvent (alone frame) = refl
+replies_untold NoEvent item = refl
 
 -- what octets of a body carry, by the test whether they are of the stream
 abbrev body_tokens : Bool → List ℕ → Bool → List Token
@@ -146,35 +140,24 @@ frames_told i (suc count) most id octets end sent lists some enough =
     (alone (Data id false (take most octets) None) ∷ sent) lists some
     (omega (arith, length-drop most octets)))
 
--- Nothing isn't some.
-not_none : (size : ℕ) → (0 == suc size) ≡ false
-not_none size = elim (cases_Bool (0 == suc size)) [
-  | inl same ↦ let wrong : 0 ≡ suc size = eqb-true 0 (suc size) same in absurd (omega arith)
-  | inr other ↦ other
-]
-
--- No octets of some, without END_STREAM.
-other_size : (size : ℕ) (octets : List ℕ) → (size == 0 && true) ≡ false
-    → each OctetToken (take 0 octets) ++ end_tokens (true && 0 == size) ≡ []
+-- No octets without END_STREAM carry nothing.
+nothing : (b : Bool) → body_tokens b [] false ≡ []
 unfolding end_tokens
-other_size zero octets some = absurd (both_ways true some refl)
-other_size (suc size) octets some = rw (not_none size) refl
+nothing true = refl
+nothing false = refl
 
--- Where the octets and END_STREAM are none, so are their tokens.
+-- So it is where none are sent.
 none_body : (b : Bool) (count size : ℕ) (octets : List ℕ) (end : Bool)
     → (count == 0 && not (size == 0 && end)) ≡ true
     → body_tokens b (take count octets) (end && count == size) ≡ []
-unfolding end_tokens
-none_body false count size octets end none = refl
-none_body true count size octets true none =
-    let parts = and_parts (count == 0) (not (size == 0 && true)) none in
+none_body b count size octets end none =
+    let parts = and_parts (count == 0) (not (size == 0 && end)) none in
     let zero_count = eqb-true count 0 parts.0 in
-    let some = not-true (size == 0 && true) parts.1 in
-    rw zero_count (other_size size octets some)
-none_body true count size octets false none =
-    let parts = and_parts (count == 0) (not (size == 0 && false)) none in
-    let zero_count = eqb-true count 0 parts.0 in
-    rw zero_count refl
+    let goes_on : (end && count == size) ≡ false = false_from_ne_true _ (λ here.
+    let both = and_parts end (count == size) here in
+    let empty = eq-eqb size 0 (sym (eqb-true count size both.1) ∙ zero_count) in
+    both_ways _ (not-true _ parts.1) (and_from (size == 0) end empty both.0)) in
+    rw (goes_on, zero_count) (nothing b)
 
 -- The octets of a call, by the test whether there are any.
 items_by : (i : ℕ) (items sent : List Item) (lists : List (List Field)) (tokens : List Token)
@@ -260,62 +243,22 @@ accepted_told i log (SendData id octets end) is =
 accepted_told i log (Release id count) is =
     quiet_told i log (Release id count) Done (updates_untold id count (ended_in
     ((log_view log).stream id))) refl refl is
-accepted_told i log (ResetStream id code) is =
-    quiet_told i log (ResetStream id code) Done refl refl refl is
-accepted_told i log (Refuse id code) is = quiet_told i log (Refuse id code) Done refl refl refl is
-accepted_told i log (SendPing octets) is =
-    quiet_told i log (SendPing octets) Done refl refl refl is
-accepted_told i log SendGoAway is = quiet_told i log SendGoAway Done refl refl refl is
-accepted_told i log (PutOut count) is =
-    quiet_told i log (PutOut count) (answer_of (log_view log) (PutOut count)) refl refl refl is
-accepted_told i log (ChangeSettings values) is =
-    quiet_told i log (ChangeSettings values) Done refl refl refl is
+accepted_told i log act is = quiet_told i log act (answer_of (log_view log) act) refl refl refl is
 
--- A refused call carries nothing; nor does one in which memory ran out.
-refused_nothing : (i : ℕ) (act : Act) (refusal : Refusal) (calls : List (Act × Answer))
-    → (tokens_of_call i act (Refused refusal) ≡ [])
-    × (lists_accepted ((act, Refused refusal) ∷ calls) ≡ lists_accepted calls)
-unfolding lists_accepted tokens_of_call
-refused_nothing i (Open fields end) refusal calls = (refl, refl)
-refused_nothing i (SendFields id fields end) refusal calls = (refl, refl)
-refused_nothing i (SendData id octets end) refusal calls = (refl, refl)
-refused_nothing i (Release id count) refusal calls = (refl, refl)
-refused_nothing i (ResetStream id code) refusal calls = (refl, refl)
-refused_nothing i (Refuse id code) refusal calls = (refl, refl)
-refused_nothing i (SendPing octets) refusal calls = (refl, refl)
-refused_nothing i SendGoAway refusal calls = (refl, refl)
-refused_nothing i (PutOut count) refusal calls = (refl, refl)
-refused_nothing i (ChangeSettings values) refusal calls = (refl, refl)
-
-failed_nothing : (i : ℕ) (act : Act) (calls : List (Act × Answer))
-    → (tokens_of_call i act OutOfMemory ≡ [])
-    × (lists_accepted ((act, OutOfMemory) ∷ calls) ≡ lists_accepted calls)
-unfolding lists_accepted tokens_of_call
-failed_nothing i (Open fields end) calls = (refl, refl)
-failed_nothing i (SendFields id fields end) calls = (refl, refl)
-failed_nothing i (SendData id octets end) calls = (refl, refl)
-failed_nothing i (Release id count) calls = (refl, refl)
-failed_nothing i (ResetStream id code) calls = (refl, refl)
-failed_nothing i (Refuse id code) calls = (refl, refl)
-failed_nothing i (SendPing octets) calls = (refl, refl)
-failed_nothing i SendGoAway calls = (refl, refl)
-failed_nothing i (PutOut count) calls = (refl, refl)
-failed_nothing i (ChangeSettings values) calls = (refl, refl)
-
--- A call that writes no items of its own.
-silent_told : (i : ℕ) (log : Log) (act : Act) (answer : Answer) → WritesNone act answer
-    → AreTold i log → AreTold i (called log act answer)
-unfolding lists_accepted tokens_of_call
-silent_told i log _ _ (refused act refusal) is =
-    let same = refused_nothing i act refusal log.calls in
-    called_told i log act (Refused refusal) same.0 same.1 is
-silent_told i log _ _ (no_memory act) is =
-    let nothing = failed_nothing i act log.calls in
-    called_told i log act OutOfMemory nothing.0 nothing.1 is
-silent_told i log _ _ (fails_instead id code) is =
-    called_told i log (Refuse id code) Done refl refl is
-silent_told i log _ _ (puts_out count given) is =
-    called_told i log (PutOut count) (Count given) refl refl is
+-- A call that writes no items of its own carries nothing.
+silent_tokens : (i : ℕ) (act : Act) (answer : Answer) → WritesNone act answer
+    → tokens_of_call i act answer ≡ []
+unfolding tokens_of_call
+silent_tokens i _ _ (refused (Open fields end) refusal) = refl
+silent_tokens i _ _ (refused (SendFields id fields end) refusal) = refl
+silent_tokens i _ _ (refused (SendData id octets end) refusal) = refl
+silent_tokens i _ _ (refused act refusal) = refl
+silent_tokens i _ _ (no_memory (Open fields end)) = refl
+silent_tokens i _ _ (no_memory (SendFields id fields end)) = refl
+silent_tokens i _ _ (no_memory (SendData id octets end)) = refl
+silent_tokens i _ _ (no_memory act) = refl
+silent_tokens i _ _ (fails_instead id code) = refl
+silent_tokens i _ _ (puts_out count given) = refl
 
 -- What a log sends carries what it was given.
 sends_told : (i : ℕ) (role : Role) (values : Values) → IsLogInvariant role values (AreTold i)
@@ -335,7 +278,8 @@ sends_told i role values =
           (alone (WindowUpdate 0 log.unreturned) ∷ []) refl is;
       failed = λ log code last names is.
           wrote_told i log (alone (GoAway last (code_number code) []) ∷ []) refl is;
-      called = λ log act answer is_log none is. silent_told i log act answer none is;
+      called = λ log act answer is_log none is. called_told i log act answer
+          (silent_tokens i act answer none) (silent_lists act answer log.calls none) is;
       sent = λ log act accepted is. accepted_told i log act is;
       given = λ log more is. is;
     }

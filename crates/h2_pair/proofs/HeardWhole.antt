@@ -1,149 +1,65 @@
 -- Once an undisturbed pair is quiet, all that was sent on a stream that wasn't reset was heard.
-use Rattle.std.proofs.Common.{◌≡◌, ◌≢◌, ◌⊎◌, inl, inr, ℕ, ◌<◌, ◌==◌, ◌%◌, ◌&&◌, nat_lt}
-use Rattle.std.proofs.Common.{Bool, true, false, List, [], ◌∷◌, ◌++◌, Option}
-use Rattle.std.proofs.Common.{refl, sym, ap, ◌∙◌, append-nil, arith, subst}
-use Rattle.std.specs.List.{list_any, Contains}
-use Rattle.std.proofs.lemmas.Bool.{both_ways, or_parts, or_cases, eqb-true, cases_Bool, and_from}
-use Rattle.std.proofs.lemmas.Bool.{and_parts, lt-ltb, ltb-true, or_left, or_right}
+use Rattle.std.proofs.Common.{◌≡◌, ◌⊎◌, inl, inr, ℕ, ◌<◌, ◌==◌, ◌%◌, nat_lt, true, false, List, []}
+use Rattle.std.proofs.Common.{◌∷◌, ◌++◌, refl, sym, ap, ◌∙◌, append-nil, arith, subst}
+use Rattle.std.specs.List.{list_any}
+use Rattle.std.proofs.lemmas.Bool.{both_ways, or_cases, eqb-true, cases_Bool, and_parts, ltb-true}
+use Rattle.std.proofs.lemmas.Bool.{or_left, or_right, false_from_ne_true}
 use Rattle.hpack.specs.declared.types.field.Field.{Field}
-use Rattle.h2_frame.specs.Frames.{Frame, Data, Headers, Priority, Reset, Settings, Ping, GoAway}
-use Rattle.h2_frame.specs.Frames.{WindowUpdate, Continuation, Unknown}
+use Rattle.h2_frame.specs.Frames.{Data, Reset, GoAway}
 use Rattle.h2_block.specs.Grouping.{Item, alone, block}
 use Rattle.h2_log.specs.declared.role.Role.{Role}
 use Rattle.h2_log.specs.declared.role.Role.TheVariants.{Client, Server}
-use Rattle.h2_log.specs.Acts.{Values}
-use Rattle.h2_log.specs.Allowed.{AllowedHistory, Allowed, MayContinue, starts, reads, writes}
-use Rattle.h2_log.specs.Events.{Event}
-use Rattle.h2_log.specs.Events.{UnprocessedEvent, reports_unprocessed}
+use Rattle.h2_log.specs.Acts.{Values, Act, Answer}
+use Rattle.h2_log.specs.Allowed.{AllowedHistory}
+use Rattle.h2_log.specs.Events.{Event, UnprocessedEvent, reports_unprocessed}
 use Rattle.h2_log.specs.Items.{is_block_on, ends, resets, is_goaway_below}
-use Rattle.h2_log.specs.Settings.{is_server}
-use Rattle.h2_log.specs.States.{least_block, is_above, is_closed_by_us, is_used}
-use Rattle.h2_log.specs.Log.{Log, active, least_goaway, next_unprocessed}
-use Rattle.h2_log.specs.Histories.{IsLog}
+use Rattle.h2_log.specs.States.{is_above, is_closed_by_us}
+use Rattle.h2_log.specs.Log.{Log, least_goaway, next_unprocessed}
 use Rattle.h2_log.proofs.StreamLemmas.{stream_of_log}
 use Rattle.h2_log_laws.proofs.InvariantLogs.{written_is_allowed}
-use Rattle.h2_log_laws.proofs.NextStreams.{least_found}
-use Rattle.h2_log_laws.proofs.ReaderStates.{active_parts, active_from, lasts_from}
+use Rattle.h2_log_laws.proofs.ReaderStates.{active_from, lasts_from}
 use Rattle.h2_pair.specs.Pairs.{Half, IsPair}
-use Rattle.h2_pair.specs.Undisturbed.{IsUndisturbed}
+use Rattle.h2_pair.specs.Undisturbed.{IsUndisturbed, WasAsked}
 use Rattle.h2_pair.specs.Quiet.{IsQuiet, WasReset}
 use Rattle.h2_pair.specs.Tokens.{Token, tokens_sent, tokens_heard, IsPrefixOfTokens}
 use Rattle.h2_pair.proofs.PairLogs.{both_logs}
-use Rattle.h2_pair.proofs.BothWays.{ends_to_server, ends_to_client}
-use Rattle.h2_pair.proofs.CarriedOctets.{carried_both_ways}
+use Rattle.h2_pair.proofs.BothWays.{IsDirection, to_server, to_client, ends_of}
+use Rattle.h2_pair.proofs.CarriedOctets.{carried}
 use Rattle.h2_pair.proofs.Arrived.{all_arrived}
-use Rattle.h2_pair.proofs.FaultsInvariant.{LogIsClean, first_in, later_in}
+use Rattle.h2_pair.proofs.Lists.{found, one_of_all}
+use Rattle.h2_pair.proofs.NamedUnprocessed.{none_above}
+use Rattle.h2_pair.proofs.HeardMessages.{silent_tokens, spoken_opened}
+use Rattle.h2_pair.proofs.FaultsInvariant.{IsAsked, LogIsClean}
 use Rattle.h2_pair.proofs.FaultsOfPairs.{pair_clean}
-use Rattle.h2_pair.proofs.HeardTokens.{item_tokens, frame_tokens, tokens_of_items}
+use Rattle.h2_pair.proofs.HeardTokens.{tokens_of_items}
 use Rattle.h2_pair.proofs.HeardReads.{AreHeard, all_heard, some_heard}
-use Rattle.h2_pair.proofs.HeardPairs.{IsHeardBy, pair_heard, given_in_order}
+use Rattle.h2_pair.proofs.HeardPairs.{is_heard, given_in_order}
 use Rattle.h2_pair.proofs.HeardGoAways.{IsBelow, spoken_below, speaks}
+use Rattle.h2_end_laws.proofs.ActivityOpened.{used_odd}
+use Rattle.h2_log_laws.proofs.LogViewLemmas.{client_above}
 
--- What doesn't hold is false.
-pub not_so : (b : Bool) → (b ≡ true → ⊥) → b ≡ false
-not_so true wrong = absurd (wrong refl)
-not_so false wrong = refl
+-- A reset of the stream was asked for with its code.
+reset_asked : (i : ℕ) (calls : List (Act × Answer)) (item : Item) → resets i item ≡ true
+    → IsAsked calls item → (code : ℕ) × WasAsked calls i code
+unfolding resets IsAsked
+reset_asked i calls (alone (Reset stream code)) here asked =
+    (code, subst (λ (j : ℕ). WasAsked calls j code) (eqb-true stream i here) asked)
+reset_asked i calls item here asked = absurd (both_ways false refl here)
 
--- A reset among the items, with its code.
-one_reset : (i : ℕ) (item : Item) (items : List Item) → resets i item ≡ true
-    → (code : ℕ) × Contains (item ∷ items) (alone (Reset i code))
-unfolding resets
-one_reset i (alone (Reset stream code)) items here =
-    let same : stream ≡ i = eqb-true stream i here in (
-      code,
-      subst (λ (j : ℕ). Contains (alone (Reset stream code) ∷ items) (alone (Reset j code)))
-          same (first_in (alone (Reset stream code)) items),
-    )
-one_reset i item items here = absurd (both_ways false refl here)
-
-pub reset_found : (i : ℕ) (items : List Item) → list_any (resets i) items ≡ true
-    → (code : ℕ) × Contains items (alone (Reset i code))
-reset_found i [] here = absurd (both_ways false refl here)
-reset_found i (item ∷ items) here =
-    elim (or_cases (resets i item) (list_any (resets i) items) here) [
-      | inl now ↦ one_reset i item items now
-      | inr before ↦
-          let found = reset_found i items before in
-          (found.0, later_in item items _ found.1)
-    ]
-
--- A stream that was named unprocessed.
-one_named : (i : ℕ) (event : Event) (events : List Event) → reports_unprocessed i event ≡ true
-    → Contains (event ∷ events) (UnprocessedEvent i)
+-- The event that names the stream unprocessed.
+named_event : (i : ℕ) (event : Event) → reports_unprocessed i event ≡ true
+    → event ≡ UnprocessedEvent i
 unfolding reports_unprocessed
-one_named i (UnprocessedEvent id) events here =
-    let same : id ≡ i = eqb-true id i here in
-    subst (λ (j : ℕ). Contains (UnprocessedEvent id ∷ events) (UnprocessedEvent j)) same
-    (first_in (UnprocessedEvent id) events)
-one_named i event events here = absurd (both_ways false refl here)
-
-pub named_found : (i : ℕ) (events : List Event) → list_any (reports_unprocessed i) events ≡ true
-    → Contains events (UnprocessedEvent i)
-named_found i [] here = absurd (both_ways false refl here)
-named_found i (event ∷ events) here =
-    elim (or_cases (reports_unprocessed i event) (list_any (reports_unprocessed i) events) here) [
-      | inl now ↦ one_named i event events now
-      | inr before ↦ later_in event events _ (named_found i events before)
-    ]
-
--- DATA stands after a block of its stream.
-data_unsent : (i stream : ℕ) (end : Bool) (octets : List ℕ) (pad : Option ℕ)
-    (received sent : List Item) → MayContinue Client stream received sent
-    → list_any (is_block_on i) sent ≡ false
-    → frame_tokens i (Data stream end octets pad) ≡ []
-unfolding frame_tokens
-data_unsent i stream end octets pad received sent goes none = elim (cases_Bool (stream == i)) [
-  | inl same ↦
-      let opened = (active_parts Client stream received sent [] goes.active).opened in
-      absurd (both_ways (list_any (is_block_on i) sent) none
-      (subst (λ (j : ℕ). list_any (is_block_on j) sent ≡ true) (eqb-true stream i same) opened))
-  | inr other ↦ rw other refl
-]
+named_event i (UnprocessedEvent id) here = ap UnprocessedEvent (eqb-true id i here)
+named_event i event here = absurd (both_ways false refl here)
 
 -- Where a client has sent no block of a stream, it has sent nothing on it.
-alone_unsent : (i : ℕ) (frame : Frame) (received sent : List Item)
-    → Allowed Client received sent (alone frame) → list_any (is_block_on i) sent ≡ false
-    → frame_tokens i frame ≡ []
-unfolding frame_tokens
-alone_unsent i (Data stream end octets pad) received sent allowed none =
-    data_unsent i stream end octets pad received sent allowed.1.goes_on none
-alone_unsent i frame received sent allowed none = refl
-
-block_unsent : (i stream : ℕ) (end : Bool) (octets : List ℕ) (list : List Field)
-    → is_block_on i (block stream end octets) ≡ false
-    → item_tokens i (block stream end octets) list ≡ []
-unfolding item_tokens is_block_on
-block_unsent i stream end octets list other = rw other refl
-
-item_unsent : (i : ℕ) (item : Item) (received sent : List Item) (lists : List (List Field))
-    → Allowed Client received sent item → is_block_on i item ≡ false
-    → list_any (is_block_on i) sent ≡ false
-    → ((others : List (List Field)) → tokens_of_items i sent others ≡ [])
-    → tokens_of_items i (item ∷ sent) lists ≡ []
-unfolding tokens_of_items item_tokens
-item_unsent i (alone frame) received sent lists allowed other none before =
-    ap (λ (line : List Token). line ++ frame_tokens i frame) (before lists)
-    ∙ alone_unsent i frame received sent allowed none
-item_unsent i (block stream end octets) received sent [] allowed other none before = before []
-item_unsent i (block stream end octets) received sent (list ∷ lists) allowed other none before =
-    ap (λ (line : List Token). line ++ item_tokens i (block stream end octets) list)
-    (before lists) ∙ block_unsent i stream end octets list other
-
-starts_unsent : (i : ℕ) (pairs : List (ℕ × ℕ)) (lists : List (List Field))
-    → tokens_of_items i (alone (Settings false pairs) ∷ []) lists ≡ []
-unfolding tokens_of_items item_tokens frame_tokens
-starts_unsent i pairs lists = refl
-
-pub nothing_sent : (i : ℕ) (received sent : List Item) (lists : List (List Field))
+nothing_sent : (i : ℕ) (received sent : List Item) (lists : List (List Field))
     → AllowedHistory Client received sent → list_any (is_block_on i) sent ≡ false
     → tokens_of_items i sent lists ≡ []
-nothing_sent i _ _ lists (starts values ok) none = starts_unsent i _ lists
-nothing_sent i _ sent lists (reads {received = received} item history) none =
-    nothing_sent i received sent lists history none
-nothing_sent i received _ lists (writes {sent = sent} item history allowed) none =
-    let parts = or_parts (is_block_on i item) (list_any (is_block_on i) sent) none in
-    item_unsent i item received sent lists allowed parts.0 parts.1
-    (λ others. nothing_sent i received sent others history parts.1)
+nothing_sent i received sent lists history none =
+    silent_tokens i sent lists (false_from_ne_true _ (λ spoken.
+    both_ways _ none (spoken_opened Client i received sent history spoken).opened))
 
 -- A GOAWAY below a number brings the least last stream below it.
 least_below : (i : ℕ) (items : List Item) → list_any (is_goaway_below i) items ≡ true
@@ -156,38 +72,7 @@ least_below i (alone (GoAway last code debug) ∷ items) here =
       | inl now ↦ let below = ltb-true last i now in omega arith
       | inr before ↦ let below = least_below i items before in omega arith
     ]
-least_below i (alone (Data stream end octets pad) ∷ items) here = least_below i items here
-least_below i (alone (Headers stream end whole fragment pad priority) ∷ items) here =
-    least_below i items here
-least_below i (alone (Priority stream octets) ∷ items) here = least_below i items here
-least_below i (alone (Reset stream code) ∷ items) here = least_below i items here
-least_below i (alone (Settings ack pairs) ∷ items) here = least_below i items here
-least_below i (alone (Ping ack octets) ∷ items) here = least_below i items here
-least_below i (alone (WindowUpdate stream increment) ∷ items) here = least_below i items here
-least_below i (alone (Continuation stream whole fragment) ∷ items) here = least_below i items here
-least_below i (alone (Unknown kind flags stream payload) ∷ items) here = least_below i items here
-
--- At a client that has reported all unprocessed streams, none above a GOAWAY is active.
-above_nonzero : (log : Log) (j : ℕ) → (active log j && nat_lt (least_goaway log.received) j) ≡ true
-    → j ≢ 0
-above_nonzero log j both = λ none.
-    let above : least_goaway log.received < j =
-    ltb-true (least_goaway log.received) j (and_parts (active log j)
-    (nat_lt (least_goaway log.received) j) both).1 in
-    omega arith
-
-none_above : (log : Log) (i : ℕ) → log.role ≡ Client → next_unprocessed log ≡ 0
-    → list_any (is_block_on i) log.sent ≡ true
-    → list_any (is_goaway_below i) log.received ≡ true → active log i ≡ true → ⊥
-unfolding next_unprocessed
-none_above log i client none opened below alive =
-    let test = λ (j : ℕ). active log j && nat_lt (least_goaway log.received) j in
-    let own : is_server log.role ≡ false = ap is_server client in
-    let least : least_block test log.sent ≡ 0 = rw own at none in
-    let passes : test i ≡ true =
-    and_from (active log i) (nat_lt (least_goaway log.received) i) alive
-    (lt-ltb (least_goaway log.received) i (least_below i log.received below)) in
-    (least_found test i log.sent (above_nonzero log) passes opened).0 least
+least_below i (alone frame ∷ items) here = least_below i items here
 
 -- What is known of a quiet, undisturbed pair in which a stream wasn't reset.
 pub record IsQuietStream (client server : Log) (i : ℕ) : Type 0 where
@@ -205,20 +90,23 @@ pub record IsQuietStream (client server : Log) (i : ℕ) : Type 0 where
 -- Neither end has reset the stream, and it wasn't named unprocessed.
 pub client_kept : (client server : Log) (i : ℕ) → IsQuietStream client server i
     → list_any (resets i) client.sent ≡ false
-client_kept client server i settled = not_so _ (λ here.
-    let found = reset_found i client.sent here in
-    settled.unreset (inl (found.0, settled.client_clean.asked i found.0 found.1)))
+client_kept client server i settled = false_from_ne_true _ (λ here.
+    let reset = found (resets i) client.sent here in
+    settled.unreset (inl (reset_asked i client.calls reset.0 reset.2
+    (one_of_all (IsAsked client.calls) client.sent reset.0 settled.client_clean.asked reset.1))))
 
 pub server_kept : (client server : Log) (i : ℕ) → IsQuietStream client server i
     → list_any (resets i) server.sent ≡ false
-server_kept client server i settled = not_so _ (λ here.
-    let found = reset_found i server.sent here in
-    settled.unreset (inr (inl (found.0, settled.server_clean.asked i found.0 found.1))))
+server_kept client server i settled = false_from_ne_true _ (λ here.
+    let reset = found (resets i) server.sent here in
+    settled.unreset (inr (inl (reset_asked i server.calls reset.0 reset.2
+    (one_of_all (IsAsked server.calls) server.sent reset.0 settled.server_clean.asked reset.1)))))
 
 pub unnamed : (client server : Log) (i : ℕ) → IsQuietStream client server i
     → list_any (reports_unprocessed i) client.reported ≡ false
-unnamed client server i settled = not_so _ (λ here.
-    settled.unreset (inr (inr (named_found i client.reported here))))
+unnamed client server i settled = false_from_ne_true _ (λ here.
+    let named = found (reports_unprocessed i) client.reported here in
+    settled.unreset (inr (inr (rw (named_event i named.0 named.2) at named.1))))
 
 -- What ends a stream is part of a message.
 one_ended : (i : ℕ) (item : Item) → ends i item ≡ true → speaks i item ≡ true
@@ -236,22 +124,17 @@ ended_spoken i (item ∷ items) here = elim (or_cases (ends i item) (list_any (e
 ]
 
 -- A number that the client has opened is above no GOAWAY of the server.
-pub client_above : (role : Role) (i : ℕ) (sent : List Item) → role ≡ Client
-    → is_above role i sent ≡ false
-unfolding is_above
-client_above Client i sent client = refl
-client_above Server i sent client = absurd (cc)
-
 pub cut_off : (client server : Log) (i : ℕ) → IsQuietStream client server i → i % 2 == 1 ≡ true
     → list_any (is_block_on i) client.sent ≡ true
     → list_any (is_goaway_below i) server.sent ≡ true → ⊥
 cut_off client server i settled odd opened below =
     let read : list_any (is_goaway_below i) client.received ≡ true =
     ap (list_any (is_goaway_below i)) settled.to_client ∙ below in
-    let unended : list_any (ends i) client.received ≡ false = not_so _ (λ here.
+    let unended : list_any (ends i) client.received ≡ false = false_from_ne_true _ (λ here.
     both_ways _ (settled.spoken i (ended_spoken i server.sent
     (sym (ap (list_any (ends i)) settled.to_client) ∙ here))).below below) in
-    none_above client i settled.client_role settled.all_reported opened read
+    none_above client i settled.client_role settled.all_reported
+    (least_below i client.received read)
     (active_from client.role i client.received client.sent client.reported (record {
       odd = odd;
       opened = rw settled.client_role opened;
@@ -264,12 +147,6 @@ cut_off client server i settled odd opened below =
       unnamed = unnamed client server i settled;
     }))
 
--- A number that is used is odd.
-used_odd : (role : Role) (i : ℕ) (received sent : List Item) → is_used role i received sent ≡ true
-    → i % 2 == 1 ≡ true
-unfolding is_used
-used_odd role i received sent used = (and_parts _ _ used).0
-
 -- A server has closed a stream by a reset, or has named a last stream below it.
 pub closed_how : (role : Role) (i : ℕ) (sent : List Item) → is_closed_by_us role i sent ≡ true
     → (list_any (resets i) sent ≡ true) ⊎ (is_above role i sent ≡ true)
@@ -281,15 +158,6 @@ pub above_server : (role : Role) (i : ℕ) (sent : List Item) → role ≡ Serve
 unfolding is_above
 above_server Client i sent server above = absurd (cc)
 above_server Server i sent server above = above
-
--- All that was given is what the items carry that were read, where all items were read.
-given_whole : (i : ℕ) (role : Role) (values : Values) (writer reader : Log)
-    → IsLog role values writer → reader.received ≡ writer.sent → (is : IsHeardBy writer reader)
-    → tokens_sent i writer.calls ≡ tokens_of_items i reader.received is.lists
-unfolding tokens_of_items
-given_whole i role values writer reader log all is =
-    given_in_order i role values writer reader [] log (sym all) is
-    ∙ append-nil (tokens_of_items i reader.received is.lists)
 
 -- A prefix of nothing is nothing.
 none_heard : (tokens whole : List Token) → whole ≡ [] → IsPrefixOfTokens tokens whole
@@ -340,23 +208,36 @@ pub pair_settled : (client_values server_values : Values) (client server : Half)
 pair_settled client_values server_values client server i pair calm quiet unreset =
     let both = both_logs client_values server_values client server pair in
     let clean = pair_clean client_values server_values client server pair calm in
-    let octets = carried_both_ways client_values server_values client server pair in
     record {
       client_role = (stream_of_log Client client_values client.log both.client_log).role;
       server_role = (stream_of_log Server server_values server.log both.server_log).role;
       client_clean = clean.client_clean;
       server_clean = clean.server_clean;
-      to_server = all_arrived client server
-          (ends_to_server client_values server_values client server pair) octets.0
-          clean.server_clean.up quiet.to_server.delivered quiet.to_server.given;
-      to_client = all_arrived server client
-          (ends_to_client client_values server_values client server pair) octets.1
-          clean.client_clean.up quiet.to_client.delivered quiet.to_client.given;
+      to_server = all_arrived client server (ends_of client server (to_server pair))
+          (carried client server (to_server pair)) clean.server_clean.up
+          quiet.to_server.delivered quiet.to_server.given;
+      to_client = all_arrived server client (ends_of server client (to_client pair))
+          (carried server client (to_client pair)) clean.client_clean.up
+          quiet.to_client.delivered quiet.to_client.given;
       all_reported = quiet.all_reported;
       spoken = spoken_below server_values server.log both.server_log clean.server_clean.up;
       unreset = unreset;
       allowed = written_is_allowed Client client_values client.log both.client_log;
     }
+
+-- Where all items were read, and all that they carry was heard, all that was given was.
+hears_all : (writer reader : Half) (i : ℕ) → IsDirection writer reader
+    → reader.log.received ≡ writer.log.sent
+    → ((lists : List (List Field))
+    → AreHeard reader.log.role i reader.log.received reader.log.sent reader.log.reported lists
+    → tokens_heard i reader.log.reported ≡ tokens_of_items i reader.log.received lists)
+    → tokens_heard i reader.log.reported ≡ tokens_sent i writer.log.calls
+unfolding tokens_of_items
+hears_all writer reader i is all whole =
+    let heard = is_heard writer reader is in
+    whole heard.lists (heard.heard i)
+    ∙ sym (given_in_order i _ _ writer.log reader.log [] (ends_of writer reader is).writer_log
+    (sym all) heard ∙ append-nil (tokens_of_items i reader.log.received heard.lists))
 
 -- All is heard, at the server and at the client.
 pub server_hears_all : (client_values server_values : Values) (client server : Half) (i : ℕ)
@@ -366,11 +247,8 @@ pub server_hears_all : (client_values server_values : Values) (client server : H
 server_hears_all client_values server_values client server i pair calm quiet unreset =
     let settled = pair_settled client_values server_values client server i pair calm quiet unreset
     in
-    let both = both_logs client_values server_values client server pair in
-    let is = (pair_heard client_values server_values client server pair).0 in
-    server_all client.log server.log i is.lists settled (is.heard i)
-    ∙ sym (given_whole i Client client_values client.log server.log both.client_log
-    settled.to_server is)
+    hears_all client server i (to_server pair) settled.to_server
+    (λ lists. server_all client.log server.log i lists settled)
 
 pub client_hears_all : (client_values server_values : Values) (client server : Half) (i : ℕ)
     (pair : IsPair client_values server_values client server) → IsUndisturbed pair
@@ -379,8 +257,5 @@ pub client_hears_all : (client_values server_values : Values) (client server : H
 client_hears_all client_values server_values client server i pair calm quiet unreset =
     let settled = pair_settled client_values server_values client server i pair calm quiet unreset
     in
-    let both = both_logs client_values server_values client server pair in
-    let is = (pair_heard client_values server_values client server pair).1 in
-    client_all client.log server.log i is.lists settled (is.heard i)
-    ∙ sym (given_whole i Server server_values server.log client.log both.server_log
-    settled.to_client is)
+    hears_all server client i (to_client pair) settled.to_client
+    (λ lists. client_all client.log server.log i lists settled)

@@ -1,8 +1,10 @@
 -- Laws of two ends.
+pub mod Lists
 pub mod PairLogs
 pub mod BothWays
 pub mod LogOutput
 pub mod StepsOfLogs
+pub mod FrameSteps
 pub mod CarriedOctets
 pub mod ItemsRead
 pub mod CarriedItems
@@ -26,6 +28,7 @@ pub mod TablesSteps
 pub mod TablesLists
 pub mod TablesRead
 pub mod TablesOfPairs
+pub mod DataItems
 pub mod FaultsInvariant
 pub mod FaultsOfCalls
 pub mod FaultsOfWire

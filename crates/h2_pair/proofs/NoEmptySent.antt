@@ -1,17 +1,15 @@
 -- No DATA that an end writes is empty, unless it has END_STREAM.
-use Rattle.std.proofs.Common.{◌≡◌, ◌≢◌, ◌⊎◌, ℕ, zero, suc, ◌<◌, ◌≤◌, ◌==◌, nat_le, ◌&&◌, not}
-use Rattle.std.proofs.Common.{Bool, true, false, if◌then◌else◌, List, [], ◌∷◌, ◌++◌, length, take}
-use Rattle.std.proofs.Common.{drop, Option, Some, None, refl, sym, ap, ◌∙◌, arith, length-drop}
-use Rattle.std.proofs.Common.{inl, inr}
+use Rattle.std.proofs.Common.{◌≡◌, ◌≢◌, ◌⊎◌, ℕ, zero, suc, ◌<◌, ◌≤◌, ◌==◌, nat_le, ◌&&◌, not, Bool}
+use Rattle.std.proofs.Common.{true, false, if◌then◌else◌, List, [], ◌∷◌, ◌++◌, length, take, drop}
+use Rattle.std.proofs.Common.{Option, Some, None, refl, sym, ap, ◌∙◌, arith, length-drop, inl, inr}
 use Rattle.std.specs.List.{AllByRecursion}
 use Rattle.std.proofs.lemmas.Bool.{leb-false, and_parts, and_from, not-false, eqb-true, eqb-false}
 use Rattle.std.proofs.lemmas.Bool.{eq-eqb}
 use Rattle.std.proofs.lemmas.List.{length-take}
 use Rattle.h2_frame.specs.Frames.{Data, WindowUpdate, Settings, Ping}
-use Rattle.h2_block.specs.Grouping.{Item, alone, block}
+use Rattle.h2_block.specs.Grouping.{Item, alone}
 use Rattle.h2_log.specs.declared.role.Role.{Role}
-use Rattle.h2_log.specs.Acts.{Values, Act, Open, SendFields, SendData, Release, ResetStream}
-use Rattle.h2_log.specs.Acts.{Refuse, SendPing, SendGoAway, PutOut, ChangeSettings}
+use Rattle.h2_log.specs.Acts.{Values, Act, SendData, Release, PutOut}
 use Rattle.h2_log.specs.Log.{Log, max_payload_sent}
 use Rattle.h2_log.specs.LogView.{log_view}
 use Rattle.h2_log.specs.View.{View, StreamView, ended_in}
@@ -117,12 +115,9 @@ unfolding replies_to CarriesNoEmptyData
 replies_carry (ConnectionFault code) item = tt
 replies_carry (StreamFault code) item = (tt, tt)
 replies_carry Reported item = tt
-replies_carry NoEvent (block stream end octets) = tt
-replies_carry NoEvent (alone (Settings true pairs)) = tt
 replies_carry NoEvent (alone (Settings false pairs)) = (tt, tt)
-replies_carry NoEvent (alone (Ping true octets)) = tt
 replies_carry NoEvent (alone (Ping false octets)) = (tt, tt)
-replies_carry NoEvent (alone frame) = tt
+replies_carry NoEvent item = tt
 
 -- What a release writes, by whether the peer has ended the stream.
 updates_carry : (id count : ℕ) (ended : Bool) → AllByRecursion CarriesNoEmptyData (alone
@@ -135,18 +130,12 @@ updates_carry id count false = (tt, (tt, tt))
 items_carry : (log : Log) (act : Act) → AllByRecursion CarriesNoEmptyData (items_of
     (log_view log) act (answer_of (log_view log) act))
 unfolding items_of CarriesNoEmptyData
-items_carry log (Open fields end) = (tt, tt)
-items_carry log (SendFields id fields end) = (tt, tt)
 items_carry log (SendData id octets end) =
     body_carries (max_payload_sent log) id octets end _ (some_payload log.received)
     (count_within (log_view log) ((log_view log).stream id) (length octets))
 items_carry log (Release id count) = updates_carry id count (ended_in ((log_view log).stream id))
-items_carry log (ResetStream id code) = (tt, tt)
-items_carry log (Refuse id code) = (tt, tt)
-items_carry log (SendPing octets) = (tt, tt)
-items_carry log SendGoAway = (tt, tt)
 items_carry log (PutOut count) = tt
-items_carry log (ChangeSettings values) = (tt, tt)
+items_carry log act = (tt, tt)
 
 -- All that is sent carries something.
 sends_some : (role : Role) (values : Values)

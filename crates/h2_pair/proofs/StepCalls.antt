@@ -1,11 +1,16 @@
--- What calls give out: nothing, unless output is put out.
-use Rattle.std.proofs.Common.{◌≡◌, ◌≢◌, ℕ, List, [], take, drop, refl, ◌∙◌, arith}
+-- What calls give out: nothing, unless output is put out. Only the refusal of a stream, and memory
+-- that runs out, make the connection fail.
+use Rattle.std.proofs.Common.{◌≡◌, ◌≢◌, ℕ, List, [], take, drop, refl, arith}
 use Rattle.std.proofs.lemmas.List.{drop_all, length-take}
-use Rattle.h2_log.specs.Acts.{Act, Answer, PutOut}
+use Rattle.h2_log.specs.Acts.{Act, Answer, PutOut, Refuse, Count, OutOfMemory, Refused}
 use Rattle.h2_log.specs.Log.{Log}
-use Rattle.h2_log.specs.LogCalls.{with_call, MayAnswer}
-use Rattle.h2_log_laws.proofs.GrowthBySteps.{HoldsOfFailures, holds_other_call}
+use Rattle.h2_log.specs.LogCalls.{with_call, MayAnswer, called}
+use Rattle.h2_log_laws.proofs.GrowthBySteps.{HoldsOfFailures, holds_other_call, HoldsOfWrites}
+use Rattle.h2_log_laws.proofs.GrowthBySteps.{holds_ready, holds_items}
 use Rattle.h2_pair.specs.Pairs.{given_since}
+use Rattle.h2_log_laws.proofs.PartsStay.{stays_written}
+use Rattle.h2_log_laws.proofs.PartsStay.{SamePart}
+pub use Rattle.h2_log_laws.proofs.CreditCases.{put_out_cases}
 
 -- The second log has given out as much.
 abbrev SameGiven : Log → Log → Type 0
@@ -15,12 +20,8 @@ SameGiven before after = after.given ≡ before.given
 failure_given : HoldsOfFailures SameGiven
 failure_given =
     record {
-      writes = record {
-        none = λ log. refl;
-        twice = λ one two three a b. b ∙ a;
-        sent = λ log item items. refl;
-        unreturned = λ log count. refl;
-      };
+      writes = stays_written (λ log. log.given) (λ log sent written turns. refl)
+          (λ log count. refl);
       failed = λ log code. refl;
     }
 
@@ -40,3 +41,23 @@ pub call_gives_nothing : (log : Log) (act : Act) (answer : Answer) → MayAnswer
     → ((count : ℕ) → act ≢ PutOut count) → given_since log (with_call log act answer) ≡ []
 call_gives_nothing log act answer may other =
     none_behind log.given _ _ (call_given log act answer other)
+
+-- The second log has failed as the first.
+abbrev FailedAs : Log → Log → Type 0
+FailedAs = SamePart (λ log. log.failed)
+
+failed_as : HoldsOfWrites FailedAs
+failed_as =
+    stays_written (λ log. log.failed) (λ log sent written turns. refl) (λ log count. refl)
+
+-- No other call than the refusal of a stream makes the connection fail, as long as memory suffices.
+pub call_failed : (log : Log) (act : Act) (answer : Answer)
+    → ((id code : ℕ) → act ≢ Refuse id code) → answer ≢ OutOfMemory
+    → (with_call log act answer).failed ≡ log.failed
+unfolding with_call
+call_failed log act (Refused refusal) other memory = refl
+call_failed log act OutOfMemory other memory = absurd (memory refl)
+call_failed log (Refuse id code) answer other memory = absurd (other id code refl)
+call_failed log (PutOut count) (Count given) other memory =
+    holds_ready FailedAs failed_as (called log (PutOut count) (Count given))
+call_failed log act answer other memory = holds_items FailedAs failed_as log act answer

@@ -1,6 +1,6 @@
 -- A call of `take` is made of steps of the pair, undisturbed unless it answers INTERNAL_ERROR.
-use Rattle.std.proofs.Common.{◌≡◌, ◌≢◌, ℕ, List, [], ◌++◌, length, refl, sym, ap, ◌∙◌}
-use Rattle.std.proofs.Common.{append_assoc, append-nil, subst}
+use Rattle.std.proofs.Common.{◌≡◌, ◌≢◌, ℕ, List, [], ◌++◌, length, refl, sym, ap, ◌∙◌, append_assoc}
+use Rattle.std.proofs.Common.{append-nil, subst}
 use Rattle.h2_frame.specs.declared.code.Code.TheVariants.{InternalError}
 use Rattle.h2_log.specs.Log.{Log}
 use Rattle.h2_end_laws.specs.Takes.{TakeAnswer, Took, Failed, MayTake, has_failed}

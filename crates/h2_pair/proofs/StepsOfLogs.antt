@@ -1,19 +1,19 @@
--- What the steps of a log that are no calls make of its input and output.
-use Rattle.std.proofs.Common.{◌≡◌, ◌≢◌, ◌≤◌, [], ◌++◌, length, None, refl, sym, ◌∙◌}
-use Rattle.std.proofs.Common.{append-nil}
+-- What the steps of a log that are no calls make of it, of its input and of its output.
+use Rattle.std.proofs.Common.{◌≡◌, ◌≢◌, ◌≤◌, [], ◌++◌, length, None, refl, sym, ◌∙◌, append-nil}
 use Rattle.h2_log.specs.declared.role.Role.{Role}
 use Rattle.h2_log.specs.Acts.{Act, Answer, Values}
 use Rattle.h2_log.specs.Log.{Log}
 use Rattle.h2_log.specs.LogSteps.{used, with_sent}
 use Rattle.h2_log.specs.Histories.{IsLog}
 use Rattle.h2_log.proofs.StreamLemmas.{Keeps-frame, Keeps-none}
+use Rattle.h2_log_laws.proofs.GrowthBySteps.{HoldsOfReads, holds_used, holds_frame, holds_failure}
+use Rattle.h2_log_laws.proofs.GrowthBySteps.{holds_none}
 use Rattle.h2_machine_laws.specs.Machines.{Step, uses_part, ends_frame, meets_fault}
 use Rattle.h2_machine_laws.specs.Machines.{runs_out_of_memory, reports_unprocessed, is_called}
 use Rattle.h2_machine_laws.specs.Machines.{MayStep, log_after}
 use Rattle.h2_machine_laws.proofs.EveryStep.{every_log_has_machine}
 use Rattle.h2_pair.specs.Pairs.{octets_used}
-use Rattle.h2_pair.proofs.LogOutput.{Adds, adds_used, adds_used_frame, adds_used_failure}
-use Rattle.h2_pair.proofs.LogOutput.{adds_unprocessed}
+use Rattle.h2_pair.proofs.LogOutput.{Adds, adds_reads}
 
 -- The step is no call.
 abbrev pub IsNoCall : Step → Type 0
@@ -41,15 +41,26 @@ step_input log (runs_out_of_memory octets) none = refl
 step_input log reports_unprocessed none = (Keeps-none log).input ∙ sym (append-nil log.input)
 step_input log (is_called act answer) none = absurd (none act answer refl)
 
+-- A relation that holds of each small change holds of the log before it and the log after it.
+pub step_holds : (R : Log → Log → Type 0) → HoldsOfReads R → (log : Log) (step : Step)
+    → IsNoCall step → R log (log_after log step)
+unfolding log_after
+step_holds R holds log (uses_part octets unparsed) none = holds_used R holds log octets unparsed
+step_holds R holds log (ends_frame octets frame decoded) none =
+    holds.failures.writes.twice log (used log octets []) _ (holds_used R holds log octets [])
+    (holds_frame R holds (used log octets []) decoded frame)
+step_holds R holds log (meets_fault octets fault) none =
+    holds.failures.writes.twice log (used log octets []) _ (holds_used R holds log octets [])
+    (holds_failure R holds.failures _ _ (used log octets []))
+step_holds R holds log (runs_out_of_memory octets) none =
+    holds.failures.writes.twice log (used log octets []) _ (holds_used R holds log octets [])
+    (holds_failure R holds.failures _ _ (used log octets []))
+step_holds R holds log reports_unprocessed none = holds_none R holds log
+step_holds R holds log (is_called act answer) none = absurd (none act answer refl)
+
 -- It adds octets to the output, and gives none out.
 pub step_adds : (log : Log) (step : Step) → IsNoCall step → Adds log (log_after log step)
-unfolding log_after
-step_adds log (uses_part octets unparsed) none = adds_used log octets unparsed
-step_adds log (ends_frame octets frame decoded) none = adds_used_frame log octets decoded frame
-step_adds log (meets_fault octets fault) none = adds_used_failure log octets _ _
-step_adds log (runs_out_of_memory octets) none = adds_used_failure log octets _ _
-step_adds log reports_unprocessed none = adds_unprocessed log
-step_adds log (is_called act answer) none = absurd (none act answer refl)
+step_adds = step_holds Adds adds_reads
 
 -- No more is given out than was written.
 pub given_within : (role : Role) (values : Values) (log : Log) → IsLog role values log

@@ -1,7 +1,6 @@
 -- A stream's window is conserved between the ends of a pair.
-use Rattle.std.proofs.Common.{◌≡◌, ◌≢◌, inl, inr, ℕ, ◌+◌, ◌-◌, ◌≤◌, ◌%◌, ◌==◌, not}
-use Rattle.std.proofs.Common.{Bool, true, false, List, ◌++◌, ℤ, pos, ◌+ℤ◌, ◌-ℤ◌}
-use Rattle.std.proofs.Common.{refl, sym, ap, ◌∙◌, arith}
+use Rattle.std.proofs.Common.{◌≡◌, ◌≢◌, inl, inr, ℕ, ◌+◌, ◌-◌, ◌≤◌, ◌%◌, ◌==◌, not, Bool, true}
+use Rattle.std.proofs.Common.{false, List, ◌++◌, ℤ, pos, ◌+ℤ◌, ◌-ℤ◌, refl, sym, ap, ◌∙◌, arith}
 use Rattle.std.specs.List.{list_any}
 use Rattle.std.proofs.lemmas.Bool.{both_ways, cases_Bool, and_from, and_left, or_parts}
 use Rattle.std.proofs.lemmas.Bool.{false_from_ne_true}
@@ -13,8 +12,7 @@ use Rattle.h2_log.specs.Events.{reports_unprocessed}
 use Rattle.h2_log.specs.Items.{total, data_on, increment_on, is_block_on, ends, resets}
 use Rattle.h2_log.specs.Items.{is_goaway_below}
 use Rattle.h2_log.specs.Settings.{is_server, value_read}
-use Rattle.h2_log.specs.States.{ClosedByUs, openings, is_used, is_above, is_closed_by_us}
-use Rattle.h2_log.specs.States.{state_by}
+use Rattle.h2_log.specs.States.{ClosedByUs, openings, is_used, is_above, is_closed_by_us, state_by}
 use Rattle.h2_log.specs.Windows.{first_window}
 use Rattle.h2_log.specs.Allowed.{AllowedHistory}
 use Rattle.h2_log.specs.Log.{Log, active, owed, unreleased, send_window}
@@ -22,12 +20,13 @@ use Rattle.h2_log_laws.proofs.InvariantCalls.{active_some}
 use Rattle.h2_log_laws.proofs.InvariantLogs.{log_represents}
 use Rattle.h2_log_laws.proofs.ItemLists.{none_after, any_after}
 use Rattle.h2_log_laws.proofs.LogHistory.{history_of}
-use Rattle.h2_log_laws.proofs.ReaderStates.{active_parts, active_from}
-use Rattle.h2_log_laws.proofs.ReaderStates.{lasts_parts, lasts_from, opens_here}
+use Rattle.h2_log_laws.proofs.ReaderStates.{active_parts, active_from, lasts_parts, lasts_from}
+use Rattle.h2_log_laws.proofs.ReaderStates.{opens_here}
 use Rattle.h2_log_laws.proofs.WindowsOfTwoEnds.{stream_meets_read}
 use Rattle.h2_end_laws.proofs.ReceiveWindows.{IsAccounted, opened_in}
 use Rattle.h2_end_laws.proofs.ReceiveWindowCalls.{log_accounted}
 use Rattle.h2_log.proofs.StreamLemmas.{stream_of_log}
+use Rattle.h2_end_laws.proofs.OverRoom.{owed_active, owed_inactive}
 use Rattle.h2_pair.specs.Pairs.{Half}
 use Rattle.h2_pair.specs.Directions.{AreUnderWay, IsCarried, ConservesStream}
 use Rattle.h2_pair.proofs.BothWays.{AreEnds}
@@ -138,15 +137,6 @@ owed_left : (read reported returned calls : ℕ) → returned ≡ calls → repo
     → calls ≤ reported → read ≡ returned + (reported - calls)
 owed_left read reported returned calls one other within = omega arith
 
--- What is owed on a stream by whether it is active.
-owed_active : (log : Log) (i : ℕ) → active log i ≡ true → owed log i ≡ unreleased log i
-unfolding owed
-owed_active log i alive = rw alive refl
-
-owed_ended : (log : Log) (i : ℕ) → active log i ≡ false → owed log i ≡ 0
-unfolding owed
-owed_ended log i ended = rw ended refl
-
 -- On an active stream all DATA was returned, or is owed.
 active_balanced : (log : Log) (i : ℕ) → active log i ≡ true
     → list_any (ends i) log.received ≡ false → IsAccounted (history_of log) i
@@ -187,7 +177,7 @@ read_balanced writer reader way back i ends under_way returned carried =
             (log_represents ends.writer_role ends.writer_values writer.log
             ends.writer_log).with_sent under_way returned parts.opened none in
             let unreturned = (accounted.unopened none).1 in
-            let nothing = owed_ended reader.log i ended in
+            let nothing = owed_inactive reader.log i ended in
             omega (arith, unread, unreturned, nothing)
       ]
     ]

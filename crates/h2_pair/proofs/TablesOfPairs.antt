@@ -5,7 +5,6 @@ use Rattle.hpack.specs.declared.types.field.Field.{Field}
 use Rattle.hpack.specs.Tables.{Entries}
 use Rattle.h2_block.specs.Grouping.{Item}
 use Rattle.h2_log.specs.declared.role.Role.{Role}
-use Rattle.h2_log.specs.declared.role.Role.TheVariants.{Client, Server}
 use Rattle.h2_log.specs.Acts.{Values}
 use Rattle.h2_log.specs.Items.{total}
 use Rattle.h2_log.specs.Settings.{one_ack, settings_count}
@@ -15,12 +14,13 @@ use Rattle.h2_log_laws.proofs.LogHistory.{settings_append}
 use Rattle.h2_log_laws.proofs.WindowsOfTwoEnds.{total-append}
 use Rattle.h2_end_laws.specs.Sendings.{settings_received, lists_accepted}
 use Rattle.h2_end_laws.proofs.Sendings.{log_sent}
-use Rattle.h2_pair.specs.Pairs.{Half, HalfStep, calls, takes, loses, IsPair, begins, client_steps}
-use Rattle.h2_pair.specs.Pairs.{server_steps}
+use Rattle.h2_pair.specs.Pairs.{Half, HalfStep, calls, takes, loses, IsPair}
 use Rattle.h2_pair.specs.Directions.{AreUnderWay}
 use Rattle.h2_pair.specs.HeaderTables.{DecodeInOrder, HeaderTablesInStep}
-use Rattle.h2_pair.proofs.PairLogs.{other_same, both_logs}
-use Rattle.h2_pair.proofs.CarriedItems.{items_both_ways}
+use Rattle.h2_pair.proofs.PairLogs.{other_same}
+use Rattle.h2_pair.proofs.BothWays.{IsDirection, to_server, to_client, ends_of, back_of, IsKept}
+use Rattle.h2_pair.proofs.BothWays.{each_way}
+use Rattle.h2_pair.proofs.CarriedItems.{way_of}
 use Rattle.h2_pair.proofs.TablesValues.{pairs_counted, pairs_append}
 use Rattle.h2_pair.proofs.TablesDecoded.{in_parts, one_decoding, lists_counted}
 use Rattle.h2_pair.proofs.TablesWritten.{acks_sent, sent_decodes}
@@ -58,52 +58,38 @@ half_in_step one other (takes step rest may none came) before awaited is =
     log_in_step one.log step none may before awaited is
 half_in_step one other (loses octets rest failed came) before awaited is = is
 
--- The same of an end of a pair, whose other end has sent what it reads before and after the step.
-end_in_step : (role : Role) (values : Values) (one other : Half) {new new_other : Half}
-    → IsLog role values other.log → HalfStep one other new new_other
-    → ((back : List Item) × AreUnderWay one.log other.log back)
-    → ((way : List Item) × AreUnderWay other.log one.log way)
-    → ((way : List Item) × AreUnderWay new_other.log new.log way)
-    → LogInStep one.log → LogInStep new.log
-end_in_step role values one other {new} {new_other} theirs step back before after is =
-    let same = other_same one other step (λ log. log ≡ other.log) refl in
-    half_in_step one other step
-    (few_acks role values other.log before.0 back.0 one.log.received one.log.sent theirs before.1
-    back.1)
-    (few_acks role values other.log after.0 back.0 new.log.received one.log.sent theirs
+-- The same of the reader of a pair, whose writer has sent what it reads before and after the step.
+reader_in_step : (writer reader : Half) {new_writer new_reader : Half} → IsDirection writer reader
+    → IsDirection new_writer new_reader → HalfStep reader writer new_reader new_writer
+    → LogInStep reader.log → LogInStep new_reader.log
+reader_in_step writer reader {new_writer} {new_reader} is now step =
+    let ends = ends_of writer reader is in
+    let way = way_of writer reader is in
+    let back = way_of reader writer (back_of writer reader is) in
+    let after = way_of new_writer new_reader now in
+    let same = other_same reader writer step (λ log. log ≡ writer.log) refl in
+    half_in_step reader writer step
+    (few_acks ends.writer_role ends.writer_values writer.log way.0 back.0 reader.log.received
+    reader.log.sent ends.writer_log way.1 back.1)
+    (few_acks ends.writer_role ends.writer_values writer.log after.0 back.0
+    new_reader.log.received reader.log.sent ends.writer_log
     (sym (ap (λ (log : Log). log.sent) same) ∙ after.1) back.1)
-    is
 
 -- What both ends of a pair have read is in step.
-pub both_in_step : (client_values server_values : Values) (client server : Half)
-    → IsPair client_values server_values client server
-    → LogInStep client.log × LogInStep server.log
-both_in_step client_values server_values _ _ (begins in_range others_in_range) =
-    (opened_in_step Client client_values, opened_in_step Server server_values)
-both_in_step client_values server_values _ _
-    (client_steps {client = client} {server = server} is step) =
-    let before = both_in_step client_values server_values client server is in
-    let ways = items_both_ways client_values server_values client server is in
-    let after = items_both_ways client_values server_values _ _ (client_steps is step) in
-    let logs = both_logs client_values server_values client server is in (
-      end_in_step Server server_values client server logs.server_log step ways.0 ways.1 after.1
-          before.0,
-      other_same client server step LogInStep before.1,
-    )
-both_in_step client_values server_values _ _
-    (server_steps {client = client} {server = server} is step) =
-    let before = both_in_step client_values server_values client server is in
-    let ways = items_both_ways client_values server_values client server is in
-    let after = items_both_ways client_values server_values _ _ (server_steps is step) in
-    let logs = both_logs client_values server_values client server is in (
-      other_same server client step LogInStep before.0,
-      end_in_step Client client_values server client logs.client_log step ways.1 ways.0 after.0
-          before.1,
-    )
+kept_in_step : IsKept (λ writer reader. LogInStep reader.log)
+kept_in_step =
+    record {
+      at_first = λ role other values others. opened_in_step other others;
+      by_writer = λ writer reader is now step. other_same writer reader step LogInStep;
+      by_reader = reader_in_step;
+    }
+
+pub in_step : (writer reader : Half) → IsDirection writer reader → LogInStep reader.log
+in_step = each_way (λ writer reader. LogInStep reader.log) kept_in_step
 
 -- Where what the reader has read is in step, so are the tables, and its lists are the first of
 -- those that the writer was given.
-pub tables_in_step_of_ends : (role : Role) (values : Values) (writer reader : Log)
+tables_in_step_of_ends : (role : Role) (values : Values) (writer reader : Log)
     (way back : List Item) → IsLog role values writer → LogInStep reader
     → AreUnderWay writer reader way → AreUnderWay reader writer back
     → HeaderTablesInStep writer reader way
@@ -135,20 +121,22 @@ tables_in_step_of_ends role values writer reader way back is reads wrote read =
     }
 
 -- The tables of both ends of a pair are in step, whether or not the reader has failed.
+pub tables_of : (writer reader : Half) (way : List Item) → IsDirection writer reader
+    → AreUnderWay writer.log reader.log way → HeaderTablesInStep writer.log reader.log way
+tables_of writer reader way is under_way =
+    let ends = ends_of writer reader is in
+    let back = way_of reader writer (back_of writer reader is) in
+    tables_in_step_of_ends ends.writer_role ends.writer_values writer.log reader.log way back.0
+    ends.writer_log (in_step writer reader is) under_way back.1
+
 pub tables_to_server : (client_values server_values : Values) (client server : Half)
     (way : List Item) → IsPair client_values server_values client server
     → AreUnderWay client.log server.log way → HeaderTablesInStep client.log server.log way
-tables_to_server client_values server_values client server way is under_way =
-    let back = (items_both_ways client_values server_values client server is).1 in
-    tables_in_step_of_ends Client client_values client.log server.log way back.0
-    (both_logs client_values server_values client server is).client_log
-    (both_in_step client_values server_values client server is).1 under_way back.1
+tables_to_server client_values server_values client server way is =
+    tables_of client server way (to_server is)
 
 pub tables_to_client : (client_values server_values : Values) (client server : Half)
     (way : List Item) → IsPair client_values server_values client server
     → AreUnderWay server.log client.log way → HeaderTablesInStep server.log client.log way
-tables_to_client client_values server_values client server way is under_way =
-    let back = (items_both_ways client_values server_values client server is).0 in
-    tables_in_step_of_ends Server server_values server.log client.log way back.0
-    (both_logs client_values server_values client server is).server_log
-    (both_in_step client_values server_values client server is).0 under_way back.1
+tables_to_client client_values server_values client server way is =
+    tables_of server client way (to_client is)

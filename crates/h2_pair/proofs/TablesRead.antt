@@ -1,7 +1,7 @@
 -- What an end reads, as long as each acknowledgment that it reads is awaited: each is reported, and
 -- the blocks decode in order, from an empty table on, to the end's table.
-use Rattle.std.proofs.Common.{◌≡◌, ℕ, ◌+◌, ◌≤◌, Bool, true, false, if◌then◌else◌, List}
-use Rattle.std.proofs.Common.{[], ◌∷◌, ◌++◌, Option, Some, None, refl, sym, ◌∙◌, arith, subst}
+use Rattle.std.proofs.Common.{◌≡◌, ℕ, ◌+◌, ◌≤◌, Bool, true, false, if◌then◌else◌, List, [], ◌∷◌}
+use Rattle.std.proofs.Common.{◌++◌, Option, Some, None, refl, sym, arith, subst}
 use Rattle.std.proofs.lemmas.Bool.{both_ways, lt-ltb}
 use Rattle.hpack.specs.declared.types.field.Field.{Field}
 use Rattle.hpack.specs.Lists.{empty_table}
@@ -9,7 +9,8 @@ use Rattle.hpack.specs.Tables.{Entries}
 use Rattle.hpack.specs.Blocks.{Block}
 use Rattle.h2_frame.specs.declared.code.Code.{Code}
 use Rattle.h2_frame.specs.declared.code.Code.TheVariants.{InternalError}
-use Rattle.h2_frame.specs.Frames.{Frame, Settings}
+use Rattle.h2_frame.specs.Frames.{Settings}
+use Rattle.h2_wire.specs.Faults.{wire_fault_code}
 use Rattle.h2_block.specs.Grouping.{Item, alone, block}
 use Rattle.h2_log.specs.declared.role.Role.{Role}
 use Rattle.h2_log.specs.Acts.{Values, Act, Answer}
@@ -17,18 +18,18 @@ use Rattle.h2_log.specs.Items.{total}
 use Rattle.h2_log.specs.Events.{Event, UnprocessedEvent, one_acked, reported_total}
 use Rattle.h2_log.specs.Settings.{own_value, one_ack, settings_count}
 use Rattle.h2_log.specs.Log.{Log, acked, settings_wait, next_unprocessed}
-use Rattle.h2_log.specs.View.{View}
 use Rattle.h2_log.specs.LogView.{log_view}
 use Rattle.h2_log.specs.Verdicts.{Verdict, ConnectionFault, StreamFault, NoEvent, Reported}
-use Rattle.h2_log.specs.ItemRules.{Decoded, FrameStep, fails_with, begins_block, completes}
-use Rattle.h2_log.specs.ItemRules.{frame_step, settings_fault, verdict_of_fault}
-use Rattle.h2_log.specs.ItemRules.{verdict_by_rules, verdict_of}
+use Rattle.h2_log.specs.ItemRules.{Decoded, FrameStep, completes, replies_to, frame_step}
+use Rattle.h2_log.specs.ItemRules.{settings_fault, verdict_of_fault, verdict_by_rules, verdict_of}
 use Rattle.h2_log.specs.ItemEffects.{events_of}
-use Rattle.h2_log.specs.LogSteps.{read, used, with_sent, with_reported, with_unreturned}
-use Rattle.h2_log.specs.LogSteps.{with_verdict, with_step, with_frame}
+use Rattle.h2_log.specs.LogSteps.{read, used, with_sent, with_reported, with_unreturned, with_step}
+use Rattle.h2_log.specs.LogSteps.{with_frame}
 use Rattle.h2_log.specs.LogCalls.{opened, called, with_call}
 use Rattle.h2_log.specs.Histories.{IsDecodedIn}
 use Rattle.h2_log_laws.proofs.ItemLists.{total_one}
+use Rattle.h2_log_laws.proofs.GrowthBySteps.{holds_sent_unreturned, holds_unreturned, holds_call}
+use Rattle.h2_log_laws.proofs.GrowthBySteps.{holds_failure}
 use Rattle.h2_log_laws.proofs.LogHistory.{reported_append}
 use Rattle.h2_end_laws.proofs.ReadVerdicts.{Says, says_of}
 use Rattle.h2_end_laws.proofs.ReadingRules.{IsSeen, rules_see}
@@ -38,8 +39,8 @@ use Rattle.h2_machine_laws.specs.Machines.{MayStep, log_after}
 use Rattle.h2_pair.specs.HeaderTables.{DecodeInOrder}
 use Rattle.h2_pair.proofs.StepsOfLogs.{IsNoCall}
 use Rattle.h2_pair.proofs.TablesDecoded.{decode_more}
-use Rattle.h2_pair.proofs.TablesSteps.{Stays, stays_twice, stays_sent, stays_unreturned}
-use Rattle.h2_pair.proofs.TablesSteps.{stays_failure, stays_used, stays_used_failure, stays_call}
+use Rattle.h2_pair.proofs.FrameSteps.{with_item, has_item, kept_by_step}
+use Rattle.h2_pair.proofs.TablesSteps.{Stays, stays_by_calls}
 
 -- What was read, by the parts of a log: each acknowledgment was reported, and the blocks decode.
 pub record ReadsInStep (received sent : List Item) (reported : List Event) (table : Entries)
@@ -172,103 +173,68 @@ ack_waits log item is awaited one =
     lt-ltb (acked log) (settings_count log.sent)
     (omega (arith, is.awaited, awaited, one, total_one one_ack item log.received))
 
--- after an item that is read, what is replied to it, what is due, and what is reported
-abbrev replied : Log → Option Decoded → Item → List Item → ℕ → List Event → Log
-replied log decoded item replies more events =
-    with_reported (with_unreturned more (with_sent (read log decoded item) replies)) events
-
--- The item was received.
-reported_received : (log : Log) (events : List Event)
-    → (with_reported log events).received ≡ log.received
-unfolding with_reported
-reported_received log [] = refl
-reported_received log (event ∷ events) = refl
-
-item_received : (log : Log) (decoded : Option Decoded) (item : Item) (replies : List Item)
-    (more : ℕ) (events : List Event)
-    → (replied log decoded item replies more events).received ≡ item ∷ log.received
-item_received log decoded item replies more events =
-    reported_received _ events ∙ (stays_unreturned more _).received
-    ∙ (stays_sent (read log decoded item) replies).received
-
--- So it keeps this.
-replied_in_step : (log : Log) (decoded : Option Decoded) (item : Item) (replies : List Item)
-    (more : ℕ) (events : List Event)
-    → total one_ack (replied log decoded item replies more events).received
-    ≤ settings_count log.sent
-    → IsDecodedIn log decoded (completes item) → IsSeen decoded item
-    → (total one_ack (item ∷ log.received) ≤ settings_count log.sent
-    → reported_total one_acked events ≡ one_ack item)
-    → LogInStep log → LogInStep (replied log decoded item replies more events)
-replied_in_step log decoded item replies more events awaited sees seen acks is =
-    let one = read log decoded item in
-    let two = with_sent one replies in
-    let here = subst (λ (items : List Item). total one_ack items ≤ settings_count log.sent)
-    (item_received log decoded item replies more events) awaited in
-    reported_in_step (with_unreturned more two) events
-    (stays_in_step events one _ (stays_twice one two _ (stays_sent one replies)
-    (stays_unreturned more two)) here
-    (item_in_step log decoded item events sees seen (acks here) is))
-
--- The event of a stream's fault is no acknowledgment.
-fault_acks : (view : View) (decoded : Option Decoded) (code : Code) (item : Item)
-    → one_ack item ≡ 0
-    → reported_total one_acked (events_of view decoded (StreamFault code) item) ≡ one_ack item
+-- The events of an item tell of an acknowledgment, by its verdict.
+verdict_acks : (log : Log) (decoded : Option Decoded) (item : Item) (verdict : Verdict)
+    → ((code : Code) → verdict ≡ ConnectionFault code → ⊥)
+    → (one_ack item ≡ 1 → settings_wait log ≡ true) → SaysAcks log decoded item verdict
+    → reported_total one_acked (events_of (log_view log) decoded verdict item) ≡ one_ack item
 unfolding events_of one_acked reported_total
-fault_acks view decoded code item none = sym none
+verdict_acks log decoded item (ConnectionFault code) none waits says = absurd (none code refl)
+verdict_acks log decoded item (StreamFault code) none waits says =
+    sym says
+verdict_acks log decoded item NoEvent none waits says =
+    sym (says waits)
+verdict_acks log decoded item Reported none waits says = says
 
--- Nor are no events.
-silent_acks : (view : View) (decoded : Option Decoded) (item : Item) → one_ack item ≡ 0
-    → reported_total one_acked (events_of view decoded NoEvent item) ≡ one_ack item
-unfolding events_of one_acked reported_total
-silent_acks view decoded item none = sym none
-
--- After an item, by its verdict.
-verdict_in_step : (log : Log) (decoded : Option Decoded) (item : Item) (verdict : Verdict)
-    → HasAwaited log
-    → total one_ack (with_verdict log decoded item verdict).received ≤ settings_count log.sent
-    → IsDecodedIn log decoded (completes item)
+-- A block that is no fault of the connection was seen.
+verdict_sees : (decoded : Option Decoded) (item : Item) (verdict : Verdict)
+    → ((code : Code) → verdict ≡ ConnectionFault code → ⊥)
     → Says (IsSeen decoded item) (IsSeen decoded item) (IsSeen decoded item) verdict
-    → SaysAcks log decoded item verdict → LogInStep log
-    → LogInStep (with_verdict log decoded item verdict)
-unfolding with_verdict
-verdict_in_step log decoded item (ConnectionFault code) before awaited sees seen says is =
-    stays_in_step [] log _ (stays_failure code _ log) before is
-verdict_in_step log decoded item (StreamFault code) before awaited sees seen says is =
-    replied_in_step log decoded item _ _ _ awaited sees seen
-    (λ here. fault_acks (log_view log) decoded code item says) is
-verdict_in_step log decoded item NoEvent before awaited sees seen says is =
-    replied_in_step log decoded item _ _ _ awaited sees seen
-    (λ here. silent_acks (log_view log) decoded item (says (ack_waits log item is here))) is
-verdict_in_step log decoded item Reported before awaited sees seen says is =
-    replied_in_step log decoded item _ _ _ awaited sees seen (λ here. says) is
+    → IsSeen decoded item
+verdict_sees decoded item (ConnectionFault code) none says = absurd (none code refl)
+verdict_sees decoded item (StreamFault code) none says = says
+verdict_sees decoded item NoEvent none says = says
+verdict_sees decoded item Reported none says = says
+
+-- So an item that is read keeps it.
+read_in_step : (log : Log) (decoded : Option Decoded) (item : Item) (verdict : Verdict) (more : ℕ)
+    → verdict_of (log_view log) decoded item ≡ verdict
+    → ((code : Code) → verdict ≡ ConnectionFault code → ⊥)
+    → total one_ack (with_item log decoded item verdict more).received ≤ settings_count log.sent
+    → IsDecodedIn log decoded (completes item) → LogInStep log
+    → LogInStep (with_item log decoded item verdict more)
+read_in_step log decoded item verdict more same none awaited sees is =
+    let start = read log decoded item in
+    let sent = with_sent start (replies_to verdict item) in
+    let writes = stays_by_calls.failures.writes in
+    let events = events_of (log_view log) decoded verdict item in
+    let here = subst (λ (items : List Item). total one_ack items ≤ settings_count log.sent)
+    (has_item log decoded item verdict more).received awaited in
+    let seen = verdict_sees decoded item verdict none
+    (rw same at (says_of _ _ _ log decoded item (rules_see log decoded item))) in
+    let acks = verdict_acks log decoded item verdict none (ack_waits log item is here)
+    (rw same at (says_of _ _ _ log decoded item (rules_ack log decoded item))) in
+    reported_in_step (with_unreturned more sent) events
+    (stays_in_step events start _ (holds_sent_unreturned Stays writes start _ more) here
+    (item_in_step log decoded item events sees seen acks is))
 
 -- After what a frame makes of the block that has begun.
 step_in_step : (log : Log) (decoded : Option Decoded) (step : FrameStep) → HasAwaited log
+    → IsDecodedIn log decoded step → LogInStep log
     → total one_ack (with_step log decoded step).received ≤ settings_count log.sent
-    → IsDecodedIn log decoded step → LogInStep log → LogInStep (with_step log decoded step)
-unfolding with_step
-step_in_step log decoded (fails_with code) before awaited sees is =
-    stays_in_step [] log _ (stays_failure code _ log) before is
-step_in_step log decoded (begins_block begun) before awaited sees is =
-    record { awaited = is.awaited; read = is.read; decode = is.decode }
-step_in_step log decoded (completes item) before awaited sees is =
-    let here = record log { begun = None } in
-    verdict_in_step here decoded item (verdict_of (log_view here) decoded item) before awaited sees
-    (says_of _ _ _ here decoded item (rules_see here decoded item))
-    (says_of _ _ _ here decoded item (rules_ack here decoded item))
-    (record { awaited = is.awaited; read = is.read; decode = is.decode })
-
--- After a frame.
-frame_in_step : (log : Log) (decoded : Option Decoded) (frame : Frame) → HasAwaited log
-    → total one_ack (with_frame log decoded frame).received ≤ settings_count log.sent
-    → IsDecodedIn log decoded (frame_step (log_view log) frame) → LogInStep log
-    → LogInStep (with_frame log decoded frame)
-unfolding with_frame
-frame_in_step log decoded frame before awaited sees is =
-    step_in_step (record log { frames = log.frames ++ frame ∷ [] }) decoded
-    (frame_step (log_view log) frame) before awaited sees
-    (record { awaited = is.awaited; read = is.read; decode = is.decode })
+    → LogInStep (with_step log decoded step)
+step_in_step log decoded step before sees is =
+    kept_by_step (λ new. total one_ack new.received ≤ settings_count log.sent → LogInStep new)
+    log decoded step (record {
+      failed = λ begun code last fails awaited.
+          stays_in_step [] (record log { begun = begun }) _
+          (holds_failure Stays stays_by_calls.failures code last (record log { begun = begun }))
+          before is;
+      begun = λ begun same awaited. is;
+      read = λ item verdict more completed same none awaited.
+          read_in_step (record log { begun = None }) decoded item verdict more same none awaited
+          (rw completed at sees) is;
+    })
 
 -- A stream that is reported as unprocessed is no acknowledgment.
 unprocessed_in_step : (log : Log) (id : ℕ) → LogInStep log
@@ -281,28 +247,32 @@ unprocessed_in_step log id is =
 pub log_in_step : (log : Log) (step : Step) → IsNoCall step → MayStep log step → HasAwaited log
     → total one_ack (log_after log step).received ≤ settings_count log.sent → LogInStep log
     → LogInStep (log_after log step)
-unfolding MayStep log_after used frame_step
-log_in_step log (uses_part octets unparsed) none may before awaited is =
-    stays_in_step [] log _ (stays_used log octets unparsed) before is
+unfolding MayStep log_after used with_frame frame_step
+log_in_step log (uses_part octets unparsed) none may before awaited is = is
 log_in_step log (ends_frame octets frame decoded) none (takes, here, sees) before awaited is =
-    frame_in_step (used log octets []) decoded frame before awaited sees is
+    step_in_step (record (used log octets []) { frames = log.frames ++ frame ∷ [] }) decoded
+    (frame_step (log_view (used log octets [])) frame) before sees is awaited
 log_in_step log (meets_fault octets fault) none may before awaited is =
-    stays_in_step [] log _ (stays_used_failure log octets _ _) before is
+    stays_in_step [] (used log octets []) _
+    (holds_failure Stays stays_by_calls.failures (wire_fault_code fault) _ (used log octets []))
+    before is
 log_in_step log (runs_out_of_memory octets) none may before awaited is =
-    stays_in_step [] log _ (stays_used_failure log octets InternalError _) before is
+    stays_in_step [] (used log octets []) _
+    (holds_failure Stays stays_by_calls.failures InternalError _ (used log octets [])) before is
 log_in_step log reports_unprocessed none may before awaited is =
     let id = next_unprocessed log in
     let events : List Event = UnprocessedEvent id ∷ [] in
     reported_in_step (with_unreturned _ log) events
-    (stays_in_step events log _ (stays_unreturned _ log) before (unprocessed_in_step log id is))
+    (stays_in_step events log _ (holds_unreturned Stays stays_by_calls.failures.writes _ log)
+    before (unprocessed_in_step log id is))
 log_in_step log (is_called act answer) none may before awaited is = absurd (none act answer refl)
 
 -- After a call.
 pub call_in_step : (log : Log) (act : Act) (answer : Answer) → HasAwaited log → LogInStep log
     → LogInStep (with_call log act answer)
 call_in_step log act answer before is =
-    stays_in_step [] (called log act answer) _ (stays_call log act answer) before
-    (record { awaited = is.awaited; read = is.read; decode = is.decode })
+    stays_in_step [] (called log act answer) _ (holds_call Stays stays_by_calls log act answer)
+    before (record { awaited = is.awaited; read = is.read; decode = is.decode })
 
 -- A new log has read nothing.
 pub opened_in_step : (role : Role) (values : Values) → LogInStep (opened role values)

@@ -1,7 +1,7 @@
 -- The table limits of SETTINGS, by their pairs alone: where as many were acknowledged as were read,
 -- the limit in force at their sender is the value that was read last.
-use Rattle.std.proofs.Common.{◌≡◌, ℕ, ◌≤◌, true, false, List, [], ◌∷◌, ◌++◌, length, refl}
-use Rattle.std.proofs.Common.{sym, ap, ◌∙◌, inl, inr, arith, length-append}
+use Rattle.std.proofs.Common.{◌≡◌, ℕ, ◌≤◌, true, false, List, [], ◌∷◌, ◌++◌, length, refl, sym, ap}
+use Rattle.std.proofs.Common.{◌∙◌, inl, inr, arith, length-append}
 use Rattle.h2_frame.specs.Frames.{Settings}
 use Rattle.h2_block.specs.Grouping.{Item, alone, block}
 use Rattle.h2_log.specs.Settings.{value_read, value_after, one_settings, settings_count}

@@ -1,8 +1,7 @@
 -- What an end has sent decodes, from an empty table on, to the lists that it was given, and leaves
 -- its encoder's table.
-use Rattle.std.proofs.Common.{◌≡◌, ℕ, ◌+◌, ◌^◌, ◌<◌, ◌==◌, min, Bool, true, false}
-use Rattle.std.proofs.Common.{if◌then◌else◌, List, [], ◌∷◌, ◌++◌, length, refl, sym, ap, ◌∙◌, arith}
-use Rattle.std.proofs.Common.{append_assoc, subst}
+use Rattle.std.proofs.Common.{◌≡◌, ℕ, ◌+◌, ◌≤◌, ◌==◌, min, Bool, true, false, if◌then◌else◌, List}
+use Rattle.std.proofs.Common.{[], ◌∷◌, ◌++◌, length, refl, sym, ap, ◌∙◌, arith, append_assoc, subst}
 use Rattle.std.specs.List.{AllByRecursion}
 use Rattle.hpack.specs.declared.types.field.Field.{Field}
 use Rattle.hpack.specs.Lists.{EncoderState, empty_table, list_size}
@@ -11,24 +10,23 @@ use Rattle.hpack.specs.Tables.{Entries}
 use Rattle.hpack.specs.Choice.{block_of, after_block}
 use Rattle.hpack.specs.Written.{IsValidEncoder, AreOctets}
 use Rattle.hpack.specs.Limits.{after_limit}
-use Rattle.hpack.proofs.LimitLemmas.{limit_preserves}
 use Rattle.hpack.proofs.WrittenBlocks.{block_encodes, block_goes_on}
 use Rattle.h2_frame.specs.Frames.{Settings}
 use Rattle.h2_block.specs.Grouping.{Item, alone, block}
 use Rattle.h2_log.specs.Items.{total}
 use Rattle.h2_log.specs.ItemEffects.{encoder_after_settings}
+use Rattle.h2_log.specs.Limits.{max_list}
 use Rattle.h2_log.specs.Settings.{value_after, own_value, one_ack}
-use Rattle.h2_log_laws.proofs.ItemLists.{total_none, total_one}
-use Rattle.h2_end_laws.specs.Sendings.{settings_received, changes_encoder}
-use Rattle.h2_end_laws.specs.Sendings.{EncodesInOrder, sent_nothing, sent_acknowledgment}
-use Rattle.h2_end_laws.specs.Sendings.{sent_block, sent_other}
+use Rattle.h2_end_laws.specs.Sendings.{settings_received, changes_encoder, EncodesInOrder}
+use Rattle.h2_end_laws.specs.Sendings.{sent_nothing, sent_acknowledgment, sent_block, sent_other}
 use Rattle.h2_pair.specs.HeaderTables.{DecodeInOrder}
 use Rattle.h2_pair.proofs.TablesValues.{limit_after, limit_in_force}
+use Rattle.h2_log_laws.proofs.EncoderSteps.{pairs_limited}
 
 -- A list that an encoder makes a block of: octets, in strings that integers count.
 pub record IsEncodable (fields : List Field) : Type 0 where
   pub octets : AreOctets fields
-  pub short : list_size fields < 2 ^ 35
+  pub small : list_size fields ≤ max_list
 
 -- An item that leaves the encoder is no acknowledgment.
 no_ack : (item : Item) → changes_encoder item ≡ false → one_ack item ≡ 0
@@ -38,70 +36,31 @@ no_ack (alone (Settings true pairs)) same = absurd (cc)
 no_ack (alone (Settings false pairs)) same = refl
 no_ack (alone frame) same = refl
 
--- An acknowledgment is one.
-one_is_ack : (pairs : List (ℕ × ℕ)) → one_ack (alone (Settings true pairs)) ≡ 1
-unfolding one_ack
-one_is_ack pairs = refl
-
--- A block is none.
-block_is_none : (stream : ℕ) (end : Bool) (octets : List ℕ)
-    → one_ack (block stream end octets) ≡ 0
-unfolding one_ack
-block_is_none stream end octets = refl
-
 -- As many acknowledgments were sent as SETTINGS received.
 pub acks_sent : (sent : List Item) (settings : List (List (ℕ × ℕ))) (lists : List (List Field))
     (encoder : EncoderState) → EncodesInOrder sent settings lists encoder
     → total one_ack sent ≡ length settings
-acks_sent _ _ _ _ sent_nothing = total_none one_ack
+unfolding total one_ack
+acks_sent _ _ _ _ sent_nothing = refl
 acks_sent _ _ _ _ (sent_acknowledgment {sent} {settings} {lists} {encoder} before pairs) =
-    omega (
-      arith,
-      acks_sent sent settings lists encoder before,
-      one_is_ack [],
-      total_one one_ack (alone (Settings true [])) sent,
-    )
+    omega (arith, acks_sent sent settings lists encoder before)
 acks_sent _ _ _ _ (sent_block {sent} {settings} {lists} {encoder} before stream end fields) =
-    omega (
-      arith,
-      acks_sent sent settings lists encoder before,
-      block_is_none stream end (block_of encoder fields),
-      total_one one_ack (block stream end (block_of encoder fields)) sent,
-    )
+    omega (arith, acks_sent sent settings lists encoder before)
 acks_sent _ _ _ _ (sent_other {sent} {settings} {lists} {encoder} before item same) =
-    omega (
-      arith,
-      acks_sent sent settings lists encoder before,
-      no_ack item same,
-      total_one one_ack item sent,
-    )
+    omega (arith, acks_sent sent settings lists encoder before, no_ack item same)
 
 -- The encoder is one whose blocks are read, with the limit of the SETTINGS received, 4,096 at most.
 pub record HasLimit (encoder : EncoderState) (limit : ℕ) : Type 0 where
   pub valid : IsValidEncoder encoder
   pub least : encoder.limit ≡ min limit 4096
 
--- After a pair of SETTINGS, by the test whether it names the limit.
-limit_by : (encoder : EncoderState) (limit value : ℕ) (b : Bool) → HasLimit encoder limit
-    → HasLimit (if b then after_limit encoder (min value 4096) else encoder)
-    (if b then value else limit)
-limit_by encoder limit value true has =
-    record {
-      valid = limit_preserves encoder (min value 4096) (omega arith) has.valid;
-      least = refl;
-    }
-limit_by encoder limit value false has = has
-
 -- After SETTINGS.
 settings_limit : (encoder : EncoderState) (limit : ℕ) (pairs : List (ℕ × ℕ))
     → HasLimit encoder limit
     → HasLimit (encoder_after_settings encoder pairs) (value_after 1 limit pairs)
-unfolding encoder_after_settings value_after
-settings_limit encoder limit [] has = has
-settings_limit encoder limit (pair ∷ pairs) has =
-    settings_limit (if pair.0 == 1 then after_limit encoder (min pair.1 4096) else encoder)
-    (if pair.0 == 1 then pair.1 else limit) pairs
-    (limit_by encoder limit pair.1 (pair.0 == 1) has)
+settings_limit encoder limit pairs has =
+    let both = pairs_limited encoder limit pairs has.valid has.least in
+    record { valid = both.0; least = both.1 }
 
 -- The table stays, whatever the limits are.
 table_by : (encoder : EncoderState) (limit : ℕ) (b : Bool)
@@ -152,7 +111,7 @@ block_decodes peer sent newer settings lists encoder fields joined acks has enco
     let limit = ap (λ (n : ℕ). own_value 1 4096 n peer) count
     ∙ limit_in_force peer newer settings joined in
     block_encodes encoder (own_value 1 4096 (0 + total one_ack sent) peer) fields has.valid
-    encodable.octets encodable.short (omega (arith, limit, has.least))
+    encodable.octets (omega (arith, encodable.small)) (omega (arith, limit, has.least))
 
 -- All that was sent decodes.
 pub sent_decodes : (peer sent : List Item) (newer settings : List (List (ℕ × ℕ)))

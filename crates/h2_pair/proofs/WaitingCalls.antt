@@ -1,32 +1,26 @@
--- After a call no more output waits than calls and replies make.
-use Rattle.std.proofs.Common.{◌≡◌, ℕ, ◌≤◌, false, length, Option, Some, None, refl, subst, arith}
-use Rattle.std.proofs.Common.{leb-false, ltb-false}
+-- After a call that is accepted no more output waits than calls and replies make.
+use Rattle.std.proofs.Common.{◌≡◌, ℕ, ◌≤◌, false, length, refl, arith, leb-false, ltb-false}
 use Rattle.hpack.specs.Lists.{list_size}
 use Rattle.hpack.specs.Choice.{block_of}
-use Rattle.h2_frame.specs.declared.code.Code.{Code}
-use Rattle.h2_frame.specs.declared.code.Code.TheVariants.{InternalError}
 use Rattle.h2_frame.specs.Frames.{Reset}
 use Rattle.h2_block.specs.Grouping.{alone}
-use Rattle.h2_log.specs.Acts.{Act, Answer, Open, SendFields, SendData, Release, ResetStream, Refuse}
-use Rattle.h2_log.specs.Acts.{SendPing, SendGoAway, PutOut, ChangeSettings, Done, OutOfMemory}
-use Rattle.h2_log.specs.Acts.{IsTypedAct}
+use Rattle.h2_log.specs.Acts.{Act, Open, SendFields, SendData, Release, ResetStream, Refuse}
+use Rattle.h2_log.specs.Acts.{SendPing, SendGoAway, PutOut, ChangeSettings, Done, IsTypedAct}
 use Rattle.h2_log.specs.Limits.{full_output, max_list}
 use Rattle.h2_log.specs.Log.{Log, last_processed, waiting}
 use Rattle.h2_log.specs.LogView.{log_view}
-use Rattle.h2_log.specs.View.{View, StreamView, ended_in}
+use Rattle.h2_log.specs.View.{ended_in}
 use Rattle.h2_log.specs.CallRules.{conditions, answer_of, items_of, data_count, is_full}
 use Rattle.h2_log.specs.LogSteps.{with_sent}
-use Rattle.h2_log.specs.LogCalls.{called, refused_with, with_call, MayAnswer}
+use Rattle.h2_log.specs.LogCalls.{called}
 use Rattle.h2_log.proofs.SentPayloads.{most_is_limit}
 use Rattle.h2_log_laws.proofs.BlockSizes.{block_is_gathered}
-use Rattle.h2_log_laws.proofs.CallConditions.{AreFalse, none_holds}
+use Rattle.h2_log_laws.proofs.CallConditions.{AreFalse}
 use Rattle.h2_log_laws.proofs.ItemSizes.{size_of, size-block, size-ping, size-goaway, size-change}
-use Rattle.h2_log_laws.proofs.LogGrowth.{fails_down}
-use Rattle.h2_log_laws.proofs.LogInduction.{kept_by_call, FailsWith, out_of_memory, refusal_fails}
 use Rattle.h2_machine_laws.proofs.BoundsOfCalls.{data_size, release_size}
 use Rattle.h2_pair.proofs.WaitingReplies.{is_reply}
-use Rattle.h2_pair.proofs.WaitingSteps.{Fits, fits_same, fits_reply, fits_small, fits_credit}
-use Rattle.h2_pair.proofs.WaitingSteps.{fits_given, has_space}
+use Rattle.h2_pair.proofs.WaitingSteps.{Fits, fits_same, fits_reply, fits_small, has_space}
+use Rattle.h2_log_laws.proofs.RulesByTests.{count_few}
 
 -- the log with what an accepted call writes
 abbrev with_accepted : Log → Act → Log
@@ -44,13 +38,8 @@ fits_items before log act space small fits =
     (has_space log (leb-false full_output (waiting log) space)) small
     (fits_same before log _ refl refl refl fits)
 
--- At most 65,536 octets of a body are sent.
-count_few : (view : View) (x : Option StreamView) (count : ℕ) → data_count view x count ≤ 65536
-count_few view None count = omega arith
-count_few view (Some stream) count = omega arith
-
 -- A call was accepted.
-fits_accepted : (before : ℕ) (log : Log) (act : Act) → IsTypedAct act
+pub fits_accepted : (before : ℕ) (log : Log) (act : Act) → IsTypedAct act
     → AreFalse (conditions (log_view log) act) → Fits before log
     → Fits before (with_accepted log act)
 unfolding IsTypedAct conditions items_of is_reply with_sent
@@ -98,34 +87,3 @@ fits_accepted before log (PutOut count) typed none fits =
 fits_accepted before log (ChangeSettings values) typed none fits =
     fits_items before log (ChangeSettings values) none.1.0
     (omega (arith, size-change log.role values)) fits
-
--- A call that is out of memory and isn't refused makes the connection fail.
-pub failing : (log : Log) (act : Act) → (with_call log act OutOfMemory).failed ≡ None → ⊥
-unfolding with_call
-failing log act up = fails_down InternalError (last_processed log) (called log act OutOfMemory) up
-
--- An end is down after each call in which its connection fails.
-fails_in_call : (log : Log) (act : Act) (answer : Answer) (code : Code)
-    → FailsWith log act answer code → (with_call log act answer).failed ≡ None → ⊥
-unfolding with_call refused_with
-fails_in_call log _ _ _ (out_of_memory act answer same) up =
-    failing log act (subst (λ (other : Answer). (with_call log act other).failed ≡ None) same up)
-fails_in_call log _ _ _ (refusal_fails id code answer fault done none is) up =
-    let act = Refuse id code in
-    let stays = subst (λ (other : Answer). (with_call log act other).failed ≡ None) done up in
-    fails_down fault (last_processed log) (called log act Done)
-    (subst (λ (f : Option Code). (refused_with log act Done f).failed ≡ None) is stays)
-
--- After a call.
-pub fits_call : (before : ℕ) (log : Log) (act : Act) (answer : Answer) → IsTypedAct act
-    → MayAnswer log act answer → (with_call log act answer).failed ≡ None → Fits before log
-    → Fits before (with_call log act answer)
-fits_call before log act answer typed may up =
-    kept_by_call (Fits before) log act answer (record {
-      credit = fits_credit before;
-      given = fits_given before;
-      failed = λ other code fails was. absurd (fails_in_call log act answer code fails up);
-      sent = λ none stays.
-          fits_accepted before log act typed (none_holds (conditions (log_view log) act) none);
-      called = λ other writes. fits_same before log _ refl refl refl;
-    }) may

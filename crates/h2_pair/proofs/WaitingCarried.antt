@@ -1,10 +1,8 @@
 -- What an end has received lies in what the other has given out.
 use Rattle.std.proofs.Common.{◌≡◌, ◌⊎◌, inl, inr, ℕ, ◌+◌, ◌≤◌, not, Bool, List, [], ◌∷◌, ◌++◌}
-use Rattle.std.proofs.Common.{length}
-use Rattle.std.proofs.Common.{take, drop, None, refl, sym, ap, ◌∙◌, arith, subst, append_assoc}
-use Rattle.std.proofs.Common.{length-append, length-take, append-nil, Option, true, false, nat_le}
+use Rattle.std.proofs.Common.{length, take, drop, None, refl, sym, ap, ◌∙◌, arith, subst}
+use Rattle.std.proofs.Common.{append_assoc, length-append, Option, true, false, nat_le}
 use Rattle.std.proofs.Common.{if◌then◌else◌}
-use Rattle.std.proofs.lemmas.List.{take-append-drop}
 use Rattle.std.specs.List.{AllByRecursion}
 use Rattle.h2_frame.specs.Frames.{Frame, Headers}
 use Rattle.h2_wire.specs.Streams.{Frames, expected_preface}
@@ -12,33 +10,24 @@ use Rattle.h2_wire.proofs.FaultLemmas.{one_reading_lem}
 use Rattle.h2_block.specs.Grouping.{Item, Groups, Begun, alone, block}
 use Rattle.h2_block.specs.Spread.{spread_frames, continuations}
 use Rattle.h2_log.specs.declared.role.Role.{Role}
-use Rattle.h2_log.specs.Acts.{Values}
 use Rattle.h2_log.specs.Items.{encoding_of_items}
 use Rattle.h2_log.specs.Settings.{is_server}
 use Rattle.h2_log.specs.Limits.{max_frame_size_sent}
 use Rattle.h2_log.specs.Log.{Log}
-use Rattle.h2_log.specs.LogCalls.{opened}
-use Rattle.h2_log.specs.LogSteps.{with_sent}
-use Rattle.h2_log.specs.Histories.{IsLog}
 use Rattle.h2_log.proofs.StreamLemmas.{stream_of_log}
 use Rattle.h2_log_laws.specs.Sending.{IsSendable, frames_of_item, frames_of_items, oldest_first}
 use Rattle.h2_log_laws.proofs.ItemSizes.{size_of}
 use Rattle.h2_log_laws.proofs.OutputRead.{items_read, items_grouped}
 use Rattle.h2_log_laws.proofs.TurnsOfLogs.{turns_report, written_after}
-use Rattle.h2_log_laws.proofs.LogGrowth.{grows_call}
-use Rattle.h2_end_laws.proofs.Grouped.{items_grouped as log_grouped}
+use Rattle.h2_end_laws.proofs.Grouped.{items_grouped as log_grouped, groups_now}
 use Rattle.h2_end_laws.proofs.Overlaps.{overlap}
 use Rattle.h2_end_laws.proofs.PayloadLimits.{payload_limits}
 use Rattle.h2_end_laws.proofs.ReadPrefixes.{prefix_read}
 use Rattle.h2_end_laws.proofs.SendableCalls.{written_sendable}
-use Rattle.h2_pair.specs.Pairs.{Half, HalfStep, calls, takes, loses}
-use Rattle.h2_pair.specs.Directions.{CarriesOctets}
-use Rattle.h2_pair.proofs.BothWays.{AreEnds, IsKept, after_reader, after_writer, new_half}
-use Rattle.h2_pair.proofs.CarriedOctets.{carries_is_kept}
-use Rattle.h2_pair.proofs.ItemsRead.{received_first, frames_received, groups_received}
-use Rattle.h2_pair.proofs.ItemsRead.{step_same_or_up}
-use Rattle.h2_pair.proofs.LogOutput.{gives_call}
-use Rattle.h2_pair.proofs.StepsOfLogs.{step_up, step_adds}
+use Rattle.h2_pair.proofs.Lists.{all_older}
+use Rattle.h2_pair.specs.Pairs.{Half}
+use Rattle.h2_pair.proofs.BothWays.{AreEnds}
+use Rattle.h2_pair.proofs.ItemsRead.{received_first, frames_received}
 use Rattle.h2_pair.proofs.WaitingGroups.{no_more_frames}
 
 -- A block has frames, by the test whether one is enough.
@@ -105,13 +94,6 @@ cut_short expects items octets between unparsed next frames begun sendable line 
       | inr wrong ↦ absurd (not_nothing prefix.left between next wrong)
     ]
 
--- What begins a list that can be sent can be.
-older_sendable : (newer older : List Item)
-    → AllByRecursion (IsSendable max_frame_size_sent) (newer ++ older)
-    → AllByRecursion (IsSendable max_frame_size_sent) older
-older_sendable [] older all = all
-older_sendable (item ∷ newer) older all = older_sendable newer older all.1
-
 -- What a log has written of items of which the older were received.
 written_parts : (role : Role) (log : Log) (way received : List Item) → log.role ≡ role
     → log.sent ≡ way ++ received
@@ -129,35 +111,31 @@ written_parts role log way received same sent written =
     (encoding_of_items max_frame_size_sent received) (encoding_of_items max_frame_size_sent way))
 
 -- The items that an end that is up has received lie in the octets that it has used.
-pub received_lie : (role other : Role) (values others : Values) (writer reader : Log) (rest : List
-    ℕ)
-    → is_server other ≡ not (is_server role) → IsLog role values writer
-    → IsLog other others reader → writer.written ≡ reader.input ++ rest → reader.failed ≡ None
-    → LieIn (length (expected_preface (not (is_server role)))) (length reader.input) reader.received
-received_lie role other values others writer reader rest opposite wrote came joined up =
-    let expects = not (is_server role) in
-    let way = received_first role other values others writer reader rest opposite wrote came joined
-    up in
-    let framed = frames_received other others reader (not (is_server role)) opposite came up in
-    let grouped = groups_received reader (log_grouped other others reader came) up in
-    let sendable = older_sendable way.0 reader.received
-    (subst (λ (items : List Item). AllByRecursion (IsSendable max_frame_size_sent) items) way.1
-    (written_sendable role values writer wrote)) in
-    let parts = written_parts role writer way.0 reader.received
-    (stream_of_log role values writer wrote).role way.1 (turns_report role values writer
-    wrote).items
-    in
-    elim (overlap reader.input rest (expected_preface (not (is_server role))
-    ++ encoding_of_items max_frame_size_sent reader.received)
+pub received_lie : (writer reader : Half) (rest : List ℕ) → (ends : AreEnds writer reader)
+    → writer.log.written ≡ reader.log.input ++ rest → reader.log.failed ≡ None
+    → LieIn (length (expected_preface (not (is_server ends.writer_role))))
+    (length reader.log.input) reader.log.received
+received_lie writer reader rest ends joined up =
+    let role = ends.writer_role in
+    let received = reader.log.received in
+    let octets = encoding_of_items max_frame_size_sent received in
+    let way = received_first writer reader rest ends joined up in
+    let framed = frames_received _ _ reader.log (not (is_server role)) ends.opposite
+    ends.reader_log up in
+    let grouped = groups_now reader.log (log_grouped _ _ reader.log ends.reader_log) up in
+    let sendable = all_older (IsSendable max_frame_size_sent) way.0 received
+    (rw way.1 at (written_sendable _ _ writer.log ends.writer_log)) in
+    let parts = written_parts role writer.log way.0 received
+    (stream_of_log _ _ writer.log ends.writer_log).role way.1
+    (turns_report _ _ writer.log ends.writer_log).items in
+    elim (overlap reader.log.input rest (expected_preface (not (is_server role)) ++ octets)
     (encoding_of_items max_frame_size_sent way.0) (sym joined ∙ parts)) [
       | inl (between, is, follows) ↦ inr (rw is (omega (
         arith,
-        length-append (expected_preface (not (is_server role))
-            ++ encoding_of_items max_frame_size_sent reader.received) between,
-        length-append (expected_preface (not (is_server role)))
-            (encoding_of_items max_frame_size_sent reader.received),
+        length-append (expected_preface (not (is_server role)) ++ octets) between,
+        length-append (expected_preface (not (is_server role))) octets,
       )))
       | inr (next, between, is, follows) ↦
-          inl (cut_short (not (is_server role)) reader.received reader.input between
-          reader.unparsed next reader.frames grouped.0 sendable is framed grouped.1)
+          inl (cut_short (not (is_server role)) received reader.log.input between
+          reader.log.unparsed next reader.log.frames reader.log.begun sendable is framed grouped)
     ]

@@ -1,9 +1,7 @@
 -- Frames that group to items and leave no block begun have no more frames than they need.
-use Rattle.std.proofs.Common.{◌≡◌, Bool, true, false, List, [], ◌∷◌, ◌++◌, Option, Some, None}
-use Rattle.std.proofs.Common.{refl, sym, ap, ◌∙◌, subst, arith, length, length-append, append-nil}
-use Rattle.std.proofs.Common.{append_assoc}
-use Rattle.h2_frame.specs.Frames.{Frame, Data, Headers, Priority, Reset, Settings, Ping, GoAway}
-use Rattle.h2_frame.specs.Frames.{WindowUpdate, Continuation, Unknown}
+use Rattle.std.proofs.Common.{◌≡◌, true, false, List, [], ◌∷◌, ◌++◌, Option, Some, None, refl, sym}
+use Rattle.std.proofs.Common.{ap, ◌∙◌, subst, append_assoc}
+use Rattle.h2_frame.specs.Frames.{Frame, Headers, Continuation}
 use Rattle.h2_block.specs.Grouping.{Item, Begun, Groups, next_fault, fault_outside, fault_inside}
 use Rattle.h2_block.proofs.GroupLemmas.{step_items, step_begun}
 use Rattle.h2_block.proofs.RunLemmas.{Runs, one_run, Groups-runs}
@@ -12,28 +10,12 @@ use Rattle.h2_block.proofs.RunLemmas.{Runs, one_run, Groups-runs}
 leaves_begun : (start : Option Begun) (frame : Frame) → next_fault start frame ≡ None
     → step_items start frame ≡ [] → (begun : Begun) × (step_begun start frame ≡ Some begun)
 unfolding fault_outside fault_inside
-leaves_begun None (Data stream end octets pad) sound none = cc
-leaves_begun None (Headers stream end true fragment pad priority) sound none = cc
 leaves_begun None (Headers stream end false fragment pad priority) sound none = (_, refl)
-leaves_begun None (Priority stream octets) sound none = cc
-leaves_begun None (Reset stream code) sound none = cc
-leaves_begun None (Settings ack pairs) sound none = cc
-leaves_begun None (Ping ack octets) sound none = cc
-leaves_begun None (GoAway last code debug) sound none = cc
-leaves_begun None (WindowUpdate stream increment) sound none = cc
-leaves_begun None (Continuation stream whole fragment) sound none = cc
-leaves_begun None (Unknown kind flags stream payload) sound none = cc
-leaves_begun (Some begun) (Data stream end octets pad) sound none = cc
-leaves_begun (Some begun) (Headers stream end whole fragment pad priority) sound none = cc
-leaves_begun (Some begun) (Priority stream octets) sound none = cc
-leaves_begun (Some begun) (Reset stream code) sound none = cc
-leaves_begun (Some begun) (Settings ack pairs) sound none = cc
-leaves_begun (Some begun) (Ping ack octets) sound none = cc
-leaves_begun (Some begun) (GoAway last code debug) sound none = cc
-leaves_begun (Some begun) (WindowUpdate stream increment) sound none = cc
-leaves_begun (Some begun) (Continuation stream true fragment) sound none = cc
+leaves_begun None (Headers stream end true fragment pad priority) sound none = cc
+leaves_begun None frame sound none = cc
 leaves_begun (Some begun) (Continuation stream false fragment) sound none = (_, refl)
-leaves_begun (Some begun) (Unknown kind flags stream payload) sound none = cc
+leaves_begun (Some begun) (Continuation stream true fragment) sound none = cc
+leaves_begun (Some begun) frame sound none = cc
 
 -- The first of two lists that are nothing, joined, is nothing; and the second.
 none_joined : (items others : List Item) → [] ≡ items ++ others → (items ≡ []) × (others ≡ [])

@@ -1,6 +1,6 @@
 -- The octets of replies that an end has written and not given out.
-use Rattle.std.proofs.Common.{◌≡◌, ℕ, ◌+◌, ◌-◌, ◌≤◌, min, Bool, true, false, List, [], ◌∷◌, ◌++◌}
-use Rattle.std.proofs.Common.{refl, arith, if◌then◌else◌}
+use Rattle.std.proofs.Common.{ℕ, ◌+◌, ◌-◌, ◌≤◌, min, Bool, true, false, List, [], ◌∷◌, arith}
+use Rattle.std.proofs.Common.{if◌then◌else◌}
 use Rattle.h2_frame.specs.Frames.{Reset, Settings, Ping}
 use Rattle.h2_block.specs.Grouping.{Item, alone}
 use Rattle.h2_log_laws.proofs.ItemSizes.{size_of, size-append}

@@ -4,13 +4,11 @@ use Rattle.std.proofs.Common.{length-append}
 use Rattle.h2_frame.specs.Frames.{WindowUpdate}
 use Rattle.h2_block.specs.Grouping.{Item, alone}
 use Rattle.h2_log.specs.Items.{encoding_of_items}
-use Rattle.h2_log.specs.Events.{Event}
 use Rattle.h2_log.specs.Limits.{full_output}
 use Rattle.h2_log.specs.Log.{Log, output, waiting, max_payload_sent}
-use Rattle.h2_log.specs.LogSteps.{with_sent, with_reported, with_credit_returned, with_unreturned}
+use Rattle.h2_log.specs.LogSteps.{with_sent, with_credit_returned}
 use Rattle.h2_log.proofs.SentPayloads.{most_is_limit}
 use Rattle.h2_log_laws.proofs.ItemSizes.{size_of, size-append, size-update}
-use Rattle.h2_log_laws.proofs.LogInduction.{IsKeptByCredit, kept_by_credit}
 use Rattle.h2_pair.proofs.WaitingReplies.{is_reply, reply_size, replies_left, replies_fall}
 
 -- what calls may add to an output that isn't full, and what waits then
@@ -80,33 +78,13 @@ fits_small before log (item ∷ items) space small fits =
       );
     }
 
--- Events are reported.
-pub fits_reported : (before : ℕ) (log : Log) (events : List Event) → Fits before log
-    → Fits before (with_reported log events)
-unfolding with_reported
-fits_reported before log [] fits = fits
-fits_reported before log (event ∷ events) fits = fits_same before log _ refl refl refl fits
-
 -- Credit is returned where the output isn't full.
-pub fits_returned : (before : ℕ) (log : Log) → length log.written < log.given + full_output
-    → Fits before log → Fits before (with_credit_returned log)
+pub fits_returned : (before : ℕ) (log : Log) → waiting log < full_output → Fits before log
+    → Fits before (with_credit_returned log)
 fits_returned before log space fits =
     fits_small before (record log { unreturned = 0 }) (alone (WindowUpdate 0 log.unreturned) ∷ [])
-    space (omega (arith, size-update 0 log.unreturned))
+    (has_space log space) (omega (arith, size-update 0 log.unreturned))
     (fits_same before log (record log { unreturned = 0 }) refl refl refl fits)
-
--- So credit keeps it.
-pub fits_credit : (before : ℕ) → IsKeptByCredit (Fits before)
-fits_credit before =
-    record {
-      unreturned = λ log count. fits_same before log _ refl refl refl;
-      returned = λ log returns. fits_returned before log (has_space log returns.space);
-    }
-
--- What is unreturned.
-pub fits_unreturned : (before more : ℕ) (log : Log) → Fits before log
-    → Fits before (with_unreturned more log)
-fits_unreturned before = kept_by_credit (Fits before) (fits_credit before)
 
 -- Output is given out.
 pub fits_given : (before : ℕ) (log : Log) (more : ℕ) → Fits before log

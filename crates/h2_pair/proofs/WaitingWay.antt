@@ -1,14 +1,12 @@
 -- Of replies at most one acknowledgment, one answer to a PING and 1,000 RST_STREAM are under way.
-use Rattle.std.proofs.Common.{◌≡◌, ℕ, ◌+◌, ◌-◌, ◌*◌, ◌≤◌, ◌==◌, nat_lt, nat_le, not, ◌&&◌, ◌||◌}
-use Rattle.std.proofs.Common.{if◌then◌else◌, min, Bool, true, false, List, [], ◌∷◌, ◌++◌, length}
-use Rattle.std.proofs.Common.{Option, Some, None, refl, sym, arith, inl, inr}
+use Rattle.std.proofs.Common.{◌≡◌, ℕ, ◌+◌, ◌*◌, ◌≤◌, not, if◌then◌else◌, Bool, true, false, List}
+use Rattle.std.proofs.Common.{[], ◌∷◌, ◌++◌, length, Some, None, refl, arith, inl, inr}
 use Rattle.std.proofs.lemmas.Bool.{eqb-true}
 use Rattle.std.specs.List.{AllByRecursion}
 use Rattle.h2_frame.specs.declared.owned.Unwritable.TheVariants.{TooLong, BadStream, BadValue}
-use Rattle.h2_frame.specs.Frames.{Frame, Data, Headers, Priority, Reset, Settings, Ping, GoAway}
-use Rattle.h2_frame.specs.Frames.{WindowUpdate, Continuation, Unknown}
+use Rattle.h2_frame.specs.Frames.{Reset, Settings, Ping}
 use Rattle.h2_frame.specs.Encoding.{refusal, has_good_values}
-use Rattle.h2_block.specs.Grouping.{Item, alone, block}
+use Rattle.h2_block.specs.Grouping.{Item, alone}
 use Rattle.h2_log.specs.declared.role.Role.{Role}
 use Rattle.h2_log.specs.Items.{total, one_ping, one_answer, one_reset}
 use Rattle.h2_log.specs.Limits.{max_frame_size_sent}
@@ -18,7 +16,7 @@ use Rattle.h2_log.specs.CallRules.{opening_pairs}
 use Rattle.h2_log_laws.specs.Sending.{IsSendable}
 use Rattle.h2_log_laws.proofs.ItemSizes.{size_of, size-append, size-ack, size-ping, size-reset}
 use Rattle.h2_log_laws.proofs.SettingsLists.{settings_or, count_next, settings_one, count_none}
-use Rattle.h2_pair.proofs.WaitingReplies.{is_reply, reply_size, replies_left, reply_fits}
+use Rattle.h2_pair.proofs.WaitingReplies.{is_reply, reply_size, replies_left}
 
 -- No refusal of writing is no refusal for values, by the tests.
 good_by : (long stream good : Bool)
@@ -50,19 +48,10 @@ ack_size pairs none = rw none size-ack
 kind_size : (item : Item) → IsSendable max_frame_size_sent item
     → reply_size item ≤ octets_by_kind (one_ack item) (one_answer item) (one_reset item)
 unfolding is_reply one_ack one_answer one_reset
-kind_size (block stream end octets) can = omega arith
-kind_size (alone (Data stream end octets pad)) can = omega arith
-kind_size (alone (Headers stream end whole fragment pad priority)) can = omega arith
-kind_size (alone (Priority stream octets)) can = omega arith
 kind_size (alone (Reset stream code)) can = omega (arith, size-reset stream code)
-kind_size (alone (Settings false pairs)) can = omega arith
 kind_size (alone (Settings true pairs)) can = omega (arith, ack_size pairs (ack_empty pairs can.1))
-kind_size (alone (Ping false octets)) can = omega arith
 kind_size (alone (Ping true octets)) can = omega (arith, size-ping true octets, can.2)
-kind_size (alone (GoAway last code debug)) can = omega arith
-kind_size (alone (WindowUpdate stream increment)) can = omega arith
-kind_size (alone (Continuation stream whole fragment)) can = omega arith
-kind_size (alone (Unknown kind flags stream payload)) can = omega arith
+kind_size item can = omega arith
 
 -- What is left of the replies is no more than those of the newer items and what is left of the
 -- older ones.
@@ -118,22 +107,8 @@ ping_item : (role : Role) (received sent : List Item) (item : Item)
     → total one_ping sent ≤ total one_answer received + 1
     → one_ping item + total one_ping sent ≤ total one_answer received + 1
 unfolding one_ping
-ping_item role received sent (block stream end octets) allowed few = omega (arith, few)
-ping_item role received sent (alone (Data stream end octets pad)) allowed few = omega (arith, few)
-ping_item role received sent (alone (Headers stream end whole fragment pad priority)) allowed few =
-    omega (arith, few)
-ping_item role received sent (alone (Priority stream octets)) allowed few = omega (arith, few)
-ping_item role received sent (alone (Reset stream code)) allowed few = omega (arith, few)
-ping_item role received sent (alone (Settings ack pairs)) allowed few = omega (arith, few)
-ping_item role received sent (alone (Ping true octets)) allowed few = omega (arith, few)
 ping_item role received sent (alone (Ping false octets)) allowed few = omega (arith, allowed.1)
-ping_item role received sent (alone (GoAway last code debug)) allowed few = omega (arith, few)
-ping_item role received sent (alone (WindowUpdate stream increment)) allowed few =
-    omega (arith, few)
-ping_item role received sent (alone (Continuation stream whole fragment)) allowed few =
-    omega (arith, few)
-ping_item role received sent (alone (Unknown kind flags stream payload)) allowed few =
-    omega (arith, few)
+ping_item role received sent item allowed few = omega (arith, few)
 
 pub pings_wait : (role : Role) (received sent : List Item) → AllowedHistory role received sent
     → total one_ping sent ≤ total one_answer received + 1

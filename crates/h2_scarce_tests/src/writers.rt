@@ -53,7 +53,7 @@ fn block_lacks(octets: &[u8], out: &mut Vec<u8>) -> Option<bool> {
     if octets.len() > 65_552 {
         return None;
     }
-    match spread(1, true, octets, out) {
+    match spread(1, true, octets, out, 16_384) {
         Ok(()) => Some(false),
         Err(BlockFault::Memory) => Some(true),
         Err(_) => None,

@@ -51,7 +51,7 @@ shown_append table mid after (block stream end octets ∷ items) others frames m
     )
 
 -- items that are shown are items
-shown_items : (table after : Entries) (items : List Item) (frames : List Frame) (lines : List ℕ)
+pub shown_items : (table after : Entries) (items : List Item) (frames : List Frame) (lines : List ℕ)
     → AreShown table items frames after lines → AreItems items frames
 shown_items table after [] frames lines (none, same, empty) = none
 shown_items table after (alone frame ∷ items) frames lines
@@ -62,7 +62,7 @@ shown_items table after (block stream end octets ∷ items) frames lines
     (first, following, joined, is, shown_items next after items following text one)
 
 -- items that are shown decode
-shown_decode : (table after : Entries) (items : List Item) (frames : List Frame) (lines : List ℕ)
+pub shown_decode : (table after : Entries) (items : List Item) (frames : List Frame) (lines : List ℕ)
     → AreShown table items frames after lines → ItemsDecode table items after
 shown_decode table after [] frames lines (none, same, empty) = same
 shown_decode table after (alone frame ∷ items) frames lines

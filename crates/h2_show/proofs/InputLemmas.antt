@@ -11,7 +11,7 @@ use Rattle.std.specs.Io.KnownBytes.{Appends, Consumes, IsAtEnd, Keeps, append_kn
 use Rattle.hex.specs.Hex.{decode_of}
 use Rattle.h2_wire.specs.Cutter.{CutterState}
 use Rattle.h2_show.specs.declared.blocks.Blocks.{Blocks}
-use Rattle.h2_show.specs.declared.options.Side.{Side}
+use Rattle.h2_show.specs.declared.options.ShowOptions.{ShowOptions}
 use Rattle.h2_show.specs.declared.show.Lent.{Lent}
 use Rattle.h2_show.specs.declared.show.Shown.{Shown}
 use Rattle.h2_show.specs.declared.status.Status.{Status}
@@ -20,7 +20,7 @@ use Rattle.h2_show.specs.declared.viewer.ShowError.{ShowError}
 use Rattle.h2_show.specs.Printed.{ViewerShows, ViewerPrints, ViewerFailsWith, ShowsAfter, end_lines}
 use Rattle.h2_show.specs.Printed.{error_lines, ShowsText}
 use Rattle.h2_show.specs.Hexadecimal.{without_blanks}
-use Rattle.h2_show.specs.Report.{begins_with_preface, first_limits, StatusReportsOctets}
+use Rattle.h2_show.specs.Report.{begins_with_preface, limits_of, StatusReportsOctets}
 use Rattle.h2_show.specs.Report.{StatusReportsText}
 use Rattle.h2_show.specs.Shown.{Shows, ShowsOctets}
 use Rattle.h2_show.proofs.FaultLemmas.{end_shows_after}
@@ -108,78 +108,79 @@ error_shows_all cutter mid new_cutter blocks mid_blocks due mid_due new_due befo
     ))
 
 -- a fault in octets that are shown all at once
-pub error_shown : (from : Side) (cutter new_cutter : CutterState) (blocks : Blocks)
+pub error_shown : (options : ShowOptions) (cutter new_cutter : CutterState) (blocks : Blocks)
     (due new_due : Bool) (start text ended : Option (List ℕ)) (octets printed : List ℕ)
     (error : ShowError) (status : Status)
-    → ViewerShows cutter blocks due (begins_with_preface from) first_limits [] []
+    → ViewerShows cutter blocks due (begins_with_preface options.from) (limits_of options) [] []
     → Appends start text printed
     → ViewerFailsWith cutter blocks due octets error new_cutter new_due printed
     → status ≡ Fault → Appends text ended (error_lines error new_cutter.place new_due)
-    → (lines : List ℕ) × ShowsOctets from octets status lines × Appends start ended lines
-error_shown from cutter new_cutter blocks due new_due start text ended octets printed error status
-    shows written fails is last = (
+    → (lines : List ℕ) × ShowsOctets options octets status lines × Appends start ended lines
+error_shown options cutter new_cutter blocks due new_due start text ended octets printed error
+    status shows written fails is last = (
       printed ++ error_lines error new_cutter.place new_due,
-      subst (λ (reported : Status). ShowsOctets from octets reported
+      subst (λ (reported : Status). ShowsOctets options octets reported
           (printed ++ error_lines error new_cutter.place new_due)) (sym is)
-          (subst (λ (all : List ℕ). ShowsOctets from all Fault
+          (subst (λ (all : List ℕ). ShowsOctets options all Fault
           (printed ++ error_lines error new_cutter.place new_due)) (append-nil octets)
-          (fails (begins_with_preface from) first_limits [] [] [] shows)),
+          (fails (begins_with_preface options.from) (limits_of options) [] [] [] shows)),
       Appends-trans start text ended printed _ written last,
     )
 
 -- the end of octets that are shown all at once
-pub end_shown : (from : Side) (cutter new_cutter : CutterState) (blocks new_blocks : Blocks)
-    (due new_due : Bool) (start text ended : Option (List ℕ)) (octets printed : List ℕ)
-    (status : Status)
-    → ViewerShows cutter blocks due (begins_with_preface from) first_limits [] []
+pub end_shown : (options : ShowOptions) (cutter new_cutter : CutterState)
+    (blocks new_blocks : Blocks) (due new_due : Bool) (start text ended : Option (List ℕ))
+    (octets printed : List ℕ) (status : Status)
+    → ViewerShows cutter blocks due (begins_with_preface options.from) (limits_of options) [] []
     → Appends start text printed
     → ViewerPrints cutter blocks due octets new_cutter new_blocks new_due printed
     → status ≡ (if length new_cutter.unparsed == 0 && not (is_some new_blocks.gather.begun)
     then Good else Fault)
     → Appends text ended
     (end_lines (length new_cutter.unparsed) (is_some new_blocks.gather.begun))
-    → (lines : List ℕ) × ShowsOctets from octets status lines × Appends start ended lines
-end_shown from cutter new_cutter blocks new_blocks due new_due start text ended octets printed
+    → (lines : List ℕ) × ShowsOctets options octets status lines × Appends start ended lines
+end_shown options cutter new_cutter blocks new_blocks due new_due start text ended octets printed
     status shows written prints known last = (
       printed ++ end_lines (length new_cutter.unparsed) (is_some new_blocks.gather.begun),
       end_shows_after cutter new_cutter blocks new_blocks due new_due octets printed status prints
-          known (begins_with_preface from) first_limits [] [] shows,
+          known (begins_with_preface options.from) (limits_of options) [] [] shows,
       Appends-trans start text ended printed _ written last,
     )
 
 -- after no octets the octets alone are shown
-pub octets_shown : {E : Type 0} (from : Side) (cutter : CutterState) (blocks : Blocks) (due : Bool)
-    (before start ended : Option (List ℕ)) (result : Result Shown E)
-    → ViewerShows cutter blocks due (begins_with_preface from) first_limits [] []
+pub octets_shown : {E : Type 0} (options : ShowOptions) (cutter : CutterState) (blocks : Blocks)
+    (due : Bool) (before start ended : Option (List ℕ)) (result : Result Shown E)
+    → ViewerShows cutter blocks due (begins_with_preface options.from) (limits_of options) [] []
     → IfOk result (λ shown. IfSome before (λ octets. (lines : List ℕ)
     × ShowsAfter cutter blocks due octets shown.status lines × Appends start ended lines))
     → IfOk result (λ shown. IfSome before (λ octets. (lines : List ℕ)
-    × ShowsOctets from octets shown.status lines × Appends start ended lines))
-octets_shown from cutter blocks due before start ended (Err error) shows shown = tt
-octets_shown from cutter blocks due None start ended (Ok some) shows shown = tt
-octets_shown from cutter blocks due (Some octets) start ended (Ok some) shows shown = (
+    × ShowsOctets options octets shown.status lines × Appends start ended lines))
+octets_shown options cutter blocks due before start ended (Err error) shows shown = tt
+octets_shown options cutter blocks due None start ended (Ok some) shows shown = tt
+octets_shown options cutter blocks due (Some octets) start ended (Ok some) shows shown = (
   shown.0,
-  shown.1 (begins_with_preface from) first_limits [] [] shows,
+  shown.1 (begins_with_preface options.from) (limits_of options) [] [] shows,
   shown.2,
 )
 
 -- what the lines show of text, by the octets that it gives
-pub text_shown : (from : Side) (before start ended : Option (List ℕ)) (octets : List ℕ)
+pub text_shown : (options : ShowOptions) (before start ended : Option (List ℕ)) (octets : List ℕ)
     (status : Status)
     → IfSome before (λ text. decode_of (without_blanks text) ≡ Ok octets)
-    → (lines : List ℕ) × ShowsOctets from octets status lines × Appends start ended lines
-    → IfSome before (λ text. (lines : List ℕ) × ShowsText from text status lines
+    → (lines : List ℕ) × ShowsOctets options octets status lines × Appends start ended lines
+    → IfSome before (λ text. (lines : List ℕ) × ShowsText options text status lines
     × Appends start ended lines)
-text_shown from None start ended octets status decoded shown = tt
-text_shown from (Some text) start ended octets status decoded shown =
+text_shown options None start ended octets status decoded shown = tt
+text_shown options (Some text) start ended octets status decoded shown =
     (shown.0, (octets, decoded, shown.1), shown.2)
 
-pub text_reported : (from : Side) (before : Option (List ℕ)) (octets : List ℕ) (status : Status)
+pub text_reported : (options : ShowOptions) (before : Option (List ℕ)) (octets : List ℕ)
+    (status : Status)
     → IfSome before (λ text. decode_of (without_blanks text) ≡ Ok octets)
-    → StatusReportsOctets from octets status
-    → IfSome before (λ text. StatusReportsText from text status)
-text_reported from None octets status decoded reports = tt
-text_reported from (Some text) octets status decoded reports = (octets, decoded, reports)
+    → StatusReportsOctets options octets status
+    → IfSome before (λ text. StatusReportsText options text status)
+text_reported options None octets status decoded reports = tt
+text_reported options (Some text) octets status decoded reports = (octets, decoded, reports)
 
 -- lines that are appended stay so where a flush keeps what is known
 pub kept_shown : {E : Type 0} (P : List ℕ → Status → List ℕ → Type 0)

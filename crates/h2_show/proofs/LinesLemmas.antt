@@ -4,7 +4,7 @@ use Rattle.std.proofs.Common.{◌%◌, if◌then◌else◌, List, [], ◌∷◌,
 use Rattle.std.proofs.Common.{flat_map}
 use Rattle.std.proofs.Common.{length-take, position, Option, Some, None, refl, sym, ◌∙◌, ap, subst}
 use Rattle.std.proofs.Common.{arith}
-use Rattle.std.proofs.Common.{append_assoc, append-nil, suc, zero, codes, decimal, ◌*◌, ◌^◌}
+use Rattle.std.proofs.Common.{append_assoc, append-nil, suc, zero, codes, decimal, ◌*◌}
 use Rattle.std.proofs.KnownBytes.{Appends-trans}
 use Rattle.std.proofs.Math.Seq.{drop-cons}
 use Rattle.std.proofs.lemmas.Bool.{not-true, not-false}
@@ -15,13 +15,13 @@ use Rattle.std.proofs.lemmas.List.Quantifiers.{position-Some}
 use Rattle.std.proofs.lemmas.List.Sums.{fails_before_first}
 use Rattle.std.specs.Io.KnownBytes.{Appends}
 use Rattle.std.specs.List.{position_or_len}
-use Rattle.std.specs.Fmt.{digits, format_spec, padded_integral}
-use Rattle.std.proofs.lemmas.Fmt.{decimal_digit, hex_byte}
+use Rattle.std.proofs.lemmas.Fmt.{decimal_digit}
 use Rattle.h2_frame.specs.Frames.{Reset, Settings, Ping, GoAway, WindowUpdate}
 use Rattle.h2_frame.specs.Pairs.{pairs_in, pairs_of}
 use Rattle.h2_show.specs.Lines.{hex_digit, hex_octet, is_plain, shown_octet, shown_octets, flag_word}
 use Rattle.h2_show.specs.Lines.{pair_words}
 use Rattle.h2_show.specs.Lines.{frame_words}
+use Rattle.h2_frame.proofs.PairLemmas.{length-pairs_in}
 
 -- whether an octet is escaped
 abbrev is_escaped : ℕ → Bool
@@ -232,12 +232,6 @@ settings_words ack pairs =
     (sym (decimal_digit 0 (omega arith)))
     ∙ sym (one_word (codes "SETTINGS") (codes " ") (decimal 0) (decimal (6 * length pairs))
     (flag_word ack (codes "ack")) (pair_words pairs))
-
--- how many pairs there are
-length-pairs_in : (count : ℕ) (octets : List ℕ) → length (pairs_in count octets) ≡ count
-unfolding pairs_in
-length-pairs_in zero octets = refl
-length-pairs_in (suc count) octets = ap suc (length-pairs_in count (drop 6 octets))
 
 -- the octets of the pairs are no more than the octets that they lie in
 pub pairs_fit : (octets : List ℕ) → 6 * length (pairs_of octets) ≤ length octets

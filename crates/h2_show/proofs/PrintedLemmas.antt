@@ -13,6 +13,7 @@ use Rattle.h2_show.specs.Lines.{frame_line, preface_line}
 use Rattle.h2_show.specs.Shown.{AreShown, preface_lines}
 use Rattle.h2_show.specs.Printed.{BlocksShow, due_line, ViewerShows}
 use Rattle.h2_show.proofs.PrefaceLemmas.{whole_preface, opened_lines, inside_lines, preface_state}
+use Rattle.hpack.proofs.Tests.{and_false}
 
 -- where lists that are joined are nothing, each is
 nothing_joined : {A : Type 0} (first second : List A) → first ++ second ≡ []
@@ -105,10 +106,6 @@ show_frame cutter new_cutter blocks new_blocks due expects limits stream output 
 and_true : (one : Bool) → (one && true) ≡ one
 and_true true = refl
 and_true false = refl
-
-and_false : (one : Bool) → (one && false) ≡ false
-and_false true = refl
-and_false false = refl
 
 -- a call that answers no frame, and what of the preface is complete after it
 pub show_nothing : (past : Bool) (cutter new_cutter : CutterState) (blocks : Blocks)

@@ -18,7 +18,7 @@ use Rattle.h2_wire.specs.Cutter.{CutterState}
 use Rattle.h2_block.specs.Grouping.{Begun}
 use Rattle.h2_show.specs.declared.blocks.Blocks.{Blocks}
 use Rattle.h2_show.specs.declared.blocks.BlockError.TheVariants as errors
-use Rattle.h2_show.specs.declared.options.Side.{Side}
+use Rattle.h2_show.specs.declared.options.ShowOptions.{ShowOptions}
 use Rattle.h2_show.specs.declared.show.Shown.{Shown}
 use Rattle.h2_show.specs.declared.viewer.ShowError.{ShowError}
 use Rattle.h2_show.specs.declared.viewer.ShowError.TheVariants.{Wire, Block, Output}
@@ -29,7 +29,7 @@ use Rattle.h2_show.specs.Viewer.{ViewerRepresents, ViewerContinues, ShowErrorRep
 use Rattle.h2_show.specs.Viewer.{IsStreamFault, StatusReportsAfter}
 use Rattle.h2_show.specs.Report.{StatusReports, HasWireFaultAt, HasBlockErrorAt, IsAtFault}
 use Rattle.h2_show.specs.Report.{inside_frame, inside_block, wire_fault, block_error}
-use Rattle.h2_show.specs.Report.{StatusReportsOctets, begins_with_preface, first_limits}
+use Rattle.h2_show.specs.Report.{StatusReportsOctets, begins_with_preface, limits_of}
 
 -- the status at the end of a stream without fault
 end_reports : (expects : Bool) (limits : Limits) (stream : List ℕ) (frames : List Frame)
@@ -191,13 +191,14 @@ error_reports_all cutter mid_cutter new_cutter blocks mid_blocks (Some all) (Som
     (sym known.0) (subst (IsAtFault expects limits) same found)
 
 -- after no octets the status reports the octets alone
-pub octets_reported : {E : Type 0} (from : Side) (cutter : CutterState) (blocks : Blocks)
+pub octets_reported : {E : Type 0} (options : ShowOptions) (cutter : CutterState) (blocks : Blocks)
     (before : Option (List ℕ)) (result : Result Shown E)
-    → ViewerRepresents cutter blocks (begins_with_preface from) first_limits []
+    → ViewerRepresents cutter blocks (begins_with_preface options.from) (limits_of options) []
     → IfOk result (λ shown. IfSome before
     (λ octets. StatusReportsAfter cutter blocks octets shown.status))
-    → IfOk result (λ shown. IfSome before (λ octets. StatusReportsOctets from octets shown.status))
-octets_reported from cutter blocks before (Err error) represents reported = tt
-octets_reported from cutter blocks None (Ok shown) represents reported = tt
-octets_reported from cutter blocks (Some octets) (Ok shown) represents reported =
-    reported (begins_with_preface from) first_limits [] represents
+    → IfOk result (λ shown. IfSome before
+    (λ octets. StatusReportsOctets options octets shown.status))
+octets_reported options cutter blocks before (Err error) represents reported = tt
+octets_reported options cutter blocks None (Ok shown) represents reported = tt
+octets_reported options cutter blocks (Some octets) (Ok shown) represents reported =
+    reported (begins_with_preface options.from) (limits_of options) [] represents

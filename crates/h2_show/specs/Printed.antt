@@ -11,7 +11,7 @@ use Rattle.h2_wire.specs.Streams.{Limits}
 use Rattle.h2_block.specs.Grouping.{Item, IsLeft}
 use Rattle.h2_show.specs.declared.blocks.Blocks.{Blocks}
 use Rattle.h2_show.specs.declared.blocks.BlockError.TheVariants as errors
-use Rattle.h2_show.specs.declared.options.Side.{Side}
+use Rattle.h2_show.specs.declared.options.ShowOptions.{ShowOptions}
 use Rattle.h2_show.specs.declared.status.Status.{Status}
 use Rattle.h2_show.specs.declared.status.Status.TheVariants.{Fault}
 use Rattle.h2_show.specs.declared.viewer.ShowError.{ShowError}
@@ -102,7 +102,7 @@ ShowsAfter cutter blocks due octets status printed =
     → Shows expects limits (stream ++ octets) status (output ++ printed)
 
 -- what `show` prints of text that gives the octets in hexadecimal
-abbrev pub ShowsText : Side → List ℕ → Status → (printed : List ℕ) → Type 0
-ShowsText from text status printed =
+abbrev pub ShowsText : ShowOptions → List ℕ → Status → (printed : List ℕ) → Type 0
+ShowsText options text status printed =
     (octets : List ℕ) × (decode_of (without_blanks text) ≡ Ok octets)
-    × ShowsOctets from octets status printed
+    × ShowsOctets options octets status printed

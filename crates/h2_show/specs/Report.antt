@@ -91,27 +91,28 @@ StatusReports expects limits stream Usage = ⊥
 StatusReports expects limits stream Device = ⊥
 StatusReports expects limits stream Memory = ⊥
 
--- the limit of payloads before any SETTINGS (RFC 9113, section 6.5.2), which `show` keeps
-abbrev pub first_limits : Limits
-first_limits place = 16384
+-- the limit of payloads, which is the same for every head, whatever SETTINGS say
+-- rule: show (own) The words choose the limit of payloads
+abbrev pub limits_of : ShowOptions → Limits
+limits_of options place = options.max_frame
 
 -- What the status reports of the octets that the end sent.
 -- rule: show (own) The status is 0 only where the input is good to its end
-abbrev pub StatusReportsOctets : Side → List ℕ → Status → Type 0
-StatusReportsOctets from octets status =
-    StatusReports (begins_with_preface from) first_limits octets status
+abbrev pub StatusReportsOctets : ShowOptions → List ℕ → Status → Type 0
+StatusReportsOctets options octets status =
+    StatusReports (begins_with_preface options.from) (limits_of options) octets status
 
 -- What the status reports of text that gives the octets in hexadecimal.
 -- rule: show (own) The status is 0 only where the input is good to its end
-abbrev pub StatusReportsText : Side → List ℕ → Status → Type 0
-StatusReportsText from text status =
+abbrev pub StatusReportsText : ShowOptions → List ℕ → Status → Type 0
+StatusReportsText options text status =
     (octets : List ℕ) × (decode_of (without_blanks text) ≡ Ok octets)
-    × StatusReportsOctets from octets status
+    × StatusReportsOctets options octets status
 
 -- What the status reports of the input.
 -- rule: show (own) The status is 0 only where the input is good to its end
 abbrev pub StatusReportsInput : ShowOptions → List ℕ → Status → Type 0
 StatusReportsInput options given status =
     MatchBool options.hex
-    (StatusReportsText options.from given status)
-    (StatusReportsOctets options.from given status)
+    (StatusReportsText options given status)
+    (StatusReportsOctets options given status)

@@ -13,12 +13,11 @@ use Rattle.h2_wire.specs.Faults.{wire_fault_code}
 use Rattle.h2_wire.specs.Streams.{Limits, Frames, WireFaultAt, expected_preface}
 use Rattle.h2_block.specs.Grouping.{Item, alone, block, IsItem, IsLeft, Begun}
 use Rattle.h2_show.specs.declared.options.ShowOptions.{ShowOptions}
-use Rattle.h2_show.specs.declared.options.Side.{Side}
 use Rattle.h2_show.specs.declared.status.Status.{Status}
 use Rattle.h2_show.specs.declared.status.Status.TheVariants.{Good, Fault}
 use Rattle.h2_show.specs.Blocks.{EndsWithBlockError, first_table, show_table_limit}
 use Rattle.h2_show.specs.Hexadecimal.{without_blanks}
-use Rattle.h2_show.specs.Report.{begins_with_preface, first_limits}
+use Rattle.h2_show.specs.Report.{begins_with_preface, limits_of}
 use Rattle.h2_show.specs.Lines.{frame_line, list_lines, preface_line, fault_line, rest_line}
 use Rattle.h2_show.specs.Lines.{unfinished_line}
 
@@ -92,9 +91,9 @@ pub data Shows (expects : Bool) (limits : Limits) (stream : List ℕ) (status : 
 
 -- what `show` prints of the octets that an end sent
 -- rule: show (own) An input has one output: preface, frames, then how it ends
-abbrev pub ShowsOctets : Side → List ℕ → Status → (output : List ℕ) → Type 0
-ShowsOctets from octets status output =
-    Shows (begins_with_preface from) first_limits octets status output
+abbrev pub ShowsOctets : ShowOptions → List ℕ → Status → (output : List ℕ) → Type 0
+ShowsOctets options octets status output =
+    Shows (begins_with_preface options.from) (limits_of options) octets status output
 
 -- of an input: its octets, or those that it gives in hexadecimal
 -- rule: show (own) An input has one output: preface, frames, then how it ends
@@ -102,5 +101,5 @@ abbrev pub ShowsInput : ShowOptions → List ℕ → Status → (output : List �
 ShowsInput options given status output =
     MatchBool options.hex
     ((octets : List ℕ) × (decode_of (without_blanks given) ≡ Ok octets)
-    × ShowsOctets options.from octets status output)
-    (ShowsOctets options.from given status output)
+    × ShowsOctets options octets status output)
+    (ShowsOctets options given status output)

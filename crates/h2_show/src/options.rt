@@ -10,6 +10,8 @@ pub struct ShowOptions {
     pub hex: bool,
     /// The end that sent the octets.
     pub from: Side,
+    /// The most octets of a frame's payload (RFC 9113, section 4.2); a frame with more is a fault.
+    pub max_frame: u32,
 }
 
 /// An end of a connection.

@@ -14,7 +14,7 @@ ghost use Rattle.h2_show.specs.Viewer.{IsStreamFault};
 use crate::failure::Failure;
 use crate::hint::Hint;
 use crate::input::{PIECE, new_buffer, read_hex, read_some};
-use crate::options::{ShowOptions, Side};
+use crate::options::ShowOptions;
 use crate::status::Status;
 use crate::viewer::{ShowError, Viewer};
 use std::alloc::Global;
@@ -55,6 +55,7 @@ impl<W: Write> Write for Lent<'_, W> {
 
 // rule: show (own) The status is 0 only where the input is good to its end
 // contract: show (own) The status is 1 only where the stream is cut off or at fault
+// contract: show (own) The words choose the limit of payloads
 // contract: show (own) An input has one output: preface, frames, then how it ends
 // rule: show (own) An input has one output: preface, frames, then how it ends
 /// Shows the input: a line for each frame, the fields of a block under the frame that ends it, and
@@ -140,9 +141,9 @@ fn show_given<R: Read, W: Write + Drop>(
         printed)) }
 {
     if options.hex {
-        return show_hex(alloc, options.from, input, lines);
+        return show_hex(alloc, options, input, lines);
     }
-    match show_octets(alloc, options.from, input, lines) {
+    match show_octets(alloc, options, input, lines) {
         Ok(shown) => Ok(shown),
         Err(error) => Err(Failure::from(error)),
     }
@@ -152,19 +153,19 @@ fn show_given<R: Read, W: Write + Drop>(
 // Shows the octets that an end sent, as they come.
 fn show_octets<R: Read, W: Write + Drop>(
     alloc: Global,
-    from: Side,
+    options: ShowOptions,
     input: &mut R,
     lines: &mut BufWriter<W>,
 ) -> io::Result<Shown>
     ensures reports { IfOk result (λ shown. IfSome (R.remaining input.old)
-        (λ octets. StatusReportsOctets from octets shown.status)) }
+        (λ octets. StatusReportsOctets options octets shown.status)) }
     ensures shows { IfOk result (λ shown. IfSome (R.remaining input.old) (λ octets.
-        (printed : List ℕ) × ShowsOctets from octets shown.status printed
+        (printed : List ℕ) × ShowsOctets options octets shown.status printed
         × Appends (writer_contents W.contents lines.old) (writer_contents W.contents lines.new)
         printed)) }
 {
     let mut buffer = new_buffer(alloc)?;
-    let mut viewer = Viewer::new(alloc, from)?;
+    let mut viewer = Viewer::new(alloc, options.from, options.max_frame)?;
     show_pieces(&mut viewer, input, &mut buffer, lines)
 }
 
@@ -237,30 +238,35 @@ fn write_piece<W: Write + Drop>(
 // Shows octets in hexadecimal, whose text is read to its end first.
 fn show_hex<R: Read, W: Write>(
     alloc: Global,
-    from: Side,
+    options: ShowOptions,
     input: &mut R,
     out: &mut W,
 ) -> Result<Shown, Failure>
     ensures reports { IfOk result (λ shown. IfSome (R.remaining input.old)
-        (λ text. StatusReportsText from text shown.status)) }
+        (λ text. StatusReportsText options text shown.status)) }
     ensures shows { IfOk result (λ shown. IfSome (R.remaining input.old) (λ text.
-        (printed : List ℕ) × ShowsText from text shown.status printed
+        (printed : List ℕ) × ShowsText options text shown.status printed
         × Appends (W.contents out.old) (W.contents out.new) printed)) }
     ensures bad_hex { result ≡ Err Failure.BadHex → IfSome (R.remaining input.old) IsBadHex }
 {
     let octets = read_hex(alloc, input)?;
-    let shown = show_all(alloc, from, &octets, out)?;
+    let shown = show_all(alloc, options, &octets, out)?;
     Ok(shown)
 }
 
 // Shows the octets that an end sent, all at once.
-fn show_all<W: Write>(alloc: Global, from: Side, octets: &[u8], out: &mut W) -> io::Result<Shown>
-    ensures reports { IfOk result (λ shown. StatusReportsOctets from octets.now shown.status) }
+fn show_all<W: Write>(
+    alloc: Global,
+    options: ShowOptions,
+    octets: &[u8],
+    out: &mut W,
+) -> io::Result<Shown>
+    ensures reports { IfOk result (λ shown. StatusReportsOctets options octets.now shown.status) }
     ensures shows { IfOk result (λ shown. (printed : List ℕ)
-        × ShowsOctets from octets.now shown.status printed
+        × ShowsOctets options octets.now shown.status printed
         × Appends (W.contents out.old) (W.contents out.new) printed) }
 {
-    let mut viewer = Viewer::new(alloc, from)?;
+    let mut viewer = Viewer::new(alloc, options.from, options.max_frame)?;
     match viewer.show_piece(octets, out) {
         Ok(()) => {
             let status = viewer.show_end(out)?;

@@ -8,7 +8,7 @@ ghost use Rattle.h2_show.specs.Lines.{fault_line};
 ghost use Rattle.h2_show.specs.Printed.{due_line, error_lines, end_lines, ViewerShows};
 ghost use Rattle.h2_show.specs.Printed.{ViewerPrints};
 ghost use Rattle.h2_show.specs.Printed.{ViewerFailsWith};
-ghost use Rattle.h2_show.specs.Report.{begins_with_preface, first_limits};
+ghost use Rattle.h2_show.specs.Report.{begins_with_preface};
 ghost use Rattle.h2_show.specs.Viewer.{ViewerRepresents, ViewerContinues, ViewerFails};
 ghost use Rattle.h2_show.specs.Viewer.{IsStreamFault};
 ghost use Rattle.h2_show.specs.declared.viewer.ShowError.TheVariants.{Wire, Block, Output};
@@ -21,9 +21,6 @@ use h2_frame::Code;
 use h2_wire::{Cutter, WireFault};
 use std::alloc::{AllocError, Global};
 use std::io::{self, ErrorKind, Write};
-
-/// The limit of payloads before any SETTINGS (RFC 9113, section 6.5.2).
-const LIMIT: u32 = 16_384;
 
 /// Shows a stream of frames.
 #[derive(Debug, Drop)]
@@ -92,20 +89,21 @@ impl PrefaceLine {
 }
 
 impl Viewer {
-    /// Begins with the first octet that the end sent.
+    // rule: show (own) The words choose the limit of payloads
+    /// Begins with the first octet that the end sent. Payloads may have at most `max_frame` octets.
     ///
     /// # Errors
     ///
     /// [`AllocError`] when out of memory.
-    pub(crate) fn new(alloc: Global, from: Side) -> Result<Viewer, AllocError>
+    pub(crate) fn new(alloc: Global, from: Side, max_frame: u32) -> Result<Viewer, AllocError>
         ensures represents { IfOk result (λ viewer. ViewerRepresents viewer.cutter viewer.blocks
-            (begins_with_preface from) first_limits []) }
+            (begins_with_preface from) (λ _. max_frame) []) }
         ensures shows { IfOk result (λ viewer. ViewerShows viewer.cutter viewer.blocks
-            viewer.preface.is_due (begins_with_preface from) first_limits [] []) }
+            viewer.preface.is_due (begins_with_preface from) (λ _. max_frame) [] []) }
     {
         let expect_preface = from.begins_with_preface();
         Ok(Viewer {
-            cutter: Cutter::new(alloc, LIMIT, expect_preface),
+            cutter: Cutter::new(alloc, max_frame, expect_preface),
             blocks: Blocks::new(alloc)?,
             preface: PrefaceLine {
                 is_due: expect_preface,

@@ -8,6 +8,7 @@ use Rattle.h2_block.specs.Grouping.{Item, alone, block, Begun, fault_outside, fa
 use Rattle.h2_block.specs.Grouping.{next_fault, IsItem}
 use Rattle.h2_block.proofs.GroupLemmas.{step_items, step_begun, none_some}
 use Rattle.h2_block.proofs.RunLemmas.{Runs, Groups-runs}
+use Rattle.h2_block.proofs.RunLemmas.{item_runs as item_run}
 
 -- A frame without fault ends an item, or leaves a block that has begun.
 abbrev EndsOrLeaves : Option Begun → Frame → Type 0
@@ -141,18 +142,6 @@ one_run_to_item start item (frame ∷ first) (other ∷ second) more others
     ] in
     ap (λ (last : Frame). last ∷ first) (sym same)
     ∙ ap (λ (frames : List Frame). other ∷ frames) rest_same
-
--- An item is a run.
-item_run : (item : Item) (frames : List Frame) → IsItem item frames
-    → Runs None frames (item ∷ []) None
-item_run item frames is =
-    Groups-runs frames (item ∷ []) None (record {
-      complete = frames;
-      left = [];
-      joined = sym (append-nil frames);
-      grouped = (frames, [], sym (append-nil frames), is, refl);
-      unfinished = refl;
-    })
 
 -- Frames that begin with an item begin with it in one way.
 pub one_first_item : (item : Item) (first second more others : List Frame) → IsItem item first

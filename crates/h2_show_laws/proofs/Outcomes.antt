@@ -11,7 +11,7 @@ use Rattle.h2_wire.specs.Faults.{wire_fault_code}
 use Rattle.h2_wire.specs.Streams.{Limits, Frames, WireFaultAt}
 use Rattle.h2_wire.proofs.FaultLemmas.{one_reading_lem, one_fault_lem}
 use Rattle.h2_block.specs.Grouping.{Begun}
-use Rattle.h2_show.specs.declared.options.Side.{Side}
+use Rattle.h2_show.specs.declared.options.ShowOptions.{ShowOptions}
 use Rattle.h2_show.specs.declared.status.Status.{Status}
 use Rattle.h2_show.specs.declared.status.Status.TheVariants.{Good, Fault}
 use Rattle.h2_show.specs.Blocks.{FramesDecode, EndsWithBlockError}
@@ -19,12 +19,13 @@ use Rattle.h2_show.specs.Lines.{fault_line, rest_line, unfinished_line}
 use Rattle.h2_show.specs.Shown.{ShowsFrames, preface_lines, Shows, is_complete, ends_inside_frame}
 use Rattle.h2_show.specs.Shown.{ends_inside_block, has_wire_fault, has_block_error, ShowsOctets}
 use Rattle.h2_show.specs.Printed.{ShowsText}
-use Rattle.h2_show.specs.Report.{begins_with_preface, first_limits}
+use Rattle.h2_show.specs.Report.{begins_with_preface, limits_of}
 use Rattle.h2_stream_laws.proofs.LongerStreams.{longer_fault}
 use Rattle.h2_show_laws.proofs.ShownFrames.{one_showing, shown_frames_decode}
 use Rattle.h2_show_laws.proofs.BlockErrors.{error_stops, one_error}
 use Rattle.h2_show_laws.proofs.Reports.{no_reading_here, no_error_within}
-use Rattle.h2_show_laws.proofs.WrongFrames.{one_wrong_frame, one_place, some_frames}
+use Rattle.h2_show_laws.proofs.WrongFrames.{one_wrong_frame, one_place}
+use Rattle.h2_wire.proofs.ReadingLemmas.{some_frames}
 use Rattle.h2_show_laws.proofs.WrongFrames.{one_without_last}
 
 -- the status at the end of a stream without fault
@@ -306,18 +307,22 @@ one_output_lem expects limits stream status other output another shows again =
     (outcome expects limits stream other another again)
 
 -- An input has one output and one status, whether it is octets or hexadecimal.
-pub one_output_of_input : (hex : Bool) (from : Side) (given : List ℕ) (status other : Status)
-    (output another : List ℕ)
-    → MatchBool hex (ShowsText from given status output) (ShowsOctets from given status output)
-    → MatchBool hex (ShowsText from given other another) (ShowsOctets from given other another)
+pub one_output_of_input : (hex : Bool) (options : ShowOptions) (given : List ℕ)
+    (status other : Status) (output another : List ℕ)
+    → MatchBool hex (ShowsText options given status output)
+    (ShowsOctets options given status output)
+    → MatchBool hex (ShowsText options given other another)
+    (ShowsOctets options given other another)
     → (status ≡ other) × (output ≡ another)
-one_output_of_input false from given status other output another shows again =
-    one_output_lem (begins_with_preface from) first_limits given status other output another shows
-    again
-one_output_of_input true from given status other output another (octets, read, shows)
+one_output_of_input false options given status other output another shows again =
+    one_output_lem (begins_with_preface options.from) (limits_of options) given status other output
+    another shows again
+one_output_of_input true options given status other output another (octets, read, shows)
     (others, reread, again) =
     let decoded = sym read ∙ reread in
     let same : octets ≡ others = cc in
-    one_output_lem (begins_with_preface from) first_limits others status other output another
-    (subst (λ (some : List ℕ). Shows (begins_with_preface from) first_limits some status output)
-    same shows) again
+    one_output_lem (begins_with_preface options.from) (limits_of options) others status other output
+    another
+    (subst (λ (some : List ℕ).
+    Shows (begins_with_preface options.from) (limits_of options) some status output) same shows)
+    again

@@ -10,12 +10,12 @@ use Rattle.h2_wire.specs.Streams.{Limits, Frames, WireFaultAt}
 use Rattle.h2_wire.proofs.FaultLemmas.{one_reading_lem, no_reading}
 use Rattle.h2_block.specs.Grouping.{Begun}
 use Rattle.h2_block.proofs.RunLemmas.{one_grouping_lem}
-use Rattle.h2_show.specs.declared.options.Side.{Side}
+use Rattle.h2_show.specs.declared.options.ShowOptions.{ShowOptions}
 use Rattle.h2_show.specs.declared.status.Status.{Status}
 use Rattle.h2_show.specs.declared.status.Status.TheVariants.{Good, Fault}
 use Rattle.h2_show.specs.Blocks.{FramesDecode, EndsWithBlockError}
 use Rattle.h2_show.specs.Report.{StatusReports, IsComplete, IsAtFault, inside_frame, inside_block}
-use Rattle.h2_show.specs.Report.{wire_fault, block_error, begins_with_preface, first_limits}
+use Rattle.h2_show.specs.Report.{wire_fault, block_error, begins_with_preface, limits_of}
 use Rattle.h2_show.specs.Report.{StatusReportsOctets, StatusReportsText}
 use Rattle.h2_show.specs.Shown.{Shows, is_complete, ends_inside_frame, ends_inside_block}
 use Rattle.h2_show.specs.Shown.{has_wire_fault, has_block_error}
@@ -128,15 +128,16 @@ pub good_or_fault : (expects : Bool) (limits : Limits) (stream : List ℕ)
 good_or_fault expects limits stream good fault = complete_no_fault expects limits stream good fault
 
 -- An input that is complete is not at fault, whether it is octets or hexadecimal.
-pub good_or_fault_input : (hex : Bool) (from : Side) (given : List ℕ)
-    → MatchBool hex (StatusReportsText from given Good) (StatusReportsOctets from given Good)
-    → MatchBool hex (StatusReportsText from given Fault) (StatusReportsOctets from given Fault)
+pub good_or_fault_input : (hex : Bool) (options : ShowOptions) (given : List ℕ)
+    → MatchBool hex (StatusReportsText options given Good) (StatusReportsOctets options given Good)
+    → MatchBool hex (StatusReportsText options given Fault)
+    (StatusReportsOctets options given Fault)
     → ⊥
-good_or_fault_input false from given good fault =
-    complete_no_fault (begins_with_preface from) first_limits given good fault
-good_or_fault_input true from given (octets, read, good) (others, again, fault) =
+good_or_fault_input false options given good fault =
+    complete_no_fault (begins_with_preface options.from) (limits_of options) given good fault
+good_or_fault_input true options given (octets, read, good) (others, again, fault) =
     let decoded = sym read ∙ again in
     let same : octets ≡ others = cc in
-    complete_no_fault (begins_with_preface from) first_limits others
-    (subst (λ (some : List ℕ). IsComplete (begins_with_preface from) first_limits some) same good)
-    fault
+    complete_no_fault (begins_with_preface options.from) (limits_of options) others
+    (subst (λ (some : List ℕ).
+    IsComplete (begins_with_preface options.from) (limits_of options) some) same good) fault

@@ -11,28 +11,7 @@ use Rattle.h2_show.specs.Blocks.{first_table, show_table_limit, ItemsDecode, Fra
 use Rattle.h2_show.specs.Lines.{frame_line, list_lines}
 use Rattle.h2_show.specs.Shown.{AreShown, ShowsFrames}
 use Rattle.h2_show_laws.proofs.FirstItems.{one_first_item}
-
--- items that are shown are items
-shown_items : (table after : Entries) (items : List Item) (frames : List Frame) (lines : List ℕ)
-    → AreShown table items frames after lines → AreItems items frames
-shown_items table after [] frames lines (none, same, empty) = none
-shown_items table after (alone frame ∷ items) frames lines
-    (following, text, joined, is, all, shown) =
-    (frame ∷ [], following, joined, is, shown_items table after items following text shown)
-shown_items table after (block stream end octets ∷ items) frames lines
-    (first, following, text, fields, next, joined, is, decoded, all, shown) =
-    (first, following, joined, is, shown_items next after items following text shown)
-
--- items that are shown decode
-shown_decode : (table after : Entries) (items : List Item) (frames : List Frame) (lines : List ℕ)
-    → AreShown table items frames after lines → ItemsDecode table items after
-shown_decode table after [] frames lines (none, same, empty) = same
-shown_decode table after (alone frame ∷ items) frames lines
-    (following, text, joined, is, all, shown) =
-    shown_decode table after items following text shown
-shown_decode table after (block stream end octets ∷ items) frames lines
-    (first, following, text, fields, next, joined, is, decoded, all, shown) =
-    (fields, next, decoded, shown_decode next after items following text shown)
+use Rattle.h2_show.proofs.BlocksShown.{shown_decode, shown_items}
 
 -- frames that are shown group
 pub shown_group : (frames : List Frame) (begun : Option Begun) (lines : List ℕ)

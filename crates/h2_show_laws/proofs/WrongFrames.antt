@@ -14,11 +14,6 @@ use Rattle.h2_show.specs.Blocks.{FramesDecode, EndsWithBlockError}
 use Rattle.h2_stream_laws.proofs.LongerStreams.{longer_reading, one_part}
 use Rattle.h2_show_laws.proofs.BlockErrors.{error_stops}
 
--- frames with one more aren't none
-pub some_frames : (frames : List Frame) (last : Frame) → frames ++ last ∷ [] ≡ [] → ⊥
-some_frames [] last none = (cc)
-some_frames (frame ∷ frames) last none = (cc)
-
 -- where lists that are joined are none, the first is
 none_first : (frames following : List Frame) → [] ≡ frames ++ following → frames ≡ []
 none_first [] following none = refl

@@ -15,19 +15,8 @@ use Rattle.h2_machine.specs.Machine.{first_active, is_active_entry}
 use Rattle.h2_streams.specs.Table.{view_of_kept, kept_at, is_reset, IsKeptWell}
 use Rattle.h2_streams.specs.declared.table.Kept.{Kept}
 use Rattle.h2_streams.proofs.KeptEntries.{entry_at, get_kept}
-use Rattle.h2_streams.proofs.SortedEntries.{first_found, first_least}
+use Rattle.h2_machine.proofs.SortedEntries.{first_found, first_least, two_least}
 use Rattle.h2_streams.proofs.TableSteps.{streams}
-
--- Two numbers that are there just where the other is and no greater are the same.
-two_least : (m n : ℕ) → (m ≢ 0 → (n ≢ 0) × (n ≤ m)) → (n ≢ 0 → (m ≢ 0) × (m ≤ n)) → m ≡ n
-two_least zero zero one two = refl
-two_least (suc m) zero one two = absurd ((one (λ is. absurd (omega (arith, is)))).0 refl)
-two_least zero (suc n) one two = absurd ((two (λ is. absurd (omega (arith, is)))).0 refl)
-two_least (suc m) (suc n) one two = omega (
-  arith,
-  (one (λ is. absurd (omega (arith, is)))).1,
-  (two (λ is. absurd (omega (arith, is)))).1,
-)
 
 -- What is found and active is an active stream.
 kept_by : (send recv : ℕ) (b : Bool) (kept : Option Kept) (x : Entry)

@@ -19,7 +19,7 @@ use Rattle.h2_streams.specs.Table.{view_of_kept, kept_at, is_reset, IsKeptWell, 
 use Rattle.h2_streams.specs.Table.{IsGreatestOffset}
 use Rattle.h2_streams.specs.declared.table.Kept.{Kept}
 use Rattle.h2_streams.proofs.KeptEntries.{entry_at, get_kept}
-use Rattle.h2_streams.proofs.SortedEntries.{above_found, any_found}
+use Rattle.h2_machine.proofs.SortedEntries.{above_found, any_found, both_same}
 use Rattle.h2_streams.proofs.TableSteps.{streams}
 
 -- the greatest difference among the first of what is kept
@@ -170,12 +170,6 @@ greater_above : (send new : ℕ) (low high : ℤ) → low ≤ℤ high
     → is_above_by_shift send new (Some (low +ℤ pos send)) ≡ true
     → is_above_by_shift send new (Some (high +ℤ pos send)) ≡ true
 greater_above send new low high order above = grind (arith, ints)
-
--- Two tests that hold where the other does are the same.
-both_same : (a b : Bool) → (a ≡ true → b ≡ true) → (b ≡ true → a ≡ true) → a ≡ b
-both_same true b there back = sym (there refl)
-both_same false true there back = back refl
-both_same false false there back = refl
 
 -- A difference that is found is at most the greatest.
 found_low : (offset : ℤ) (x : Option Kept) (k : Kept) → x ≡ Some k

@@ -2,5 +2,4 @@ pub mod ActiveNumbers
 pub mod GreatestWindows
 pub mod KeptEntries
 pub mod Shifts
-pub mod SortedEntries
 pub mod TableSteps

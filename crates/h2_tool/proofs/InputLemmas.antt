@@ -5,7 +5,6 @@ use Rattle.std.specs.Io.KnownBytes.{Appends}
 use Rattle.h2_show.specs.declared.failure.Failure.{Failure}
 use Rattle.h2_show.specs.declared.failure.Failure.TheVariants as failures
 use Rattle.h2_show.specs.declared.options.ShowOptions.{ShowOptions}
-use Rattle.h2_show.specs.declared.options.Side.{Side}
 use Rattle.h2_show.specs.declared.status.Status.{Status}
 use Rattle.h2_show.specs.declared.status.Status.TheVariants.{Good, Fault, Usage, Device, Memory}
 use Rattle.h2_show.specs.Status.{failure_status}
@@ -19,10 +18,11 @@ use Rattle.h2_args.specs.Words.{ShowWordsGive, ReplayWordsGive}
 use Rattle.h2_tool.specs.Commands.{EndsShow, EndsReplay, RefusesShow, RefusesReplay}
 
 -- No input has the status of wrong words.
-no_usage : (hex : Bool) (from : Side) (given : List ℕ)
-    → MatchBool hex (StatusReportsText from given Usage) (StatusReportsOctets from given Usage) → ⊥
-no_usage true from given reports = reports.2
-no_usage false from given reports = reports
+no_usage : (hex : Bool) (options : ShowOptions) (given : List ℕ)
+    → MatchBool hex (StatusReportsText options given Usage)
+    (StatusReportsOctets options given Usage) → ⊥
+no_usage true options given reports = reports.2
+no_usage false options given reports = reports
 
 no_usage_replayed : (hex : Bool) (role : Role) (given : List ℕ)
     → MatchBool hex (ReplayReportsText role given Usage) (ReplayReportsOctets role given Usage) → ⊥
@@ -53,7 +53,7 @@ show_ends options words (Some given) left before after Fault asked reports shows
   printed = shows.2;
 }
 show_ends options words (Some given) left before after Usage asked reports shows =
-    absurd (no_usage options.hex options.from given reports)
+    absurd (no_usage options.hex options given reports)
 show_ends options words remaining left before after Device asked reports shows = tt
 show_ends options words remaining left before after Memory asked reports shows = tt
 

@@ -1,6 +1,6 @@
 -- What the steps of a call make of a buffer's state.
 use Rattle.std.proofs.Common.{◌≡◌, ◌≢◌, ℕ, ◌+◌, ◌-◌, ◌<◌, ◌≤◌, Bool, false, List, ◌++◌, length}
-use Rattle.std.proofs.Common.{take, drop}
+use Rattle.std.proofs.Common.{take, drop, [], ◌∷◌}
 use Rattle.std.proofs.Common.{Option, None, Some, MatchOption, Result, Ok, Err, refl, arith}
 use Rattle.std.proofs.Common.{length-append}
 use Rattle.std.proofs.Common.{length-take, length-drop}
@@ -18,8 +18,9 @@ use Rattle.h2_wire.specs.declared.buffer.Phase.TheVariants as phases
 use Rattle.h2_frame.specs.declared.heads.Head.{Head}
 use Rattle.h2_frame.specs.Heads.{head_of, head_fault}
 use Rattle.h2_frame.specs.Frames.{Frame, Encodes, payload_fault}
-use Rattle.h2_frame.proofs.HeadLemmas.{head_of-append, form_fault-head_fault}
-use Rattle.h2_wire.specs.Streams.{preface, BeginsWithPreface, Limits, IsAfterPreface, IsPartial}
+use Rattle.h2_frame.proofs.HeadLemmas.{head_of-append}
+use Rattle.h2_wire.specs.Streams.{preface, BeginsWithPreface, GoesPastPreface, Limits}
+use Rattle.h2_wire.specs.Streams.{IsAfterPreface, IsPartial}
 use Rattle.h2_wire.specs.Cutter.{CutterState, saturated, CutterRepresents, CutterFaults}
 use Rattle.h2_wire.specs.Cutter.{CutterFails, CutterPasses, CutterCompletes, octets_of}
 use Rattle.h2_wire.specs.declared.cut.Complete.{Complete}
@@ -74,7 +75,7 @@ keeps_piece old appended new piece start phase same changed items sound after ke
     rw changed (record {
       all = refl;
       continues = continues_partial (state_of old) _ piece old.octets.items start sound after
-          (ap (λ (b : Buffer). b.limit) same)
+          (ap (λ (b : Buffer). b.limit) same) (ap (λ (b : Buffer). b.greatest) same)
           (ap (λ (b : Buffer). saturated (b.place + length piece)) same) (kept ∙ items) opens;
     })
 
@@ -153,14 +154,14 @@ completes old kept new piece start missing_octets frame same changed items start
         complete = ap length items ∙ complete;
         is_head = prefix ∙ ap head_of (sym items);
         bounded = starts.bounded;
-        form = form_fault-head_fault frame.head old.limit starts.sound_head;
+        form = starts.form;
         sound = sound_payload;
       };
       none_unparsed = refl;
       continues = λ value encodes.
           completes_frame (state_of old) _ piece old.octets.items start missing_octets value refl
           refl
-          (ap (λ (b : Buffer). b.limit) same)
+          (ap (λ (b : Buffer). b.limit) same) (ap (λ (b : Buffer). b.greatest) same)
           (ap (λ (b : Buffer). saturated (b.place + (start + missing_octets))) same) all_within refl
           (λ expects limits stream so_far represented.
           let (past, sound_head) = starts.opens expects limits stream so_far represented in (
@@ -187,14 +188,20 @@ pub ends_frame : (old kept new : Buffer) (piece : List ℕ) (start missing_octet
     → BufferTakes (state_of old) piece result new
 ends_frame old kept new piece start missing_octets frame (Ok advance) same items starts counted
     enough (sound, answer, changed) =
+    let within_now : kept.limit ≤ kept.greatest =
+    rw (ap (λ (b : Buffer). b.limit) same, ap (λ (b : Buffer). b.greatest) same)
+    starts.invariant.within in
     rw answer (record {
-      invariant = rw changed tt;
+      invariant = rw changed (record { within = within_now; fits = tt });
       makes =
           completes old kept new piece start missing_octets frame same changed items starts counted
           enough sound;
     })
 ends_frame old kept new piece start missing_octets frame (Err fault) same items starts counted
     enough (code, faulty, is, changed) =
+    let within_now : kept.limit ≤ kept.greatest =
+    rw (ap (λ (b : Buffer). b.limit) same, ap (λ (b : Buffer). b.greatest) same)
+    starts.invariant.within in
     let following : List ℕ = drop start piece in
     let complete : length (old.octets.items ++ take missing_octets following)
     ≡ 9 + frame.head.length =
@@ -204,11 +211,11 @@ ends_frame old kept new piece start missing_octets frame (Err fault) same items 
     ∙ complete_head old.octets.items following missing_octets (omega (arith, complete)) in
     let within : start ≤ length piece = starts.within in
     record {
-      invariant = rw changed tt;
+      invariant = rw changed (record { within = within_now; fits = tt });
       makes = rw (is, changed, is)
           (fails_payload (state_of old) piece code _ starts.sound
           (fails_at (state_of old) _ piece (faults.PayloadFault code) (start + missing_octets)
-          refl refl refl (ap (λ (b : Buffer). b.limit) same)
+          refl refl refl (ap (λ (b : Buffer). b.limit) same) (ap (λ (b : Buffer). b.greatest) same)
           (omega (arith, enough, within, length-drop start piece))
           (ap (λ (b : Buffer). saturated (b.place + (start + missing_octets))) same)
           (wrong_payload (state_of old) piece old.octets.items start missing_octets frame.head code
@@ -219,7 +226,7 @@ ends_frame old kept new piece start missing_octets frame (Err fault) same items 
 pub starts_head : (buffer : Buffer) (piece : List ℕ) → buffer.phase ≡ phases.Head
     → BufferInvariant buffer → StartsFrame buffer piece 0
 starts_head buffer piece is invariant =
-    let few : length buffer.octets.items < 9 = rw is at invariant in
+    let few : length buffer.octets.items < 9 = rw is at invariant.fits in
     let sound : fault_of buffer.phase ≡ None = rw is refl in
     let after : is_in_preface buffer.phase ≡ false = rw is refl in
     let unparsed : unparsed_of buffer.phase buffer.octets.items ≡ buffer.octets.items =
@@ -239,7 +246,8 @@ pub starts_payload : (buffer : Buffer) (piece : List ℕ) (head : Head)
     → buffer.phase ≡ phases.Payload head
     → BufferInvariant buffer → StartsPayload buffer piece 0 head
 starts_payload buffer piece head is invariant =
-    let kept : IsPartialPayload buffer.limit head buffer.octets.items = rw is at invariant in
+    let kept : IsPartialPayload buffer.greatest head buffer.octets.items =
+    rw is at invariant.fits in
     let sound : fault_of buffer.phase ≡ None = rw is refl in
     let after : is_in_preface buffer.phase ≡ false = rw is refl in
     let unparsed : unparsed_of buffer.phase buffer.octets.items ≡ buffer.octets.items =
@@ -255,7 +263,8 @@ starts_payload buffer piece head is invariant =
       nine = omega (arith, nine);
       is_head = is_head;
       bounded = kept.bounded;
-      sound_head = kept.sound;
+      form = kept.form;
+      within_greatest = kept.within;
       opens = λ expects limits stream so_far represented.
           let past =
           rw unparsed at (opens_past
@@ -279,6 +288,23 @@ begins_with_preface matched count unparsed piece kept same = record {
       ∙ ap (λ (octets : List ℕ). take matched preface ++ octets) same
       ∙ take-append-drop matched preface);
 }
+
+some_octets : (octets : List ℕ) → octets ≢ [] → 0 < length octets
+some_octets [] some = absurd (some refl)
+some_octets (octet ∷ octets) some = omega arith
+
+-- Where octets follow those that complete it, they go past it.
+pub goes_past_preface : (matched count : ℕ) (unparsed piece : List ℕ)
+    → unparsed ≡ take matched preface → take count piece ≡ drop matched preface
+    → drop count piece ≢ [] → GoesPastPreface (unparsed ++ piece)
+unfolding begins_with_preface
+goes_past_preface matched count unparsed piece kept same some =
+    let begins = begins_with_preface matched count unparsed piece kept same in
+    let long : length (unparsed ++ piece) ≡ length preface + length (drop count piece) =
+    ap length begins.joined ∙ length-append preface (drop count piece) in (
+      begins,
+      rw long (omega (arith, some_octets (drop count piece) some)),
+    )
 
 -- what follows the preface, where so many octets of a piece complete it
 pub follows_preface : (matched count : ℕ) (piece : List ℕ) → matched + count ≡ 24

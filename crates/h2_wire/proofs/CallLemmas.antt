@@ -18,15 +18,17 @@ saturated-add count more = omega arith
 -- it used.
 pub continues_after : (old new : CutterState) (used : List ℕ) (frames : List Frame)
     → new.fault ≡ None → new.in_preface ≡ false → new.limit ≡ old.limit
+    → new.greatest ≡ old.greatest
     → new.place ≡ saturated (old.place + length used)
     → ((expects : Bool) (limits : Limits) (stream : List ℕ) (so_far : List Frame)
     → CutterRepresents old expects limits stream so_far
     → IsAfterPreface expects limits (stream ++ used) (so_far ++ frames) new.unparsed)
     → CutterContinues old used frames new
 unfolding preface
-continues_after old new used frames sound in_preface limit place past = record {
+continues_after old new used frames sound in_preface limit greatest place past = record {
   sound = sound;
   same_limit = limit;
+  same_greatest = greatest;
   represents = λ expects limits stream so_far represented. record {
     sound = sound;
     split = inr (past expects limits stream so_far represented);
@@ -43,17 +45,18 @@ continues_after old new used frames sound in_preface limit place past = record {
 -- A call fails where some octets of the piece make the fault.
 pub fails_at : (old new : CutterState) (piece : List ℕ) (fault : WireFault) (used : ℕ)
     → new.fault ≡ Some fault → new.unparsed ≡ [] → new.in_preface ≡ is_bad_preface fault
-    → new.limit ≡ old.limit
+    → new.limit ≡ old.limit → new.greatest ≡ old.greatest
     → used ≤ length piece → new.place ≡ saturated (old.place + used)
     → ((expects : Bool) (limits : Limits) (stream : List ℕ) (so_far : List Frame)
     → CutterRepresents old expects limits stream so_far
     → EndsWithFault expects limits so_far (stream ++ take used piece) fault)
     → CutterFaults old piece fault new
-fails_at old new piece fault used known nothing inside limit within place made = record {
+fails_at old new piece fault used known nothing inside limit greatest within place made = record {
   known = known;
   none_unparsed = nothing;
   in_preface = inside;
   same_limit = limit;
+  same_greatest = greatest;
   at = λ expects limits stream so_far represented. (
     length stream + used,
     record {

@@ -88,6 +88,7 @@ memory_again A B Known fault known refused =
 pub represents_empty : (expects : Bool) (limit : ℕ)
     → CutterRepresents (record {
       limit = limit;
+      greatest = limit;
       in_preface = expects;
       unparsed = [];
       kept = [];

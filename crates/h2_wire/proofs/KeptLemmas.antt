@@ -35,6 +35,7 @@ continues : (state : CutterState) (kept used : List ℕ) (frames : List Frame) (
 continues state kept used frames new after = record {
   sound = after.sound;
   same_limit = after.same_limit;
+  same_greatest = after.same_greatest;
   represents = λ expects limits stream so_far before.
       after.represents expects limits stream so_far
       (represents state kept expects limits stream so_far before);
@@ -47,6 +48,7 @@ faults_now state kept piece fault new after = record {
   none_unparsed = after.none_unparsed;
   in_preface = after.in_preface;
   same_limit = after.same_limit;
+  same_greatest = after.same_greatest;
   at = λ expects limits stream so_far before.
       after.at expects limits stream so_far
       (represents state kept expects limits stream so_far before);

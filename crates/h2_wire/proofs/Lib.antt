@@ -3,6 +3,7 @@ pub mod BufferLemmas
 pub mod CallLemmas
 pub mod ReadingLemmas
 pub mod CutLemmas
+pub mod LimitLemmas
 pub mod FaultLemmas
 pub mod StepLemmas
 pub mod KeptLemmas

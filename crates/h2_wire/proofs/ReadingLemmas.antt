@@ -10,6 +10,11 @@ use Rattle.h2_frame.proofs.FrameLemmas.{one_frame_lem}
 use Rattle.h2_frame.proofs.HeadLemmas.{head_of-append}
 use Rattle.h2_wire.specs.Streams.{expected_preface, Limits, IsFrame, AreFrames, IsSound, IsPartial}
 
+-- Frames with one more are some.
+pub some_frames : (frames : List Frame) (last : Frame) → frames ++ last ∷ [] ≡ [] → ⊥
+some_frames [] last none = cc
+some_frames (frame ∷ frames) last none = cc
+
 -- none is no code
 pub none_some : {Goal : Type 0} (code : Code) → ◌≡◌ {A = Option Code} None (Some code) → Goal
 none_some code e = (cc)

@@ -86,15 +86,17 @@ opens_first state matched used in_preface unparsed same expects limits stream so
 -- The preface continues, and isn't complete yet.
 pub continues_preface : (old new : CutterState) (matched : ℕ) (used : List ℕ) → new.fault ≡ None
     → old.in_preface ≡ true → new.in_preface ≡ true
-    → new.limit ≡ old.limit → new.place ≡ saturated (old.place + length used)
+    → new.limit ≡ old.limit → new.greatest ≡ old.greatest
+    → new.place ≡ saturated (old.place + length used)
     → old.unparsed ≡ take matched preface → matched + length used < 24
     → used ≡ take (length used) (drop matched preface)
     → new.unparsed ≡ take (matched + length used) preface → CutterContinues old used [] new
 unfolding preface expected_preface
-continues_preface old new matched used sound in_preface after limit place unparsed few same
+continues_preface old new matched used sound in_preface after limit greatest place unparsed few same
     new_unparsed = record {
       sound = sound;
       same_limit = limit;
+      same_greatest = greatest;
       represents = λ expects limits stream so_far represented.
           let (asked, none, all) =
           matched_stream old expects limits stream so_far in_preface represented in
@@ -177,14 +179,15 @@ piece_in_two stream piece start =
 -- A frame continues to the piece's end, and isn't complete.
 pub continues_partial : (old new : CutterState) (piece partial : List ℕ) (start : ℕ)
     → new.fault ≡ None → new.in_preface ≡ false → new.limit ≡ old.limit
+    → new.greatest ≡ old.greatest
     → new.place ≡ saturated (old.place + length piece) → new.unparsed ≡ partial ++ drop start piece
     → ((expects : Bool) (limits : Limits) (stream : List ℕ) (so_far : List Frame)
     → CutterRepresents old expects limits stream so_far
     → (past : IsAfterPreface expects limits (stream ++ take start piece) so_far partial)
     × IsPartial (limits (length past.part + 9)) (partial ++ drop start piece))
     → CutterContinues old piece [] new
-continues_partial old new piece partial start sound in_preface limit place unparsed opens =
-    continues_after old new piece [] sound in_preface limit place
+continues_partial old new piece partial start sound in_preface limit greatest place unparsed opens =
+    continues_after old new piece [] sound in_preface limit greatest place
     (λ expects limits stream so_far represented.
     let (past, fits) = opens expects limits stream so_far represented in
     rw (piece_in_two stream piece start, append-nil so_far, unparsed)
@@ -194,6 +197,7 @@ continues_partial old new piece partial start sound in_preface limit place unpar
 -- A frame is complete.
 pub completes_frame : (old new : CutterState) (piece partial : List ℕ) (start missing_octets : ℕ)
     (frame : Frame) → new.fault ≡ None → new.in_preface ≡ false → new.limit ≡ old.limit
+    → new.greatest ≡ old.greatest
     → new.place ≡ saturated (old.place + (start + missing_octets))
     → start + missing_octets ≤ length piece → new.unparsed ≡ []
     → ((expects : Bool) (limits : Limits) (stream : List ℕ) (so_far : List Frame)
@@ -202,12 +206,12 @@ pub completes_frame : (old new : CutterState) (piece partial : List ℕ) (start 
     × IsFrame (limits (length past.part + 9)) frame
     (partial ++ take missing_octets (drop start piece)))
     → CutterContinues old (take (start + missing_octets) piece) (frame ∷ []) new
-completes_frame old new piece partial start missing_octets frame sound in_preface limit place within
-    unparsed opens =
+completes_frame old new piece partial start missing_octets frame sound in_preface limit greatest
+    place within unparsed opens =
     let counted : length (take (start + missing_octets) piece) ≡ start + missing_octets =
     length-take (start + missing_octets) piece ∙ omega arith in
     continues_after old new (take (start + missing_octets) piece)
-    (frame ∷ []) sound in_preface limit (place
+    (frame ∷ []) sound in_preface limit greatest (place
     ∙ ap (λ (n : ℕ). saturated (old.place + n)) (sym counted))
     (λ expects limits stream so_far represented.
     let (past, complete) = opens expects limits stream so_far represented in

@@ -2,7 +2,7 @@
 use Rattle.std.specs.Prelude.{◌≡◌, ℕ, ◌+◌, ◌^◌, ◌<◌, ◌≤◌, Bool, true, false, List, [], length, take}
 use Rattle.std.specs.Prelude.{Option, None, Some}
 use Rattle.h2_frame.specs.declared.heads.Head.{Head}
-use Rattle.h2_frame.specs.Heads.{head_of, head_fault}
+use Rattle.h2_frame.specs.Heads.{head_of, form_fault}
 use Rattle.h2_wire.specs.declared.fault.WireFault.{WireFault}
 use Rattle.h2_wire.specs.declared.buffer.Buffer.{Buffer}
 use Rattle.h2_wire.specs.declared.buffer.Phase.{Phase}
@@ -41,6 +41,7 @@ abbrev pub state_of : Buffer → CutterState
 state_of buffer =
     record {
       limit = buffer.limit;
+      greatest = buffer.greatest;
       in_preface = is_in_preface buffer.phase;
       unparsed = unparsed_of buffer.phase buffer.octets.items;
       kept = buffer.octets.items;
@@ -48,22 +49,25 @@ state_of buffer =
       fault = fault_of buffer.phase;
     }
 
--- The octets begin with this head, which has no fault, and are less than its frame.
-pub record IsPartialPayload (limit : ℕ) (head : Head) (octets : List ℕ) : Type 0 where
+-- The octets begin with this head, which has no fault of its form and a length of at most the
+-- greatest limit, and are less than its frame. The limit may have been lowered since the head came.
+pub record IsPartialPayload (greatest : ℕ) (head : Head) (octets : List ℕ) : Type 0 where
   pub nine : 9 ≤ length octets
   pub is_head : head ≡ head_of octets
   pub bounded : head.length < 2 ^ 24
-  pub sound : head_fault head limit ≡ None
+  pub form : form_fault head ≡ None
+  pub within : head.length ≤ greatest
   pub short : length octets < 9 + head.length
 
--- the octets that are kept fit the phase
+-- the octets that are kept fit the phase, where the limits of payloads had this as the greatest
 abbrev pub FitsPhase : ℕ → Phase → List ℕ → Type 0
-FitsPhase limit (phases.Preface matched) octets = (matched < 24) × (octets ≡ [])
-FitsPhase limit phases.Head octets = length octets < 9
-FitsPhase limit (phases.Payload head) octets = IsPartialPayload limit head octets
-FitsPhase limit phases.Lent octets = Unit {0}
-FitsPhase limit (phases.Failed fault) octets = Unit {0}
+FitsPhase greatest (phases.Preface matched) octets = (matched < 24) × (octets ≡ [])
+FitsPhase greatest phases.Head octets = length octets < 9
+FitsPhase greatest (phases.Payload head) octets = IsPartialPayload greatest head octets
+FitsPhase greatest phases.Lent octets = Unit {0}
+FitsPhase greatest (phases.Failed fault) octets = Unit {0}
 
 -- what is true of a buffer between calls
-abbrev pub BufferInvariant : Buffer → Type 0
-BufferInvariant buffer = FitsPhase buffer.limit buffer.phase buffer.octets.items
+pub record BufferInvariant (buffer : Buffer) : Type 0 where
+  pub within : buffer.limit ≤ buffer.greatest
+  pub fits : FitsPhase buffer.greatest buffer.phase buffer.octets.items

@@ -1,7 +1,8 @@
 -- What a cutter is between calls, and what each call makes of it, whatever the stream has been so
 -- far.
 -- contract: h2_wire::Cutter::cut
-use Rattle.std.specs.Prelude.{◌≡◌, ℕ, ◌+◌, ◌-◌, ◌^◌, ◌<◌, min, nat_lt, ◌&&◌, Bool, List, [], ◌∷◌}
+use Rattle.std.specs.Prelude.{◌≡◌, ℕ, ◌+◌, ◌-◌, ◌^◌, ◌<◌, min, max, nat_lt, nat_le, ◌&&◌, Bool}
+use Rattle.std.specs.Prelude.{List, [], ◌∷◌}
 use Rattle.std.specs.Prelude.{◌++◌, length, take, drop, Option, None, Some, MatchOption, IsSome}
 use Rattle.std.specs.Prelude.{Result, Ok, Err, true, false, ◌≤◌, if◌then◌else◌}
 use Rattle.h2_frame.specs.declared.code.Code.{Code}
@@ -22,6 +23,8 @@ use Rattle.h2_wire.specs.Streams.{Limits, Frames, WireFaultAt, preface, BeginsWi
 pub record CutterState : Type 0 where
   -- the limit of payloads for heads to come
   pub limit : ℕ
+  -- the greatest limit of payloads that it has had
+  pub greatest : ℕ
   -- whether the preface is expected and not complete yet
   pub in_preface : Bool
   -- what was used and isn't part of a frame that was answered
@@ -59,6 +62,7 @@ pub record CutterContinues (old : CutterState) (used : List ℕ) (frames : List 
     (new : CutterState) : Type 0 where
   pub sound : new.fault ≡ None
   pub same_limit : new.limit ≡ old.limit
+  pub same_greatest : new.greatest ≡ old.greatest
   pub represents : (expects : Bool) (limits : Limits) (stream : List ℕ) (so_far : List Frame)
       → CutterRepresents old expects limits stream so_far
       → CutterRepresents new expects limits (stream ++ used) (so_far ++ frames)
@@ -73,10 +77,24 @@ pub record CutterFaults (old : CutterState) (piece : List ℕ) (fault : WireFaul
   pub none_unparsed : new.unparsed ≡ []
   pub in_preface : new.in_preface ≡ is_bad_preface fault
   pub same_limit : new.limit ≡ old.limit
+  pub same_greatest : new.greatest ≡ old.greatest
   pub at : (expects : Bool) (limits : Limits) (stream : List ℕ) (so_far : List Frame)
       → CutterRepresents old expects limits stream so_far
       → (place : ℕ) × WireFaultAt expects limits (stream ++ piece) so_far place fault
       × (new.place ≡ saturated place)
+
+-- After its limit was set the cutter has this limit, and is otherwise as before: if it represented
+-- `stream` with these limits, it now represents it with limits that are the same for the octets of
+-- `stream`, and this one for those that follow. So a head is checked by the limit that is in force
+-- at its ninth octet (sections 4.2 and 6.5.2).
+-- contract: h2_wire::Cutter::set_limit
+-- rule: 4.2 (own) A cutter's limit is changed for heads that are still to come
+pub record CutterLimited (old : CutterState) (limit : ℕ) (new : CutterState) : Type 0 where
+  pub same : new ≡ record old { limit = limit; greatest = max old.greatest limit }
+  pub represents : (expects : Bool) (limits : Limits) (stream : List ℕ) (frames : List Frame)
+      → CutterRepresents old expects limits stream frames
+      → CutterRepresents new expects
+      (λ place. if nat_le place (length stream) then limits place else limit) stream frames
 
 -- These octets begin with a head with this fault.
 -- rule: 4.2 A fault of a head is known at its ninth octet, whatever memory is

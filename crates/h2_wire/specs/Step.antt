@@ -3,7 +3,7 @@ use Rattle.std.specs.Prelude.{◌≡◌, ℕ, ◌+◌, ◌^◌, ◌<◌, ◌≤�
 use Rattle.std.specs.Prelude.{None, Some, Result, Ok, Err}
 use Rattle.h2_frame.specs.declared.code.Code.{Code}
 use Rattle.h2_frame.specs.declared.heads.Head.{Head}
-use Rattle.h2_frame.specs.Heads.{head_of, head_fault}
+use Rattle.h2_frame.specs.Heads.{head_of, form_fault, head_fault}
 use Rattle.h2_frame.specs.Frames.{Frame, payload_fault}
 use Rattle.h2_wire.specs.declared.fault.WireFault.{WireFault}
 use Rattle.h2_wire.specs.declared.fault.WireFault.TheVariants as faults
@@ -40,7 +40,7 @@ pub record StartsFrame (old : Buffer) (piece : List ℕ) (start : ℕ) : Type 0 
   pub opens : Opens (state_of old) (take start piece) old.octets.items
 
 -- After so many octets of the piece a frame begins, or continues what is kept of it; its head is
--- this one, which has no fault.
+-- this one, which had no fault by the limit at its ninth octet.
 pub record StartsPayload (old : Buffer) (piece : List ℕ) (start : ℕ) (head : Head) : Type 0 where
   pub invariant : BufferInvariant old
   pub sound : (state_of old).fault ≡ None
@@ -49,7 +49,8 @@ pub record StartsPayload (old : Buffer) (piece : List ℕ) (start : ℕ) (head :
   pub nine : 9 ≤ length old.octets.items + length (drop start piece)
   pub is_head : head ≡ head_of (old.octets.items ++ drop start piece)
   pub bounded : head.length < 2 ^ 24
-  pub sound_head : head_fault head old.limit ≡ None
+  pub form : form_fault head ≡ None
+  pub within_greatest : head.length ≤ old.greatest
   pub opens : OpensSoundly (state_of old) (take start piece) old.octets.items head
 
 -- The frame is complete with so many octets of the piece, or its payload is at fault.

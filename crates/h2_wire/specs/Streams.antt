@@ -23,6 +23,11 @@ pub record BeginsWithPreface (octets : List ℕ) : Type 0 where
   pub following : List ℕ
   pub joined : octets ≡ preface ++ following
 
+-- The octets begin with the preface, and more follow it.
+-- rule: 3.4 (own) No octet of the preface is stored, so memory is not refused in it
+abbrev pub GoesPastPreface : List ℕ → Type 0
+GoesPastPreface octets = BeginsWithPreface octets × (length preface < length octets)
+
 -- what precedes the first frame: the preface, where one is expected
 -- rule: 3.4 A server sends frames at once, without a preface
 unfoldable pub expected_preface : Bool → List ℕ

@@ -6,11 +6,11 @@ ghost use Rattle.std.specs.Prelude.{IfNone, IfErr, OnOk, IsOk, None, Some, not, 
 ghost use Rattle.h2_frame.specs.declared.code.Code.{Code as AnyCode};
 ghost use Rattle.h2_frame.specs.Heads.{head_of, form_fault};
 ghost use Rattle.h2_wire.specs.Cutter.{saturated, IsFaultyHead, FaultsAtHead, BeginsWithFrame};
-ghost use Rattle.h2_wire.specs.Cutter.{octets_of};
+ghost use Rattle.h2_wire.specs.Cutter.{CutterLimited, octets_of};
 ghost use Rattle.h2_wire.specs.Buffer.{state_of, fault_of, is_in_preface, unparsed_of};
 ghost use Rattle.h2_wire.specs.Buffer.{BufferInvariant};
 ghost use Rattle.h2_wire.specs.Step.{BufferTakes, StartsFrame, StartsPayload, EndsFrame};
-ghost use Rattle.h2_wire.specs.Streams.{preface, BeginsWithPreface};
+ghost use Rattle.h2_wire.specs.Streams.{preface, BeginsWithPreface, GoesPastPreface};
 
 use crate::cut::{Advance, Complete, Source};
 use crate::fault::WireFault;
@@ -28,7 +28,7 @@ pub(crate) enum Phase {
     Preface(usize),
     /// What is missing of a head.
     Head,
-    /// What is missing of a payload after this head, which has no fault.
+    /// What is missing of a payload after this head, which had no fault when it came.
     Payload(Head),
     /// A head; octets that are kept are those of the frame that was answered last.
     Lent,
@@ -39,8 +39,10 @@ pub(crate) enum Phase {
 /// What a cutter keeps between calls.
 #[derive(Debug, Drop)]
 pub(crate) struct Buffer {
-    /// The limit of payloads.
+    /// The limit of payloads, for heads to come.
     pub(crate) limit: u32,
+    /// The greatest limit so far.
+    pub(crate) greatest: u32,
     /// What is expected next.
     pub(crate) phase: Phase,
     /// The octets of the frame that has begun, or of the one that was answered last if it was cut
@@ -55,6 +57,7 @@ impl Buffer {
     pub(crate) fn new(alloc: Global, limit: u32, expect_preface: bool) -> Buffer
         ensures state { state_of result ≡ record {
           limit = limit;
+          greatest = limit;
           in_preface = expect_preface;
           unparsed = [];
           kept = [];
@@ -65,6 +68,7 @@ impl Buffer {
     {
         Buffer {
             limit,
+            greatest: limit,
             phase: if expect_preface {
                 Phase::Preface(0)
             } else {
@@ -82,7 +86,7 @@ impl Buffer {
         ensures checked { (code : AnyCode) → FaultsAtHead (state_of self.old) piece.now code
             → result ≡ Err (WireFault.HeadFault code) }
         ensures preface { is_in_preface self.old.phase ≡ true → result ≡ Err WireFault.Memory
-            → BeginsWithPreface (unparsed_of self.old.phase self.old.octets.items ++ piece.now) }
+            → GoesPastPreface (unparsed_of self.old.phase self.old.octets.items ++ piece.now) }
         ensures lent { BeginsWithFrame (state_of self.old) piece.now
             → result ≢ Err WireFault.Memory }
         ensures none { fault_of self.old.phase ≡ None → piece.now ≡ []
@@ -101,12 +105,23 @@ impl Buffer {
         }
     }
 
+    // rule: 4.2 (own) A cutter's limit is changed for heads that are still to come
+    /// Sets the limit of payloads. A head that was checked isn't checked again.
+    pub(crate) fn set_limit(&mut self, limit: u32)
+        requires { BufferInvariant self.old }
+        ensures invariant { BufferInvariant self.new }
+        ensures limited { CutterLimited (state_of self.old) limit (state_of self.new) }
+    {
+        self.limit = limit;
+        self.greatest = self.greatest.max(limit);
+    }
+
     /// How many octets of a preface or a frame that isn't complete were used.
     pub(crate) fn unparsed_len(&self) -> usize
         requires { BufferInvariant self.now }
         ensures value { result ≡ length (unparsed_of self.now.phase self.now.octets.items) }
         ensures preface { is_in_preface self.now.phase ≡ true → result ≤ 24 }
-        ensures frame { is_in_preface self.now.phase ≡ false → result ≤ 9 + self.now.limit }
+        ensures frame { is_in_preface self.now.phase ≡ false → result ≤ 9 + self.now.greatest }
     {
         match self.phase {
             Phase::Preface(matched) => matched,
@@ -151,7 +166,7 @@ impl Buffer {
             → IsFaultyHead (drop (length preface) (take matched preface ++ piece.now))
             self.old.limit code → result ≡ Err (WireFault.HeadFault code) }
         ensures preface { result ≡ Err WireFault.Memory
-            → BeginsWithPreface (unparsed_of self.old.phase self.old.octets.items ++ piece.now) }
+            → GoesPastPreface (unparsed_of self.old.phase self.old.octets.items ++ piece.now) }
         ensures lent { BeginsWithPreface (take matched preface ++ piece.now)
             → 9 ≤ length (drop (length preface) (take matched preface ++ piece.now))
             → 9 + (head_of (drop (length preface) (take matched preface ++ piece.now))).length
@@ -184,7 +199,7 @@ impl Buffer {
         ensures lent { self.old.octets.items ≡ [] → 9 ≤ length (drop start piece.now)
             → 9 + (head_of (drop start piece.now)).length ≤ length (drop start piece.now)
             → result ≢ Err WireFault.Memory }
-        ensures none { piece.now ≡ [] → result ≢ Err WireFault.Memory }
+        ensures none { drop start piece.now ≡ [] → result ≢ Err WireFault.Memory }
         ensures takes { BufferTakes (state_of self.old) piece.now result self.new }
     {
         let following = &piece[start..];
@@ -205,12 +220,13 @@ impl Buffer {
     }
 
     // rule: 4.1 The frames of a stream do not depend on the pieces of its octets
-    // The head has no fault, and its frame begins or continues after so many octets of the piece.
+    // The head had no fault when it came, and its frame begins or continues after so many octets of
+    // the piece.
     fn take_payload(&mut self, piece: &[u8], start: usize, head: Head) -> Result<Advance, WireFault>
         requires starts { StartsPayload self.old piece.now start head }
         ensures lent { self.old.octets.items ≡ []
             → 9 + head.length ≤ length (drop start piece.now) → result ≢ Err WireFault.Memory }
-        ensures none { piece.now ≡ [] → result ≢ Err WireFault.Memory }
+        ensures none { drop start piece.now ≡ [] → result ≢ Err WireFault.Memory }
         ensures takes { BufferTakes (state_of self.old) piece.now result self.new }
     {
         let following = &piece[start..];

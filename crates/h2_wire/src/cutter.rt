@@ -9,8 +9,8 @@ ghost use Rattle.h2_frame.specs.declared.code.Code.{Code};
 ghost use Rattle.h2_frame.specs.Frames.{frame_of, Encodes};
 ghost use Rattle.h2_frame.specs.Encoding.{refusal};
 ghost use Rattle.h2_wire.specs.Cutter.{CutterRepresents, Cuts, FaultsAtHead, BeginsWithFrame};
-ghost use Rattle.h2_wire.specs.Cutter.{HasFrame, Advances, octets_of};
-ghost use Rattle.h2_wire.specs.Streams.{BeginsWithPreface};
+ghost use Rattle.h2_wire.specs.Cutter.{CutterLimited, HasFrame, Advances, octets_of};
+ghost use Rattle.h2_wire.specs.Streams.{GoesPastPreface};
 ghost use Rattle.h2_wire.specs.contracts.cutter.Cutter.{the_row};
 
 use crate::buffer::Buffer;
@@ -39,11 +39,12 @@ impl Model for Cutter {
 
 impl Cutter {
     // contract: 3.4 A server sends frames at once, without a preface
-    /// A cutter that has used nothing. Payloads may have at most `limit` octets, and where
-    /// `expect_preface` is set, the stream begins with the client's preface (RFC 9113, section
-    /// 3.4).
+    /// A cutter that has used nothing. Payloads may have at most `limit` octets, until
+    /// [`Cutter::set_limit`] sets another limit, and where `expect_preface` is set, the stream
+    /// begins with the client's preface (RFC 9113, section 3.4).
     pub fn new(alloc: Global, limit: u32, expect_preface: bool) -> Cutter
         ensures limit { result.limit ≡ limit }
+        ensures greatest { result.greatest ≡ limit }
 
         // It represents the stream of which nothing has come.
         ensures represents { CutterRepresents result expect_preface (λ _. limit) [] [] }
@@ -75,9 +76,9 @@ impl Cutter {
         ensures checked { (code : Code) → FaultsAtHead self.old piece.now code
             → result ≡ Err (WireFault.HeadFault code) }
 
-        // Memory is refused inside the preface only where the piece completes it.
+        // Memory is refused inside the preface only where more than its octets has come.
         ensures preface { self.old.in_preface ≡ true → result ≡ Err WireFault.Memory
-            → BeginsWithPreface (self.old.unparsed ++ piece.now) }
+            → GoesPastPreface (self.old.unparsed ++ piece.now) }
 
         // A frame that isn't cut in two needs no memory.
         ensures lent { BeginsWithFrame self.old piece.now → result ≢ Err WireFault.Memory }
@@ -140,9 +141,9 @@ impl Cutter {
         ensures checked { (code : Code) → FaultsAtHead self.old piece.now code
             → result ≡ Err (WireFault.HeadFault code) }
 
-        // Memory is refused inside the preface only where the piece completes it.
+        // Memory is refused inside the preface only where more than its octets has come.
         ensures preface { self.old.in_preface ≡ true → result ≡ Err WireFault.Memory
-            → BeginsWithPreface (self.old.unparsed ++ piece.now) }
+            → GoesPastPreface (self.old.unparsed ++ piece.now) }
 
         // A frame that isn't cut in two needs no memory.
         ensures lent { BeginsWithFrame self.old piece.now → result ≢ Err WireFault.Memory }
@@ -167,6 +168,18 @@ impl Cutter {
         })
     }
 
+    // contract: 4.2 (own) A cutter's limit is changed for heads that are still to come
+    /// Sets the limit of payloads (RFC 9113, sections 4.2 and 6.5.2), for heads whose ninth octet
+    /// isn't used yet. A frame whose head was used before is cut as it would have been. It takes no
+    /// memory.
+    pub fn set_limit(&mut self, limit: u32)
+        // Where the cutter represented a stream and its frames, it still does, with this limit for
+        // octets that follow.
+        ensures { CutterLimited self.old limit self.new }
+    {
+        self.buffer.set_limit(limit);
+    }
+
     // contract: 4.1 Unparsed octets hold no complete frame and no fault
     // rule: 4.1 Unparsed octets hold no complete frame and no fault
     // contract: 10.5 (own) What an end holds of a stream is bounded
@@ -176,7 +189,7 @@ impl Cutter {
     pub fn held(&self) -> usize
         ensures value { result ≡ length self.now.unparsed }
         ensures preface { self.now.in_preface ≡ true → result ≤ 24 }
-        ensures frame { self.now.in_preface ≡ false → result ≤ 9 + self.now.limit }
+        ensures frame { self.now.in_preface ≡ false → result ≤ 9 + self.now.greatest }
     {
         self.buffer.unparsed_len()
     }

@@ -1,6 +1,6 @@
 //! Laws of streams, each the contract of a function that does nothing.
 
-ghost use Rattle.std.specs.Prelude.{◌≡◌, ℕ, ◌+◌, ◌++◌, Bool, List, length, drop, Some};
+ghost use Rattle.std.specs.Prelude.{◌≡◌, ℕ, ◌+◌, ◌≤◌, ◌++◌, Bool, List, length, drop, Some};
 ghost use Rattle.h2_frame.specs.declared.code.Code.{Code};
 ghost use Rattle.h2_frame.specs.Heads.{head_of, head_fault};
 ghost use Rattle.h2_frame.specs.Frames.{Frame, payload_fault};
@@ -14,6 +14,16 @@ pub fn one_reading()
         (unparsed other : List ℕ)
         → Frames expects limits stream frames unparsed → Frames expects limits stream others other
         → (frames ≡ others) × (unparsed ≡ other) }
+{}
+
+// contract: 4.2 A payload as long as the limit is received
+/// What is read of a stream with some limits of payloads is read of it with limits that are nowhere
+/// less.
+pub fn frames_are_read_with_wider_limits()
+    ensures { (expects : Bool) (limits others : Limits) (stream : List ℕ) (frames : List Frame)
+        (unparsed : List ℕ) → ((place : ℕ) → limits place ≤ others place)
+        → Frames expects limits stream frames unparsed
+        → Frames expects others stream frames unparsed }
 {}
 
 // contract: 5.4.1 A stream of octets has one fault at most, at one place

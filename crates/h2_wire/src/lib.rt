@@ -17,4 +17,7 @@ mod preface;
 pub use cut::{Advance, Complete, Cut};
 pub use cutter::Cutter;
 pub use fault::WireFault;
-pub use laws::{no_reading_past_a_fault, nothing_in_a_partial_frame, one_fault, one_reading};
+pub use laws::{
+    frames_are_read_with_wider_limits, no_reading_past_a_fault, nothing_in_a_partial_frame,
+    one_fault, one_reading,
+};

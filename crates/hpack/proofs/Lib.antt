@@ -13,6 +13,7 @@ mod Examples
 pub mod RingLemmas
 pub mod RoomLemmas
 pub mod SearchLemmas
+pub mod Tests
 pub mod WordLemmas
 pub mod ChainLemmas
 pub mod IndexLemmas

@@ -28,7 +28,7 @@ least_below one [] = omega arith
 least_below one (other ∷ others) = let rest = least_below (min one other) others in omega arith
 
 -- Of three tests, whichever two come first.
-or_assoc : (x y z : Bool) → ((x || y) || z) ≡ (x || (y || z))
+pub or_assoc : (x y z : Bool) → ((x || y) || z) ≡ (x || (y || z))
 or_assoc true y z = refl
 or_assoc false y z = refl
 

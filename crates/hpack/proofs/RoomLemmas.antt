@@ -25,7 +25,7 @@ if_short true xs ys most one other = one
 if_short false xs ys most one other = other
 
 -- the continuation octets of a number
-continuation_short : (more value : ℕ) → length (continuation_of more value) ≤ suc more
+pub continuation_short : (more value : ℕ) → length (continuation_of more value) ≤ suc more
 unfolding continuation_of
 continuation_short zero value = omega arith
 continuation_short (suc more) value =
@@ -35,7 +35,7 @@ continuation_short (suc more) value =
     (omega (arith, others))
 
 -- An integer has at most six octets.
-integer_short : (prefix_bits first_bits value : ℕ)
+pub integer_short : (prefix_bits first_bits value : ℕ)
     → length (integer prefix_bits first_bits value) ≤ 6
 unfolding integer
 integer_short prefix_bits first_bits value =
@@ -69,7 +69,7 @@ unfolding string
 string_short text = string_short_by (nat_le (length (huffman_bits text)) (length text)) text refl
 
 -- the head of a literal
-head_short : (kind : Literal) (index : ℕ) → length (literal_head kind index) ≤ 6
+pub head_short : (kind : Literal) (index : ℕ) → length (literal_head kind index) ≤ 6
 head_short WithIndexing index = integer_short 6 0x40 index
 head_short WithoutIndexing index = integer_short 4 0x00 index
 head_short NeverIndexed index = integer_short 4 0x10 index

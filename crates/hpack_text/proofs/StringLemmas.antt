@@ -20,12 +20,12 @@ use Rattle.hpack_text.proofs.IntegerLemmas.{LeadingInt, Int-unique, truncated_en
 use Rattle.hpack_text.proofs.IntegerLemmas.{too_long_encodes_none}
 use Rattle.hpack_text.proofs.IntegerWriting.{integer_encodes, integer-short, integer-long}
 
--- Fronts of equal length are equal.
-same_prefixes : (xs ys more following : List ℕ) → length xs ≡ length ys
-    → xs ++ more ≡ ys ++ following → xs ≡ ys
-same_prefixes xs ys more following lengths e =
+-- Fronts of one line, of equal length, are equal.
+same_fronts : (line xs ys more following : List ℕ) → line ≡ xs ++ more → line ≡ ys ++ following
+    → length xs ≡ length ys → xs ≡ ys
+same_fronts line xs ys more following one other lengths =
     sym (take_at xs more (length xs) refl)
-    ∙ (ap (take (length xs)) e
+    ∙ (ap (take (length xs)) (sym one ∙ other)
     ∙ (ap (λ (n : ℕ). take n (ys ++ following)) lengths
     ∙ take_at ys following (length ys) refl))
 
@@ -83,7 +83,7 @@ Str-unique text other octets others more following s s' e =
     let begins' = begins_with_str other others following (octets ++ more) s' e in
     let parts = same_parts s.head s'.head (s.body ++ more) (s'.body ++ following) (length s.body)
     (length s'.body) s.head_length s'.head_length (sym begins.joined ∙ begins'.joined) in
-    let bodies = same_prefixes s.body s'.body more following parts.lengths parts.following in
+    let bodies = same_fronts _ s.body s'.body more following refl parts.following parts.lengths in
     let holds : Holds (has_bit_h s'.head) text s'.body =
     subst (λ xs. Holds (has_bit_h xs) text s'.body) parts.heads
     (subst (λ xs. Holds (has_bit_h s.head) text xs) bodies s.holds) in (
@@ -112,7 +112,7 @@ huffman_fault_encodes_none : (Fault : List ℕ → Type 0) (text octets followin
 huffman_fault_encodes_none Fault text octets following none h s =
     let parts = same_parts h.head s.head (h.body ++ h.more) (s.body ++ following) (length h.body)
     (length s.body) h.head_length s.head_length (sym h.joined ∙ s.joined) in
-    let bodies = same_prefixes h.body s.body h.more following parts.lengths parts.following in
+    let bodies = same_fronts _ h.body s.body h.more following refl parts.following parts.lengths in
     let is_huffman : has_bit_h s.head ≡ true = ap has_bit_h (sym parts.heads) ∙ h.has_bit_h in
     let holds : Huff text s.body = subst (λ b. Holds b text s.body) is_huffman s.holds in
     none h.body h.fault (subst (λ xs. Huff text xs) (sym bodies) holds)

@@ -3,35 +3,58 @@ use Rattle.std.proofs.Common.{◌≡◌, [], ◌∷◌, true, false, codes, refl
 use Rattle.clap.proofs.OnLiterals.{clap_on_literals}
 use Rattle.clap.specs.declared.error.kind.ErrorKind.TheVariants.{ArgumentConflict, DisplayHelp}
 use Rattle.clap.specs.declared.error.kind.ErrorKind.TheVariants.{InvalidValue, UnknownArgument}
-use Rattle.clap.specs.declared.error.kind.ErrorKind.TheVariants.{TooManyValues}
+use Rattle.clap.specs.declared.error.kind.ErrorKind.TheVariants.{TooManyValues, ValueValidation}
 use Rattle.h2_show.specs.declared.options.Side.TheVariants.{Client, Server}
 use Rattle.h2_args.specs.Commands.{sides}
 use Rattle.h2_args.specs.Words.{show_faults, show_options_of}
 
-no_words : show_options_of sides [] ≡ Some (record { hex = false; from = Client })
+no_words : show_options_of sides []
+    ≡ Some (record { hex = false; from = Client; max_frame = 16384 })
 unfolding clap_on_literals
 no_words = refl
 
 hexadecimal : show_options_of sides (codes "--hex" ∷ [])
-    ≡ Some (record { hex = true; from = Client })
+    ≡ Some (record { hex = true; from = Client; max_frame = 16384 })
 unfolding clap_on_literals
 hexadecimal = refl
 
 from_server : show_options_of sides (codes "--from" ∷ codes "server" ∷ [])
-    ≡ Some (record { hex = false; from = Server })
+    ≡ Some (record { hex = false; from = Server; max_frame = 16384 })
 unfolding clap_on_literals
 from_server = refl
 
 from_client : show_options_of sides (codes "--from" ∷ codes "client" ∷ [])
-    ≡ Some (record { hex = false; from = Client })
+    ≡ Some (record { hex = false; from = Client; max_frame = 16384 })
 unfolding clap_on_literals
 from_client = refl
 
 -- rule: show (own) The words choose the end and hexadecimal
 both_options : show_options_of sides (codes "--from=server" ∷ codes "--hex" ∷ [])
-    ≡ Some (record { hex = true; from = Server })
+    ≡ Some (record { hex = true; from = Server; max_frame = 16384 })
 unfolding clap_on_literals
 both_options = refl
+
+-- rule: show (own) The words choose the limit of payloads
+greatest_limit : show_options_of sides (codes "--max-frame" ∷ codes "1048576" ∷ [])
+    ≡ Some (record { hex = false; from = Client; max_frame = 1048576 })
+unfolding clap_on_literals
+greatest_limit = refl
+
+least_limit : show_options_of sides (codes "--max-frame=16384" ∷ codes "--hex" ∷ [])
+    ≡ Some (record { hex = true; from = Client; max_frame = 16384 })
+unfolding clap_on_literals
+least_limit = refl
+
+limit_below_the_least : show_faults sides (codes "--max-frame" ∷ codes "16383" ∷ [])
+    ≡ ValueValidation ∷ []
+unfolding clap_on_literals
+limit_below_the_least = refl
+
+-- rule: show (own) The words choose the limit of payloads
+limit_above_the_greatest : show_faults sides (codes "--max-frame" ∷ codes "1048577" ∷ [])
+    ≡ ValueValidation ∷ []
+unfolding clap_on_literals
+limit_above_the_greatest = refl
 
 -- rule: show (own) The words choose the end and hexadecimal
 hex_twice : show_faults sides (codes "--hex" ∷ codes "--hex" ∷ []) ≡ ArgumentConflict ∷ []

@@ -5,9 +5,10 @@
 //!   fault with its code. While it is inside a block, a second line says how many octets it holds.
 //! - `take COUNT times FRAME`: the answer to the last of so many frames.
 //! - `new`: the gatherer is a new one.
-//! - `spread STREAM [end] OCTETS`: the head of each frame over which a block is spread, and which
-//!   of the block's octets its payload is. That what was written before stays as it is, and that
-//!   the frames are gathered to the block again, is seen to.
+//! - `spread STREAM [end] [most N] OCTETS`: the head of each frame over which a block is spread,
+//!   with `N` octets of payload at most, or 16,384, and which of the block's octets its payload is.
+//!   That what was written before stays as it is, and that the frames are gathered to the block
+//!   again, is seen to.
 
 use crate::case::{Case, CaseError};
 use crate::driver::{Answer, Driver, answers};
@@ -28,12 +29,13 @@ struct Blocks {
     gather: Gather,
 }
 
-// A block.
+// A block, and the greatest payload of its frames.
 #[derive(Clone, Copy)]
 struct Block<'a> {
     stream: u32,
     end: bool,
     octets: &'a [u8],
+    most: usize,
 }
 
 // Adds a block.
@@ -161,9 +163,9 @@ fn is_gathered(gather: &mut Gather, octets: &[u8], block: Block<'_>) -> bool {
 // Writes the frames over which a block is spread.
 fn write_spread(words: &mut Words<'_>, block: Block<'_>, out: &mut Vec<u8>) {
     let (stream, octets) = (block.stream, block.octets);
-    if stream < 1 || stream >= 1 << 31 || octets.len() > 65_552 {
+    if stream < 1 || stream >= 1 << 31 || octets.len() > 65_552 || block.most < 1 {
         words.unread();
-    } else if spread(stream, block.end, octets, out).is_err() {
+    } else if spread(stream, block.end, octets, out, block.most).is_err() {
         words.fail(CaseError::Memory);
     }
 }
@@ -172,11 +174,17 @@ fn write_spread(words: &mut Words<'_>, block: Block<'_>, out: &mut Vec<u8>) {
 fn add_spread(alloc: Global, words: &mut Words<'_>, text: &mut Text) {
     let stream = words.number();
     let end = words.has("end");
+    let most = if words.has("most") {
+        words.number()
+    } else {
+        16_384
+    };
     let octets = read_octets(alloc, words);
     let block = Block {
         stream,
         end,
         octets: &octets,
+        most,
     };
     let mut out = marked(alloc, text);
     write_spread(words, block, &mut out);

@@ -6,6 +6,8 @@
 //!   code, if there is one. The stream is cut whole, one octet a piece, and in two at each place; a
 //!   long one 1,000 octets a piece, and in two at the first and the last 12 places. Where the
 //!   answers differ, and where a fault isn't answered again, that is said.
+//! - `cut server LIMIT then LIMIT after N OCTETS`, and so of a client: the limit is the second one
+//!   after `N` octets.
 
 use crate::case::Case;
 use crate::driver::{Answer, Driver, answers};
@@ -34,6 +36,14 @@ struct Stream<'a> {
     octets: &'a [u8],
     limit: u32,
     client: bool,
+    change: Option<Change>,
+}
+
+/// Another limit, which is set after so many octets.
+#[derive(Clone, Copy)]
+struct Change {
+    limit: u32,
+    place: usize,
 }
 
 // Cuts a piece, and adds the lines of its frames; the fault, where there is one.
@@ -55,6 +65,33 @@ fn feed(cutter: &mut Cutter, text: &mut Text, piece: &[u8]) -> Option<WireFault>
         }
     }
     None
+}
+
+// The octets of a stream between two places.
+fn between<'a>(stream: Stream<'a>, start: usize, end: usize) -> &'a [u8] {
+    stream.octets.get(start..end).unwrap_or(&[])
+}
+
+// Cuts the octets of a stream between two places, and sets the other limit at its place.
+fn feed_part(
+    cutter: &mut Cutter,
+    text: &mut Text,
+    stream: Stream<'_>,
+    start: usize,
+    end: usize,
+) -> Option<WireFault> {
+    let Some(change) = stream.change else {
+        return feed(cutter, text, between(stream, start, end));
+    };
+    if change.place < start || change.place >= end {
+        return feed(cutter, text, between(stream, start, end));
+    }
+    let fault = feed(cutter, text, between(stream, start, change.place));
+    cutter.set_limit(change.limit);
+    if fault.is_some() {
+        return fault;
+    }
+    feed(cutter, text, between(stream, change.place, end))
 }
 
 // Whether a fault is answered again, whatever follows, and the place stays.
@@ -87,10 +124,11 @@ fn add_end(cutter: &mut Cutter, text: &mut Text, fault: Option<WireFault>) {
 fn in_two(alloc: Global, stream: Stream<'_>, at: usize) -> Text {
     let mut text = Text::new(alloc);
     let mut cutter = Cutter::new(alloc, stream.limit, stream.client);
-    let at = at.min(stream.octets.len());
-    let mut fault = feed(&mut cutter, &mut text, &stream.octets[..at]);
+    let len = stream.octets.len();
+    let at = at.min(len);
+    let mut fault = feed_part(&mut cutter, &mut text, stream, 0, at);
     if fault.is_none() {
-        fault = feed(&mut cutter, &mut text, &stream.octets[at..]);
+        fault = feed_part(&mut cutter, &mut text, stream, at, len);
     }
     add_end(&mut cutter, &mut text, fault);
     text
@@ -101,14 +139,15 @@ fn in_pieces(alloc: Global, stream: Stream<'_>, most: usize) -> Text {
     let mut text = Text::new(alloc);
     let mut cutter = Cutter::new(alloc, stream.limit, stream.client);
     let mut fault = None;
-    let mut others = stream.octets;
-    for _ in 0..stream.octets.len() {
-        if others.is_empty() || fault.is_some() {
+    let mut start = 0usize;
+    let len = stream.octets.len();
+    for _ in 0..len {
+        if start >= len || fault.is_some() {
             break;
         }
-        let count = most.min(others.len());
-        fault = feed(&mut cutter, &mut text, &others[..count]);
-        others = &others[count..];
+        let end = start.saturating_add(most).min(len);
+        fault = feed_part(&mut cutter, &mut text, stream, start, end);
+        start = end;
     }
     add_end(&mut cutter, &mut text, fault);
     text
@@ -138,6 +177,19 @@ fn add_differences(alloc: Global, text: &mut Text, stream: Stream<'_>, whole: &s
     }
 }
 
+// The limit that is set later, if the words say so.
+fn read_change(words: &mut Words<'_>) -> Option<Change> {
+    if !words.has("then") {
+        return None;
+    }
+    let limit = words.number();
+    words.expect("after");
+    Some(Change {
+        limit,
+        place: words.number(),
+    })
+}
+
 // Adds what a stream comes to, and where it comes to something else in pieces.
 fn add_cut(alloc: Global, words: &mut Words<'_>, text: &mut Text) {
     let client = words.has("client");
@@ -145,11 +197,13 @@ fn add_cut(alloc: Global, words: &mut Words<'_>, text: &mut Text) {
         words.expect("server");
     }
     let limit = words.number();
+    let change = read_change(words);
     let octets = read_octets(alloc, words);
     let stream = Stream {
         octets: &octets,
         limit,
         client,
+        change,
     };
     let whole = in_two(alloc, stream, 0);
     text.push_text(&whole);

@@ -36,6 +36,7 @@ fn laws_of_h2_frame() {
 #[test]
 fn laws_of_h2_wire() {
     h2_wire::one_reading();
+    h2_wire::frames_are_read_with_wider_limits();
     h2_wire::one_fault();
     h2_wire::no_reading_past_a_fault();
     h2_wire::nothing_in_a_partial_frame();

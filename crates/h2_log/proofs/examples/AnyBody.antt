@@ -16,23 +16,8 @@ use Rattle.h2_log.proofs.Computing.{computing}
 use Rattle.h2_log.proofs.examples.Words.{answered}
 use Rattle.h2_log.proofs.examples.Ends.{asking_client, asked_output}
 use Rattle.h2_log.proofs.examples.LongBodies.{full_head, last_head, GoesInFour}
-
--- a full frame, and the others after it
-frames_more : (count most id : ℕ) (octets : List ℕ) (end : Bool) → most < length octets
-    → data_frames (suc count) most id octets end ≡ data_frames count most id (drop most octets) end
-    ++ alone (Data id false (take most octets) None) ∷ []
-unfolding data_frames
-frames_more count most id octets end long =
-    let test : nat_le (length octets) most ≡ false = grind (arith, nat_tests) in
-    rw test refl
-
--- the last one
-pub frames_last : (count most id : ℕ) (octets : List ℕ) (end : Bool) → length octets ≤ most
-    → data_frames (suc count) most id octets end ≡ alone (Data id end octets None) ∷ []
-unfolding data_frames
-frames_last count most id octets end short =
-    let test : nat_le (length octets) most ≡ true = grind (arith, nat_tests) in
-    rw test refl
+use Rattle.h2_log.proofs.DataFrames.{frames_last}
+use Rattle.h2_log.proofs.DataFrames.{frames_more}
 
 -- four frames
 frames_four : (octets : List ℕ) → length octets ≡ 65535

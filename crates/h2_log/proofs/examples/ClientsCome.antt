@@ -11,7 +11,8 @@ use Rattle.h2_log.specs.WrittenFrames.{takes}
 use Rattle.h2_log.specs.declared.role.Role.TheVariants.{Client}
 use Rattle.h2_log.proofs.Computing.{computing}
 use Rattle.h2_log.proofs.EncodingLemmas.{takes_block_comes}
-use Rattle.h2_log.proofs.examples.Coming.{answer_block, are_octets, are_pairs, below, comes}
+use Rattle.h2_log.proofs.examples.Coming.{answer_block, are_octets, are_pairs, comes}
+use Rattle.h2_frame.proofs.EncodingLemmas.{below_test as below}
 use Rattle.h2_log.proofs.examples.Coming.{fields_are, fields_are_octets, octets_are, pairs_are}
 use Rattle.h2_log.proofs.examples.Coming.{values_are, within, zeros_are}
 use Rattle.h2_log.proofs.examples.Credit.{client_with_unprocessed_body, emptied_client}

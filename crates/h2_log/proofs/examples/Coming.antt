@@ -24,14 +24,11 @@ use Rattle.h2_log.proofs.EncodingLemmas.{takes_comes}
 use Rattle.h2_log.proofs.examples.Octets.{octets}
 use Rattle.h2_log.proofs.examples.Words.{short_request, get_block, request, request_block}
 use Rattle.h2_log.proofs.examples.Words.{table_with_authority, short_answer}
+use Rattle.h2_frame.proofs.EncodingLemmas.{below_test as below}
 
 -- a number that is tested to be within another
 pub within : (count bound : ℕ) → nat_le count bound ≡ true → count ≤ bound
 within count bound h = leb-true count bound h
-
--- or below it
-pub below : (count bound : ℕ) → nat_lt count bound ≡ true → count < bound
-below count bound h = ltb-true count bound h
 
 -- Whether all are octets.
 unfoldable pub are_octets : List ℕ → Bool

@@ -10,7 +10,7 @@ use Rattle.h2_log.specs.CallRules.{data_frames}
 use Rattle.h2_log.specs.Items.{encoding_of_item}
 use Rattle.h2_log.specs.Log.{max_payload_sent_by}
 use Rattle.h2_log.proofs.Computing.{computing}
-use Rattle.h2_log.proofs.examples.AnyBody.{frames_last}
+use Rattle.h2_log.proofs.DataFrames.{frames_last}
 
 -- what follows HEADERS
 continuations_of : (octets : List ℕ) → length octets ≡ 20016

@@ -1,25 +1,27 @@
 -- Memory that is refused.
 use Rattle.std.specs.Prelude.{Some, None, [], false, map, refl, replicate, true, ◌++◌, ◌∷◌, ◌≡◌}
-use Rattle.std.specs.Prelude.{◌≤◌, ◌+◌, length}
-use Rattle.std.proofs.Common.{arith, ap, ◌∙◌, length-append}
-use Rattle.h2_frame.specs.declared.code.Code.TheVariants.{InternalError, FrameSizeError}
+use Rattle.std.specs.Prelude.{◌≤◌, ◌<◌}
+use Rattle.std.proofs.Common.{arith}
+use Rattle.h2_frame.specs.declared.code.Code.TheVariants.{InternalError, FrameSizeError, NoError}
 use Rattle.h2_frame.specs.Frames.{Continuation, Data, GoAway, Headers, Ping, Priority, Reset}
 use Rattle.h2_frame.specs.Frames.{Settings, Unknown, WindowUpdate}
 use Rattle.h2_wire.specs.Streams.{preface}
-use Rattle.h2_log.specs.Acts.{Open, OutOfMemory, PutOut, Refuse, Refused, SendPing}
-use Rattle.h2_log.specs.CallRules.{may_lack_memory}
+use Rattle.h2_log.specs.Acts.{Done, Open, OutOfMemory, PutOut, Refuse, Refused, ResetStream}
+use Rattle.h2_log.specs.Acts.{SendData, SendFields, SendPing}
+use Rattle.h2_log.specs.CallRules.{may_fail_for_memory, may_lack_memory, sends_no_data}
 use Rattle.h2_log.specs.Events.{DataEvent, FieldsEvent}
 use Rattle.h2_log.specs.LogCalls.{MayAnswer, fails, lacks, with_call}
 use Rattle.h2_log.specs.LogSteps.{took_out_of_memory}
 use Rattle.h2_log.specs.LogView.{log_view}
-use Rattle.h2_log.specs.Memory.{KeepsOctets, frame_needs_memory, sends_no_data}
+use Rattle.h2_log.specs.Memory.{KeepsOctets, credit_needs_memory, frame_needs_memory}
 use Rattle.h2_log.specs.declared.refusal.Refusal.TheVariants.{Memory}
 use Rattle.h2_log.proofs.Computing.{computing}
-use Rattle.h2_log.proofs.examples.Ends.{active_octets, active_output, active_server}
-use Rattle.h2_log.proofs.examples.Ends.{new_server, server_with_body}
+use Rattle.h2_log.proofs.examples.Blocks.{resetting_server}
+use Rattle.h2_log.proofs.examples.Ends.{active_octets, active_output, active_server, active_view}
+use Rattle.h2_log.proofs.examples.Ends.{new_server, server_with_body, server_with_release}
 use Rattle.h2_log.proofs.examples.Refusals.{connection_calls, stream_calls}
 use Rattle.h2_log.proofs.examples.Words.{abcd, body_frame, come_to, goaway_frame, one_to_eight}
-use Rattle.h2_log.proofs.examples.Words.{get_block, outcome, short_request}
+use Rattle.h2_log.proofs.examples.Words.{get_block, outcome, short_answer, short_request}
 
 -- Out of memory while octets are taken, the connection fails with INTERNAL_ERROR (RFC 9113, section
 -- 5.4.1).
@@ -45,15 +47,47 @@ refused_for_memory : MayAnswer active_server (SendPing one_to_eight) (Refused Me
 unfolding computing
 refused_for_memory = lacks refl refl refl
 
+-- Calls that send nothing of a body, or put nothing out, aren't: no octets without the end of the
+-- stream; a count of 0, or no output that waits. What is returned first may take memory, unless the
+-- connection has failed.
+-- rule: calls (own) A call that sends nothing takes no memory
+calls_that_take_no_memory :
+    (map (may_lack_memory active_view) (SendData 1 [] false ∷ SendData 1 [] true ∷ PutOut 0 ∷ [])
+    ≡ false ∷ true ∷ false ∷ [])
+    × (map (λ view. may_lack_memory view (PutOut 5)) (record active_view { waiting = 0 }
+    ∷ record active_view { waiting = 1 } ∷ record active_view { waiting = 0; unreturned = 3 }
+    ∷ record active_view { waiting = 65536; unreturned = 3 } ∷ record active_view {
+      waiting = 0;
+      unreturned = 3;
+      failed = Some NoError;
+    } ∷ [])
+    ≡ false ∷ true ∷ true ∷ true ∷ false ∷ [])
+unfolding computing
+calls_that_take_no_memory = (refl, refl)
+
 -- Refusing a stream isn't.
 fails_for_memory : MayAnswer (server_with_body false) (Refuse 1 1) OutOfMemory
 unfolding computing
 fails_for_memory = fails refl refl refl
 
+-- It takes memory where the stream is reset, and not where the connection fails of itself: at the
+-- 1,001st reset, where RST_STREAM would bring the output above 262,144 octets, with code 2. No other
+-- call makes the connection fail.
+-- rule: 5.4 (own) Being out of memory hides no other fault of the connection
+calls_that_fail_for_memory :
+    (map (λ view. may_fail_for_memory view (Refuse 1 1)) (active_view
+    ∷ record active_view { resets = 999 } ∷ record active_view { resets = 1000 }
+    ∷ record active_view { waiting = 262131 } ∷ record active_view { waiting = 262132 } ∷ [])
+    ≡ true ∷ true ∷ false ∷ true ∷ false ∷ [])
+    × (map (may_fail_for_memory active_view) (Refuse 1 2 ∷ ResetStream 1 1 ∷ PutOut 1 ∷ [])
+    ≡ replicate 3 false)
+unfolding computing
+calls_that_fail_for_memory = (refl, refl)
+
 -- The calls that may be refused for it.
 calls_refused_for_memory :
-    (map may_lack_memory (stream_calls 1 ++ connection_calls ++ Open [] true ∷ PutOut 1
-    ∷ Refuse 1 1 ∷ [])
+    (map (may_lack_memory active_view) (stream_calls 1 ++ connection_calls ++ Open [] true
+    ∷ PutOut 1 ∷ Refuse 1 1 ∷ [])
     ≡ replicate 9 true ++ false ∷ [])
     × (outcome (with_call active_server (SendPing one_to_eight) (Refused Memory))
     ≡ outcome active_server)
@@ -61,14 +95,48 @@ unfolding computing
 calls_refused_for_memory = (refl, refl)
 
 -- Frames that may take memory, at a server with one active stream: those that are replied to, parts
--- of field blocks, what ends or resets a stream, and faults of a stream.
+-- of field blocks, and faults of a stream.
+-- rule: 5.4 (own) Only steps that reply, change streams or return credit take memory
 frames_that_need_memory :
     map (frame_needs_memory active_server) (Ping false one_to_eight ∷ Settings false []
     ∷ Headers 3 true true get_block None None ∷ Headers 3 true false [] None None
-    ∷ Data 1 true abcd None ∷ Reset 1 8 ∷ WindowUpdate 1 0 ∷ [])
-    ≡ replicate 7 true
+    ∷ WindowUpdate 1 0 ∷ [])
+    ≡ replicate 5 true
 unfolding computing
 frames_that_need_memory = refl
+
+-- DATA that ends a stream takes some where this end has ended it, too; RST_STREAM where octets are
+-- owed on its stream.
+-- rule: 5.4 (own) Only steps that reply, change streams or return credit take memory
+ends_that_need_memory :
+    (map (λ log. frame_needs_memory log (Data 1 true abcd None)) (active_server
+    ∷ with_call active_server (SendFields 1 short_answer true) Done ∷ [])
+    ≡ false ∷ true ∷ [])
+    × (map (λ log. frame_needs_memory log (Reset 1 8)) (active_server ∷ server_with_body false
+    ∷ server_with_release false ∷ [])
+    ≡ false ∷ true ∷ false ∷ [])
+unfolding computing
+ends_that_need_memory = (refl, refl)
+
+-- DATA on a stream that this end has reset takes some where it has octets, or padding: the
+-- connection's window is returned.
+-- rule: 5.4 (own) Only steps that reply, change streams or return credit take memory
+discarded_data_that_needs_memory :
+    map (frame_needs_memory resetting_server) (Data 1 false [] None ∷ Data 1 false abcd None
+    ∷ Data 1 true [] (Some 0) ∷ [])
+    ≡ false ∷ true ∷ true ∷ []
+unfolding computing
+discarded_data_that_needs_memory = refl
+
+-- The end of a stream takes some where octets are owed on it, and less than the full output waits.
+-- rule: 5.4 (own) Only steps that reply, change streams or return credit take memory
+credit_that_needs_memory :
+    map (λ view. credit_needs_memory view 1) (active_view ∷ log_view (server_with_body false)
+    ∷ record (log_view (server_with_body false)) { waiting = 65535 }
+    ∷ record (log_view (server_with_body false)) { waiting = 65536 } ∷ [])
+    ≡ false ∷ true ∷ true ∷ false ∷ []
+unfolding computing
+credit_that_needs_memory = refl
 
 -- Those that take none: a PING's answer, an acknowledgment, GOAWAY, PRIORITY, unknown types,
 -- WINDOW_UPDATE without a fault, DATA that goes on, RST_STREAM that is ignored.
@@ -133,14 +201,32 @@ faulty_head_is_not_kept keeps =
 nothing_is_not_kept : KeepsOctets active_server [] → ⊥
 nothing_is_not_kept keeps = keeps.some refl
 
--- Inside the preface nothing is kept.
+-- Of the preface nothing is kept, nor where its last octet is the last of the piece.
+-- rule: 3.4 (own) No octet of the preface is stored, so memory is not refused in it
 preface_is_not_kept : KeepsOctets new_server (0x50 ∷ []) → ⊥
 unfolding computing preface
 preface_is_not_kept keeps =
-    let begins = keeps.past_preface refl in
-    let long : 1 ≡ length preface + length begins.following =
-    ap length begins.joined ∙ length-append preface begins.following in
+    let (begins, past) = keeps.past_preface refl in
+    let long : 24 < 1 = past in
     omega (arith, long)
+
+whole_preface_is_not_kept : KeepsOctets new_server preface → ⊥
+unfolding computing preface
+whole_preface_is_not_kept keeps =
+    let (begins, past) = keeps.past_preface refl in
+    let long : 24 < 24 = past in
+    omega (arith, long)
+
+-- What follows it is.
+octet_after_the_preface_is_kept : KeepsOctets new_server (preface ++ 0 ∷ [])
+unfolding computing preface
+octet_after_the_preface_is_kept =
+    record {
+      some = λ none. cc;
+      past_preface = λ inside. (record { following = 0 ∷ []; joined = refl }, omega arith);
+      no_faulty_head = λ code faulty. let nine : 9 ≤ 1 = faulty.head.nine in omega (arith, nine);
+      cut_in_two = λ begins. let nine : 9 ≤ 1 = begins.nine in omega (arith, nine);
+    }
 
 -- DATA of no octets sends nothing unless it ends the stream; nor does DATA without room.
 data_that_sends_nothing :

@@ -47,7 +47,7 @@ server_with_reset = takes (server_with_body false) (Reset 1 8)
 
 -- What it still owes goes back to the connection (section 6.9).
 -- rule: 5.1 A stream has one state, by what was received and sent
--- rule (best): 6.4 RST_STREAM closes an active stream and is reported
+-- rule: 6.4 RST_STREAM closes an active stream and is reported
 reset_by_the_peer :
     (outcome server_with_reset ≡ come_to (active_octets ++ body_frame ++ reset_frame 1 8)
     (FieldsEvent 1 short_request false ∷ DataEvent 1 abcd 4 false ∷ ResetEvent 1 8 false ∷ [])

@@ -14,7 +14,8 @@ use Rattle.h2_log.proofs.examples.Blocks.{begun_server, longer_server, resetting
 use Rattle.h2_log.proofs.examples.Blocks.{server_with_block_after_the_end, server_with_third}
 use Rattle.h2_log.proofs.examples.Blocks.{server_with_three_frames}
 use Rattle.h2_log.proofs.examples.Bodies.{server_with_body_after_the_end, server_with_padding}
-use Rattle.h2_log.proofs.examples.Coming.{are_octets, are_pairs, below, comes, fields_are_octets}
+use Rattle.h2_log.proofs.examples.Coming.{are_octets, are_pairs, comes, fields_are_octets}
+use Rattle.h2_frame.proofs.EncodingLemmas.{below_test as below}
 use Rattle.h2_log.proofs.examples.Coming.{later_block, long_block, pairs_are, short_block}
 use Rattle.h2_log.proofs.examples.Coming.{values_are, within}
 use Rattle.h2_log.proofs.examples.Ends.{active_server, new_server, server_with_body}

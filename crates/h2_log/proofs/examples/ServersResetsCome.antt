@@ -17,7 +17,8 @@ use Rattle.h2_log.specs.declared.role.Role.TheVariants.{Server}
 use Rattle.h2_log.proofs.Computing.{computing}
 use Rattle.h2_log.proofs.EncodingLemmas.{takes_block_comes}
 use Rattle.h2_log.proofs.examples.Blocks.{resetting_server}
-use Rattle.h2_log.proofs.examples.Coming.{are_octets, are_pairs, below, comes, fields_are_octets}
+use Rattle.h2_log.proofs.examples.Coming.{are_octets, are_pairs, comes, fields_are_octets}
+use Rattle.h2_frame.proofs.EncodingLemmas.{below_test as below}
 use Rattle.h2_log.proofs.examples.Coming.{octets_are, short_block, within}
 use Rattle.h2_log.proofs.examples.Ends.{active_server, new_server, server_with_body}
 use Rattle.h2_log.proofs.examples.GoAways.{leaving_server, leaving_server_with_block}

@@ -13,7 +13,8 @@ use Rattle.h2_log.proofs.EncodingLemmas.{takes_block_comes}
 use Rattle.h2_log.proofs.examples.Bodies.{after_the_acknowledgment, before_the_acknowledgment}
 use Rattle.h2_log.proofs.examples.Bodies.{no_octets_after_it, one_octet_after_it}
 use Rattle.h2_log.proofs.examples.Bodies.{server_with_small_window}
-use Rattle.h2_log.proofs.examples.Coming.{are_octets, are_pairs, below, comes, fields_are}
+use Rattle.h2_log.proofs.examples.Coming.{are_octets, are_pairs, comes, fields_are}
+use Rattle.h2_frame.proofs.EncodingLemmas.{below_test as below}
 use Rattle.h2_log.proofs.examples.Coming.{fields_are_octets, pairs_are, short_block, values_are}
 use Rattle.h2_log.proofs.examples.Coming.{within}
 use Rattle.h2_log.proofs.examples.Ends.{active_server, new_server}

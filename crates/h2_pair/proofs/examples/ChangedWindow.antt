@@ -1,7 +1,7 @@
 -- A server that changes its initial window while a body is under way: the client's window becomes
 -- negative, and grows again by what is released (RFC 9113, section 6.9.2).
-use Rattle.std.specs.Prelude.{◌≡◌, true, false, List, [], ◌∷◌, ◌++◌, map, replicate, codes}
-use Rattle.std.specs.Prelude.{None, pos, negsuc, refl}
+use Rattle.std.specs.Prelude.{◌≡◌, true, false, List, [], ◌∷◌, ◌++◌, map, replicate, codes, None}
+use Rattle.std.specs.Prelude.{pos, negsuc, refl}
 use Rattle.hpack.specs.Lists.{empty_table}
 use Rattle.h2_frame.specs.Frames.{Data, Settings, WindowUpdate}
 use Rattle.h2_log.specs.Acts.{Open, SendData, Release, ChangeSettings, PutOut, Count, Done, Refused}

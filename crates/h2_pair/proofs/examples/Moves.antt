@@ -5,11 +5,10 @@ use Rattle.hpack.specs.Tables.{Entries}
 use Rattle.h2_frame.specs.Frames.{Frame}
 use Rattle.h2_block.specs.Grouping.{Item}
 use Rattle.h2_log.specs.Acts.{Act}
-use Rattle.h2_log.specs.Log.{Log, active, owed, unreleased}
+use Rattle.h2_log.specs.Log.{Log}
 use Rattle.h2_pair.specs.Directions.{AreUnderWay}
 use Rattle.h2_pair.proofs.examples.Steps.{Pair, client_calls, server_calls, client_takes}
 use Rattle.h2_pair.proofs.examples.Steps.{server_takes, client_takes_block, server_takes_block}
-use Rattle.h2_pair.proofs.examples.Steps.{either_zero}
 
 -- a step of an example
 pub data Move : Type 0 where
@@ -42,8 +41,3 @@ pub under_way_by : (writer reader : Log) (way before : List Item) → writer.sen
     → reader.received ≡ before → AreUnderWay writer reader way
 under_way_by writer reader way before sent received =
     sent ∙ ap (λ (items : List Item). way ++ items) (sym received)
-
--- Where nothing is unreleased on a stream, nothing is owed.
-pub owed_none : (log : Log) (i : ℕ) → unreleased log i ≡ 0 → owed log i ≡ 0
-unfolding owed
-owed_none log i none = rw none (either_zero (active log i))

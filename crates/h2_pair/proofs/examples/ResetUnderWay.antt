@@ -1,8 +1,8 @@
 -- A server that resets a stream whose DATA is under way: the DATA is dropped, its octets go back to
 -- the connection's window, and the other stream's body is heard whole (RFC 9113, sections 5.1,
 -- 5.4.2 and 6.9).
-use Rattle.std.specs.Prelude.{◌≡◌, true, false, List, [], ◌∷◌, ◌++◌, map, replicate, None}
-use Rattle.std.specs.Prelude.{pos, refl, codes, length}
+use Rattle.std.specs.Prelude.{◌≡◌, true, false, List, [], ◌∷◌, ◌++◌, map, replicate, None, pos}
+use Rattle.std.specs.Prelude.{refl, codes, length}
 use Rattle.hpack.specs.Lists.{empty_table}
 use Rattle.h2_frame.specs.Frames.{Data, Reset, Settings, WindowUpdate}
 use Rattle.h2_log.specs.Acts.{Open, SendData, ResetStream, Release, PutOut}

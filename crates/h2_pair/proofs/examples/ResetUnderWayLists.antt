@@ -13,7 +13,8 @@ use Rattle.h2_pair.specs.Directions.{AreUnderWay, ConservesConnection, Conserves
 use Rattle.h2_pair.specs.Quiet.{IsQuiet}
 use Rattle.h2_pair.proofs.examples.Steps.{Pair}
 use Rattle.h2_pair.proofs.examples.SmallPair.{client_opening, server_opening}
-use Rattle.h2_pair.proofs.examples.Moves.{after_move, after_moves, under_way_by, owed_none}
+use Rattle.h2_end_laws.proofs.OverRoom.{owed_none}
+use Rattle.h2_pair.proofs.examples.Moves.{after_move, after_moves, under_way_by}
 use Rattle.h2_pair.proofs.examples.ResetUnderWay.{started, openings, drops, quiet_pair}
 
 -- DATA of stream 1 and of stream 3, newest first

@@ -13,8 +13,8 @@ use Rattle.h2_log.proofs.examples.Words.{acknowledgment, client_settings, defaul
 use Rattle.h2_log.proofs.examples.Words.{preface_octets, request, request_block, request_octets}
 use Rattle.h2_log.proofs.examples.Words.{server_settings, short_answer, table_with_authority}
 use Rattle.h2_pair.specs.Directions.{AreUnderWay}
-use Rattle.h2_pair.specs.Tokens.{FieldsToken, EndToken, tokens_sent, tokens_heard}
-use Rattle.h2_pair.specs.Tokens.{tokens_of_call, tokens_of_event, end_tokens}
+use Rattle.h2_pair.specs.Tokens.{FieldsToken, EndToken, tokens_sent, tokens_heard, tokens_of_call}
+use Rattle.h2_pair.specs.Tokens.{tokens_of_event, end_tokens}
 use Rattle.h2_pair.specs.Quiet.{IsQuiet}
 use Rattle.h2_pair.proofs.examples.Steps.{Pair, new_pair, client_calls, server_calls, client_takes}
 use Rattle.h2_pair.proofs.examples.Steps.{server_takes, client_takes_block, server_takes_block}

@@ -7,12 +7,13 @@ use Rattle.h2_log.proofs.Computing.{computing}
 use Rattle.h2_log.proofs.examples.Octets.{octets}
 use Rattle.h2_log.specs.Acts.{Open, SendFields, PutOut}
 use Rattle.h2_log.proofs.examples.Coming.{values_are, are_octets, are_pairs, fields_are_octets}
-use Rattle.h2_log.proofs.examples.Coming.{fields_are, pairs_are, below, long_block, answer_block}
+use Rattle.h2_log.proofs.examples.Coming.{fields_are, pairs_are, long_block, answer_block}
+use Rattle.h2_frame.proofs.EncodingLemmas.{below_test as below}
 use Rattle.h2_log.proofs.examples.Words.{default_values, request, request_block, short_answer}
 use Rattle.h2_log.proofs.examples.Words.{table_with_authority}
-use Rattle.h2_pair.proofs.examples.Steps.{Comes, new_pair, new_pair_comes}
-use Rattle.h2_pair.proofs.examples.Steps.{client_calls_comes, server_calls_comes}
-use Rattle.h2_pair.proofs.examples.Steps.{client_takes_comes, server_takes_comes, client_takes}
+use Rattle.h2_pair.proofs.examples.Steps.{Comes, new_pair, new_pair_comes, client_calls_comes}
+use Rattle.h2_pair.proofs.examples.Steps.{server_calls_comes, client_takes_comes}
+use Rattle.h2_pair.proofs.examples.Steps.{server_takes_comes, client_takes}
 use Rattle.h2_pair.proofs.examples.SmallPair.{client_opening, server_opening, asked_pair}
 use Rattle.h2_pair.proofs.examples.SmallPair.{request_on_pipe, settings_delivered}
 use Rattle.h2_pair.proofs.examples.SmallPair.{request_delivered, answered_pair, answer_on_pipe}

@@ -11,8 +11,7 @@ use Rattle.h2_log.specs.declared.role.Role.{Role}
 use Rattle.h2_log.specs.declared.role.Role.TheVariants.{Client, Server}
 use Rattle.h2_log.specs.declared.refusal.Refusal.{Refusal}
 use Rattle.h2_log.specs.Settings.{is_server, payload_limit}
-use Rattle.h2_log.specs.Acts.{Values, AreInRange, Act, Answer, Open, SendFields, SendData, Release}
-use Rattle.h2_log.specs.Acts.{ResetStream, Refuse, SendPing, SendGoAway, PutOut, ChangeSettings}
+use Rattle.h2_log.specs.Acts.{Values, AreInRange, Act, Answer}
 use Rattle.h2_log.specs.Acts.{OutOfMemory, IsTypedAct}
 use Rattle.h2_log.specs.View.{View}
 use Rattle.h2_log.specs.Log.{Log, acked, next_unprocessed}
@@ -28,12 +27,13 @@ use Rattle.h2_log.proofs.StreamLemmas.{stream_of_log, Keeps-frame}
 use Rattle.h2_log.proofs.examples.Words.{answer_by, answered}
 use Rattle.h2_log.proofs.examples.Coming.{within}
 use Rattle.h2_wire.specs.Streams.{Frames}
-use Rattle.h2_machine_laws.specs.Machines.{ends_frame, runs_out_of_memory, is_called}
-use Rattle.h2_machine_laws.specs.Machines.{MayStep, log_after}
+use Rattle.h2_machine_laws.specs.Machines.{ends_frame, runs_out_of_memory, is_called, MayStep}
+use Rattle.h2_machine_laws.specs.Machines.{log_after}
 use Rattle.h2_pair.specs.Pairs.{Half, HalfStep, calls, takes, IsPair, begins, client_steps}
 use Rattle.h2_pair.specs.Pairs.{server_steps, given_since}
 use Rattle.h2_pair.specs.Undisturbed.{IsUndisturbed, IsUndisturbedStep, LeavesUp}
 use Rattle.h2_pair.proofs.PairLogs.{both_logs}
+use Rattle.h2_log_laws.proofs.CallConditions.{answer_in_memory}
 
 -- two ends
 pub record Pair : Type 0 where
@@ -134,19 +134,6 @@ may_answer_by log act (Some refusal) some = refuses refusal some refl
 
 may_answer : (log : Log) (act : Act) → MayAnswer log act (answered (log_view log) act)
 may_answer log act = may_answer_by log act (refusal_of (log_view log) act) refl
-
--- The rules never answer that memory was refused.
-answer_in_memory : (view : View) (act : Act) → answer_of view act ≢ OutOfMemory
-answer_in_memory view (Open fields end) same = cc
-answer_in_memory view (SendFields id fields end) same = cc
-answer_in_memory view (SendData id octets end) same = cc
-answer_in_memory view (Release id count) same = cc
-answer_in_memory view (ResetStream id code) same = cc
-answer_in_memory view (Refuse id code) same = cc
-answer_in_memory view (SendPing octets) same = cc
-answer_in_memory view SendGoAway same = cc
-answer_in_memory view (PutOut count) same = cc
-answer_in_memory view (ChangeSettings values) same = cc
 
 in_memory_by : (view : View) (act : Act) (refused : Option Refusal)
     → answer_by refused (answer_of view act) ≢ OutOfMemory

@@ -1,7 +1,6 @@
 -- A client that allows no table of fields: what its server writes, and that both tables stay in
 -- step (RFC 9113, section 4.3.1; RFC 7541, section 4.2).
-use Rattle.std.specs.Prelude.{◌≡◌, ℕ, true, false, List, [], ◌∷◌, ◌++◌, codes, refl, Some}
-use Rattle.std.specs.Prelude.{None}
+use Rattle.std.specs.Prelude.{◌≡◌, ℕ, true, false, List, [], ◌∷◌, ◌++◌, codes, refl, Some, None}
 use Rattle.hpack.specs.Lists.{empty_table}
 use Rattle.h2_frame.specs.Frames.{Settings, Headers}
 use Rattle.h2_block.specs.Grouping.{Item, alone, block}
@@ -10,7 +9,8 @@ use Rattle.h2_log.specs.Events.{FieldsEvent, AckedEvent}
 use Rattle.h2_log.specs.Log.{acked, output}
 use Rattle.h2_log.proofs.Computing.{computing}
 use Rattle.h2_log.proofs.examples.Coming.{values_are, are_octets, are_pairs, fields_are_octets}
-use Rattle.h2_log.proofs.examples.Coming.{fields_are, pairs_are, below, short_block}
+use Rattle.h2_log.proofs.examples.Coming.{fields_are, pairs_are, short_block}
+use Rattle.h2_frame.proofs.EncodingLemmas.{below_test as below}
 use Rattle.h2_log.proofs.examples.Octets.{octets}
 use Rattle.h2_log.proofs.examples.Settings.{tableless_values}
 use Rattle.h2_log.proofs.examples.Words.{acknowledgment, default_values, get_block, server_settings}

@@ -10,7 +10,8 @@ use Rattle.hpack.specs.Sizes.{table_size}
 use Rattle.hpack.specs.Tables.{Entries}
 use Rattle.hpack.proofs.WrittenBlocks.{block_encodes}
 use Rattle.h2_log.proofs.Computing.{computing}
-use Rattle.h2_log.proofs.examples.Coming.{are_octets, fields_are_octets, fields_are, below, within}
+use Rattle.h2_log.proofs.examples.Coming.{are_octets, fields_are_octets, fields_are, within}
+use Rattle.h2_frame.proofs.EncodingLemmas.{below_test as below}
 use Rattle.h2_log.proofs.examples.Octets.{octets}
 use Rattle.h2_log.proofs.examples.Settings.{remembered_answer}
 use Rattle.h2_log.proofs.examples.Words.{short_answer}

@@ -7,4 +7,4 @@ returns-clause-stream c = good_or_fault
 
 pub returns-clause-input : goal.returns-clause-input
 returns-clause-input c = λ options given good fault.
-    good_or_fault_input options.hex options.from given good fault
+    good_or_fault_input options.hex options given good fault

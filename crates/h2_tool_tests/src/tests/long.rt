@@ -31,6 +31,7 @@ fn show<W: Write>(
     let options = ShowOptions {
         hex: false,
         from: Side::Server,
+        max_frame: 16_384,
     };
     let shown = show_input(alloc, options, &mut Halves::new(stream, place), out)?;
     Ok(shown.status)

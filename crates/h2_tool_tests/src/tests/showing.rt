@@ -41,8 +41,12 @@ fn show<R: Read, W: Write>(
     input: &mut R,
     out: &mut W,
 ) -> Result<Status, Failure> {
-    let from = Side::Client;
-    let shown = show_input(alloc, ShowOptions { hex, from }, input, out)?;
+    let options = ShowOptions {
+        hex,
+        from: Side::Client,
+        max_frame: 16_384,
+    };
+    let shown = show_input(alloc, options, input, out)?;
     Ok(shown.status)
 }
 

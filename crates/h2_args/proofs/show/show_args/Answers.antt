@@ -1,20 +1,59 @@
-use Rattle.std.proofs.Common.{◌∙◌, IfErr, map, string_bytes, refl, ap, sym, rules, Some}
+use Rattle.std.proofs.Common.{◌≡◌, ◌∙◌, ℕ, IfErr, map, string_bytes, refl, ap, sym, rules, Some}
+use Rattle.std.proofs.Common.{arith, codes}
 use Rattle.std.proofs.lemmas.Result.{IfErr-weaker}
-use Rattle.clap.specs.Words.{HasKind}
+use Rattle.std.specs.Str.Parse.{ExplainsUnsignedError, HasUnsignedDigitsIfOk, ParsesUnsigned}
+use Rattle.clap.specs.Words.{HasKind, found_of, rows_of}
+use Rattle.h2_show.specs.declared.options.ShowOptions.{ShowOptions}
 use Rattle.h2_args.specs.Commands.{show_app, sides}
 use Rattle.h2_args.specs.Words.{show_faults, show_options_in}
+use Rattle.h2_args.proofs.CommandLemmas.{show_is_alone, show_names_limit}
 use Rattle.h2_args.proofs.GivenLemmas.{given_by-Ok}
+use Rattle.h2_args.proofs.NumberOptionLemmas.{GivesNumberOr, option_number}
 use Rattle.h2_args.proofs.show.show_args.Goals as goal
+use Rattle.h2_args.proofs.show.show_args.Goals.{After-get_one}
+
+-- the limit of payloads is the number that is given, or 16,384
+limit : (c : After-get_one)
+    → GivesNumberOr c.get_one.result 16384 16384 1048576 (codes "max-frame")
+    (rows_of (found_of c.in_ok-matches.matches))
+limit c =
+    let is = c.in_ok-command.ensures in
+    option_number (show_app is.0) c.in_ok-command.command is.2 (show_is_alone is.0)
+    c.in_ok-matches.matches c.in_ok-matches.ensures.parsed 2 (codes "max-frame") 16384 16384 1048576
+    (show_names_limit is.0) _ (λ bs r. ParsesUnsigned 32 10 bs r × ExplainsUnsignedError 10 bs r
+    × HasUnsignedDigitsIfOk bs r)
+    32 c.get_one.result c.get_one.ensures.none c.get_one.ensures.value (λ u x gives. gives.0)
+    (omega arith) (omega arith) (omega arith)
 
 pub returns-clause-ok : goal.returns-clause-ok
 returns-clause-ok c =
-    let is = c.in_ok-command.ensures in (
+    let is = c.in_ok-command.ensures in
+    let rows = rows_of (found_of c.in_ok-matches.matches) in
+    let given = limit (goal.at.returns-clause-ok c).After-get_one in
+    let read : show_options_in rows ≡ c.options_of.result =
+    sym (c.options_of.ensures
+    ∙ ap (λ (n : ℕ). record (show_options_in rows) { max_frame = n })
+    (c.unwrap_or-max_frame.ensures ∙ given.read)) in (
       is.0,
       is.1,
       given_by-Ok (show_app is.0) show_options_in _ c.in_ok-command.command
           c.in_ok-matches.matches is.2 refl refl c.in_ok-matches.ensures.matches
-          c.in_ok-matches.ensures.kinds ∙ ap Some (sym c.options_of.ensures),
+          c.in_ok-matches.ensures.kinds ∙ ap Some read,
     )
+
+pub returns-clause-least : goal.returns-clause-least
+returns-clause-least c =
+    let given = limit (goal.at.returns-clause-least c).After-get_one in
+    let same : c.options_of.result.max_frame ≡ c.unwrap_or-max_frame.result =
+    ap (λ (options : ShowOptions). options.max_frame) c.options_of.ensures in
+    omega (arith, same, c.unwrap_or-max_frame.ensures, given.low)
+
+pub returns-clause-most : goal.returns-clause-most
+returns-clause-most c =
+    let given = limit (goal.at.returns-clause-most c).After-get_one in
+    let same : c.options_of.result.max_frame ≡ c.unwrap_or-max_frame.result =
+    ap (λ (options : ShowOptions). options.max_frame) c.options_of.ensures in
+    omega (arith, same, c.unwrap_or-max_frame.ensures, given.high)
 
 pub returns-in_err-command-clause-err : goal.returns-in_err-command-clause-err
 returns-in_err-command-clause-err c =

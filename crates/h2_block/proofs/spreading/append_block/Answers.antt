@@ -1,7 +1,8 @@
 -- HEADERS and CONTINUATIONs are appended one after another, and none is left at the end.
-use Rattle.std.proofs.Common.{None, length, arith, vec_capacity}
+use Rattle.std.proofs.Common.{None, length, arith, vec_capacity, sym}
+use Rattle.std.proofs.lemmas.Bool.{eqb-true}
 use Rattle.h2_frame.specs.Frames.{Headers, Continuation}
-use Rattle.h2_block.proofs.SpreadLemmas.{cut_at, cut_few, none_left, some_left, spread_frames-cut}
+use Rattle.h2_block.proofs.SpreadLemmas.{cut_at, cut_few, some_left, spread_frames-cut}
 use Rattle.h2_block.proofs.SpreadLemmas.{left_frames-cut, headers_writable, continuation_writable}
 use Rattle.h2_block.proofs.SpreadLemmas.{so_far-first, so_far-more, so_far-all, so_far-room}
 use Rattle.h2_block.proofs.SpreadLemmas.{first-room}
@@ -85,4 +86,4 @@ loop-rest-preserved c =
 pub returns-clause-items : goal.returns-clause-items
 returns-clause-items c =
     so_far-all _ _ _ _ c.args.stream c.loop-rest.rest.now c.loop-rest.invariant.so_far
-    (none_left (length c.loop-rest.rest.now) c.loop-rest-test.ensures)
+    (eqb-true (length c.loop-rest.rest.now) 0 (sym c.loop-rest-test.ensures))

@@ -1,5 +1,5 @@
 -- A new end represents the log of one.
-use Rattle.std.proofs.Common.{◌∙◌, Bool, [], subst}
+use Rattle.std.proofs.Common.{◌∙◌, ◌≤◌, Bool, [], subst, arith}
 use Rattle.h2_wire.specs.Cutter.{CutterRepresents}
 use Rattle.h2_log.specs.Settings.{is_server}
 use Rattle.h2_config.specs.ConfigValues.{values_of}
@@ -22,3 +22,4 @@ returns-clause-ok c =
     (c.eq.ensures ∙ is_a_server c.args.role) c.new.ensures.represents in
     new_parts c.new.result _ c.args.role (values_of c.args.config) c.args.config.in_range
     c.in_ok-new.ensures.ok cut (none_unparsed c.new.result c.args.role cut)
+    (rw c.new.ensures.greatest (omega arith))

@@ -1,12 +1,13 @@
 -- Each part of the piece is heard of, and what is due is done, until nothing is left or the machine
 -- ends.
 use Rattle.h2_engines.proofs.Names.{◌≡◌, ◌+◌, drop, refl, ◌∙◌, arith, err_from_is_err_and}
+use Rattle.std.proofs.Common.{length, length-take, length-drop, ◌-◌}
 use Rattle.h2_engines.specs.declared.request.Next.TheVariants as nexts
 use Rattle.h2_engines.specs.Linked.{traffic}
 use Rattle.h2_engines.proofs.MachineLaws.{is_due}
 use Rattle.h2_engines.proofs.MachineTakes.{IsTaking, takes_first, heard_rest, done_rest}
 use Rattle.h2_engines.proofs.MachineTakes.{whole_rest, due_rest, not_done_rest, last_rest}
-use Rattle.h2_engines.proofs.MachineTakes.{no_round_rest, within_rest, moved_to}
+use Rattle.h2_engines.proofs.MachineTakes.{no_round_rest, moved_to}
 use Rattle.h2_engines.proofs.machine.take_all.Goals as goal
 use Rattle.h2_engines.proofs.machine.take_all.Goals.{in-Again, in_default+in_ok-do_due-in_default}
 
@@ -56,8 +57,13 @@ loop-preserved g c =
     let fails = λ (self : g.row.M.Denot) (link : g.row.L.Denot). g.L.Link.faults link
     ≡ g.L.Link.faults c.args.link.now in
     record {
-      within = within_rest piece c.loop.used c.in-Ok.heard.used c.loop.invariant.within
-          c.in-Ok.ensures.within;
+      within = omega (
+        arith,
+        c.loop.invariant.within,
+        c.in-Ok.ensures.within,
+        length-take (length piece - c.loop.used) (drop c.loop.used piece),
+        length-drop c.loop.used piece,
+      );
       failures = elim c.match-heard.branch [
         | in-Again w ↦ moved_to fails w.machine-is w.link-is c.loop.invariant.failures
         | in_default+in_ok-do_due-in_default w ↦ moved_to fails w.machine-is w.link-is

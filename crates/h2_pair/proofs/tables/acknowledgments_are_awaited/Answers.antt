@@ -1,11 +1,12 @@
--- By the lemma on both ends.
-use Rattle.h2_pair.proofs.TablesOfPairs.{both_in_step}
+-- By the lemma on either direction.
+use Rattle.h2_pair.proofs.BothWays.{to_server, to_client}
+use Rattle.h2_pair.proofs.TablesOfPairs.{in_step}
 use Rattle.h2_pair.proofs.tables.acknowledgments_are_awaited.Goals as goal
 
 pub returns-clause-at_server : goal.returns-clause-at_server
 returns-clause-at_server c = λ client_values server_values client server is.
-    (both_in_step client_values server_values client server is).1.awaited
+    (in_step client server (to_server is)).awaited
 
 pub returns-clause-at_client : goal.returns-clause-at_client
 returns-clause-at_client c = λ client_values server_values client server is.
-    (both_in_step client_values server_values client server is).0.awaited
+    (in_step server client (to_client is)).awaited

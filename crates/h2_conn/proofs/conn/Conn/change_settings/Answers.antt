@@ -26,5 +26,5 @@ invariant_of-self c =
 pub returns : goal.returns
 unfolding IsTypedAct may_lack_memory
 returns c =
-    done_by Done c.change_settings.result _ _ _ _ refl c.args.config.in_range refl refl
+    done_by Done c.change_settings.result _ _ _ _ refl c.args.config.in_range (λ lacks. refl) refl
     c.change_settings.ensures.ok c.change_settings.ensures.err

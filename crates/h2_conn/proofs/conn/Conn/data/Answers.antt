@@ -1,5 +1,6 @@
 -- By the lemmas on a call's answer.
-use Rattle.std.proofs.Common.{◌≡◌, None, refl, ap, rules}
+use Rattle.std.proofs.Common.{◌≡◌, not, None, refl, ap, rules}
+use Rattle.std.proofs.lemmas.Bool.{false_from_ne_true}
 use Rattle.hpack_text.proofs.ReadLemmas.{all_octets}
 use Rattle.h2_log.specs.Acts.{SendData, Count, IsTypedAct}
 use Rattle.h2_log.specs.CallRules.{may_lack_memory}
@@ -29,7 +30,8 @@ pub returns-clause-answers : goal.returns-clause-answers
 unfolding IsTypedAct may_lack_memory
 returns-clause-answers c =
     answers_by Count _ _ _ _ _ refl
-    (c.ranges.id.fits, all_octets c.args.octets.now c.type_inv.octets) refl
+    (c.ranges.id.fits, all_octets c.args.octets.now c.type_inv.octets)
+    (λ lacks. ap not (false_from_ne_true _ (λ none. c.send_data.ensures.nothing none lacks)))
     (value_as _ _ _ c.send_data.result (λ value is. ap Count is)
     c.send_data.ensures.ok) c.send_data.ensures.err
 

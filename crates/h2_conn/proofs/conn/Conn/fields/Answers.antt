@@ -27,5 +27,5 @@ pub returns : goal.returns
 unfolding IsTypedAct may_lack_memory
 returns c =
     done_by Done c.send_fields.result _ _ _ _ refl
-    (c.ranges.id.fits, c.send_fields.ensures.octets) refl refl
+    (c.ranges.id.fits, c.send_fields.ensures.octets) (λ lacks. refl) refl
     c.send_fields.ensures.ok c.send_fields.ensures.err

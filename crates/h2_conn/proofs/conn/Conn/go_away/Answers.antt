@@ -25,5 +25,5 @@ pub returns : goal.returns
 unfolding IsTypedAct may_lack_memory
 returns c =
     done_by Done c.go_away.result _ _ _ _ refl
-    tt refl refl
+    tt (λ lacks. refl) refl
     c.go_away.ensures.ok c.go_away.ensures.err

@@ -27,5 +27,5 @@ pub returns : goal.returns
 unfolding IsTypedAct may_lack_memory
 returns c =
     done_by Done c.ping.result _ _ _ _ refl
-    (search rules, all_octets c.args.octets (λ i. search rules)) refl refl
+    (search rules, all_octets c.args.octets (λ i. search rules)) (λ lacks. refl) refl
     c.ping.ensures.ok c.ping.ensures.err

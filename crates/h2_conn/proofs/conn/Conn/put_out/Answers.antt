@@ -1,10 +1,12 @@
 -- By the lemmas on putting output out.
-use Rattle.std.proofs.Common.{◌≡◌, None, sym, ◌∙◌, rules}
+use Rattle.std.proofs.Common.{◌≡◌, None, length, min, sym, ◌∙◌, rules}
 use Rattle.h2_log.specs.Acts.{IsTypedAct}
+use Rattle.h2_log.specs.CallRules.{may_lack_memory, returns_before_put_out}
+use Rattle.h2_machine.specs.End.{end_view}
 use Rattle.h2_core.specs.Endpoint.{end_of}
 use Rattle.h2_machine_laws.proofs.AlikeAnswers.{waiting_alike}
 use Rattle.h2_conn.proofs.AskMemory.{returns_alike}
-use Rattle.h2_conn.proofs.AskOutput.{put_out_answers, given_out, ok_as}
+use Rattle.h2_conn.proofs.AskOutput.{put_out_answers, lacks_by, given_out, ok_as}
 use Rattle.h2_conn.proofs.AskSound.{put_out_sound, still_failed}
 use Rattle.h2_conn.proofs.conn.Conn.put_out.Goals as goal
 
@@ -25,10 +27,13 @@ invariant_of-self c =
     }
 
 pub returns-clause-answers : goal.returns-clause-answers
-unfolding IsTypedAct
+unfolding IsTypedAct may_lack_memory
 returns-clause-answers c =
-    put_out_answers c.put_out.result _ _ _ _ _ _ c.ranges.count.fits c.put_out.ensures.ok
-    c.put_out.ensures.err
+    let e = end_of c.args.self.now.inner.end in
+    put_out_answers c.put_out.result _ _ _ _ _ _ c.ranges.count.fits
+    (lacks_by c.put_out.result (returns_before_put_out (end_view e))
+    (min c.args.count (length e.output.waiting)) c.put_out.ensures.nothing)
+    c.put_out.ensures.ok c.put_out.ensures.err
 
 pub returns-clause-ok : goal.returns-clause-ok
 returns-clause-ok c =

@@ -25,5 +25,5 @@ pub returns : goal.returns
 unfolding IsTypedAct may_lack_memory
 returns c =
     done_by Done c.release.result _ _ _ _ refl
-    (c.ranges.id.fits, c.ranges.count.fits) refl refl
+    (c.ranges.id.fits, c.ranges.count.fits) (λ lacks. refl) refl
     c.release.ensures.ok c.release.ensures.err

@@ -25,5 +25,5 @@ pub returns : goal.returns
 unfolding IsTypedAct may_lack_memory
 returns c =
     done_by Done c.reset.result _ _ _ _ refl
-    (c.ranges.id.fits, c.ranges.code.fits) refl refl
+    (c.ranges.id.fits, c.ranges.code.fits) (λ lacks. refl) refl
     c.reset.ensures.ok c.reset.ensures.err

@@ -27,9 +27,9 @@ pub returns-in_err-close_unprocessed-clause-takes :
 returns-in_err-close_unprocessed-clause-takes c =
     let answer = err_from_is_err_and c.from_residual.result c.from_residual.ensures.1 in
     rw (answer.1, answer.2) (λ octets body values log p.
-    unprocessed_lacks values _ _ _ log c.args.piece.now c.in_err-close_unprocessed.field-0.0 p
-    (sym c.failed.ensures ∙ c.in_default.is)
-    (λ none. c.in-Some-unprocessed.ensures.some (c.in-Some-unprocessed.ensures.number ∙ none))
+    unprocessed_lacks values _ _ _ log c.args.piece.now c.in-Some-unprocessed.id
+    c.in_err-close_unprocessed.field-0.0 p (sym c.failed.ensures ∙ c.in_default.is)
+    c.in-Some-unprocessed.ensures.number c.in-Some-unprocessed.ensures.some
     c.in_err-close_unprocessed.ensures.err)
 
 pub returns-in-Some-unprocessed-clause-takes : goal.returns-in-Some-unprocessed-clause-takes

@@ -14,7 +14,7 @@ use Rattle.h2_core.proofs.SoundFacts.{last_small}
 use Rattle.h2_core.proofs.StepCalls.{first-here, first-later, first-none, refused, without_memory}
 use Rattle.h2_core.proofs.StepCalls.{after-goaway, at_ok}
 use Rattle.h2_core.proofs.StepEnds.{with_waiting, item-added}
-use Rattle.h2_core.proofs.StepFrames.{goaway-written, length-goaway}
+use Rattle.h2_output.proofs.EncodingLemmas.{goaway-written, length-goaway}
 use Rattle.h2_core.proofs.endpoint.Endpoint.go_away.Goals as goal
 
 pub returns-in_err-check_up-clause-err : goal.returns-in_err-check_up-clause-err

@@ -7,8 +7,9 @@ use Rattle.h2_streams.specs.Table.{TableState}
 use Rattle.h2_machine.specs.End.{End, end_view, active_entry}
 use Rattle.h2_machine.specs.Machine.{new_stream}
 use Rattle.h2_core.specs.Endpoint.{end_of, IsSound}
-use Rattle.h2_core.proofs.CallConditions.{lacks_memory, unless_err, if_err}
-use Rattle.h2_core.proofs.CallMaps.{get_set_same}
+use Rattle.h2_core.proofs.CallConditions.{lacks_memory, if_err}
+use Rattle.hpack.proofs.ResultLemmas.{on_ok as unless_err}
+use Rattle.h2_machine.proofs.SetEntries.{get_set_same}
 use Rattle.h2_core.proofs.CallOpen.{may_open, number_above, with_table, with_stream, without}
 use Rattle.h2_core.proofs.CallOpen.{table_of, taken_away, with_count, opened}
 use Rattle.h2_core.proofs.SoundFacts.{absent_above}

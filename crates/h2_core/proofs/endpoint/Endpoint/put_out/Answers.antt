@@ -1,5 +1,5 @@
 -- The vector has the capacity for all that is given out, so that memory isn't refused later.
-use Rattle.std.proofs.Common.{◌≡◌, ◌+◌, ◌≤◌, min, length, refl}
+use Rattle.std.proofs.Common.{◌≡◌, ◌+◌, ◌≤◌, min, length, arith, refl}
 use Rattle.std.proofs.Common.{if◌then◌else◌}
 use Rattle.std.specs.Vec.{vec_capacity}
 use Rattle.std.proofs.lemmas.Bool.{false≢true}
@@ -65,3 +65,8 @@ returns-in-Err-clause-room c = λ none capacity.
     ≤ vec_capacity c.reserve.new.self =
     rw wait (rw c.min-given.ensures at room) in
     absurd (false≢true (c.in-Err.ensures.room fits))
+
+-- An empty addition to the vector is within its capacity.
+pub returns-in-Err-clause-nothing : goal.returns-in-Err-clause-nothing
+returns-in-Err-clause-nothing c = λ none few.
+    returns-in-Err-clause-room c none (omega (arith, few))

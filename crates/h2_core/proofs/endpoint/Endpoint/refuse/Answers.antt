@@ -12,7 +12,8 @@ use Rattle.h2_core.specs.Stops.{FailsBy}
 use Rattle.h2_core.proofs.SoundFacts.{counted, owed_fits}
 use Rattle.h2_core.proofs.StepCalls.{no-stream, some-stream, at_ok, at_err}
 use Rattle.h2_core.proofs.StepRefuse.{refuse-closed, refuse-no-stream, refuse-internal}
-use Rattle.h2_core.proofs.StepRefuse.{refuse-active, after-limit, after-refusal}
+use Rattle.h2_core.proofs.StepRefuse.{refuse-active, after-internal, after-limit, no-limit}
+use Rattle.h2_core.proofs.StepRefuse.{after-refusal}
 use Rattle.h2_core.proofs.endpoint.Endpoint.refuse.Goals as goal
 
 pub returns-in_err-check_up : goal.returns-in_err-check_up
@@ -25,11 +26,11 @@ returns-in_err-check_up c =
 pub returns-then-code-number : goal.returns-then-code-number
 returns-then-code-number c =
     let e = end_of c.args.self.now in
-    inr (
-      refuse-internal e c.args.id c.args.code c.in_ok-check_up.ensures.ok
-          (c.if-code-number.true ∙ c.number.ensures),
-      c.fail_by.ensures.1,
-    )
+    let same : c.args.code ≡ 2 = c.if-code-number.true ∙ c.number.ensures in
+    inl (record {
+      free = refuse-internal e c.args.id c.args.code c.in_ok-check_up.ensures.ok same;
+      after = c.fail_by.ensures.1 ∙ sym (after-internal e c.args.id c.args.code same);
+    })
 
 pub returns-in_default : goal.returns-in_default
 returns-in_default c =
@@ -78,11 +79,13 @@ reset_stream-requires-clause-window c =
 pub returns-then-is_err : goal.returns-then-is_err
 returns-then-is_err c =
     let e = end_of c.args.self.now in
+    let other : c.args.code ≢ 2 = omega (arith, c.number.ensures, c.if-code-number.false) in
     let same =
     at_err c.reset_stream.result (sym c.if-is_err.ensures.value) c.reset_stream.ensures.err in
     inr (
       refuse-active e c.args.id c.args.code c.in_ok-check_up.ensures.ok
           (some-stream e c.args.id (stream_view c.in-Some.stream) c.in-Some.ensures),
+      no-limit e c.args.code other (sym c.if-is_over_limits.ensures),
       c.fail_by-then-is_err.ensures.1
           ∙ ap (λ (end : End). fail InternalError end.streams.last_processed end) same,
     )

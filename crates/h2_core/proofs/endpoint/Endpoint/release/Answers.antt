@@ -20,7 +20,8 @@ use Rattle.h2_core.proofs.StepEnds.{with_table, with_waiting}
 use Rattle.h2_core.proofs.StepFrames.{update-written, length-update}
 use Rattle.h2_core.proofs.StepRelease.{owed-not, owed-enough, active-number, widened-near}
 use Rattle.h2_core.proofs.StepRelease.{release-test, widened-fits, widened-value, not-ended}
-use Rattle.h2_core.proofs.StepRelease.{is-ended, released, release-ended, release-open}
+use Rattle.h2_core.proofs.StepRelease.{released, release-ended, release-open}
+use Rattle.hpack.proofs.Tests.{not_false as is-ended}
 use Rattle.h2_core.proofs.endpoint.Endpoint.release.Goals as goal
 use Rattle.h2_core.proofs.endpoint.Endpoint.release.Goals.{then-not-stream, else-not-stream}
 

@@ -7,7 +7,8 @@ use Rattle.h2_streams.specs.Streams.{stream_view}
 use Rattle.h2_core.specs.Endpoint.{end_of}
 use Rattle.h2_core.proofs.SoundFacts.{counted, owed_fits}
 use Rattle.h2_core.proofs.StepCalls.{first-here, first-later, first-none, refused, without_memory}
-use Rattle.h2_core.proofs.StepCalls.{no-stream, some-stream, le-true, le-false, after-reset, at_ok}
+use Rattle.h2_core.proofs.StepCalls.{no-stream, some-stream, after-reset, at_ok}
+use Rattle.h2_frame.proofs.EncodingLemmas.{le_passes as le-true, le_fails as le-false}
 use Rattle.h2_core.proofs.StepCalls.{at_err}
 use Rattle.h2_core.proofs.endpoint.Endpoint.reset.Goals as goal
 

@@ -28,7 +28,7 @@ add_frame-requires-clause-room c =
     omega (arith, length-reset c.args.id c.args.code, c.in_ok-reserve.ensures.ok)
 
 pub add_unreturned-requires-clause-room : goal.add_unreturned-requires-clause-room
-add_unreturned-requires-clause-room c =
+add_unreturned-requires-clause-room c = λ returns.
     let left : 13 ≤ c.add_frame.new.self.spare =
     omega (
       arith,

@@ -7,8 +7,10 @@ use Rattle.h2_streams.specs.Streams.{stream_view}
 use Rattle.h2_machine.specs.Machine.{update_stream}
 use Rattle.h2_machine.specs.End.{End}
 use Rattle.h2_core.specs.Endpoint.{end_of}
-use Rattle.h2_core.proofs.CallConditions.{refused, lacks_memory, unless_err, if_err}
-use Rattle.h2_core.proofs.CallSend.{first_kept, fields_free, fields_large, fields_sent}
+use Rattle.h2_core.proofs.CallConditions.{refused, lacks_memory, if_err}
+use Rattle.hpack.proofs.ResultLemmas.{on_ok as unless_err}
+use Rattle.h2_core.proofs.CallSend.{fields_free, fields_large, fields_sent}
+use Rattle.h2_log_laws.proofs.CallConditions.{first_kept}
 use Rattle.h2_core.proofs.SoundFacts.{counted, owed_fits, send_near, recv_near}
 use Rattle.h2_core.proofs.endpoint.Endpoint.send_fields.Goals as goal
 

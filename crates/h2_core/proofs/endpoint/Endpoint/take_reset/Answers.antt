@@ -1,5 +1,5 @@
 -- RST_STREAM closes an active stream.
-use Rattle.std.proofs.Common.{ℕ, List, arith, refl, sym, ap, ◌∙◌}
+use Rattle.std.proofs.Common.{ℕ, List, length, Option, arith, refl, sym, ap, ◌∙◌}
 use Rattle.h2_frame.specs.Frames.{Reset}
 use Rattle.h2_frame.specs.declared.code.Code.TheVariants.{ProtocolError}
 use Rattle.h2_log.specs.ItemEffects.{events_of}
@@ -11,6 +11,8 @@ use Rattle.h2_core.proofs.SoundFacts.{counted, owed_fits}
 use Rattle.h2_core.proofs.ItemVerdicts.{fault_taken, ignored_taken, report_taken, with_waiting}
 use Rattle.h2_core.proofs.ItemVerdicts.{lacks_memory}
 use Rattle.std.proofs.lemmas.Result.{err_from_is_err_and}
+use Rattle.h2_log.specs.View.{StreamView, owed_on}
+use Rattle.h2_log.specs.CallRules.{returns_credit}
 use Rattle.h2_log.specs.Verdicts.{Reported}
 use Rattle.h2_core.proofs.ItemStatuses.{closed_state}
 use Rattle.h2_core.proofs.ItemResets.{idle_reset, active_reset, closed_reset}
@@ -44,21 +46,24 @@ returns-in-ClosedByUs c =
     (closed_state c.status.result (state_at e c.args.id) c.status.ensures.state c.in-ClosedByUs.is))
     refl
 
-pub returns-in_ok-reserve-in-Active : goal.returns-in_ok-reserve-in-Active
+pub returns-in_ok-reserve_credit-in-Active : goal.returns-in_ok-reserve_credit-in-Active
 unfolding after_reported events_of
-returns-in_ok-reserve-in-Active c =
+returns-in_ok-reserve_credit-in-Active c =
     let e = end_of c.args.self.now in
     report_taken e (Reset c.args.id c.args.code) c.close_stream.new.self.list _ _
     (active_reset e c.args.id c.args.code c.in-Active.ensures.state)
     (c.close_stream.ensures
     ∙ ap (λ (waiting : List ℕ). close_stream (with_waiting e waiting) c.args.id 0)
-    c.reserve.ensures.waiting)
+    c.reserve_credit.ensures.waiting)
     refl
 
-pub returns-in_err-reserve-in-Active : goal.returns-in_err-reserve-in-Active
-returns-in_err-reserve-in-Active c =
+pub returns-in_err-reserve_credit-in-Active : goal.returns-in_err-reserve_credit-in-Active
+returns-in_err-reserve_credit-in-Active c =
     let e = end_of c.args.self.now in
     let p = err_from_is_err_and c.from_residual.result c.from_residual.ensures.1 in
+    let needed =
+    ap (λ (found : Option StreamView). returns_credit (owed_on found) (length e.output.waiting))
+    (sym c.in-Active.ensures.stream) ∙ c.in_err-reserve_credit-in-Active.ensures.err in
     rw (p.1, p.2) (lacks_memory e (Reset c.args.id c.args.code) c.args.self.now.list Reported _
-    (active_reset e c.args.id c.args.code c.in-Active.ensures.state) refl
-    (ap (with_waiting e) c.reserve.ensures.waiting))
+    (active_reset e c.args.id c.args.code c.in-Active.ensures.state) needed
+    (ap (with_waiting e) c.reserve_credit.ensures.waiting))

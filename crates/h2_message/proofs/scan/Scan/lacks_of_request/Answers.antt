@@ -1,7 +1,8 @@
 use Rattle.std.proofs.Common.{◌≡◌, Bool, not, ◌||◌, sym, ap, ◌∙◌}
 use Rattle.std.specs.Option.{is_some}
 use Rattle.h2_message.proofs.ScanNames.{or-then, or-else}
-use Rattle.h2_message.proofs.VerdictRules.{none-is, lacks-request}
+use Rattle.h2_message.proofs.VerdictRules.{lacks-request}
+use Rattle.hpack.proofs.Tests.{not_back as none-is}
 use Rattle.h2_message.proofs.scan.Scan.lacks_of_request.Goals as goal
 use Rattle.h2_message.proofs.scan.Scan.lacks_of_request.Goals.{then-is_none, else-is_none}
 

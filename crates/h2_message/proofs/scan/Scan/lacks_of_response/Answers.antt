@@ -1,5 +1,6 @@
 use Rattle.std.proofs.Common.{◌∙◌}
-use Rattle.h2_message.proofs.VerdictRules.{none-is, lacks-response}
+use Rattle.h2_message.proofs.VerdictRules.{lacks-response}
+use Rattle.hpack.proofs.Tests.{not_back as none-is}
 use Rattle.h2_message.proofs.scan.Scan.lacks_of_response.Goals as goal
 
 pub returns : goal.returns

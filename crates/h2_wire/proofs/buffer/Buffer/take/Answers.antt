@@ -24,7 +24,10 @@ take_head-requires-in-Lent c =
     let few : length c.forget.new.self.octets.items < 9 = rw c.forget.ensures.none (omega arith) in
     record {
       starts = starts_head c.forget.new.self c.args.piece.now (ap (λ (b : Buffer). b.phase) after)
-          (rw (ap (λ (b : Buffer). b.phase) after) few);
+          (record {
+            within = rw after c.requires.within;
+            fits = rw (ap (λ (b : Buffer). b.phase) after) few;
+          });
     }
 
 pub returns-in-Head-clause-checked : goal.returns-in-Head-clause-checked

@@ -5,6 +5,8 @@ use Rattle.std.proofs.Common.{length-drop, length-append}
 use Rattle.std.proofs.lemmas.List.{take_rest}
 use Rattle.h2_frame.specs.declared.heads.Head.{Head}
 use Rattle.h2_frame.specs.Heads.{head_of, head_fault}
+use Rattle.h2_frame.proofs.HeadLemmas.{form_fault-head_fault, length-head_fault}
+use Rattle.h2_wire.specs.declared.buffer.Buffer.{Buffer}
 use Rattle.h2_wire.specs.declared.buffer.Phase.TheVariants as phases
 use Rattle.h2_wire.specs.declared.fault.WireFault.TheVariants as faults
 use Rattle.h2_wire.specs.Buffer.{state_of}
@@ -22,11 +24,16 @@ returns-in_default-clause-takes c =
     ≡ drop c.args.start piece = take_rest piece c.args.start in
     let items = rw following at c.in_ok-append.ensures.ok in
     let none = c.in_default.ensures.none in
+    let limit = ap (λ (b : Buffer). b.limit) c.in_ok-append.ensures.same in
+    let greatest = ap (λ (b : Buffer). b.greatest) c.in_ok-append.ensures.same in
     let few : length old.octets.items + length (drop c.args.start piece) < 9 =
     rw (c.deref.ensures.value, following) at none in
     let short : length (old.octets.items ++ drop c.args.start piece) < 9 = rw length-append few in
     record {
-      invariant = rw (c.pass.ensures, items) short;
+      invariant = rw c.pass.ensures (record {
+        within = rw (limit, greatest) c.requires.starts.invariant.within;
+        fits = rw items short;
+      });
       makes = keeps_piece old c.append.new.self c.pass.new.self piece c.args.start phases.Head
           c.in_ok-append.ensures.same
           c.pass.ensures items refl refl refl
@@ -54,11 +61,12 @@ returns-in-Some-head_fault-clause-takes c =
     let used : c.args.start + (9 - c.len.result) ≡ c.args.start + (9 - length old.octets.items) =
     omega (arith, c.len.ensures, old.octets.ok.0) in
     record {
-      invariant = rw c.fail.ensures.after tt;
+      invariant =
+          rw c.fail.ensures.after (record { within = starts.invariant.within; fits = tt });
       makes = rw (c.fail.ensures.fault, c.fail.ensures.after, used)
           (fails_head (state_of old) piece c.in-Some-head_fault.code _ starts.sound
           (fails_at (state_of old) _ piece (faults.HeadFault c.in-Some-head_fault.code)
-          (c.args.start + (9 - length old.octets.items)) refl refl refl refl
+          (c.args.start + (9 - length old.octets.items)) refl refl refl refl refl
           (omega (arith, nine, within, length-drop c.args.start piece)) refl
           (wrong_head (state_of old) piece old.octets.items c.args.start c.in-Some-head_fault.code
           starts.opens few nine faulty)));
@@ -75,6 +83,7 @@ take_payload-requires c =
     c.head-head.result c.deref.ensures.value some.0 some.1 c.head-head.ensures.value in
     let few : length old.octets.items < 9 = starts.few in
     let sound = sym c.head_fault.ensures.value ∙ c.in_default-head_fault.is in
+    let length = length-head_fault c.head-head.result old.limit sound in
     record {
       starts = record {
         invariant = starts.invariant;
@@ -84,7 +93,8 @@ take_payload-requires c =
         nine = nine;
         is_head = is_head;
         bounded = c.head-head.ensures.bounds.0;
-        sound_head = sound;
+        form = form_fault-head_fault c.head-head.result old.limit sound;
+        within_greatest = omega (arith, length, starts.invariant.within);
         opens = λ expects limits stream so_far represented.
             let past = starts.opens expects limits stream so_far represented in (
               past,

@@ -2,7 +2,6 @@
 use Rattle.std.proofs.Common.{◌≡◌, ◌+◌, ◌-◌, ◌<◌, ◌≤◌, ℕ, List, length, take, drop, arith, ◌++◌}
 use Rattle.std.proofs.Common.{vec_len, refl, sym, ◌∙◌, ap, length-append, eqb-true}
 use Rattle.std.proofs.lemmas.List.{take_rest, nil_from_length}
-use Rattle.h2_frame.proofs.HeadLemmas.{form_fault-head_fault}
 use Rattle.h2_wire.specs.declared.buffer.Phase.TheVariants as phases
 use Rattle.h2_wire.specs.declared.buffer.Buffer.{Buffer}
 use Rattle.h2_wire.specs.declared.cut.Source.TheVariants as sources
@@ -29,13 +28,18 @@ returns-then-following-missing-clause-takes c =
     omega (arith, few, joined, c.len.ensures, old.octets.ok.0) in
     let enough = starts.nine in
     let limit = ap (λ (b : Buffer). b.limit) c.in_ok-append.ensures.same in
+    let greatest = ap (λ (b : Buffer). b.greatest) c.in_ok-append.ensures.same in
     record {
-      invariant = rw (c.pass.ensures, items, limit) (record {
-        nine = omega (arith, enough, joined);
-        is_head = starts.is_head;
-        bounded = starts.bounded;
-        sound = starts.sound_head;
-        short = short;
+      invariant = rw c.pass.ensures (record {
+        within = rw (limit, greatest) starts.invariant.within;
+        fits = rw (items, greatest) (record {
+          nine = omega (arith, enough, joined);
+          is_head = starts.is_head;
+          bounded = starts.bounded;
+          form = starts.form;
+          within = starts.within_greatest;
+          short = short;
+        });
       });
       makes = keeps_piece old c.append.new.self c.pass.new.self piece c.args.start
           (phases.Payload c.args.head)
@@ -46,12 +50,10 @@ returns-then-following-missing-clause-takes c =
     }
 
 pub end_frame-requires-clause-form : goal.end_frame-requires-clause-form
-end_frame-requires-clause-form c =
-    form_fault-head_fault c.args.head c.args.self.now.limit c.requires.starts.sound_head
+end_frame-requires-clause-form c = c.requires.starts.form
 
 pub end_frame-requires-2-clause-form : goal.end_frame-requires-2-clause-form
-end_frame-requires-2-clause-form c =
-    form_fault-head_fault c.args.head c.args.self.now.limit c.requires.starts.sound_head
+end_frame-requires-2-clause-form c = c.requires.starts.form
 
 pub returns-then-is_empty-clause-takes : goal.returns-then-is_empty-clause-takes
 returns-then-is_empty-clause-takes c =

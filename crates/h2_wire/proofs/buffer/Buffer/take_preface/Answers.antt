@@ -8,7 +8,7 @@ use Rattle.h2_wire.specs.declared.buffer.Phase.TheVariants as phases
 use Rattle.h2_wire.specs.Streams.{preface}
 use Rattle.h2_wire.specs.Buffer.{state_of, fault_of, is_in_preface, unparsed_of, FitsPhase}
 use Rattle.h2_wire.specs.Step.{Opens}
-use Rattle.h2_wire.proofs.BufferLemmas.{fails_preface, begins_with_preface, follows_preface}
+use Rattle.h2_wire.proofs.BufferLemmas.{fails_preface, goes_past_preface, follows_preface}
 use Rattle.h2_wire.proofs.BufferLemmas.{short_of_preface, unlike_preface}
 use Rattle.h2_wire.proofs.CallLemmas.{fails_at}
 use Rattle.h2_wire.proofs.StepLemmas.{opens_first, continues_preface, wrong_preface}
@@ -25,8 +25,8 @@ pub take_head-requires : goal.take_head-requires
 take_head-requires c =
     let old = c.args.self.now in
     let count = c.matching_octets-count.result in
-    let fits : FitsPhase old.limit (phases.Preface c.args.matched) old.octets.items =
-    rw c.requires.phase at c.requires.invariant in
+    let fits : FitsPhase old.greatest (phases.Preface c.args.matched) old.octets.items =
+    rw c.requires.phase at c.requires.invariant.fits in
     let inside : is_in_preface old.phase ≡ true = rw c.requires.phase refl in
     let unparsed : unparsed_of old.phase old.octets.items ≡ take c.args.matched preface =
     rw c.requires.phase refl in
@@ -54,8 +54,8 @@ returns-then-matched-count-eq24-clause-preface c = λ memory.
     rw c.requires.phase refl in
     let same = ends c.args.matched count c.args.piece.now c.matching_octets-count.ensures.same
     (omega arith) in
-    begins_with_preface c.args.matched count
-    (unparsed_of old.phase old.octets.items) c.args.piece.now unparsed same
+    goes_past_preface c.args.matched count (unparsed_of old.phase old.octets.items)
+    c.args.piece.now unparsed same (λ none. c.take_head.ensures.none none memory)
 
 pub returns-then-count-piece-clause-takes : goal.returns-then-count-piece-clause-takes
 returns-then-count-piece-clause-takes c =
@@ -70,10 +70,11 @@ returns-then-count-piece-clause-takes c =
     omega (arith, c.matching_octets-count.ensures.bound) in
     let less : c.matching_octets-count.result < length piece = omega arith in
     record {
-      invariant = rw c.fail.ensures.after tt;
+      invariant =
+          rw c.fail.ensures.after (record { within = c.requires.invariant.within; fits = tt });
       makes = rw (c.fail.ensures.fault, c.fail.ensures.after)
           (fails_preface (state_of old) piece _ sound
-          (fails_at (state_of old) _ piece faults.BadPreface (count + 1) refl refl refl refl
+          (fails_at (state_of old) _ piece faults.BadPreface (count + 1) refl refl refl refl refl
           (omega (arith, less)) refl
           (wrong_preface (state_of old) c.args.matched count piece inside unparsed less few
           c.matching_octets-count.ensures.same
@@ -85,8 +86,8 @@ returns-clause-takes c =
     let old = c.args.self.now in
     let piece = c.args.piece.now in
     let count = c.matching_octets-count.result in
-    let fits : FitsPhase old.limit (phases.Preface c.args.matched) old.octets.items =
-    rw c.requires.phase at c.requires.invariant in
+    let fits : FitsPhase old.greatest (phases.Preface c.args.matched) old.octets.items =
+    rw c.requires.phase at c.requires.invariant.fits in
     let inside : is_in_preface old.phase ≡ true = rw c.requires.phase refl in
     let sound : fault_of old.phase ≡ None = rw c.requires.phase refl in
     let unparsed : unparsed_of old.phase old.octets.items ≡ take c.args.matched preface =
@@ -100,11 +101,13 @@ returns-clause-takes c =
     sym (take_all (length piece) piece (omega arith))
     ∙ rw all at c.matching_octets-count.ensures.same in
     record {
-      invariant = rw c.pass.ensures (few, fits.1);
+      invariant =
+          rw c.pass.ensures
+          (record { within = c.requires.invariant.within; fits = (few, fits.1) });
       makes = rw (c.pass.ensures, all) (record {
         all = refl;
         continues =
-            continues_preface (state_of old) _ c.args.matched piece refl inside refl refl refl
+            continues_preface (state_of old) _ c.args.matched piece refl inside refl refl refl refl
             unparsed few_now same refl;
       });
     }
@@ -113,8 +116,8 @@ pub returns-then-matched-count-eq24-clause-checked
     : goal.returns-then-matched-count-eq24-clause-checked
 returns-then-matched-count-eq24-clause-checked c = λ code begins faulty.
     let old = c.args.self.now in
-    let fits : FitsPhase old.limit (phases.Preface c.args.matched) old.octets.items =
-    rw c.requires.phase at c.requires.invariant in
+    let fits : FitsPhase old.greatest (phases.Preface c.args.matched) old.octets.items =
+    rw c.requires.phase at c.requires.invariant.fits in
     let count = c.matching_octets-count.result in
     let follows = follows_preface c.args.matched count c.args.piece.now (omega arith) in
     c.take_head.ensures.checked code (rw fits.1 (rw follows at faulty))
@@ -122,8 +125,8 @@ returns-then-matched-count-eq24-clause-checked c = λ code begins faulty.
 pub returns-then-matched-count-eq24-clause-lent : goal.returns-then-matched-count-eq24-clause-lent
 returns-then-matched-count-eq24-clause-lent c = λ begins nine enough.
     let old = c.args.self.now in
-    let fits : FitsPhase old.limit (phases.Preface c.args.matched) old.octets.items =
-    rw c.requires.phase at c.requires.invariant in
+    let fits : FitsPhase old.greatest (phases.Preface c.args.matched) old.octets.items =
+    rw c.requires.phase at c.requires.invariant.fits in
     let count = c.matching_octets-count.result in
     let follows = follows_preface c.args.matched count c.args.piece.now (omega arith) in
     c.take_head.ensures.lent fits.1 (rw follows at nine) (rw follows at enough)

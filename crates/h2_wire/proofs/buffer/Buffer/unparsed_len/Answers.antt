@@ -1,6 +1,5 @@
 -- What was matched of the preface, or what is kept of a frame.
 use Rattle.std.proofs.Common.{◌≡◌, ◌<◌, length, take, arith, sym, ◌∙◌, length-take}
-use Rattle.h2_frame.proofs.HeadLemmas.{length-head_fault}
 use Rattle.h2_wire.specs.declared.buffer.Phase.TheVariants as phases
 use Rattle.h2_wire.specs.Buffer.{FitsPhase, IsPartialPayload}
 use Rattle.h2_wire.specs.Streams.{preface}
@@ -11,8 +10,8 @@ unfolding preface
 returns-in-Preface-clause-value c =
     let buffer = c.args.self.now in
     let matched = c.in-Preface.matched in
-    let fits : FitsPhase buffer.limit (phases.Preface c.in-Preface.matched) buffer.octets.items =
-    rw c.in-Preface.is at c.requires in
+    let fits : FitsPhase buffer.greatest (phases.Preface c.in-Preface.matched) buffer.octets.items =
+    rw c.in-Preface.is at c.requires.fits in
     let few = fits.0 in
     let counted : length (take c.in-Preface.matched preface) ≡ c.in-Preface.matched =
     length-take c.in-Preface.matched preface ∙ omega arith in
@@ -21,14 +20,14 @@ returns-in-Preface-clause-value c =
 pub returns-in-Payload-clause-frame : goal.returns-in-Payload-clause-frame
 returns-in-Payload-clause-frame c = λ after.
     let buffer = c.args.self.now in
-    let kept : IsPartialPayload buffer.limit c.in-Payload._head buffer.octets.items =
-    rw c.in-Payload.is at c.requires in
+    let kept : IsPartialPayload buffer.greatest c.in-Payload._head buffer.octets.items =
+    rw c.in-Payload.is at c.requires.fits in
     let short = kept.short in
-    let within = length-head_fault c.in-Payload._head buffer.limit kept.sound in
+    let within = kept.within in
     omega (arith, short, within, c.args.self.now.octets.ok.0)
 
 pub returns-in-Head-clause-frame : goal.returns-in-Head-clause-frame
 returns-in-Head-clause-frame c = λ after.
     let buffer = c.args.self.now in
-    let few : length buffer.octets.items < 9 = rw c.in-Head.is at c.requires in
+    let few : length buffer.octets.items < 9 = rw c.in-Head.is at c.requires.fits in
     omega (arith, few, c.args.self.now.octets.ok.0)

@@ -1,6 +1,6 @@
 -- What is found in a list of entries in the order of their numbers: the least active number above
 -- another, and whether a send window is brought above the greatest.
-use Rattle.std.proofs.Common.{◌≡◌, ◌≢◌, ℕ, ◌≤◌, ◌<◌, Bool, true, false, nat_lt, ◌&&◌}
+use Rattle.std.proofs.Common.{◌≡◌, ◌≢◌, ℕ, zero, suc, ◌≤◌, ◌<◌, Bool, true, false, nat_lt, ◌&&◌}
 use Rattle.std.proofs.Common.{◌||◌, cond, T, if◌then◌else◌, List, [], ◌∷◌, Some, None, Less}
 use Rattle.std.proofs.Common.{Equal, Greater, Ordering, inl, inr, refl, sym, ap, ◌∙◌, arith}
 use Rattle.std.specs.FinMap as map
@@ -13,23 +13,23 @@ use Rattle.h2_machine.specs.End.{Entry, any_above, above_by_shift}
 use Rattle.h2_machine.specs.Machine.{first_active, is_active_entry}
 
 -- The first part of a test that holds, holds.
-first : (a b : Bool) → T (a && b) → T a
+pub first : (a b : Bool) → T (a && b) → T a
 first true b p = tt
 first false b p = p
 
 -- So does the second.
-second : (a b : Bool) → T (a && b) → T b
+pub second : (a b : Bool) → T (a && b) → T b
 second true b p = p
 second false b p = absurd p
 
 -- An order that is below is `Less`.
-less : (o : Ordering) → T (is_lt o) → o ≡ Less
+pub less : (o : Ordering) → T (is_lt o) → o ≡ Less
 less Less p = refl
 less Equal p = absurd p
 less Greater p = absurd p
 
 -- A number below one that is below all others is not found among these.
-not_found : (q x : ℕ) (es : List (ℕ × Entry)) → nat_cmp q x ≡ Less → T (below_all nat_cmp x es)
+pub not_found : (q x : ℕ) (es : List (ℕ × Entry)) → nat_cmp q x ≡ Less → T (below_all nat_cmp x es)
     → map.find nat_cmp q es ≡ None
 not_found q x [] p h = refl
 not_found q x (e ∷ es) p h =
@@ -40,7 +40,7 @@ not_found q x (e ∷ es) p h =
     ∙ not_found q x es p (second (is_lt (nat_cmp x e.0)) (below_all nat_cmp x es) h)
 
 -- A number that is below all others is not found among these.
-not_itself : (x : ℕ) (es : List (ℕ × Entry)) → T (below_all nat_cmp x es)
+pub not_itself : (x : ℕ) (es : List (ℕ × Entry)) → T (below_all nat_cmp x es)
     → map.find nat_cmp x es ≡ None
 not_itself x [] h = refl
 not_itself x (e ∷ es) h =
@@ -61,13 +61,13 @@ found_by i e es x Equal is h found =
     cc
 
 -- What is found after an entry is found with it.
-found_after : (i : ℕ) (e : ℕ × Entry) (es : List (ℕ × Entry)) (x : Entry)
+pub found_after : (i : ℕ) (e : ℕ × Entry) (es : List (ℕ × Entry)) (x : Entry)
     → T (below_all nat_cmp e.0 es)
     → map.find nat_cmp i es ≡ Some x → map.find nat_cmp i (e ∷ es) ≡ Some x
 found_after i e es x h found = found_by i e es x (nat_cmp i e.0) refl h found
 
 -- The first entry is found.
-found_first : (e : ℕ × Entry) (es : List (ℕ × Entry)) → map.find nat_cmp e.0 (e ∷ es) ≡ Some e.1
+pub found_first : (e : ℕ × Entry) (es : List (ℕ × Entry)) → map.find nat_cmp e.0 (e ∷ es) ≡ Some e.1
 found_first e es = ap (λ (b : Bool). cond b (Some e.1) (map.find nat_cmp e.0 es))
     (unsigned_tied e.0 e.0 ∙ eq-eqb e.0 e.0 refl)
 
@@ -148,6 +148,23 @@ first_least above i (e ∷ es) x h found alive higher =
     (map.is_sorted nat_cmp es) h)
     (λ after. first_least above i es x (second (below_all nat_cmp e.0 es) (map.is_sorted nat_cmp es)
     h) after alive higher) found alive higher
+
+-- Two numbers that are there just where the other is and no greater are the same.
+pub two_least : (m n : ℕ) → (m ≢ 0 → (n ≢ 0) × (n ≤ m)) → (n ≢ 0 → (m ≢ 0) × (m ≤ n)) → m ≡ n
+two_least zero zero one two = refl
+two_least (suc m) zero one two = absurd ((one (λ is. absurd (omega (arith, is)))).0 refl)
+two_least zero (suc n) one two = absurd ((two (λ is. absurd (omega (arith, is)))).0 refl)
+two_least (suc m) (suc n) one two = omega (
+  arith,
+  (one (λ is. absurd (omega (arith, is)))).1,
+  (two (λ is. absurd (omega (arith, is)))).1,
+)
+
+-- Two tests that hold where the other does are the same.
+pub both_same : (a b : Bool) → (a ≡ true → b ≡ true) → (b ≡ true → a ≡ true) → a ≡ b
+both_same true b there back = sym (there refl)
+both_same false true there back = back refl
+both_same false false there back = refl
 
 -- An entry that is brought above the greatest window.
 pub record Above (old new : ℕ) (es : List (ℕ × Entry)) : Type 0 where
