@@ -46,7 +46,8 @@ data_not Idle above ended over = λ is. cc
 data_not Closed above ended over = λ is. cc
 data_not ClosedByUs above ended over = if_not above _ _ (λ is. cc) (λ is. cc)
 data_not Active above ended over =
-    if_not above _ _ (λ is. cc) (if_not ended _ _ (λ is. cc) (if_not over _ _ (λ is. cc) (λ is. cc)))
+    if_not above _ _ (λ is. cc)
+    (if_not ended _ _ (λ is. cc) (if_not over _ _ (λ is. cc) (λ is. cc)))
 
 reset_not : (state : State) → IsNot (reset_verdict state)
 unfolding reset_verdict

@@ -102,12 +102,13 @@ unfolding verdict_of verdict_by_rules
 item_free view (Priority stream octets) free =
     limited_free view view.resets view.waiting _ NoEvent (alone (Priority stream octets)) refl
 item_free view (Unknown kind flags stream payload) free =
-    limited_free view view.resets view.waiting _ NoEvent (alone (Unknown kind flags stream payload)) refl
+    limited_free view view.resets view.waiting _ NoEvent
+    (alone (Unknown kind flags stream payload)) refl
 item_free view (Ping true octets) free =
     limited_free view view.resets view.waiting _
     (if is_awaited_ping octets view.ping then Reported else NoEvent) (alone (Ping true octets))
-    (choose_free view (is_awaited_ping octets view.ping) Reported NoEvent (alone (Ping true octets)) refl
-    refl)
+    (choose_free view (is_awaited_ping octets view.ping) Reported NoEvent
+    (alone (Ping true octets)) refl refl)
 item_free view (WindowUpdate stream increment) free = rw free refl
 item_free view (Data stream false octets pad) free = rw free refl
 item_free view other free = absurd free

@@ -128,7 +128,8 @@ open_sendable log fields end with_sent none =
     let number = number_low log with_sent holds.1.1.0 in (
       number.0,
       number.1,
-      block_is_gathered log.encoder fields (ltb-false max_list (list_size fields) holds.1.1.1.1.1.0),
+      block_is_gathered log.encoder fields
+          (ltb-false max_list (list_size fields) holds.1.1.1.1.1.0),
     )
 
 -- What further fields write.
@@ -194,7 +195,8 @@ release_sendable role log id count represents are none =
     let holds = none_holds _ none in
     let up = none_since log.failed holds.0 in
     let alive = stream_is_active log id holds.1.0 in
-    let owing = or_parts (count == 0) (nat_lt (owed_on ((log_view log).stream id)) count) holds.1.1.1.0 in
+    let owing = or_parts (count == 0) (nat_lt (owed_on ((log_view log).stream id)) count)
+    holds.1.1.1.0 in
     updates_by id count (ended_in ((log_view log).stream id)) (active_low log id are alive) (omega (
       arith,
       ltb-false (owed_on ((log_view log).stream id)) count owing.1,

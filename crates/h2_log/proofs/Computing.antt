@@ -65,7 +65,8 @@ unfolding bits_of number_of octets_of groups code_in code huffman_bits continuat
     greatest_block greatest_processed grouped grouping_step increment_on is_above is_active
     is_block_on is_closed_by_us is_goaway is_goaway_below is_over is_used items_of
     last_processed least_block least_goaway max_payload_sent_by max_streams may_be_first
-    may_fail_for_memory may_lack_memory newest_ping next_active next_number next_unprocessed one_ack one_acked
+    may_fail_for_memory may_lack_memory newest_ping next_active next_number next_unprocessed
+    one_ack one_acked
     one_answer one_ping one_pong one_reset one_settings opened opened_by opening_pairs
     opening_verdict opens_from output over_limits overflows owed owed_at_close payload_limit
     processed_by refuse_fault refused_with released replies_to reported_total

@@ -141,7 +141,8 @@ unfolding conditions
 open_represents role log fields end represents none =
     let view = log_view log in
     let holds = none_holds _ none in
-    let server = or_parts (is_server log.role) (nat_lt greatest_number view.next_number) holds.1.1.0 in
+    let server = or_parts (is_server log.role) (nat_lt greatest_number view.next_number)
+    holds.1.1.0 in
     let went = or_parts view.goaway_sent (is_some view.goaway_received) holds.1.1.1.0 in
     let read : goaway_read log ≡ false = sym (when_some (goaway_read log)
     (least_goaway log.received)) ∙ went.1 in

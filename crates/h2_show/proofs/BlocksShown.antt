@@ -62,8 +62,8 @@ shown_items table after (block stream end octets ∷ items) frames lines
     (first, following, joined, is, shown_items next after items following text one)
 
 -- items that are shown decode
-pub shown_decode : (table after : Entries) (items : List Item) (frames : List Frame) (lines : List ℕ)
-    → AreShown table items frames after lines → ItemsDecode table items after
+pub shown_decode : (table after : Entries) (items : List Item) (frames : List Frame)
+    (lines : List ℕ) → AreShown table items frames after lines → ItemsDecode table items after
 shown_decode table after [] frames lines (none, same, empty) = same
 shown_decode table after (alone frame ∷ items) frames lines
     (following, text, joined, is, all, one) = shown_decode table after items following text one

@@ -18,7 +18,8 @@ use Rattle.std.specs.List.{position_or_len}
 use Rattle.std.proofs.lemmas.Fmt.{decimal_digit}
 use Rattle.h2_frame.specs.Frames.{Reset, Settings, Ping, GoAway, WindowUpdate}
 use Rattle.h2_frame.specs.Pairs.{pairs_in, pairs_of}
-use Rattle.h2_show.specs.Lines.{hex_digit, hex_octet, is_plain, shown_octet, shown_octets, flag_word}
+use Rattle.h2_show.specs.Lines.{hex_digit, hex_octet, is_plain, shown_octet, shown_octets}
+use Rattle.h2_show.specs.Lines.{flag_word}
 use Rattle.h2_show.specs.Lines.{pair_words}
 use Rattle.h2_show.specs.Lines.{frame_words}
 use Rattle.h2_frame.proofs.PairLemmas.{length-pairs_in}

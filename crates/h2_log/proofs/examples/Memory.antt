@@ -71,8 +71,8 @@ unfolding computing
 fails_for_memory = fails refl refl refl
 
 -- It takes memory where the stream is reset, and not where the connection fails of itself: at the
--- 1,001st reset, where RST_STREAM would bring the output above 262,144 octets, with code 2. No other
--- call makes the connection fail.
+-- 1,001st reset, where RST_STREAM would bring the output above 262,144 octets, with code 2. No
+-- other call makes the connection fail.
 -- rule: 5.4 (own) Being out of memory hides no other fault of the connection
 calls_that_fail_for_memory :
     (map (λ view. may_fail_for_memory view (Refuse 1 1)) (active_view
