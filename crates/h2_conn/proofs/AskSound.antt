@@ -7,12 +7,12 @@ use Rattle.h2_log.specs.Acts.{Act, IsTypedAct, Refuse, PutOut}
 use Rattle.h2_log.specs.CallRules.{refusal_of, returns_before_put_out, conditions, first_of}
 use Rattle.h2_machine.specs.End.{End, end_view}
 use Rattle.h2_machine.specs.Machine.{after_call, before_put_out_at, return_credit}
-use Rattle.h2_machine_laws.proofs.BoundsOfCalls.{call_bounded}
-use Rattle.h2_machine_laws.proofs.ConservedByCalls.{call_holds}
+use Rattle.h2_machine_laws.proofs.BoundsOfSteps.{call_bounded}
+use Rattle.h2_machine_laws.proofs.ConservedBySteps.{call_holds}
 use Rattle.h2_machine_laws.proofs.ConservedBySteps.{holds, is_whole}
-use Rattle.h2_machine_laws.proofs.CountedByCalls.{call_counts}
+use Rattle.h2_machine_laws.proofs.CountedBySteps.{call_counts}
 use Rattle.h2_machine_laws.proofs.CountedBySteps.{counted, is_counted}
-use Rattle.h2_machine_laws.proofs.RangesOfCalls.{call_fits}
+use Rattle.h2_machine_laws.proofs.RangesOfSteps.{call_fits}
 use Rattle.h2_machine_laws.proofs.RangesOfSteps.{fits, are_in_range}
 use Rattle.h2_core.specs.Calls.{CallRefused, CallAccepted, CallRefuses}
 use Rattle.h2_core.specs.Endpoint.{IsSound}

@@ -15,14 +15,14 @@ use Rattle.h2_log.specs.Memory.{credit_needs_memory}
 use Rattle.h2_machine.specs.End.{End, end_view}
 use Rattle.h2_machine.specs.Machine.{after_frame, close_unprocessed, unprocessed_of_end}
 use Rattle.h2_machine_laws.specs.Ranges.{IsDecodedAt}
-use Rattle.h2_machine_laws.proofs.BoundsOfFrames.{frame_bounded}
+use Rattle.h2_machine_laws.proofs.BoundsOfSteps.{frame_bounded}
 use Rattle.h2_machine_laws.proofs.BoundsOfSteps.{is_up, is_bounded, ended_up}
-use Rattle.h2_machine_laws.proofs.ConservedByFrames.{frame_holds}
+use Rattle.h2_machine_laws.proofs.ConservedBySteps.{frame_holds}
 use Rattle.h2_machine_laws.proofs.ConservedBySteps.{holds, is_whole, ended, lacks_none}
-use Rattle.h2_machine_laws.proofs.CountedByFrames.{frame_counts}
+use Rattle.h2_machine_laws.proofs.CountedBySteps.{frame_counts}
 use Rattle.h2_machine_laws.proofs.CountedBySteps.{counted, is_counted}
 use Rattle.h2_machine_laws.proofs.CountedUnprocessed.{unprocessed_counts}
-use Rattle.h2_machine_laws.proofs.RangesOfFrames.{frame_in_range}
+use Rattle.h2_machine_laws.proofs.RangesOfSteps.{frame_in_range}
 use Rattle.h2_machine_laws.proofs.RangesOfSteps.{fits, are_in_range, closed_fits}
 use Rattle.h2_core.specs.Endpoint.{IsSound}
 use Rattle.h2_core.specs.Frames.{IsDecodedBy, FailsWithoutMemory}

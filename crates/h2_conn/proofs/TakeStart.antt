@@ -14,13 +14,13 @@ use Rattle.h2_log.specs.Histories.{begins}
 use Rattle.h2_machine.specs.End.{End}
 use Rattle.h2_machine.specs.Machine.{new_end}
 use Rattle.h2_machine.specs.Represents.{Represents}
-use Rattle.h2_machine_laws.proofs.BoundsOfCalls.{new_bounded}
-use Rattle.h2_machine_laws.proofs.ConservedByCalls.{new_holds}
+use Rattle.h2_machine_laws.proofs.BoundsOfSteps.{new_bounded}
+use Rattle.h2_machine_laws.proofs.ConservedBySteps.{new_holds}
 use Rattle.h2_machine_laws.proofs.ConservedBySteps.{is_whole}
-use Rattle.h2_machine_laws.proofs.CountedByCalls.{new_counts}
+use Rattle.h2_machine_laws.proofs.CountedBySteps.{new_counts}
 use Rattle.h2_machine_laws.proofs.CountedBySteps.{is_counted}
 use Rattle.h2_machine_laws.proofs.NewEnd.{new_represents}
-use Rattle.h2_machine_laws.proofs.RangesOfCalls.{new_fits}
+use Rattle.h2_machine_laws.proofs.RangesOfSteps.{new_fits}
 use Rattle.h2_machine_laws.proofs.RangesOfSteps.{are_in_range}
 use Rattle.h2_end_laws.proofs.PayloadLimits.{payload_limits, limits_to_come}
 use Rattle.h2_core.specs.Endpoint.{IsSound}

@@ -162,7 +162,9 @@ impl Conn {
     ///
     /// # Errors
     ///
-    /// `Memory` (C12). Nothing has changed.
+    /// `Memory` (C12). Nothing has changed. It does not come where `out` has the capacity, unless
+    /// something is returned first: while the connection is up, [`Conn::due`] is not 0, and less
+    /// than 65,536 octets wait. Then it may come even for a `count` of 0.
     pub fn put_out(&mut self, count: usize, out: &mut Vec<u8>) -> Result<usize, Refusal>
         ensures answers { ConnAnswers self.old (PutOut count)
             (answer_by (λ given. Count given) result) self.new }

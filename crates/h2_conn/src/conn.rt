@@ -82,7 +82,9 @@ impl Conn {
     ///
     /// # Errors
     ///
-    /// [`ConnFault`] where the connection fails, and at every call from then on.
+    /// [`ConnFault`] where the connection fails, and at every call from then on. With
+    /// INTERNAL_ERROR (2) it is no fault of the peer's: memory was refused to keep a frame that is
+    /// cut in two, for a frame that takes some, or for credit that is returned.
     pub fn advance(&mut self, piece: &[u8]) -> Result<Progress, ConnFault>
         ensures used { IfOk result (λ progress. progress.used ≤ length piece.now) }
         ensures lies { LiesThere self.new.inner.cutter piece.now (code_result result) }
@@ -132,7 +134,9 @@ impl Conn {
     ///
     /// # Errors
     ///
-    /// [`ConnFault`] where the connection fails, and at every call from then on.
+    /// [`ConnFault`] where the connection fails, and at every call from then on. With
+    /// INTERNAL_ERROR (2) it is no fault of the peer's: memory was refused to keep a frame that is
+    /// cut in two, for a frame that takes some, or for credit that is returned.
     pub fn take<'a>(&'a mut self, piece: &'a [u8]) -> Result<Taken<'a>, ConnFault>
         ensures used { IfOk result (λ taken. taken.used ≤ length piece.now) }
 

@@ -1,7 +1,7 @@
 -- The first of some conditions that holds, and calls that are refused for it.
 use Rattle.std.proofs.Common.{◌≡◌, Bool, true, false, List, ◌∷◌, Option, Some, None, refl, inl, inr}
 use Rattle.std.specs.Option.{is_some, option_map}
-use Rattle.std.specs.Prelude.{Result, Ok, Err, OnOk, OnErr}
+use Rattle.std.specs.Prelude.{Result, Ok, Err, OnErr}
 use Rattle.std.specs.Result.{is_err}
 use Rattle.h2_log.specs.declared.refusal.Refusal.{Refusal}
 use Rattle.h2_log.specs.declared.refusal.Refusal.TheVariants.{Memory}
@@ -9,7 +9,6 @@ use Rattle.h2_log.specs.Acts.{Act}
 use Rattle.h2_log.specs.CallRules.{first_of, refusal_of}
 use Rattle.h2_machine.specs.End.{End, end_view}
 use Rattle.h2_core.specs.Calls.{CallRefused}
-use Rattle.hpack.proofs.ResultLemmas.{on_ok as unless_err}
 
 -- It holds.
 pub holds_first : (holds : Bool) (refusal : Refusal) (conditions : List (Bool × Refusal))

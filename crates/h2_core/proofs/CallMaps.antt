@@ -1,7 +1,7 @@
 -- What is kept of a number that is added to the streams, and taken away again.
 use Rattle.std.proofs.Common.{◌≡◌, ℕ, ◌==◌, Bool, true, false, if◌then◌else◌, Some, None, refl, sym}
-use Rattle.std.proofs.Common.{ap, ◌∙◌, eq-eqb}
-use Rattle.std.specs.Cmp.{nat_cmp_total, unsigned_tied}
+use Rattle.std.proofs.Common.{ap, ◌∙◌}
+use Rattle.std.specs.Cmp.{nat_cmp_total}
 use Rattle.std.specs.FinMap as map
 use Rattle.std.proofs.lemmas.Bool.{eqb-true}
 use Rattle.h2_machine.specs.End.{Entry, StreamMap}

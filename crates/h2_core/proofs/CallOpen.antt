@@ -1,16 +1,14 @@
 -- Opening a stream: what holds where no condition refuses it, and what it makes of an end.
 use Rattle.std.proofs.Common.{◌≡◌, ℕ, ◌+◌, ◌==◌, ◌≤◌, ◌<◌, Bool, true, false, List, [], ◌∷◌}
-use Rattle.std.proofs.Common.{if◌then◌else◌, Option, Some, None, refl, ap, ◌∙◌, arith}
-use Rattle.std.specs.Option.{is_some}
+use Rattle.std.proofs.Common.{None, refl, ap, ◌∙◌, arith}
 use Rattle.std.specs.FinMap as map
 use Rattle.std.proofs.lemmas.Bool.{ltb-false, eqb-true, or_parts}
 use Rattle.hpack.specs.declared.types.field.Field.{Field}
 use Rattle.hpack.specs.Choice.{block_of, after_block}
 use Rattle.hpack.specs.Lists.{list_size}
 use Rattle.h2_block.specs.Grouping.{block}
-use Rattle.h2_log.specs.declared.refusal.Refusal.{Refusal}
 use Rattle.h2_log.specs.Acts.{Open}
-use Rattle.h2_log.specs.CallRules.{first_of, conditions, refusal_of, items_of, encoder_after_call}
+use Rattle.h2_log.specs.CallRules.{conditions, refusal_of, items_of, encoder_after_call}
 use Rattle.h2_log.specs.Settings.{is_server}
 use Rattle.h2_log.specs.View.{StreamView}
 use Rattle.h2_machine.specs.End.{End, end_view, active_entry, number_after}

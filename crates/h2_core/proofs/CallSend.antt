@@ -3,13 +3,12 @@
 use Rattle.std.proofs.Common.{ap, sym, ◌∙◌, suc, ◌+◌, take, add-one}
 use Rattle.std.proofs.lemmas.List.{length-take-le}
 use Rattle.std.proofs.Common.{◌≡◌, ℕ, ◌-◌, ◌≤◌, ◌<◌, ◌==◌, not, ◌&&◌, Bool, true, false, List, []}
-use Rattle.std.proofs.Common.{◌∷◌, ◌++◌, length, pos, ◌-ℤ◌, Some, None}
+use Rattle.std.proofs.Common.{◌∷◌, length, pos, ◌-ℤ◌, Some, None}
 use Rattle.std.proofs.lemmas.Bool.{lt-leb, lt-ltb, le-ltb}
 use Rattle.hpack.specs.declared.types.field.Field.{Field}
 use Rattle.hpack.specs.Choice.{block_of, after_block}
 use Rattle.hpack.specs.Lists.{list_size}
 use Rattle.h2_block.specs.Grouping.{Item, block}
-use Rattle.h2_log.specs.declared.refusal.Refusal.{Refusal}
 use Rattle.h2_log.specs.declared.refusal.Refusal.TheVariants.{ListTooLarge}
 use Rattle.h2_log.specs.Acts.{SendFields, SendData}
 use Rattle.h2_log.specs.CallRules.{first_of, conditions, refusal_of, data_count, data_items}

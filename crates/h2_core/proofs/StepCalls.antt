@@ -1,8 +1,7 @@
 -- Why calls are refused, and what accepted calls make of an end, by the tests that the code makes.
 use Rattle.std.proofs.Common.{◌≡◌, ℕ, Bool, true, false, if◌then◌else◌, List, [], ◌∷◌, Option, Some}
-use Rattle.std.proofs.Common.{◌≤◌, ◌<◌, None, Result, Ok, Err, inl, inr, is_some, nat_le, not, refl}
-use Rattle.std.proofs.Common.{sym, ap, arith}
-use Rattle.std.proofs.lemmas.Bool.Decides.{nat_tests}
+use Rattle.std.proofs.Common.{None, Result, Ok, Err, inl, inr, is_some, not, refl}
+use Rattle.std.proofs.Common.{sym, ap}
 use Rattle.std.specs.Result.{OnOk, OnErr, is_err}
 use Rattle.h2_frame.specs.Frames.{Reset, Ping, GoAway}
 use Rattle.h2_block.specs.Grouping.{alone}
@@ -14,7 +13,6 @@ use Rattle.h2_log.specs.CallRules.{refusal_of, first_of, is_no_stream, items_of,
 use Rattle.h2_machine.specs.End.{End, end_view, stream_at}
 use Rattle.h2_machine.specs.Machine.{after_call, queue_output, reset_stream}
 use Rattle.h2_core.specs.Calls.{CallRefused}
-use Rattle.h2_frame.proofs.EncodingLemmas.{le_fails as le-false, le_passes as le-true}
 
 -- The first condition holds.
 pub first-here : (refusal : Refusal) (others : List (Bool × Refusal)) (test : Bool) → test ≡ true

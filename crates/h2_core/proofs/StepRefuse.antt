@@ -1,7 +1,7 @@
 -- When a layer above refuses a stream: the condition of the call, and what it makes of an end.
 use Rattle.std.proofs.Common.{◌≡◌, ◌≢◌, ℕ, ◌+◌, ◌==◌, Bool, true, false, ◌&&◌, ◌||◌, not, nat_lt}
 use Rattle.std.proofs.Common.{if◌then◌else◌}
-use Rattle.std.proofs.Common.{[], ◌∷◌, length, Some, None, is_some, refl, ap, ap₂, ◌∙◌}
+use Rattle.std.proofs.Common.{[], ◌∷◌, length, Some, None, is_some, ap, ap₂, ◌∙◌}
 use Rattle.std.proofs.Common.{eq-eqb, ne_eqb, nat_le}
 use Rattle.h2_frame.specs.declared.code.Code.TheVariants.{InternalError, EnhanceYourCalm}
 use Rattle.h2_frame.specs.Frames.{Reset}

@@ -1,7 +1,7 @@
 -- What the steps on a stream make of an end, by the stream that is active.
 use Rattle.std.proofs.Common.{◌≡◌, ℕ, ◌+◌, ◌-◌, ◌==◌, Bool, true, false, ◌&&◌, if◌then◌else◌}
-use Rattle.std.proofs.Common.{Option, Some, None, is_some, eq-eqb, refl, sym, ap, ap₂, ◌∙◌, arith}
-use Rattle.std.specs.Cmp.{nat_cmp_total, unsigned_tied}
+use Rattle.std.proofs.Common.{Option, Some, None, is_some, refl, sym, ap, ap₂, ◌∙◌, arith}
+use Rattle.std.specs.Cmp.{nat_cmp_total}
 use Rattle.std.specs.FinMap as map
 use Rattle.h2_log.specs.View.{StreamView}
 use Rattle.h2_machine.specs.End.{Entry, active_entry, reset_entry, StreamMap, End}

@@ -24,7 +24,7 @@ is_over_limits e =
 -- A stream is reset with the code, and what the item took of the connection's window is unreturned;
 -- or that is one more RST_STREAM than this end sends, and nothing has changed; or it isn't, but
 -- memory was refused, and nothing has changed.
--- rule: 5.4 (own) Only steps that reply, change streams or return credit take memory
+-- rule: 5.4 (own) Only blocks, replies, resets and returned credit take memory
 abbrev pub ResetsForFault : Endpoint → ℕ → Code → (flow opened : ℕ)
     → Result (Option Reported) StepError → Endpoint → Type 0
 ResetsForFault one id code flow opened (Ok reported) new =

@@ -26,7 +26,7 @@ impl Endpoint {
     // contract: 5.1.1 A stream that is opened closes all lower idle ones
     // contract: 5.4.1 A connection error is answered by GOAWAY, and nothing is sent after
     // contract: 5.4 (own) Being out of memory hides no other fault of the connection
-    // contract: 5.4 (own) Only steps that reply, change streams or return credit take memory
+    // contract: 5.4 (own) Only blocks, replies, resets and returned credit take memory
     // contract: 6.1 The complete payload of DATA, padding included, counts for windows
     // contract: 6.5.3 Own SETTINGS hold once they are acknowledged, and not before
     // contract: 4.3 No other frame is sent between the frames of a field block
@@ -42,7 +42,8 @@ impl Endpoint {
     ///
     /// The code with which the connection has failed; GOAWAY with it is the last frame of the
     /// output. INTERNAL_ERROR says that an allocation was refused: to a part of a field block, or
-    /// to another frame that takes memory, and never in place of a fault of the connection.
+    /// to another frame that takes memory, and never in place of a fault of the connection, but of
+    /// one that a field block makes once it is decoded.
     pub fn take_frame<'a>(&mut self, frame: FrameRef<'a>) -> Result<Option<Reported<'a>>, Code>
         requires sound { IsSound (end_of self.old) }
         requires up { self.old.failed ≡ None }
@@ -117,8 +118,8 @@ impl Endpoint {
     // rule: 5.1 PRIORITY is ignored in every state
     // rule: 5.5 A frame of an unknown type passes as it is, and an end ignores it
     // contract: 5.4 (own) Being out of memory hides no other fault of the connection
-    // contract: 5.4 (own) Only steps that reply, change streams or return credit take memory
-    // rule: 5.4 (own) Only steps that reply, change streams or return credit take memory
+    // contract: 5.4 (own) Only blocks, replies, resets and returned credit take memory
+    // rule: 5.4 (own) Only blocks, replies, resets and returned credit take memory
     // rule: 6.1 The complete payload of DATA, padding included, counts for windows
     /// A frame that is no part of a block, outside blocks.
     fn take_alone<'a>(&mut self, frame: FrameRef<'a>) -> Result<Option<Reported<'a>>, StepError>

@@ -24,6 +24,7 @@ use hpack::FieldList;
 
 impl Endpoint {
     // contract: 6.9 Nothing of the window of the connection is lost
+    // contract: calls (own) A call that sends nothing takes no memory
     /// Appends as many octets of the output as wait, and at most `count`, to `out`, and takes them
     /// away. Where less than the full output waits, all that is unreturned is returned first. It
     /// works after a failure too.

@@ -64,7 +64,7 @@ impl Endpoint {
     // rule: 5.1.1 A field block on an idle number not the peer's is PROTOCOL_ERROR
     // contract: 5.4 (own) Being out of memory hides no other fault of the connection
     // rule: 5.4 (own) Being out of memory hides no other fault of the connection
-    // contract: 5.4 (own) Only steps that reply, change streams or return credit take memory
+    // contract: 5.4 (own) Only blocks, replies, resets and returned credit take memory
     /// A block that was decoded, whose list is above the limit or else kept.
     fn take_decoded<'a>(
         &mut self,
@@ -113,7 +113,7 @@ impl Endpoint {
         }
         let mut changed = stream;
         changed.state.ended_in = end;
-        reserve_if_over(&mut self.output, changed.state)?;
+        reserve_if_over(&mut self.output, changed)?;
         self.update_stream(id, changed);
         Ok(Some(Reported::Fields { id, end }))
     }

@@ -15,7 +15,6 @@ ghost use Rattle.h2_core.specs.Streams.{IsNear, WindowHolds, is_over, owed_by};
 
 use crate::endpoint::Endpoint;
 use crate::limits::{FULL_OUTPUT, SMALL_FRAME};
-use h2_flow::StreamState;
 use h2_frame::FrameRef;
 use h2_output::Output;
 use h2_streams::Stream;
@@ -39,13 +38,15 @@ impl Endpoint {
     }
 
     /// An active stream is changed to this one: it is over once both sides have ended it, and then
-    /// there is room for a WINDOW_UPDATE.
+    /// there is room for a WINDOW_UPDATE where what it owes is returned at once.
     pub(crate) fn update_stream(&mut self, id: u32, stream: Stream)
         requires up { self.old.failed ≡ None }
         requires active { stream_at (end_of self.old) id ≢ None }
         requires near { IsNear stream }
         requires counted { 1 ≤ self.old.active_count }
-        requires room { is_over stream.state ≡ true → 13 ≤ self.old.output.spare }
+        requires room { is_over stream.state ≡ true
+            → returns_credit stream.owed (length self.old.output.waiting) ≡ true
+            → 13 ≤ self.old.output.spare }
         requires window { WindowHolds self.old stream.owed }
         ensures after { end_of self.new
             ≡ update_stream (end_of self.old) id (stream_view stream) }
@@ -99,25 +100,28 @@ impl Endpoint {
     }
 }
 
-// rule: 5.4 (own) Only steps that reply, change streams or return credit take memory
-/// Makes room for a WINDOW_UPDATE where a stream with these sides is over.
+// rule: 5.4 (own) Only blocks, replies, resets and returned credit take memory
+/// Makes room for a WINDOW_UPDATE where a stream is over, and what it owes is returned at once.
 ///
 /// # Errors
 ///
 /// [`AllocError`] where it is, and an allocation was refused; nothing has changed.
-pub(crate) fn reserve_if_over(output: &mut Output, state: StreamState) -> Result<(), AllocError>
+pub(crate) fn reserve_if_over(output: &mut Output, stream: Stream) -> Result<(), AllocError>
     ensures waiting { output.new.waiting ≡ output.old.waiting }
     ensures ended { output.new.ended ≡ output.old.ended }
-    ensures ok { OnOk result (is_over state ≡ true → 13 ≤ output.new.spare) }
-    ensures err { OnErr result (is_over state ≡ true) }
+    ensures ok { OnOk result (is_over stream.state ≡ true
+        → returns_credit stream.owed (length output.old.waiting) ≡ true
+        → 13 ≤ output.new.spare) }
+    ensures err { OnErr result ((is_over stream.state ≡ true)
+        × (returns_credit stream.owed (length output.old.waiting) ≡ true)) }
 {
-    if state.closed() {
-        output.reserve(SMALL_FRAME)?;
+    if stream.state.closed() {
+        reserve_credit(output, stream.owed)?;
     }
     Ok(())
 }
 
-// rule: 5.4 (own) Only steps that reply, change streams or return credit take memory
+// rule: 5.4 (own) Only blocks, replies, resets and returned credit take memory
 /// Makes room for a WINDOW_UPDATE where so many octets more of the connection's window are returned
 /// at once.
 ///

@@ -174,7 +174,7 @@ impl Server {
     ///
     /// # Errors
     ///
-    /// `Memory` (C12). Nothing has changed.
+    /// `Memory` (C12), as of [`Conn::put_out`]. Nothing has changed.
     pub fn put_out(&mut self, count: usize, out: &mut Vec<u8>) -> Result<usize, Refusal>
         ensures answers { EndAnswers self.old.end (PutOut count)
             (answer_by (λ given. Count given) result) self.new.end }

@@ -3,7 +3,7 @@
 -- standard: it says how little of what the peer has done being out of memory may hide.
 -- contract: h2_conn::Conn::take
 use Rattle.std.specs.Prelude.{◌≡◌, ◌≢◌, ◌&&◌, nat_lt, Bool, true, false, ℕ, List, [], ◌++◌}
-use Rattle.std.specs.Prelude.{length, None, not, ◌==◌}
+use Rattle.std.specs.Prelude.{length, None, ◌+◌}
 use Rattle.h2_frame.specs.declared.code.Code.{Code}
 use Rattle.h2_frame.specs.Frames.{Frame, Data, Reset, Settings, Ping}
 use Rattle.h2_frame.specs.Encoding.{payload_of}
@@ -24,12 +24,12 @@ use Rattle.h2_log.specs.ItemRules.{frame_step, verdict_of}
 abbrev pub credit_needs_memory : View → ℕ → Bool
 credit_needs_memory view id = returns_credit (owed_on (view.stream id)) view.waiting
 
--- Whether a step may take memory for an item with this verdict: where the item is replied to, a
--- stream is opened or reset by this end, a stream is over with DATA of the peer's, or credit is
--- returned, for DATA that is discarded or for a stream that the peer resets. A fault of the
--- connection takes none, so that being out of memory hides none.
+-- Whether a step may take memory for an item with this verdict: where the item is a field block, is
+-- replied to, or is a fault of a stream; or where credit is returned, for DATA that is discarded or
+-- with which a stream is over, or for a stream that the peer resets. A fault of the connection
+-- takes none, so that being out of memory hides none.
 -- rule: 5.4 (own) Being out of memory hides no other fault of the connection
--- rule: 5.4 (own) Only steps that reply, change streams or return credit take memory
+-- rule: 5.4 (own) Only blocks, replies, resets and returned credit take memory
 abbrev pub needs_memory : View → Verdict → Item → Bool
 needs_memory view (StreamFault code) item = true
 needs_memory view NoEvent (alone (Data stream end octets pad)) =
@@ -38,6 +38,8 @@ needs_memory view NoEvent (alone (Settings false pairs)) = true
 needs_memory view NoEvent (alone (Ping false octets)) = true
 needs_memory view Reported (alone (Data stream end octets pad)) =
     end && ended_out (view.stream stream)
+    && returns_credit (owed_on (view.stream stream)
+    + length (payload_of (Data stream end octets pad))) view.waiting
 needs_memory view Reported (alone (Reset stream code)) = credit_needs_memory view stream
 needs_memory view Reported (block stream end octets) = true
 needs_memory view verdict item = false
@@ -45,7 +47,7 @@ needs_memory view verdict item = false
 -- Whether a frame with this step may take memory, by the view of the end outside of field blocks: a
 -- part of a field block always may, to gather and decode it; any other frame only where its verdict
 -- needs it, and one that fails the connection before it is an item never does.
--- rule: 5.4 (own) Only steps that reply, change streams or return credit take memory
+-- rule: 5.4 (own) Only blocks, replies, resets and returned credit take memory
 abbrev pub step_needs_memory : View → FrameStep → Bool
 step_needs_memory view (fails_with code) = false
 step_needs_memory view (begins_block begun) = true

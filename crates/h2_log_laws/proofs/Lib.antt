@@ -35,7 +35,7 @@ pub mod ReplyInvariant
 pub mod RulesByTests
 pub mod SentByLogs
 pub mod SettingsLists
-pub mod SizesOfLogs
+pub mod PayloadsOfLogs
 pub mod StreamNumbers
 pub mod TablesInStep
 pub mod TurnsOfLogs

@@ -1,6 +1,6 @@
 pub mod Accepting
 pub mod Sending
-pub mod Sizes
+pub mod Payloads
 pub mod Sums
 pub mod Tables
 pub mod Turns

@@ -16,7 +16,7 @@ pub use accepts::{
     reset_is_no_fault, settings_are_no_fault, update_is_no_fault, what_may_be_written_is_no_fault,
 };
 pub use origins::{origin, what_is_written_is_allowed};
-pub use output::{output_by_sizes, payload_fits, written_items_are_read};
+pub use output::{output_by_payloads, payload_fits, written_items_are_read};
 pub use states::{next_active_stream, states_of_streams};
 pub use tables::{block_fits, encoder_of_a_log, limits_agree, tables_in_step};
 pub use turns::turns_of_a_log;

@@ -11,7 +11,7 @@ ghost use Rattle.h2_log.specs.Settings.{value_read};
 ghost use Rattle.h2_log.specs.Log.{Log, max_payload_sent};
 ghost use Rattle.h2_log.specs.Histories.{IsLog};
 ghost use Rattle.h2_log_laws.specs.Sending.{IsSendable, frames_of_items, oldest_first};
-ghost use Rattle.h2_log_laws.specs.Sizes.{WrittenBySizes};
+ghost use Rattle.h2_log_laws.specs.Payloads.{WrittenByPayloads};
 
 // contract: 4.1 What an end sends is read as its frames, without a fault
 /// What is written of items that can be sent, whatever the greatest payload is, is read as their
@@ -35,11 +35,11 @@ pub fn payload_fits()
         → max_payload_sent log ≤ value_read 5 16384 log.received }
 {}
 
-// contract: 4.2 (own) Payloads of at most 16,384 octets are sent
+// contract: 4.2 (own) Each item is written with the greatest payload in force then
 /// All that an end has written is a client's preface and its items, each as it is encoded with the
-/// greatest payload that was in force then: 16,384 octets or more, up to the own limit (RFC 9113,
-/// section 4.2).
-pub fn output_by_sizes()
+/// greatest payload that was in force by what the end had read before it (RFC 9113, sections 4.2
+/// and 6.5.2).
+pub fn output_by_payloads()
     ensures { (role : Role) (values : Values) (log : Log) → IsLog role values log
-        → WrittenBySizes log }
+        → WrittenByPayloads log }
 {}

@@ -3,8 +3,6 @@ pub mod AlikeAnswers
 pub mod AlikeFrames
 mod BlocksBegun
 pub mod BoundedLogs
-pub mod BoundsOfCalls
-pub mod BoundsOfFrames
 pub mod BoundsOfSteps
 mod CallFailing
 mod CallLaw
@@ -15,11 +13,7 @@ mod CallReset
 mod CallSend
 mod CallSendItems
 pub mod CallWithoutStream
-pub mod ConservedByCalls
-pub mod ConservedByFrames
 pub mod ConservedBySteps
-pub mod CountedByCalls
-pub mod CountedByFrames
 pub mod CountedBySteps
 pub mod CountedUnprocessed
 mod EachStream
@@ -43,8 +37,6 @@ mod OwedAtClose
 pub mod OwedOnStreams
 pub mod OwedSums
 mod QuietNumbers
-pub mod RangesOfCalls
-pub mod RangesOfFrames
 pub mod RangesOfSteps
 mod RecvBeside
 mod RecvBlocks

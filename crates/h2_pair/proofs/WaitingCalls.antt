@@ -17,7 +17,7 @@ use Rattle.h2_log.proofs.SentPayloads.{most_is_limit}
 use Rattle.h2_log_laws.proofs.BlockSizes.{block_is_gathered}
 use Rattle.h2_log_laws.proofs.CallConditions.{AreFalse}
 use Rattle.h2_log_laws.proofs.ItemSizes.{size_of, size-block, size-ping, size-goaway, size-change}
-use Rattle.h2_machine_laws.proofs.BoundsOfCalls.{data_size, release_size}
+use Rattle.h2_log_laws.proofs.RulesByTests.{data_size, release_size}
 use Rattle.h2_pair.proofs.WaitingReplies.{is_reply}
 use Rattle.h2_pair.proofs.WaitingSteps.{Fits, fits_same, fits_reply, fits_small, has_space}
 use Rattle.h2_log_laws.proofs.RulesByTests.{count_few}

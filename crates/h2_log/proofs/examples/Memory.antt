@@ -1,7 +1,8 @@
 -- Memory that is refused.
 use Rattle.std.specs.Prelude.{Some, None, [], false, map, refl, replicate, true, ◌++◌, ◌∷◌, ◌≡◌}
-use Rattle.std.specs.Prelude.{◌≤◌, ◌<◌}
-use Rattle.std.proofs.Common.{arith}
+use Rattle.std.specs.Prelude.{◌≤◌, ◌<◌, ℕ, List, pos}
+use Rattle.std.proofs.Math.ListN.{get_or}
+use Rattle.std.proofs.Common.{arith, ap}
 use Rattle.h2_frame.specs.declared.code.Code.TheVariants.{InternalError, FrameSizeError, NoError}
 use Rattle.h2_frame.specs.Frames.{Continuation, Data, GoAway, Headers, Ping, Priority, Reset}
 use Rattle.h2_frame.specs.Frames.{Settings, Unknown, WindowUpdate}
@@ -13,7 +14,12 @@ use Rattle.h2_log.specs.Events.{DataEvent, FieldsEvent}
 use Rattle.h2_log.specs.LogCalls.{MayAnswer, fails, lacks, with_call}
 use Rattle.h2_log.specs.LogSteps.{took_out_of_memory}
 use Rattle.h2_log.specs.LogView.{log_view}
+use Rattle.h2_block.specs.Grouping.{alone}
+use Rattle.h2_log.specs.ItemRules.{completes}
+use Rattle.h2_log.specs.Log.{Log}
+use Rattle.h2_log.specs.Verdicts.{NoEvent, Reported}
 use Rattle.h2_log.specs.Memory.{KeepsOctets, credit_needs_memory, frame_needs_memory}
+use Rattle.h2_log.specs.Memory.{needs_memory, step_needs_memory}
 use Rattle.h2_log.specs.declared.refusal.Refusal.TheVariants.{Memory}
 use Rattle.h2_log.proofs.Computing.{computing}
 use Rattle.h2_log.proofs.examples.Blocks.{resetting_server}
@@ -56,14 +62,17 @@ calls_that_take_no_memory :
     ≡ false ∷ true ∷ false ∷ [])
     × (map (λ view. may_lack_memory view (PutOut 5)) (record active_view { waiting = 0 }
     ∷ record active_view { waiting = 1 } ∷ record active_view { waiting = 0; unreturned = 3 }
-    ∷ record active_view { waiting = 65536; unreturned = 3 } ∷ record active_view {
+    ∷ record active_view {
       waiting = 0;
       unreturned = 3;
       failed = Some NoError;
     } ∷ [])
-    ≡ false ∷ true ∷ true ∷ true ∷ false ∷ [])
+    ≡ false ∷ true ∷ true ∷ false ∷ [])
+    × (map (λ view. may_lack_memory view (PutOut 0)) (record active_view { unreturned = 3 }
+    ∷ record active_view { waiting = 65536; unreturned = 3 } ∷ [])
+    ≡ true ∷ false ∷ [])
 unfolding computing
-calls_that_take_no_memory = (refl, refl)
+calls_that_take_no_memory = (refl, refl, refl)
 
 -- Refusing a stream isn't.
 fails_for_memory : MayAnswer (server_with_body false) (Refuse 1 1) OutOfMemory
@@ -96,7 +105,7 @@ calls_refused_for_memory = (refl, refl)
 
 -- Frames that may take memory, at a server with one active stream: those that are replied to, parts
 -- of field blocks, and faults of a stream.
--- rule: 5.4 (own) Only steps that reply, change streams or return credit take memory
+-- rule: 5.4 (own) Only blocks, replies, resets and returned credit take memory
 frames_that_need_memory :
     map (frame_needs_memory active_server) (Ping false one_to_eight ∷ Settings false []
     ∷ Headers 3 true true get_block None None ∷ Headers 3 true false [] None None
@@ -105,36 +114,53 @@ frames_that_need_memory :
 unfolding computing
 frames_that_need_memory = refl
 
--- DATA that ends a stream takes some where this end has ended it, too; RST_STREAM where octets are
--- owed on its stream.
--- rule: 5.4 (own) Only steps that reply, change streams or return credit take memory
+-- a server that has answered the request on its active stream, whole
+abbrev answered_server : Log
+answered_server = with_call active_server (SendFields 1 short_answer true) Done
+
+-- DATA that ends a stream takes some where this end has ended it, too, and credit is returned: not
+-- where it goes on, nor where no octets came and none are owed. RST_STREAM takes some where octets
+-- are owed on its stream.
+-- rule: 5.4 (own) Only blocks, replies, resets and returned credit take memory
 ends_that_need_memory :
-    (map (λ log. frame_needs_memory log (Data 1 true abcd None)) (active_server
-    ∷ with_call active_server (SendFields 1 short_answer true) Done ∷ [])
+    (map (λ log. frame_needs_memory log (Data 1 true abcd None)) (active_server ∷ answered_server
+    ∷ [])
     ≡ false ∷ true ∷ [])
+    × (map (frame_needs_memory answered_server) (Data 1 false abcd None ∷ Data 1 true [] None
+    ∷ Data 1 true [] (Some 0) ∷ [])
+    ≡ false ∷ false ∷ true ∷ [])
+    × (map (λ view. needs_memory view Reported (alone (Data 1 true abcd None)))
+    (record (log_view answered_server) { waiting = 65535 }
+    ∷ record (log_view answered_server) { waiting = 65536 } ∷ [])
+    ≡ true ∷ false ∷ [])
     × (map (λ log. frame_needs_memory log (Reset 1 8)) (active_server ∷ server_with_body false
     ∷ server_with_release false ∷ [])
     ≡ false ∷ true ∷ false ∷ [])
 unfolding computing
-ends_that_need_memory = (refl, refl)
+ends_that_need_memory = (refl, refl, refl, refl)
 
 -- DATA on a stream that this end has reset takes some where it has octets, or padding: the
 -- connection's window is returned.
--- rule: 5.4 (own) Only steps that reply, change streams or return credit take memory
+-- rule: 5.4 (own) Only blocks, replies, resets and returned credit take memory
 discarded_data_that_needs_memory :
-    map (frame_needs_memory resetting_server) (Data 1 false [] None ∷ Data 1 false abcd None
+    (map (frame_needs_memory resetting_server) (Data 1 false [] None ∷ Data 1 false abcd None
     ∷ Data 1 true [] (Some 0) ∷ [])
-    ≡ false ∷ true ∷ true ∷ []
+    ≡ false ∷ true ∷ true ∷ [])
+    × (map (λ view. needs_memory view NoEvent (alone (Data 1 false abcd None)))
+    (record (log_view resetting_server) { waiting = 65535 }
+    ∷ record (log_view resetting_server) { waiting = 65536 } ∷ [])
+    ≡ true ∷ false ∷ [])
 unfolding computing
-discarded_data_that_needs_memory = refl
+discarded_data_that_needs_memory = (refl, refl)
 
 -- The end of a stream takes some where octets are owed on it, and less than the full output waits.
--- rule: 5.4 (own) Only steps that reply, change streams or return credit take memory
+-- rule: 5.4 (own) Only blocks, replies, resets and returned credit take memory
 credit_that_needs_memory :
-    map (λ view. credit_needs_memory view 1) (active_view ∷ log_view (server_with_body false)
+    map (λ view. credit_needs_memory view 1) (active_view ∷ record active_view { unreturned = 3 }
+    ∷ log_view (server_with_body false)
     ∷ record (log_view (server_with_body false)) { waiting = 65535 }
     ∷ record (log_view (server_with_body false)) { waiting = 65536 } ∷ [])
-    ≡ false ∷ true ∷ true ∷ false ∷ []
+    ≡ false ∷ false ∷ true ∷ true ∷ false ∷ []
 unfolding computing
 credit_that_needs_memory = refl
 
@@ -148,6 +174,10 @@ frames_that_need_none :
 unfolding computing
 frames_that_need_none = refl
 
+ignored_reset_needs_none : frame_needs_memory resetting_server (Reset 1 8) ≡ false
+unfolding computing
+ignored_reset_needs_none = refl
+
 -- So do faults of the connection, which being out of memory doesn't hide: increment 0 on the
 -- connection, DATA on an idle stream, a CONTINUATION without a block.
 faults_that_need_none :
@@ -156,6 +186,21 @@ faults_that_need_none :
     ≡ replicate 4 false
 unfolding computing
 faults_that_need_none = refl
+
+-- Nor those of a limit: an answer to PING above 262,144 octets, the 1,001st reset, DATA above the
+-- connection's window.
+-- rule: 5.4 (own) Being out of memory hides no other fault of the connection
+limits_that_need_none :
+    (map (λ view. step_needs_memory view (completes (alone (Ping false one_to_eight))))
+    (record active_view { waiting = 262127 } ∷ record active_view { waiting = 262128 } ∷ [])
+    ≡ true ∷ false ∷ [])
+    × (map (λ view. step_needs_memory view (completes (alone (WindowUpdate 1 0))))
+    (record active_view { resets = 999 } ∷ record active_view { resets = 1000 } ∷ [])
+    ≡ true ∷ false ∷ [])
+    × (step_needs_memory (record (log_view resetting_server) { recv_window = pos 3 })
+    (completes (alone (Data 1 false abcd None))) ≡ false)
+unfolding computing
+limits_that_need_none = (refl, refl, refl)
 
 -- The same of a first frame that may not be one.
 first_frames_that_need_none :
@@ -217,6 +262,14 @@ whole_preface_is_not_kept keeps =
     let long : 24 < 24 = past in
     omega (arith, long)
 
+-- Nor do other octets, however many, go past it.
+other_octets_are_not_kept : KeepsOctets new_server (replicate 25 0) → ⊥
+unfolding computing preface
+other_octets_are_not_kept keeps =
+    let (begins, past) = keeps.past_preface refl in
+    let first : 0 ≡ 0x50 = ap (λ (octets : List ℕ). get_or octets 0 0) begins.joined in
+    omega (arith, first)
+
 -- What follows it is.
 octet_after_the_preface_is_kept : KeepsOctets new_server (preface ++ 0 ∷ [])
 unfolding computing preface
@@ -230,8 +283,10 @@ octet_after_the_preface_is_kept =
 
 -- DATA of no octets sends nothing unless it ends the stream; nor does DATA without room.
 data_that_sends_nothing :
-    (sends_no_data (log_view active_server) 1 [] false ≡ true)
-    × (sends_no_data (log_view active_server) 1 [] true ≡ false)
-    × (sends_no_data (log_view active_server) 1 abcd false ≡ false)
+    (sends_no_data active_view 1 [] false ≡ true)
+    × (sends_no_data active_view 1 [] true ≡ false)
+    × (sends_no_data active_view 1 abcd false ≡ false)
+    × (map (sends_no_data (record active_view { send_window = pos 0 }) 1 abcd) (false ∷ true ∷ [])
+    ≡ true ∷ true ∷ [])
 unfolding computing
-data_that_sends_nothing = (refl, refl, refl)
+data_that_sends_nothing = (refl, refl, refl, refl)

@@ -1,5 +1,5 @@
 -- DATA on an active stream takes of both windows.
-use Rattle.std.proofs.Common.{ℕ, Option, arith, ap, ◌∙◌, ◌&&◌}
+use Rattle.std.proofs.Common.{◌≡◌, ◌&&◌, ℕ, Option, true, arith, ap, ◌∙◌}
 use Rattle.std.proofs.Common.{[], ◌∷◌}
 use Rattle.h2_log.specs.Events.{DataEvent}
 use Rattle.h2_log.specs.ItemEffects.{events_of}
@@ -8,7 +8,10 @@ use Rattle.h2_core.specs.DataFrames.{data_of}
 use Rattle.h2_core.specs.Endpoint.{end_of}
 use Rattle.h2_core.proofs.SoundFacts.{counted, owed_fits, send_near, recv_near}
 use Rattle.std.proofs.lemmas.Result.{err_from_is_err_and}
-use Rattle.h2_log.specs.View.{StreamView, ended_out}
+use Rattle.std.proofs.lemmas.Bool.{and_from}
+use Rattle.h2_block.specs.Grouping.{alone}
+use Rattle.h2_log.specs.Memory.{needs_memory}
+use Rattle.h2_machine.specs.End.{end_view}
 use Rattle.h2_log.specs.Verdicts.{Reported}
 use Rattle.h2_core.proofs.ItemVerdicts.{report_taken, lacks_memory, with_waiting}
 use Rattle.h2_core.proofs.ItemWindows.{narrowed_is, narrowed_near}
@@ -81,9 +84,11 @@ pub returns-in_err-reserve_if_over : goal.returns-in_err-reserve_if_over
 returns-in_err-reserve_if_over c =
     let e = end_of c.args.self.now in
     let p = err_from_is_err_and c.from_residual.result c.from_residual.ensures.1 in
-    let needed = ap (λ (found : Option StreamView). c.args.frame.end && ended_out found)
-    c.requires.active ∙ c.in_err-reserve_if_over.ensures.err in
+    let (over, due) = c.in_err-reserve_if_over.ensures.err in
     λ (pad : Option ℕ) (flow : HasFlow c.args.frame pad).
+    let needed : needs_memory (end_view e) Reported (alone (data_of c.args.frame pad)) ≡ true =
+    rw c.requires.active (and_from (c.args.frame.end && c.args.stream.state.ended_out) _ over
+    (rw (← flow) due)) in
     rw (p.1, p.2) (lacks_memory e (data_of c.args.frame pad) c.args.self.now.list Reported _
     (reported_data e c.args.frame pad (stream_view c.args.stream) flow c.requires.active
     c.requires.open c.requires.connection c.requires.within) needed

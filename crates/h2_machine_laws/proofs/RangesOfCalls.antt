@@ -1,2 +1,0 @@
--- What other crates cite of RangesOfSteps.
-pub use Rattle.h2_machine_laws.proofs.RangesOfSteps.{call_fits, new_fits}
