@@ -13,7 +13,6 @@ use Rattle.h2_joined.specs.declared.pipe.Pipe.{Pipe}
 use Rattle.h2_joined.specs.Headline.{AreQuiet}
 use Rattle.h2_joined.specs.Joints.{JointEnd, Made}
 use Rattle.h2_joined.specs.Kept.{HoldsOctets, JoinedRepresents}
-use Rattle.h2_ends.proofs.PumpTokens.{no_octets}
 
 -- what `len` of a pipe answers
 abbrev pub CountsPipe : Pipe → ℕ → Type 0
@@ -30,6 +29,11 @@ TellsBoth joined quiet = (client_values server_values : Values) (made : List Mad
     (client server : JointEnd)
     → JoinedRepresents client_values server_values joined made client server
     → (quiet ≡ true) ↔ AreQuiet client server
+
+-- No octets are on the pipe to an end.
+none_on_pipe : (octets : List ℕ) (count : ℕ) → count ≡ length octets → count ≤ 0 → octets ≡ []
+none_on_pipe [] count same none = refl
+none_on_pipe (octet ∷ octets) count same none = absurd (omega (arith, same, none))
 
 -- Octets are on the pipe to an end.
 some_octets : (octets : List ℕ) (count : ℕ) → count ≡ length octets → 0 < count
@@ -92,10 +96,10 @@ both_quiet joined to_client to_server one other counts_client counts_server tell
         quiet_client =
             (tells_client client_values client.happened is.client_represents).0 quiet_client;
         quiet_server = (tells_server server_values server.happened is.server_represents).0 quiet;
-        to_client = no_octets client.incoming
-            (omega (arith, none_client, counts_client client.incoming is.client_kept.incoming));
-        to_server = no_octets server.incoming
-            (omega (arith, none_server, counts_server server.incoming is.server_kept.incoming));
+        to_client = none_on_pipe client.incoming to_client
+            (counts_client client.incoming is.client_kept.incoming) none_client;
+        to_server = none_on_pipe server.incoming to_server
+            (counts_server server.incoming is.server_kept.incoming) none_server;
         finished_client = sym is.client_kept.unfinished ∙ finished_client;
         finished_server = sym is.server_kept.unfinished ∙ finished_server;
       },
