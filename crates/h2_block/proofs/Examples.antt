@@ -5,7 +5,7 @@ use Rattle.h2_frame.specs.Frames.{Frame, Data, Headers, Ping, Continuation, Unkn
 use Rattle.h2_block.specs.declared.fault.BlockFault.TheVariants.{Interrupted, Stray, TooLong}
 use Rattle.h2_block.specs.Grouping.{block, Begun, is_standalone, fault_outside, fault_inside}
 use Rattle.h2_block.specs.Grouping.{next_fault, Groups}
-use Rattle.h2_block.specs.Spread.{max_payload, continuations, spread_frames}
+use Rattle.h2_block.specs.Spread.{continuations, spread_frames}
 use Rattle.h2_block.proofs.GroupLemmas.{Groups-step}
 use Rattle.h2_block.proofs.SpreadLemmas.{continuations-few, spread_frames-more}
 
@@ -31,13 +31,13 @@ spread_small = refl
 
 -- 20,016 octets are two frames where payloads of 16,384 octets are the greatest
 spread_in_two : (octets : List ℕ) → length octets ≡ 20016
-    → spread_frames max_payload 1 false octets
+    → spread_frames 16384 1 false octets
     ≡ Headers 1 false false (take 16384 octets) None None
     ∷ Continuation 1 true (drop 16384 octets) ∷ []
 spread_in_two octets long =
-    spread_frames-more max_payload 1 false octets (omega (arith, long))
+    spread_frames-more 16384 1 false octets (omega (arith, long))
     ∙ ap (λ (frames : List Frame). Headers 1 false false (take 16384 octets) None None ∷ frames)
-    (rw long (continuations-few max_payload 20015 1 (drop 16384 octets)
+    (rw long (continuations-few 16384 20015 1 (drop 16384 octets)
     (omega (arith, long, length-drop 16384 octets))))
 
 -- and one where 65,536 octets are

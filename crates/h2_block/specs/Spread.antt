@@ -5,11 +5,6 @@ use Rattle.std.specs.Prelude.{length, take, drop, flat_map, None}
 use Rattle.h2_frame.specs.Frames.{Frame, Headers, Continuation}
 use Rattle.h2_frame.specs.Encoding.{encoding_of}
 
--- the greatest payload that is sent today: that of every peer at first (section 6.5.2)
--- rule: 4.2 (own) Payloads of at most 16,384 octets are sent
-abbrev pub max_payload : ℕ
-max_payload = 16384
-
 -- The CONTINUATIONs of the octets: each is full but the last, which ends the block. `count` is how
 -- many there may be; as many as octets, and one, are always enough.
 -- rule: 4.3 Of the frames of a block that is sent the last has END_HEADERS

@@ -30,7 +30,7 @@ pub fn no_grouping_past_a_fault()
         → (items ≡ others) × (fault ≡ other) × (more ≡ []) }
 {}
 
-// contract: 4.2 (own) Payloads of at most 16,384 octets are sent
+// contract: 4.2 (own) Payloads of at most 65,536 octets are sent, where the peer reads them
 // contract: 4.3 A block is sent as contiguous HEADERS and CONTINUATION, each full but one
 /// The frames over which a block is spread, whatever the greatest payload is, are one block of its
 /// octets. Where a head can say that payload's length they can be written; none has a greater one.

@@ -71,7 +71,6 @@ fn encoded_len(most: usize, count: usize) -> usize
     count + HEAD * (1 + count.saturating_sub(1) / most)
 }
 
-// rule: 4.2 (own) Payloads of at most 16,384 octets are sent
 // rule: 4.3 (own) Room for all frames of a block is reserved before the first
 // Appends the frames, with payloads of at most `most` octets, for which there is capacity.
 fn append_block(most: usize, stream: u32, end: bool, octets: &[u8], out: &mut Vec<u8>)

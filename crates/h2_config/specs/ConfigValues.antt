@@ -7,4 +7,5 @@ values_of config = record {
   table_limit = config.table_limit;
   initial_window = config.initial_window;
   max_streams = config.max_streams;
+  max_frame = config.max_frame;
 }

@@ -7,6 +7,7 @@ use Rattle.h2_frame.specs.Frames.{Frame}
 use Rattle.h2_wire.specs.Cutter.{CutterState, CutterRepresents, saturated}
 use Rattle.h2_log.specs.Acts.{Values}
 use Rattle.h2_log.specs.Events.{Event}
+use Rattle.h2_log.specs.Limits.{most_max_frame}
 use Rattle.h2_log.specs.Settings.{is_server}
 use Rattle.h2_log.specs.Log.{Log}
 use Rattle.h2_log.specs.LogSteps.{limits_from}
@@ -30,7 +31,7 @@ pub record PartsRepresent (values : Values) (cutter : CutterState) (e : End) (lo
         log.input log.frames
     pub unparsed : log.failed ≡ None → cutter.unparsed ≡ log.unparsed
     -- the greatest limit of payloads that it has had
-    pub greatest : log.failed ≡ None → cutter.greatest ≤ 16384
+    pub greatest : log.failed ≡ None → cutter.greatest ≤ most_max_frame
     -- after a failure too
     pub place : cutter.place ≡ saturated (length log.input)
 

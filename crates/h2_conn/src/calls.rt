@@ -140,8 +140,10 @@ impl Conn {
     // contract: 6.5.3 (own) Own SETTINGS are changed once those before are acknowledged
     // rule: 6.5.3 (own) Own SETTINGS are changed once those before are acknowledged
     /// Changes this end's settings (section 6.5): SETTINGS with the header table's limit, the
-    /// initial window and, at a server, the number of streams joins the output. The values hold
-    /// from the peer's acknowledgment on, which [`Event::Acked`] reports.
+    /// initial window, at a server the number of streams, and the greatest frame where it differs
+    /// from the one that was sent last, joins the output. The values hold from the peer's
+    /// acknowledgment on, which [`Event::Acked`] reports; a greater frame may be read at once, since
+    /// the peer may have applied it.
     ///
     /// # Errors
     ///
@@ -152,7 +154,9 @@ impl Conn {
         ensures { ConnAnswers self.old (ChangeSettings (values_of config))
             (answer_by (λ done. Done) result) self.new }
     {
-        self.inner.end.change_settings(config)
+        self.inner.end.change_settings(config)?;
+        self.inner.limit_payloads();
+        Ok(())
     }
 
     // rule: calls (own) Output is given out in order and once

@@ -30,8 +30,9 @@ use h2_wire::{Complete, Cutter};
 use hpack::FieldList;
 use std::alloc::Global;
 
-/// The most octets of a payload that an end reads (RFC 9113, section 4.2).
-const MAX_PAYLOAD: u32 = 16_384;
+/// The most octets of a payload that an end reads before its first SETTINGS (RFC 9113, section
+/// 6.5.2).
+const FIRST_LIMIT: u32 = 16_384;
 
 /// One end of a connection: it takes octets and calls, and gives events and octets. It does no
 /// input or output.
@@ -194,10 +195,10 @@ fn new_inner(alloc: Global, role: Role, config: Config) -> Result<Inner, Refusal
         (end_of inner.end) (opened role (values_of config))) }
     ensures err { IfErr result (λ refusal. refusal ≡ Refusal.Memory) }
 {
-    Ok(Inner {
-        cutter: Cutter::new(alloc, MAX_PAYLOAD, role == Role::Server),
-        end: Endpoint::new(alloc, role, config)?,
-    })
+    let end = Endpoint::new(alloc, role, config)?;
+    let mut cutter = Cutter::new(alloc, FIRST_LIMIT, role == Role::Server);
+    cutter.set_limit(end.payload_limit());
+    Ok(Inner { cutter, end })
 }
 
 // rule: calls (own) An event has the octets, the fields and the numbers of its frame

@@ -1,6 +1,8 @@
 //! What a connection keeps.
 
 ghost use Rattle.std.specs.Prelude.{◌≡◌, None};
+ghost use Rattle.h2_wire.specs.Cutter.{CutterLimited};
+ghost use Rattle.h2_machine.specs.End.{payload_limit_of};
 ghost use Rattle.h2_core.specs.Endpoint.{end_of, IsSound};
 
 use h2_core::Endpoint;
@@ -16,4 +18,16 @@ pub(crate) struct Inner {
     // As long as the connection has not failed, its values are sound and the cutter has not failed.
     ghost sound: { end.failed ≡ None → IsSound (end_of end) },
     ghost cuts: { end.failed ≡ None → cutter.fault ≡ None },
+}
+
+impl Inner {
+    // rule: 4.2 The limit of an end is its greatest MAX_FRAME_SIZE of those in force
+    /// Heads that come are checked with the limit of payloads that is in force. It takes no memory.
+    pub(crate) fn limit_payloads(&mut self)
+        ensures cutter { CutterLimited self.old.cutter
+            (payload_limit_of (end_of self.old.end).own) self.new.cutter }
+        ensures end { self.new.end ≡ self.old.end }
+    {
+        self.cutter.set_limit(self.end.payload_limit());
+    }
 }

@@ -25,13 +25,14 @@ impl Conn {
     }
 
     // contract: 10.5 (own) What an end holds of a stream is bounded
-    /// How many octets of a preface or a frame have come that is not complete: at most 16,393, a
-    /// head and the greatest payload that is read. 0 once the connection has failed.
+    /// How many octets of a preface or a frame have come that is not complete: at most 1,048,585, a
+    /// head and the greatest payload that may be configured; with the default, whose payloads have
+    /// 16,384 octets, at most 16,393. 0 once the connection has failed.
     pub fn held(&self) -> usize
         ensures value { (values : Values) (log : Log) → ConnRepresents values self.now log
             → result ≡ reader_held log }
         ensures bound { (values : Values) (log : Log) → ConnRepresents values self.now log
-            → result ≤ 16393 }
+            → result ≤ 1048585 }
     {
         if self.inner.end.failed().is_some() {
             return 0;

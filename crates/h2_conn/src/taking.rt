@@ -41,7 +41,7 @@ impl Inner {
 // rule: calls (own) A fault of the octets fails the connection with its code
 // rule: calls (own) take uses octets up to one frame's end, and answers one event at most
 // rule: 5.4 (own) A frame whole in its piece that needs no memory is never refused any
-/// Cuts the piece, and takes the frame that it completes.
+/// Cuts the piece, and takes the frame that it completes, which may change the limit of payloads.
 fn take_piece(cutter: &mut Cutter, end: &mut Endpoint, piece: &[u8]) -> Result<Progress, Code>
     requires up { end.old.failed ≡ None }
     requires sound { IsSound (end_of end.old) }
@@ -76,7 +76,10 @@ fn take_piece(cutter: &mut Cutter, end: &mut Endpoint, piece: &[u8]) -> Result<P
         });
     };
     match take_frame(end, cutter.frame(piece, complete), complete) {
-        Ok(happened) => Ok(Progress { used, happened }),
+        Ok(happened) => {
+            cutter.set_limit(end.payload_limit());
+            Ok(Progress { used, happened })
+        }
         Err(code) => Err(code),
     }
 }

@@ -4,7 +4,7 @@ use Rattle.std.specs.Prelude.{Result, Ok, Err, ◌≤◌, ◌-◌, ◌^◌, min,
 use Rattle.hpack.specs.declared.types.field.Field.{Field}
 use Rattle.hpack.specs.Choice.{block_of}
 use Rattle.hpack.specs.Lists.{EncoderState, list_size}
-use Rattle.h2_block.specs.Spread.{max_payload, spread_frames, encoding_of_frames}
+use Rattle.h2_block.specs.Spread.{spread_frames, encoding_of_frames}
 use Rattle.h2_log.specs.declared.refusal.Refusal.{Refusal}
 use Rattle.h2_log.specs.declared.refusal.Refusal.TheVariants.{Memory, Closed, NoSuchStream, Ended}
 use Rattle.h2_log.specs.declared.refusal.Refusal.TheVariants.{OutputFull}
@@ -55,7 +55,8 @@ CallRefuses e id code (Err refusal) new =
 abbrev pub IsSizeOf : ℕ → List Field → Type 0
 IsSizeOf size fields = size ≡ min (list_size fields) (2 ^ 64 - 1)
 
--- A list's field block takes so many octets at most in frames, at any encoder.
+-- A list's field block takes so many octets at most in frames, at any encoder, and whatever greatest
+-- payload the peer reads.
 abbrev pub FramesFit : List Field → ℕ → Type 0
-FramesFit fields room = (encoder : EncoderState) (id : ℕ) (end : Bool) → length (encoding_of_frames
-    (spread_frames max_payload id end (block_of encoder fields))) ≤ room
+FramesFit fields room = (most : ℕ) (encoder : EncoderState) (id : ℕ) (end : Bool) → 16384 ≤ most
+    → length (encoding_of_frames (spread_frames most id end (block_of encoder fields))) ≤ room

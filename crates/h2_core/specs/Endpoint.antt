@@ -39,12 +39,14 @@ end_of one = record {
   peer = record {
     initial_window = one.streams.send_initial;
     max_streams = streams_allowed one.started one.peer.max_concurrent_streams;
+    max_frame = one.peer.max_frame_size;
   };
   own = record {
     in_force = record {
       table_limit = one.decoder.limit;
       initial_window = one.streams.recv_initial;
       max_streams = one.max_streams;
+      max_frame = one.max_frame;
     };
     awaited = option_map values_of one.awaited;
   };

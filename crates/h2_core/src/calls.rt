@@ -9,7 +9,7 @@ ghost use Rattle.hpack.specs.Lists.{list_size};
 ghost use Rattle.hpack.specs.Written.{AreOctets};
 ghost use Rattle.hpack.specs.declared.types.field.Field.{Field};
 ghost use Rattle.h2_block.specs.Grouping.{block};
-ghost use Rattle.h2_block.specs.Spread.{max_payload, spread_frames, encoding_of_frames};
+ghost use Rattle.h2_block.specs.Spread.{spread_frames, encoding_of_frames};
 ghost use Rattle.h2_log.specs.Acts.{Open, SendFields, SendData};
 ghost use Rattle.h2_log.specs.Items.{encoding_of_items};
 ghost use Rattle.h2_log.specs.Limits.{max_list};
@@ -24,8 +24,8 @@ ghost use Rattle.h2_core.specs.Calls.{CallRefused, CallAccepted, NotSendable, Fr
 
 use crate::endpoint::Endpoint;
 use crate::limits::{
-    FIRST_ACTIVE, FULL_OUTPUT, GREATEST, HEAD, MAX_ACTIVE, MAX_DATA, MAX_LIST, MAX_PAYLOAD,
-    SMALL_FRAME,
+    FIRST_ACTIVE, FULL_OUTPUT, GREATEST, HEAD, LEAST_FRAME, MAX_ACTIVE, MAX_DATA, MAX_LIST,
+    MAX_PAYLOAD, SMALL_FRAME,
 };
 use h2_block::spread;
 use h2_flow::StreamState;
@@ -146,7 +146,7 @@ impl Endpoint {
         if sends_nothing(octets, end, count) {
             return Ok(0);
         }
-        let room = count + HEAD * (1 + count / MAX_PAYLOAD) + SMALL_FRAME;
+        let room = count + HEAD * (1 + count / LEAST_FRAME as usize) + SMALL_FRAME;
         if self.output.reserve(room).is_err() {
             return Err(Refusal::Memory);
         }
@@ -208,7 +208,8 @@ impl Endpoint {
             ≤ self.old.output.spare }
         ensures { end_of self.new ≡ update_stream
             (record (queue_output (end_of self.old)
-            (data_frames (length octets.now + 1) 16384 id octets.now end)) {
+            (data_frames (length octets.now + 1) (end_view (end_of self.old)).max_payload id
+            octets.now end)) {
               windows = record (end_of self.old).windows {
                 send = self.old.send_window - length octets.now;
               };
@@ -224,19 +225,21 @@ impl Endpoint {
         self.update_stream(id, stream);
     }
 
-    /// Adds the DATA frames of octets, for which there is room: each filled to 16,384 but the last,
-    /// which has END_STREAM where `end` is set.
+    /// Adds the DATA frames of octets, for which there is room: each has the most octets that are
+    /// sent but the last, which has END_STREAM where `end` is set.
     fn add_data(&mut self, id: u32, octets: &[u8], end: bool)
         requires up { self.old.failed ≡ None }
         requires count { length octets.now ≤ 65536 }
         requires room { length octets.now + 9 * (1 + length octets.now / 16384)
             ≤ self.old.output.spare }
         ensures after { end_of self.new ≡ queue_output (end_of self.old)
-            (data_frames (length octets.now + 1) 16384 id octets.now end) }
+            (data_frames (length octets.now + 1) (end_view (end_of self.old)).max_payload id
+            octets.now end) }
         ensures spare { self.old.output.spare
             ≤ self.new.output.spare + (length octets.now + 9 * (1 + length octets.now / 16384)) }
     {
-        add_data_frames(&mut self.output, id, octets, end);
+        let most = self.most_octets();
+        add_data_frames(&mut self.output, most, id, octets, end);
     }
 
     // rule: 4.3 No other frame is sent between the frames of a field block
@@ -263,10 +266,12 @@ impl Endpoint {
             × (13 ≤ self.new.output.spare)) }
         ensures err { OnErr result (end_of self.new ≡ end_of self.old) }
     {
+        let most = self.most_octets();
         let room = frames_room(size);
         self.output.reserve(room + SMALL_FRAME)?;
         encode_frames(
             &mut self.encoder,
+            most,
             id,
             end,
             fields,
@@ -276,6 +281,17 @@ impl Endpoint {
         )?;
         self.output.add_octets(&self.block_frames);
         Ok(())
+    }
+
+    // rule: 4.2 (own) Payloads of at most 65,536 octets are sent, where the peer reads them
+    /// The most octets of a payload that are sent now: as many as the peer reads, and 65,536 at most
+    /// (section 4.2).
+    fn most_octets(&self) -> usize
+        ensures value { result ≡ (end_view (end_of self.now)).max_payload }
+        ensures least { 16384 ≤ result }
+        ensures small { result ≤ 65536 }
+    {
+        self.peer.max_frame_size.max(LEAST_FRAME).min(MAX_PAYLOAD) as usize
     }
 
     // rule: 5.1.1 When the numbers of 31 bits are used up no stream is opened
@@ -370,24 +386,26 @@ fn sends_nothing(octets: &[u8], end: bool, count: usize) -> bool
     count == 0 && !(octets.is_empty() && end)
 }
 
-/// The most octets of a field block's frames, by the size of its list.
+/// The most octets of a field block's frames, by the size of its list: where the peer reads no more
+/// than any peer does.
 fn frames_room(size: usize) -> usize
     requires { size ≤ max_list }
     ensures enough { (fields : List Field) → list_size fields ≡ size → FramesFit fields result }
     ensures small { result < 2 ^ 17 }
 {
     let octets = size + 12;
-    octets + HEAD * (1 + octets / MAX_PAYLOAD)
+    octets + HEAD * (1 + octets / LEAST_FRAME as usize)
 }
 
-/// Encodes a field block, whose frames have `room` octets at most, and puts these in place of what
-/// `frames` has.
+/// Encodes a field block, whose frames have payloads of `most` octets at most, and `room` octets
+/// altogether, and puts these in place of what `frames` has.
 ///
 /// # Errors
 ///
 /// [`AllocError`] where an allocation was refused; the encoder has not changed.
 fn encode_frames(
     encoder: &mut Encoder,
+    most: usize,
     id: u32,
     end: bool,
     fields: &[Field],
@@ -397,8 +415,9 @@ fn encode_frames(
 ) -> Result<(), AllocError>
     requires number { (1 ≤ id) × (id < 2 ^ 31) }
     requires size { list_size fields.now ≤ max_list }
+    requires most { (16384 ≤ most) × (most ≤ 65536) }
     requires room { FramesFit fields.now room }
-    ensures ok { OnOk result ((frames.new.items ≡ encoding_of_frames (spread_frames max_payload id
+    ensures ok { OnOk result ((frames.new.items ≡ encoding_of_frames (spread_frames most id
         end (block_of encoder.old fields.now)))
         × (encoder.new ≡ after_block encoder.old fields.now)) }
     ensures err { OnErr result (encoder.new ≡ encoder.old) }
@@ -409,24 +428,25 @@ fn encode_frames(
     if encoder.encode(fields, block).is_err() {
         return Err(AllocError);
     }
-    spread(id, end, block, frames, MAX_PAYLOAD).unwrap();
+    spread(id, end, block, frames, most).unwrap();
     Ok(())
 }
 
-/// Adds the DATA frames of octets, for which there is room: each filled to 16,384 but the last,
-/// which has END_STREAM where `end` is set.
-fn add_data_frames(output: &mut Output, id: u32, octets: &[u8], end: bool)
+/// Adds the DATA frames of octets, for which there is room: each filled to `most` octets but the
+/// last, which has END_STREAM where `end` is set.
+fn add_data_frames(output: &mut Output, most: usize, id: u32, octets: &[u8], end: bool)
     requires up { output.old.ended ≡ false }
+    requires most { (16384 ≤ most) × (most ≤ 65536) }
     requires room { length octets.now + 9 * (1 + length octets.now / 16384) ≤ output.old.spare }
-    ensures waiting { output.new.waiting ≡ output.old.waiting ++ encoding_of_items 16384
-        (data_frames (length octets.now + 1) 16384 id octets.now end) }
+    ensures waiting { output.new.waiting ≡ output.old.waiting ++ encoding_of_items most
+        (data_frames (length octets.now + 1) most id octets.now end) }
     ensures spare { output.old.spare
         ≤ output.new.spare + (length octets.now + 9 * (1 + length octets.now / 16384)) }
     ensures ended { output.new.ended ≡ false }
 {
     let mut rest = octets;
-    while rest.len() > MAX_PAYLOAD {
-        let (first, following) = rest.split_at(MAX_PAYLOAD);
+    while rest.len() > most {
+        let (first, following) = rest.split_at(most);
         output.add_data(id, first, false);
         rest = following;
     }

@@ -46,6 +46,8 @@ pub struct Endpoint {
     pub(crate) peer: Settings,
     /// How many streams of the peer's may be active at once.
     pub(crate) max_streams: u32,
+    /// The most octets of a payload that may be read, by the own settings in force.
+    pub(crate) max_frame: u32,
     /// Own settings that await their acknowledgment.
     pub(crate) awaited: Option<Config>,
     /// The last stream of this end's GOAWAY.

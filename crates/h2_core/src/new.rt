@@ -11,8 +11,8 @@ ghost use Rattle.h2_machine.specs.Machine.{new_end};
 ghost use Rattle.h2_core.specs.Endpoint.{end_of};
 
 use crate::endpoint::Endpoint;
-use crate::limits::FIRST_WINDOW;
-use crate::settings_frame::{add_settings, opening_settings};
+use crate::limits::{FIRST_WINDOW, LEAST_FRAME};
+use crate::settings_frame::add_opening_settings;
 use h2_block::Gather;
 use h2_config::Config;
 use h2_flow::Settings;
@@ -25,8 +25,8 @@ use std::alloc::{AllocError, Global};
 /// The client's preface (RFC 9113, section 3.4).
 const PREFACE: [u8; 24] = *b"PRI * HTTP/2.0\r\n\r\nSM\r\n\r\n";
 
-/// The octets of the first SETTINGS: a head and four pairs.
-const OPENING_SETTINGS: usize = 33;
+/// The octets of the first SETTINGS, at most: a head and five pairs.
+const OPENING_SETTINGS: usize = 39;
 
 /// The octets of a header table at first (RFC 9113, section 6.5.2).
 const FIRST_TABLE: u32 = 4_096;
@@ -71,6 +71,7 @@ impl Endpoint {
             unreturned: 0,
             peer: Settings::first(),
             max_streams: config.max_streams(),
+            max_frame: LEAST_FRAME,
             awaited: Some(config),
             goaway_sent: None,
             goaway_received: None,
@@ -94,6 +95,6 @@ fn first_output(alloc: Global, role: Role, config: Config) -> Result<Output, All
     if role == Role::Client {
         output.add_octets(&PREFACE);
     }
-    add_settings(&mut output, &opening_settings(role, config));
+    add_opening_settings(&mut output, role, config);
     Ok(output)
 }

@@ -7,7 +7,7 @@ ghost use Rattle.std.specs.FinMap as map;
 ghost use Rattle.h2_streams.specs.Streams.{number_or_none};
 ghost use Rattle.h2_log.specs.CallRules.{returns_before_put_out};
 ghost use Rattle.h2_log.specs.Memory.{credit_needs_memory};
-ghost use Rattle.h2_machine.specs.End.{end_view, stream_at};
+ghost use Rattle.h2_machine.specs.End.{end_view, payload_limit_of, stream_at};
 ghost use Rattle.h2_machine.specs.Machine.{fail, unprocessed_of_end, before_put_out_at};
 ghost use Rattle.h2_machine.specs.Machine.{close_unprocessed, first_active};
 ghost use Rattle.h2_core.specs.Endpoint.{end_of, IsSound};
@@ -140,6 +140,20 @@ impl Endpoint {
         ensures { result ≡ self.now.failed }
     {
         self.failed
+    }
+
+    // contract: 4.2 The limit of an end is its greatest MAX_FRAME_SIZE of those in force
+    // rule: 4.2 The limit of an end is its greatest MAX_FRAME_SIZE of those in force
+    /// The most octets of a payload that may be read now (RFC 9113, sections 4.2 and 6.5.3): the
+    /// greatest frame of the own settings in force and of those that await their acknowledgment,
+    /// which the peer may have applied already. It takes no memory.
+    pub fn payload_limit(&self) -> u32
+        ensures { result ≡ payload_limit_of (end_of self.now).own }
+    {
+        match self.awaited {
+            Some(config) => self.max_frame.max(config.max_frame()),
+            None => self.max_frame,
+        }
     }
 
     /// The fields of the block that was reported last. It takes no memory.

@@ -105,6 +105,7 @@ impl Endpoint {
         is_above(window, self.peer.initial_window_size, value)
     }
 
+    // rule: 4.2 The limit of an end is its greatest MAX_FRAME_SIZE of those in force
     // rule: 6.5.3 Own SETTINGS hold once they are acknowledged, and not before
     // rule: 6.5.3 An acknowledgment that is awaited is reported, others are ignored
     // rule: 6.9.3 Until a lower own window is acknowledged the one before it holds
@@ -121,6 +122,7 @@ impl Endpoint {
         self.decoder.set_limit(config.table_limit());
         self.streams.set_recv_initial(config.initial_window());
         self.max_streams = config.max_streams();
+        self.max_frame = config.max_frame();
         self.awaited = None;
         Ok(Some(Reported::Acked))
     }

@@ -12,7 +12,7 @@ ghost use Rattle.h2_core.specs.Endpoint.{end_of, IsSound};
 ghost use Rattle.h2_core.specs.Calls.{CallRefused, CallAccepted};
 
 use crate::endpoint::Endpoint;
-use crate::limits::{HEAD, MAX_LIST};
+use crate::limits::{HEAD, LEAST_FRAME, MAX_LIST};
 use byteorder::{BigEndian, ByteOrder};
 use h2_config::Config;
 use h2_log::{Refusal, Role};
@@ -22,32 +22,40 @@ use h2_output::Output;
 const PAIR: usize = 6;
 
 /// The octets of SETTINGS that change an end's values, at most.
-const MAX_SETTINGS: usize = 27;
+const MAX_SETTINGS: usize = 33;
 
 // rule: 3.4 Both ends begin with SETTINGS
 // rule: 6.5.2 A client sends ENABLE_PUSH 0, and a server sends no ENABLE_PUSH
-/// The pairs of an end's first SETTINGS: a client says that it takes no push, both say how large a
-/// list may be.
-pub(crate) fn opening_settings(role: Role, config: Config) -> [(u16, u32); 4]
-    ensures { result ≡ opening_pairs role (values_of config) }
+// rule: 6.5.2 (own) MAX_FRAME_SIZE is sent where it differs from the value sent last
+/// Adds an end's first SETTINGS, for which there is room: a client says that it takes no push, both
+/// say how large a list may be. It takes no memory.
+pub(crate) fn add_opening_settings(output: &mut Output, role: Role, config: Config)
+    requires up { output.old.ended ≡ false }
+    requires room { 39 ≤ output.old.spare }
+    ensures waiting { output.new.waiting ≡ output.old.waiting
+        ++ encoding_of (Settings false (opening_pairs role (values_of config))) }
+    ensures ended { output.new.ended ≡ false }
 {
+    let limit = (1, config.table_limit());
     let second = match role {
         Role::Client => (2, 0),
         Role::Server => (3, config.max_streams()),
     };
-    [
-        (1, config.table_limit()),
-        second,
-        (4, config.initial_window()),
-        (6, MAX_LIST),
-    ]
+    let window = (4, config.initial_window());
+    let frame = (5, config.max_frame());
+    let list = (6, MAX_LIST);
+    if config.max_frame() == LEAST_FRAME {
+        add_settings(output, &[limit, second, window, list]);
+    } else {
+        add_settings(output, &[limit, second, window, frame, list]);
+    }
 }
 
 // rule: 3.4 Both ends begin with SETTINGS
 /// Adds own SETTINGS with these pairs, for which there is room. It takes no memory.
-pub(crate) fn add_settings(output: &mut Output, pairs: &[(u16, u32)])
+fn add_settings(output: &mut Output, pairs: &[(u16, u32)])
     requires up { output.old.ended ≡ false }
-    requires few { length pairs.now ≤ 4 }
+    requires few { length pairs.now ≤ 5 }
     requires room { 9 + 6 * length pairs.now ≤ output.old.spare }
     ensures waiting { output.new.waiting
         ≡ output.old.waiting ++ encoding_of (Settings false pairs.now) }
@@ -105,25 +113,31 @@ impl Endpoint {
         if self.output.reserve(MAX_SETTINGS).is_err() {
             return Err(Refusal::Memory);
         }
-        add_changed_settings(&mut self.output, self.role, config);
+        add_changed_settings(&mut self.output, self.role, self.max_frame, config);
         self.awaited = Some(config);
         Ok(())
     }
 }
 
+// rule: 6.5.2 (own) MAX_FRAME_SIZE is sent where it differs from the value sent last
 // rule: 6.5.3 (own) Own SETTINGS are changed once those before are acknowledged
-/// Adds SETTINGS that change an end's values, for which there is room. It takes no memory.
-fn add_changed_settings(output: &mut Output, role: Role, config: Config)
+/// Adds SETTINGS that change an end's values, for which there is room; `written` is the greatest
+/// frame that was sent last. It takes no memory.
+fn add_changed_settings(output: &mut Output, role: Role, written: u32, config: Config)
     requires up { output.old.ended ≡ false }
-    requires room { 27 ≤ output.old.spare }
+    requires room { 33 ≤ output.old.spare }
     ensures waiting { output.new.waiting ≡ output.old.waiting
-        ++ encoding_of (Settings false (changed_pairs role (values_of config))) }
+        ++ encoding_of (Settings false (changed_pairs role written (values_of config))) }
     ensures ended { output.new.ended ≡ false }
 {
     let limit = (1, config.table_limit());
+    let streams = (3, config.max_streams());
     let window = (4, config.initial_window());
-    match role {
-        Role::Client => add_settings(output, &[limit, window]),
-        Role::Server => add_settings(output, &[limit, (3, config.max_streams()), window]),
+    let frame = (5, config.max_frame());
+    match (role, config.max_frame() == written) {
+        (Role::Client, true) => add_settings(output, &[limit, window]),
+        (Role::Client, false) => add_settings(output, &[limit, window, frame]),
+        (Role::Server, true) => add_settings(output, &[limit, streams, window]),
+        (Role::Server, false) => add_settings(output, &[limit, streams, window, frame]),
     }
 }

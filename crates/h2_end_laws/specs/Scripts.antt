@@ -6,6 +6,7 @@ use Rattle.std.specs.Prelude.{map as each}
 use Rattle.h2_log.specs.declared.role.Role.{Role}
 use Rattle.h2_log.specs.Acts.{Values, Act, Answer}
 use Rattle.h2_log.specs.Log.{Log}
+use Rattle.h2_log.specs.LogSteps.{limits_from}
 use Rattle.h2_log.specs.Histories.{IsLog, begins, took_some, took_one, met_fault, ran_out_of_memory}
 use Rattle.h2_log.specs.Histories.{reported_one, called_one, LacksMemory, MayRunOutOfMemory}
 use Rattle.h2_log.specs.Histories.{to_report, to_keep, to_take}
@@ -45,7 +46,12 @@ script_of (ran_out_of_memory is up octets may) =
 script_of (reported_one is up next) = script_of is ++ Unprocessed ∷ []
 script_of (called_one is act answer typed may) = script_of is ++ Call act answer ∷ []
 
--- The logs are the same but for their turns, which say where the pieces ended.
+-- a log without its turns, which say where the pieces ended; the limit of payloads of all octets
+-- that are still to come is the one that is in force
+abbrev pub without_turns : Log → Log
+without_turns log = record log { limits = limits_from log; turns = [] }
+
+-- The logs are the same but for their turns.
 -- rule: 4.1 The frames of a stream do not depend on the pieces of its octets
 abbrev pub AreSameButTurns : Log → Log → Type 0
-AreSameButTurns log other = record log { turns = [] } ≡ record other { turns = [] }
+AreSameButTurns log other = without_turns log ≡ without_turns other

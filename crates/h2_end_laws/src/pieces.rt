@@ -22,7 +22,7 @@ pub fn pieces_do_not_matter()
 {}
 
 /// A prefix of what an end has written is read as the first of its items, a field block that has
-/// begun, and the octets of a frame that isn't complete, without a fault, where payloads of 16,384
+/// begun, and the octets of a frame that isn't complete, without a fault, where payloads of 65,536
 /// octets may be read.
 pub fn prefix_of_the_output()
     ensures { (role : Role) (values : Values) (log : Log) (limits : Limits) (octets more : List ℕ)

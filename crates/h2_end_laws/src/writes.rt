@@ -19,7 +19,7 @@ ghost use Rattle.h2_log.specs.CallRules.{refusal_of, answer_of, items_of, refuse
 ghost use Rattle.h2_log.specs.LogSteps.{with_item};
 ghost use Rattle.h2_log.specs.LogCalls.{MayAnswer, with_call};
 ghost use Rattle.h2_log.specs.Histories.{IsLog};
-ghost use Rattle.h2_log_laws.specs.Sending.{IsSendable};
+ghost use Rattle.h2_log_laws.specs.Sending.{IsSendable, AreSendable};
 ghost use Rattle.h2_end_laws.specs.Failures.{EndsInGoAway};
 ghost use Rattle.h2_end_laws.specs.Replies.{replies_owed, replies_among};
 ghost use Rattle.h2_end_laws.specs.Sendings.{EncodesInOrder, settings_received, lists_accepted};
@@ -48,11 +48,13 @@ pub fn nothing_follows_a_failure()
 
 // contract: 4.1 What an end sends is read as its frames, without a fault
 /// Each item that an end has written can be sent: no refusal of writing holds for its frame, its
-/// numbers are those of its types, and its payload or block is within the limits (sections 4.1, 4.2
-/// and 4.3).
+/// numbers are those of its types, and its payload or block is within the limits, which are the
+/// greatest payload in force as it was written, and 65,536 octets (sections 4.1, 4.2 and 4.3).
 pub fn written_items_can_be_sent()
-    ensures { (role : Role) (values : Values) (log : Log) → IsLog role values log
+    ensures bound { (role : Role) (values : Values) (log : Log) → IsLog role values log
         → AllByRecursion (IsSendable max_frame_size_sent) log.sent }
+    ensures payloads { (role : Role) (values : Values) (log : Log) → IsLog role values log
+        → AreSendable log.payloads log.sent }
 {}
 
 /// The field blocks that an end has written are what its encoder makes of the lists of the calls

@@ -30,7 +30,7 @@ use Rattle.h2_log.specs.Verdicts.{opening_verdict, reset_verdict, update_verdict
 use Rattle.h2_log.specs.CallRules.{changed_pairs, conditions, data_frames, data_items}
 use Rattle.h2_log.specs.CallRules.{encoder_after_call, first_of, items_of, may_lack_memory}
 use Rattle.h2_log.specs.CallRules.{may_fail_for_memory}
-use Rattle.h2_log.specs.CallRules.{opening_pairs, refuse_fault, stream_of_act}
+use Rattle.h2_log.specs.CallRules.{opening_pairs, refuse_fault, stream_of_act, with_max_frame}
 use Rattle.h2_log.specs.Items.{data_of, data_on, encoding_of_item, encoding_of_items, ends}
 use Rattle.h2_log.specs.Items.{greatest_block, increment_on, is_block_on, is_goaway}
 use Rattle.h2_log.specs.Items.{is_goaway_below, one_answer, one_ping, one_reset, opens_from, resets}
@@ -73,5 +73,5 @@ unfolding bits_of number_of octets_of groups code_in code huffman_bits continuat
     reports_unprocessed reset_verdict resets settings_count settings_fault stream_of_act
     stream_of_item takes takes_block total unreleased up_to_settings update_verdict used
     value_after value_fault value_read verdict_by_rules verdict_of waiting with_call with_frame
-    with_items with_reported with_sent with_step with_unreturned with_verdict octets_after
+    with_items with_max_frame with_reported with_sent with_step with_unreturned with_verdict octets_after
 computing = tt

@@ -53,7 +53,7 @@ whole_frame limit frame typed writable fits =
     }
 
 -- A sound part with its frames has other limits as well.
-sound_limits : (expects : Bool) (limits others : Limits) (frames : List Frame) (part : List ℕ)
+pub sound_limits : (expects : Bool) (limits others : Limits) (frames : List Frame) (part : List ℕ)
     → ((place : ℕ) → place ≤ length part → others place ≡ limits place)
     → IsSound expects limits frames part → IsSound expects others frames part
 sound_limits expects limits others frames part same sound =

@@ -1,10 +1,19 @@
 -- The greatest payload that is sent.
-use Rattle.std.proofs.Common.{◌≡◌, List, arith}
-use Rattle.h2_block.specs.Grouping.{Item}
+use Rattle.std.proofs.Common.{◌≡◌, ◌≤◌, ℕ, List, [], ◌∷◌, refl, arith}
+use Rattle.h2_frame.specs.Frames.{Frame}
+use Rattle.h2_block.specs.Grouping.{Item, alone}
+use Rattle.h2_log.specs.Items.{encoding_of_item, encoding_of_items}
 use Rattle.h2_log.specs.Limits.{max_frame_size_sent}
 use Rattle.h2_log.specs.Log.{max_payload_sent_by}
 
--- It is the own limit, whatever was received: no peer reads less.
-pub most_is_limit : (received : List Item) → max_payload_sent_by received ≡ max_frame_size_sent
+-- No peer reads less than 16,384 octets, and no more are sent than the own limit.
+pub most_between : (received : List Item) → (16384 ≤ max_payload_sent_by received)
+    × (max_payload_sent_by received ≤ max_frame_size_sent)
 unfolding max_payload_sent_by
-most_is_limit received = omega arith
+most_between received = (omega arith, omega arith)
+
+-- What stands alone is written alike, whatever the greatest payload is.
+pub alone_alike : (most other : ℕ) (frame : Frame)
+    → encoding_of_items most (alone frame ∷ []) ≡ encoding_of_items other (alone frame ∷ [])
+unfolding encoding_of_items encoding_of_item
+alone_alike most other frame = refl

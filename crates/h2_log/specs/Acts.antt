@@ -9,12 +9,14 @@ use Rattle.h2_log.specs.declared.refusal.Refusal.{Refusal}
 use Rattle.h2_log.specs.Events.{Event}
 use Rattle.h2_log.specs.Windows.{greatest_window}
 use Rattle.h2_log.specs.Limits.{max_table_limit, least_max_streams, most_max_streams}
+use Rattle.h2_log.specs.Limits.{least_max_frame, most_max_frame}
 
 -- the values of an end's own settings
 pub record Values : Type 0 where
   pub table_limit : ℕ
   pub initial_window : ℕ
   pub max_streams : ℕ
+  pub max_frame : ℕ
 
 -- An end's values are within their bounds (own).
 -- rule: calls (own) A configuration is made of values within their bounds
@@ -24,6 +26,8 @@ pub record AreInRange (values : Values) : Type 0 where
   pub initial_window : values.initial_window ≤ greatest_window
   pub least_streams : least_max_streams ≤ values.max_streams
   pub max_streams : values.max_streams ≤ most_max_streams
+  pub least_frame : least_max_frame ≤ values.max_frame
+  pub max_frame : values.max_frame ≤ most_max_frame
 
 -- A call with its arguments. Taking octets isn't among them: what an end makes of those is said
 -- frame by frame.

@@ -13,7 +13,7 @@ use Rattle.h2_log.specs.declared.role.Role.TheVariants.{Client}
 use Rattle.h2_log.specs.Items.{data_on, data_of, increment_on, ends, resets, one_ping, one_answer}
 use Rattle.h2_log.specs.Items.{is_goaway, is_goaway_below, total, greatest_block}
 use Rattle.h2_log.specs.Acts.{Values, AreInRange}
-use Rattle.h2_log.specs.Settings.{peer_of, settings_count, one_ack}
+use Rattle.h2_log.specs.Settings.{peer_of, value_read, settings_count, one_ack}
 use Rattle.h2_log.specs.Events.{reports_unprocessed}
 use Rattle.h2_log.specs.States.{is_active, is_used, count_below, greatest_number}
 use Rattle.h2_log.specs.Windows.{given_on, given_on_connection}
@@ -51,7 +51,7 @@ pub record MayOpen (role : Role) (i : ℕ) (received sent : List Item) : Type 0 
   pub reported_to_stay : list_any is_goaway received ≡ false
 
 -- DATA may be written on a stream on which this end goes on, with no more octets than the peer
--- reads in a frame, and 16,384 at most (own; section 4.2), and within both windows; of no octets
+-- reads in a frame, and 65,536 at most (own; section 4.2), and within both windows; of no octets
 -- always (section 6.9.1).
 -- rule: 6.9.1 DATA is sent within both windows
 pub record MaySendData (role : Role) (i count : ℕ) (received sent : List Item) : Type 0 where
@@ -85,7 +85,7 @@ pub record MayChangeSettings (role : Role) (pairs : List (ℕ
     × ℕ)) (received sent : List Item) : Type 0 where
   pub values : Values
   pub in_range : AreInRange values
-  pub changed : pairs ≡ changed_pairs role values
+  pub changed : pairs ≡ changed_pairs role (value_read 5 16384 sent) values
   pub none_waits : settings_count sent ≤ total one_ack received
 
 -- What may be written next. All but an acknowledgment stands after those of all SETTINGS that were

@@ -183,24 +183,34 @@ answer_of view (PutOut count) = Count (min count (view.waiting +
     (if returns_before_put_out view then update_size else 0)))
 answer_of view (ChangeSettings values) = Done
 
+-- the greatest frame, where it isn't the one that was written last, and then these pairs
+-- rule: 6.5.2 (own) MAX_FRAME_SIZE is sent where it differs from the value sent last
+unfoldable pub with_max_frame : (written max_frame : ℕ) → List (ℕ × ℕ) → List (ℕ × ℕ)
+with_max_frame written max_frame pairs =
+    if max_frame == written then pairs else (5, max_frame) ∷ pairs
+
 -- the pairs of own SETTINGS. A client that opens says that it takes no push; both say in their
--- opening how large a list may be.
+-- opening how large a list may be. Before it the greatest frame is 16,384 (section 6.5.2).
 -- rule: 3.4 Both ends begin with SETTINGS
 -- rule: 6.5.2 A client sends ENABLE_PUSH 0, and a server sends no ENABLE_PUSH
 unfoldable pub opening_pairs : Role → Values → List (ℕ × ℕ)
-opening_pairs Client values = (1, values.table_limit) ∷ (2, 0) ∷ (4, values.initial_window) ∷
-    (6, max_list) ∷ []
+opening_pairs Client values =
+    (1, values.table_limit) ∷ (2, 0) ∷ (4, values.initial_window) ∷
+    with_max_frame 16384 values.max_frame ((6, max_list) ∷ [])
 opening_pairs Server values =
     (1, values.table_limit) ∷ (3, values.max_streams) ∷ (4, values.initial_window) ∷
-    (6, max_list) ∷ []
+    with_max_frame 16384 values.max_frame ((6, max_list) ∷ [])
 
--- the pairs of SETTINGS that change own values later: a server sends no ENABLE_PUSH, and a client
--- leaves it as it was
+-- the pairs of SETTINGS that change own values later, the greatest frame that was written last
+-- being `written`: a server sends no ENABLE_PUSH, and a client leaves it as it was
 -- rule: 6.5.2 A client sends ENABLE_PUSH 0, and a server sends no ENABLE_PUSH
-unfoldable pub changed_pairs : Role → Values → List (ℕ × ℕ)
-changed_pairs Client values = (1, values.table_limit) ∷ (4, values.initial_window) ∷ []
-changed_pairs Server values = (1, values.table_limit) ∷ (3, values.max_streams) ∷
-    (4, values.initial_window) ∷ []
+unfoldable pub changed_pairs : Role → (written : ℕ) → Values → List (ℕ × ℕ)
+changed_pairs Client written values =
+    (1, values.table_limit) ∷ (4, values.initial_window) ∷
+    with_max_frame written values.max_frame []
+changed_pairs Server written values =
+    (1, values.table_limit) ∷ (3, values.max_streams) ∷ (4, values.initial_window) ∷
+    with_max_frame written values.max_frame []
 
 -- The DATA frames of octets, newest first, each with the most octets but the last, which has
 -- END_STREAM where `end` is set. `count` is how many there may be; as many as octets, and one, are
@@ -247,7 +257,7 @@ items_of view (Refuse id code) Done = alone (Reset id code) ∷ []
 items_of view (SendPing octets) Done = alone (Ping false octets) ∷ []
 items_of view SendGoAway Done = alone (GoAway view.last_processed 0 []) ∷ []
 items_of view (ChangeSettings values) Done = alone (Settings false
-    (changed_pairs view.role values)) ∷ []
+    (changed_pairs view.role view.max_frame_written values)) ∷ []
 items_of view act answer = []
 
 -- the stream that a call may close, or 0

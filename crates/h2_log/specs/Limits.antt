@@ -21,16 +21,16 @@ abbrev pub max_resets : ℕ
 max_resets = 1000
 
 -- the most octets of a frame's payload that an end sends, whatever its peer reads (section 4.2)
--- rule: 4.2 (own) Payloads of at most 16,384 octets are sent
+-- rule: 4.2 (own) Payloads of at most 65,536 octets are sent, where the peer reads them
 abbrev pub max_frame_size_sent : ℕ
-max_frame_size_sent = 16384
+max_frame_size_sent = 65536
 
 -- the most octets that one call sends of a body
 abbrev pub max_data : ℕ
 max_data = 65536
 
 -- the bounds of the values of an end's own settings: the greatest table limit; the least and the
--- greatest number of streams. An initial window is from 1 to the greatest window.
+-- greatest number of streams, and frame. An initial window is from 1 to the greatest window.
 abbrev pub max_table_limit : ℕ
 max_table_limit = 65536
 
@@ -39,3 +39,9 @@ least_max_streams = 100
 
 abbrev pub most_max_streams : ℕ
 most_max_streams = 1000
+
+abbrev pub least_max_frame : ℕ
+least_max_frame = 16384
+
+abbrev pub most_max_frame : ℕ
+most_max_frame = 1048576

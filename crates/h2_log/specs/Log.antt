@@ -39,6 +39,8 @@ pub record Log : Type 0 where
   -- the items that were written, newest first, and the octets of the output, the first one first
   pub sent : List Item
   pub written : List ℕ
+  -- of each item that was written, the greatest payload that was in force then, newest first
+  pub payloads : List ℕ
   -- the events that were reported, newest first
   pub reported : List Event
   -- the calls, with what they answered, newest first
@@ -169,7 +171,7 @@ recv_window log i = recv_window_of i (acked log) log.received log.sent
 -- the most octets of a payload that this end sends: the SETTINGS_MAX_FRAME_SIZE that was received
 -- last, which is 16,384 at first and is never below that (section 6.5.2), and not more than the own
 -- limit (own)
--- rule: 4.2 (own) Payloads of at most 16,384 octets are sent
+-- rule: 4.2 (own) Payloads of at most 65,536 octets are sent, where the peer reads them
 unfoldable pub max_payload_sent_by : List Item → ℕ
 max_payload_sent_by received = min max_frame_size_sent (max 16384 (value_read 5 16384 received))
 

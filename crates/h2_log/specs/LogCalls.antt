@@ -89,6 +89,7 @@ before_opening role =
       received = [];
       sent = [];
       written = expected_preface (not (is_server role));
+      payloads = [];
       reported = [];
       calls = [];
       table = empty_table 4096;

@@ -38,6 +38,7 @@ with_sent log (item ∷ items) =
     record log {
       sent = item ∷ items ++ log.sent;
       written = log.written ++ encoding_of_items (max_payload_sent log) (item ∷ items);
+      payloads = each (λ one. max_payload_sent log) (item ∷ items) ++ log.payloads;
       turns = Out (encoding_of_items (max_payload_sent log) (item ∷ items)) ∷ log.turns;
     }
 

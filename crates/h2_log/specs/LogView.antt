@@ -2,7 +2,7 @@
 use Rattle.std.specs.Prelude.{ℕ, ◌+◌, ◌&&◌, not, ◌==◌, Bool, if◌then◌else◌, length}
 use Rattle.std.specs.List.{list_any}
 use Rattle.h2_log.specs.Items.{data_on, data_of, increment_on, ends, total}
-use Rattle.h2_log.specs.Settings.{is_server}
+use Rattle.h2_log.specs.Settings.{is_server, value_read}
 use Rattle.h2_log.specs.States.{openings, any_block, when}
 use Rattle.h2_log.specs.Windows.{connection_send_window, connection_recv_window, is_above_greatest}
 use Rattle.h2_log.specs.Log.{Log, state, active, next_number, active_count, last_processed}
@@ -57,5 +57,6 @@ log_view log =
       resets = resets_written log;
       waiting = waiting log;
       max_payload = max_payload_sent log;
+      max_frame_written = value_read 5 16384 log.sent;
       encoder = log.encoder;
     }

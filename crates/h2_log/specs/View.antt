@@ -61,6 +61,8 @@ pub record View : Type 0 where
   pub waiting : ℕ
   -- the most octets of a payload that this end sends
   pub max_payload : ℕ
+  -- the greatest frame of the own SETTINGS that were written last (section 6.5.2)
+  pub max_frame_written : ℕ
   pub encoder : EncoderState
 
 -- whether the peer has ended the stream, where it is active: for this end it is half-closed

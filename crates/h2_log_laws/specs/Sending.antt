@@ -26,6 +26,20 @@ abbrev pub frames_of_items : (most : ℕ) → List Item → List Frame
 frames_of_items most [] = []
 frames_of_items most (item ∷ items) = frames_of_items most items ++ frames_of_item most item
 
+-- Each item can be sent with its own greatest payload. Items and payloads have the newest first,
+-- and there are as many.
+-- rule (law): 4.1 What an end sends is read as its frames, without a fault
+abbrev pub AreSendable : List ℕ → List Item → Type 0
+AreSendable [] [] = Unit {0}
+AreSendable (most ∷ payloads) (item ∷ items) = IsSendable most item × AreSendable payloads items
+AreSendable payloads items = ⊥
+
+-- the frames of items, those of the oldest first, each with its own greatest payload
+-- rule (law): 4.1 What an end sends is read as its frames, without a fault
+abbrev pub frames_by : List ℕ → List Item → List Frame
+frames_by (most ∷ payloads) (item ∷ items) = frames_by payloads items ++ frames_of_item most item
+frames_by payloads items = []
+
 -- items, the oldest first
 abbrev pub oldest_first : List Item → List Item
 oldest_first [] = []

@@ -1,12 +1,11 @@
 -- What the turns of a log tell, the newest first.
 use Rattle.std.specs.Prelude.{◌≡◌, not, ℕ, List, [], ◌∷◌, ◌++◌}
 use Rattle.h2_wire.specs.Streams.{expected_preface}
-use Rattle.h2_log.specs.Items.{encoding_of_items}
 use Rattle.h2_log.specs.Events.{Event}
 use Rattle.h2_log.specs.Acts.{Act, Answer, shown, Turn, In, Out, Called, Answered, Happened}
 use Rattle.h2_log.specs.Settings.{is_server}
-use Rattle.h2_log.specs.Limits.{max_frame_size_sent}
 use Rattle.h2_log.specs.Log.{Log}
+use Rattle.h2_log_laws.specs.Payloads.{encoding_by}
 
 -- the octets that were used, joined, the first one first
 unfoldable pub octets_in : List Turn → List ℕ
@@ -48,7 +47,7 @@ answers_of [] = []
 answers_of (call ∷ calls) = shown call.1 ∷ answers_of calls
 
 -- The turns tell all of a log, and the output is a client's preface and the items as they are
--- written, all of them with the same greatest payload.
+-- written, each with its greatest payload.
 pub record TurnsRecord (log : Log) : Type 0 where
   pub input : octets_in log.turns ≡ log.input
   pub output : octets_out log.turns ≡ log.written
@@ -56,4 +55,4 @@ pub record TurnsRecord (log : Log) : Type 0 where
   pub acts : acts_in log.turns ≡ acts_of log.calls
   pub answers : answers_in log.turns ≡ answers_of log.calls
   pub items : log.written ≡ expected_preface (not (is_server log.role))
-      ++ encoding_of_items max_frame_size_sent log.sent
+      ++ encoding_by log.payloads log.sent

@@ -19,7 +19,7 @@ pub fn origin()
 
 // contract: 5.1.2 A client has at most as many active streams as the server allows
 // contract: 3.4 Both ends begin with SETTINGS
-// contract: 4.2 (own) Payloads of at most 16,384 octets are sent
+// contract: 4.2 (own) Payloads of at most 65,536 octets are sent, where the peer reads them
 // contract: 5.1 Each frame is sent only in states that allow it
 // contract: 5.1.1 A client opens odd numbers, each above all before it
 // contract: 5.1.1 When the numbers of 31 bits are used up no stream is opened

@@ -1,5 +1,6 @@
 -- One end as values: what it keeps in place of its log, by subject, and its view for the rules.
-use Rattle.std.specs.Prelude.{ℕ, ◌+◌, ◌%◌, ◌==◌, nat_lt, ◌||◌, ◌&&◌, Bool, false, if◌then◌else◌}
+use Rattle.std.specs.Prelude.{ℕ, ◌+◌, ◌%◌, ◌==◌, nat_lt, ◌||◌, ◌&&◌, min, max, Bool, false}
+use Rattle.std.specs.Prelude.{if◌then◌else◌}
 use Rattle.std.specs.Prelude.{pos, ◌+ℤ◌, int_lt, List, [], ◌∷◌, length, Option, Some, None, is_some}
 use Rattle.std.specs.Ordering.{nat_cmp}
 use Rattle.std.specs.FinMap as map
@@ -42,15 +43,21 @@ pub record ConnectionWindows : Type 0 where
   pub recv : ℕ
   pub unreturned : ℕ
 
--- what the peer's SETTINGS say of streams
+-- what the peer's SETTINGS say of streams, and of frames
 pub record PeerSettings : Type 0 where
   pub initial_window : ℕ
   pub max_streams : ℕ
+  pub max_frame : ℕ
 
 -- own values that are in force, and those that await their acknowledgment
 pub record OwnSettings : Type 0 where
   pub in_force : Values
   pub awaited : Option Values
+
+-- these values, or the first ones where there are none
+abbrev pub values_or : Values → Option Values → Values
+values_or first None = first
+values_or first (Some values) = values
 
 -- the last stream of this end's GOAWAY, and the least one of the peer's
 pub record GoAways : Type 0 where
@@ -140,6 +147,16 @@ any_above old new (entry ∷ entries) = above_by_shift old new entry.1 || any_ab
 abbrev pub number_after : ℕ → ℕ
 number_after highest = if highest == 0 then 1 else highest + 2
 
+-- the own values that were written last: those that await their acknowledgment, or those in force
+abbrev pub values_written : OwnSettings → Values
+values_written own = values_or own.in_force own.awaited
+
+-- the most octets of a payload that may be read: the greatest of what is in force and of what awaits
+-- its acknowledgment, since the peer may have applied that already (section 6.5.3)
+-- rule: 4.2 The limit of an end is its greatest MAX_FRAME_SIZE of those in force
+abbrev pub payload_limit_of : OwnSettings → ℕ
+payload_limit_of own = max own.in_force.max_frame (values_written own).max_frame
+
 -- an end, as the rules look at it
 abbrev pub end_view : End → View
 end_view e =
@@ -166,6 +183,7 @@ end_view e =
       ping = e.ping;
       resets = e.streams.resets;
       waiting = length e.output.waiting;
-      max_payload = max_frame_size_sent;
+      max_payload = min max_frame_size_sent (max 16384 e.peer.max_frame);
+      max_frame_written = (values_written e.own).max_frame;
       encoder = e.output.encoder;
     }

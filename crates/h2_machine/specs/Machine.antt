@@ -17,7 +17,6 @@ use Rattle.h2_log.specs.Acts.{Values, Act, Answer, Open, SendFields, SendData, R
 use Rattle.h2_log.specs.Acts.{Refuse, SendPing, SendGoAway, PutOut, ChangeSettings}
 use Rattle.h2_log.specs.Settings.{is_server, value_after}
 use Rattle.h2_log.specs.Windows.{first_window}
-use Rattle.h2_log.specs.Limits.{max_frame_size_sent}
 use Rattle.h2_log.specs.View.{StreamView, ended_in}
 use Rattle.h2_frame.specs.Codes.{code_number}
 use Rattle.h2_log.specs.Verdicts.{Verdict, ConnectionFault, StreamFault, NoEvent, Reported}
@@ -222,6 +221,7 @@ apply_settings e pairs =
         initial_window = value_after 4 e.peer.initial_window pairs;
         max_streams = min 1000 (value_after 3 (first_allowed e.reading.started e.peer.max_streams)
             pairs);
+        max_frame = value_after 5 e.peer.max_frame pairs;
       };
     }
 
@@ -466,13 +466,14 @@ new_end role values =
         resets = 0;
       };
       windows = record { send = first_window; recv = first_window; unreturned = 0 };
-      peer = record { initial_window = first_window; max_streams = 100 };
+      peer = record { initial_window = first_window; max_streams = 100; max_frame = 16384 };
       own = record {
         in_force = record {
           table_limit = 4096;
           initial_window = first_window;
           max_streams =
               values.max_streams;
+          max_frame = 16384;
         };
         awaited = Some values;
       };
@@ -481,6 +482,6 @@ new_end role values =
       output = record {
         encoder = record { table = empty_table 4096; least = 4096; limit = 4096 };
         waiting = expected_preface (not (is_server role)) ++ encoding_of_items
-            max_frame_size_sent (alone (Settings false (opening_pairs role values)) ∷ []);
+            16384 (alone (Settings false (opening_pairs role values)) ∷ []);
       };
     }

@@ -97,6 +97,7 @@ pub record RepresentsWindows (windows : ConnectionWindows) (received sent : List
 pub record RepresentsPeer (peer : PeerSettings) (received : List Item) : Type 0 where
   pub initial_window : peer.initial_window ≡ value_read 4 first_window received
   pub max_streams : peer.max_streams ≡ allowed_by received
+  pub max_frame : peer.max_frame ≡ value_read 5 16384 received
 
 -- These values are in force where so many own SETTINGS were acknowledged. A client's peer opens no
 -- streams.
@@ -104,6 +105,7 @@ pub record AreInForce (values : Values) (role : Role) (count : ℕ) (sent : List
   pub table_limit : values.table_limit ≡ own_value 1 4096 count sent
   pub initial_window : values.initial_window ≡ own_value 4 first_window count sent
   pub max_streams : is_server role ≡ true → values.max_streams ≡ own_value 3 100 (max 1 count) sent
+  pub max_frame : values.max_frame ≡ own_value 5 16384 count sent
 
 -- These are the values of the newest own SETTINGS.
 pub record AwaitsValues (role : Role) (sent : List Item) (values : Values) : Type 0 where
@@ -111,6 +113,7 @@ pub record AwaitsValues (role : Role) (sent : List Item) (values : Values) : Typ
   pub initial_window : own_value 4 first_window (settings_count sent) sent ≡ values.initial_window
   pub max_streams : is_server role ≡ true → own_value 3 100 (settings_count sent) sent
       ≡ values.max_streams
+  pub max_frame : own_value 5 16384 (settings_count sent) sent ≡ values.max_frame
 
 -- own SETTINGS, of which so many were acknowledged: the values in force, and those that will be
 -- once the next acknowledgment has come

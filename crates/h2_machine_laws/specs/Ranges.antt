@@ -8,7 +8,7 @@ use Rattle.hpack.specs.Blocks.{Block}
 use Rattle.h2_frame.specs.Frames.{Frame}
 use Rattle.h2_block.specs.Grouping.{Begun, block, max_block_octets}
 use Rattle.h2_log.specs.Acts.{Values, AreInRange}
-use Rattle.h2_log.specs.Limits.{max_table_limit}
+use Rattle.h2_log.specs.Limits.{max_table_limit, most_max_frame}
 use Rattle.h2_log.specs.States.{greatest_number}
 use Rattle.h2_log.specs.View.{StreamView}
 use Rattle.h2_log.specs.Windows.{greatest_window}
@@ -35,6 +35,7 @@ pub record ValuesAreInRange (e : End) : Type 0 where
   pub send : e.windows.send ≤ greatest_window
   pub initial_window : e.peer.initial_window ≤ greatest_window
   pub own_window : e.own.in_force.initial_window ≤ greatest_window
+  pub own_frame : e.own.in_force.max_frame ≤ most_max_frame
   pub table_limit : e.own.in_force.table_limit ≤ max_table_limit
   pub awaited : (values : Values) → e.own.awaited ≡ Some values → AreInRange values
   pub streams : (i : ℕ) (stream : StreamView) → stream_at e i ≡ Some stream

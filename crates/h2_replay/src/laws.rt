@@ -8,13 +8,13 @@ ghost use Rattle.h2_frame.specs.declared.code.Code.{Code};
 ghost use Rattle.h2_wire.specs.Streams.{expected_preface};
 ghost use Rattle.h2_log.specs.declared.role.Role.{Role};
 ghost use Rattle.h2_log.specs.Acts.{Values, Act, SendData, Count, Turn};
-ghost use Rattle.h2_log.specs.Items.{encoding_of_items};
 ghost use Rattle.h2_log.specs.Limits.{max_frame_size_sent};
 ghost use Rattle.h2_log.specs.Log.{Log, send_window};
 ghost use Rattle.h2_log.specs.Histories.{IsLog};
 ghost use Rattle.h2_log.specs.LogCalls.{MayAnswer, with_call};
 ghost use Rattle.h2_log.specs.Settings.{is_server};
 ghost use Rattle.h2_log.specs.Windows.{connection_send_window};
+ghost use Rattle.h2_log_laws.specs.Payloads.{encoding_by};
 ghost use Rattle.h2_log_laws.specs.Sending.{IsSendable};
 ghost use Rattle.h2_end_laws.specs.Failures.{EndsInGoAway};
 ghost use Rattle.h2_end_laws.specs.Grouped.{AreGrouped};
@@ -62,7 +62,7 @@ pub fn output_of_a_replay()
         (kept : List code.Turn) (log : Log) (turns : List Turn)
         → KeepsReplay role values acts kept log turns
         → joined written_in kept ≡ expected_preface (not (is_server log.role))
-        ++ encoding_of_items max_frame_size_sent log.sent }
+        ++ encoding_by log.payloads log.sent }
     ensures sendable { (role : Role) (values : Values) (acts : List ReplayAct) (log : Log)
         (turns : List Turn) → IsReplay role values acts log turns
         → AllByRecursion (IsSendable max_frame_size_sent) log.sent }

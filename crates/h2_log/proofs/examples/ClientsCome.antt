@@ -34,7 +34,7 @@ use Rattle.h2_log.proofs.examples.Words.{short_request}
 pub new_client_comes : IsLog Client default_values new_client
 unfolding computing are_pairs are_octets fields_are_octets
 new_client_comes =
-    begins (values_are default_values refl refl refl refl refl)
+    begins (values_are default_values refl refl refl refl refl refl refl)
 
 pub client_with_request_comes : IsLog Client default_values client_with_request
 unfolding computing are_pairs are_octets fields_are_octets
@@ -183,7 +183,7 @@ pub changed_client_comes : IsLog Client default_values changed_client
 unfolding computing are_pairs are_octets fields_are_octets
 changed_client_comes =
     called_one acknowledged_client_comes (ChangeSettings tableless_values) Done
-    (values_are tableless_values refl refl refl refl refl) (accepts refl refl)
+    (values_are tableless_values refl refl refl refl refl refl refl) (accepts refl refl)
 
 pub push_from_a_server_comes : IsLog Client default_values (takes new_client (Settings false
     ((2, 1) ∷ [])))

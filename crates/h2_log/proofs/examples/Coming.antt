@@ -87,13 +87,16 @@ pub values_are : (values : Values) → nat_le values.table_limit 65536
     ≡ true → nat_le 1 values.initial_window ≡ true
     → nat_le values.initial_window 2147483647 ≡ true → nat_le 100 values.max_streams
     ≡ true → nat_le values.max_streams 1000 ≡ true
+    → nat_le 16384 values.max_frame ≡ true → nat_le values.max_frame 1048576 ≡ true
     → AreInRange values
-values_are values a b c d e = record {
+values_are values a b c d e f g = record {
   table_limit = within _ _ a;
   least_window = within _ _ b;
   initial_window = within _ _ c;
   least_streams = within _ _ d;
   max_streams = within _ _ e;
+  least_frame = within _ _ f;
+  max_frame = within _ _ g;
 }
 
 -- the encoder of a new end

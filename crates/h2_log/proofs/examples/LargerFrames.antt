@@ -1,16 +1,23 @@
 -- How the greatest payload decides what is written of an item.
 use Rattle.std.specs.Prelude.{◌≡◌, ℕ, true, false, List, [], ◌∷◌, ◌++◌, length, take, drop, None}
+use Rattle.std.specs.Prelude.{codes}
 use Rattle.std.proofs.Common.{ap, refl, ◌∙◌, append-nil, arith, length-drop}
 use Rattle.h2_frame.specs.Frames.{Frame, Data, Headers, Settings, Continuation}
 use Rattle.h2_frame.specs.Encoding.{encoding_of}
-use Rattle.h2_block.specs.Grouping.{alone, block}
+use Rattle.h2_block.specs.Grouping.{Item, alone, block}
 use Rattle.h2_block.specs.Spread.{continuations, encoding_of_frames}
 use Rattle.h2_block.proofs.SpreadLemmas.{continuations-few, spread_frames-few, spread_frames-more}
-use Rattle.h2_log.specs.CallRules.{data_frames}
+use Rattle.h2_log.specs.declared.role.Role.TheVariants.{Client, Server}
+use Rattle.h2_log.specs.Acts.{Values}
+use Rattle.h2_log.specs.CallRules.{data_frames, opening_pairs, changed_pairs}
 use Rattle.h2_log.specs.Items.{encoding_of_item}
-use Rattle.h2_log.specs.Log.{max_payload_sent_by}
+use Rattle.h2_log.specs.Settings.{payload_limit}
+use Rattle.h2_log.specs.Log.{max_payload_sent_by, output}
+use Rattle.h2_log.specs.LogCalls.{opened}
 use Rattle.h2_log.proofs.Computing.{computing}
 use Rattle.h2_log.proofs.DataFrames.{frames_last}
+use Rattle.h2_log.proofs.examples.Octets.{octets}
+use Rattle.h2_log.proofs.examples.Words.{default_values}
 
 -- what follows HEADERS
 continuations_of : (octets : List ℕ) → length octets ≡ 20016
@@ -50,8 +57,62 @@ body_in_one : (octets : List ℕ) → length octets ≡ 65535
     → data_frames 65536 65536 1 octets false ≡ alone (Data 1 false octets None) ∷ []
 body_in_one octets long = frames_last 65535 65536 1 octets false (omega (arith, long))
 
--- A peer that reads more than 16,384 octets is sent no more.
--- rule: 4.2 (own) Payloads of at most 16,384 octets are sent
-peer_reads_more : max_payload_sent_by (alone (Settings false ((5, 65536) ∷ [])) ∷ []) ≡ 16384
+-- A peer that reads more than 16,384 octets is sent as many, and 65,536 at most (RFC 9113, section
+-- 4.2).
+-- rule: 4.2 (own) Payloads of at most 65,536 octets are sent, where the peer reads them
+peer_reads_more :
+    (max_payload_sent_by [] ≡ 16384)
+    × (max_payload_sent_by (alone (Settings false ((5, 16385) ∷ [])) ∷ []) ≡ 16385)
+    × (max_payload_sent_by (alone (Settings false ((5, 65536) ∷ [])) ∷ []) ≡ 65536)
+    × (max_payload_sent_by (alone (Settings false ((5, 65537) ∷ [])) ∷ []) ≡ 65536)
 unfolding computing
-peer_reads_more = refl
+peer_reads_more = (refl, refl, refl, refl)
+
+-- The last value that was read counts.
+peer_reads_less_again :
+    max_payload_sent_by (alone (Settings false ((5, 20000) ∷ []))
+    ∷ alone (Settings false ((5, 65536) ∷ [])) ∷ []) ≡ 20000
+unfolding computing
+peer_reads_less_again = refl
+
+-- a server that reads frames of 1,048,576 octets
+abbrev large_values : Values
+large_values =
+    record { table_limit = 4096; initial_window = 65535; max_streams = 100; max_frame = 1048576 }
+
+-- It says so between its initial window and its greatest list.
+-- rule: 6.5.2 (own) MAX_FRAME_SIZE is sent where it differs from the value sent last
+opening_names_it :
+    output (opened Server large_values)
+    ≡ octets (codes "00001e 04 00 00000000 000100001000 000300000064 00040000ffff 000500100000" ++
+    codes "000600010000")
+unfolding computing
+opening_names_it = refl
+
+-- Where it stays what was written last it isn't named, also where that isn't the first value; where
+-- it is another it is, also where that is the first value.
+-- rule: 6.5.2 (own) MAX_FRAME_SIZE is sent where it differs from the value sent last
+change_names_it :
+    (changed_pairs Client 1048576 large_values ≡ (1, 4096) ∷ (4, 65535) ∷ [])
+    × (changed_pairs Client 16384 large_values ≡ (1, 4096) ∷ (4, 65535) ∷ (5, 1048576) ∷ [])
+    × (changed_pairs Client 1048576 default_values ≡ (1, 4096) ∷ (4, 65535) ∷ (5, 16384) ∷ [])
+    × (changed_pairs Server 16384 default_values ≡ (1, 4096) ∷ (3, 100) ∷ (4, 65535) ∷ [])
+unfolding computing
+change_names_it = (refl, refl, refl, refl)
+
+-- what was written: the opening, and then a change to the first value
+abbrev large_opening : Item
+large_opening = alone (Settings false (opening_pairs Server large_values))
+
+abbrev smaller : Item
+smaller = alone (Settings false (changed_pairs Server 1048576 default_values))
+
+-- A greater value holds from the SETTINGS on, a lesser one once it is acknowledged (section 6.5.3).
+-- rule: 4.2 The limit of an end is its greatest MAX_FRAME_SIZE of those in force
+limit_in_force :
+    (payload_limit 0 (large_opening ∷ []) ≡ 1048576)
+    × (payload_limit 1 (large_opening ∷ []) ≡ 1048576)
+    × (payload_limit 1 (smaller ∷ large_opening ∷ []) ≡ 1048576)
+    × (payload_limit 2 (smaller ∷ large_opening ∷ []) ≡ 16384)
+unfolding computing
+limit_in_force = (refl, refl, refl, refl)

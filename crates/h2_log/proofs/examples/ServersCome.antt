@@ -29,7 +29,7 @@ use Rattle.h2_log.proofs.examples.Words.{request_block, short_request, table_wit
 pub new_server_comes : IsLog Server default_values new_server
 unfolding computing are_pairs are_octets fields_are_octets
 new_server_comes =
-    begins (values_are default_values refl refl refl refl refl)
+    begins (values_are default_values refl refl refl refl refl refl refl)
 
 pub settled_server_comes : IsLog Server default_values settled_server
 unfolding computing are_pairs are_octets fields_are_octets

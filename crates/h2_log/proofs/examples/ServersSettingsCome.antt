@@ -51,7 +51,7 @@ pub changed_server_comes : IsLog Server default_values changed_server
 unfolding computing are_pairs are_octets fields_are_octets
 changed_server_comes =
     called_one acknowledged_server_comes (ChangeSettings small_values) Done
-    (values_are small_values refl refl refl refl refl) (accepts refl refl)
+    (values_are small_values refl refl refl refl refl refl refl) (accepts refl refl)
 
 pub changed_and_acknowledged_comes : IsLog Server default_values (takes changed_server
     (Settings true []))
@@ -121,7 +121,7 @@ server_after_limits_comes =
 pub small_server_comes : IsLog Server small_values (opened Server small_values)
 unfolding computing are_pairs are_octets fields_are_octets
 small_server_comes =
-    begins (values_are small_values refl refl refl refl refl)
+    begins (values_are small_values refl refl refl refl refl refl refl)
 
 pub settled_small_server_comes : IsLog Server small_values (takes (opened Server small_values)
     (Settings false []))
@@ -168,7 +168,7 @@ one_octet_after_it_comes =
 
 pub new_server_of_many_comes : IsLog Server many_values (opened Server many_values)
 unfolding computing are_pairs are_octets fields_are_octets
-new_server_of_many_comes = begins (values_are many_values refl refl refl refl refl)
+new_server_of_many_comes = begins (values_are many_values refl refl refl refl refl refl refl)
 
 pub server_of_many_comes : IsLog Server many_values server_of_many
 unfolding computing are_pairs are_octets fields_are_octets
@@ -187,7 +187,7 @@ pub server_of_fewer_comes : IsLog Server many_values server_of_fewer
 unfolding computing are_pairs are_octets fields_are_octets
 server_of_fewer_comes =
     called_one acknowledged_server_of_many_comes (ChangeSettings default_values) Done
-    (values_are default_values refl refl refl refl refl) (accepts refl refl)
+    (values_are default_values refl refl refl refl refl refl refl) (accepts refl refl)
 
 pub acknowledged_server_of_fewer_comes :
     IsLog Server many_values (takes server_of_fewer (Settings true []))

@@ -222,7 +222,7 @@ changes_its_settings = (refl, refl, refl, refl, refl, refl)
 
 -- a client without a table
 abbrev pub tableless_values : Values
-tableless_values = record { table_limit = 0; initial_window = 65535; max_streams = 100 }
+tableless_values = record { table_limit = 0; initial_window = 65535; max_streams = 100; max_frame = 16384 }
 
 -- a client whose SETTINGS are acknowledged changes them
 abbrev pub changed_client : Log
@@ -239,7 +239,7 @@ client_changes_its_settings = refl
 
 -- a server that allows 200 streams
 abbrev pub many_values : Values
-many_values = record { table_limit = 4096; initial_window = 65535; max_streams = 200 }
+many_values = record { table_limit = 4096; initial_window = 65535; max_streams = 200; max_frame = 16384 }
 
 abbrev pub server_of_many : Log
 server_of_many = takes (opened Server many_values) (Settings false [])
@@ -269,9 +269,9 @@ streams_of_a_client :
 unfolding computing
 streams_of_a_client = refl
 
--- An end sends at most 16,384 octets in a payload (own; section 4.2).
+-- An end sends as many octets in a payload as its peer reads, and at most 65,536 (own; section 4.2).
 payloads :
     map (λ log. (log_view log).max_payload)
-    (new_client ∷ takes new_client (Settings false ((5, 65536) ∷ [])) ∷ []) ≡ 16384 ∷ 16384 ∷ []
+    (new_client ∷ takes new_client (Settings false ((5, 65536) ∷ [])) ∷ []) ≡ 16384 ∷ 65536 ∷ []
 unfolding computing
 payloads = refl

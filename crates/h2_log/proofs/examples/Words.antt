@@ -61,11 +61,11 @@ block_verdicts view fields items =
 
 -- the values of settings that an end has where its user names none
 abbrev pub default_values : Values
-default_values = record { table_limit = 4096; initial_window = 65535; max_streams = 100 }
+default_values = record { table_limit = 4096; initial_window = 65535; max_streams = 100; max_frame = 16384 }
 
 -- values with an initial window of 10
 abbrev pub small_values : Values
-small_values = record { table_limit = 4096; initial_window = 10; max_streams = 100 }
+small_values = record { table_limit = 4096; initial_window = 10; max_streams = 100; max_frame = 16384 }
 
 -- a field that isn't sensitive
 abbrev pub plain : List ℕ → List ℕ → Field

@@ -25,8 +25,8 @@ request_on_pipe_comes =
     client_calls_comes default_values default_values asked_pair (PutOut 83)
     (client_calls_comes default_values default_values (new_pair default_values default_values)
     (Open request true) (new_pair_comes default_values default_values
-    (values_are default_values refl refl refl refl refl)
-    (values_are default_values refl refl refl refl refl)) (fields_are request refl) tt)
+    (values_are default_values refl refl refl refl refl refl refl)
+    (values_are default_values refl refl refl refl refl refl refl)) (fields_are request refl) tt)
     (below _ _ refl) tt
 
 settings_delivered_comes : Comes default_values default_values settings_delivered

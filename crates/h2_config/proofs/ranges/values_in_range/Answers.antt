@@ -12,6 +12,8 @@ returns-clause-within c = λ values none. record {
   initial_window = grind (arith, nat_tests);
   least_streams = grind (arith, nat_tests);
   max_streams = grind (arith, nat_tests);
+  least_frame = grind (arith, nat_tests);
+  max_frame = grind (arith, nat_tests);
 }
 
 pub returns-clause-none_bad : goal.returns-clause-none_bad
