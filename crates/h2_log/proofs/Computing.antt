@@ -42,7 +42,8 @@ use Rattle.h2_log.specs.ItemRules.{frame_step, grouped, grouping_step, may_be_fi
 use Rattle.h2_log.specs.ItemRules.{over_limits, replies_to, settings_fault, verdict_by_rules}
 use Rattle.h2_log.specs.ItemRules.{verdict_of}
 use Rattle.h2_log.specs.Windows.{given_on, given_on_connection, granted_on, granted_on_connection}
-use Rattle.h2_log.specs.Settings.{one_ack, one_settings, payload_limit, settings_count}
+use Rattle.h2_log.specs.Settings.{greatest_from, one_ack, one_settings, payload_limit}
+use Rattle.h2_log.specs.Settings.{settings_count}
 use Rattle.h2_log.specs.Settings.{up_to_settings, value_after, value_fault, value_read}
 use Rattle.h2_log.specs.LogView.{overflows}
 use Rattle.h2_log.specs.LogSteps.{owed_at_close, used, with_frame, with_reported, with_sent}
@@ -62,7 +63,7 @@ unfolding bits_of number_of octets_of groups code_in code huffman_bits continuat
     data_frames data_items data_of data_on data_verdict discarded_flow encoder_after_call
     encoder_after_settings encoding_of_item encoding_of_items ends events_of first_of
     flow_on frame_step given_on given_on_connection granted_on granted_on_connection
-    greatest_block greatest_processed grouped grouping_step increment_on is_above is_active
+    greatest_block greatest_from greatest_processed grouped grouping_step increment_on is_above is_active
     is_block_on is_closed_by_us is_goaway is_goaway_below is_over is_used items_of
     last_processed least_block least_goaway max_payload_sent_by max_streams may_be_first
     may_fail_for_memory may_lack_memory newest_ping next_active next_number next_unprocessed

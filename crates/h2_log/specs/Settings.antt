@@ -1,6 +1,7 @@
 -- Settings that were read, and own ones that are in force (RFC 9113, section 6.5). Lists of items
 -- have the newest first.
-use Rattle.std.specs.Prelude.{ℕ, ◌+◌, ◌-◌, ◌^◌, ◌==◌, nat_lt, nat_le, ◌||◌, ◌&&◌, max, Bool, true}
+use Rattle.std.specs.Prelude.{ℕ, zero, suc, ◌+◌, ◌-◌, ◌^◌, ◌==◌, nat_lt, nat_le, ◌||◌, ◌&&◌, max}
+use Rattle.std.specs.Prelude.{Bool, true}
 use Rattle.std.specs.Prelude.{false, if◌then◌else◌, List, [], ◌∷◌, Option, Some, None}
 use Rattle.h2_frame.specs.declared.code.Code.{Code}
 use Rattle.h2_frame.specs.declared.code.Code.TheVariants.{ProtocolError, FlowControlError}
@@ -81,14 +82,16 @@ up_to_settings count (item ∷ items) =
 abbrev pub own_value : ℕ → ℕ → ℕ → List Item → ℕ
 own_value id first count sent = value_read id first (up_to_settings count sent)
 
+-- the greatest of the values of numbers, from `first` on, and `more` after it
+unfoldable pub greatest_from : (ℕ → ℕ) → (first more : ℕ) → ℕ
+greatest_from value first zero = value first
+greatest_from value first (suc more) = max (value first) (greatest_from value (suc first) more)
+
 -- The most octets of a payload that may be read, `count` of the own SETTINGS having been
--- acknowledged: the greatest frame size of the last of these and of all own SETTINGS after it,
--- since the peer may have applied them already (section 6.5.3). At first it is 16,384.
+-- acknowledged: the greatest of the own frame sizes from the one that is in force on to the one that
+-- was written last, since the peer may have applied these already (section 6.5.3). At first it is
+-- 16,384.
 -- rule: 4.2 The limit of an end is its greatest MAX_FRAME_SIZE of those in force
 unfoldable pub payload_limit : ℕ → List Item → ℕ
-payload_limit count [] = 16384
-payload_limit count (item ∷ items) =
-    if one_settings item == 1 then
-    (if nat_le (settings_count (item ∷ items)) count then value_read 5 16384 (item ∷ items)
-    else max (value_read 5 16384 (item ∷ items)) (payload_limit count items))
-    else payload_limit count items
+payload_limit count sent =
+    greatest_from (λ k. own_value 5 16384 k sent) count (settings_count sent - count)
