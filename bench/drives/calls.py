@@ -1,7 +1,7 @@
 """What an end makes of a call, and for what it is refused (docs/ENDPOINT.md, "Calls")."""
 from frames import four
 from hpack import size_of
-from model import FULL, MAX_DATA, MAX_LIST, MAX_PAYLOAD, MOST_RESETS, Fault
+from model import FIRST_FRAME, FULL, MAX_DATA, MAX_LIST, MOST_RESETS, Fault
 
 REFUSALS = {
     1: "C1 Closed", 2: "C2 NoSuchStream", 3: "C3 Ended", 4: "C4 TooManyStreams", 5: "C5 StreamsExhausted",
@@ -85,7 +85,8 @@ def send_fields(end, number, fields, ends):
 def write_block(end, number, fields, ends):
     """A block in frames that are filled (sections 6.2 and 6.10)."""
     block = end.encoder.encode(fields)
-    parts = [block[place:place + MAX_PAYLOAD] for place in range(0, len(block), MAX_PAYLOAD)] or [b""]
+    most = end.most
+    parts = [block[place:place + most] for place in range(0, len(block), most)] or [b""]
     for place, part in enumerate(parts):
         flags = 4 if place == len(parts) - 1 else 0
         if place == 0:
@@ -106,9 +107,12 @@ def send_data(end, number, body, ends):
     if count == 0 and not (ends and not body):
         return 0
     all_go = ends and count == len(body)
-    for place in range(0, max(count, 1), MAX_PAYLOAD):
-        part = body[place:min(place + MAX_PAYLOAD, count)]
-        end.write(0, 1 if all_go and place + MAX_PAYLOAD >= count else 0, number, part)
+    most = end.most
+    for place in range(0, max(count, 1), most):
+        part = body[place:min(place + most, count)]
+        if len(part) > FIRST_FRAME:
+            end.marks.reach("long frame sent")
+        end.write(0, 1 if all_go and place + most >= count else 0, number, part)
     end.send -= count
     stream.send -= count
     end_own_side(end, stream, all_go)
@@ -162,12 +166,12 @@ def go_away(end):
 
 
 def change(end, config):
-    """Two values at a client, three at a server."""
+    """Two values at a client, three at a server, and the greatest frame where it is another."""
     output(end)
     refuse_if(end.asked is not None, 13)
     end.marks.reach("settings changed")
     streams = [(3, config.streams)] if end.is_server else []
-    end.write_settings([(1, config.table), (4, config.window), *streams])
+    end.write_settings([(1, config.table), (4, config.window), *streams], config.frame)
     end.asked = config
 
 

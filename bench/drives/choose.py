@@ -1,7 +1,7 @@
 """What a connection is driven to: its mood, and random frames and calls."""
-from frames import GREATEST, MALFORMED, Frame
+from frames import GREATEST, MALFORMED, Frame, too_long
 from hpack import integer, raw
-from model import MAX_PAYLOAD, Config
+from model import FIRST_FRAME, Config
 
 # What each mood is: mostly what is allowed; all that a peer may do wrong; as many streams as are
 # allowed; a thousand resets and more; replies that nobody takes away; DATA that nobody releases.
@@ -31,6 +31,8 @@ FRAME_WEIGHTS = {
 }
 # In how many of a hundred cases the peer leaves out a frame on a stream that none may have.
 PATIENCE = {"calm": 98, "wild": 50}
+# Greatest frames that an end names: the first one most often, and both sides of what matters.
+FRAME_SIZES = [16_384] * 5 + [16_385, 65_535, 65_536, 1_048_576]
 METHOD_GET = b"\x82"  # RFC 7541, appendix A
 NEWEST = b"\xbe"
 GET = (b":method", b"GET", False)
@@ -112,12 +114,15 @@ class Chooser:
                 return Frame("ping", ack=True, octets=octets)
             case "goaway":
                 lasts = [GREATEST, 0, end.highest, random.below(end.highest + 2)]
-                return Frame("goaway", last=random.one_of(lasts), code=random.below(20))
+                return Frame("goaway", last=random.one_of(lasts), code=random.below(20), debug=b"debug")
             case "update":
                 return Frame("update", increment=self.increment(end.send))
             case "unknown":
-                return Frame("unknown", number, type=random.octets()[0] | 0x10)
+                length = end.limit if random.percent(20) else 3
+                return Frame("unknown", number, type=random.octets()[0] | 0x10, payload=b"a" * length)
             case "malformed":
+                if random.percent(40):
+                    return too_long(random.one_of([0, 1, 6, 0x20]), random.one_of([end.limit + 1, 0xFFFFFF]))
                 return random.one_of(MALFORMED)
             case "continuation":
                 return Frame(name, number, block=METHOD_GET * 3, whole=random.percent(50))
@@ -134,7 +139,15 @@ class Chooser:
         pad = random.octets()[0] if random.percent(20) else None
         lengths = [16_000] * 4 if self.mood == "greedy" else [9, 100, 200, 300, 16_000]
         length = random.one_of([0, 1, 9, 10, 100, 100, 1_000, 1_000, *lengths])
+        if self.end.limit > FIRST_FRAME and random.percent(20):
+            length = self.long_data(0 if pad is None else 1 + pad)
         return Frame("data", number, end=random.percent(15), body=b"x" * length, pad=pad)
+
+    def long_data(self, padding):
+        """As much as may be read, or as the connection's window has; in a wild mood one octet more too."""
+        window = max(self.end.receive, 0) + (self.random.below(2) if self.mood == "wild" else 0)
+        most = min(self.end.limit, window) if self.random.percent(70) else FIRST_FRAME + 1
+        return max(min(most, self.end.limit) - padding, 0)
 
     def headers(self, number):
         random, end = self.random, self.end
@@ -153,23 +166,24 @@ class Chooser:
         if not self.is_steady and random.percent(20):
             value = b"y" * random.one_of([65_503, 65_504, 20_000])  # a list of 65,536 octets, or more
             block = b"\x00" + raw(b"a") + raw(value)
-            self.planned = block[MAX_PAYLOAD:]
-            return block[:MAX_PAYLOAD]
-        return METHOD_GET * (3 if self.is_steady else random.one_of([0, 3, 20, MAX_PAYLOAD]))
+            most = random.one_of([FIRST_FRAME, self.end.limit])
+            self.planned = block[most:]
+            return block[:most]
+        return METHOD_GET * (3 if self.is_steady else random.one_of([0, 3, 20, FIRST_FRAME]))
 
     def continuation(self):
         random = self.random
         number, _, octets = self.end.partial
         if self.planned is not None:
-            count = random.one_of([MAX_PAYLOAD, MAX_PAYLOAD, 9_000])
+            count = random.one_of([FIRST_FRAME, self.end.limit, 9_000])
             part, self.planned = self.planned[:count], self.planned[count:]
             whole = not self.planned
             if whole:
                 self.planned = None
             return Frame("continuation", number, block=part, whole=whole)
-        is_long = len(octets) >= MAX_PAYLOAD
+        is_long = len(octets) >= FIRST_FRAME
         if is_long and random.percent(80):
-            return Frame("continuation", number, block=METHOD_GET * MAX_PAYLOAD, whole=False)
+            return Frame("continuation", number, block=METHOD_GET * FIRST_FRAME, whole=False)
         count = random.one_of([0, 1, 200 if is_long else 5])
         return Frame("continuation", number, block=METHOD_GET * count, whole=random.percent(50))
 
@@ -216,7 +230,8 @@ class Chooser:
             greatest = [2_147_483_647, 2_147_483_647, 2_147_483_648]
             return 4, random.one_of(greatest if is_wrong else [0, 10, 65_535, 65_536, 100_000])
         if name == 4:
-            return 5, random.one_of([16_383, 16_777_216] if is_wrong else [16_384, 16_777_215])
+            good = [16_384, 16_385, 20_000, 65_536, 65_537, 16_777_215]
+            return 5, random.one_of([16_383, 16_777_216] if is_wrong else good)
         return random.one_of([6, 7, 240, 65_535]), random.below(100)
 
     def increment(self, send):
@@ -275,7 +290,7 @@ class Chooser:
         if self.mood == "flood":
             left = 60_000 - self.end.waiting
             return left if left > 1_000 else 70_000
-        return self.random.one_of([0, 0, 1, 10, 1_000, 16_384, 16_385, 70_000])
+        return self.random.one_of([0, 0, 1, 10, 1_000, 16_384, 16_385, 30_000, 70_000, 70_000])
 
     def release_count(self, number):
         """All that is owed, a part, or more."""
@@ -299,4 +314,4 @@ def config(mood, random):
     windows = {"flood": [65_535], "resets": [65_535], "calm": [10_000, 65_535, 100_000],
                "greedy": [65_535, 100_000, GREATEST]}
     window = random.one_of(windows.get(mood, [1, 10, 65_535, 100_000, GREATEST]))
-    return Config(table, window, random.one_of([100, 101, 105]))
+    return Config(table, window, random.one_of([100, 101, 105]), random.one_of(FRAME_SIZES))

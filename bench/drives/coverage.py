@@ -10,7 +10,8 @@ settings window, settings frame, settings overflow, settings taken, ack reported
 ping answered, pong reported, pong ignored, goaway reported, unprocessed, update by nothing, update overflow,
 update taken, stream update on idle, stream update ignored, stream update by nothing, stream update overflow,
 stream update taken, unknown, too many resets, too much output, credit returned, credit held back,
-credit returned later, refused with internal error, refused at a thousand, take after failure, partial frame
+credit returned later, frame size named, frame size lowered, frame too long, long frame sent, long frame taken,
+refused with internal error, refused at a thousand, take after failure, partial frame
 """
 
 

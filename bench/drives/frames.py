@@ -21,7 +21,7 @@ class Frame:
 
     data: body, end, pad (octets of padding, or None). headers: block, end, whole, padded.
     continuation: block, whole. reset: code. settings: pairs. ack. ping: octets, ack. goaway: last,
-    code. update: increment. unknown: type. malformed: octets, code of the fault."""
+    code, debug. update: increment. unknown: type, payload. malformed: octets, code of the fault."""
 
     def __init__(self, kind, stream=0, **parts):
         self.kind, self.stream = kind, stream
@@ -66,13 +66,13 @@ class Frame:
         return frame_octets(6, ACK * self.ack, 0, self.octets)
 
     def encode_goaway(self):
-        return frame_octets(7, 0, 0, four(self.last) + four(self.code) + b"debug")
+        return frame_octets(7, 0, 0, four(self.last) + four(self.code) + self.debug)
 
     def encode_update(self):
         return frame_octets(8, 0, self.stream, four(self.increment))
 
     def encode_unknown(self):
-        return frame_octets(self.type, 0xFF, self.stream, b"abc")
+        return frame_octets(self.type, 0xFF, self.stream, self.payload)
 
     def encode_malformed(self):
         return self.octets
@@ -111,20 +111,23 @@ def read_frame(head, payload):
         case "ping":
             return Frame(kind, octets=payload, ack=bool(flags & ACK))
         case "goaway":
-            return Frame(kind, last=number, code=int.from_bytes(payload[4:8], "big"))
+            return Frame(kind, last=number, code=int.from_bytes(payload[4:8], "big"), debug=b"")
         case "update":
             return Frame(kind, stream, increment=number)
     raise ValueError(kind)
 
 
+def too_long(kind, length):
+    """The head of a frame whose payload is longer than may be read: a fault at its ninth octet."""
+    return Frame("malformed", octets=length.to_bytes(3, "big") + bytes([kind, 0, 0, 0, 0, 1]), code=6, long=True)
+
+
 def malformed(text, code):
-    return Frame("malformed", octets=bytes.fromhex(text), code=code)
+    return Frame("malformed", octets=bytes.fromhex(text), code=code, long=False)
 
 
 # Frames that no state allows: the first fault that holds of sections 4.2 and 6.
 MALFORMED = [
-    # A payload of more than 16,384 octets.
-    malformed("004001 00 00 00000001", 6),
     # PUSH_PROMISE.
     malformed("000000 05 00 00000001", 1),
     # DATA, HEADERS, PRIORITY, RST_STREAM and CONTINUATION on stream 0.

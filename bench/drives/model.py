@@ -11,7 +11,8 @@ MOST_WAITING = 262_144  # waiting octets that no reply may pass
 MOST_RESETS = 1_000
 MAX_LIST = 65_536
 MAX_BLOCK = 65_552
-MAX_PAYLOAD = 16_384
+FIRST_FRAME = 16_384  # octets of a payload that every end reads (section 6.5.2)
+MAX_SENT = 65_536  # octets of a payload that an end sends at most
 MAX_DATA = 65_536  # octets of a body that one call sends at most
 
 
@@ -26,11 +27,12 @@ class Fault(Exception):
 class Config:
     """An end's own values of SETTINGS."""
 
-    def __init__(self, table, window, streams):
-        self.table, self.window, self.streams = table, window, streams
+    def __init__(self, table, window, streams, frame=FIRST_FRAME):
+        self.table, self.window, self.streams, self.frame = table, window, streams, frame
 
     def text(self):
-        return f"{self.table} {self.window} {self.streams}"
+        frame = "" if self.frame == FIRST_FRAME else f" frames {self.frame}"
+        return f"{self.table} {self.window} {self.streams}{frame}"
 
 
 class Stream:
@@ -48,6 +50,9 @@ class Model:
         self.role, self.config, self.marks = role, config, marks
         self.asked = config  # own settings that await their acknowledgment
         self.own_window = FIRST_WINDOW  # the own initial window in force
+        self.own_frame = FIRST_FRAME  # the own greatest frame in force
+        self.written_frame = FIRST_FRAME  # the one that was sent last
+        self.peer_frame = FIRST_FRAME  # the peer's
         self.failed = None
         self.output = bytearray()
         self.ends = []  # how many octets of output precede the end of each frame that waits
@@ -75,13 +80,23 @@ class Model:
     def waiting(self):
         return len(self.output)
 
+    @property
+    def limit(self):
+        """The greatest payload that is read: of what is in force, and of what awaits that (section 6.5.3)."""
+        return max(self.own_frame, self.asked.frame if self.asked else 0)
+
+    @property
+    def most(self):
+        """The greatest payload that is sent."""
+        return min(MAX_SENT, self.peer_frame)
+
     def open_connection(self):
         """Section 3.4; the opening pairs are those of docs/ENDPOINT.md, "Settings"."""
         config = self.config
         second = (3, config.streams) if self.is_server else (2, 0)
         if not self.is_server:
             self.append(PREFACE)
-        self.write_settings([(1, config.table), second, (4, config.window), (6, MAX_LIST)])
+        self.write_settings([(1, config.table), second, (4, config.window), (6, MAX_LIST)], config.frame)
 
     def append(self, octets):
         self.output += octets
@@ -90,7 +105,11 @@ class Model:
     def write(self, kind, flags, stream, payload=b""):
         self.append(frame_octets(kind, flags, stream, payload))
 
-    def write_settings(self, pairs):
+    def write_settings(self, pairs, frame):
+        """The greatest frame is named where it differs from the one that was sent last."""
+        if frame != self.written_frame:
+            pairs, self.written_frame = [*pairs, (5, frame)], frame
+            self.marks.reach("frame size named")
         payload = b"".join(name.to_bytes(2, "big") + four(value) for name, value in sorted(pairs))
         self.write(4, 0, 0, payload)
 

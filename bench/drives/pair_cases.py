@@ -1,6 +1,7 @@
 """Lists of acts on a client and a server that are joined by two pipes, as cases of group `pair`.
 
 Each act has the answer that the model expects, what is handed out, and what is seen of both ends."""
+from choose import FRAME_SIZES
 from coverage import Marks
 from joined import EndRefused, Joined
 from messages import REQUESTS, RESPONSES, any_message
@@ -23,7 +24,7 @@ def config(is_heavy, random):
     table = random.one_of([0, 33, 100, 4_096, 65_536])
     heavy = [20_000, 65_535, 65_535, 100_000, 2_147_483_647]
     window = random.one_of(heavy if is_heavy else [4, 10, 100, 65_535])
-    return Config(table, window, random.one_of([100, 101, 1_000]))
+    return Config(table, window, random.one_of([100, 101, 1_000]), random.one_of(FRAME_SIZES))
 
 
 class Play:

@@ -3,7 +3,7 @@
 docs/ENDPOINT.md has it under "What an end does with what it reads". The events are lines, as
 crates/h2_conn_cases/src/conn_events.rt has them."""
 from hpack import BadBlock, size_of
-from model import MAX_BLOCK, MAX_LIST, MOST_RESETS, Fault, exceeds, is_too_great
+from model import FIRST_FRAME, MAX_BLOCK, MAX_LIST, MOST_RESETS, Fault, exceeds, is_too_great
 from text import CODES, field_lines, last_text
 
 
@@ -62,8 +62,11 @@ def fails(end, mark, code):
 
 
 def take_frame(end, frame):
+    assert frame.kind == "malformed" or len(frame.encoded()) <= 9 + end.limit
     if frame.kind == "malformed":
-        fails(end, "malformed", frame.code)
+        fails(end, "frame too long" if frame.long else "malformed", frame.code)
+    if len(frame.encoded()) > 9 + FIRST_FRAME:
+        end.marks.reach("long frame taken")
     if not end.begun:
         if frame.kind != "settings":
             fails(end, "first frame", 1)
@@ -237,6 +240,8 @@ def take_pair(end, name, value):
         take_window(end, value)
     elif name == 5 and not 16_384 <= value <= 16_777_215:
         fails(end, "settings frame", 1)
+    elif name == 5:
+        end.peer_frame = value
 
 
 def take_window(end, window):
@@ -255,7 +260,10 @@ def take_ack(end, frame):
     if end.asked is None:
         return end.marks.reach("ack ignored")
     end.marks.reach("ack reported")
+    if end.asked.frame < end.own_frame:
+        end.marks.reach("frame size lowered")
     end.config, end.asked = end.asked, None
+    end.own_frame = end.config.frame
     end.decoder.limit = end.config.table
     for stream in end.streams.values():
         stream.receive += end.config.window - end.own_window

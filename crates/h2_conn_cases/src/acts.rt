@@ -6,7 +6,7 @@ use h2_case::fields::{add_fields, read_fields};
 use h2_case::octets::{add_frames, read_octets};
 use h2_case::text::Text;
 use h2_case::words::Words;
-use h2_conn::{Config, Conn, Refusal};
+use h2_conn::{BadConfig, Config, Conn, Refusal};
 use h2_replay::Act;
 use std::alloc::Global;
 
@@ -27,10 +27,23 @@ pub(crate) fn read_values(words: &mut Words<'_>) -> (u32, u32, u32) {
     (table_limit, initial_window, max_streams)
 }
 
-/// The settings of these values; the default ones where they can't be.
-pub fn config_of(values: (u32, u32, u32), words: &mut Words<'_>) -> Config {
+/// The settings of these values, and of the greatest frame that a command names after them.
+pub(crate) fn made_config(
+    values: (u32, u32, u32),
+    words: &mut Words<'_>,
+) -> Result<Config, BadConfig> {
     let (table_limit, initial_window, max_streams) = values;
-    match Config::new(table_limit, initial_window, max_streams) {
+    let max_frame = if words.has("frames") {
+        words.number()
+    } else {
+        16_384
+    };
+    Config::new(table_limit, initial_window, max_streams)?.with_max_frame(max_frame)
+}
+
+/// The same; the default ones where they can't be.
+pub fn config_of(values: (u32, u32, u32), words: &mut Words<'_>) -> Config {
+    match made_config(values, words) {
         Ok(config) => config,
         Err(_) => {
             words.unread();
@@ -186,5 +199,9 @@ fn add_octets_act(text: &mut Text, name: &str, octets: &[u8]) {
 // Adds the line of new settings.
 fn add_change(text: &mut Text, config: Config) {
     write!(text, "change {}", config.table_limit());
-    add_numbers(text, "", config.initial_window(), config.max_streams());
+    write!(text, " {} {}", config.initial_window(), config.max_streams());
+    if config.max_frame() != Config::default().max_frame() {
+        write!(text, " frames {}", config.max_frame());
+    }
+    text.push_str("\n");
 }

@@ -1,7 +1,8 @@
 //! One end of a connection, of calls and octets.
 //!
 //! - `new client` or `new server`, and the limit of its table, its initial window and its streams,
-//!   where they are not 4096, 65535 and 100.
+//!   where they are not 4096, 65535 and 100; after these `frames N`, the greatest frame that it
+//!   reads, where it is not 16384.
 //! - `take OCTETS`: what is reported of them, as [`crate::conn_events`] says, and `fault CODE`
 //!   where the connection fails. `take each N FRAMES` is the frames N times, with numbers of
 //!   streams that are 2 higher each time. `take quietly ..`: how many of each kind are reported,
@@ -25,7 +26,7 @@
 //! more than 20,000 are left; and where none is longer than 160 and no command has repeated octets,
 //! or one is `take anywhere OCTETS`, in two at each place. An answer that differs then is said.
 
-use crate::acts::{make_call, read_act, read_values};
+use crate::acts::{made_config, make_call, read_act, read_values};
 use crate::answers::{add_name, add_option, add_rule, add_value, copy_of, extend};
 use crate::conn_events::{note_event, note_fault};
 use crate::cuts::{Cut, Cutting, answers_in_cuts, read_frames};
@@ -169,8 +170,8 @@ impl State {
     // Begins with a new end.
     fn begin(&mut self, words: &mut Words<'_>, text: &mut Text) {
         self.role = read_role(words);
-        let (table_limit, initial_window, max_streams) = read_values(words);
-        match Config::new(table_limit, initial_window, max_streams) {
+        let values = read_values(words);
+        match made_config(values, words) {
             Ok(config) => self.open(config, text),
             Err(bad) => add_name(self.alloc, text, &bad),
         }

@@ -5,7 +5,8 @@
 //! pieces of one octet. Where an answer differs then, it says so.
 //!
 //! - `new client TABLE WINDOW STREAMS server TABLE WINDOW STREAMS`: two ends with these settings.
-//!   `pieces N` may follow, for pieces of N octets.
+//!   `frames N` may follow each three, for the greatest frame that is read, and `pieces N` all, for
+//!   pieces of N octets.
 //! - `request MESSAGE`, `respond ID MESSAGE`, `pump SIDE`, `move SIDE COUNT`, `deliver SIDE COUNT`,
 //!   `release_all SIDE`, `reset SIDE ID CODE`, `ping SIDE OCTETS`, `go_away SIDE`,
 //!   `change SIDE TABLE WINDOW STREAMS`: an act, and what it answers: the stream of a request, how

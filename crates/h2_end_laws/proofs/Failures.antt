@@ -46,7 +46,7 @@ FailedAs = SamePart (λ log. log.failed)
 -- What is written and what is unreturned fail nothing.
 failed_as : HoldsOfWrites FailedAs
 failed_as =
-    stays_written (λ log. log.failed) (λ log sent written turns. refl) (λ log count. refl)
+    stays_written (λ log. log.failed) (λ log sent written payloads turns. refl) (λ log count. refl)
 
 pub sent_failed : (log : Log) (items : List Item) → (with_sent log items).failed ≡ log.failed
 sent_failed log items = holds_sent FailedAs failed_as log items

@@ -21,7 +21,7 @@ pub mod OverReads
 pub mod OverRoom
 pub mod OverSteps
 pub mod Overlaps
-pub mod PayloadLimits
+pub mod PieceLogs
 pub mod PieceParts
 pub mod PieceRuns
 pub mod Promised

@@ -1,23 +1,23 @@
 -- A prefix of what an end has written.
 use Rattle.std.proofs.Common.{◌≡◌, ℕ, ◌≤◌, not, List, [], ◌++◌, None, arith}
-use Rattle.std.specs.List.{AllByRecursion}
 use Rattle.h2_frame.specs.Frames.{Frame}
 use Rattle.h2_wire.specs.Streams.{Limits, Frames, expected_preface}
 use Rattle.h2_block.specs.Grouping.{Item, Groups}
 use Rattle.h2_log.specs.declared.role.Role.{Role}
 use Rattle.h2_log.specs.Acts.{Values}
-use Rattle.h2_log.specs.Items.{encoding_of_items}
 use Rattle.h2_log.specs.Settings.{is_server}
 use Rattle.h2_log.specs.Limits.{max_frame_size_sent}
 use Rattle.h2_log.specs.Log.{Log}
 use Rattle.h2_log.specs.Histories.{IsLog}
 use Rattle.h2_log.proofs.StreamLemmas.{stream_of_log}
-use Rattle.h2_log_laws.specs.Sending.{IsSendable, frames_of_items, oldest_first}
-use Rattle.h2_log_laws.proofs.OutputRead.{items_read, items_grouped}
-use Rattle.h2_log_laws.proofs.TurnsOfLogs.{turns_report}
+use Rattle.h2_log_laws.specs.Payloads.{encoding_by}
+use Rattle.h2_log_laws.specs.Sending.{frames_by, oldest_first}
+use Rattle.h2_log_laws.proofs.OutputRead.{items_read_by, items_grouped_by}
+use Rattle.h2_log_laws.proofs.PayloadsOfLogs.{written_by_payloads}
 use Rattle.h2_end_laws.specs.Prefixes.{IsPrefixOfItems}
 use Rattle.h2_end_laws.proofs.ReadPrefixes.{prefix_read}
 use Rattle.h2_end_laws.proofs.GroupedPrefixes.{prefix_grouped}
+use Rattle.h2_end_laws.proofs.SendableCalls.{payloads_may, written_sendable_by}
 
 -- A prefix of octets that are read as frames that group to items.
 items_begin : (role : Role) (limits : Limits) (octets more : List ℕ) (frames : List Frame)
@@ -40,30 +40,34 @@ items_begin role limits octets more frames sent read groups =
 
 -- What is written of a log, of its role.
 pub written_of : (role : Role) (log : Log) → log.role ≡ role → log.written
-    ≡ expected_preface (not (is_server log.role)) ++ encoding_of_items max_frame_size_sent log.sent
+    ≡ expected_preface (not (is_server log.role)) ++ encoding_by log.payloads log.sent
     → log.written
-    ≡ expected_preface (not (is_server role)) ++ encoding_of_items max_frame_size_sent log.sent
+    ≡ expected_preface (not (is_server role)) ++ encoding_by log.payloads log.sent
 written_of role log same written = rw same at written
 
--- All that a log has written is read as the frames of its items, where these can be sent.
+-- All that a log has written is read as the frames of its items, each with its greatest payload.
 pub output_read : (role : Role) (values : Values) (log : Log) (limits : Limits)
     → IsLog role values log → ((place : ℕ) → max_frame_size_sent ≤ limits place)
-    → AllByRecursion (IsSendable max_frame_size_sent) log.sent
-    → Frames (not (is_server role)) limits log.written
-    (frames_of_items max_frame_size_sent log.sent) []
-output_read role values log limits is high sendable =
+    → Frames (not (is_server role)) limits log.written (frames_by log.payloads log.sent) []
+output_read role values log limits is high =
     rw (written_of role log (stream_of_log role values log is).role
-    (turns_report role values log is).items)
-    (items_read max_frame_size_sent (not (is_server role)) limits log.sent (omega arith) high
-    sendable)
+    (written_by_payloads role values log is).written)
+    (items_read_by (not (is_server role)) limits max_frame_size_sent log.payloads log.sent
+    (omega arith) high (payloads_may role values log is) (written_sendable_by role values log is))
 
--- A prefix of what a log has written, whose items can be sent.
+-- These frames group to the items.
+pub output_grouped : (role : Role) (values : Values) (log : Log) → IsLog role values log
+    → Groups (frames_by log.payloads log.sent) (oldest_first log.sent) None
+output_grouped role values log is =
+    items_grouped_by max_frame_size_sent log.payloads log.sent (payloads_may role values log is)
+    (written_sendable_by role values log is)
+
+-- A prefix of what a log has written.
 pub output_begins : (role : Role) (values : Values) (log : Log) (limits : Limits)
     (octets more : List ℕ) → IsLog role values log → log.written ≡ octets ++ more
     → ((place : ℕ) → max_frame_size_sent ≤ limits place)
-    → AllByRecursion (IsSendable max_frame_size_sent) log.sent
     → IsPrefixOfItems role limits octets log.sent
-output_begins role values log limits octets more is joined high sendable =
-    items_begin role limits octets more (frames_of_items max_frame_size_sent log.sent) log.sent
-    (rw joined at (output_read role values log limits is high sendable))
-    (items_grouped max_frame_size_sent log.sent (omega arith) sendable)
+output_begins role values log limits octets more is joined high =
+    items_begin role limits octets more (frames_by log.payloads log.sent) log.sent
+    (rw joined at (output_read role values log limits is high))
+    (output_grouped role values log is)

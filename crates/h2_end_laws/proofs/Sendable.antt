@@ -2,7 +2,7 @@
 use Rattle.std.proofs.Common.{◌≡◌, ◌≢◌, ℕ, ◌+◌, ◌^◌, ◌≤◌, ◌<◌, ◌==◌, nat_lt}
 use Rattle.std.proofs.Common.{max, Bool, true, false, if◌then◌else◌, List, [], ◌∷◌, ◌++◌}
 use Rattle.std.proofs.Common.{length, Option, Some, None, refl, inl, inr, arith}
-use Rattle.std.proofs.Common.{subst}
+use Rattle.std.proofs.Common.{subst, map as each}
 use Rattle.std.specs.List.{AllByRecursion}
 use Rattle.std.proofs.lemmas.Bool.{ltb-false, lt-ltb, cases_eq}
 use Rattle.h2_frame.specs.declared.code.Code.{Code}
@@ -17,7 +17,7 @@ use Rattle.h2_log.specs.Events.{Event, processed_by, greatest_processed}
 use Rattle.h2_log.specs.Settings.{is_server}
 use Rattle.h2_log.specs.States.{State, Idle, Active, ClosedByUs, Closed}
 use Rattle.h2_log.specs.Windows.{granted_on_connection, passes}
-use Rattle.h2_log.specs.Log.{Log, last_processed}
+use Rattle.h2_log.specs.Log.{Log, last_processed, max_payload_sent, max_payload_sent_by}
 use Rattle.h2_log.specs.View.{View}
 use Rattle.h2_log.specs.LogView.{log_view}
 use Rattle.h2_log.specs.Verdicts.{Verdict, ConnectionFault, StreamFault, NoEvent, Reported}
@@ -28,10 +28,10 @@ use Rattle.h2_log.specs.LogSteps.{read, with_sent, with_failure}
 use Rattle.h2_log.specs.LogSteps.{with_credit_returned}
 use Rattle.h2_log.specs.LogSteps.{used}
 use Rattle.h2_log.specs.Allowed.{AllowedHistory, starts, reads, writes}
-use Rattle.h2_log.specs.Limits.{max_frame_size_sent}
 use Rattle.h2_log.specs.Acts.{Values}
 use Rattle.h2_log.specs.CallRules.{opening_pairs}
-use Rattle.h2_log_laws.specs.Sending.{IsSendable}
+use Rattle.h2_log.proofs.SentPayloads.{most_between}
+use Rattle.h2_log_laws.specs.Sending.{IsSendable, AreSendable}
 use Rattle.h2_log_laws.proofs.ItemLists.{total_after}
 use Rattle.h2_log_laws.proofs.ItemsThatCome.{comes_as_before}
 use Rattle.h2_log_laws.proofs.LogInduction.{Replies}
@@ -45,22 +45,24 @@ use Rattle.h2_end_laws.proofs.ReadingRules.{IsUnreported, LogIsLow, IsFaulty, Is
 use Rattle.h2_end_laws.proofs.ReadingRules.{used_some}
 use Rattle.h2_end_laws.proofs.ReadingRules.{some_above}
 use Rattle.h2_end_laws.proofs.Readings.{processed_append}
-use Rattle.h2_end_laws.proofs.SendableItems.{reset_sendable, update_sendable, goaway_sendable}
-use Rattle.h2_end_laws.proofs.SendableItems.{ping_sendable, ack_sendable, code_low, all_of_both}
+use Rattle.h2_end_laws.proofs.SendableItems.{IsPayload, reset_sendable, update_sendable}
+use Rattle.h2_end_laws.proofs.SendableItems.{goaway_sendable, ping_sendable, ack_sendable, code_low}
+use Rattle.h2_end_laws.proofs.SendableItems.{are_sendable, both_sendable}
 use Rattle.h2_end_laws.proofs.FitItems.{IsFitItem, stream_low, comes_fit}
 use Rattle.h2_log_laws.proofs.StreamNumbers.{number_or_none as last_by}
 
--- What was written can be sent; what was read and reported is fit; and the peer has sent no more
--- than the connection's window.
-pub record AreFit (received sent : List Item) (reported : List Event) : Type 0 where
-  pub sent_all : AllByRecursion (IsSendable max_frame_size_sent) sent
+-- What was written can be sent, each item with its own greatest payload; what was read and reported
+-- is fit; and the peer has sent no more than the connection's window.
+pub record AreFit (payloads : List ℕ) (received sent : List Item) (reported : List Event)
+    : Type 0 where
+  pub sent_all : AreSendable payloads sent
   pub received_all : AllByRecursion IsFitItem received
   pub processed : greatest_processed reported < 2 ^ 31
   pub credit : total data_of received ≤ 65535 + total (increment_on 0) sent
 
 -- the same of a log of which these events are still to be reported, and of a log
 abbrev pub PendingFit : List Event → Log → Type 0
-PendingFit events log = AreFit log.received log.sent (events ++ log.reported)
+PendingFit events log = AreFit log.payloads log.received log.sent (events ++ log.reported)
 
 abbrev pub LogIsFit : Log → Type 0
 LogIsFit log = PendingFit [] log
@@ -69,25 +71,28 @@ LogIsFit log = PendingFit [] log
 abbrev pub LogIsAllowed : Role → Log → Type 0
 LogIsAllowed role log = AllowedHistory role log.received log.sent
 
--- More that can be sent.
-wrote_fit : (received items sent : List Item) (reported : List Event)
-    → AllByRecursion (IsSendable max_frame_size_sent) items → AreFit received sent reported
-    → AreFit received (items ++ sent) reported
-wrote_fit received items sent reported all are =
+-- More that can be sent with one greatest payload.
+wrote_fit : (most : ℕ) (payloads : List ℕ) (received items sent : List Item)
+    (reported : List Event) → AllByRecursion (IsSendable most) items
+    → AreFit payloads received sent reported
+    → AreFit (each (λ one. most) items ++ payloads) received (items ++ sent) reported
+wrote_fit most payloads received items sent reported all are =
     record {
-      sent_all = all_of_both (IsSendable max_frame_size_sent) items sent all are.sent_all;
+      sent_all = both_sendable (each (λ one. most) items) payloads items sent
+          (are_sendable most items all) are.sent_all;
       received_all = are.received_all;
       processed = are.processed;
       credit = omega (arith, are.credit, total_after (increment_on 0) items sent);
     }
 
 pub wrote_keeps : (events : List Event) (log : Log) (items : List Item)
-    → AllByRecursion (IsSendable max_frame_size_sent) items → PendingFit events log
+    → AllByRecursion (IsSendable (max_payload_sent log)) items → PendingFit events log
     → PendingFit events (with_sent log items)
 unfolding with_sent
 wrote_keeps events log [] all are = are
 wrote_keeps events log (item ∷ items) all are =
-    wrote_fit log.received (item ∷ items) log.sent (events ++ log.reported) all are
+    wrote_fit (max_payload_sent log) log.payloads log.received (item ∷ items) log.sent
+    (events ++ log.reported) all are
 
 -- A WINDOW_UPDATE of the connection that was allowed returns no more than its window.
 update_allowed : (role : Role) (received all : List Item) (n : ℕ) (sent : List Item)
@@ -106,12 +111,12 @@ update_allowed role received _ n sent (writes {sent = before} item with_sent all
 update_low : (role : Role) (n : ℕ) (received sent : List Item)
     → AllowedHistory role received (alone (WindowUpdate 0 n) ∷ sent)
     → total data_of received ≤ 65535 + total (increment_on 0) sent
-    → IsSendable max_frame_size_sent (alone (WindowUpdate 0 n))
+    → IsSendable (max_payload_sent_by received) (alone (WindowUpdate 0 n))
 update_low role n received sent with_sent credit =
-    update_sendable 0 n (omega arith) (omega (
-      arith,
-      update_allowed role received (alone (WindowUpdate 0 n) ∷ sent) n sent with_sent refl credit,
-    ))
+    let small = update_allowed role received (alone (WindowUpdate 0 n) ∷ sent) n sent with_sent refl
+    credit in
+    update_sendable (max_payload_sent_by received) 0 n (most_between received) (omega arith)
+    (omega (arith, small))
 
 -- What was written before an item other than SETTINGS was allowed.
 pub allowed_before : (role : Role) (received all : List Item) (item : Item) (sent : List Item)
@@ -134,8 +139,8 @@ unfolding with_sent
 returned_fit role events log are allowed =
     let now = are (allowed_before role log.received _ _ log.sent allowed refl
     (λ pairs wrong. cc)) in
-    wrote_fit log.received (alone (WindowUpdate 0 log.unreturned) ∷ []) log.sent
-    (events ++ log.reported) (
+    wrote_fit (max_payload_sent log) log.payloads log.received
+    (alone (WindowUpdate 0 log.unreturned) ∷ []) log.sent (events ++ log.reported) (
       update_low role log.unreturned log.received log.sent allowed
           now.credit,
       tt,
@@ -146,8 +151,12 @@ pub failure_keeps : (code : Code) (last : ℕ) (log : Log) → last < 2 ^ 31 →
     → LogIsFit (with_failure code last log)
 unfolding with_sent
 failure_keeps code last log low are =
-    wrote_fit log.received (alone (GoAway last (code_number code) []) ∷ []) log.sent log.reported
-    (goaway_sendable last (code_number code) low (code_low code), tt) are
+    wrote_fit (max_payload_sent log) log.payloads log.received
+    (alone (GoAway last (code_number code) []) ∷ []) log.sent log.reported (
+      goaway_sendable (max_payload_sent log) last (code_number code) (most_between log.received)
+          low (code_low code),
+      tt,
+    ) are
 
 pub last_low : (log : Log) → LogIsFit log → last_processed log < 2 ^ 31
 unfolding last_processed
@@ -239,23 +248,24 @@ processed_fit log decoded (alone (Continuation stream last fragment)) Reported f
 processed_fit log decoded (alone (Unknown kind flags stream payload)) Reported fit = omega arith
 
 -- What is replied to a fit item can be sent.
-replies_sendable : (log : Log) (verdict : Verdict) (item : Item) → IsFitItem item
-    → Says (IsFaulty log item) (IsUnreported log item) (IsSaid log item) verdict
-    → AllByRecursion (IsSendable max_frame_size_sent) (replies_to verdict item)
+replies_sendable : (most : ℕ) (log : Log) (verdict : Verdict) (item : Item) → IsPayload most
+    → IsFitItem item → Says (IsFaulty log item) (IsUnreported log item) (IsSaid log item) verdict
+    → AllByRecursion (IsSendable most) (replies_to verdict item)
 unfolding replies_to
-replies_sendable log (ConnectionFault code) item fit says = tt
-replies_sendable log (StreamFault code) item fit says = (
-  reset_sendable (stream_of_item item) (code_number code) (some_above _ (used_some log.role
+replies_sendable most log (ConnectionFault code) item may fit says = tt
+replies_sendable most log (StreamFault code) item may fit says = (
+  reset_sendable most (stream_of_item item) (code_number code) may (some_above _ (used_some log.role
       (stream_of_item item) (item ∷ log.received) log.sent says)) (stream_low item fit)
       (code_low code),
   tt,
 )
-replies_sendable log Reported item fit says = tt
-replies_sendable log NoEvent (block stream end octets) fit says = tt
-replies_sendable log NoEvent (alone (Settings false pairs)) fit says = (ack_sendable, tt)
-replies_sendable log NoEvent (alone (Ping false octets)) fit says =
-    (ping_sendable true octets fit, tt)
-replies_sendable log NoEvent (alone frame) fit says = tt
+replies_sendable most log Reported item may fit says = tt
+replies_sendable most log NoEvent (block stream end octets) may fit says = tt
+replies_sendable most log NoEvent (alone (Settings false pairs)) may fit says =
+    (ack_sendable most may, tt)
+replies_sendable most log NoEvent (alone (Ping false octets)) may fit says =
+    (ping_sendable most true octets may fit, tt)
+replies_sendable most log NoEvent (alone frame) may fit says = tt
 
 -- A fit item that is read.
 item_read : (log : Log) (decoded : Option Decoded) (item : Item) (verdict : Verdict)
@@ -287,5 +297,5 @@ replied_fit role values log decoded item verdict replies are =
     let says = subst (Says (IsFaulty log item) (IsUnreported log item) (IsSaid log item)) replies.is
     (says_of _ _ _ log decoded item (rules_say log decoded item low)) in
     wrote_keeps _ (read log decoded item) (replies_to verdict item)
-    (replies_sendable log verdict item fit says)
+    (replies_sendable _ log verdict item (most_between (item ∷ log.received)) fit says)
     (item_read log decoded item verdict fit (says_one verdict replies.up within) are)

@@ -30,7 +30,8 @@ use Rattle.h2_log.specs.LogCalls.{opened, called}
 use Rattle.h2_log.specs.Histories.{IsLog}
 use Rattle.h2_log.specs.Allowed.{AllowedHistory}
 use Rattle.h2_log.specs.Limits.{max_frame_size_sent}
-use Rattle.h2_log_laws.specs.Sending.{IsSendable}
+use Rattle.h2_log.proofs.SentPayloads.{most_between}
+use Rattle.h2_log_laws.specs.Sending.{IsSendable, AreSendable}
 use Rattle.h2_log_laws.proofs.BlockSizes.{block_is_gathered}
 use Rattle.h2_log_laws.proofs.StreamNumbers.{next_odd}
 use Rattle.h2_log_laws.proofs.ReaderStates.{active_parts}
@@ -42,9 +43,11 @@ use Rattle.hpack.proofs.Tests.{none_since}
 use Rattle.h2_log_laws.proofs.InvariantCalls.{active_some}
 use Rattle.h2_log_laws.proofs.InvariantCalls.{no_fault}
 use Rattle.h2_log_laws.proofs.InvariantLogs.{log_represents, written_is_allowed}
-use Rattle.h2_end_laws.proofs.SendableItems.{reset_sendable, update_sendable, goaway_sendable}
-use Rattle.h2_end_laws.proofs.SendableItems.{ping_sendable, opening_sendable, change_sendable}
-use Rattle.h2_end_laws.proofs.SendableItems.{data_items_sendable}
+use Rattle.h2_log_laws.proofs.PayloadOrigins.{payloads_between}
+use Rattle.h2_log_laws.proofs.PayloadsOfLogs.{written_by_payloads}
+use Rattle.h2_end_laws.proofs.SendableItems.{IsPayload, reset_sendable, update_sendable}
+use Rattle.h2_end_laws.proofs.SendableItems.{goaway_sendable, ping_sendable, opening_sendable}
+use Rattle.h2_end_laws.proofs.SendableItems.{change_sendable, data_items_sendable, all_sendable}
 use Rattle.h2_end_laws.proofs.Sendable.{LogIsFit, LogIsAllowed, PendingFit, wrote_keeps, last_low}
 use Rattle.h2_end_laws.proofs.Sendable.{failure_keeps, returned_fit, replied_fit, allowed_before}
 use Rattle.h2_end_laws.proofs.Sendable.{opened_by_low}
@@ -59,15 +62,17 @@ use Rattle.h2_log_laws.proofs.ReleasedCredit.{owes_one}
 use Rattle.h2_end_laws.proofs.FitItems.{IsFitItem, comes_fit}
 
 -- The number of a block among items that can be sent has 31 bits.
-sent_low : (i : ℕ) (items : List Item) → AllByRecursion (IsSendable max_frame_size_sent) items
+sent_low : (i : ℕ) (payloads : List ℕ) (items : List Item) → AreSendable payloads items
     → list_any (is_block_on i) items ≡ true → i < 2 ^ 31
 unfolding is_block_on
-sent_low i [] all some = absurd (both_ways false refl some)
-sent_low i (alone frame ∷ items) all some = sent_low i items all.1 some
-sent_low i (block stream end octets ∷ items) all some =
+sent_low i [] [] all some = absurd (both_ways false refl some)
+sent_low i [] (item ∷ items) all some = absurd all
+sent_low i (most ∷ payloads) [] all some = absurd all
+sent_low i (most ∷ payloads) (alone frame ∷ items) all some = sent_low i payloads items all.1 some
+sent_low i (most ∷ payloads) (block stream end octets ∷ items) all some =
     elim (or_cases (stream == i) (list_any (is_block_on i) items) some) [
       | inl same ↦ omega (arith, eqb-true stream i same, (all.0).1)
-      | inr after ↦ sent_low i items all.1 after
+      | inr after ↦ sent_low i payloads items all.1 after
     ]
 
 -- So has that of one among items that are fit.
@@ -82,16 +87,17 @@ received_low i (block stream end octets ∷ items) all some =
       | inr after ↦ received_low i items all.1 after
     ]
 
-opened_low : (role : Role) (i : ℕ) (received sent : List Item) → AllByRecursion IsFitItem received
-    → AllByRecursion (IsSendable max_frame_size_sent) sent
+opened_low : (role : Role) (i : ℕ) (payloads : List ℕ) (received sent : List Item)
+    → AllByRecursion IsFitItem received → AreSendable payloads sent
     → list_any (is_block_on i) (openings role received sent) ≡ true → i < 2 ^ 31
-opened_low Client i received sent fit sendable some = sent_low i sent sendable some
-opened_low Server i received sent fit sendable some = received_low i received fit some
+opened_low Client i payloads received sent fit sendable some =
+    sent_low i payloads sent sendable some
+opened_low Server i payloads received sent fit sendable some = received_low i received fit some
 
 -- So has that of an active stream.
 active_low : (log : Log) (i : ℕ) → LogIsFit log → active log i ≡ true → i < 2 ^ 31
 active_low log i are alive =
-    opened_low log.role i log.received log.sent are.received_all are.sent_all
+    opened_low log.role i log.payloads log.received log.sent are.received_all are.sent_all
     (active_parts log.role i log.received log.sent log.reported alive).opened
 
 -- something is above nothing
@@ -120,7 +126,7 @@ number_low log with_sent none =
 open_sendable : (log : Log) (fields : List Field) (end : Bool)
     → AllowedHistory log.role log.received log.sent
     → refusal_of (log_view log) (Open fields end) ≡ None
-    → IsSendable max_frame_size_sent (block (log_view log).next_number end
+    → IsSendable (max_payload_sent log) (block (log_view log).next_number end
     (block_of log.encoder fields))
 unfolding conditions
 open_sendable log fields end with_sent none =
@@ -135,7 +141,7 @@ open_sendable log fields end with_sent none =
 -- What further fields write.
 fields_sendable : (log : Log) (id : ℕ) (fields : List Field) (end : Bool) → LogIsFit log
     → refusal_of (log_view log) (SendFields id fields end) ≡ None
-    → IsSendable max_frame_size_sent (block id end (block_of log.encoder fields))
+    → IsSendable (max_payload_sent log) (block id end (block_of log.encoder fields))
 unfolding conditions
 fields_sendable log id fields end are none =
     let holds = none_holds _ none in
@@ -145,22 +151,17 @@ fields_sendable log id fields end are none =
       block_is_gathered log.encoder fields (ltb-false max_list (list_size fields) holds.1.1.1.1.0),
     )
 
--- The most octets of a payload that is sent.
-payload_short : (log : Log) → max_payload_sent log ≤ 16384
-unfolding max_payload_sent_by
-payload_short log = omega arith
-
 -- What a body writes.
 data_call_sendable : (log : Log) (id : ℕ) (octets : List ℕ) (end : Bool) (count : ℕ)
     → LogIsFit log → refusal_of (log_view log) (SendData id octets end) ≡ None
-    → AllByRecursion (IsSendable max_frame_size_sent) (data_items
+    → AllByRecursion (IsSendable (max_payload_sent log)) (data_items
     (max_payload_sent log) id octets end count)
 unfolding conditions
 data_call_sendable log id octets end count are none =
     let holds = none_holds _ none in
     let alive = stream_is_active log id holds.1.0 in
-    data_items_sendable (max_payload_sent log) id octets end count (active_above log id alive)
-    (active_low log id are alive) (payload_short log)
+    data_items_sendable (max_payload_sent log) id octets end count (most_between log.received)
+    (active_above log id alive) (active_low log id are alive)
 
 -- What is owed on an active stream is no more than the connection's window.
 owed_low : (log : Log) (i : ℕ) → Good (history_of log) → LogIsFit log → active log i ≡ true
@@ -176,18 +177,21 @@ owed_low log i good are alive =
     )
 
 -- The updates of a release, by the test whether the peer has ended the stream.
-updates_by : (id count : ℕ) (ended : Bool) → id < 2 ^ 31 → count < 2 ^ 31
-    → AllByRecursion (IsSendable max_frame_size_sent) (alone (WindowUpdate 0 count) ∷
+updates_by : (most id count : ℕ) (ended : Bool) → IsPayload most → id < 2 ^ 31 → count < 2 ^ 31
+    → AllByRecursion (IsSendable most) (alone (WindowUpdate 0 count) ∷
     (if ended then [] else alone
     (WindowUpdate id count) ∷ []))
-updates_by id count true low small = (update_sendable 0 count (omega arith) small, tt)
-updates_by id count false low small =
-    (update_sendable 0 count (omega arith) small, (update_sendable id count low small, tt))
+updates_by most id count true may low small =
+    (update_sendable most 0 count may (omega arith) small, tt)
+updates_by most id count false may low small = (
+  update_sendable most 0 count may (omega arith) small,
+  (update_sendable most id count may low small, tt),
+)
 
 -- What a release writes.
 release_sendable : (role : Role) (log : Log) (id count : ℕ) → Represents role (history_of log)
     → LogIsFit log → refusal_of (log_view log) (Release id count) ≡ None
-    → AllByRecursion (IsSendable max_frame_size_sent) (alone (WindowUpdate 0 count) ∷
+    → AllByRecursion (IsSendable (max_payload_sent log)) (alone (WindowUpdate 0 count) ∷
     (if ended_in ((log_view log).stream
     id) then [] else alone (WindowUpdate id count) ∷ []))
 unfolding conditions
@@ -197,7 +201,8 @@ release_sendable role log id count represents are none =
     let alive = stream_is_active log id holds.1.0 in
     let owing = or_parts (count == 0) (nat_lt (owed_on ((log_view log).stream id)) count)
     holds.1.1.1.0 in
-    updates_by id count (ended_in ((log_view log).stream id)) (active_low log id are alive) (omega (
+    updates_by (max_payload_sent log) id count (ended_in ((log_view log).stream id))
+    (most_between log.received) (active_low log id are alive) (omega (
       arith,
       ltb-false (owed_on ((log_view log).stream id)) count owing.1,
       owed_there log id alive,
@@ -206,9 +211,13 @@ release_sendable role log id count represents are none =
 
 -- What resetting a stream writes.
 reset_call_sendable : (log : Log) (id code : ℕ) → LogIsFit log → active log id ≡ true
-    → code < 2 ^ 32 → AllByRecursion (IsSendable max_frame_size_sent) (alone (Reset id code) ∷ [])
-reset_call_sendable log id code are alive typed =
-    (reset_sendable id code (active_above log id alive) (active_low log id are alive) typed, tt)
+    → code < 2 ^ 32
+    → AllByRecursion (IsSendable (max_payload_sent log)) (alone (Reset id code) ∷ [])
+reset_call_sendable log id code are alive typed = (
+  reset_sendable (max_payload_sent log) id code (most_between log.received)
+      (active_above log id alive) (active_low log id are alive) typed,
+  tt,
+)
 
 -- the stream of a call that isn't refused
 reset_is_active : (log : Log) (id code : ℕ)
@@ -223,7 +232,7 @@ accepted_sendable : (role : Role) (log : Log) (act : Act) → Represents role (h
     → IsTypedAct act → refusal_of (log_view log) act ≡ None
     → ((id code : ℕ) → act ≡ Refuse id code → refuse_fault (log_view log) code ≡ None)
     → LogIsFit log
-    → AllByRecursion (IsSendable max_frame_size_sent)
+    → AllByRecursion (IsSendable (max_payload_sent log))
     (items_of (log_view log) act (answer_of (log_view log) act))
 unfolding items_of IsTypedAct conditions refuse_fault
 accepted_sendable role log (Open fields end) represents typed none up are =
@@ -242,19 +251,25 @@ accepted_sendable role log (Refuse id code) represents typed none up are =
     (and_other (code == 2) _ both (no_fault (code == 2) _ (up id code refl))) in
     reset_call_sendable log id code are alive typed.1
 accepted_sendable role log (SendPing octets) represents typed none up are =
-    (ping_sendable false octets typed.0, tt)
-accepted_sendable role log SendGoAway represents typed none up are =
-    (goaway_sendable (last_processed log) 0 (last_low log are) (omega arith), tt)
+    (ping_sendable (max_payload_sent log) false octets (most_between log.received) typed.0, tt)
+accepted_sendable role log SendGoAway represents typed none up are = (
+  goaway_sendable (max_payload_sent log) (last_processed log) 0 (most_between log.received)
+      (last_low log are) (omega arith),
+  tt,
+)
 accepted_sendable role log (PutOut count) represents typed none up are = tt
-accepted_sendable role log (ChangeSettings values) represents typed none up are =
-    (change_sendable log.role values typed, tt)
+accepted_sendable role log (ChangeSettings values) represents typed none up are = (
+  change_sendable (max_payload_sent log) log.role _ values (most_between log.received) typed,
+  tt,
+)
 
 -- A new log.
 begins_fit : (role : Role) (values : Values) → AreInRange values → LogIsFit (opened role values)
 unfolding opened with_sent total greatest_processed
 begins_fit role values ok =
     record {
-      sent_all = (opening_sendable role values ok, tt);
+      sent_all =
+          (opening_sendable (max_payload_sent_by []) role values (most_between []) ok, tt);
       received_all = tt;
       processed = omega arith;
       credit = omega arith;
@@ -321,7 +336,21 @@ log_fit role values log is =
     pending_by_logs role values (λ events log. LogIsAllowed role log → PendingFit events log)
     (fit_kept role values) log is (written_is_allowed role values log is)
 
--- So each item that was written can be sent.
+-- So each item that was written can be sent, with its own greatest payload.
+pub written_sendable_by : (role : Role) (values : Values) (log : Log) → IsLog role values log
+    → AreSendable log.payloads log.sent
+written_sendable_by role values log is = (log_fit role values log is).sent_all
+
+-- The greatest payloads of what was written are those that may be in force.
+pub payloads_may : (role : Role) (values : Values) (log : Log) → IsLog role values log
+    → AllByRecursion IsPayload log.payloads
+payloads_may role values log is =
+    payloads_between log.received log.sent log.payloads
+    (written_by_payloads role values log is).history
+
+-- So each item can be sent with the greatest of all.
 pub written_sendable : (role : Role) (values : Values) (log : Log) → IsLog role values log
     → AllByRecursion (IsSendable max_frame_size_sent) log.sent
-written_sendable role values log is = (log_fit role values log is).sent_all
+written_sendable role values log is =
+    all_sendable log.payloads log.sent (payloads_may role values log is)
+    (written_sendable_by role values log is)

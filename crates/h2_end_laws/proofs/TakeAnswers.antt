@@ -73,7 +73,7 @@ ReportedAs = SamePart (λ log. log.reported)
 -- What is written and what is unreturned report nothing.
 reported_as : HoldsOfWrites ReportedAs
 reported_as =
-    stays_written (λ log. log.reported) (λ log sent written turns. refl) (λ log count. refl)
+    stays_written (λ log. log.reported) (λ log sent written payloads turns. refl) (λ log count. refl)
 
 pub sent_reported : (log : Log) (items : List Item) → (with_sent log items).reported ≡ log.reported
 sent_reported log items = holds_sent ReportedAs reported_as log items

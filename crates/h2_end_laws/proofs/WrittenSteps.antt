@@ -9,16 +9,14 @@ use Rattle.h2_block.specs.Grouping.{Item, alone}
 use Rattle.h2_log.specs.Items.{encoding_of_items}
 use Rattle.h2_log.specs.Events.{Event}
 use Rattle.h2_log.specs.Acts.{Act, Answer, Refuse, PutOut, Count, Done}
-use Rattle.h2_log.specs.Log.{Log}
+use Rattle.h2_log.specs.Log.{Log, max_payload_sent, max_payload_sent_by}
 use Rattle.h2_log.specs.LogView.{log_view}
-use Rattle.h2_log.specs.Limits.{max_frame_size_sent}
 use Rattle.h2_log.specs.Verdicts.{Verdict, ConnectionFault}
 use Rattle.h2_log.specs.ItemRules.{Decoded, replies_to, verdict_of}
 use Rattle.h2_log.specs.CallRules.{answer_of, items_of, refuse_fault}
 use Rattle.h2_log.specs.LogSteps.{read, with_sent, with_reported, with_unreturned, with_item}
 use Rattle.h2_log.specs.LogSteps.{with_credit_returned, with_verdict}
 use Rattle.h2_log.specs.LogCalls.{called, with_items, refused_with, with_call}
-use Rattle.h2_log.proofs.SentPayloads.{most_is_limit}
 use Rattle.h2_log_laws.proofs.CreditCases.{credit_cases, put_out_cases}
 use Rattle.h2_log_laws.proofs.TurnsOfLogs.{written_after}
 use Rattle.h2_end_laws.specs.Written.{IsCredit, Writes}
@@ -27,7 +25,8 @@ use Rattle.h2_end_laws.specs.Written.{IsCredit, Writes}
 pub record Puts (before after : Log) (items : List Item) : Type 0 where
   pub received : after.received ≡ before.received
   pub sent : after.sent ≡ items ++ before.sent
-  pub written : after.written ≡ before.written ++ encoding_of_items max_frame_size_sent items
+  pub written : after.written
+      ≡ before.written ++ encoding_of_items (max_payload_sent after) items
 
 -- Nothing was.
 puts_none : (before after : Log) → after.received ≡ before.received → after.sent ≡ before.sent
@@ -44,30 +43,25 @@ puts_none before after received sent written =
 puts_twice : (one two three : Log) (older newer : List Item) → Puts one two older
     → Puts two three newer → Puts one three (newer ++ older)
 puts_twice one two three older newer a b =
+    let most = max_payload_sent three in
+    let before : two.written ≡ one.written ++ encoding_of_items most older =
+    a.written ∙ ap (λ (received : List Item). one.written
+    ++ encoding_of_items (max_payload_sent_by received) older) (sym b.received) in
     record {
       received = b.received ∙ a.received;
       sent = b.sent ∙ ap (λ (items : List Item). newer ++ items) a.sent
           ∙ sym (append_assoc newer older one.sent);
       written = b.written
-          ∙ ap (λ (octets : List ℕ). octets ++ encoding_of_items max_frame_size_sent newer)
-          a.written
-          ∙ append_assoc one.written (encoding_of_items max_frame_size_sent older)
-          (encoding_of_items max_frame_size_sent newer)
-          ∙ ap (λ (octets : List ℕ). one.written ++ octets)
-          (sym (written_after max_frame_size_sent newer older));
+          ∙ ap (λ (octets : List ℕ). octets ++ encoding_of_items most newer) before
+          ∙ append_assoc one.written (encoding_of_items most older) (encoding_of_items most newer)
+          ∙ ap (λ (octets : List ℕ). one.written ++ octets) (sym (written_after most newer older));
     }
 
 -- Items are written.
 puts_sent : (log : Log) (items : List Item) → Puts log (with_sent log items) items
 unfolding with_sent
 puts_sent log [] = puts_none log log refl refl refl
-puts_sent log (item ∷ items) =
-    record {
-      received = refl;
-      sent = refl;
-      written = ap (λ (most : ℕ). log.written ++ encoding_of_items most (item ∷ items))
-          (most_is_limit log.received);
-    }
+puts_sent log (item ∷ items) = record { received = refl; sent = refl; written = refl }
 
 -- Credit is returned, or nothing is written.
 pub record PutsCredit (before after : Log) : Type 0 where
@@ -116,7 +110,7 @@ puts_items log base items more received sent written =
             received = (puts_sent base items).received ∙ received;
             sent = (puts_sent base items).sent ∙ ap (λ (older : List Item). items ++ older) sent;
             written = (puts_sent base items).written ∙ ap (λ (octets : List ℕ). octets
-                ++ encoding_of_items max_frame_size_sent items) written;
+                ++ encoding_of_items (max_payload_sent (with_sent base items)) items) written;
           })
           credit.puts,
     )
@@ -140,7 +134,7 @@ writes_credit before after credit =
       is_credit = credit.is_credit;
       sent = credit.puts.sent;
       written = credit.puts.written ∙ ap (λ (items : List Item). before.written
-          ++ encoding_of_items max_frame_size_sent items) (sym (append-nil credit.items));
+          ++ encoding_of_items (max_payload_sent after) items) (sym (append-nil credit.items));
     }
 
 -- The same from another log with the same output.
@@ -152,7 +146,7 @@ writes_from log base after items sent written writes =
       is_credit = writes.is_credit;
       sent = writes.sent ∙ ap (λ (older : List Item). writes.credit ++ (items ++ older)) sent;
       written = writes.written ∙ ap (λ (octets : List ℕ). octets
-          ++ encoding_of_items max_frame_size_sent (writes.credit ++ items)) written;
+          ++ encoding_of_items (max_payload_sent after) (writes.credit ++ items)) written;
     }
 
 -- Items are written, and then credit, whatever was read.

@@ -66,6 +66,8 @@ first_in_range =
       initial_window = omega arith;
       least_streams = omega arith;
       max_streams = omega arith;
+      least_frame = omega arith;
+      max_frame = omega arith;
     }
 
 -- no piece was handed to a new end
@@ -159,19 +161,20 @@ status_reports role octets (Some code) reports = (code, reports)
 
 -- the values of the default configuration
 values_first : (config : Config) → config.table_limit ≡ 4096 → config.initial_window ≡ 65535
-    → config.max_streams ≡ 100 → values_of config ≡ first_values
-values_first config table window streams = rw (table, window, streams) refl
+    → config.max_streams ≡ 100 → config.max_frame ≡ 16384 → values_of config ≡ first_values
+values_first config table window streams frame = rw (table, window, streams, frame) refl
 
 -- a new end, if it could be made
 pub new_replays : {E : Type 0} (role : Role) (config : Config) (result : Result Conn E)
-    → (config.table_limit ≡ 4096) × (config.initial_window ≡ 65535) × (config.max_streams ≡ 100)
+    → (config.table_limit ≡ 4096) × (config.initial_window ≡ 65535)
+    × (config.max_streams ≡ 100) × (config.max_frame ≡ 16384)
     → IfOk result (λ conn. ConnRepresents (values_of config) conn (opened role (values_of config)))
     → IfOk result (EndReplays role [])
 new_replays role config (Err error) values represents = tt
-new_replays role config (Ok conn) (table, window, streams) represents =
+new_replays role config (Ok conn) (table, window, streams, frame) represents =
     replays_none role conn
     (subst (λ (values : Values). ConnRepresents values conn (opened role values))
-    (values_first config table window streams) represents)
+    (values_first config table window streams frame) represents)
 
 -- one piece that was handed to a new end
 pub piece_reports : (role : Role) (old new : Conn) (octets : List ℕ) → EndReplays role [] old

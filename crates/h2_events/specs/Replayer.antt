@@ -15,7 +15,8 @@ use Rattle.h2_events.specs.declared.replayer.ReplayError.TheVariants.{Fault, Fai
 -- the first values of an end's settings (RFC 9113, section 6.5.2), and 100 streams (own)
 -- rule: replay (own) The status is 0 only where an end took the whole input
 abbrev pub first_values : Values
-first_values = record { table_limit = 4096; initial_window = 65535; max_streams = 100 }
+first_values =
+    record { table_limit = 4096; initial_window = 65535; max_streams = 100; max_frame = 16384 }
 
 -- the octets of pieces, of which the newest stands first
 abbrev pub joined : List (List ℕ) → List ℕ

@@ -1,6 +1,6 @@
 -- SETTINGS that an end may write are no fault for its reader.
-use Rattle.std.proofs.Common.{◌≡◌, ◌≢◌, ℕ, ◌+◌, ◌≤◌, ◌==◌, ◌&&◌, Bool, false, List, [], ◌∷◌, Option}
-use Rattle.std.proofs.Common.{None, refl, inl, inr, arith}
+use Rattle.std.proofs.Common.{◌≡◌, ◌≢◌, ℕ, ◌+◌, ◌≤◌, ◌==◌, ◌&&◌, Bool, true, false}
+use Rattle.std.proofs.Common.{if◌then◌else◌, List, [], ◌∷◌, Option, None, refl, inl, inr, arith}
 use Rattle.std.proofs.lemmas.Bool.{cases_Bool, le-ltb, and_left, and_right, or_from}
 use Rattle.h2_frame.specs.declared.code.Code.{Code}
 use Rattle.h2_frame.specs.Frames.{Settings}
@@ -9,15 +9,15 @@ use Rattle.h2_log.specs.declared.role.Role.{Role}
 use Rattle.h2_log.specs.declared.role.Role.TheVariants.{Client, Server}
 use Rattle.h2_log.specs.Acts.{Values, AreInRange}
 use Rattle.h2_log.specs.Items.{total, data_on, increment_on}
-use Rattle.h2_log.specs.Settings.{peer_of, value_fault}
+use Rattle.h2_log.specs.Settings.{peer_of, value_fault, value_read}
 use Rattle.h2_log.specs.States.{any_block, openings}
 use Rattle.h2_log.specs.Windows.{greatest_window, is_above_greatest}
 use Rattle.h2_log.specs.Log.{Log, active}
 use Rattle.h2_log.specs.Verdicts.{is_fault}
-use Rattle.h2_log.specs.Limits.{max_list}
+use Rattle.h2_log.specs.Limits.{max_list, least_max_frame, most_max_frame}
 use Rattle.h2_log.specs.ItemRules.{verdict_by_rules, settings_fault, verdict_of_fault}
 use Rattle.h2_log.specs.LogView.{overflows, log_view}
-use Rattle.h2_log.specs.CallRules.{opening_pairs, changed_pairs}
+use Rattle.h2_log.specs.CallRules.{opening_pairs, changed_pairs, with_max_frame}
 use Rattle.h2_log.specs.Allowed.{MayChangeSettings, AllowedHistory, IsReader}
 use Rattle.h2_log_laws.proofs.InvariantCalls.{active_some}
 use Rattle.h2_log_laws.proofs.ItemLists.{total_after}
@@ -91,6 +91,31 @@ unfolding value_fault
 push_value Client = refl
 push_value Server = refl
 
+-- a greatest frame within its bounds has no fault
+frame_value : (from : Role) (value : ℕ) → least_max_frame ≤ value → value ≤ most_max_frame
+    → value_fault from (5, value) ≡ None
+unfolding value_fault
+frame_value from value least within = rw
+    (le-ltb value 16384 (omega arith), le-ltb 16777215 value (omega arith)) refl
+
+-- pairs without fault have none with a greatest frame, by the test whether it was written
+named_sound_by : (log : Log) (max_frame : ℕ) (pairs : List (ℕ × ℕ)) (same : Bool)
+    → value_fault (peer_of log.role) (5, max_frame) ≡ None
+    → settings_fault (log_view log) pairs ≡ None
+    → settings_fault (log_view log) (if same then pairs else (5, max_frame) ∷ pairs) ≡ None
+named_sound_by log max_frame pairs true sound after = after
+named_sound_by log max_frame pairs false sound after = pair_sound log 5 max_frame pairs sound refl
+    after
+
+-- pairs without fault have none with a greatest frame within its bounds
+named_sound : (log : Log) (written : ℕ) (values : Values) (pairs : List (ℕ × ℕ))
+    → AreInRange values → settings_fault (log_view log) pairs ≡ None
+    → settings_fault (log_view log) (with_max_frame written values.max_frame pairs) ≡ None
+unfolding with_max_frame
+named_sound log written values pairs ok after =
+    named_sound_by log values.max_frame pairs (values.max_frame == written)
+    (frame_value (peer_of log.role) values.max_frame ok.least_frame ok.max_frame) after
+
 -- the pairs of an opening have no fault, where its window brings none above the greatest
 opened_sound : (role : Role) (values : Values) (log : Log) → AreInRange values
     → overflows log values.initial_window ≡ false
@@ -101,30 +126,36 @@ opened_sound Client values log ok within =
     (pair_sound log 2 0 _ (push_value (peer_of log.role)) refl
     (pair_sound log 4 values.initial_window _ (window_value
     (peer_of log.role) values.initial_window ok.initial_window) within
-    (pair_sound log 6 max_list [] (list_value (peer_of log.role) max_list) refl (none_sound log))))
+    (named_sound log 16384 values _ ok
+    (pair_sound log 6 max_list [] (list_value (peer_of log.role) max_list) refl
+    (none_sound log)))))
 opened_sound Server values log ok within =
     pair_sound log 1 values.table_limit _ (table_value (peer_of log.role) values.table_limit) refl
     (pair_sound log 3 values.max_streams _ (streams_value
     (peer_of log.role) values.max_streams) refl
     (pair_sound log 4 values.initial_window _ (window_value
     (peer_of log.role) values.initial_window ok.initial_window) within
-    (pair_sound log 6 max_list [] (list_value (peer_of log.role) max_list) refl (none_sound log))))
+    (named_sound log 16384 values _ ok
+    (pair_sound log 6 max_list [] (list_value (peer_of log.role) max_list) refl
+    (none_sound log)))))
 
 -- the pairs of a change have no fault, where its window brings none above the greatest
-changed_sound : (role : Role) (values : Values) (log : Log) → AreInRange values
+changed_sound : (role : Role) (written : ℕ) (values : Values) (log : Log) → AreInRange values
     → overflows log values.initial_window ≡ false
-    → settings_fault (log_view log) (changed_pairs role values) ≡ None
+    → settings_fault (log_view log) (changed_pairs role written values) ≡ None
 unfolding changed_pairs
-changed_sound Client values log ok within =
+changed_sound Client written values log ok within =
     pair_sound log 1 values.table_limit _ (table_value (peer_of log.role) values.table_limit) refl
-    (pair_sound log 4 values.initial_window [] (window_value
-    (peer_of log.role) values.initial_window ok.initial_window) within (none_sound log))
-changed_sound Server values log ok within =
+    (pair_sound log 4 values.initial_window _ (window_value
+    (peer_of log.role) values.initial_window ok.initial_window) within
+    (named_sound log written values [] ok (none_sound log)))
+changed_sound Server written values log ok within =
     pair_sound log 1 values.table_limit _ (table_value (peer_of log.role) values.table_limit) refl
     (pair_sound log 3 values.max_streams _ (streams_value
     (peer_of log.role) values.max_streams) refl
-    (pair_sound log 4 values.initial_window [] (window_value
-    (peer_of log.role) values.initial_window ok.initial_window) within (none_sound log)))
+    (pair_sound log 4 values.initial_window _ (window_value
+    (peer_of log.role) values.initial_window ok.initial_window) within
+    (named_sound log written values [] ok (none_sound log))))
 
 -- nothing was returned in what wasn't read
 nothing_given : (j : ℕ) (sent : List Item) → total (increment_on j) [] ≤ total (data_on j) sent
@@ -152,8 +183,8 @@ unfolding verdict_by_rules
 settings_lem role received sent unread log pairs with_sent may reader =
     fault_none (settings_fault (log_view log) pairs)
     (rw may.changed
-    (changed_sound role may.values log may.in_range (no_overflow log may.values.initial_window
-    (may.in_range).initial_window
+    (changed_sound role (value_read 5 16384 sent) may.values log may.in_range
+    (no_overflow log may.values.initial_window (may.in_range).initial_window
     (λ j some. rw (reader.read, reader.written)
     (omega (
       arith,

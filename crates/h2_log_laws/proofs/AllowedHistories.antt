@@ -12,10 +12,12 @@ use Rattle.h2_log.specs.Items.{total, data_on, increment_on}
 use Rattle.h2_log.specs.Settings.{value_read, value_after, settings_count, up_to_settings}
 use Rattle.h2_log.specs.Settings.{own_value}
 use Rattle.h2_log.specs.Windows.{first_window, greatest_window}
+use Rattle.h2_log.specs.Limits.{max_list}
 use Rattle.h2_log.specs.CallRules.{opening_pairs, changed_pairs}
 use Rattle.h2_log.specs.Allowed.{Allowed, AllowedHistory, starts, reads, writes, Origin, IsOpening}
-use Rattle.h2_log_laws.proofs.SettingsLists.{settings_or, value_kept, value_changed, settings_one}
-use Rattle.h2_log_laws.proofs.SettingsLists.{count_next, count_none, up_to_next, up_to_here}
+use Rattle.h2_log_laws.proofs.SettingsLists.{settings_or, value_kept, value_changed, value_named}
+use Rattle.h2_log_laws.proofs.SettingsLists.{settings_one, count_next, count_none, up_to_next}
+use Rattle.h2_log_laws.proofs.SettingsLists.{up_to_here}
 
 -- an item of an opening is the opening
 opening_first : (role : Role) (values : Values) → AreInRange values
@@ -69,18 +71,22 @@ origin_lem role received _ (first ∷ after) before item
     origin_lem role received sent after before item with_sent (cc)
 
 -- An opening sets the initial window.
-opening_window : (role : Role) (values : Values) (before : ℕ)
+pub opening_window : (role : Role) (values : Values) (before : ℕ)
     → value_after 4 before (opening_pairs role values) ≡ values.initial_window
 unfolding value_after opening_pairs
-opening_window Client values before = refl
-opening_window Server values before = refl
+opening_window Client values before =
+    value_named 4 values.initial_window 16384 values.max_frame ((6, max_list) ∷ [])
+opening_window Server values before =
+    value_named 4 values.initial_window 16384 values.max_frame ((6, max_list) ∷ [])
 
 -- A change sets the initial window.
-changed_window : (role : Role) (values : Values) (before : ℕ)
-    → value_after 4 before (changed_pairs role values) ≡ values.initial_window
+pub changed_window : (role : Role) (written : ℕ) (values : Values) (before : ℕ)
+    → value_after 4 before (changed_pairs role written values) ≡ values.initial_window
 unfolding value_after changed_pairs
-changed_window Client values before = refl
-changed_window Server values before = refl
+changed_window Client written values before =
+    value_named 4 values.initial_window written values.max_frame []
+changed_window Server written values before =
+    value_named 4 values.initial_window written values.max_frame []
 
 -- a change keeps the initial window within its bounds
 allowed_window : (role : Role) (received sent : List Item) (item : Item)
@@ -89,7 +95,8 @@ allowed_window : (role : Role) (received sent : List Item) (item : Item)
 allowed_window role received sent item allowed within = elim (settings_or item) [
   | inl (pairs, is) ↦
       let may = (rw is at allowed).1 in
-      let set = changed_window role may.values (value_read 4 first_window sent) in
+      let written = value_read 5 16384 sent in
+      let set = changed_window role written may.values (value_read 4 first_window sent) in
       rw (is, value_changed 4 first_window pairs sent, may.changed, set)
       (may.in_range).initial_window
   | inr none ↦ rw (value_kept 4 first_window item sent none) within
@@ -195,7 +202,8 @@ wrote_settings role received _ (writes {sent = sent} item with_sent allowed) = o
 opening_streams : (values : Values) (before : ℕ)
     → value_after 3 before (opening_pairs Server values) ≡ values.max_streams
 unfolding value_after opening_pairs
-opening_streams values before = refl
+opening_streams values before =
+    value_named 3 values.max_streams 16384 values.max_frame ((6, max_list) ∷ [])
 
 -- a number of streams doesn't hang on the first value, once one was read
 allowed_streams : (item : Item) (sent : List Item) (first other : ℕ) → value_read 3 first sent

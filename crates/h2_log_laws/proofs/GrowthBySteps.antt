@@ -34,6 +34,7 @@ pub record HoldsOfWrites (R : Log → Log → Type 0) : Type 0 where
       → R log (record log {
         sent = item ∷ items ++ log.sent;
         written = log.written ++ encoding_of_items (max_payload_sent log) (item ∷ items);
+        payloads = each (λ one. max_payload_sent log) (item ∷ items) ++ log.payloads;
         turns = Out (encoding_of_items (max_payload_sent log) (item ∷ items)) ∷ log.turns;
       })
   -- where so much of the connection's window is unreturned

@@ -11,7 +11,7 @@ use Rattle.h2_block.specs.Grouping.{Item, alone}
 use Rattle.h2_log.specs.declared.role.Role.{Role}
 use Rattle.h2_log.specs.declared.refusal.Refusal.{Refusal}
 use Rattle.h2_log.specs.Items.{total, increment_on, one_ping, one_answer}
-use Rattle.h2_log.specs.Settings.{settings_count, one_ack}
+use Rattle.h2_log.specs.Settings.{value_read, settings_count, one_ack}
 use Rattle.h2_log.specs.Events.{reported_total, one_pong}
 use Rattle.h2_log.specs.Acts.{Values, AreInRange, Act, Answer, Release}
 use Rattle.h2_log.specs.Acts.{ResetStream, Refuse, SendPing, SendGoAway, PutOut, ChangeSettings}
@@ -249,10 +249,10 @@ change_represents role log values represents ok none =
     let good = represents.good up in
     let applied = ltb-false (acked log) (settings_count log.sent) holds.1.1.0 in
     let read = good.acked in
-    items_represent role log (ChangeSettings values) Done (alone (Settings false
-    (changed_pairs log.role values)) ∷ []) represents up refl
-    (writes_one (history_of log) _ (alone (Settings false (changed_pairs log.role values))) _
-    (writes (alone (Settings false (changed_pairs log.role values))) represents.with_sent (
+    let pairs = changed_pairs log.role (value_read 5 16384 log.sent) values in
+    items_represent role log (ChangeSettings values) Done (alone (Settings false pairs) ∷ [])
+    represents up refl (writes_one (history_of log) _ (alone (Settings false pairs)) _
+    (writes (alone (Settings false pairs)) represents.with_sent (
       good.returned,
       record {
         values = values;

@@ -1,75 +1,132 @@
 -- How many octets are written of what an end writes.
-use Rattle.std.proofs.Common.{◌≡◌, ℕ, zero, suc, ◌+◌, ◌*◌, ◌≤◌, nat_le, if◌then◌else◌, Bool, true}
-use Rattle.std.proofs.Common.{false, List, [], ◌∷◌, ◌++◌, length, take, drop, None, refl, ap, arith}
-use Rattle.std.proofs.Common.{length-append, length-take, length-drop, leb-false}
+use Rattle.std.proofs.Common.{map as each, ◌≡◌, ℕ, zero, suc, ◌+◌, ◌*◌, ◌≤◌, ◌==◌, nat_le}
+use Rattle.std.proofs.Common.{if◌then◌else◌, Bool, true, false, List, [], ◌∷◌, ◌++◌, length, take}
+use Rattle.std.proofs.Common.{drop, None, refl, ap, ◌∙◌, arith, length-append, length-take}
+use Rattle.std.proofs.Common.{length-drop, leb-false}
 use Rattle.std.proofs.lemmas.List.Concat.{flat_map-cons}
 use Rattle.h2_frame.specs.Frames.{Frame, Data, Headers, Reset, Settings, Ping, GoAway, WindowUpdate}
 use Rattle.h2_frame.specs.Frames.{Continuation}
 use Rattle.h2_frame.specs.Encoding.{payload_of, encoding_of}
-use Rattle.h2_frame.proofs.FramePartsLemmas.{length-encoding_of}
+use Rattle.h2_frame.proofs.FramePartsLemmas.{length-pair_octets, length-encoding_of}
 use Rattle.h2_block.specs.Grouping.{Item, alone, block}
 use Rattle.h2_block.specs.Spread.{continuations, spread_frames, encoding_of_frames}
 use Rattle.h2_log.specs.declared.role.Role.{Role}
 use Rattle.h2_log.specs.declared.role.Role.TheVariants.{Client, Server}
 use Rattle.h2_log.specs.Items.{encoding_of_item, encoding_of_items}
-use Rattle.h2_log.specs.Limits.{max_frame_size_sent}
+use Rattle.h2_log.specs.Limits.{max_list}
 use Rattle.h2_log.specs.Acts.{Values}
-use Rattle.h2_log.specs.CallRules.{opening_pairs, changed_pairs, data_frames}
+use Rattle.h2_log.specs.CallRules.{opening_pairs, changed_pairs, with_max_frame, data_frames}
+use Rattle.h2_log_laws.specs.Payloads.{encoding_by}
+use Rattle.h2_log_laws.proofs.PayloadsOfLogs.{encoding_more}
 
 -- how many octets are written of items
-abbrev pub size_of : List Item → ℕ
-size_of items = length (encoding_of_items max_frame_size_sent items)
+abbrev pub size_of : (most : ℕ) → List Item → ℕ
+size_of most items = length (encoding_of_items most items)
+
+-- how many octets are written of items, each with its own greatest payload
+abbrev pub size_by : List ℕ → List Item → ℕ
+size_by payloads items = length (encoding_by payloads items)
+
+-- More items with one greatest payload take what they take alone.
+pub size_by-more : (most : ℕ) (items sent : List Item) (payloads : List ℕ)
+    → size_by (each (λ one. most) items ++ payloads) (items ++ sent)
+    ≡ size_by payloads sent + size_of most items
+size_by-more most items sent payloads =
+    ap length (encoding_more most items sent payloads)
+    ∙ length-append (encoding_by payloads sent) (encoding_of_items most items)
 
 -- A frame alone takes nine octets and its payload.
-pub size-frame : (frame : Frame) → size_of (alone frame ∷ []) ≡ 9 + length (payload_of frame)
+pub size-frame : (most : ℕ) (frame : Frame)
+    → size_of most (alone frame ∷ []) ≡ 9 + length (payload_of frame)
 unfolding encoding_of_items encoding_of_item
-size-frame frame = length-encoding_of frame
+size-frame most frame = length-encoding_of frame
 
 -- RST_STREAM takes 13 octets.
-pub size-reset : (stream code : ℕ) → size_of (alone (Reset stream code) ∷ []) ≡ 13
+pub size-reset : (most stream code : ℕ) → size_of most (alone (Reset stream code) ∷ []) ≡ 13
 unfolding payload_of
-size-reset stream code = size-frame (Reset stream code)
+size-reset most stream code = size-frame most (Reset stream code)
 
 -- WINDOW_UPDATE takes 13.
-pub size-update : (stream increment : ℕ) → size_of (alone (WindowUpdate stream increment) ∷ []) ≡ 13
+pub size-update : (most stream increment : ℕ)
+    → size_of most (alone (WindowUpdate stream increment) ∷ []) ≡ 13
 unfolding payload_of
-size-update stream increment = size-frame (WindowUpdate stream increment)
+size-update most stream increment = size-frame most (WindowUpdate stream increment)
 
 -- GOAWAY without debug octets takes 17.
-pub size-goaway : (last code : ℕ) → size_of (alone (GoAway last code []) ∷ []) ≡ 17
+pub size-goaway : (most last code : ℕ) → size_of most (alone (GoAway last code []) ∷ []) ≡ 17
 unfolding payload_of
-size-goaway last code = size-frame (GoAway last code [])
+size-goaway most last code = size-frame most (GoAway last code [])
 
 -- An acknowledgment of SETTINGS takes nine.
-pub size-ack : size_of (alone (Settings true []) ∷ []) ≡ 9
+pub size-ack : (most : ℕ) → size_of most (alone (Settings true []) ∷ []) ≡ 9
 unfolding payload_of
-size-ack = size-frame (Settings true [])
+size-ack most = size-frame most (Settings true [])
 
 -- PING takes nine and its octets.
-pub size-ping : (ack : Bool) (octets : List ℕ) → size_of (alone (Ping ack octets) ∷ [])
-    ≡ 9 + length octets
+pub size-ping : (most : ℕ) (ack : Bool) (octets : List ℕ)
+    → size_of most (alone (Ping ack octets) ∷ []) ≡ 9 + length octets
 unfolding payload_of
-size-ping ack octets = size-frame (Ping ack octets)
+size-ping most ack octets = size-frame most (Ping ack octets)
 
--- The SETTINGS of an opening take 33 octets.
-pub size-opening : (role : Role) (values : Values)
-    → size_of (alone (Settings false (opening_pairs role values)) ∷ []) ≡ 33
-unfolding payload_of opening_pairs
-size-opening Client values = size-frame (Settings false (opening_pairs Client values))
-size-opening Server values = size-frame (Settings false (opening_pairs Server values))
+-- SETTINGS take nine and six of each pair.
+size_settings : (most : ℕ) (pairs : List (ℕ × ℕ))
+    → size_of most (alone (Settings false pairs) ∷ []) ≡ 9 + 6 * length pairs
+unfolding payload_of
+size_settings most pairs =
+    omega (arith, size-frame most (Settings false pairs), length-pair_octets pairs)
 
--- SETTINGS that change values take at most 27.
-pub size-change : (role : Role) (values : Values)
-    → size_of (alone (Settings false (changed_pairs role values)) ∷ []) ≤ 27
-unfolding payload_of changed_pairs
-size-change Client values = omega (arith, size-frame (Settings false (changed_pairs Client values)))
-size-change Server values = omega (arith, size-frame (Settings false (changed_pairs Server values)))
+-- The greatest frame is one pair more at most, by the test whether it is the one that was written.
+length_max_by : (max_frame : ℕ) (pairs : List (ℕ × ℕ)) (b : Bool)
+    → length (if b then pairs else (5, max_frame) ∷ pairs) ≤ 1 + length pairs
+length_max_by max_frame pairs true = omega arith
+length_max_by max_frame pairs false = omega arith
+
+-- The greatest frame is one pair more at most.
+pub length-max_frame : (written max_frame : ℕ) (pairs : List (ℕ × ℕ))
+    → length (with_max_frame written max_frame pairs) ≤ 1 + length pairs
+unfolding with_max_frame
+length-max_frame written max_frame pairs = length_max_by max_frame pairs (max_frame == written)
+
+-- The SETTINGS of an opening take at most 39 octets.
+pub size-opening : (most : ℕ) (role : Role) (values : Values)
+    → size_of most (alone (Settings false (opening_pairs role values)) ∷ []) ≤ 39
+unfolding opening_pairs
+size-opening most Client values =
+    omega (
+      arith,
+      size_settings most (opening_pairs Client values),
+      length-max_frame 16384 values.max_frame ((6, max_list) ∷ []),
+    )
+size-opening most Server values =
+    omega (
+      arith,
+      size_settings most (opening_pairs Server values),
+      length-max_frame 16384 values.max_frame ((6, max_list) ∷ []),
+    )
+
+-- SETTINGS that change values take at most 33.
+pub size-change : (most : ℕ) (role : Role) (written : ℕ) (values : Values)
+    → size_of most (alone (Settings false (changed_pairs role written values)) ∷ []) ≤ 33
+unfolding changed_pairs
+size-change most Client written values =
+    omega (
+      arith,
+      size_settings most (changed_pairs Client written values),
+      length-max_frame written values.max_frame [],
+    )
+size-change most Server written values =
+    omega (
+      arith,
+      size_settings most (changed_pairs Server written values),
+      length-max_frame written values.max_frame [],
+    )
 
 -- Two updates take 26 octets.
-pub size-updates : (stream increment other more : ℕ)
-    → size_of (alone (WindowUpdate stream increment) ∷ alone (WindowUpdate other more) ∷ []) ≡ 26
+pub size-updates : (most stream increment other more : ℕ)
+    → size_of most (alone (WindowUpdate stream increment) ∷ alone (WindowUpdate other more) ∷ [])
+    ≡ 26
 unfolding encoding_of_items encoding_of_item payload_of
-size-updates stream increment other more =
+size-updates most stream increment other more =
     omega (
       arith,
       length-append (encoding_of (WindowUpdate other more)) (encoding_of
@@ -79,34 +136,31 @@ size-updates stream increment other more =
     )
 
 -- The octets of items, one list in front of another, take as many as both.
-pub size-append : (xs ys : List Item) → size_of (xs ++ ys) ≡ size_of xs + size_of ys
+pub size-append : (most : ℕ) (xs ys : List Item)
+    → size_of most (xs ++ ys) ≡ size_of most xs + size_of most ys
 unfolding encoding_of_items
-size-append [] ys = omega arith
-size-append (x ∷ xs) ys =
+size-append most [] ys = omega arith
+size-append most (x ∷ xs) ys =
     omega (
       arith,
-      size-append xs ys,
-      length-append (encoding_of_items max_frame_size_sent (xs ++ ys))
-          (encoding_of_item max_frame_size_sent x),
-      length-append (encoding_of_items max_frame_size_sent xs)
-          (encoding_of_item max_frame_size_sent x),
+      size-append most xs ys,
+      length-append (encoding_of_items most (xs ++ ys)) (encoding_of_item most x),
+      length-append (encoding_of_items most xs) (encoding_of_item most x),
     )
 
 -- DATA frames take no more than nine octets and twice their octets, by the test whether one is
 -- enough.
-data_size_by : (count most id : ℕ) (octets : List ℕ) (end b : Bool) → 9 ≤ most
+data_size_by : (most count id : ℕ) (octets : List ℕ) (end b : Bool) → 9 ≤ most
     → nat_le (length octets) most ≡ b
-    → size_of (data_frames count most id (drop most octets) end) ≤ 9 + 2 * length (drop most octets)
-    → size_of (if b then alone (Data id end octets None) ∷ []
+    → size_of most (data_frames count most id (drop most octets) end)
+    ≤ 9 + 2 * length (drop most octets)
+    → size_of most (if b then alone (Data id end octets None) ∷ []
     else data_frames count most id (drop most octets) end ++ alone (Data id false
     (take most octets) None) ∷ []) ≤ 9 + 2 * length octets
 unfolding payload_of
-data_size_by count most id octets end true big fits few = omega (
-  arith,
-  size-frame
-      (Data id end octets None),
-)
-data_size_by count most id octets end false big fits few =
+data_size_by most count id octets end true big fits few =
+    omega (arith, size-frame most (Data id end octets None))
+data_size_by most count id octets end false big fits few =
     omega (
       arith,
       few,
@@ -114,19 +168,19 @@ data_size_by count most id octets end false big fits few =
       leb-false (length octets) most fits,
       length-drop most octets,
       length-take most octets,
-      size-append (data_frames count most id (drop most octets) end) (alone (Data id false
+      size-append most (data_frames count most id (drop most octets) end) (alone (Data id false
           (take most octets) None) ∷ []),
-      size-frame (Data id false (take most octets) None),
+      size-frame most (Data id false (take most octets) None),
     )
 
 -- DATA frames take no more than nine octets and twice their octets.
-pub size-data : (count most id : ℕ) (octets : List ℕ) (end : Bool) → 9 ≤ most
-    → size_of (data_frames count most id octets end) ≤ 9 + 2 * length octets
+pub size-data : (most count id : ℕ) (octets : List ℕ) (end : Bool) → 9 ≤ most
+    → size_of most (data_frames count most id octets end) ≤ 9 + 2 * length octets
 unfolding data_frames encoding_of_items
-size-data zero most id octets end big = omega arith
-size-data (suc count) most id octets end big =
-    data_size_by count most id octets end (nat_le (length octets) most) big refl
-    (size-data count most id (drop most octets) end big)
+size-data most zero id octets end big = omega arith
+size-data most (suc count) id octets end big =
+    data_size_by most count id octets end (nat_le (length octets) most) big refl
+    (size-data most count id (drop most octets) end big)
 
 -- The octets of a frame and others are those of both.
 frames_size : (frame : Frame) (frames : List Frame)
@@ -207,9 +261,8 @@ spread_size_by most stream end octets false big fits =
     )
 
 -- A block takes no more than nine octets and twice its octets.
-pub size-block : (stream : ℕ) (end : Bool) (octets : List ℕ)
-    → size_of (block stream end octets ∷ []) ≤ 9 + 2 * length octets
+pub size-block : (most stream : ℕ) (end : Bool) (octets : List ℕ) → 9 ≤ most
+    → size_of most (block stream end octets ∷ []) ≤ 9 + 2 * length octets
 unfolding encoding_of_items encoding_of_item spread_frames
-size-block stream end octets =
-    spread_size_by max_frame_size_sent stream end octets
-    (nat_le (length octets) max_frame_size_sent) (omega arith) refl
+size-block most stream end octets big =
+    spread_size_by most stream end octets (nat_le (length octets) most) big refl

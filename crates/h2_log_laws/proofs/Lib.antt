@@ -35,6 +35,7 @@ pub mod ReplyInvariant
 pub mod RulesByTests
 pub mod SentByLogs
 pub mod SettingsLists
+pub mod PayloadOrigins
 pub mod PayloadsOfLogs
 pub mod StreamNumbers
 pub mod TablesInStep

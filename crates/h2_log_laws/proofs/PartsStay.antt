@@ -15,15 +15,20 @@ SamePart part old new = part new ≡ part old
 
 -- It stays where items are sent and credit becomes due and is returned.
 pub stays_written : {A : Type 0} (part : Log → A)
-    → ((log : Log) (sent : List Item) (written : List ℕ) (turns : List Turn)
-    → SamePart part log (record log { sent = sent; written = written; turns = turns }))
+    → ((log : Log) (sent : List Item) (written payloads : List ℕ) (turns : List Turn)
+    → SamePart part log (record log {
+      sent = sent;
+      written = written;
+      payloads = payloads;
+      turns = turns;
+    }))
     → ((log : Log) (count : ℕ) → SamePart part log (record log { unreturned = count }))
     → HoldsOfWrites (SamePart part)
 stays_written part sent unreturned =
     record {
       none = λ log. refl;
       twice = λ one two three a b. b ∙ a;
-      sent = λ log item items. sent log _ _ _;
+      sent = λ log item items. sent log _ _ _ _;
       unreturned = unreturned;
     }
 
@@ -35,8 +40,8 @@ SameCalls = SamePart (λ log. log.calls)
 pub calls_written : HoldsOfFailures SameCalls
 calls_written =
     record {
-      writes = stays_written (λ log. log.calls) (λ log sent written turns. refl)
-          (λ log count. refl);
+      writes = stays_written (λ log. log.calls)
+          (λ log sent written payloads turns. refl) (λ log count. refl);
       failed = λ log code. refl;
     }
 

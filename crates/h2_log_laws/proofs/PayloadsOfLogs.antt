@@ -1,74 +1,182 @@
 -- Each item that an end writes has the greatest payload that is in force then.
-use Rattle.std.proofs.Common.{ℕ, not, List, [], ◌∷◌, ◌++◌, sym, ap, ◌∙◌, append-nil, append_assoc}
+use Rattle.std.proofs.Common.{map as each, ◌≡◌, ◌≤◌, ◌+◌, ℕ, not, Bool, true, false}
+use Rattle.std.proofs.Common.{if◌then◌else◌, List, [], ◌∷◌, ◌++◌, refl, sym, ap, ◌∙◌}
+use Rattle.std.proofs.Common.{append-nil, append_assoc, arith}
 use Rattle.h2_wire.specs.Streams.{expected_preface}
-use Rattle.h2_block.specs.Grouping.{Item}
+use Rattle.h2_frame.specs.Codes.{code_number}
+use Rattle.h2_frame.specs.Frames.{Settings, Ping, GoAway, WindowUpdate}
+use Rattle.h2_block.specs.Grouping.{Item, alone, block}
 use Rattle.h2_log.specs.declared.role.Role.{Role}
-use Rattle.h2_log.specs.Items.{encoding_of_item, encoding_of_items}
-use Rattle.h2_log.specs.Acts.{Values}
-use Rattle.h2_log.specs.Settings.{is_server}
-use Rattle.h2_log.specs.Log.{Log, max_payload_sent_by}
+use Rattle.h2_log.specs.Items.{encoding_of_item, encoding_of_items, total}
+use Rattle.h2_log.specs.Acts.{Values, Act, Open, SendFields, SendData, Release, ResetStream}
+use Rattle.h2_log.specs.Acts.{Refuse, SendPing, SendGoAway, PutOut, ChangeSettings}
+use Rattle.h2_log.specs.Settings.{is_server, one_ack, one_settings, settings_count}
+use Rattle.h2_log.specs.Log.{Log, max_payload_sent, max_payload_sent_by}
+use Rattle.h2_log.specs.LogView.{log_view}
+use Rattle.h2_log.specs.View.{View, ended_in}
+use Rattle.h2_log.specs.Verdicts.{Verdict, NoEvent}
+use Rattle.h2_log.specs.ItemRules.{replies_to}
+use Rattle.h2_log.specs.CallRules.{answer_of, items_of}
 use Rattle.h2_log.specs.LogSteps.{read, with_sent}
 use Rattle.h2_log.specs.LogCalls.{opened, called}
 use Rattle.h2_log.specs.Histories.{IsLog}
-use Rattle.h2_log_laws.specs.Payloads.{AreWritten, WrittenByPayloads, starts, reads, writes}
+use Rattle.h2_log_laws.specs.Payloads.{encoding_by, PayloadHistory, WrittenByPayloads, starts}
+use Rattle.h2_log_laws.specs.Payloads.{reads, writes}
+use Rattle.h2_log_laws.proofs.DataOfCalls.{data_ack, none_of_items}
 use Rattle.h2_log_laws.proofs.LogInduction.{IsLogInvariant, kept_by_logs}
+use Rattle.h2_log_laws.proofs.SettingsLists.{count_next}
+use Rattle.h2_log_laws.proofs.WindowsOfTwoEnds.{total-append}
 
--- More items are written, with the greatest payload in force.
-wrote : (role : Role) (received items sent : List Item) (written : List ℕ)
-    → AreWritten role received sent written
-    → AreWritten role received (items ++ sent)
-    (written ++ encoding_of_items (max_payload_sent_by received) items)
+-- More items with one greatest payload stand after what was written.
+pub encoding_more : (most : ℕ) (items sent : List Item) (payloads : List ℕ)
+    → encoding_by (each (λ one. most) items ++ payloads) (items ++ sent)
+    ≡ encoding_by payloads sent ++ encoding_of_items most items
 unfolding encoding_of_items
-wrote role received [] sent written is = rw (append-nil written) is
-wrote role received (item ∷ items) sent written is =
-    let most = max_payload_sent_by received in
-    let before = wrote role received items sent written is in
+encoding_more most [] sent payloads = sym (append-nil (encoding_by payloads sent))
+encoding_more most (item ∷ items) sent payloads =
+    ap (λ (octets : List ℕ). octets ++ encoding_of_item most item)
+    (encoding_more most items sent payloads)
+    ∙ append_assoc (encoding_by payloads sent) (encoding_of_items most items)
+    (encoding_of_item most item)
+
+-- So it is of all that was written, after a client's preface.
+pub written_more : (preface : List ℕ) (most : ℕ) (items sent : List Item)
+    (payloads written : List ℕ) → written ≡ preface ++ encoding_by payloads sent
+    → written ++ encoding_of_items most items
+    ≡ preface ++ encoding_by (each (λ one. most) items ++ payloads) (items ++ sent)
+written_more preface most items sent payloads written is =
+    ap (λ (octets : List ℕ). octets ++ encoding_of_items most items) is
+    ∙ append_assoc preface (encoding_by payloads sent) (encoding_of_items most items)
+    ∙ ap (λ (octets : List ℕ). preface ++ octets)
+    (sym (encoding_more most items sent payloads))
+
+-- What a log has written, where no more SETTINGS were acknowledged than were read.
+record IsCounted (log : Log) : Type 0 where
+  pub acknowledged : total one_ack log.sent ≤ settings_count log.received
+  pub by_payloads : WrittenByPayloads log
+
+-- Another log that has read and written the same.
+counted : (log next : Log) → next.role ≡ log.role → next.received ≡ log.received
+    → next.sent ≡ log.sent → next.payloads ≡ log.payloads → next.written ≡ log.written
+    → IsCounted log → IsCounted next
+counted log next role received sent payloads written is =
     record {
-      payloads = most ∷ before.payloads;
-      history = writes item before.history;
-      written = sym (append_assoc written (encoding_of_items most items) _)
-          ∙ ap (λ (octets : List ℕ). octets ++ encoding_of_item most item) before.written
-          ∙ append_assoc (expected_preface (not (is_server role))) _ _;
+      acknowledged = rw (sent, received) is.acknowledged;
+      by_payloads = record {
+        history = rw (received, sent, payloads) is.by_payloads.history;
+        written = rw (written, role, payloads, sent) is.by_payloads.written;
+      };
     }
 
--- So it is in a log.
-sent_in_force : (log : Log) (items : List Item) → WrittenByPayloads log
-    → WrittenByPayloads (with_sent log items)
-unfolding with_sent
-sent_in_force log [] is = is
-sent_in_force log (item ∷ items) is =
-    wrote log.role log.received (item ∷ items) log.sent log.written is
+-- More items are written, with the greatest payload in force.
+history_more : (received items sent : List Item) (payloads : List ℕ)
+    → total one_ack items + total one_ack sent ≤ settings_count received
+    → PayloadHistory received sent payloads
+    → PayloadHistory received (items ++ sent)
+    (each (λ one. max_payload_sent_by received) items ++ payloads)
+unfolding total
+history_more received [] sent payloads few is = is
+history_more received (item ∷ items) sent payloads few is =
+    writes item (history_more received items sent payloads (omega arith) is)
+    (omega (arith, total-append one_ack items sent))
 
--- An item is read.
-read_one : (role : Role) (item : Item) (received sent : List Item) (written : List ℕ)
-    → AreWritten role received sent written → AreWritten role (item ∷ received) sent written
-read_one role item received sent written is =
-    record { payloads = is.payloads; history = reads item is.history; written = is.written }
+-- So it is in a log, where not too many are acknowledgments.
+sent_in_force : (log : Log) (items : List Item)
+    → total one_ack items + total one_ack log.sent ≤ settings_count log.received
+    → WrittenByPayloads log → IsCounted (with_sent log items)
+unfolding with_sent total
+sent_in_force log [] few is = record { acknowledged = omega arith; by_payloads = is }
+sent_in_force log (item ∷ items) few is =
+    record {
+      acknowledged = omega (arith, total-append one_ack items log.sent);
+      by_payloads = record {
+        history = history_more log.received (item ∷ items) log.sent log.payloads few is.history;
+        written = written_more (expected_preface (not (is_server log.role)))
+            (max_payload_sent log) (item ∷ items) log.sent log.payloads log.written is.written;
+      };
+    }
+
+-- Replies acknowledge no more than the item that is replied to.
+replies_acknowledge : (verdict : Verdict) (item : Item)
+    → total one_ack (replies_to verdict item) ≤ one_settings item
+unfolding replies_to total one_ack one_settings
+replies_acknowledge NoEvent (block stream end octets) = omega arith
+replies_acknowledge NoEvent (alone (Settings false pairs)) = omega arith
+replies_acknowledge NoEvent (alone (Ping false octets)) = omega arith
+replies_acknowledge NoEvent (alone frame) = omega arith
+replies_acknowledge other item = omega arith
+
+-- A release acknowledges nothing, whether or not the peer has ended the stream.
+release_acknowledges : (i count : ℕ) (ended : Bool)
+    → total one_ack (alone (WindowUpdate 0 count)
+    ∷ (if ended then [] else alone (WindowUpdate i count) ∷ [])) ≡ 0
+unfolding total one_ack
+release_acknowledges i count true = refl
+release_acknowledges i count false = refl
+
+-- No call acknowledges.
+calls_acknowledge : (view : View) (act : Act)
+    → total one_ack (items_of view act (answer_of view act)) ≡ 0
+unfolding items_of total one_ack
+calls_acknowledge view (Open fields end) = refl
+calls_acknowledge view (SendFields id fields end) = refl
+calls_acknowledge view (SendData id octets end) =
+    none_of_items one_ack data_ack view.max_payload id octets end _
+calls_acknowledge view (Release id count) =
+    release_acknowledges id count (ended_in (view.stream id))
+calls_acknowledge view (ResetStream id code) = refl
+calls_acknowledge view (Refuse id code) = refl
+calls_acknowledge view (SendPing octets) = refl
+calls_acknowledge view SendGoAway = refl
+calls_acknowledge view (PutOut count) = refl
+calls_acknowledge view (ChangeSettings values) = refl
 
 -- Nothing else reads or writes.
-by_payloads : (role : Role) (values : Values) → IsLogInvariant role values WrittenByPayloads
-unfolding opened with_sent
+by_payloads : (role : Role) (values : Values) → IsLogInvariant role values IsCounted
+unfolding opened with_sent total one_ack encoding_of_items
 by_payloads role values =
     record {
-      opening = λ in_range. wrote role [] (_ ∷ []) [] _
-          (record { payloads = []; history = starts; written = sym (append-nil _) });
-      used = λ log octets unparsed is. is;
-      framed = λ log frames is. is;
-      begun = λ log begun is. is;
-      replied = λ log decoded item verdict replies is. sent_in_force (read log decoded item) _
-          (read_one log.role item log.received log.sent log.written is);
-      reported = λ log event events may is. is;
-      unreturned = λ log count is. is;
-      returned = λ log returns is. wrote log.role log.received (_ ∷ []) log.sent log.written is;
+      opening = λ in_range. record {
+        acknowledged = omega arith;
+        by_payloads = record { history = writes _ starts (omega arith); written = refl };
+      };
+      used = λ log octets unparsed is. counted log _ refl refl refl refl refl is;
+      framed = λ log frames is. counted log _ refl refl refl refl refl is;
+      begun = λ log begun is. counted log _ refl refl refl refl refl is;
+      replied = λ log decoded item verdict replies is.
+          let next = read log decoded item in
+          sent_in_force next (replies_to verdict item)
+          (omega (
+            arith,
+            is.acknowledged,
+            replies_acknowledge verdict item,
+            count_next item log.received,
+          ))
+          (record {
+            history = reads item is.by_payloads.history;
+            written = is.by_payloads.written;
+          });
+      reported = λ log event events may is. counted log _ refl refl refl refl refl is;
+      unreturned = λ log count is. counted log _ refl refl refl refl refl is;
+      returned = λ log returns is.
+          sent_in_force (record log { unreturned = 0 })
+          (alone (WindowUpdate 0 log.unreturned) ∷ []) (omega (arith, is.acknowledged))
+          (counted log (record log { unreturned = 0 }) refl refl refl refl refl is).by_payloads;
       failed = λ log code last names is.
-          wrote log.role log.received (_ ∷ []) log.sent log.written is;
-      sent = λ log act accepted. sent_in_force (called log act _) _;
-      called = λ log act answer is_log none is. is;
-      given = λ log more is. is;
+          let goaway = alone (GoAway last (code_number code) []) ∷ [] in
+          counted (with_sent log goaway) _ refl refl refl refl refl
+          (sent_in_force log goaway (omega (arith, is.acknowledged)) is.by_payloads);
+      sent = λ log act accepted is.
+          let next = called log act (answer_of (log_view log) act) in
+          sent_in_force next (items_of (log_view log) act (answer_of (log_view log) act))
+          (omega (arith, is.acknowledged, calls_acknowledge (log_view log) act))
+          (counted log next refl refl refl refl refl is).by_payloads;
+      called = λ log act answer is_log none is. counted log _ refl refl refl refl refl is;
+      given = λ log more is. counted log _ refl refl refl refl refl is;
     }
 
 -- The greatest payloads of all that an end has written.
 pub written_by_payloads : (role : Role) (values : Values) (log : Log) → IsLog role values log
     → WrittenByPayloads log
-written_by_payloads role values = kept_by_logs role values WrittenByPayloads
-    (by_payloads role values)
+written_by_payloads role values log is =
+    (kept_by_logs role values IsCounted (by_payloads role values) log is).by_payloads

@@ -147,33 +147,33 @@ count_lets view stream count x is = rw is (omega arith)
 
 -- What is written of octets of a body takes no more than nine octets and twice theirs, by the test
 -- whether nothing is.
-data_size_by : (i : ℕ) (octets : List ℕ) (end : Bool) (count : ℕ) (nothing : Bool)
-    → size_of (if nothing then []
-    else data_frames (suc count) 16384 i (take count octets) (end && count == length octets))
+data_size_by : (most i : ℕ) (octets : List ℕ) (end : Bool) (count : ℕ) (nothing : Bool) → 9 ≤ most
+    → size_of most (if nothing then []
+    else data_frames (suc count) most i (take count octets) (end && count == length octets))
     ≤ 9 + 2 * count
 unfolding encoding_of_items
-data_size_by i octets end count true = omega arith
-data_size_by i octets end count false =
+data_size_by most i octets end count true big = omega arith
+data_size_by most i octets end count false big =
     omega (
       arith,
       length-take count octets,
-      size-data (suc count) 16384 i (take count octets) (end && count == length octets)
-          (omega arith),
+      size-data most (suc count) i (take count octets) (end && count == length octets) big,
     )
 
 -- What is written of octets of a body takes no more than nine octets and twice theirs.
-pub data_size : (i : ℕ) (octets : List ℕ) (end : Bool) (count : ℕ)
-    → size_of (data_items 16384 i octets end count) ≤ 9 + 2 * count
+pub data_size : (most i : ℕ) (octets : List ℕ) (end : Bool) (count : ℕ) → 9 ≤ most
+    → size_of most (data_items most i octets end count) ≤ 9 + 2 * count
 unfolding data_items
-data_size i octets end count =
-    data_size_by i octets end count (count == 0 && not (length octets == 0 && end))
+data_size most i octets end count =
+    data_size_by most i octets end count (count == 0 && not (length octets == 0 && end))
 
 -- What a release writes, by the test whether the peer has ended the stream.
-pub release_size : (i count : ℕ) (b : Bool)
-    → size_of (alone (WindowUpdate 0 count) ∷ (if b then [] else alone (WindowUpdate i count) ∷ []))
+pub release_size : (most i count : ℕ) (b : Bool)
+    → size_of most (alone (WindowUpdate 0 count)
+    ∷ (if b then [] else alone (WindowUpdate i count) ∷ []))
     ≤ 26
-release_size i count true = omega (arith, size-update 0 count)
-release_size i count false = omega (arith, size-updates 0 count i count)
+release_size most i count true = omega (arith, size-update most 0 count)
+release_size most i count false = omega (arith, size-updates most 0 count i count)
 
 -- Where refusing a stream ends no connection, its code isn't INTERNAL_ERROR, and neither limit is
 -- reached, by the tests.

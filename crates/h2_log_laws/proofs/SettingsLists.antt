@@ -1,6 +1,7 @@
 -- Settings that were read, and own ones that are in force.
-use Rattle.std.proofs.Common.{◌≡◌, ◌⊎◌, ℕ, ◌+◌, ◌≤◌, ◌<◌, ◌==◌, nat_le, ◌&&◌, false, List, []}
-use Rattle.std.proofs.Common.{◌∷◌, ◌++◌, refl, ap, sym, ◌∙◌, inl, inr, arith}
+use Rattle.std.proofs.Common.{◌≡◌, ◌⊎◌, ℕ, ◌+◌, ◌≤◌, ◌<◌, ◌==◌, nat_le, ◌&&◌, not, Bool, true}
+use Rattle.std.proofs.Common.{false, if◌then◌else◌, List, [], ◌∷◌, ◌++◌, refl, ap, sym, ◌∙◌, inl}
+use Rattle.std.proofs.Common.{inr, arith}
 use Rattle.std.proofs.lemmas.Bool.{cases_eq, eq-eqb, ne_eqb, le-leb, lt-leb, and_left, and_right}
 use Rattle.h2_frame.specs.Frames.{Settings}
 use Rattle.h2_block.specs.Grouping.{Item, alone, block}
@@ -10,6 +11,10 @@ use Rattle.h2_log.specs.Items.{total}
 use Rattle.h2_log.specs.Log.{Log, acked}
 use Rattle.h2_log.specs.Allowed.{HasAcknowledged, IsReader}
 use Rattle.h2_log.specs.declared.role.Role.{Role}
+use Rattle.h2_log.specs.declared.role.Role.TheVariants.{Client, Server}
+use Rattle.h2_log.specs.Acts.{Values}
+use Rattle.h2_log.specs.CallRules.{opening_pairs, changed_pairs, with_max_frame}
+use Rattle.h2_log.specs.Limits.{max_list}
 use Rattle.h2_log_laws.proofs.ItemLists.{settings_after}
 
 -- An item is SETTINGS that are no acknowledgment, or counts as none.
@@ -34,6 +39,64 @@ pub value_changed : (id first : ℕ) (pairs : List (ℕ × ℕ)) (items : List I
     ≡ value_after id (value_read id first items) pairs
 unfolding value_read
 value_changed id first pairs items = refl
+
+-- A value by the test whether it is named, where the greatest frame isn't.
+not_named : (named : Bool) (max_frame before : ℕ)
+    → (if named && false then max_frame else before) ≡ before
+not_named true max_frame before = refl
+not_named false max_frame before = refl
+
+-- The same where it is.
+is_named : (named : Bool) (max_frame before : ℕ)
+    → (if named && true then max_frame else before) ≡ (if named then max_frame else before)
+is_named true max_frame before = refl
+is_named false max_frame before = refl
+
+-- A value after the greatest frame, by the test whether it is the one that was written.
+value_named_by : (id before max_frame : ℕ) (pairs : List (ℕ × ℕ)) (same : Bool)
+    → value_after id before (if same then pairs else (5, max_frame) ∷ pairs)
+    ≡ value_after id (if 5 == id && not same then max_frame else before) pairs
+unfolding value_after
+value_named_by id before max_frame pairs true =
+    ap (λ (value : ℕ). value_after id value pairs) (sym (not_named (5 == id) max_frame before))
+value_named_by id before max_frame pairs false =
+    ap (λ (value : ℕ). value_after id value pairs) (sym (is_named (5 == id) max_frame before))
+
+-- The greatest frame changes its own value alone, and where it isn't the one that was written.
+pub value_named : (id before written max_frame : ℕ) (pairs : List (ℕ × ℕ))
+    → value_after id before (with_max_frame written max_frame pairs)
+    ≡ value_after id (if 5 == id && not (max_frame == written) then max_frame else before) pairs
+unfolding with_max_frame
+value_named id before written max_frame pairs =
+    value_named_by id before max_frame pairs (max_frame == written)
+
+-- Where the greatest frame differs from what was written it is named, and otherwise it is that.
+frame_named : (written max_frame : ℕ)
+    → (if not (max_frame == written) then max_frame else written) ≡ max_frame
+frame_named written max_frame = elim (cases_eq max_frame written) [
+  | inl same ↦ rw (eq-eqb max_frame written same) (sym same)
+  | inr other ↦ rw (ne_eqb max_frame written other) refl
+]
+
+-- An opening sets the greatest frame.
+pub opening_frame : (role : Role) (values : Values)
+    → value_after 5 16384 (opening_pairs role values) ≡ values.max_frame
+unfolding value_after opening_pairs
+opening_frame Client values =
+    value_named 5 16384 16384 values.max_frame ((6, max_list) ∷ [])
+    ∙ frame_named 16384 values.max_frame
+opening_frame Server values =
+    value_named 5 16384 16384 values.max_frame ((6, max_list) ∷ [])
+    ∙ frame_named 16384 values.max_frame
+
+-- A change sets it, where the one that was written last was in force.
+pub changed_frame : (role : Role) (written : ℕ) (values : Values)
+    → value_after 5 written (changed_pairs role written values) ≡ values.max_frame
+unfolding value_after changed_pairs
+changed_frame Client written values =
+    value_named 5 written written values.max_frame [] ∙ frame_named written values.max_frame
+changed_frame Server written values =
+    value_named 5 written written values.max_frame [] ∙ frame_named written values.max_frame
 
 -- SETTINGS that are no acknowledgment count as one
 pub settings_one : (pairs : List (ℕ × ℕ)) → one_settings (alone (Settings false pairs)) ≡ 1

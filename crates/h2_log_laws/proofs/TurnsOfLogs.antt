@@ -10,15 +10,14 @@ use Rattle.h2_log.specs.Items.{encoding_of_item, encoding_of_items}
 use Rattle.h2_log.specs.Events.{Event}
 use Rattle.h2_log.specs.Acts.{Values, Act, Answer, shown, Turn, Happened}
 use Rattle.h2_log.specs.Settings.{is_server}
-use Rattle.h2_log.specs.Limits.{max_frame_size_sent}
 use Rattle.h2_log.specs.Log.{Log, max_payload_sent}
 use Rattle.h2_log.specs.LogSteps.{read, used, with_sent, with_failure}
 use Rattle.h2_log.specs.LogCalls.{called, opened}
 use Rattle.h2_log.specs.Histories.{IsLog}
-use Rattle.h2_log.proofs.SentPayloads.{most_is_limit}
 use Rattle.h2_log_laws.specs.Turns.{octets_in, octets_out, events_in, acts_in, answers_in, acts_of}
 use Rattle.h2_log_laws.specs.Turns.{answers_of, TurnsRecord}
 use Rattle.h2_log_laws.proofs.LogInduction.{IsLogInvariant, kept_by_logs}
+use Rattle.h2_log_laws.proofs.PayloadsOfLogs.{written_more}
 
 -- The octets of items after others.
 pub written_after : (most : ℕ) (newer older : List Item) → encoding_of_items most (newer ++ older)
@@ -70,16 +69,8 @@ wrote_reported log (item ∷ items) is =
       events = is.events;
       acts = is.acts;
       answers = is.answers;
-      items =
-          ap (λ (most : ℕ). log.written ++ encoding_of_items most (item ∷ items))
-          (most_is_limit log.received)
-          ∙ ap (λ (octets : List ℕ). octets ++ encoding_of_items max_frame_size_sent (item ∷ items))
-          is.items
-          ∙ append_assoc (expected_preface (not (is_server log.role)))
-          (encoding_of_items max_frame_size_sent log.sent)
-          (encoding_of_items max_frame_size_sent (item ∷ items))
-          ∙ ap (λ (octets : List ℕ). expected_preface (not (is_server log.role)) ++ octets) (sym
-          (written_after max_frame_size_sent (item ∷ items) log.sent));
+      items = written_more (expected_preface (not (is_server log.role))) (max_payload_sent log)
+          (item ∷ items) log.sent log.payloads log.written is.items;
     }
 
 -- Events that are reported.
@@ -130,15 +121,16 @@ called_reported log act answer is =
 -- A change that leaves the turns, and what they tell, as they are.
 same_turns : (log next : Log) → next.turns ≡ log.turns → next.input ≡ log.input
     → next.written ≡ log.written → next.reported ≡ log.reported → next.calls ≡ log.calls
-    → next.role ≡ log.role → next.sent ≡ log.sent → TurnsRecord log → TurnsRecord next
-same_turns log next turns input written reported calls role sent is =
+    → next.role ≡ log.role → next.sent ≡ log.sent → next.payloads ≡ log.payloads
+    → TurnsRecord log → TurnsRecord next
+same_turns log next turns input written reported calls role sent payloads is =
     record {
       input = rw (turns, input) is.input;
       output = rw (turns, written) is.output;
       events = rw (turns, reported) is.events;
       acts = rw (turns, calls) is.acts;
       answers = rw (turns, calls) is.answers;
-      items = rw (written, role, sent) is.items;
+      items = rw (written, role, payloads, sent) is.items;
     }
 
 -- The turns of a new end.
@@ -161,22 +153,22 @@ turns_are_kept role values =
     record {
       opening = λ in_range. begins_reported role values;
       used = used_reported;
-      framed = λ log frames. same_turns log _ refl refl refl refl refl refl refl;
-      begun = λ log begun. same_turns log _ refl refl refl refl refl refl refl;
+      framed = λ log frames. same_turns log _ refl refl refl refl refl refl refl refl;
+      begun = λ log begun. same_turns log _ refl refl refl refl refl refl refl refl;
       replied = λ log decoded item verdict replies is.
           let next = read log decoded item in
-          wrote_reported next _ (same_turns log next refl refl refl refl refl refl refl is);
+          wrote_reported next _ (same_turns log next refl refl refl refl refl refl refl refl is);
       reported = λ log event events may. reports_reported log (event ∷ events);
-      unreturned = λ log count. same_turns log _ refl refl refl refl refl refl refl;
+      unreturned = λ log count. same_turns log _ refl refl refl refl refl refl refl refl;
       returned = λ log returns is.
           let next = record log { unreturned = 0 } in
-          wrote_reported next _ (same_turns log next refl refl refl refl refl refl refl is);
+          wrote_reported next _ (same_turns log next refl refl refl refl refl refl refl refl is);
       failed = λ log code last names is.
-          same_turns _ (with_failure code last log) refl refl refl refl refl refl refl
+          same_turns _ (with_failure code last log) refl refl refl refl refl refl refl refl
           (wrote_reported log (alone (GoAway last (code_number code) []) ∷ []) is);
       sent = λ log act accepted is. wrote_reported _ _ (called_reported log act _ is);
       called = λ log act answer is_log none. called_reported log act answer;
-      given = λ log more. same_turns log _ refl refl refl refl refl refl refl;
+      given = λ log more. same_turns log _ refl refl refl refl refl refl refl refl;
     }
 
 -- The turns of every log.

@@ -14,7 +14,8 @@ use Rattle.h2_location.specs.declared.location.Location.{Location}
 
 -- the values of a connection that says nothing else (RFC 9113, section 6.5.2), and 100 streams
 abbrev pub default_values : Values
-default_values = record { table_limit = 4096; initial_window = 65535; max_streams = 100 }
+default_values =
+    record { table_limit = 4096; initial_window = 65535; max_streams = 100; max_frame = 16384 }
 
 -- a GET of a location, without a body (section 8.3.1)
 -- rule: engines (own) A URL is asked for with GET

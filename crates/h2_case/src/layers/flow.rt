@@ -11,13 +11,14 @@
 //! - `end_in`, `end_out`: a side of it ends: the refusal, if there is one, and which sides have
 //!   ended.
 //! - `config`: the values of a new end.
-//! - `config TABLE WINDOW STREAMS`: these values, or the first that is refused.
+//! - `config TABLE WINDOW STREAMS`, and perhaps `frames N`, the greatest frame: these values, or the
+//!   first that is refused.
 
 use crate::case::Case;
 use crate::driver::{Answer, Driver, answers};
 use crate::text::Text;
 use crate::words::Words;
-use h2_config::Config;
+use h2_config::{BadConfig, Config};
 use h2_flow::{Closed, Settings, StreamState, Window};
 use h2_log::Role;
 use std::alloc::Global;
@@ -178,17 +179,28 @@ fn add_config(words: &mut Words<'_>, text: &mut Text) {
     let config = if words.is_empty() {
         Ok(Config::default())
     } else {
-        let (table, window, streams) = (words.number(), words.number(), words.number());
-        Config::new(table, window, streams)
+        made_config(words)
     };
     match config {
         Ok(config) => {
             text.push_labeled("table ", config.table_limit());
             text.push_labeled(", window ", config.initial_window());
             text.push_labeled(", streams ", config.max_streams());
+            text.push_labeled(", frames ", config.max_frame());
         }
         Err(bad) => text.push_value(bad),
     }
+}
+
+// The values that a command gives.
+fn made_config(words: &mut Words<'_>) -> Result<Config, BadConfig> {
+    let (table, window, streams) = (words.number(), words.number(), words.number());
+    let frame = if words.has("frames") {
+        words.number()
+    } else {
+        16_384
+    };
+    Config::new(table, window, streams)?.with_max_frame(frame)
 }
 
 impl Driver for Flow {

@@ -26,7 +26,7 @@ pub(crate) fn read_count(words: &mut Words<'_>) -> usize {
     }
 }
 
-/// The next three words, as settings.
+/// The next three words, as settings, with the greatest frame where it follows.
 pub(crate) fn read_config(words: &mut Words<'_>) -> Config {
     let (table, window, streams) = (words.number(), words.number(), words.number());
     config_of((table, window, streams), words)
