@@ -7,7 +7,11 @@
  * setting   SETTINGS of one pair, an initial window
  * reset     a request that it resets
  * closed    DATA of 100 octets on a stream that the server has reset
- * upload    DATA of 16,384 octets on one stream */
+ * upload    DATA of 16,384 octets on one stream
+ * long      DATA of 65,535 octets on one stream
+ * greatest  a frame of 1,048,576 octets, of an unknown type
+ * answers   a request without a body, where the client reads frames of 16,384 octets
+ * larger    one where it reads frames of 65,536; its streams' windows are wide in both */
 #include <stdint.h>
 #include <stdio.h>
 #include <stdlib.h>
@@ -15,7 +19,8 @@
 
 enum { DATA = 0, HEADERS = 1, RST_STREAM = 3, SETTINGS = 4, PING = 6, WINDOW_UPDATE = 8 };
 enum { NONE = 0, END_STREAM = 1, ACK = 1, END_HEADERS = 4 };
-enum { PAIRS = 2730, BODY = 1000, DISCARDED = 100, FULL = 16384 };
+enum { PAIRS = 2730, BODY = 1000, DISCARDED = 100, FULL = 16384, LONG = 65535 };
+enum { GREATEST = 1048576, UNKNOWN = 0xf0 };
 
 static uint32_t next_stream = 1;
 
@@ -65,8 +70,17 @@ static void settings(uint32_t pairs) {
   }
 }
 
+/* A wide window of streams, and the greatest frame that is read. */
+static void first_settings(uint32_t frame) {
+  head(12, SETTINGS, NONE, 0);
+  fwrite("\0\4", 1, 2, stdout);
+  put32(1048576);
+  fwrite("\0\5", 1, 2, stdout);
+  put32(frame);
+}
+
 static int put(const char *kind, uint32_t opened) {
-  if (!strcmp(kind, "get")) {
+  if (!strcmp(kind, "get") || !strcmp(kind, "answers") || !strcmp(kind, "larger")) {
     request(END_STREAM);
   } else if (!strcmp(kind, "post")) {
     data(request(NONE), END_STREAM, BODY);
@@ -85,6 +99,12 @@ static int put(const char *kind, uint32_t opened) {
     data(opened, NONE, DISCARDED);
   } else if (!strcmp(kind, "upload")) {
     data(opened, NONE, FULL);
+  } else if (!strcmp(kind, "long")) {
+    data(opened, NONE, LONG);
+  } else if (!strcmp(kind, "greatest")) {
+    uint32_t left = GREATEST;
+    head(left, UNKNOWN, NONE, 0);
+    while (left--) putchar('a');
   } else {
     return 2;
   }
@@ -97,10 +117,16 @@ int main(int argc, char **argv) {
   live = (uint32_t)atoi(argv[2]);
   count = (uint32_t)atoi(argv[3]);
   fputs("PRI * HTTP/2.0\r\n\r\nSM\r\n\r\n", stdout);
-  head(0, SETTINGS, NONE, 0);
+  if (!strcmp(argv[1], "answers"))
+    first_settings(16384);
+  else if (!strcmp(argv[1], "larger"))
+    first_settings(65536);
+  else
+    head(0, SETTINGS, NONE, 0);
   head(0, SETTINGS, ACK, 0);
   window_update(0, 2147483647 - 65535);
-  if (!strcmp(argv[1], "closed") || !strcmp(argv[1], "upload")) opened = request(NONE);
+  if (!strcmp(argv[1], "closed") || !strcmp(argv[1], "upload") || !strcmp(argv[1], "long"))
+    opened = request(NONE);
   if (!strcmp(argv[1], "closed")) window_update(opened, 0); /* for which the server resets it */
   while (live--) request(NONE);
   while (count--)

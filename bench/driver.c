@@ -1,8 +1,9 @@
 /* driver encode LISTS ROUNDS | decode BLOCKS ROUNDS | decode_into BLOCKS ROUNDS
  *        | cut WIRE PIECE ROUNDS
  * makes the rounds, and prints how many fields or frames they had.
- * driver serve CLIENT PIECE
- * serves what a client sends, and prints how many answers it had and the octets of the output.
+ * driver serve CLIENT PIECE [BODY]
+ * serves what a client sends, each answer with a body of BODY octets (1,000), and prints how many
+ * answers it had and the octets of the output.
  * driver server CLIENT
  * serves it with the README's server, and prints how many octets of output it had.
  * driver blocks LISTS | wire BLOCKS
@@ -90,7 +91,8 @@ int main(int argc, char **argv) {
   else if (!strcmp(argv[1], "cut") && argc == 5)
     failed = measure_cut(octets, n, (size_t)atol(argv[3]), (uint32_t)atoi(argv[4]), &counts);
   else if (!strcmp(argv[1], "serve"))
-    failed = measure_serve(octets, n, (size_t)atol(argv[3]), &counts);
+    failed = measure_serve(octets, n, (size_t)atol(argv[3]),
+                           argc > 4 ? (size_t)atol(argv[4]) : 1000, &counts);
   else
     return 2;
   printf("%llu %llu\n", (unsigned long long)counts.units, (unsigned long long)counts.octets);

@@ -21,12 +21,12 @@ int measure_decode_into(const uint8_t *blocks, size_t n, uint32_t rounds, struct
 int measure_cut(const uint8_t *octets, size_t n, size_t piece, uint32_t rounds,
                 struct counts *out);
 /* Serves a client's octets, which come in pieces of so many, with an end that allows 1,000 streams:
- * each request is answered, as it ends, with three fields and a body of 1,000 octets, and output is
- * put out after each answer and each piece; what is owed is released at once. The units are the
- * answers, and the octets those of the output. Allocations of MARK octets say that there is no end
+ * and reads frames of 1,048,576 octets: each request is answered, as it ends, with three fields and a
+ * body of so many octets, 65,536 at most, and output is put out after each answer and each piece; what
+ * is owed is released at once. The units are the answers, and the octets those of the output. Allocations of MARK octets say that there is no end
  * yet, and that all octets were served. */
 enum { MARK = 0xbe1c0e };
-int measure_serve(const uint8_t *octets, size_t n, size_t piece, struct counts *out);
+int measure_serve(const uint8_t *octets, size_t n, size_t piece, size_t body, struct counts *out);
 /* Serves a client's octets with the README's server, whose answers are smaller. No units. */
 int measure_server(const uint8_t *octets, size_t n, struct counts *out);
 

@@ -116,18 +116,31 @@ int measure_cut(const uint8_t *octets, size_t n, size_t piece, uint32_t rounds,
   return 0;
 }
 
-enum { ANSWER = 1000 };
+static size_t body_length; /* of each answer */
+
+static ssize_t frame_length(nghttp2_session *session, uint8_t type, int32_t stream,
+                            int32_t session_window, int32_t stream_window, uint32_t most,
+                            void *counts) {
+  int32_t window = session_window < stream_window ? session_window : stream_window;
+  (void)session;
+  (void)type;
+  (void)stream;
+  (void)counts;
+  if (most > 65536) most = 65536;
+  return window < (int32_t)most ? window : (ssize_t)most;
+}
 
 static ssize_t read_answer(nghttp2_session *session, int32_t stream, uint8_t *octets, size_t room,
                            uint32_t *flags, nghttp2_data_source *source, void *counts) {
-  (void)session;
-  (void)stream;
+  size_t left = body_length - (size_t)(uintptr_t)nghttp2_session_get_stream_user_data(session, stream);
+  size_t count = left < room ? left : room;
   (void)source;
   (void)counts;
-  if (room < ANSWER) return NGHTTP2_ERR_CALLBACK_FAILURE;
-  memset(octets, 'a', ANSWER);
-  *flags |= NGHTTP2_DATA_FLAG_EOF;
-  return ANSWER;
+  memset(octets, 'a', count);
+  nghttp2_session_set_stream_user_data(session, stream,
+                                       (void *)(uintptr_t)(body_length - left + count));
+  if (count == left) *flags |= NGHTTP2_DATA_FLAG_EOF;
+  return (ssize_t)count;
 }
 
 #define FIELD(name, value) \
@@ -136,24 +149,31 @@ static ssize_t read_answer(nghttp2_session *session, int32_t stream, uint8_t *oc
 static int on_request(nghttp2_session *session, const nghttp2_frame *frame, void *counts) {
   static const nghttp2_nv fields[] = {FIELD(":status", "200"), FIELD("content-type", "text/plain"),
                                       FIELD("content-length", "1000")};
+  static const nghttp2_nv long_fields[] = {FIELD(":status", "200"),
+                                           FIELD("content-type", "text/plain"),
+                                           FIELD("content-length", "65536")};
   nghttp2_data_provider provider = {{0}, read_answer};
   if (frame->hd.type != NGHTTP2_HEADERS && frame->hd.type != NGHTTP2_DATA) return 0;
   if (!(frame->hd.flags & NGHTTP2_FLAG_END_STREAM)) return 0;
   ((struct counts *)counts)->units++;
-  return nghttp2_submit_response(session, frame->hd.stream_id, fields, 3, &provider);
+  return nghttp2_submit_response(session, frame->hd.stream_id,
+                                 body_length == 1000 ? fields : long_fields, 3, &provider);
 }
 
 /* Output is put out after each piece alone: a callback can't. */
-int measure_serve(const uint8_t *octets, size_t n, size_t piece, struct counts *out) {
-  nghttp2_settings_entry streams = {NGHTTP2_SETTINGS_MAX_CONCURRENT_STREAMS, 1000};
+int measure_serve(const uint8_t *octets, size_t n, size_t piece, size_t body, struct counts *out) {
+  nghttp2_settings_entry values[] = {{NGHTTP2_SETTINGS_MAX_CONCURRENT_STREAMS, 1000},
+                                     {NGHTTP2_SETTINGS_MAX_FRAME_SIZE, 1048576}};
   nghttp2_session_callbacks *callbacks;
   nghttp2_session *session;
   size_t at = 0;
+  body_length = body;
   free(malloc(MARK));
   if (nghttp2_session_callbacks_new(&callbacks)) return 1;
   nghttp2_session_callbacks_set_on_frame_recv_callback(callbacks, on_request);
+  nghttp2_session_callbacks_set_data_source_read_length_callback(callbacks, frame_length);
   if (nghttp2_session_server_new(&session, callbacks, out)) return 1;
-  nghttp2_submit_settings(session, NGHTTP2_FLAG_NONE, &streams, 1);
+  nghttp2_submit_settings(session, NGHTTP2_FLAG_NONE, values, 2);
   while (at < n) {
     size_t size = n - at < piece ? n - at : piece;
     const uint8_t *output;

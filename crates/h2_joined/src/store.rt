@@ -10,7 +10,7 @@ use h2_ends::{EndEvent, FieldList, FieldRef};
 use std::alloc::Global;
 
 /// The most octets that one event has: a list whose size is at most 65,536, or a body of at most
-/// 16,384.
+/// 65,535, which is the connection's window.
 const MOST_OCTETS: usize = 65_536;
 
 /// The most fields that one event has, each of which counts at least 32 of the size of its list.

@@ -24,7 +24,7 @@ views_alike values e log represents up =
     views_agree e log represents.role represents.failed (waits_much e log represents.output)
     represents.streams (represents.running up)
 
--- No answer looks at states, at windows that would overflow, or at the greatest payload.
+-- No answer looks at states, or at windows that would overflow.
 beside_answers : (e : End) (log : Log) (act : Act)
     → answer_of (view_beside e log) act ≡ answer_of (log_view log) act
 beside_answers e log act = refl

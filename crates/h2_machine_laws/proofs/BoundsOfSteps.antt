@@ -12,7 +12,7 @@ use Rattle.h2_log.specs.Acts.{Values, AreInRange, Act, IsTypedAct}
 use Rattle.h2_log.specs.CallRules.{opening_pairs, refusal_of}
 use Rattle.h2_log.specs.ItemRules.{Decoded}
 use Rattle.h2_log.specs.Items.{encoding_of_items}
-use Rattle.h2_log.specs.Limits.{max_output, max_resets, max_frame_size_sent}
+use Rattle.h2_log.specs.Limits.{max_output, max_resets}
 use Rattle.h2_log.specs.Settings.{is_server}
 use Rattle.h2_log.specs.declared.role.Role.{Role}
 use Rattle.h2_machine.specs.End.{End, OwnSettings, end_view, owed_entry}
@@ -84,13 +84,13 @@ other_output e failed waiting up output h =
 pub failed_bounded : (e : End) (code : Code) (last : ℕ) → Up e → IsBounded (fail code last e)
 failed_bounded e code last h =
     let octets : List ℕ =
-    encoding_of_items max_frame_size_sent (alone (GoAway last (code_number code) []) ∷ []) in
+    encoding_of_items (end_view e).max_payload (alone (GoAway last (code_number code) []) ∷ []) in
     other_output e (Some code) (e.output.waiting ++ octets) (λ failed. cc)
     (omega (
       arith,
       h.0,
       length-append e.output.waiting octets,
-      size-goaway last (code_number code),
+      size-goaway (end_view e).max_payload last (code_number code),
     )) (is_bounded e h)
 
 -- Each small change keeps to the bounds.
@@ -104,7 +104,7 @@ bounds_kept =
           (λ up. omega (arith, h.up up, length-drop count e.output.waiting))
           (omega (arith, h.output, length-drop count e.output.waiting)) h;
       joined = λ e more items fits h.
-          let new : List ℕ = encoding_of_items max_frame_size_sent items in
+          let new : List ℕ = encoding_of_items (end_view e).max_payload items in
           (omega (arith, fits tt h.0, length-append e.output.waiting new), h.1, h.2, h.3, h.4, h.5);
       encoded = λ e encoder valid h. (h.0, h.1, h.2, h.3, h.4, valid h.5);
       begun = λ e begun few h. h;
@@ -162,9 +162,9 @@ new_bounded role values in_range =
       omega (
         arith,
         opening_few (not (is_server role)),
-        size-opening role values,
+        size-opening 16384 role values,
         length-append (expected_preface (not (is_server role)))
-            (encoding_of_items max_frame_size_sent settings),
+            (encoding_of_items 16384 settings),
       ),
       omega arith,
       omega arith,

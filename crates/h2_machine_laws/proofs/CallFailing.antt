@@ -55,7 +55,7 @@ fails_represent : (values : Values) (e : End) (log : Log) (act : Act) (answer : 
 unfolding last_processed
 fails_represent values e log act answer code quiet represents up came =
     let base = called log act answer in
-    let waits = fails_connection e.role e.failed e.output.waiting base code
+    let waits = fails_connection e.role e.failed e.output.waiting base (end_view e).max_payload code
     e.streams.last_processed (last_processed log) represents.streams.last_processed
     (waits_of values e log represents) in
     record {

@@ -10,7 +10,7 @@ use Rattle.h2_log.specs.Acts.{Values, Act, Answer, IsTypedAct, Open, SendFields,
 use Rattle.h2_log.specs.Acts.{ResetStream, Refuse, SendPing, SendGoAway, PutOut, ChangeSettings}
 use Rattle.h2_log.specs.Acts.{Number, OutOfMemory, Refused}
 use Rattle.h2_log.specs.Settings.{is_server, settings_count}
-use Rattle.h2_log.specs.Log.{Log, acked, active, last_processed, next_number, max_payload_sent}
+use Rattle.h2_log.specs.Log.{Log, acked, active, last_processed, next_number}
 use Rattle.h2_log.specs.CallRules.{conditions, refusal_of, answer_of, may_fail_for_memory}
 use Rattle.h2_log.specs.LogCalls.{MayAnswer, accepts, refuses, lacks, fails, with_call}
 use Rattle.h2_machine.specs.End.{End}
@@ -44,7 +44,6 @@ use Rattle.h2_machine_laws.proofs.RepresentedSteps.{Up, up_of, represents_after}
 pub record IsSound (log : Log) : Type 0 where
   pub acks : acked log ≤ settings_count log.sent
   pub pongs : reported_total one_pong log.reported ≤ total one_ping log.sent
-  pub size : max_payload_sent log ≡ 16384
   pub processed : is_server log.role ≡ true → (i : ℕ) → active log i ≡ true
       → i ≤ last_processed log
   pub clear : log.role ≡ Client → (i : ℕ) → greatest_block log.sent < i → IsClear (core log) i
@@ -96,7 +95,7 @@ call_up values e log (SendFields id fields end) represents none sound no_put no_
 call_up values e log (SendData id octets end) represents none sound no_put no_refuse up =
     let holds = none_holds _ none in
     let active = stream_is_active log id holds.1.0 in
-    data_up e log id octets end active (open_out log id active holds.1.1.0) sound.size up
+    data_up e log id octets end active (open_out log id active holds.1.1.0) up
 call_up values e log (Release id count) represents none sound no_put no_refuse up =
     let holds = none_holds _ none in
     release_up e log id count (stream_is_active log id holds.1.0) up

@@ -252,7 +252,7 @@ open_up e log fields end client odd above clear is =
         highest = id;
       };
     } in
-    let made = wrote_up e opened_one base (block id end octets ∷ []) is.role is.up is.same
+    let made = wrote_up e opened_one base (block id end octets ∷ []) is.role is.up is.same refl
     is.waits is.started
     (open_advances (core_facts f) (core base) id end octets client odd above clear went) in
     let call = with_call log act (Number id) in

@@ -12,7 +12,7 @@ use Rattle.h2_machine.specs.Represents.{Represents}
 use Rattle.h2_machine_laws.proofs.ViewsAgree.{view_beside, views_agree}
 use Rattle.h2_machine_laws.proofs.WaitingOutput.{waits_much}
 
--- No condition looks at states, at windows that would overflow, or at the greatest payload.
+-- No condition looks at states, or at windows that would overflow.
 beside_refuses : (e : End) (log : Log) (act : Act)
     → refusal_of (view_beside e log) act ≡ refusal_of (log_view log) act
 unfolding conditions first_of

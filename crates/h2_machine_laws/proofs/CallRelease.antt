@@ -226,7 +226,7 @@ release_up e log id count active_is is =
       };
       windows = record e.windows { recv = e.windows.recv + count };
     } in
-    let made = wrote_up e released_one base items is.role is.up is.same
+    let made = wrote_up e released_one base items is.role is.up is.same refl
     is.waits is.started
     (release_advances (core_facts e) (core log) id count ended active_is is.going) in
     let still : active (with_sent base items) id ≡ true =

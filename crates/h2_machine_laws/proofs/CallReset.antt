@@ -111,7 +111,7 @@ reset_up e log base id code was active_is is =
             e.streams.resets + 1;
       };
     })
-    base items is.role is.up is.same is.waits is.started
+    base items is.role is.up is.same refl is.waits is.started
     (reset_advances (core_facts e) (core base) id code _ active_is one is.going) in
     let closed : active (with_sent base items) id ≡ false = wrote_active base items id
     ∙ closed_here (core base) id code in

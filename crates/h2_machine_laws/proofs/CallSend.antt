@@ -10,12 +10,12 @@ use Rattle.std.proofs.lemmas.List.{length-take-le}
 use Rattle.hpack.specs.declared.types.field.Field.{Field}
 use Rattle.hpack.specs.Choice.{block_of, after_block}
 use Rattle.h2_block.specs.Grouping.{Item, block}
-use Rattle.h2_machine.specs.End.{End, active_entry, owed_entry}
+use Rattle.h2_machine.specs.End.{End, end_view, active_entry, owed_entry}
 use Rattle.h2_log.specs.LogView.{log_view, stream_of_log}
 use Rattle.h2_log.specs.Items.{data_on, data_of, ends, total}
 use Rattle.h2_log.specs.Acts.{SendFields, SendData, Count, Done}
 use Rattle.h2_log.specs.Windows.{given_on, given_on_connection, window}
-use Rattle.h2_log.specs.Log.{Log, active, send_window, unreleased, released, max_payload_sent}
+use Rattle.h2_log.specs.Log.{Log, active, send_window, unreleased, released}
 use Rattle.h2_log.specs.CallRules.{answer_of, data_count, items_of, stream_of_act}
 use Rattle.h2_log.specs.CallRules.{encoder_after_call, data_frames, data_items, at_least_none}
 use Rattle.h2_log.specs.LogSteps.{with_sent, with_unreturned, owed_at_close}
@@ -34,7 +34,7 @@ use Rattle.h2_machine_laws.proofs.RepresentedSteps.{wrote_up, called_up, with_un
 use Rattle.h2_machine_laws.proofs.RepresentedSteps.{nothing_unreturned, wrote_active, wrote_owes}
 use Rattle.h2_machine_laws.proofs.SentStreamItems.{set_advances, over_advances, Adds, stream_with}
 use Rattle.h2_machine_laws.proofs.SentStreamItems.{active_here, closed_here}
-use Rattle.h2_machine_laws.proofs.ViewsAgree.{view_beside}
+use Rattle.h2_machine_laws.proofs.ViewsAgree.{view_beside, payload_agrees}
 use Rattle.h2_machine_laws.proofs.WaitingOutput.{OutputOf}
 
 -- an end with items that join its output, and another send window
@@ -52,7 +52,7 @@ sent_by : (e f : End) (log base : Log) (id : ℕ) (items : List Item) (n : ℕ) 
     → send_window ≡ window (given_on id base.received) (n + total (data_on id) base.sent)
     → Adds base.role base.received id base.sent (items ++ base.sent) n end
     → here + (n + total data_of base.sent) ≡ given_on_connection base.received → f.role ≡ base.role
-    → f.failed ≡ None → base.failed ≡ None
+    → f.failed ≡ None → base.failed ≡ None → f.peer ≡ e.peer
     → OutputOf e base → f.reading.started ≡ not (length base.frames == 0) → Going f (core base)
     → Up (if b then close_stream
     (set_stream (with_send_window e f items here) id (stream_with (core base) id send_window end))
@@ -62,7 +62,7 @@ sent_by : (e f : End) (log base : Log) (id : ℕ) (items : List Item) (n : ℕ) 
     (with_unreturned (owed_at_close log (with_sent base items) id) (with_sent base items))
 unfolding unreleased
 sent_by e f log base id items n end send_window here true over was active_is is a conserved role up
-    same waits started run =
+    same peer waits started run =
     let s = stream_with (core base) id send_window end in
     let ran = over_advances (core_facts f) (core base) id (items ++ base.sent) n end s here
     active_is over a conserved
@@ -76,7 +76,7 @@ sent_by e f log base id items n end send_window here true over was active_is is 
       windows =
           record f.windows { send = here };
     }) base items
-    role up same waits started ran in
+    role up same peer waits started ran in
     let closed : active (with_sent base items) id ≡ false = wrote_active base items id
     ∙ closed_here (core base) id (items ++ base.sent) n end over a in
     let owing : owed_at_close log (with_sent base items) id ≡ unreleased base id =
@@ -86,7 +86,7 @@ sent_by e f log base id items n end send_window here true over was active_is is 
     rw (get_set_same f.streams.entries id (active_entry s)) (omega arith) in
     with_unreturned_up _ (with_sent base items) _ _ (owed ∙ sym owing) wrote_them
 sent_by e f log base id items n end send_window here false goes was active_is is a conserved role up
-    same waits started run =
+    same peer waits started run =
     let s = stream_with (core base) id send_window end in
     let ran = set_advances (core_facts f) (core base) id (items ++ base.sent) n end send_window here
     active_is goes is a
@@ -97,7 +97,7 @@ sent_by e f log base id items n end send_window here false goes was active_is is
           { entries = map.insert f.streams.entries id (active_entry s) };
       windows =
           record f.windows { send = here };
-    }) base items role up same waits started ran in
+    }) base items role up same peer waits started ran in
     let still : active (with_sent base items) id ≡ true = wrote_active base items id
     ∙ active_here (core base) id (items ++ base.sent) n end active_is goes a in
     nothing_unreturned _ log (with_sent base items) id
@@ -110,15 +110,15 @@ sent_up : (e f : End) (log base : Log) (id : ℕ) (items : List Item) (n : ℕ) 
     → send_window ≡ window (given_on id base.received) (n + total (data_on id) base.sent)
     → Adds base.role base.received id base.sent (items ++ base.sent) n end
     → here + (n + total data_of base.sent) ≡ given_on_connection base.received → f.role ≡ base.role
-    → f.failed ≡ None → base.failed ≡ None
+    → f.failed ≡ None → base.failed ≡ None → f.peer ≡ e.peer
     → OutputOf e base → f.reading.started ≡ not (length base.frames == 0) → Going f (core base)
     → Up (update_stream (with_send_window e f items here) id (stream_with (core base) id send_window
     end))
     (with_unreturned (owed_at_close log (with_sent base items) id) (with_sent base items))
-sent_up e f log base id items n end send_window here was active_is is a conserved role up same waits
-    started run =
+sent_up e f log base id items n end send_window here was active_is is a conserved role up same peer
+    waits started run =
     sent_by e f log base id items n end send_window here (list_any (ends id) base.received && end)
-    refl was active_is is a conserved role up same waits started run
+    refl was active_is is a conserved role up same peer waits started run
 
 -- Further fields are sent.
 pub fields_up : (e : End) (log : Log) (id : ℕ) (fields : List Field) (end : Bool)
@@ -141,7 +141,7 @@ fields_up e log id fields end active_is goes is =
     (send_window log id) e.windows.send active_is active_is
     (ap (window (given_on id log.received)) (sym consumed))
     (adds_block log.role log.received id end (block_of log.encoder fields) log.sent opened goes)
-    conserved is.role is.up is.same
+    conserved is.role is.up is.same refl
     is.waits is.started ran in
     let act = SendFields id fields end in
     let call = with_call log act Done in
@@ -179,8 +179,8 @@ data_by : (e : End) (log : Log) (id : ℕ) (octets : List ℕ) (end : Bool) (cou
     → active log id ≡ true → list_any (ends id) log.sent ≡ false
     → IsWithin e log id (length octets) count → Up e log
     → Up (if b then e else update_stream
-    (record (queue_output e (if b then [] else data_frames (suc count) 16384 id (take count octets)
-    (end && count == length octets)))
+    (record (queue_output e (if b then [] else data_frames (suc count) (end_view e).max_payload id
+    (take count octets) (end && count == length octets)))
     { windows = record e.windows { send = e.windows.send - count } })
     id (record (stream_of_log log id) {
       send_window = send_window log id -ℤ pos count;
@@ -189,10 +189,10 @@ data_by : (e : End) (log : Log) (id : ℕ) (octets : List ℕ) (end : Bool) (cou
     }))
     (with_unreturned (owed_at_close log
     (with_sent (called log (SendData id octets end) (Count count))
-    (if b then [] else data_frames (suc count) 16384 id (take count octets)
+    (if b then [] else data_frames (suc count) (end_view e).max_payload id (take count octets)
     (end && count == length octets))) id)
     (with_sent (called log (SendData id octets end) (Count count))
-    (if b then [] else data_frames (suc count) 16384 id (take count octets)
+    (if b then [] else data_frames (suc count) (end_view e).max_payload id (take count octets)
     (end && count == length octets))))
 unfolding with_sent released encoder_after_call unreleased
 data_by e log id octets end count true active_is goes within is =
@@ -206,28 +206,26 @@ data_by e log id octets end count false active_is goes within is =
     (λ i. refl) run in
     let last = end && count == length octets in
     let size : length (take count octets) ≡ count = length-take-le count octets within.whole in
-    let adds : Adds log.role log.received id log.sent
-    (data_frames (suc count) 16384 id (take count octets) last ++ log.sent) count last =
-    subst (λ (n : ℕ). Adds log.role log.received id log.sent
-    (data_frames (suc count) 16384 id (take count octets) last ++ log.sent) n last) size
-    (adds_all (suc count) log.role log.received id 16384 last (take count octets) log.sent goes
-    (omega arith) (omega arith)) in
+    let items = data_frames (suc count) (end_view e).max_payload id (take count octets) last in
+    let adds : Adds log.role log.received id log.sent (items ++ log.sent) count last =
+    subst (λ (n : ℕ). Adds log.role log.received id log.sent (items ++ log.sent) n last) size
+    (adds_all (suc count) log.role log.received id (end_view e).max_payload last (take count octets)
+    log.sent goes (omega arith) (omega arith)) in
     let fits = within.send_window in
     let conserved : (e.windows.send - count) + (count + total data_of log.sent)
     ≡ given_on_connection log.received = omega (arith, run.windows.send) in
-    sent_up e e log base id (data_frames (suc count) 16384 id (take count octets) last) count last
-    (send_window log id -ℤ pos count) (e.windows.send - count)
-    active_is active_is (less_send_window (given_on id log.received) (total (data_on id) log.sent)
-    count) adds conserved is.role is.up is.same
-    is.waits is.started ran
+    sent_up e e log base id items count last (send_window log id -ℤ pos count)
+    (e.windows.send - count) active_is active_is
+    (less_send_window (given_on id log.received) (total (data_on id) log.sent) count) adds conserved
+    is.role is.up is.same refl is.waits is.started ran
 
 -- Octets of a body are sent.
 pub data_up : (e : End) (log : Log) (id : ℕ) (octets : List ℕ) (end : Bool) → active log id ≡ true
-    → list_any (ends id) log.sent ≡ false → max_payload_sent log ≡ 16384 → Up e log
+    → list_any (ends id) log.sent ≡ false → Up e log
     → Up (after_call e (SendData id octets end))
     (with_call log (SendData id octets end) (answer_of (log_view log) (SendData id octets end)))
 unfolding after_call with_call with_items items_of stream_of_act data_items
-data_up e log id octets end active_is goes most is =
+data_up e log id octets end active_is goes is =
     let act = SendData id octets end in
     let stream = stream_of_log log id in
     let count = data_count (log_view log) (Some stream) (length octets) in
@@ -243,7 +241,7 @@ data_up e log id octets end active_is goes most is =
     (with_sent base (if b then [] else data_frames (suc count) m id (take count octets) last))
     id)
     (with_sent base (if b then [] else data_frames (suc count) m id (take count octets) last))))
-    (sym most) sent_data in
+    (payload_agrees e.peer log.received is.going.peer) sent_data in
     let there : Up (after_data e id octets end (data_count (log_view log) ((log_view log).stream id)
     (length octets))
     ((log_view log).stream id))

@@ -11,11 +11,10 @@ use Rattle.h2_log.specs.Items.{one_ping, total, encoding_of_items}
 use Rattle.h2_log.specs.Events.{one_pong, reported_total}
 use Rattle.h2_log.specs.Acts.{Values, Act, Answer, IsTypedAct, SendPing, SendGoAway, PutOut}
 use Rattle.h2_log.specs.Acts.{ChangeSettings, Count, Done}
-use Rattle.h2_log.specs.declared.role.Role.{Role}
-use Rattle.h2_log.specs.Settings.{is_server, settings_count}
+use Rattle.h2_log.specs.View.{View}
+use Rattle.h2_log.specs.Settings.{is_server, settings_count, value_read}
 use Rattle.h2_log.specs.Log.{Log, acked, active, last_processed, waiting, output, released}
 use Rattle.h2_log.specs.Log.{max_payload_sent}
-use Rattle.h2_log.proofs.SentPayloads.{most_is_limit}
 use Rattle.h2_log.specs.LogSteps.{with_sent}
 use Rattle.h2_log.specs.LogCalls.{called, before_put_out, MayAnswer, with_items, with_call}
 use Rattle.h2_log.specs.CallRules.{first_of, items_of, answer_of, stream_of_act, encoder_after_call}
@@ -28,7 +27,7 @@ use Rattle.h2_machine_laws.proofs.LogCore.{core, core_facts, runs}
 use Rattle.h2_machine_laws.proofs.OwedAtClose.{owes_none}
 use Rattle.h2_machine_laws.proofs.RepresentedSteps.{called_going, Up, up_of, represents_made}
 use Rattle.h2_machine_laws.proofs.RepresentedSteps.{wrote_up, called_up, ready_up}
-use Rattle.h2_machine_laws.proofs.RepresentedSteps.{nothing_unreturned}
+use Rattle.h2_machine_laws.proofs.RepresentedSteps.{nothing_unreturned, views_of_up}
 use Rattle.h2_machine_laws.proofs.SentConnectionItems.{ping_advances, goaway_advances}
 use Rattle.h2_machine_laws.proofs.SentConnectionItems.{settings_advance}
 use Rattle.h2_machine_laws.proofs.SentQuietItems.{called_streams}
@@ -47,7 +46,7 @@ ping_up e log octets enough is =
     (λ i. refl) is.going in
     nothing_unreturned _ log _ 0 (owes_none log _)
     (wrote_up e (record e { ping = Some octets }) base (alone (Ping false octets) ∷ []) is.role
-    is.up is.same is.waits is.started
+    is.up is.same refl is.waits is.started
     (ping_advances (core_facts e) (core base) octets enough went))
 
 -- GOAWAY is sent.
@@ -64,7 +63,7 @@ goaway_up e log low is =
     { goaway = record e.goaway { sent = Some (last_processed log) } })
     (with_sent base (alone (GoAway (last_processed log) 0 []) ∷ [])) =
     wrote_up e (record e { goaway = record e.goaway { sent = Some (last_processed log) } }) base
-    (alone (GoAway (last_processed log) 0 []) ∷ []) is.role is.up is.same
+    (alone (GoAway (last_processed log) 0 []) ∷ []) is.role is.up is.same refl
     is.waits is.started
     (goaway_advances (core_facts e) (core base) (last_processed log) 0 low went) in
     nothing_unreturned _ log _ 0 (owes_none log _)
@@ -82,17 +81,18 @@ settings_up e log values enough some is =
     let base = called log (ChangeSettings values) Done in
     let went = called_going e log (ChangeSettings values) Done e.output.encoder is.going.encoder
     (λ i. refl) is.going in
-    let item = alone (Settings false (changed_pairs log.role values)) in
+    let written = value_read 5 16384 log.sent in
+    let item = alone (Settings false (changed_pairs log.role written values)) in
     let all : Up (record (queue_output e (item ∷ []))
     { own = record e.own { awaited = Some values } }) (with_sent base (item ∷ [])) =
     wrote_up e (record e { own = record e.own { awaited = Some values } }) base (item ∷ []) is.role
-    is.up is.same is.waits is.started
+    is.up is.same refl is.waits is.started
     (settings_advance (core_facts e) (core base) values enough some went) in
     nothing_unreturned _ log _ 0 (owes_none log _)
-    (subst (λ (role : Role). Up
-    (record (queue_output e (alone (Settings false (changed_pairs role values)) ∷ []))
-    { own = record e.own { awaited = Some values } }) (with_sent base (item ∷ []))) (sym is.role)
-    all)
+    (subst (λ (view : View). Up
+    (record (queue_output e (items_of view (ChangeSettings values) Done))
+    { own = record e.own { awaited = Some values } }) (with_sent base (item ∷ [])))
+    (sym (views_of_up e log is)) all)
 
 -- Octets are put out of what waits.
 put_out_waits : (e : End) (log : Log) (count n : ℕ) → n ≡ min count (waiting log) → OutputOf e log
@@ -163,7 +163,7 @@ unfolding before_put_out waiting output with_sent
 ready_size log given =
     let update = alone (WindowUpdate 0 log.unreturned) ∷ [] in
     let size : length (encoding_of_items (max_payload_sent log) update) ≡ 13 =
-    rw (most_is_limit log.received) (size-update 0 log.unreturned) in
+    size-update (max_payload_sent log) 0 log.unreturned in
     let more = length-append log.written (encoding_of_items (max_payload_sent log) update) in
     both_by (λ (ready : Log) (n : ℕ). waiting ready ≡ waiting log + n)
     (returns_before_put_out (log_view log)) (omega (arith, more, size, given)) (omega arith)

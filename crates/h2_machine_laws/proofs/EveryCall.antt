@@ -8,14 +8,14 @@ use Rattle.hpack.specs.Choice.{block_of, after_block}
 use Rattle.hpack.specs.Lists.{list_size}
 use Rattle.hpack.specs.declared.types.field.Field.{Field}
 use Rattle.hpack.proofs.WrittenBlocks.{block_goes_on}
-use Rattle.h2_frame.specs.Frames.{Reset, Settings, Ping, GoAway}
+use Rattle.h2_frame.specs.Frames.{Reset, Ping, GoAway}
 use Rattle.h2_frame.specs.declared.code.Code.{Code}
 use Rattle.h2_block.specs.Grouping.{Item, alone, block}
 use Rattle.h2_log.specs.Acts.{Act, Open, SendFields, SendData, Release, Done, ResetStream}
 use Rattle.h2_log.specs.Acts.{Refuse, SendPing, SendGoAway, PutOut, ChangeSettings, IsTypedAct}
 use Rattle.h2_log.specs.CallRules.{data_items, is_full, is_no_stream, conditions, refusal_of}
 use Rattle.h2_log.specs.CallRules.{data_count, items_of, encoder_after_call, refuse_fault}
-use Rattle.h2_log.specs.CallRules.{at_least_none, changed_pairs, returns_before_put_out}
+use Rattle.h2_log.specs.CallRules.{at_least_none, returns_before_put_out}
 use Rattle.h2_log.specs.Limits.{max_list, full_output, max_output, max_resets}
 use Rattle.h2_log.specs.Settings.{is_server}
 use Rattle.h2_log.specs.View.{StreamView, ended_in, owed_on}
@@ -58,13 +58,15 @@ module _ {Typed Seen : Type 0} {P : ℕ → End → Type 0} {Q : End → Type 0}
   data_sent : (e : End) (i : ℕ) (octets : List ℕ) (end : Bool) (count : ℕ) (x : Option StreamView)
       → stream_at e i ≡ x
       → ((stream : StreamView) → x ≡ Some stream → count ≤ at_least_none stream.send_window) → P 0 e
-      → P 0 (queue_output e (data_items 16384 i octets end count))
+      → P 0 (queue_output e (data_items (end_view e).max_payload i octets end count))
       → P 0 (after_data e i octets end count x)
   data_sent e i octets end count None active lets h wrote = h
   data_sent e i octets end count (Some stream) active lets h wrote =
       let windows : ConnectionWindows = record e.windows { send = e.windows.send - count } in
       let after : End =
-      record (queue_output e (data_items 16384 i octets end count)) { windows = windows } in
+      record (queue_output e (data_items (end_view e).max_payload i octets end count)) {
+        windows = windows;
+      } in
       let next : StreamView =
       record stream {
         send_window = stream.send_window -ℤ pos count;
@@ -101,7 +103,7 @@ module _ {Typed Seen : Type 0} {P : ℕ → End → Type 0} {Q : End → Type 0}
       reset_keeps steady (queue_output e (alone (Reset i code) ∷ [])) i 0
       (active_used e i active.0 active.1) few
       (steady.joined e 0 (alone (Reset i code) ∷ [])
-      (λ typed within. omega (arith, fits, size-reset i code)) h)
+      (λ typed within. omega (arith, fits, size-reset (end_view e).max_payload i code)) h)
 
   -- A stream was refused, or the connection ended.
   refused_by : (e : End) (i code : ℕ) (x : Option Code) → refuse_fault (end_view e) code ≡ x
@@ -126,7 +128,8 @@ module _ {Typed Seen : Type 0} {P : ℕ → End → Type 0} {Q : End → Type 0}
 
   -- A call's items join the output where that isn't full.
   written : (e : End) (items : List Item) → is_full (end_view e) ≡ false
-      → (Typed → full_output + size_of items ≤ max_output) → P 0 e → P 0 (queue_output e items)
+      → (Typed → full_output + size_of (end_view e).max_payload items ≤ max_output) → P 0 e
+      → P 0 (queue_output e items)
   written e items space few =
       steady.joined e 0 items
       (λ typed within. omega (
@@ -145,7 +148,8 @@ module _ {Typed Seen : Type 0} {P : ℕ → End → Type 0} {Q : End → Type 0}
       (block i end (block_of e.output.encoder fields) ∷ []) space
       (λ typed. omega (
         arith,
-        size-block i end (block_of e.output.encoder fields),
+        size-block (end_view e).max_payload i end (block_of e.output.encoder fields)
+            (omega arith),
         block_is_gathered e.output.encoder fields (ltb-false max_list (list_size fields) few),
       ))
       (steady.encoded e (after_block e.output.encoder fields)
@@ -175,17 +179,20 @@ module _ {Typed Seen : Type 0} {P : ℕ → End → Type 0} {Q : End → Type 0}
       steady.kept _ (data_sent e id octets end count (stream_at e id) refl
       (λ stream is. count_lets (end_view e) stream (length octets) (stream_at e id) is)
       (up_since e none.0 h)
-      (written e (data_items 16384 id octets end count) none.1.1.1.0
+      (written e (data_items (end_view e).max_payload id octets end count) none.1.1.1.0
       (λ good. omega (
         arith,
-        data_size id octets end count,
+        data_size (end_view e).max_payload id octets end count (omega arith),
         count_few (end_view e) (stream_at e id) (length octets),
       )) (up_since e none.0 h)))
   made e (Release id count) none typed h =
       steady.kept _ (released _ id count (stream_at e id) refl
       (ltb-false _ _ (neither_other (count == 0) _ none.1.1.1.0))
       (written e (items_of (end_view e) (Release id count) Done) none.1.1.0
-      (λ good. omega (arith, release_size id count (ended_in (stream_at e id))))
+      (λ good. omega (
+        arith,
+        release_size (end_view e).max_payload id count (ended_in (stream_at e id)),
+      ))
       (up_since e none.0 h)))
   made e (ResetStream id code) none typed h =
       steady.kept _ (reset_by_call e id code none.1.0
@@ -196,16 +203,27 @@ module _ {Typed Seen : Type 0} {P : ℕ → End → Type 0} {Q : End → Type 0}
   made e (SendPing octets) none typed h =
       steady.kept _ (steady.beside _ (Some octets) e.goaway.received
       (written e (alone (Ping false octets) ∷ []) none.1.0
-      (λ good. omega (arith, size-ping false octets, typed good)) (up_since e none.0 h)))
+      (λ good. omega (
+        arith,
+        size-ping (end_view e).max_payload false octets,
+        typed good,
+      )) (up_since e none.0 h)))
   made e SendGoAway none typed h =
       steady.kept _ (steady.goaway_sent _
       (written e (alone (GoAway e.streams.last_processed 0 []) ∷ []) none.1.1.0
-      (λ good. omega (arith, size-goaway e.streams.last_processed 0)) (up_since e none.0 h)))
+      (λ good. omega (
+        arith,
+        size-goaway (end_view e).max_payload e.streams.last_processed 0,
+      )) (up_since e none.0 h)))
   made e (PutOut count) none typed h = steady.put_out (before_put_out_at e) count (ready e h)
   made e (ChangeSettings values) none typed h =
+      let view = end_view e in
       steady.kept _ (steady.awaits _ values typed
-      (written e (alone (Settings false (changed_pairs e.role values)) ∷ []) none.1.0
-      (λ good. omega (arith, size-change e.role values)) (up_since e none.0 h)))
+      (written e (items_of view (ChangeSettings values) Done) none.1.0
+      (λ good. omega (
+        arith,
+        size-change view.max_payload e.role view.max_frame_written values,
+      )) (up_since e none.0 h)))
 
   -- A call that isn't refused was made.
   pub call_keeps : (e : End) (act : Act) → refusal_of (end_view e) act ≡ None

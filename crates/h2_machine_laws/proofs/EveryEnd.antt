@@ -18,7 +18,7 @@ use Rattle.h2_log.specs.ItemEffects.{least_last, encoder_after_settings}
 use Rattle.h2_log.specs.ItemRules.{Decoded, FrameStep, fails_with, begins_block, completes}
 use Rattle.h2_log.specs.ItemRules.{frame_step, exceeds_stream, overflows_stream, opened_by}
 use Rattle.h2_log.specs.ItemRules.{settings_fault, replies_to, verdict_by_rules, verdict_of}
-use Rattle.h2_log.specs.Items.{stream_of_item}
+use Rattle.h2_log.specs.Items.{stream_of_item, encoding_of_item, encoding_of_items}
 use Rattle.h2_log.specs.Limits.{full_output, max_resets}
 use Rattle.h2_log.specs.States.{greatest_number}
 use Rattle.h2_log.specs.Verdicts.{Verdict, ConnectionFault, StreamFault, NoEvent, Reported}
@@ -74,7 +74,11 @@ module _ {Typed Seen : Type 0} {P : ℕ → End → Type 0} {Q : End → Type 0}
       steady.windows (queue_output e items) 0 0 (return_credit e).windows (omega arith)
       (λ most. most)
       (steady.joined e 0 items
-      (λ typed within. omega (arith, space, size-update 0 e.windows.unreturned)) h)
+      (λ typed within. omega (
+        arith,
+        space,
+        size-update (end_view e).max_payload 0 e.windows.unreturned,
+      )) h)
 
   -- What is still to be returned is unreturned.
   unreturned : (more : ℕ) (e : End) → P more e → P 0 (more_unreturned e more)
@@ -230,7 +234,7 @@ module _ {Typed Seen : Type 0} {P : ℕ → End → Type 0} {Q : End → Type 0}
   ignored : (e : End) (decoded : Option Decoded) (item : Item) → (Seen → Known e decoded item)
       → verdict_by_rules (end_view e) decoded item ≡ NoEvent → HasSpace e (replies_to NoEvent item)
       → P 0 e → P 0 (after_ignored e decoded item)
-  unfolding after_ignored replies_to verdict_by_rules
+  unfolding after_ignored replies_to verdict_by_rules encoding_of_items encoding_of_item
   ignored e decoded (block i end octets) known is fits h =
       marked (with_table_after e decoded (block i end octets)) i (is_fresh e i) false
       (above_used e i) (λ wrong. absurd (cc)) (λ seen. (known seen).0)

@@ -1,5 +1,5 @@
 -- What a log says of numbers that no stream had yet; and the law of calls.
-use Rattle.std.proofs.Common.{◌≡◌, ◌≢◌, ℕ, ◌≤◌, ◌<◌, false, List, [], ◌∷◌, None, refl, subst, ◌∙◌}
+use Rattle.std.proofs.Common.{◌≡◌, ◌≢◌, ℕ, ◌<◌, false, List, [], ◌∷◌, None, refl, subst, ◌∙◌}
 use Rattle.std.proofs.Common.{arith}
 use Rattle.std.specs.List.{list_any}
 use Rattle.std.proofs.lemmas.Bool.{both_ways, ne_eqb, false_from_ne_true}
@@ -9,10 +9,9 @@ use Rattle.h2_log.specs.declared.role.Role.{Role}
 use Rattle.h2_log.specs.declared.role.Role.TheVariants.{Client, Server}
 use Rattle.h2_log.specs.Items.{data_on, is_block_on, ends, total, greatest_block}
 use Rattle.h2_log.specs.Acts.{Values, Act, Answer, IsTypedAct}
-use Rattle.h2_log.specs.Settings.{value_read}
 use Rattle.h2_log.specs.States.{openings}
 use Rattle.h2_log.specs.Events.{flow_on, reported_total}
-use Rattle.h2_log.specs.Log.{Log, max_payload_sent_by}
+use Rattle.h2_log.specs.Log.{Log}
 use Rattle.h2_log.specs.LogCalls.{MayAnswer, with_call}
 use Rattle.h2_log.specs.Histories.{IsLog}
 use Rattle.h2_machine.specs.End.{End}
@@ -107,12 +106,6 @@ clear_of role values log came up client i above =
           ((represents.good up).opened i (unopened log.role log.received log.sent i client above));
     }
 
--- as much is sent in a frame as this end sends at most
-most_of : (received : List Item) → 16384 ≤ value_read 5 16384 received
-    → max_payload_sent_by received ≡ 16384
-unfolding max_payload_sent_by
-most_of received enough = omega arith
-
 -- Every log that hasn't failed is sound.
 sound_of : (role : Role) (values : Values) (log : Log) → IsLog role values log
     → log.failed ≡ None → IsSound log
@@ -121,7 +114,6 @@ sound_of role values log came up =
     record {
       acks = up_log.acks;
       pongs = up_log.pongs;
-      size = most_of log.received up_log.size;
       processed = λ server i active_is. active_processed role values log came up server i active_is;
       clear = clear_of role values log came up;
     }

@@ -38,6 +38,7 @@ pub mod OwedOnStreams
 pub mod OwedSums
 mod QuietNumbers
 pub mod RangesOfSteps
+pub mod ReadLimits
 mod RecvBeside
 mod RecvBlocks
 mod RecvConnectionFault

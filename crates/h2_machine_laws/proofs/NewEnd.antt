@@ -1,5 +1,5 @@
 -- A new machine represents the log of a new end.
-use Rattle.std.proofs.Common.{◌≡◌, ℕ, ◌%◌, ◌==◌, true, false, [], ◌∷◌, Some, refl, sym, arith}
+use Rattle.std.proofs.Common.{◌≡◌, ℕ, ◌%◌, ◌==◌, true, false, [], ◌∷◌, Some, refl, sym, ◌∙◌, arith}
 use Rattle.std.specs.FinMap.{get-empty}
 use Rattle.std.specs.Ordering.{nat_cmp}
 use Rattle.std.proofs.lemmas.Bool.{and_left, and_right}
@@ -14,17 +14,20 @@ use Rattle.h2_log.specs.Acts.{Values, AreInRange}
 use Rattle.h2_log.specs.Settings.{is_server, value_after, value_read, one_settings, settings_count}
 use Rattle.h2_log.specs.Settings.{up_to_settings}
 use Rattle.h2_log.specs.States.{openings, is_active, count_below}
-use Rattle.h2_log.specs.Windows.{given_on_connection, granted_on_connection}
+use Rattle.h2_log.specs.Windows.{first_window, given_on_connection, granted_on_connection}
 use Rattle.h2_log.specs.Log.{active, active_count, last_processed, max_streams, allowed_by, output}
 use Rattle.h2_log.specs.Log.{max_payload_sent_by}
+use Rattle.h2_log.specs.Limits.{max_list}
 use Rattle.h2_log.specs.LogSteps.{with_sent}
-use Rattle.h2_log.specs.CallRules.{opening_pairs}
+use Rattle.h2_log.specs.CallRules.{opening_pairs, with_max_frame}
 use Rattle.h2_log.specs.LogCalls.{opened}
 use Rattle.h2_log.specs.Histories.{begins}
 use Rattle.h2_machine.specs.Machine.{new_end}
 use Rattle.h2_machine.specs.End.{owed_sum}
 use Rattle.h2_machine.specs.Represents.{Represents, RepresentsWhileUp, AwaitsValues}
 use Rattle.h2_machine.specs.Represents.{goaway_sent_last}
+use Rattle.h2_log_laws.proofs.AllowedHistories.{opening_window}
+use Rattle.h2_log_laws.proofs.SettingsLists.{value_named, opening_frame}
 use Rattle.h2_machine_laws.proofs.ConservedBySteps.{new_holds}
 use Rattle.h2_machine_laws.proofs.ConservedBySteps.{is_whole}
 use Rattle.h2_machine_laws.proofs.LogCore.{core, StreamsOf}
@@ -60,12 +63,19 @@ unfolding computing
 new_used Client values = refl
 new_used Server values = refl
 
+-- A value that the opening names before the greatest frame is the one that it names.
+opening_value : (id value : ℕ) (values : Values) → (5 == id) ≡ false → (6 == id) ≡ false
+    → value_after id value (with_max_frame 16384 values.max_frame ((6, max_list) ∷ [])) ≡ value
+unfolding value_after
+opening_value id value values no_frame no_list =
+    value_named id value 16384 values.max_frame ((6, max_list) ∷ []) ∙ rw (no_frame, no_list) refl
+
 -- A server allows as many streams as its opening says.
 new_max_streams : (role : Role) (values : Values) → is_server role ≡ true
     → values.max_streams ≡ max_streams (opened role values)
 unfolding computing value_after
 new_max_streams Client values server = cc
-new_max_streams Server values server = refl
+new_max_streams Server values server = sym (opening_value 3 values.max_streams values refl refl)
 
 -- No stream was processed.
 new_last_processed : (role : Role) (values : Values) → 0 ≡ last_processed (opened role values)
@@ -79,11 +89,20 @@ new_awaited : (role : Role) (values others : Values) → Some values ≡ Some ot
 unfolding computing value_after
 new_awaited Client values others same =
     let equal : values ≡ others = cc in
-    rw (← equal) (record { table_limit = refl; initial_window = refl; max_streams = λ server. cc })
+    rw (← equal) (record {
+      table_limit = opening_value 1 values.table_limit values refl refl;
+      initial_window = opening_window Client values first_window;
+      max_streams = λ server. cc;
+      max_frame = opening_frame Client values;
+    })
 new_awaited Server values others same =
     let equal : values ≡ others = cc in
-    rw (← equal)
-    (record { table_limit = refl; initial_window = refl; max_streams = λ server. refl })
+    rw (← equal) (record {
+      table_limit = opening_value 1 values.table_limit values refl refl;
+      initial_window = opening_window Server values first_window;
+      max_streams = λ server. opening_value 3 values.max_streams values refl refl;
+      max_frame = opening_frame Server values;
+    })
 
 -- The streams of a new machine are those of a new log: none.
 new_streams : (role : Role) (values : Values)
@@ -108,12 +127,13 @@ new_running role values =
       reading = record { begun = refl; table = refl };
       encoder = refl;
       windows = record { send = refl; recv = refl; unreturned = refl };
-      peer = record { initial_window = refl; max_streams = refl };
+      peer = record { initial_window = refl; max_streams = refl; max_frame = refl };
       own = record {
         in_force = record {
           table_limit = refl;
           initial_window = refl;
           max_streams = new_max_streams role values;
+          max_frame = refl;
         };
         awaits = refl;
         awaited = λ others same. new_awaited role values others same;

@@ -14,7 +14,7 @@ use Rattle.h2_block.specs.Grouping.{Begun, max_block_octets, Item, alone, block}
 use Rattle.h2_log.specs.Acts.{Values, AreInRange, Act, IsTypedAct}
 use Rattle.h2_log.specs.CallRules.{refusal_of}
 use Rattle.h2_log.specs.ItemRules.{Decoded, first_fault, settings_fault}
-use Rattle.h2_log.specs.Limits.{max_table_limit}
+use Rattle.h2_log.specs.Limits.{max_table_limit, most_max_frame}
 use Rattle.h2_log.specs.Settings.{peer_of, value_fault, value_after}
 use Rattle.h2_log.specs.States.{greatest_number}
 use Rattle.h2_log.specs.View.{StreamView}
@@ -41,11 +41,13 @@ NumbersFit highest last_processed goaway_sent =
     (highest ≤ greatest_number) × (last_processed ≤ highest)
     × ((last : ℕ) → goaway_sent ≡ Some last → last ≤ greatest_number)
 
--- those of the own initial window, of the limit of the table, and of the values that come next
+-- those of the own initial window, of the limit of the table, of the values that come next, and of
+-- the greatest frame
 abbrev pub OwnFit : OwnSettings → Type 0
 OwnFit own =
     (own.in_force.initial_window ≤ greatest_window) × (own.in_force.table_limit ≤ max_table_limit)
     × ((values : Values) → own.awaited ≡ Some values → AreInRange values)
+    × (own.in_force.max_frame ≤ most_max_frame)
 
 -- those of the block that has begun, and of the table's size and maximum
 abbrev pub ReadingFits : Option Begun → Entries → Type 0
@@ -73,7 +75,7 @@ fits e h = (
   (h.highest, h.last_processed, h.goaway_sent),
   h.send,
   h.initial_window,
-  (h.own_window, h.table_limit, h.awaited),
+  (h.own_window, h.table_limit, h.awaited, h.own_frame),
   λ i stream is.
       let one = h.streams i stream is in (
         λ zero.
@@ -100,6 +102,7 @@ are_in_range e h =
       own_window = h.3.0;
       table_limit = h.3.1;
       awaited = h.3.2;
+      own_frame = h.3.3;
       streams = λ i stream is. record {
         send_most = (h.4 i stream is).1.send_most;
         send_least = (h.4 i stream is).1.send_least;
@@ -196,11 +199,11 @@ ranges_kept =
       enforced = λ e values awaited h.
           let range : AreInRange values = h.3.2 values awaited in
           let own : OwnFit (record { in_force = values; awaited = None }) =
-          (range.initial_window, range.table_limit, λ others is. absurd (cc)) in
+          (range.initial_window, range.table_limit, λ others is. absurd (cc), range.max_frame) in
           (h.0, h.1, h.2, own, recv_shifted_fits _ _ _ _ h.4, h.5);
       awaits = λ e values range h.
           let own : OwnFit (record e.own { awaited = Some values }) =
-          (h.3.0, h.3.1, λ others. same_some AreInRange values others (range tt)) in
+          (h.3.0, h.3.1, λ others. same_some AreInRange values others (range tt), h.3.3) in
           (h.0, h.1, h.2, own, h.4, h.5);
       goaway_sent = λ e h.
           let most : e.streams.last_processed ≤ greatest_number = omega (arith, h.0.0, h.0.1) in
@@ -240,7 +243,12 @@ new_fits role values in_range = (
   (omega arith, omega arith, λ last is. absurd (cc)),
   omega arith,
   omega arith,
-  (omega arith, omega arith, λ others is. same_some AreInRange values others in_range is),
+  (
+    omega arith,
+    omega arith,
+    λ others is. same_some AreInRange values others in_range is,
+    omega arith,
+  ),
   λ i stream is.
       let none : stream_in (map.get map.empty i) ≡ None = ap stream_in (map.get-empty nat_cmp i) in
       absurd (cc),

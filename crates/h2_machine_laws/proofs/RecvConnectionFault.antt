@@ -50,7 +50,7 @@ unfolding after_verdict with_verdict last_processed
 fault_after e log decoded item code w sound g =
     let last = max (last_processed log) (opened_by (log_view log) decoded item) in
     record {
-      waits = fails_connection e.role e.failed e.output.waiting log code
+      waits = fails_connection e.role e.failed e.output.waiting log (end_view e).max_payload code
           (max e.streams.last_processed (opened_by (end_view e) decoded item)) last
           (ap₂ max g.streams.last_processed
           (opened_same e log decoded item w.same_role sound g)) w;

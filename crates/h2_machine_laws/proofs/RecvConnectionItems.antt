@@ -14,7 +14,7 @@ use Rattle.h2_log.specs.Verdicts.{NoEvent}
 use Rattle.h2_log.specs.ItemRules.{Decoded, replies_to}
 use Rattle.h2_log.specs.LogSteps.{read, with_sent, with_reported, with_verdict}
 use Rattle.h2_log.specs.ItemEffects.{events_of, discarded_flow}
-use Rattle.h2_machine.specs.End.{End}
+use Rattle.h2_machine.specs.End.{End, end_view}
 use Rattle.h2_machine.specs.Machine.{queue_output, after_ignored}
 use Rattle.h2_machine.specs.Represents.{goaway_sent_last}
 use Rattle.h2_machine_laws.proofs.LogCore.{core, core_facts, Going}
@@ -121,7 +121,7 @@ ping_ignored e log decoded octets w g =
           (alone (Ping true octets) ∷ [])) []) 0 (zero_dead (core log)),
     ))
     (wrote_connection e.role e.failed e.output.waiting (read log decoded item)
-    (alone (Ping true octets)) [] w) g.windows.unreturned
+    (end_view e).max_payload (Ping true octets) w) g.windows.unreturned
     (quiet_wrote (core_facts e) (reads (core log) item) (alone (Ping true octets)) e.windows.recv
     (pong_quiet octets) (λ j some. pong_none octets j) (omega (arith, pong_none octets 0))
     (quiet_read (core_facts e) (core log) item q g))

@@ -172,8 +172,8 @@ step_after : (e : End) (log : Log) (decoded : Option Decoded) (step : FrameStep)
 unfolding after_step with_step last_processed
 step_after e log decoded (fails_with code) typed started sound w g =
     record {
-      waits = fails_connection e.role e.failed e.output.waiting log code e.streams.last_processed
-          (last_processed log) g.streams.last_processed w;
+      waits = fails_connection e.role e.failed e.output.waiting log (end_view e).max_payload code
+          e.streams.last_processed (last_processed log) g.streams.last_processed w;
       streams = failing_streams e.streams log code (last_processed log) (λ server i active_is.
           let taken = sound.active_taken server i active_is in
           let same : last_processed log

@@ -60,6 +60,7 @@ peer_read peer received item none g =
     record {
       initial_window = g.initial_window ∙ sym (value_kept 4 first_window item received none);
       max_streams = rw (none, zero-add, value3) g.max_streams;
+      max_frame = g.max_frame ∙ sym (value_kept 5 16384 item received none);
     }
 
 -- The GOAWAYs, where an item is read that is none.

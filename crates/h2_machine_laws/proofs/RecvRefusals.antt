@@ -21,7 +21,8 @@ use Rattle.h2_log.specs.Verdicts.{StreamFault}
 use Rattle.h2_log.specs.ItemRules.{Decoded, replies_to}
 use Rattle.h2_log.specs.LogSteps.{read, with_sent, with_reported, with_verdict}
 use Rattle.h2_log.specs.ItemEffects.{events_of, discarded_flow}
-use Rattle.h2_machine.specs.End.{End, Streams, Entry, reset_entry, stream_in, stream_at, owed_entry}
+use Rattle.h2_machine.specs.End.{End, Streams, Entry, end_view, reset_entry, stream_in, stream_at}
+use Rattle.h2_machine.specs.End.{owed_entry}
 use Rattle.h2_machine.specs.Machine.{with_table_after, queue_output}
 use Rattle.h2_machine.specs.Machine.{after_stream_fault, is_fresh, is_one}
 use Rattle.h2_machine.specs.Represents.{entry_by}
@@ -153,7 +154,7 @@ new_fault e log decoded i end octets code may w g =
           (ResetEvent i n true ∷ [])) i dead,
     ))
     (wrote_connection e.role e.failed e.output.waiting (read log decoded item)
-    (alone (Reset i n)) [] w) g.windows.unreturned
+    (end_view e).max_payload (Reset i n) w) g.windows.unreturned
     (fault_advances (core_facts e) c i n item decoded e.windows.recv streams
     (block_common i end octets) (block_gives i end octets 0)
     (omega (arith, block_takes i end octets)) refl

@@ -9,7 +9,7 @@ use Rattle.h2_log.specs.Log.{Log, waiting}
 use Rattle.h2_log.specs.LogSteps.{with_sent, with_reported, with_unreturned, with_credit_returned}
 use Rattle.h2_log.specs.CallRules.{returns_credit}
 use Rattle.h2_log_laws.proofs.CreditCases.{both_by}
-use Rattle.h2_machine.specs.End.{End}
+use Rattle.h2_machine.specs.End.{End, end_view}
 use Rattle.h2_machine.specs.Machine.{add_unreturned}
 use Rattle.h2_machine_laws.proofs.LogCore.{StreamsOf, Core, CoreFacts, Advances, Going, core}
 use Rattle.h2_machine_laws.proofs.LogCore.{core_facts}
@@ -65,7 +65,8 @@ returned e log events n more same waits unreturned g =
     (both_by (λ (x : End) (next : Log). After x (with_reported next events))
     (returns_credit more (waiting log))
     (after_going _ _ (reports_connection e.role e.failed _ _ events (credit_connection e.role
-    e.failed e.output.waiting log more e.windows.unreturned unreturned waits))
+    e.failed e.output.waiting log (end_view e).max_payload more e.windows.unreturned unreturned
+    waits))
     (rw (reports_core (with_credit_returned (record log { unreturned = log.unreturned + more }))
     events) (paid (core_facts e) after more g)))
     (after_going _ _ (reports_connection e.role e.failed e.output.waiting

@@ -19,7 +19,7 @@ use Rattle.h2_log.specs.ItemRules.{Decoded, replies_to}
 use Rattle.h2_log.specs.LogSteps.{read, with_sent, with_reported, with_verdict}
 use Rattle.h2_log.specs.ItemEffects.{events_of, discarded_flow, encoder_after_settings}
 use Rattle.h2_log.specs.ItemEffects.{encoder_after_item}
-use Rattle.h2_machine.specs.End.{End, Entry, active_entry}
+use Rattle.h2_machine.specs.End.{End, Entry, active_entry, end_view}
 use Rattle.h2_machine.specs.Machine.{each_entry, shifted_entry, first_allowed, apply_settings}
 use Rattle.h2_machine.specs.Machine.{queue_output, with_encoder, after_ignored}
 use Rattle.h2_machine.specs.Represents.{entry_by}
@@ -57,6 +57,7 @@ applied h pairs =
         initial_window = value_after 4 h.peer.initial_window pairs;
         max_streams = min 1000 (value_after 3 (first_allowed h.reading.started h.peer.max_streams)
             pairs);
+        max_frame = value_after 5 h.peer.max_frame pairs;
       };
       encoder = encoder_after_settings h.encoder pairs;
     }
@@ -207,6 +208,8 @@ settings_read h c pairs begun g =
             ∙ sym (value_changed 4 first_window pairs c.received);
         max_streams = allowed_after h.reading.started h.peer.max_streams pairs c.received begun
             g.peer.max_streams;
+        max_frame = ap (λ (n : ℕ). value_after 5 n pairs) g.peer.max_frame
+            ∙ sym (value_changed 5 16384 pairs c.received);
       };
       own = g.own;
       goaway = record {
@@ -254,7 +257,8 @@ settings_ignored e log decoded pairs begun w g =
       dead_owing log (with_reported (with_sent (read log decoded item) (reply ∷ [])) []) 0
           (zero_dead (core log)),
     ))
-    (wrote_connection e.role e.failed e.output.waiting (read log decoded item) reply [] w)
+    (wrote_connection e.role e.failed e.output.waiting (read log decoded item)
+    (end_view e).max_payload (Settings true []) w)
     g.windows.unreturned
     (quiet_wrote (applied (core_facts e) pairs) (settled (core log) pairs) reply e.windows.recv
     reply_quiet (λ j some. reply_gives j) (omega (arith, reply_gives 0))

@@ -131,6 +131,7 @@ ack_advances h c values waits most g =
           initial_window = sym w.initial_window;
           max_streams = λ server. sym (ap (λ (n : ℕ). own_value 3 100 n c.sent) first
               ∙ w.max_streams server);
+          max_frame = sym w.max_frame;
         };
         awaits = sym (le-ltb (settings_count c.sent) (settings_count c.sent) (omega arith));
         awaited = λ others is. absurd (cc);

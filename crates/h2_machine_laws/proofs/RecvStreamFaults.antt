@@ -21,7 +21,7 @@ use Rattle.h2_log.specs.LogSteps.{with_verdict}
 use Rattle.h2_log.specs.ItemEffects.{events_of, discarded_flow, table_after}
 use Rattle.h2_log.specs.ItemEffects.{encoder_after_item}
 use Rattle.h2_log.specs.View.{StreamView}
-use Rattle.h2_machine.specs.End.{End, Streams, reset_entry, stream_at, owed_entry}
+use Rattle.h2_machine.specs.End.{End, Streams, end_view, reset_entry, stream_at, owed_entry}
 use Rattle.h2_machine.specs.Machine.{with_table_after, queue_output, reset_stream}
 use Rattle.h2_machine.specs.Machine.{after_stream_fault, is_fresh, is_one}
 use Rattle.h2_machine_laws.proofs.CallReset.{others_same, reset_here}
@@ -227,7 +227,7 @@ active_fault e log decoded i code recv n item common apart used gives takes is k
     (ResetEvent i code true ∷ []) _ _
     (fault_owing e log decoded i code n item is alive g)
     (wrote_connection e.role e.failed e.output.waiting (read log decoded item)
-    (alone (Reset i code)) [] w) g.windows.unreturned
+    (end_view e).max_payload (Reset i code) w) g.windows.unreturned
     (fault_advances (core_facts e) c i code item decoded recv streams common gives takes
     kept (fault_streams (core_facts e) c i code (is_one (is_some (stream_at e i))) item common apart
     used alive taken one g) g)

@@ -12,7 +12,7 @@ use Rattle.h2_log.specs.Log.{Log, active, last_processed}
 use Rattle.h2_log.specs.LogSteps.{used, with_failure, took_part, took_fault, took_out_of_memory}
 use Rattle.h2_log.specs.Histories.{IsLog, TakesOctets, TakesPart, TakesFault, MayRunOutOfMemory}
 use Rattle.h2_log.specs.Histories.{took_some, met_fault, ran_out_of_memory}
-use Rattle.h2_machine.specs.End.{Streams, End}
+use Rattle.h2_machine.specs.End.{Streams, End, end_view}
 use Rattle.h2_machine.specs.Machine.{fail}
 use Rattle.h2_machine.specs.Represents.{Represents, RepresentsWhileUp}
 use Rattle.h2_machine_laws.specs.Bounds.{KeepsConnectionWindow}
@@ -68,8 +68,8 @@ failing_represents : (values : Values) (e : End) (log : Log) (code : Code) (last
     (with_failure code other log)
 failing_represents values e log code last other came same connection_facts low streams whole =
     represents_by values (fail code last e) (with_failure code other log) came
-    (fails_connection e.role e.failed e.output.waiting log code last other same
-    connection_facts) (failing_streams e.streams log code other low streams)
+    (fails_connection e.role e.failed e.output.waiting log (end_view e).max_payload code last other
+    same connection_facts) (failing_streams e.streams log code other low streams)
     (λ up. absurd (cc)) (record { whole = whole.whole; used = whole.used })
 
 -- The last stream that was processed is the log's.

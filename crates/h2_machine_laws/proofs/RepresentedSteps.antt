@@ -9,7 +9,7 @@ use Rattle.h2_machine.specs.End.{end_view, End}
 use Rattle.h2_log.specs.LogView.{log_view}
 use Rattle.h2_log.specs.View.{View}
 use Rattle.h2_log.specs.Acts.{Values, Act, Answer, IsTypedAct}
-use Rattle.h2_log.specs.Log.{Log, active, released, unreleased}
+use Rattle.h2_log.specs.Log.{Log, active, released, unreleased, max_payload_sent}
 use Rattle.h2_log.specs.States.{is_active}
 use Rattle.h2_log.specs.LogSteps.{with_sent, with_unreturned, with_credit_returned, owed_at_close}
 use Rattle.h2_log.specs.LogCalls.{called, before_put_out, MayAnswer, with_call}
@@ -25,7 +25,7 @@ use Rattle.h2_machine_laws.proofs.ConservedBySteps.{holds, is_whole}
 use Rattle.h2_machine_laws.proofs.LogCore.{core, core_facts, StreamsOf, Going, going, runs}
 use Rattle.h2_machine_laws.proofs.SentConnectionItems.{widened_advances}
 use Rattle.h2_machine_laws.proofs.SentQuietItems.{unreturned_advances, called_advances}
-use Rattle.h2_machine_laws.proofs.ViewsAgree.{view_beside, views_agree}
+use Rattle.h2_machine_laws.proofs.ViewsAgree.{view_beside, views_agree, payload_agrees}
 use Rattle.h2_machine_laws.proofs.WaitingOutput.{OutputOf, wrote_output, waits_much}
 use Rattle.h2_log_laws.proofs.CreditCases.{both_by}
 use Rattle.h2_log_laws.proofs.InvariantLogs.{log_represents}
@@ -93,13 +93,16 @@ represents_after values e log act answer represents typed may accepted is =
 
 -- Items are written, where the end represents the log with them but for what waits.
 pub wrote_up : (e f : End) (log : Log) (items : List Item) → f.role ≡ log.role → f.failed ≡ None
-    → log.failed ≡ None → OutputOf e log → f.reading.started ≡ not (length log.frames == 0)
+    → log.failed ≡ None → f.peer ≡ e.peer → OutputOf e log
+    → f.reading.started ≡ not (length log.frames == 0)
     → Going f (record (core log) { sent = items ++ log.sent })
     → Up (record f { output = record f.output { waiting = (queue_output e items).output.waiting } })
     (with_sent log items)
 unfolding with_sent
-wrote_up e f log items role up same waits started run =
-    by items (wrote_output e log items waits) run
+wrote_up e f log items role up same peer waits started run =
+    let most : (end_view e).max_payload ≡ max_payload_sent log =
+    rw (← peer) (payload_agrees f.peer log.received run.peer) in
+    by items (wrote_output e log items most waits) run
   where
     by : (items : List Item) → OutputOf (queue_output e items) (with_sent log items)
         → Going f (record (core log) { sent = items ++ log.sent })
@@ -143,7 +146,7 @@ return_credit_up e log is =
           record e.windows { unreturned = 0; recv = e.windows.recv + e.windows.unreturned };
     })
     (record log { unreturned = 0 }) (alone (WindowUpdate 0 e.windows.unreturned) ∷ [])
-    is.role is.up is.same
+    is.role is.up is.same refl
     is.waits is.started wide in
     subst (λ (n : ℕ). Up (return_credit e)
     (with_sent (record log { unreturned = 0 }) (alone (WindowUpdate 0 n) ∷ [])))

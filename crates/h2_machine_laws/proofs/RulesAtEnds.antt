@@ -16,8 +16,8 @@ use Rattle.h2_block.specs.Grouping.{Item, alone}
 use Rattle.h2_log.specs.ItemRules.{Decoded, overflows_by, overflows_stream}
 use Rattle.h2_log.specs.ItemRules.{is_stream_fault, replies_to, verdict_by_rules}
 use Rattle.h2_log.specs.ItemRules.{verdict_of}
-use Rattle.h2_log.specs.Items.{stream_of_item}
-use Rattle.h2_log.specs.Limits.{max_resets, max_output}
+use Rattle.h2_log.specs.Items.{stream_of_item, encoding_of_item, encoding_of_items}
+use Rattle.h2_log.specs.Limits.{max_resets, max_output, max_frame_size_sent}
 use Rattle.h2_log.specs.Settings.{is_server}
 use Rattle.h2_log.specs.States.{Idle, Active, greatest_number}
 use Rattle.h2_log.specs.Verdicts.{Verdict, StreamFault, NoEvent}
@@ -40,7 +40,16 @@ use Rattle.h2_machine_laws.proofs.RecvVerdictCases.{update_is_fault}
 -- Items fit where the output keeps to its limit with them.
 abbrev pub HasSpace : End → List Item → Type 0
 HasSpace e items =
-    length e.output.waiting ≤ max_output → length e.output.waiting + size_of items ≤ max_output
+    length e.output.waiting ≤ max_output
+    → length e.output.waiting + size_of (end_view e).max_payload items ≤ max_output
+
+-- What is replied is written alike, whatever the greatest payload is.
+replies_alike : (most other : ℕ) (v : Verdict) (item : Item)
+    → encoding_of_items most (replies_to v item) ≡ encoding_of_items other (replies_to v item)
+unfolding replies_to encoding_of_items encoding_of_item
+replies_alike most other NoEvent (alone (Settings false pairs)) = refl
+replies_alike most other NoEvent (alone (Ping false octets)) = refl
+replies_alike most other v item = refl
 
 -- The verdict on an item that isn't that of a limit is the one by the rules; what is replied fits;
 -- and fewer streams were reset than may be, where it is a fault of one.
@@ -52,7 +61,9 @@ unfolding verdict_of
 verdict_says e decoded item u is continues =
     let limits = within_limits _ _ _ _ u is continues in (
       limits.0,
-      subst (λ (v : Verdict). HasSpace e (replies_to v item)) limits.0 (fits_by _ _ limits.2),
+      subst (λ (v : Verdict). HasSpace e (replies_to v item)) limits.0
+          (λ within. rw (replies_alike (end_view e).max_payload max_frame_size_sent
+          (verdict_by_rules (end_view e) decoded item) item) (fits_by _ _ limits.2 within)),
       subst (λ (v : Verdict). (is_stream_fault v && nat_le max_resets e.streams.resets) ≡ false)
           limits.0 limits.1,
     )

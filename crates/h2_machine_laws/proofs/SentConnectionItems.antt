@@ -23,6 +23,8 @@ use Rattle.h2_log.specs.CallRules.{changed_pairs}
 use Rattle.h2_machine.specs.End.{Streams, OwnSettings}
 use Rattle.h2_machine.specs.Represents.{RepresentsOwn, goaway_sent_last}
 use Rattle.h2_log_laws.proofs.SettingsLists.{up_to_next, up_to_here, settings_one, value_changed}
+use Rattle.h2_log_laws.proofs.SettingsLists.{value_named, changed_frame}
+use Rattle.h2_log_laws.proofs.AllowedHistories.{changed_window}
 use Rattle.h2_log_laws.proofs.ReaderStates.{active_parts}
 use Rattle.h2_log_laws.proofs.LogInvariant.{active_before}
 use Rattle.h2_log_laws.proofs.InvariantSteps.{update_here}
@@ -120,14 +122,18 @@ ping_advances h c octets enough g =
       ping = rw waits refl;
     }
 
--- the values of SETTINGS that change them
-changed_values : (role : Role) (values : Values) (a b c : ℕ)
-    → (value_after 1 a (changed_pairs role values) ≡ values.table_limit)
-    × (value_after 4 b (changed_pairs role values) ≡ values.initial_window) × (is_server role ≡ true
-    → value_after 3 c (changed_pairs role values) ≡ values.max_streams)
+-- the values of SETTINGS that change them, but for the initial window and the greatest frame
+changed_values : (role : Role) (written : ℕ) (values : Values) (a b : ℕ)
+    → (value_after 1 a (changed_pairs role written values) ≡ values.table_limit)
+    × (is_server role ≡ true
+    → value_after 3 b (changed_pairs role written values) ≡ values.max_streams)
 unfolding value_after changed_pairs
-changed_values Client values a b c = (refl, refl, λ server. cc)
-changed_values Server values a b c = (refl, refl, λ server. refl)
+changed_values Client written values a b =
+    (value_named 1 values.table_limit written values.max_frame [], λ server. cc)
+changed_values Server written values a b = (
+  value_named 1 values.table_limit written values.max_frame [],
+  λ server. value_named 3 values.max_streams written values.max_frame [],
+)
 
 -- a value that was changed, once all SETTINGS are acknowledged
 changed_value : (id first : ℕ) (pairs : List (ℕ × ℕ)) (items : List Item)
@@ -153,13 +159,13 @@ value_stays id first count pairs items enough =
 own_changed : (own : OwnSettings) (role : Role) (count : ℕ) (sent : List Item) (values : Values)
     → count ≤ settings_count sent → 1 ≤ settings_count sent → RepresentsOwn own role count sent
     → RepresentsOwn (record own { awaited = Some values }) role count
-    (alone (Settings false (changed_pairs role values)) ∷ sent)
+    (alone (Settings false (changed_pairs role (value_read 5 16384 sent) values)) ∷ sent)
 unfolding settings_count
 own_changed own role count sent values enough some g =
-    let pairs = changed_pairs role values in
+    let written = value_read 5 16384 sent in
+    let pairs = changed_pairs role written values in
     let w = g.in_force in
-    let set = changed_values role values (value_read 1 4096 sent) (value_read 4 first_window sent)
-    (value_read 3 100 sent) in
+    let set = changed_values role written values (value_read 1 4096 sent) (value_read 3 100 sent) in
     record {
       in_force = record {
         table_limit = w.table_limit ∙ sym (value_stays 1 4096 count pairs sent enough);
@@ -167,14 +173,17 @@ own_changed own role count sent values enough some g =
             ∙ sym (value_stays 4 first_window count pairs sent enough);
         max_streams = λ server. w.max_streams server
             ∙ sym (value_stays 3 100 (max 1 count) pairs sent (omega arith));
+        max_frame = w.max_frame ∙ sym (value_stays 5 16384 count pairs sent enough);
       };
       awaits = sym (lt-ltb _ _ (omega (arith, settings_one pairs)));
       awaited = λ others is.
           let same : values ≡ others = cc in
           rw (← same) (record {
             table_limit = changed_value 1 4096 pairs sent ∙ set.0;
-            initial_window = changed_value 4 first_window pairs sent ∙ set.1;
-            max_streams = λ server. changed_value 3 100 pairs sent ∙ set.2 server;
+            initial_window = changed_value 4 first_window pairs sent
+                ∙ changed_window role written values (value_read 4 first_window sent);
+            max_streams = λ server. changed_value 3 100 pairs sent ∙ set.1 server;
+            max_frame = changed_value 5 16384 pairs sent ∙ changed_frame role written values;
           });
     }
 
@@ -182,10 +191,10 @@ own_changed own role count sent values enough some g =
 pub settings_advance : (h : CoreFacts) (c : Core) (values : Values)
     → confirmed c ≤ settings_count c.sent → 1 ≤ settings_count c.sent → Advances h c
     → Advances (record h { own = record h.own { awaited = Some values } })
-    (sends c (alone (Settings false (changed_pairs c.role values))))
+    (sends c (alone (Settings false (changed_pairs c.role (value_read 5 16384 c.sent) values))))
 unfolding computing
 settings_advance h c values enough some g =
-    let pairs = changed_pairs c.role values in
+    let pairs = changed_pairs c.role (value_read 5 16384 c.sent) values in
     let item : Item = alone (Settings false pairs) in
     record {
       reading = g.reading;

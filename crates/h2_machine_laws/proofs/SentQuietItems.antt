@@ -125,6 +125,7 @@ own_sent own role count sent item none g =
         initial_window = w.initial_window ∙ sym (own_quiet 4 first_window count item sent none);
         max_streams = λ server. w.max_streams server
             ∙ sym (own_quiet 3 100 (max 1 count) item sent none);
+        max_frame = w.max_frame ∙ sym (own_quiet 5 16384 count item sent none);
       };
       awaits = g.awaits ∙ ap (nat_lt count) (sym counted);
       awaited = λ values is.
@@ -136,6 +137,8 @@ own_sent own role count sent item none g =
                 none ∙ a.initial_window);
             max_streams = λ server. rw counted (own_quiet 3 100 (settings_count sent) item sent none
                 ∙ a.max_streams server);
+            max_frame = rw counted (own_quiet 5 16384 (settings_count sent) item sent none
+                ∙ a.max_frame);
           };
     }
 

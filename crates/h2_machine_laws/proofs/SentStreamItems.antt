@@ -63,6 +63,7 @@ own_adds own role received id count sent news n end a g =
         table_limit = w.table_limit ∙ sym (a.own 1 4096 count);
         initial_window = w.initial_window ∙ sym (a.own 4 first_window count);
         max_streams = λ server. w.max_streams server ∙ sym (a.own 3 100 (max 1 count));
+        max_frame = w.max_frame ∙ sym (a.own 5 16384 count);
       };
       awaits = g.awaits ∙ ap (nat_lt count) (sym counted);
       awaited = λ values is.
@@ -73,6 +74,7 @@ own_adds own role received id count sent news n end a g =
                 ∙ v.initial_window);
             max_streams = λ server. rw counted (a.own 3 100 (settings_count sent)
                 ∙ v.max_streams server);
+            max_frame = rw counted (a.own 5 16384 (settings_count sent) ∙ v.max_frame);
           };
     }
 

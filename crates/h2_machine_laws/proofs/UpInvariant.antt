@@ -11,7 +11,7 @@ use Rattle.h2_log.specs.Items.{data_on, increment_on, is_block_on, opens_from, e
 use Rattle.h2_log.specs.Items.{is_goaway, one_ping, total, greatest_block}
 use Rattle.h2_log.specs.Events.{Event, one_acked, one_pong, reported_total, greatest_processed}
 use Rattle.h2_log.specs.Events.{reports_unprocessed}
-use Rattle.h2_log.specs.Settings.{is_server, settings_count, value_read}
+use Rattle.h2_log.specs.Settings.{is_server, settings_count}
 use Rattle.h2_log.specs.States.{openings, is_active, is_used}
 use Rattle.h2_log.specs.Log.{Log}
 use Rattle.h2_log.specs.declared.role.Role.{Role}
@@ -39,7 +39,6 @@ pub record IsUpLogBy (role : Role) (received sent : List Item) (reported : List 
   where
     pub acks : reported_total one_acked reported ≤ settings_count sent
     pub pongs : reported_total one_pong reported ≤ total one_ping sent
-    pub size : 16384 ≤ value_read 5 16384 received
     pub processed : is_server role ≡ true → list_any is_goaway sent ≡ false → (i : ℕ)
         → is_active role i received sent reported ≡ true → i ≤ greatest_processed reported
     pub clear : role ≡ Client → (i : ℕ) → greatest_block sent < i → IsUnseen received reported i
@@ -69,7 +68,6 @@ up_log_more role received items sent reported f =
     record {
       acks = omega (arith, f.acks, settings_after items sent);
       pongs = omega (arith, f.pongs, total_after one_ping items sent);
-      size = f.size;
       processed = λ server none i active_is.
           let parts = active_parts role i received (items ++ sent) reported active_is in
           let opened : list_any (is_block_on i) (openings role received sent) ≡ true =
@@ -93,7 +91,6 @@ pub record Reads (role : Role) (received sent news : List Item) (reported events
       sent
   pub pongs : reported_total one_pong events + reported_total one_pong reported ≤ total one_ping
       sent
-  pub size : 16384 ≤ value_read 5 16384 (item ∷ received)
   pub processed : (i : ℕ) → is_block_on i item ≡ true → is_server role ≡ true
       → list_any is_goaway sent ≡ false → list_any (resets i) news ≡ false
       → is_active role i (item ∷ received) news (events ++ reported) ≡ true
@@ -171,7 +168,6 @@ up_log_read role received items sent news reported events item is f r =
             items sent,
         ap (total one_ping) is,
       );
-      size = r.size;
       processed = λ server none i active_is.
           let lasts = active_unreset role i (item ∷ received) news (events ++ reported) active_is in
           active_processed_by role received items sent news reported events item i

@@ -14,7 +14,7 @@ use Rattle.h2_log.specs.Items.{resets, stream_of_item, total, greatest_block, is
 use Rattle.h2_log.specs.Events.{Event, UnprocessedEvent, one_acked, one_pong, reported_total}
 use Rattle.h2_log.specs.Events.{greatest_processed, processed_by, reports_unprocessed}
 use Rattle.h2_log.specs.Acts.{Values}
-use Rattle.h2_log.specs.Settings.{is_server, settings_count, value_read}
+use Rattle.h2_log.specs.Settings.{is_server, settings_count}
 use Rattle.h2_log.specs.States.{least_block}
 use Rattle.h2_log.specs.Log.{Log, next_unprocessed}
 use Rattle.h2_log.specs.Verdicts.{Verdict, ConnectionFault, StreamFault}
@@ -109,7 +109,6 @@ unprocessed_up_log role received sent reported n low f =
     record {
       acks = omega (arith, f.acks);
       pongs = omega (arith, f.pongs);
-      size = f.size;
       processed = λ server none i active_is.
           let was = f.processed server none i
           (active_before role i [] [] received sent (UnprocessedEvent n ∷ []) reported active_is
@@ -129,13 +128,12 @@ unprocessed_up_log role received sent reported n low f =
 
 -- A new end's log has it.
 begins_up_log : (role : Role) (values : Values) → IsUpLog (opened role values)
-unfolding opened with_sent reported_total value_read total settings_count resets greatest_block
+unfolding opened with_sent reported_total total settings_count resets greatest_block
     reports_unprocessed
 begins_up_log role values =
     record {
       acks = omega arith;
       pongs = omega arith;
-      size = omega arith;
       processed = λ server none i active_is. absurd
           (both_ways false refl
           ((ap (list_any (is_block_on i)) (sym (openings_server role [] _ server)))

@@ -15,7 +15,7 @@ use Rattle.h2_log.specs.Items.{data_on, increment_on, is_block_on, ends, resets,
 use Rattle.h2_log.specs.Items.{is_goaway_below, one_ping, total, greatest_block, stream_of_item}
 use Rattle.h2_log.specs.Events.{one_acked, one_pong, reported_total, greatest_processed}
 use Rattle.h2_log.specs.Events.{processed_by}
-use Rattle.h2_log.specs.Settings.{settings_count, value_read}
+use Rattle.h2_log.specs.Settings.{settings_count}
 use Rattle.h2_log.specs.States.{State, Idle, Active, ClosedByUs, Closed, is_above, is_closed_by_us}
 use Rattle.h2_log.specs.States.{when}
 use Rattle.h2_log.specs.Log.{Log, acked, state, ping_waits, newest_ping}
@@ -31,8 +31,6 @@ use Rattle.h2_log_laws.proofs.ItemLists.{any_after, total_one, total_none}
 use Rattle.h2_log_laws.proofs.ReaderStates.{state_idle}
 use Rattle.h2_log_laws.proofs.LogViewLemmas.{closed_by_us_is}
 use Rattle.h2_log_laws.proofs.LogViewLemmas.{events_unnamed}
-use Rattle.h2_log_laws.proofs.FrameSizes.{pairs_enough}
-use Rattle.h2_log_laws.proofs.RulesByTests.{no_settings_fault}
 use Rattle.h2_machine_laws.proofs.UpInvariant.{IsUpLog, Reads, idle_above}
 
 -- Where a number is idle, at a client, a block on it is a fault of the connection.
@@ -134,21 +132,6 @@ pongs_of log decoded Reported (alone (Ping true octets)) is f =
     )
 pongs_of log decoded v item is f = omega (arith, f.pongs)
 
--- Frame sizes that are read aren't below 16,384.
-size_of : (log : Log) (decoded : Option Decoded) (v : Verdict) (item : Item)
-    → verdict_by_rules (log_view log) decoded item ≡ v
-    → ((code : Code) → v ≡ ConnectionFault code → ⊥)
-    → IsUpLog log → 16384 ≤ value_read 5 16384 (item ∷ log.received)
-unfolding value_read verdict_by_rules
-size_of log decoded (ConnectionFault code) (alone (Settings false pairs)) is none f =
-    absurd (none code refl)
-size_of log decoded (StreamFault code) (alone (Settings false pairs)) is none f =
-    absurd (fault_resets _ code is)
-size_of log decoded Reported (alone (Settings false pairs)) is none f = absurd (fault_reported _ is)
-size_of log decoded NoEvent (alone (Settings false pairs)) is none f =
-    pairs_enough log _ pairs (no_settings_fault _ is) f.size
-size_of log decoded v item is none f = f.size
-
 -- GOAWAY below a number is GOAWAY.
 below_goaway : (i : ℕ) (sent : List Item) → list_any (is_goaway_below i) sent ≡ true
     → list_any is_goaway sent ≡ true
@@ -236,7 +219,6 @@ item_reads log decoded v item items news is line none reset f =
     record {
       acks = acks_of log decoded v item is f;
       pongs = pongs_of log decoded v item is f;
-      size = size_of log decoded v item is none f;
       processed = λ i here server stays kept active_is. active_processed log decoded v item items
           news i is line none reset here stays kept;
       clear = λ client i above.

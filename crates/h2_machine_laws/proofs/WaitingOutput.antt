@@ -7,17 +7,16 @@ use Rattle.std.proofs.Common.{length-append, length-drop}
 use Rattle.std.proofs.lemmas.List.{drop-append-le}
 use Rattle.h2_frame.specs.declared.code.Code.{Code}
 use Rattle.h2_frame.specs.Codes.{code_number}
-use Rattle.h2_frame.specs.Frames.{GoAway, WindowUpdate}
+use Rattle.h2_frame.specs.Frames.{Frame, GoAway, WindowUpdate}
 use Rattle.h2_block.specs.Grouping.{Item, alone}
 use Rattle.h2_log.specs.declared.role.Role.{Role}
 use Rattle.h2_log.specs.Items.{encoding_of_items}
 use Rattle.h2_log.specs.Events.{Event}
-use Rattle.h2_log.specs.Limits.{max_frame_size_sent}
 use Rattle.h2_log.specs.Log.{Log, waiting, output, max_payload_sent}
-use Rattle.h2_log.proofs.SentPayloads.{most_is_limit}
+use Rattle.h2_log.proofs.SentPayloads.{alone_alike}
 use Rattle.h2_log.specs.LogSteps.{with_sent, with_reported, with_failure}
 use Rattle.h2_log.specs.LogSteps.{with_credit_returned}
-use Rattle.h2_machine.specs.End.{End}
+use Rattle.h2_machine.specs.End.{End, end_view}
 use Rattle.h2_machine.specs.Machine.{queue_output}
 use Rattle.h2_log.specs.Acts.{Values}
 use Rattle.h2_machine.specs.Represents.{Represents, RepresentsOutput}
@@ -58,18 +57,19 @@ output_more octets given written more s =
       given = omega (arith, s.given, length-append written more);
     }
 
--- So do items.
-pub wrote_output : (e : End) (log : Log) (items : List Item) → OutputOf e log
+-- So do items, where the end has the log's greatest payload.
+pub wrote_output : (e : End) (log : Log) (items : List Item)
+    → (end_view e).max_payload ≡ max_payload_sent log → OutputOf e log
     → OutputOf (queue_output e items) (with_sent log items)
 unfolding with_sent encoding_of_items
-wrote_output e log [] is =
+wrote_output e log [] same is =
     record { waiting = append-nil e.output.waiting ∙ is.waiting; given = is.given }
-wrote_output e log (item ∷ items) is =
+wrote_output e log (item ∷ items) same is =
     let more = output_more e.output.waiting log.given log.written
     (encoding_of_items (max_payload_sent log) (item ∷ items)) is in
     record {
       waiting = ap (λ (most : ℕ). e.output.waiting ++ encoding_of_items most (item ∷ items))
-          (sym (most_is_limit log.received)) ∙ more.waiting;
+          same ∙ more.waiting;
       given = more.given;
     }
 
@@ -78,31 +78,31 @@ pub waits_much : (e : End) (log : Log) → OutputOf e log → length e.output.wa
 unfolding waiting output
 waits_much e log w = ap length w.waiting ∙ length-drop log.given log.written
 
--- Items that are written wait.
-pub wrote_connection : (role : Role) (failed : Option Code) (waits : List ℕ) (log : Log)
-    (item : Item) (items : List Item) → ConnectionFacts role failed waits log
-    → ConnectionFacts role failed (waits ++ encoding_of_items max_frame_size_sent (item ∷ items))
-    (with_sent log (item ∷ items))
+-- A frame alone that is written waits, whatever the greatest payload is.
+pub wrote_connection : (role : Role) (failed : Option Code) (waits : List ℕ) (log : Log) (most : ℕ)
+    (frame : Frame) → ConnectionFacts role failed waits log
+    → ConnectionFacts role failed (waits ++ encoding_of_items most (alone frame ∷ []))
+    (with_sent log (alone frame ∷ []))
 unfolding with_sent
-wrote_connection role failed waits log item items s =
+wrote_connection role failed waits log most frame s =
     record {
       same_role = s.same_role;
       same_failed = s.same_failed;
-      output = rw (most_is_limit log.received) (output_more waits log.given log.written
-          (encoding_of_items max_frame_size_sent (item ∷ items)) s.output);
+      output = rw (alone_alike most (max_payload_sent log) frame) (output_more waits log.given
+          log.written (encoding_of_items (max_payload_sent log) (alone frame ∷ [])) s.output);
     }
 
 -- Where the connection fails, GOAWAY waits.
 pub fails_connection : (role : Role) (failed : Option Code) (waits : List ℕ) (log : Log)
-    (code : Code) (last other : ℕ) → last ≡ other
+    (most : ℕ) (code : Code) (last other : ℕ) → last ≡ other
     → ConnectionFacts role failed waits log
     → ConnectionFacts role (Some code) (waits
-    ++ encoding_of_items max_frame_size_sent (alone (GoAway last (code_number code) []) ∷ []))
+    ++ encoding_of_items most (alone (GoAway last (code_number code) []) ∷ []))
     (with_failure code other log)
 unfolding with_sent
-fails_connection role failed waits log code last other same s =
-    let wrote = wrote_connection role failed waits log (alone (GoAway other (code_number code) []))
-    [] s in
+fails_connection role failed waits log most code last other same s =
+    let wrote = wrote_connection role failed waits log most (GoAway other (code_number code) []) s
+    in
     rw same (record { same_role = wrote.same_role; same_failed = refl; output = wrote.output })
 
 -- Events wait for nothing.
@@ -115,11 +115,12 @@ reports_connection role failed waits log (event ∷ events) s = s
 
 -- What is unreturned is returned.
 pub credit_connection : (role : Role) (failed : Option Code) (waits : List ℕ) (log : Log)
-    (more unreturned : ℕ) → unreturned ≡ log.unreturned → ConnectionFacts role failed waits log
+    (most more unreturned : ℕ) → unreturned ≡ log.unreturned
+    → ConnectionFacts role failed waits log
     → ConnectionFacts role failed (waits
-    ++ encoding_of_items max_frame_size_sent (alone (WindowUpdate 0 (unreturned + more)) ∷ []))
+    ++ encoding_of_items most (alone (WindowUpdate 0 (unreturned + more)) ∷ []))
     (with_credit_returned (record log { unreturned = log.unreturned + more }))
 unfolding with_sent
-credit_connection role failed waits log more unreturned same s =
-    rw same (wrote_connection role failed waits log (alone (WindowUpdate 0 (log.unreturned + more)))
-    [] s)
+credit_connection role failed waits log most more unreturned same s =
+    rw same (wrote_connection role failed waits log most
+    (WindowUpdate 0 (log.unreturned + more)) s)

@@ -62,15 +62,17 @@ pub extern "C" fn measure_cut(
     cutting::cut_rounds(alloc, octets, piece, rounds, counts)
 }
 
-/// Serves a client's octets, in pieces of so many: each request is answered as it ends.
+/// Serves a client's octets, in pieces of so many: each request is answered as it ends, with a body
+/// of so many octets, 65,536 at most.
 #[unsafe(no_mangle)]
 pub extern "C" fn measure_serve(
     alloc: Global,
     octets: &[u8],
     piece: usize,
+    body: usize,
     counts: &mut Counts,
 ) -> i32 {
-    serving::serve_octets(alloc, octets, piece, counts)
+    serving::serve_octets(alloc, octets, piece, body, counts)
 }
 
 /// Serves a client's octets with the README's server. The octets that are counted are those of the

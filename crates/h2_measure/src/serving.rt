@@ -5,18 +5,14 @@ use h2_conn::{BadConfig, Config, Conn, ConnFault, Event, Refusal};
 use hpack::Field;
 use std::alloc::{AllocError, Global};
 
-/// The octets of each answer's body.
-const BODY: usize = 1_000;
-
 /// Room for the output of a piece.
 const OUTPUT_ROOM: usize = 1 << 18;
 
-/// The fields of each answer.
-const HEAD: [(&[u8], &[u8]); 3] = [
-    (b":status", b"200"),
-    (b"content-type", b"text/plain"),
-    (b"content-length", b"1000"),
-];
+/// The greatest frame that is read.
+const MAX_FRAME: u32 = 1_048_576;
+
+/// The fields of each answer, but for its length.
+const HEAD: [(&[u8], &[u8]); 2] = [(b":status", b"200"), (b"content-type", b"text/plain")];
 
 /// An allocation of so many octets shows the driver when to look at what is held.
 const MARK: usize = 0x00BE_1C0E;
@@ -67,21 +63,33 @@ struct Answers {
 }
 
 /// Serves the octets.
-pub(crate) fn serve_octets(alloc: Global, octets: &[u8], piece: usize, counts: &mut Counts) -> i32 {
-    match serve(alloc, octets, piece, counts) {
+pub(crate) fn serve_octets(
+    alloc: Global,
+    octets: &[u8],
+    piece: usize,
+    body: usize,
+    counts: &mut Counts,
+) -> i32 {
+    match serve(alloc, octets, piece, body, counts) {
         Ok(()) => 0,
         Err(_) => 1,
     }
 }
 
-fn serve(alloc: Global, octets: &[u8], piece: usize, counts: &mut Counts) -> Result<(), Stop> {
-    let mut answers = Answers::new(alloc)?;
+fn serve(
+    alloc: Global,
+    octets: &[u8],
+    piece: usize,
+    body: usize,
+    counts: &mut Counts,
+) -> Result<(), Stop> {
+    let mut answers = Answers::new(alloc, body)?;
     answers.serve(alloc, octets, piece, counts)
 }
 
 /// A server's end.
 fn new_conn(alloc: Global) -> Result<Box<Conn>, Stop> {
-    let config = Config::new(4_096, 65_535, 1_000)?;
+    let config = Config::new(4_096, 65_535, 1_000)?.with_max_frame(MAX_FRAME)?;
     let conn = Conn::server(alloc, config)?;
     Box::new(alloc, conn).map_err(|_| Stop::Memory)
 }
@@ -92,20 +100,23 @@ fn mark(alloc: Global) -> Result<(), AllocError> {
     Ok(())
 }
 
-/// Those fields, owned.
-fn answer_head(alloc: Global) -> Result<Vec<Field>, AllocError> {
+/// Those fields, owned, and the length of the body.
+fn answer_head(alloc: Global, body: usize) -> Result<Vec<Field>, AllocError> {
     let mut head = Vec::new(alloc);
     for (name, value) in HEAD {
         head.push(Field::copy_of(alloc, name, value, false)?)?;
     }
+    let mut length = String::new(alloc);
+    write!(length, "{body}")?;
+    head.push(Field::copy_of(alloc, b"content-length", length.as_bytes(), false)?)?;
     Ok(head)
 }
 
 impl Answers {
-    fn new(alloc: Global) -> Result<Answers, AllocError> {
-        let body = vec![in alloc; 0x61u8; BODY]?;
+    fn new(alloc: Global, length: usize) -> Result<Answers, AllocError> {
+        let body = vec![in alloc; 0x61u8; length]?;
         let output = Vec::with_capacity(alloc, OUTPUT_ROOM)?;
-        let head = answer_head(alloc)?;
+        let head = answer_head(alloc, length)?;
         Ok(Answers { head, body, output })
     }
 
