@@ -1,7 +1,7 @@
 -- What calls add to the output.
 use Rattle.std.proofs.Common.{◌≡◌, ℕ, ◌+◌, ◌-◌, ◌*◌, ◌/◌, ◌≤◌, Bool, List, [], ◌∷◌, length, refl}
 use Rattle.std.proofs.Common.{arith}
-use Rattle.std.proofs.Math.Nat.{div-mul-le_self}
+use Rattle.std.proofs.Math.Nat.{div-mul-le_self, mul-le-mul_left}
 use Rattle.std.proofs.lemmas.Nat.{le-div}
 use Rattle.hpack.specs.declared.types.field.Field.{Field}
 use Rattle.hpack.specs.Lists.{EncoderState, list_size}
@@ -32,10 +32,11 @@ pub octets_of_block : (most id : ℕ) (end : Bool) (octets : List ℕ)
 unfolding encoding_of_items encoding_of_item
 octets_of_block most id end octets = refl
 
--- A smaller number has no greater quotient.
-quotient_below : (a b n : ℕ) → a ≤ b → 1 ≤ n → a / n ≤ b / n
-quotient_below a b n below positive =
-    le-div (a / n) b n (omega arith) (omega (arith, div-mul-le_self a n))
+-- A smaller number has no greater quotient, by a number that is no smaller.
+quotient_below : (a b m n : ℕ) → a ≤ b → n ≤ m → 1 ≤ n → a / m ≤ b / n
+quotient_below a b m n below least positive =
+    le-div (a / m) b n (omega arith)
+    (omega (arith, div-mul-le_self a m, mul-le-mul_left (a / m) least))
 
 -- The octets of a block, by the size of its list.
 pub block_within : (state : EncoderState) (fields : List Field)
@@ -43,10 +44,13 @@ pub block_within : (state : EncoderState) (fields : List Field)
 block_within state fields =
     omega (arith, block_short state fields, most_octets-list_size fields)
 
--- The frames of a block have no more octets than there is room for.
-pub frames_within : (id : ℕ) (end : Bool) (octets : List ℕ) (most : ℕ) → length octets ≤ most
-    → length (encoding_of_frames (spread_frames 16384 id end octets))
-    ≤ most + 9 * (1 + most / 16384)
-frames_within id end octets most within =
-    let lower = quotient_below (length octets - 1) most 16384 (omega arith) (omega arith) in
-    omega (arith, length-spread_frames 16384 id end octets (omega arith), lower)
+-- The frames of a block have no more octets than there is room for, with any greatest payload of
+-- 16,384 octets or more.
+pub frames_within : (most id : ℕ) (end : Bool) (octets : List ℕ) (count : ℕ) → 16384 ≤ most
+    → length octets ≤ count
+    → length (encoding_of_frames (spread_frames most id end octets))
+    ≤ count + 9 * (1 + count / 16384)
+frames_within most id end octets count least within =
+    let fewer = quotient_below (length octets - 1) count most 16384 (omega arith) least
+    (omega arith) in
+    omega (arith, length-spread_frames most id end octets (omega arith), fewer)

@@ -91,7 +91,7 @@ data_sent : (e : End) (id : ℕ) (stream : StreamView) (octets : List ℕ) (end 
     → count ≡ data_count (end_view e) (Some stream) (length octets)
     → (count == 0 && not (length octets == 0 && end)) ≡ false
     → after_call e (SendData id octets end)
-    ≡ after_sent e id stream (data_items 16384 id octets end count) count
+    ≡ after_sent e id stream (data_items (end_view e).max_payload id octets end count) count
     (end && count == length octets)
 unfolding after_call
 data_sent e id stream octets end count active is some = rw (active, ← is, some)
@@ -112,17 +112,19 @@ pub data_written : (e : End) (id : ℕ) (stream : StreamView) (octets : List ℕ
     → (count == 0 && not (length octets == 0 && end)) ≡ false
     → count ≤ length octets → ends ≡ (end && count == length octets)
     → after_sent e id stream
-    (data_frames (length (take count octets) + 1) 16384 id (take count octets) ends)
+    (data_frames (length (take count octets) + 1) (end_view e).max_payload id (take count octets)
+    ends)
     (length (take count octets)) ends
     ≡ after_call e (SendData id octets end)
 data_written e id stream octets end count ends active is some within last =
+    let most = (end_view e).max_payload in
     let counted : length (take count octets) ≡ count = length-take-le count octets within in
-    ap (λ (n : ℕ). after_sent e id stream (data_frames (n + 1) 16384 id (take count octets) ends) n
+    ap (λ (n : ℕ). after_sent e id stream (data_frames (n + 1) most id (take count octets) ends) n
     ends) counted
-    ∙ ap (λ (n : ℕ). after_sent e id stream (data_frames n 16384 id (take count octets) ends) count
+    ∙ ap (λ (n : ℕ). after_sent e id stream (data_frames n most id (take count octets) ends) count
     ends) (add-one count)
-    ∙ ap (λ (b : Bool). after_sent e id stream (data_frames (suc count) 16384 id (take count octets)
+    ∙ ap (λ (b : Bool). after_sent e id stream (data_frames (suc count) most id (take count octets)
     b) count b) last
     ∙ ap (λ items. after_sent e id stream items count (end && count == length octets))
-    (sym (items_sent 16384 id octets end count some))
+    (sym (items_sent most id octets end count some))
     ∙ sym (data_sent e id stream octets end count active is some)

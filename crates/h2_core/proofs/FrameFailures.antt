@@ -161,6 +161,7 @@ table_sound e octets fields after sound says =
         send = sound.ranges.send;
         initial_window = sound.ranges.initial_window;
         own_window = sound.ranges.own_window;
+        own_frame = sound.ranges.own_frame;
         table_limit = sound.ranges.table_limit;
         awaited = sound.ranges.awaited;
         streams = λ i stream active.

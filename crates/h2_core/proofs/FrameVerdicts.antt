@@ -16,7 +16,7 @@ use Rattle.h2_block.specs.Grouping.{Item, alone, block}
 use Rattle.h2_log.specs.Settings.{is_server}
 use Rattle.h2_log.specs.States.{State, Idle, Active, ClosedByUs, Closed}
 use Rattle.h2_log.specs.Items.{stream_of_item, encoding_of_items}
-use Rattle.h2_log.specs.Limits.{max_list, max_output, max_resets}
+use Rattle.h2_log.specs.Limits.{max_list, max_frame_size_sent, max_output, max_resets}
 use Rattle.h2_log.specs.View.{StreamView, ended_in}
 use Rattle.h2_log.specs.Verdicts.{Verdict, ConnectionFault, StreamFault, NoEvent}
 use Rattle.h2_log.specs.Verdicts.{Reported, block_verdict, opening_verdict}
@@ -92,10 +92,10 @@ pub limits_of_fault : (e : End) (id : ℕ) (end : Bool) (octets : List ℕ) (dec
 unfolding verdict_of replies_to stream_of_item
 limits_of_fault e id end octets decoded code is =
     ap (λ (v : Verdict). over_limits e.streams.resets (length e.output.waiting)
-    (size_of (replies_to v (block id end octets))) v) is
+    (size_of max_frame_size_sent (replies_to v (block id end octets))) v) is
     ∙ limits_by_size e.streams.resets (length e.output.waiting)
-    (size_of (alone (ResetFrame id (code_number code)) ∷ [])) code
-    (size-reset id (code_number code))
+    (size_of max_frame_size_sent (alone (ResetFrame id (code_number code)) ∷ [])) code
+    (size-reset max_frame_size_sent id (code_number code))
 
 -- A fresh number is odd, at a server, above all that were used, and nothing is kept of it.
 pub record Fresh (e : End) (id : ℕ) : Type 0 where

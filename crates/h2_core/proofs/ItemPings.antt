@@ -9,7 +9,7 @@ use Rattle.hpack.specs.Choice.{same_octets}
 use Rattle.h2_frame.specs.declared.code.Code.TheVariants.{EnhanceYourCalm}
 use Rattle.h2_frame.specs.Frames.{Ping}
 use Rattle.h2_block.specs.Grouping.{alone}
-use Rattle.h2_log.specs.Limits.{max_output}
+use Rattle.h2_log.specs.Limits.{max_frame_size_sent, max_output}
 use Rattle.h2_log.specs.Verdicts.{ConnectionFault, NoEvent}
 use Rattle.h2_log.specs.ItemRules.{is_awaited_ping, verdict_by_rules, verdict_of, over_limits}
 use Rattle.h2_log.specs.ItemRules.{replies_to}
@@ -47,7 +47,7 @@ ping_verdict : (e : End) (octets : List ℕ) → length octets ≡ 8
     ≡ (if nat_lt max_output (length e.output.waiting + 17) then ConnectionFault EnhanceYourCalm
     else NoEvent)
 unfolding verdict_of verdict_by_rules over_limits replies_to
-ping_verdict e octets eight = rw (size-ping true octets, eight) refl
+ping_verdict e octets eight = rw (size-ping max_frame_size_sent true octets, eight) refl
 
 pub ping_too_much : (e : End) (octets : List ℕ) → length octets ≡ 8
     → max_output < length e.output.waiting + 17

@@ -9,6 +9,7 @@ use Rattle.h2_frame.specs.Codes.{code_number}
 use Rattle.h2_frame.specs.Frames.{Frame, Reset as ResetFrame}
 use Rattle.h2_block.specs.Grouping.{alone}
 use Rattle.h2_log.specs.Items.{encoding_of_items, stream_of_item}
+use Rattle.h2_log.specs.Limits.{max_frame_size_sent}
 use Rattle.h2_log.specs.Events.{Event, ResetEvent}
 use Rattle.h2_log.specs.View.{View}
 use Rattle.h2_log.specs.Verdicts.{Verdict, ConnectionFault, StreamFault, NoEvent, Reported}
@@ -58,7 +59,7 @@ pub reset_verdict_is : (e : End) (frame : Frame) (code : Code)
     ≡ (if is_over_limits e then ConnectionFault EnhanceYourCalm else StreamFault code)
 unfolding verdict_of over_limits replies_to
 reset_verdict_is e frame code is =
-    rw (is, size-reset (stream_of_item (alone frame)) (code_number code)) refl
+    rw (is, size-reset max_frame_size_sent (stream_of_item (alone frame)) (code_number code)) refl
 
 -- It is replied.
 pub reset_stands : (e : End) (frame : Frame) (code : Code)

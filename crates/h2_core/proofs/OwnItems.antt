@@ -18,6 +18,7 @@ use Rattle.h2_block.specs.Grouping.{Item, alone}
 use Rattle.h2_log.specs.Acts.{Values}
 use Rattle.h2_log.specs.Items.{encoding_of_items, encoding_of_item}
 use Rattle.h2_log.specs.Settings.{value_after}
+use Rattle.h2_log.specs.Limits.{max_frame_size_sent}
 use Rattle.h2_log.specs.Events.{AckedEvent}
 use Rattle.h2_log.specs.View.{View}
 use Rattle.h2_log.specs.Verdicts.{ConnectionFault, NoEvent, Reported}
@@ -65,6 +66,27 @@ value_four settings (suc (suc (suc (suc (suc (suc (suc id))))))) value =
       other id 6 (omega arith),
     ) refl
 
+value_five : (settings : Settings) (id value : ℕ)
+    → (if id == 5 then value else settings.max_frame_size)
+    ≡ (with_value settings (id, value)).max_frame_size
+unfolding with_value
+value_five settings zero value = refl
+value_five settings (suc zero) value = refl
+value_five settings (suc (suc zero)) value = refl
+value_five settings (suc (suc (suc zero))) value = refl
+value_five settings (suc (suc (suc (suc zero)))) value = refl
+value_five settings (suc (suc (suc (suc (suc zero))))) value = refl
+value_five settings (suc (suc (suc (suc (suc (suc zero)))))) value = refl
+value_five settings (suc (suc (suc (suc (suc (suc (suc id))))))) value =
+    rw (
+      other id 1 (omega arith),
+      other id 2 (omega arith),
+      other id 3 (omega arith),
+      other id 4 (omega arith),
+      other id 5 (omega arith),
+      other id 6 (omega arith),
+    ) refl
+
 value_three : (settings : Settings) (before id value : ℕ)
     → min 1000 before ≡ streams_allowed true settings.max_concurrent_streams
     → min 1000 (if id == 3 then value else before)
@@ -87,7 +109,7 @@ value_three settings before (suc (suc (suc (suc (suc (suc (suc id))))))) value i
       other id 6 (omega arith),
     ) is
 
--- The peer's initial window, and how many streams it takes, after all pairs.
+-- The peer's initial window, its greatest frame, and how many streams it takes, after all pairs.
 pub window_after : (settings : Settings) (pairs : List (ℕ × ℕ))
     → value_after 4 settings.initial_window_size pairs
     ≡ (with_values settings pairs).initial_window_size
@@ -95,6 +117,13 @@ unfolding value_after with_values
 window_after settings [] = refl
 window_after settings ((id, value) ∷ pairs) =
     rw (value_four settings id value) (window_after (with_value settings (id, value)) pairs)
+
+pub frame_after : (settings : Settings) (pairs : List (ℕ × ℕ))
+    → value_after 5 settings.max_frame_size pairs ≡ (with_values settings pairs).max_frame_size
+unfolding value_after with_values
+frame_after settings [] = refl
+frame_after settings ((id, value) ∷ pairs) =
+    rw (value_five settings id value) (frame_after (with_value settings (id, value)) pairs)
 
 allowed_after : (settings : Settings) (before : ℕ) (pairs : List (ℕ × ℕ))
     → min 1000 before ≡ streams_allowed true settings.max_concurrent_streams
@@ -153,7 +182,7 @@ good_verdict : (view : View) (pairs : List (ℕ × ℕ)) → settings_fault view
     → verdict_of view None (alone (SettingsFrame false pairs))
     ≡ over_limits view.resets view.waiting 9 NoEvent
 unfolding verdict_of verdict_by_rules replies_to
-good_verdict view pairs good = rw (good, acknowledgment 16384) refl
+good_verdict view pairs good = rw (good, acknowledgment max_frame_size_sent) refl
 
 over_verdict : (resets waiting : ℕ) → nat_lt 262144 (waiting + 9) ≡ true
     → over_limits resets waiting 9 NoEvent ≡ ConnectionFault EnhanceYourCalm
@@ -192,47 +221,50 @@ report_no_fault : (code : Code) → Reported ≢ ConnectionFault code
 report_no_fault code same = cc
 
 -- The end once SETTINGS are applied, by its parts.
-abbrev pub applied : End → (window allowed : ℕ) → EncoderState → List ℕ → End
-applied e window allowed encoder waiting =
+abbrev pub applied : End → (window allowed frame : ℕ) → EncoderState → List ℕ → End
+applied e window allowed frame encoder waiting =
     record e {
       reading = record e.reading { started = true };
       streams = record e.streams {
         entries = each_entry (shifted_entry e.peer.initial_window window) e.streams.entries;
       };
-      peer = record { initial_window = window; max_streams = allowed };
+      peer = record { initial_window = window; max_streams = allowed; max_frame = frame };
       output = record { encoder = encoder; waiting = waiting };
     }
 
-good_after : (e : End) (pairs : List (ℕ × ℕ)) (window allowed : ℕ)
+good_after : (e : End) (pairs : List (ℕ × ℕ)) (window allowed frame : ℕ)
     → verdict_of (end_view e) None (alone (SettingsFrame false pairs)) ≡ NoEvent
     → value_after 4 e.peer.initial_window pairs ≡ window
     → min 1000 (value_after 3 (first_allowed e.reading.started e.peer.max_streams) pairs) ≡ allowed
-    → applied e window allowed (encoder_after_settings e.output.encoder pairs)
+    → value_after 5 e.peer.max_frame pairs ≡ frame
+    → applied e window allowed frame (encoder_after_settings e.output.encoder pairs)
     (e.output.waiting ++ (0 ∷ 0 ∷ 0 ∷ 4 ∷ 1 ∷ 0 ∷ 0 ∷ 0 ∷ 0 ∷ []))
     ≡ after_item e None (alone (SettingsFrame false pairs))
 unfolding after_verdict after_ignored
-good_after e pairs window allowed none shifted taken =
-    rw (none, ← shifted, ← taken, acknowledgment (end_view e).max_payload) refl
+good_after e pairs window allowed frame none shifted taken framed =
+    rw (none, ← shifted, ← taken, ← framed, acknowledgment (end_view e).max_payload) refl
 
 no_event : (view : View) (item : Item)
     → [] ≡ events_of view None NoEvent item
 unfolding events_of
 no_event view item = refl
 
-pub settings_taken : (e : End) (pairs : List (ℕ × ℕ)) (list : List Field) (window allowed : ℕ)
+pub settings_taken : (e : End) (pairs : List (ℕ × ℕ)) (list : List Field)
+    (window allowed frame : ℕ)
     → settings_fault (end_view e) pairs ≡ None → length e.output.waiting + 9 ≤ 262144
     → value_after 4 e.peer.initial_window pairs ≡ window
     → min 1000 (value_after 3 (first_allowed e.reading.started e.peer.max_streams) pairs) ≡ allowed
+    → value_after 5 e.peer.max_frame pairs ≡ frame
     → ItemTaken e None (alone (SettingsFrame false pairs)) list None
-    (applied e window allowed (encoder_after_settings e.output.encoder pairs)
+    (applied e window allowed frame (encoder_after_settings e.output.encoder pairs)
     (e.output.waiting ++ (0 ∷ 0 ∷ 0 ∷ 4 ∷ 1 ∷ 0 ∷ 0 ∷ 0 ∷ 0 ∷ [])))
-settings_taken e pairs list window allowed good within shifted taken =
+settings_taken e pairs list window allowed frame good within shifted taken framed =
     let none : verdict_of (end_view e) None (alone (SettingsFrame false pairs)) ≡ NoEvent =
     good_verdict (end_view e) pairs good
     ∙ within_verdict e.streams.resets (length e.output.waiting) (le-ltb _ _ within) in
     record {
       goes_on = λ code fails. absurd (no_fault code (sym none ∙ fails));
-      after = good_after e pairs window allowed none shifted taken;
+      after = good_after e pairs window allowed frame none shifted taken framed;
       events = rw none (no_event (end_view e) (alone (SettingsFrame false pairs)));
     }
 

@@ -17,7 +17,6 @@ use Rattle.h2_block.specs.Grouping.{alone}
 use Rattle.h2_log.specs.Acts.{Release}
 use Rattle.h2_log.specs.CallRules.{is_not_owed, items_of, encoder_after_call}
 use Rattle.h2_log.specs.Items.{encoding_of_item, encoding_of_items}
-use Rattle.h2_log.specs.Limits.{max_frame_size_sent}
 use Rattle.h2_log.specs.View.{StreamView, ended_in, owed_on}
 use Rattle.h2_machine.specs.End.{active_entry, End, end_view, stream_in, stream_at}
 use Rattle.h2_machine.specs.Machine.{after_call, after_release, queue_output}
@@ -134,7 +133,7 @@ released_by e id count stream ended =
       recv_window = if ended then stream.recv_window else stream.recv_window +ℤ pos count;
     })
     (e.output.waiting
-    ++ encoding_of_items max_frame_size_sent (alone (WindowUpdate 0 count)
+    ++ encoding_of_items (end_view e).max_payload (alone (WindowUpdate 0 count)
     ∷ (if ended then [] else alone (WindowUpdate id count) ∷ [])))
 
 -- What the call makes of an end.

@@ -55,7 +55,7 @@ CallRefuses e id code (Err refusal) new =
 abbrev pub IsSizeOf : ℕ → List Field → Type 0
 IsSizeOf size fields = size ≡ min (list_size fields) (2 ^ 64 - 1)
 
--- A list's field block takes so many octets at most in frames, at any encoder, and whatever greatest
+-- A list's field block takes so many octets at most in frames, at any encoder, whatever greatest
 -- payload the peer reads.
 abbrev pub FramesFit : List Field → ℕ → Type 0
 FramesFit fields room = (most : ℕ) (encoder : EncoderState) (id : ℕ) (end : Bool) → 16384 ≤ most

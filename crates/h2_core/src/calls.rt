@@ -284,8 +284,8 @@ impl Endpoint {
     }
 
     // rule: 4.2 (own) Payloads of at most 65,536 octets are sent, where the peer reads them
-    /// The most octets of a payload that are sent now: as many as the peer reads, and 65,536 at most
-    /// (section 4.2).
+    /// The most octets of a payload that are sent now: as many as the peer reads, and 65,536 at
+    /// most (section 4.2).
     fn most_octets(&self) -> usize
         ensures value { result ≡ (end_view (end_of self.now)).max_payload }
         ensures least { 16384 ≤ result }

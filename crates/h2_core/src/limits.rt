@@ -16,8 +16,8 @@ pub(crate) const FIRST_ACTIVE: u32 = 100;
 pub(crate) const MAX_DATA: usize = 65_536;
 /// The most octets of a frame's payload that an end sends, whatever its peer reads.
 pub(crate) const MAX_PAYLOAD: u32 = 65_536;
-/// The most octets of a payload that may be read at first, and the least that SETTINGS may name (RFC
-/// 9113, section 6.5.2).
+/// The most octets of a payload that may be read at first, and the least that SETTINGS may name
+/// (RFC 9113, section 6.5.2).
 pub(crate) const LEAST_FRAME: u32 = 16_384;
 /// The most octets of a field block.
 pub(crate) const MAX_BLOCK: usize = 65_552;

@@ -9,15 +9,15 @@ use Rattle.h2_core.proofs.calls.add_data_frames.Goals as goal
 pub loop-rest-preserved : goal.loop-rest-preserved
 loop-rest-preserved c =
     let rest = c.loop-rest.rest.now in
-    let left : length c.split_at.result.1.now + 16384 ≡ length rest = omega arith in
-    let first = data_first 16384 c.args.id rest c.args.end (omega arith) (omega arith) in
-    let split : data_octets 16384 c.args.id rest c.args.end
+    let left : length c.split_at.result.1.now + c.args.most ≡ length rest = omega arith in
+    let first = data_first c.args.most c.args.id rest c.args.end (omega arith) (omega arith) in
+    let split : data_octets c.args.most c.args.id rest c.args.end
     ≡ encoding_of (Data c.args.id false c.split_at.result.0.now None)
-    ++ data_octets 16384 c.args.id c.split_at.result.1.now c.args.end =
+    ++ data_octets c.args.most c.args.id c.split_at.result.1.now c.args.end =
     rw (c.split_at.ensures.front, c.split_at.ensures.back) first in
     record {
       up = c.add_data.ensures.ended;
-      written = ap (λ octets. octets ++ data_octets 16384 c.args.id c.split_at.result.1.now
+      written = ap (λ octets. octets ++ data_octets c.args.most c.args.id c.split_at.result.1.now
           c.args.end) c.add_data.ensures.waiting
           ∙ append_assoc c.loop-rest.output.waiting _ _
           ∙ ap (λ octets. c.loop-rest.output.waiting ++ octets) (sym split)
@@ -28,7 +28,7 @@ loop-rest-preserved c =
 
 pub returns-clause-waiting : goal.returns-clause-waiting
 returns-clause-waiting c =
-    let last = data_last 16384 c.args.id c.loop-rest.rest.now c.args.end (omega arith) in
+    let last = data_last c.args.most c.args.id c.loop-rest.rest.now c.args.end (omega arith) in
     c.add_data-2.ensures.waiting
     ∙ ap (λ octets. c.loop-rest.output.waiting ++ octets) (sym last)
     ∙ c.loop-rest.invariant.written

@@ -6,8 +6,8 @@ use Rattle.h2_core.proofs.calls.add_data_frames.Given as goal
 abbrev pub invariant-loop-rest : goal.invariant-loop-rest
 invariant-loop-rest l = record {
   up : l.output.ended ≡ false;
-  written : l.output.waiting ++ data_octets 16384 l.id l.rest l.end
-      ≡ l.initial.output.waiting ++ data_octets 16384 l.id l.octets l.end;
+  written : l.output.waiting ++ data_octets l.most l.id l.rest l.end
+      ≡ l.initial.output.waiting ++ data_octets l.most l.id l.octets l.end;
   room : length l.rest + 9 * (1 + length l.rest / 16384) ≤ l.output.spare;
   spare : l.initial.output.spare + (length l.rest + 9 * (1 + length l.rest / 16384))
       ≤ l.output.spare + (length l.octets + 9 * (1 + length l.octets / 16384));

@@ -26,25 +26,17 @@ unfolding preface
 returns c =
     let role = c.args.role in
     let empty = c.in_ok-output.ensures.0 in
-    let last = c.add_settings.ensures in
+    let last = c.add_opening_settings.ensures in
     let kept = c.reserve.ensures.waiting in
     elim c.if-eq.branch [
       | then-eq w ↦
           let first = w.add_octets.ensures.waiting in
           let opening = at_client role w.if-eq.ensures in (
             last.ended,
-            rw (last.waiting, c.opening_settings.ensures, w.output-is, first, kept, empty, opening)
-                refl,
+            rw (last.waiting, w.output-is, first, kept, empty, opening) refl,
           )
       | else-eq w ↦ (
         last.ended,
-        rw (
-          last.waiting,
-          c.opening_settings.ensures,
-          w.output-is,
-          kept,
-          empty,
-          at_server role w.if-eq.ensures,
-        ) refl,
+        rw (last.waiting, w.output-is, kept, empty, at_server role w.if-eq.ensures) refl,
       )
     ]

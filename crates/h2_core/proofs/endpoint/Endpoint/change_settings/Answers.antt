@@ -1,18 +1,26 @@
 -- The first condition that holds refuses; where none holds, SETTINGS joins the output and waits.
-use Rattle.std.proofs.Common.{◌≡◌, Some, false, ◌++◌, ap, sym, ◌∙◌, refl}
+use Rattle.std.proofs.Common.{◌≡◌, Option, Some, None, false, ◌++◌, ap, sym, ◌∙◌, refl}
 use Rattle.std.specs.Prelude.{is_some}
 use Rattle.std.proofs.lemmas.Result.{err_from_is_err_and}
 use Rattle.h2_frame.specs.Frames.{Settings}
 use Rattle.h2_frame.specs.Encoding.{encoding_of}
 use Rattle.h2_config.specs.ConfigValues.{values_of}
+use Rattle.h2_log.specs.Acts.{Values}
 use Rattle.h2_log.specs.CallRules.{conditions, first_of, changed_pairs, items_of}
 use Rattle.h2_log.specs.CallRules.{encoder_after_call}
+use Rattle.h2_machine.specs.End.{end_view, values_or}
 use Rattle.h2_machine.specs.Machine.{after_call}
 use Rattle.h2_core.specs.Endpoint.{end_of}
 use Rattle.h2_core.proofs.CallConditions.{holds_first, others_decide, refused, lacks_memory}
 use Rattle.h2_core.proofs.CallConditions.{is_some_mapped}
 use Rattle.h2_core.proofs.CallOutput.{with_waiting, octets_of_frame}
 use Rattle.h2_core.proofs.endpoint.Endpoint.change_settings.Goals as goal
+
+-- Where no own values await their acknowledgment, those in force were written last.
+frame_written : (values : Values) (awaited : Option Values) → is_some awaited ≡ false
+    → (values_or values awaited).max_frame ≡ values.max_frame
+frame_written values None none = refl
+frame_written values (Some other) none = cc
 
 pub returns-in_err-check_up-clause-err : goal.returns-in_err-check_up-clause-err
 unfolding conditions
@@ -52,8 +60,13 @@ returns-clause-ok c =
     let e = end_of c.args.self.now in
     let values = values_of c.args.config in
     let written : c.add_changed_settings.new.output.waiting
-    ≡ e.output.waiting ++ encoding_of (Settings false (changed_pairs e.role values)) =
-    rw (c.add_changed_settings.ensures.waiting, c.reserve.ensures.waiting) refl in
+    ≡ e.output.waiting
+    ++ encoding_of (Settings false (changed_pairs e.role (end_view e).max_frame_written values)) =
+    rw (
+      c.add_changed_settings.ensures.waiting,
+      c.reserve.ensures.waiting,
+      frame_written e.own.in_force e.own.awaited none_waits,
+    ) refl in
     record {
       free = rw (c.in_ok-check_up.ensures.ok, c.in_ok-check_room.ensures.ok, none_waits);
       after = ap (with_waiting (record e { own = record e.own { awaited = Some values } }))

@@ -7,8 +7,7 @@ use Rattle.h2_block.specs.Grouping.{alone}
 use Rattle.h2_log.specs.Items.{encoding_of_items}
 use Rattle.h2_log.specs.Acts.{SendGoAway}
 use Rattle.h2_log.specs.CallRules.{conditions}
-use Rattle.h2_log.specs.Limits.{max_frame_size_sent}
-use Rattle.h2_machine.specs.End.{End}
+use Rattle.h2_machine.specs.End.{End, end_view}
 use Rattle.h2_core.specs.Endpoint.{end_of}
 use Rattle.h2_core.proofs.SoundFacts.{last_small}
 use Rattle.h2_core.proofs.StepCalls.{first-here, first-later, first-none, refused, without_memory}
@@ -84,11 +83,12 @@ returns-clause-ok c =
     let e = end_of c.args.self.now in
     let last = e.streams.last_processed in
     let waiting =
-    item-added max_frame_size_sent (GoAway last c.number.result []) e.output.waiting
+    item-added (end_view e).max_payload (GoAway last c.number.result []) e.output.waiting
     c.reserve.new.self.waiting c.add_frame.new.self.waiting c.reserve.ensures.waiting
     c.add_frame.ensures.waiting
     ∙ ap (λ (code : ℕ). e.output.waiting
-    ++ encoding_of_items max_frame_size_sent (alone (GoAway last code []) ∷ [])) c.number.ensures in
+    ++ encoding_of_items (end_view e).max_payload (alone (GoAway last code []) ∷ []))
+    c.number.ensures in
     record {
       free =
           first-later _ _ _ (ap is_some c.in_ok-check_up.ensures.ok)

@@ -20,6 +20,7 @@ returns-clause-ok c =
     let begun : c.new-3.result.begun ≡ None = none_begun _ c.new-3.ensures.split in
     rw (
       begun,
+      c.first.ensures,
       c.in-Ok-Ok.ensures.ok,
       c.in-Ok-Ok.ensures'.ok,
       c.new-5.ensures,

@@ -4,8 +4,7 @@ use Rattle.std.proofs.lemmas.Result.{err_from_is_err_and}
 use Rattle.h2_frame.specs.Frames.{Ping}
 use Rattle.h2_log.specs.Acts.{SendPing}
 use Rattle.h2_log.specs.CallRules.{conditions}
-use Rattle.h2_log.specs.Limits.{max_frame_size_sent}
-use Rattle.h2_machine.specs.End.{End}
+use Rattle.h2_machine.specs.End.{End, end_view}
 use Rattle.h2_core.specs.Endpoint.{end_of}
 use Rattle.h2_core.proofs.StepCalls.{first-here, first-later, first-none, refused, without_memory}
 use Rattle.h2_core.proofs.StepCalls.{after-ping, at_ok}
@@ -75,7 +74,7 @@ unfolding conditions
 returns-clause-ok c =
     let e = end_of c.args.self.now in
     let waiting =
-    item-added max_frame_size_sent (Ping false c.args.octets) e.output.waiting
+    item-added (end_view e).max_payload (Ping false c.args.octets) e.output.waiting
     c.reserve.new.self.waiting c.add_frame.new.self.waiting c.reserve.ensures.waiting
     c.add_frame.ensures.waiting in
     record {

@@ -3,8 +3,7 @@ use Rattle.std.proofs.Common.{ℕ, ◌≤◌, ◌+◌, ◌-◌, arith, sym, ap, 
 use Rattle.std.specs.Option.{option_map}
 use Rattle.h2_block.specs.Grouping.{alone}
 use Rattle.h2_frame.specs.Frames.{Reset as ResetFrame}
-use Rattle.h2_log.specs.Limits.{max_frame_size_sent}
-use Rattle.h2_machine.specs.End.{End}
+use Rattle.h2_machine.specs.End.{End, end_view}
 use Rattle.h2_machine.specs.Machine.{queue_output, add_unreturned}
 use Rattle.h2_streams.specs.Streams.{stream_view}
 use Rattle.h2_streams.specs.Table.{TableState}
@@ -53,7 +52,7 @@ returns-clause-ok c =
     let old = end_of c.args.self.now in
     let e = queue_output old (alone (ResetFrame c.args.id c.args.code) ∷ []) in
     let waiting =
-    item-added max_frame_size_sent (ResetFrame c.args.id c.args.code) old.output.waiting
+    item-added (end_view old).max_payload (ResetFrame c.args.id c.args.code) old.output.waiting
     c.reserve.new.self.waiting c.add_frame.new.self.waiting c.reserve.ensures.waiting
     c.add_frame.ensures.waiting in
     elim c.match-stream.branch [

@@ -1,7 +1,8 @@
 -- A WINDOW_UPDATE without stream has 13 octets, and those wait then.
 use Rattle.std.proofs.Common.{arith}
-use Rattle.h2_log.specs.Limits.{max_frame_size_sent}
 use Rattle.h2_frame.specs.Frames.{WindowUpdate}
+use Rattle.h2_machine.specs.End.{end_view}
+use Rattle.h2_core.specs.Endpoint.{end_of}
 use Rattle.h2_core.proofs.StepFrames.{update-written, length-update, one-item}
 use Rattle.h2_core.proofs.endpoint.Endpoint.return_credit.Goals as goal
 
@@ -17,5 +18,6 @@ add_frame-requires-clause-room c = omega (arith, length-update 0 c.args.self.now
 
 pub returns-clause-after : goal.returns-clause-after
 returns-clause-after c =
-    let item = one-item max_frame_size_sent (WindowUpdate 0 c.args.self.now.unreturned) in
+    let e = end_of c.args.self.now in
+    let item = one-item (end_view e).max_payload (WindowUpdate 0 c.args.self.now.unreturned) in
     cc

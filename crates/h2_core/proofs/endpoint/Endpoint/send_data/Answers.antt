@@ -4,6 +4,7 @@ use Rattle.std.proofs.Common.{◌≡◌, ◌+◌, ◌==◌, ◌&&◌, length, ta
 use Rattle.std.proofs.lemmas.Bool.{and_parts, eqb-true}
 use Rattle.std.proofs.lemmas.Result.{err_from_is_err_and}
 use Rattle.h2_log.specs.CallRules.{conditions, data_frames}
+use Rattle.h2_machine.specs.End.{end_view}
 use Rattle.h2_streams.specs.Streams.{stream_view}
 use Rattle.h2_core.specs.Endpoint.{end_of}
 use Rattle.h2_core.proofs.CallConditions.{refused, lacks_memory}
@@ -66,7 +67,8 @@ returns-clause-ok c =
         free = data_free e c.args.id stream octets c.args.end ok.0 ok.1 ok.2 ok.3;
         after = c.write_data.ensures
             ∙ ap (λ waiting. after_sent (with_waiting e waiting) c.args.id stream
-            (data_frames (length (take count octets) + 1) 16384 c.args.id (take count octets) ends)
+            (data_frames (length (take count octets) + 1) (end_view e).max_payload c.args.id
+            (take count octets) ends)
             (length (take count octets)) ends) c.reserve.ensures.waiting
             ∙ data_written e c.args.id stream octets c.args.end count ends ok.1
             c.sendable_octets-count.ensures (sym c.if-sends_nothing.ensures) (omega arith) last;

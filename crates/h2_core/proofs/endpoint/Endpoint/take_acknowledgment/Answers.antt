@@ -20,5 +20,6 @@ returns c = λ pairs.
       c.table_limit.ensures,
       c.initial_window.ensures,
       c.max_streams-self.ensures,
+      c.max_frame-self.ensures,
     )
     taken

@@ -7,7 +7,7 @@ use Rattle.h2_machine.specs.Machine.{first_allowed}
 use Rattle.h2_core.specs.Endpoint.{end_of, streams_allowed}
 use Rattle.h2_core.specs.Settings.{with_values}
 use Rattle.h2_core.proofs.OwnItems.{settings_stop, settings_over, settings_taken, window_after}
-use Rattle.h2_core.proofs.OwnItems.{streams_after, settings_lacks}
+use Rattle.h2_core.proofs.OwnItems.{frame_after, streams_after, settings_lacks}
 use Rattle.h2_core.proofs.ItemVerdicts.{with_waiting}
 use Rattle.h2_core.proofs.endpoint.Endpoint.take_settings.Goals as goal
 
@@ -38,14 +38,16 @@ returns c =
     pairs)
     ≡ streams_allowed true settings.max_concurrent_streams =
     rw values (streams_after one.peer one.started pairs one.unsaid) in
+    let frame : value_after 5 one.peer.max_frame_size pairs ≡ settings.max_frame_size =
+    rw values (frame_after one.peer pairs) in
     rw (
       c.set_send_initial.ensures,
       c.add_octets.ensures.waiting,
       c.limit_encoder.ensures,
       c.reserve.ensures.waiting,
     )
-    (settings_taken (end_of one) pairs one.list _ _ c.in_ok-settings.ensures.0 within window
-    allowed)
+    (settings_taken (end_of one) pairs one.list _ _ _ c.in_ok-settings.ensures.0 within window
+    allowed frame)
 
 pub returns-in_err-reserve : goal.returns-in_err-reserve
 returns-in_err-reserve c =

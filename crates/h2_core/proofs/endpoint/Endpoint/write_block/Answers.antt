@@ -3,6 +3,7 @@ use Rattle.std.proofs.Common.{◌≡◌, ◌∷◌, [], ◌++◌, length, ap, sy
 use Rattle.hpack.specs.Choice.{block_of, after_block}
 use Rattle.h2_block.specs.Grouping.{block}
 use Rattle.h2_log.specs.Items.{encoding_of_items}
+use Rattle.h2_machine.specs.End.{end_view}
 use Rattle.h2_machine.specs.Machine.{with_encoder}
 use Rattle.h2_core.specs.Endpoint.{end_of}
 use Rattle.h2_core.proofs.CallOutput.{octets_of_block, with_waiting}
@@ -13,14 +14,21 @@ returns-clause-ok c =
     let e = end_of c.args.self.now in
     let encoded = c.in_ok-encode_frames.ensures.ok in
     let octets = block_of e.output.encoder c.args.fields.now in
-    let fits = c.frames_room-room.ensures.enough c.args.fields.now (sym c.requires.size)
-    e.output.encoder c.args.id c.args.end in
+    let most = c.most_octets-most.result in
+    let fits = c.frames_room-room.ensures.enough c.args.fields.now (sym c.requires.size) most
+    e.output.encoder c.args.id c.args.end c.most_octets-most.ensures.least in
     let joined : c.deref.result.now
-    ≡ encoding_of_items 16384 (block c.args.id c.args.end octets ∷ []) =
-    rw (c.deref.ensures.value, encoded.0, octets_of_block 16384 c.args.id c.args.end octets) in
+    ≡ encoding_of_items most (block c.args.id c.args.end octets ∷ []) =
+    rw (c.deref.ensures.value, encoded.0, octets_of_block most c.args.id c.args.end octets) in
     let written : c.add_octets.new.self.waiting
-    ≡ e.output.waiting ++ encoding_of_items 16384 (block c.args.id c.args.end octets ∷ []) =
-    rw (c.add_octets.ensures.waiting, c.reserve.ensures.waiting, joined) in (
+    ≡ e.output.waiting ++ encoding_of_items (end_view e).max_payload
+    (block c.args.id c.args.end octets ∷ []) =
+    rw (
+      c.add_octets.ensures.waiting,
+      c.reserve.ensures.waiting,
+      joined,
+      ← c.most_octets-most.ensures.value,
+    ) in (
       ap (λ encoder. with_waiting (with_encoder e encoder) c.add_octets.new.self.waiting) encoded.1
           ∙ ap (with_waiting (with_encoder e (after_block e.output.encoder c.args.fields.now)))
           written,
