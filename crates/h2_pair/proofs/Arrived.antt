@@ -8,17 +8,14 @@ use Rattle.h2_wire.proofs.FaultLemmas.{one_reading_lem}
 use Rattle.h2_block.specs.Grouping.{Groups}
 use Rattle.h2_block.proofs.RunLemmas.{one_grouping_lem}
 use Rattle.h2_log.specs.Settings.{is_server}
-use Rattle.h2_log.specs.Limits.{max_frame_size_sent}
-use Rattle.h2_log_laws.specs.Sending.{frames_of_items, oldest_first}
-use Rattle.h2_log_laws.proofs.OutputRead.{items_grouped}
+use Rattle.h2_log_laws.specs.Sending.{frames_by, oldest_first}
 use Rattle.h2_end_laws.proofs.Grouped.{items_grouped as log_grouped, groups_now}
-use Rattle.h2_end_laws.proofs.PayloadLimits.{payload_limits}
-use Rattle.h2_end_laws.proofs.SendableCalls.{written_sendable}
+use Rattle.h2_end_laws.proofs.OutputPrefixes.{output_read, output_grouped}
 use Rattle.h2_pair.specs.Pairs.{Half}
 use Rattle.h2_pair.specs.Directions.{CarriesOctets}
 use Rattle.h2_pair.proofs.BothWays.{AreEnds}
+use Rattle.h2_pair.proofs.WiderLimits.{wider_limits}
 use Rattle.h2_pair.proofs.ItemsRead.{frames_received, newest_before}
-use Rattle.h2_end_laws.proofs.OutputPrefixes.{output_read}
 
 -- An end that is up, and has used the whole output of the other.
 all_received : (writer reader : Half) → AreEnds writer reader
@@ -26,19 +23,18 @@ all_received : (writer reader : Half) → AreEnds writer reader
     → oldest_first reader.log.received ≡ oldest_first writer.log.sent
 all_received writer reader ends joined up =
     let expects = not (is_server ends.writer_role) in
-    let frames = frames_of_items max_frame_size_sent writer.log.sent in
+    let limits = wider_limits reader.log in
+    let frames = frames_by writer.log.payloads writer.log.sent in
     let framed = frames_received _ _ reader.log expects ends.opposite ends.reader_log up in
-    let all = subst (λ (octets : List ℕ). Frames expects payload_limits octets frames [])
-    (sym joined) (output_read _ _ writer.log payload_limits ends.writer_log
-    (λ place. omega arith) (written_sendable _ _ writer.log ends.writer_log)) in
-    let one = one_reading_lem expects payload_limits reader.log.input reader.log.frames frames
+    let all = subst (λ (octets : List ℕ). Frames expects limits octets frames []) (sym joined)
+    (output_read _ _ writer.log limits ends.writer_log (λ place. omega arith)) in
+    let one = one_reading_lem expects limits reader.log.input reader.log.frames frames
     reader.log.unparsed [] framed all in
     let groups : Groups frames (oldest_first reader.log.received) reader.log.begun =
     subst (λ (line : List Frame). Groups line (oldest_first reader.log.received) reader.log.begun)
     one.0 (groups_now reader.log (log_grouped _ _ reader.log ends.reader_log) up) in
     (one_grouping_lem frames (oldest_first reader.log.received) (oldest_first writer.log.sent)
-    reader.log.begun None groups (items_grouped max_frame_size_sent writer.log.sent (omega arith)
-    (written_sendable _ _ writer.log ends.writer_log))).0
+    reader.log.begun None groups (output_grouped _ _ writer.log ends.writer_log)).0
 
 -- The whole output came in.
 all_used : (input lost incoming written : List ℕ) (given : ℕ) → lost ≡ [] → incoming ≡ []

@@ -1,12 +1,13 @@
 -- The items that one end has received are the first of those that the other has sent, and lie in
 -- the octets that this one has given out.
-use Rattle.std.proofs.Common.{◌≡◌, ◌⊎◌, inl, inr, ℕ, List, ◌++◌, take, drop, None, sym, refl, ap}
-use Rattle.std.proofs.Common.{◌∙◌, append_assoc, append-nil, ◌≤◌, length, not, arith, subst}
+use Rattle.std.proofs.Common.{◌≡◌, ◌⊎◌, inl, inr, ℕ, List, [], ◌++◌, take, drop, None, sym, refl}
+use Rattle.std.proofs.Common.{ap, ◌∙◌, append_assoc, append-nil, ◌≤◌, length, not, arith, subst}
 use Rattle.std.proofs.Common.{length-append, length-take}
 use Rattle.std.proofs.lemmas.List.{take-append-drop}
 use Rattle.h2_block.specs.Grouping.{Item}
 use Rattle.h2_log.specs.declared.role.Role.{Role}
 use Rattle.h2_log.specs.Acts.{Values}
+use Rattle.h2_log.specs.Log.{Log}
 use Rattle.h2_log.specs.LogSteps.{with_sent}
 use Rattle.h2_log.specs.LogCalls.{opened}
 use Rattle.h2_log_laws.proofs.LogGrowth.{grows_call}
@@ -22,7 +23,7 @@ use Rattle.h2_wire.specs.Streams.{expected_preface}
 use Rattle.h2_log.specs.Settings.{is_server}
 use Rattle.h2_log.proofs.StreamLemmas.{stream_of_log}
 use Rattle.h2_pair.proofs.PairLogs.{half_comes_about, other_same}
-use Rattle.h2_pair.proofs.WaitingCarried.{LieIn, received_lie}
+use Rattle.h2_pair.proofs.WaitingCarried.{LieIn, ReceivedLie, received_lie}
 
 -- what stands before the items of an end's output
 abbrev pub before : Role → ℕ
@@ -32,7 +33,8 @@ before role = length (expected_preface (not (is_server role)))
 pub record Carries (writer reader : Half) : Type 0 where
   pub way : List Item
   pub under_way : AreUnderWay writer.log reader.log way
-  pub lie : LieIn (before writer.log.role) writer.log.given reader.log.received
+  pub lie : ReceivedLie (before writer.log.role) writer.log.given writer.log.payloads way
+      reader.log.received
 
 -- The output begins with the input of the other end.
 begins_with_input : (input pipe written : List ℕ) (given : ℕ) → input ++ pipe ≡ take given written
@@ -50,10 +52,45 @@ input_within input pipe written given is =
     omega (arith, same, length-append input pipe, length-take given written)
 
 -- Items lie in more octets, too.
-lie_more : (preceding count more : ℕ) (items : List Item) → count ≤ more
-    → LieIn preceding count items → LieIn preceding more items
-lie_more preceding count more items few (inl none) = inl none
-lie_more preceding count more items few (inr fits) = inr (omega (arith, few, fits))
+lie_more : (preceding count more : ℕ) (payloads : List ℕ) (items : List Item) → count ≤ more
+    → LieIn preceding count payloads items → LieIn preceding more payloads items
+lie_more preceding count more payloads items few (inl none) = inl none
+lie_more preceding count more payloads items few (inr fits) = inr (omega (arith, few, fits))
+
+-- So do those that were received where no less is given out,
+lie_given : (preceding count more : ℕ) (payloads : List ℕ) (way received : List Item)
+    → count ≤ more → ReceivedLie preceding count payloads way received
+    → ReceivedLie preceding more payloads way received
+lie_given preceding count more payloads way received few are =
+    record {
+      news = are.news;
+      olds = are.olds;
+      paid = are.paid;
+      each_one = are.each_one;
+      within = lie_more preceding count more are.olds received few are.within;
+    }
+
+-- and where more is sent as well.
+lie_sent : (old new : Log) (gives : Gives old new) (way received same : List Item)
+    → new.role ≡ old.role → same ≡ received
+    → ReceivedLie (before old.role) old.given old.payloads way received
+    → ReceivedLie (before new.role) new.given new.payloads (gives.items ++ way) same
+lie_sent old new gives way received same role is are =
+    record {
+      news = gives.payloads ++ are.news;
+      olds = are.olds;
+      paid = gives.paid ∙ ap (λ (payloads : List ℕ). gives.payloads ++ payloads) are.paid
+          ∙ sym (append_assoc gives.payloads are.news are.olds);
+      each_one = omega (
+        arith,
+        gives.each_one,
+        are.each_one,
+        length-append gives.payloads are.news,
+        length-append gives.items way,
+      );
+      within = rw (role, is)
+          (lie_more _ old.given new.given are.olds received gives.given are.within);
+    }
 
 -- Between ends whose reader is up it is so by the octets.
 up_carries : (writer reader : Half) → IsDirection writer reader → reader.log.failed ≡ None
@@ -67,11 +104,12 @@ up_carries writer reader is up =
     record {
       way = first.0;
       under_way = first.1;
-      lie = subst (λ (role : Role). LieIn (before role) writer.log.given reader.log.received)
-          (sym (stream_of_log _ _ writer.log ends.writer_log).role)
-          (lie_more _ (length reader.log.input) writer.log.given reader.log.received
+      lie = subst (λ (role : Role). ReceivedLie (before role) writer.log.given writer.log.payloads
+          first.0 reader.log.received) (sym (stream_of_log _ _ writer.log ends.writer_log).role)
+          (lie_given _ (length reader.log.input) writer.log.given writer.log.payloads first.0
+          reader.log.received
           (input_within reader.log.input _ writer.log.written writer.log.given octets.carried)
-          (received_lie writer reader _ ends joined up));
+          (received_lie writer reader _ first.0 ends first.1 joined up));
     }
 
 -- A step of the writer: more was sent, no less given out, and the same received.
@@ -103,8 +141,9 @@ writer_carries writer reader {new_writer} {new_reader} is now step carries =
       under_way = both.0.sent ∙ ap (λ (items : List Item). both.0.items ++ items)
           (carries.under_way ∙ ap (λ (items : List Item). carries.way ++ items) (sym both.1))
           ∙ sym (append_assoc both.0.items carries.way new_reader.log.received);
-      lie = rw (same_role writer reader (ends_of writer reader is) step, both.1)
-          (lie_more _ writer.log.given new_writer.log.given _ both.0.given carries.lie);
+      lie = lie_sent writer.log new_writer.log both.0 carries.way reader.log.received
+          new_reader.log.received (same_role writer reader (ends_of writer reader is) step) both.1
+          carries.lie;
     }
 
 -- A step of the reader: either it has received the same, or it is up.
@@ -129,7 +168,8 @@ reader_carries writer reader {new_writer} {new_reader} is now step carries =
             (λ log. AreUnderWay log new_reader.log carries.way)
             (carries.under_way ∙ ap (λ (items : List Item). carries.way ++ items) (sym same));
         lie = other_same reader writer step
-            (λ log. LieIn (before log.role) log.given new_reader.log.received)
+            (λ log. ReceivedLie (before log.role) log.given log.payloads carries.way
+            new_reader.log.received)
             (rw same carries.lie);
       }
       | inr up ↦ up_carries new_writer new_reader now up
@@ -143,7 +183,13 @@ new_carries role other values others =
     record {
       way = (opened role values).sent;
       under_way = sym (append-nil (opened role values).sent);
-      lie = inl refl;
+      lie = record {
+        news = (opened role values).payloads;
+        olds = [];
+        paid = sym (append-nil (opened role values).payloads);
+        each_one = refl;
+        within = inl refl;
+      };
     }
 
 -- It is so in each direction of every pair.

@@ -16,18 +16,17 @@ use Rattle.h2_log.specs.declared.role.Role.{Role}
 use Rattle.h2_log.specs.Acts.{Values}
 use Rattle.h2_log.specs.Allowed.{AllowedHistory, starts, reads, writes}
 use Rattle.h2_log.specs.CallRules.{opening_pairs}
-use Rattle.h2_log.specs.Limits.{max_frame_size_sent}
 use Rattle.h2_log.specs.Log.{Log}
 use Rattle.h2_log.specs.LogView.{log_view}
 use Rattle.h2_log.specs.ItemRules.{FrameStep, fails_with, begins_block, completes, frame_step}
 use Rattle.h2_log.specs.ItemRules.{grouping_step, grouped, may_be_first}
 use Rattle.h2_log.specs.Histories.{IsLog}
-use Rattle.h2_log_laws.specs.Sending.{frames_of_item, frames_of_items, oldest_first}
+use Rattle.h2_log_laws.specs.Sending.{AreSendable, frames_of_item, frames_by, oldest_first}
 use Rattle.h2_log_laws.proofs.InvariantLogs.{written_is_allowed}
-use Rattle.h2_log_laws.proofs.OutputRead.{items_grouped as all_grouped}
 use Rattle.h2_end_laws.proofs.Grouped.{items_grouped, groups_now}
 use Rattle.h2_end_laws.proofs.GroupedPrefixes.{prefix_grouped}
-use Rattle.h2_end_laws.proofs.SendableCalls.{written_sendable}
+use Rattle.h2_end_laws.proofs.OutputPrefixes.{output_grouped}
+use Rattle.h2_end_laws.proofs.SendableCalls.{written_sendable_by}
 use Rattle.h2_pair.proofs.ItemsRead.{newest_before}
 use Rattle.h2_pair.proofs.FaultsOfWire.{NextFrame}
 
@@ -38,25 +37,33 @@ pub record BeginsWithSettings (frames : List Frame) : Type 0 where
   pub first : frames ≡ Settings false pairs ∷ others
 
 -- The frames of one item more stand at the end.
-settings_still : (item : Item) (sent : List Item)
-    → BeginsWithSettings (frames_of_items max_frame_size_sent sent)
-    → BeginsWithSettings (frames_of_items max_frame_size_sent (item ∷ sent))
-settings_still item sent before =
+settings_still : (most : ℕ) (payloads : List ℕ) (item : Item) (sent : List Item)
+    → BeginsWithSettings (frames_by payloads sent)
+    → BeginsWithSettings (frames_by (most ∷ payloads) (item ∷ sent))
+settings_still most payloads item sent before =
     record {
       pairs = before.pairs;
-      others = before.others ++ frames_of_item max_frame_size_sent item;
-      first = ap (λ (frames : List Frame). frames ++ frames_of_item max_frame_size_sent item)
-          before.first;
+      others = before.others ++ frames_of_item most item;
+      first = ap (λ (frames : List Frame). frames ++ frames_of_item most item) before.first;
     }
 
-settings_first : (role : Role) (received sent : List Item) → AllowedHistory role received sent
-    → BeginsWithSettings (frames_of_items max_frame_size_sent sent)
-settings_first role _ _ (starts values ok) =
+-- Whatever the greatest payloads are with which the items can be sent.
+settings_first : (role : Role) (received sent : List Item) (payloads : List ℕ)
+    → AllowedHistory role received sent → AreSendable payloads sent
+    → BeginsWithSettings (frames_by payloads sent)
+settings_first role received sent (most ∷ []) (starts values ok) sendable =
     record { pairs = opening_pairs role values; others = []; first = refl }
-settings_first role _ sent (reads {received = received} item before) =
-    settings_first role received sent before
-settings_first role received _ (writes {sent = sent} item before allowed) =
-    settings_still item sent (settings_first role received sent before)
+settings_first role received sent (most ∷ other ∷ payloads) (starts values ok) sendable =
+    absurd sendable.1
+settings_first role received sent [] (starts values ok) sendable = absurd sendable
+settings_first role _ sent payloads (reads {received = received} item before) sendable =
+    settings_first role received sent payloads before sendable
+settings_first role received _ [] (writes {sent = sent} item before allowed) sendable =
+    absurd sendable
+settings_first role received _ (most ∷ payloads) (writes {sent = sent} item before allowed)
+    sendable =
+    settings_still most payloads item sent
+    (settings_first role received sent payloads before sendable.1)
 
 -- SETTINGS may come first.
 first_may : (frame : Frame) (pairs : List (ℕ × ℕ)) → frame ≡ Settings false pairs
@@ -149,10 +156,10 @@ pub step_is_next : (role other : Role) (values others : Values) (writer reader :
     → IsNextStep writer reader (frame_step (log_view reader) frame)
 unfolding frame_step
 step_is_next role other values others writer reader frame wrote came up next =
-    let all = all_grouped max_frame_size_sent writer.sent (omega arith)
-    (written_sendable role values writer wrote) in
+    let all = output_grouped role values writer wrote in
     test_next writer reader _ _ (order_kept reader.frames frame next.later _
-    (settings_first role writer.received writer.sent (written_is_allowed role values writer wrote))
+    (settings_first role writer.received writer.sent writer.payloads
+    (written_is_allowed role values writer wrote) (written_sendable_by role values writer wrote))
     next.frames)
     (fault_next writer reader frame next.later (next_fault reader.begun frame) refl
     (groups_now reader (items_grouped other others reader came) up)

@@ -124,7 +124,7 @@ takes_clean writer reader is (ends_frame octets frame decoded) rest (up, read, s
     (step_is_next _ _ _ _ writer.log reader.log frame ends.writer_log ends.reader_log clean.up
     next) sees) clean
 takes_clean writer reader is (meets_fault octets fault) rest (up, at) none came calm clean =
-    absurd (no_wire_fault writer reader octets _ fault (ends_of writer reader is)
+    absurd (no_wire_fault writer reader octets _ fault is clean.up
     (joined_next writer reader is clean.up octets rest came) at)
 takes_clean writer reader is (runs_out_of_memory octets) rest may none came calm clean =
     absurd (calm octets refl)

@@ -7,7 +7,6 @@ use Rattle.std.proofs.lemmas.Bool.{both_ways, le-ltb}
 use Rattle.h2_frame.specs.declared.code.Code.{Code}
 use Rattle.h2_frame.specs.declared.code.Code.TheVariants.{EnhanceYourCalm}
 use Rattle.h2_frame.specs.Frames.{Data, Reset, Settings, Ping, GoAway}
-use Rattle.h2_frame.specs.Encoding.{payload_of}
 use Rattle.h2_block.specs.Grouping.{Item, alone, block}
 use Rattle.h2_log.specs.Acts.{Act, Answer}
 use Rattle.h2_log.specs.Items.{encoding_of_items}
@@ -30,24 +29,25 @@ use Rattle.h2_pair.proofs.FaultsInvariant.{IsAsked, IsHeard, heard_later, LogIsC
 use Rattle.h2_pair.proofs.FaultsInvariant.{clean_unreturned, clean_reported}
 
 -- What is replied to nothing has no octets.
-none_small : size_of [] ≤ 16393
+none_small : size_of max_frame_size_sent [] ≤ 17
 unfolding encoding_of_items
 none_small = omega arith
 
--- PING has no more octets than a payload.
+-- PING has eight octets.
 ping_small : (octets : List ℕ) → IsSendable max_frame_size_sent (alone (Ping false octets))
-    → size_of (alone (Ping true octets) ∷ []) ≤ 16393
-unfolding payload_of
+    → size_of max_frame_size_sent (alone (Ping true octets) ∷ []) ≤ 17
 ping_small octets (standalone, sound, typed, small) =
-    omega (arith, size-ping true octets, small)
+    omega (arith, size-ping max_frame_size_sent true octets, typed)
 
--- A reply to an item that is no fault has no more octets than a frame.
+-- A reply to an item that is no fault has no more octets than the answer to a PING.
 reply_small : (verdict : Verdict) (item : Item) → is_fault verdict ≡ false
-    → IsSendable max_frame_size_sent item → size_of (replies_to verdict item) ≤ 16393
+    → IsSendable max_frame_size_sent item
+    → size_of max_frame_size_sent (replies_to verdict item) ≤ 17
 unfolding replies_to
 reply_small (ConnectionFault code) item sound sendable = absurd (both_ways true sound refl)
 reply_small (StreamFault code) item sound sendable = absurd (both_ways true sound refl)
-reply_small NoEvent (alone (Settings false pairs)) sound sendable = omega (arith, size-ack)
+reply_small NoEvent (alone (Settings false pairs)) sound sendable =
+    omega (arith, size-ack max_frame_size_sent)
 reply_small NoEvent (alone (Ping false octets)) sound sendable = ping_small octets sendable
 reply_small NoEvent item sound sendable = none_small
 reply_small Reported item sound sendable = none_small
@@ -59,7 +59,7 @@ below_limit true above verdict none = rw none refl
 below_limit false above verdict none = refl
 
 limits_change_nothing : (resets waits size : ℕ) (verdict : Verdict) → is_fault verdict ≡ false
-    → waits ≤ 210000 → size ≤ 16393 → over_limits resets waits size verdict ≡ verdict
+    → waits ≤ 210000 → size ≤ 17 → over_limits resets waits size verdict ≡ verdict
 unfolding over_limits
 limits_change_nothing resets waits size (ConnectionFault code) sound low small =
     absurd (both_ways true sound refl)

@@ -10,17 +10,17 @@ use Rattle.h2_frame.specs.Frames.{Settings}
 use Rattle.h2_block.specs.Grouping.{Item, alone}
 use Rattle.h2_log.specs.declared.role.Role.{Role}
 use Rattle.h2_log.specs.declared.role.Role.TheVariants.{Client, Server}
-use Rattle.h2_log.specs.Acts.{Values, AreInRange}
+use Rattle.h2_log.specs.Acts.{Values}
 use Rattle.h2_log.specs.Allowed.{AllowedHistory, Allowed, starts, reads, writes}
-use Rattle.h2_log.specs.CallRules.{opening_pairs, changed_pairs}
 use Rattle.h2_log.specs.Events.{reports_unprocessed}
 use Rattle.h2_log.specs.Items.{ends, resets, total, data_on, data_of, increment_on, greatest_block}
-use Rattle.h2_log.specs.Settings.{value_read, value_after, is_server}
+use Rattle.h2_log.specs.Settings.{value_read, is_server}
 use Rattle.h2_log.specs.States.{is_above, is_closed_by_us, openings}
 use Rattle.h2_log.specs.Log.{Log, active, owed, send_window}
 use Rattle.h2_log.specs.Windows.{first_window, connection_send_window}
 use Rattle.h2_log.specs.Histories.{IsLog}
 use Rattle.h2_log_laws.specs.Sums.{sum_below}
+use Rattle.h2_log_laws.proofs.AllowedHistories.{opening_window, changed_window}
 use Rattle.h2_log_laws.proofs.InvariantLogs.{written_is_allowed}
 use Rattle.h2_log_laws.proofs.ItemLists.{total_none}
 use Rattle.h2_log_laws.proofs.ReaderStates.{active_from, lasts_from}
@@ -49,29 +49,20 @@ use Rattle.h2_pair.proofs.HeardWhole.{client_hears_all}
 use Rattle.h2_log_laws.proofs.LogViewLemmas.{client_above}
 
 -- The initial window that an end has sent last is at least 1.
-opening_window : (role : Role) (values : Values) → AreInRange values
-    → 1 ≤ value_read 4 first_window (alone (Settings false (opening_pairs role values)) ∷ [])
-unfolding value_read value_after opening_pairs
-opening_window Client values ok = ok.least_window
-opening_window Server values ok = ok.least_window
-
-changed_window : (role : Role) (values : Values) (before : ℕ) → AreInRange values
-    → 1 ≤ value_after 4 before (changed_pairs role values)
-unfolding value_after changed_pairs
-changed_window Client values before ok = ok.least_window
-changed_window Server values before ok = ok.least_window
-
 window_after : (role : Role) (received sent : List Item) (item : Item)
     → Allowed role received sent item → 1 ≤ value_read 4 first_window sent
     → 1 ≤ value_read 4 first_window (item ∷ sent)
 unfolding value_read
 window_after role received sent (alone (Settings false pairs)) allowed some =
-    rw allowed.1.changed (changed_window role allowed.1.values _ allowed.1.in_range)
+    rw (allowed.1.changed, changed_window role (value_read 5 16384 sent) allowed.1.values _)
+    allowed.1.in_range.least_window
 window_after role received sent item allowed some = some
 
 some_window : (role : Role) (received sent : List Item) → AllowedHistory role received sent
     → 1 ≤ value_read 4 first_window sent
-some_window role _ _ (starts values ok) = opening_window role values ok
+unfolding value_read
+some_window role _ _ (starts values ok) = rw (opening_window role values first_window)
+    ok.least_window
 some_window role _ sent (reads {received = received} item history) =
     some_window role received sent history
 some_window role received _ (writes {sent = sent} item history allowed) =

@@ -5,7 +5,7 @@ use Rattle.std.proofs.Common.{refl, sym, ap, ◌∙◌, arith, append_assoc, app
 use Rattle.h2_frame.specs.declared.code.Code.TheVariants.{InternalError}
 use Rattle.h2_frame.specs.Frames.{Frame}
 use Rattle.h2_wire.specs.Faults.{wire_fault_code}
-use Rattle.h2_wire.specs.Streams.{Limits, Frames}
+use Rattle.h2_wire.specs.Streams.{Frames}
 use Rattle.h2_wire.proofs.FaultLemmas.{one_reading_lem}
 use Rattle.h2_block.specs.Grouping.{Item, Groups}
 use Rattle.h2_block.proofs.RunLemmas.{one_grouping_lem}
@@ -18,11 +18,8 @@ use Rattle.h2_log.specs.LogView.{log_view}
 use Rattle.h2_log.specs.LogSteps.{used, with_step, with_frame}
 use Rattle.h2_log.specs.ItemRules.{Decoded, FrameStep, frame_step}
 use Rattle.h2_log.specs.Histories.{IsLog}
-use Rattle.h2_log.proofs.StreamLemmas.{stream_of_log}
 use Rattle.h2_end_laws.proofs.Grouped.{items_grouped, groups_now}
 use Rattle.h2_end_laws.proofs.OutputPrefixes.{output_begins}
-use Rattle.h2_end_laws.proofs.PayloadLimits.{payload_limits, limits_of_log}
-use Rattle.h2_end_laws.proofs.SendableCalls.{written_sendable}
 use Rattle.h2_end_laws.proofs.Unread.{reads_fails, reads_unprocessed}
 use Rattle.h2_machine_laws.specs.Machines.{Step, uses_part, ends_frame, meets_fault}
 use Rattle.h2_machine_laws.specs.Machines.{runs_out_of_memory, reports_unprocessed, is_called}
@@ -32,6 +29,7 @@ use Rattle.h2_pair.specs.Directions.{AreUnderWay}
 use Rattle.h2_pair.proofs.BothWays.{AreEnds}
 use Rattle.h2_pair.proofs.StepsOfLogs.{IsNoCall}
 use Rattle.h2_pair.proofs.FrameSteps.{has_item, kept_by_step}
+use Rattle.h2_pair.proofs.WiderLimits.{wider_limits, read_widely}
 
 -- Items with others, the oldest first.
 oldest_append : (newer older : List Item)
@@ -57,15 +55,13 @@ newest_before sent received later is =
     ∙ oldest_append (oldest_first received) later
     ∙ ap (λ (items : List Item). oldest_first later ++ items) (oldest_twice received)
 
--- The frames of an end that is up, with the limit that is always in force.
+-- The frames of an end that is up, with limits with which the output of its peer is read too.
 pub frames_received : (role : Role) (values : Values) (log : Log) (expects : Bool)
     → is_server role ≡ expects → IsLog role values log → log.failed ≡ None
-    → Frames expects payload_limits log.input log.frames log.unparsed
+    → Frames expects (wider_limits log) log.input log.frames log.unparsed
 frames_received role values log expects same is up =
-    subst (λ (b : Bool). Frames b payload_limits log.input log.frames log.unparsed) same
-    (subst (λ (limits : Limits). Frames (is_server role) limits log.input log.frames log.unparsed)
-    (limits_of_log role values log is)
-    ((stream_of_log role values log is).framed up))
+    subst (λ (b : Bool). Frames b (wider_limits log) log.input log.frames log.unparsed) same
+    (read_widely role values log is up)
 
 -- What an end that is up has received, where its input begins the output of the other.
 pub received_first : (writer reader : Half) (rest : List ℕ) → AreEnds writer reader
@@ -73,12 +69,13 @@ pub received_first : (writer reader : Half) (rest : List ℕ) → AreEnds writer
     → (way : List Item) × AreUnderWay writer.log reader.log way
 received_first writer reader rest ends joined up =
     let expects = not (is_server ends.writer_role) in
-    let prefix = output_begins _ _ writer.log payload_limits reader.log.input rest ends.writer_log
-    joined (λ place. omega arith) (written_sendable _ _ writer.log ends.writer_log) in
+    let limits = wider_limits reader.log in
+    let prefix = output_begins _ _ writer.log limits reader.log.input rest ends.writer_log joined
+    (λ place. omega arith) in
     let framed = frames_received _ _ reader.log expects ends.opposite ends.reader_log up in
     let grouped = groups_now reader.log (items_grouped _ _ reader.log ends.reader_log) up in
-    let one = one_reading_lem expects payload_limits reader.log.input prefix.frames
-    reader.log.frames prefix.unparsed reader.log.unparsed prefix.read framed in
+    let one = one_reading_lem expects limits reader.log.input prefix.frames reader.log.frames
+    prefix.unparsed reader.log.unparsed prefix.read framed in
     let groups : Groups reader.log.frames prefix.items prefix.begun =
     subst (λ (frames : List Frame). Groups frames prefix.items prefix.begun) one.0 prefix.groups in
     let same = one_grouping_lem reader.log.frames prefix.items

@@ -6,6 +6,7 @@ pub mod LogOutput
 pub mod StepsOfLogs
 pub mod FrameSteps
 pub mod CarriedOctets
+pub mod WiderLimits
 pub mod ItemsRead
 pub mod CarriedItems
 pub mod ConnectionWindows
@@ -31,6 +32,7 @@ pub mod TablesOfPairs
 pub mod DataItems
 pub mod FaultsInvariant
 pub mod FaultsOfCalls
+pub mod FaultsOfSizes
 pub mod FaultsOfWire
 pub mod FaultsOfGrouping
 pub mod FaultsOfItems

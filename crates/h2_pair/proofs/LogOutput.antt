@@ -1,7 +1,8 @@
 -- What a log has written and given out, as steps add to it: each step adds octets at the end of the
 -- output, and only a call that puts output out gives more out.
-use Rattle.std.proofs.Common.{◌≡◌, ◌≤◌, ℕ, List, [], ◌∷◌, ◌++◌, refl, sym, ap, ◌∙◌, arith}
-use Rattle.std.proofs.Common.{append_assoc, append-nil}
+use Rattle.std.proofs.Common.{map as each, ◌≡◌, ◌≤◌, ℕ, List, [], ◌∷◌, ◌++◌, length, refl, sym, ap}
+use Rattle.std.proofs.Common.{◌∙◌, arith, append_assoc, append-nil, length-append}
+use Rattle.std.proofs.lemmas.List.{length-map}
 use Rattle.h2_block.specs.Grouping.{Item}
 use Rattle.h2_log.specs.Items.{encoding_of_items}
 use Rattle.h2_log.specs.Acts.{Act, Answer}
@@ -9,13 +10,17 @@ use Rattle.h2_log.specs.Log.{Log, max_payload_sent}
 use Rattle.h2_log.specs.LogCalls.{called, with_call}
 use Rattle.h2_log_laws.proofs.GrowthBySteps.{HoldsOfFailures, HoldsOfReads, holds_call}
 
--- Octets were added to the output, and items in front of what was sent; G says what was given out.
+-- Octets were added to the output, and items in front of what was sent, each with its greatest
+-- payload; G says what was given out.
 pub record Writes (G : ℕ → ℕ → Type 0) (old new : Log) : Type 0 where
   pub octets : List ℕ
   pub written : new.written ≡ old.written ++ octets
   pub given : G old.given new.given
   pub items : List Item
   pub sent : new.sent ≡ items ++ old.sent
+  pub payloads : List ℕ
+  pub paid : new.payloads ≡ payloads ++ old.payloads
+  pub each_one : length payloads ≡ length items
 
 -- As much was given out.
 abbrev pub Adds : Log → Log → Type 0
@@ -27,14 +32,18 @@ Gives = Writes (λ before after. before ≤ after)
 
 -- Nothing was written.
 writes_none : (G : ℕ → ℕ → Type 0) (old new : Log) → new.written ≡ old.written
-    → G old.given new.given → new.sent ≡ old.sent → Writes G old new
-writes_none G old new written given sent =
+    → G old.given new.given → new.sent ≡ old.sent → new.payloads ≡ old.payloads
+    → Writes G old new
+writes_none G old new written given sent paid =
     record {
       octets = [];
       written = written ∙ sym (append-nil old.written);
       given = given;
       items = [];
       sent = sent;
+      payloads = [];
+      paid = paid;
+      each_one = refl;
     }
 
 -- Each change by which no output is put out writes.
@@ -43,7 +52,7 @@ writes_failures : (G : ℕ → ℕ → Type 0) → ((count : ℕ) → G count co
 writes_failures G same further =
     record {
       writes = record {
-        none = λ log. writes_none G log log refl (same log.given) refl;
+        none = λ log. writes_none G log log refl (same log.given) refl refl;
         twice = λ one two three a b. record {
           octets = a.octets ++ b.octets;
           written = b.written ∙ ap (λ (octets : List ℕ). octets ++ b.octets) a.written
@@ -52,6 +61,16 @@ writes_failures G same further =
           items = b.items ++ a.items;
           sent = b.sent ∙ ap (λ (items : List Item). b.items ++ items) a.sent
               ∙ sym (append_assoc b.items a.items one.sent);
+          payloads = b.payloads ++ a.payloads;
+          paid = b.paid ∙ ap (λ (payloads : List ℕ). b.payloads ++ payloads) a.paid
+              ∙ sym (append_assoc b.payloads a.payloads one.payloads);
+          each_one = omega (
+            arith,
+            length-append b.payloads a.payloads,
+            length-append b.items a.items,
+            a.each_one,
+            b.each_one,
+          );
         };
         sent = λ log item items. record {
           octets = encoding_of_items (max_payload_sent log) (item ∷ items);
@@ -59,10 +78,13 @@ writes_failures G same further =
           given = same log.given;
           items = item ∷ items;
           sent = refl;
+          payloads = each (λ one. max_payload_sent log) (item ∷ items);
+          paid = refl;
+          each_one = length-map (item ∷ items) (λ one. max_payload_sent log);
         };
-        unreturned = λ log count. writes_none G log _ refl (same log.given) refl;
+        unreturned = λ log count. writes_none G log _ refl (same log.given) refl refl;
       };
-      failed = λ log code. writes_none G log _ refl (same log.given) refl;
+      failed = λ log code. writes_none G log _ refl (same log.given) refl refl;
     }
 
 -- So does what is read.
@@ -71,11 +93,11 @@ writes_reads : (G : ℕ → ℕ → Type 0) → ((count : ℕ) → G count count
 writes_reads G same further =
     record {
       failures = writes_failures G same further;
-      used = λ log octets unparsed. writes_none G log _ refl (same log.given) refl;
-      framed = λ log frames. writes_none G log _ refl (same log.given) refl;
-      begun = λ log begun. writes_none G log _ refl (same log.given) refl;
-      read = λ log decoded item. writes_none G log _ refl (same log.given) refl;
-      reported = λ log event events. writes_none G log _ refl (same log.given) refl;
+      used = λ log octets unparsed. writes_none G log _ refl (same log.given) refl refl;
+      framed = λ log frames. writes_none G log _ refl (same log.given) refl refl;
+      begun = λ log begun. writes_none G log _ refl (same log.given) refl refl;
+      read = λ log decoded item. writes_none G log _ refl (same log.given) refl refl;
+      reported = λ log event events. writes_none G log _ refl (same log.given) refl refl;
     }
 
 pub adds_reads : HoldsOfReads Adds
@@ -88,8 +110,8 @@ gives_reads = writes_reads _ (λ count. omega arith) (λ one two three a b. omeg
 pub gives_call : (log : Log) (act : Act) (answer : Answer) → Gives log (with_call log act answer)
 gives_call log act answer =
     gives_reads.failures.writes.twice log (called log act answer) _
-    (writes_none _ log _ refl (omega arith) refl)
+    (writes_none _ log _ refl (omega arith) refl refl)
     (holds_call Gives (record {
       failures = gives_reads.failures;
-      given = λ log more. writes_none _ log _ refl (omega arith) refl;
+      given = λ log more. writes_none _ log _ refl (omega arith) refl refl;
     }) log act answer)

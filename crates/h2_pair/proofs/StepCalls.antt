@@ -20,7 +20,7 @@ SameGiven before after = after.given ≡ before.given
 failure_given : HoldsOfFailures SameGiven
 failure_given =
     record {
-      writes = stays_written (λ log. log.given) (λ log sent written turns. refl)
+      writes = stays_written (λ log. log.given) (λ log sent written payloads turns. refl)
           (λ log count. refl);
       failed = λ log code. refl;
     }
@@ -48,7 +48,7 @@ FailedAs = SamePart (λ log. log.failed)
 
 failed_as : HoldsOfWrites FailedAs
 failed_as =
-    stays_written (λ log. log.failed) (λ log sent written turns. refl) (λ log count. refl)
+    stays_written (λ log. log.failed) (λ log sent written payloads turns. refl) (λ log count. refl)
 
 -- No other call than the refusal of a stream makes the connection fail, as long as memory suffices.
 pub call_failed : (log : Log) (act : Act) (answer : Answer)

@@ -1,6 +1,6 @@
 -- How much output waits at an end of a pair.
-use Rattle.std.proofs.Common.{◌≡◌, inl, inr, ℕ, ◌+◌, ◌≤◌, List, ◌++◌, None, refl, sym, ap, ◌∙◌}
-use Rattle.std.proofs.Common.{arith, subst}
+use Rattle.std.proofs.Common.{◌≡◌, inl, inr, ℕ, ◌+◌, ◌≤◌, List, [], ◌∷◌, ◌++◌, None, refl, sym}
+use Rattle.std.proofs.Common.{ap, ◌∙◌, arith, subst}
 use Rattle.std.specs.List.{AllByRecursion}
 use Rattle.h2_block.specs.Grouping.{Item}
 use Rattle.h2_log.specs.declared.role.Role.{Role}
@@ -23,15 +23,23 @@ use Rattle.h2_pair.proofs.CarriedItems.{before, items_carried, way_of}
 use Rattle.h2_pair.proofs.WaitingReplies.{replies_left}
 use Rattle.h2_pair.proofs.WaitingSteps.{Fits}
 use Rattle.h2_pair.proofs.WaitingFrames.{fits_log}
-use Rattle.h2_pair.proofs.WaitingCarried.{LieIn}
+use Rattle.h2_pair.proofs.WaitingCarried.{LieIn, ReceivedLie}
 use Rattle.h2_pair.proofs.WaitingWay.{left_of_both, none_left, settings_wait, pings_wait}
 use Rattle.h2_pair.proofs.WaitingWay.{octets_by_kind}
 
+-- Nothing is left of no items.
+left_of_none : (preceding given : ℕ) (payloads : List ℕ)
+    → replies_left preceding given payloads [] ≡ 0
+left_of_none preceding given [] = refl
+left_of_none preceding given (most ∷ payloads) = refl
+
 -- Nothing of what lies in what was given out is left.
-nothing_left : (preceding given : ℕ) (items : List Item) → LieIn preceding given items
-    → replies_left preceding given items ≡ 0
-nothing_left preceding given items (inl none) = rw none refl
-nothing_left preceding given items (inr fits) = none_left preceding given items fits
+nothing_left : (preceding given : ℕ) (payloads : List ℕ) (items : List Item)
+    → LieIn preceding given payloads items → replies_left preceding given payloads items ≡ 0
+nothing_left preceding given payloads items (inl none) =
+    rw none (left_of_none preceding given payloads)
+nothing_left preceding given payloads items (inr fits) =
+    none_left preceding given payloads items fits
 
 -- Few of the replies are under way.
 record FewWait (way : List Item) : Type 0 where
@@ -61,13 +69,14 @@ few_wait writer reader way back ends up under_way returns =
     }
 
 -- What is left of all that was sent is in what is under way, or in what was received.
-left_of_sent : (preceding given : ℕ) (way received sent : List Item) → sent ≡ way ++ received
+left_of_sent : (preceding given : ℕ) (payloads : List ℕ) (way received sent : List Item)
+    → (are : ReceivedLie preceding given payloads way received) → sent ≡ way ++ received
     → AllByRecursion (IsSendable max_frame_size_sent) sent
-    → replies_left preceding given sent
+    → replies_left preceding given payloads sent
     ≤ octets_by_kind (total one_ack way) (total one_answer way) (total one_reset way)
-    + replies_left preceding given received
-left_of_sent preceding given way received sent same can =
-    rw same (left_of_both preceding given way received
+    + replies_left preceding given are.olds received
+left_of_sent preceding given payloads way received sent are same can =
+    rw (same, are.paid) (left_of_both preceding given are.news are.olds way received are.each_one
     (all_newer (IsSendable max_frame_size_sent) way received (rw same at can)))
 
 -- How much waits at an end of a pair that is up.
@@ -83,15 +92,17 @@ waiting_is_bounded writer reader is up =
     subst (λ (r : Role). Fits (before r) writer.log)
     (sym (stream_of_log _ _ writer.log ends.writer_log).role)
     (fits_log _ _ writer.log ends.writer_log up) in
-    let left = left_of_sent (before writer.log.role) writer.log.given way reader.log.received
-    writer.log.sent carries.under_way (written_sendable _ _ writer.log ends.writer_log) in
+    let left = left_of_sent (before writer.log.role) writer.log.given writer.log.payloads way
+    reader.log.received writer.log.sent carries.lie carries.under_way
+    (written_sendable _ _ writer.log ends.writer_log) in
     let few = few_wait writer reader way back.0 ends up carries.under_way back.1 in
     omega (
       arith,
       fits.written,
       fits.waits,
       left,
-      nothing_left (before writer.log.role) writer.log.given reader.log.received carries.lie,
+      nothing_left (before writer.log.role) writer.log.given carries.lie.olds reader.log.received
+          carries.lie.within,
       few.acks,
       few.answers,
       few.resets,

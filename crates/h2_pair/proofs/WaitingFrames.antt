@@ -9,7 +9,7 @@ use Rattle.h2_log.specs.declared.role.Role.TheVariants.{Client, Server}
 use Rattle.h2_log.specs.Acts.{Values}
 use Rattle.h2_log.specs.Settings.{is_server}
 use Rattle.h2_log.specs.Items.{stream_of_item, encoding_of_items}
-use Rattle.h2_log.specs.Log.{Log}
+use Rattle.h2_log.specs.Log.{Log, max_payload_sent}
 use Rattle.h2_log.specs.LogView.{log_view}
 use Rattle.h2_log.specs.Verdicts.{Verdict, ConnectionFault, StreamFault, NoEvent, Reported}
 use Rattle.h2_log.specs.ItemRules.{replies_to}
@@ -17,7 +17,7 @@ use Rattle.h2_log.specs.CallRules.{opening_pairs, conditions, answer_of}
 use Rattle.h2_log.specs.LogSteps.{read, with_sent}
 use Rattle.h2_log.specs.LogCalls.{before_opening, opened, called}
 use Rattle.h2_log.specs.Histories.{IsLog}
-use Rattle.h2_log_laws.proofs.ItemSizes.{size_of, size-opening}
+use Rattle.h2_log_laws.proofs.ItemSizes.{size_by, size-opening}
 use Rattle.h2_log_laws.proofs.LogGrowth.{fails_down, grows_wrote}
 use Rattle.h2_log_laws.proofs.LogInduction.{IsLogInvariant, kept_by_logs}
 use Rattle.h2_log_laws.proofs.CallConditions.{none_holds}
@@ -45,7 +45,7 @@ fits_before : (role : Role) → length (expected_preface (not (is_server role)))
     → Fits (length (expected_preface (not (is_server role)))) (before_opening role)
 unfolding encoding_of_items
 fits_before role short =
-    let none : size_of (before_opening role).sent ≡ 0 = refl in
+    let none : size_by (before_opening role).payloads (before_opening role).sent ≡ 0 = refl in
     let same : length (before_opening role).written
     ≡ length (expected_preface (not (is_server role))) = refl in
     record { written = omega (arith, none, same); waits = omega (arith, none, short) }
@@ -57,9 +57,11 @@ fits_opened : (role : Role) (values : Values)
 unfolding opened
 fits_opened role values short =
     fits_same _ (with_sent (before_opening role) (alone (Settings false
-    (opening_pairs role values)) ∷ [])) (opened role values) refl refl refl
+    (opening_pairs role values)) ∷ [])) (opened role values) refl refl refl refl
     (fits_small _ (before_opening role) (alone (Settings false (opening_pairs role values)) ∷ [])
-    (omega (arith, short)) (omega (arith, size-opening role values)) (fits_before role short))
+    (omega (arith, short))
+    (omega (arith, size-opening (max_payload_sent (before_opening role)) role values))
+    (fits_before role short))
 
 -- At a new end.
 fits_new : (role : Role) (values : Values)
@@ -74,21 +76,21 @@ fits_kept : (role : Role) (values : Values) → IsLogInvariant role values (λ l
 fits_kept role values =
     record {
       opening = λ in_range up. fits_new role values;
-      used = λ log octets unparsed is up. fits_same _ log _ refl refl refl (is up);
-      framed = λ log frames is up. fits_same _ log _ refl refl refl (is up);
-      begun = λ log begun is up. fits_same _ log _ refl refl refl (is up);
+      used = λ log octets unparsed is up. fits_same _ log _ refl refl refl refl (is up);
+      framed = λ log frames is up. fits_same _ log _ refl refl refl refl (is up);
+      begun = λ log begun is up. fits_same _ log _ refl refl refl refl (is up);
       replied = λ log decoded item verdict replies is up.
-          fits_replies _ (read log decoded item) verdict item (fits_same _ log _ refl refl refl
+          fits_replies _ (read log decoded item) verdict item (fits_same _ log _ refl refl refl refl
           (is ((grows_wrote (read log decoded item) _).up up)));
-      reported = λ log event events may is up. fits_same _ log _ refl refl refl (is up);
-      unreturned = λ log count is up. fits_same _ log _ refl refl refl (is up);
+      reported = λ log event events may is up. fits_same _ log _ refl refl refl refl (is up);
+      unreturned = λ log count is up. fits_same _ log _ refl refl refl refl (is up);
       returned = λ log returns is up. fits_returned _ log returns.space
           (is ((grows_wrote (record log { unreturned = 0 }) _).up up));
       failed = λ log code last names is up. absurd (fails_down code last log up);
       sent = λ log act accepted is up. fits_accepted _ log act accepted.typed
           (none_holds (conditions (log_view log) act) accepted.none)
           (is ((grows_wrote (called log act (answer_of (log_view log) act)) _).up up));
-      called = λ log act answer is_log none is up. fits_same _ log _ refl refl refl (is up);
+      called = λ log act answer is_log none is up. fits_same _ log _ refl refl refl refl (is up);
       given = λ log more is up. fits_given _ log more (is up);
     }
 

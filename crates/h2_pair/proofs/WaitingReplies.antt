@@ -3,7 +3,7 @@ use Rattle.std.proofs.Common.{ℕ, ◌+◌, ◌-◌, ◌≤◌, min, Bool, true,
 use Rattle.std.proofs.Common.{if◌then◌else◌}
 use Rattle.h2_frame.specs.Frames.{Reset, Settings, Ping}
 use Rattle.h2_block.specs.Grouping.{Item, alone}
-use Rattle.h2_log_laws.proofs.ItemSizes.{size_of, size-append}
+use Rattle.h2_log_laws.proofs.ItemSizes.{size_of, size_by, size_by-more}
 
 -- Whether the item may be a reply: an acknowledgment, the answer to a PING, or RST_STREAM.
 unfoldable pub is_reply : Item → Bool
@@ -12,9 +12,9 @@ is_reply (alone (Ping ack octets)) = ack
 is_reply (alone (Reset stream code)) = true
 is_reply item = false
 
--- the octets of an item, if it may be a reply
-abbrev pub reply_size : Item → ℕ
-reply_size item = if is_reply item then size_of (item ∷ []) else 0
+-- the octets of an item with its greatest payload, if it may be a reply
+abbrev pub reply_size : (most : ℕ) → Item → ℕ
+reply_size most item = if is_reply item then size_of most (item ∷ []) else 0
 
 -- No more than the octets of the item, by the test.
 reply_fits_by : (size : ℕ) (test : Bool) → (if test then size else 0) ≤ size
@@ -22,16 +22,16 @@ reply_fits_by size true = omega arith
 reply_fits_by size false = omega arith
 
 -- No more than the octets of the item.
-pub reply_fits : (item : Item) → reply_size item ≤ size_of (item ∷ [])
-reply_fits item = reply_fits_by (size_of (item ∷ [])) (is_reply item)
+pub reply_fits : (most : ℕ) (item : Item) → reply_size most item ≤ size_of most (item ∷ [])
+reply_fits most item = reply_fits_by (size_of most (item ∷ [])) (is_reply item)
 
--- The octets of replies that weren't given out, where so many octets stand before the items and so
--- many were given out.
-abbrev pub replies_left : (before given : ℕ) → List Item → ℕ
-replies_left before given [] = 0
-replies_left before given (item ∷ items) =
-    replies_left before given items
-    + min (reply_size item) ((before + size_of (item ∷ items)) - given)
+-- The octets of replies that weren't given out, where so many octets stand before the items, each
+-- of which has its own greatest payload, and so many were given out.
+abbrev pub replies_left : (before given : ℕ) → List ℕ → List Item → ℕ
+replies_left before given (most ∷ payloads) (item ∷ items) =
+    replies_left before given payloads items
+    + min (reply_size most item) ((before + size_by (most ∷ payloads) (item ∷ items)) - given)
+replies_left before given payloads items = 0
 
 -- One interval: what is given out of an item and of those before it is no more than what is given
 -- out.
@@ -41,15 +41,16 @@ falls_by : (given more reply size middle : ℕ) → reply ≤ size
 falls_by given more reply size middle fits = omega (arith, fits)
 
 -- Where more is given out, no more of the replies is.
-pub replies_fall : (before given more : ℕ) (items : List Item)
-    → replies_left before given items
-    ≤ replies_left before (given + more) items + min more ((before + size_of items) - given)
-replies_fall before given more [] = omega arith
-replies_fall before given more (item ∷ items) =
+pub replies_fall : (before given more : ℕ) (payloads : List ℕ) (items : List Item)
+    → replies_left before given payloads items
+    ≤ replies_left before (given + more) payloads items
+    + min more ((before + size_by payloads items) - given)
+replies_fall before given more (most ∷ payloads) (item ∷ items) =
     omega (
       arith,
-      replies_fall before given more items,
-      size-append (item ∷ []) items,
-      falls_by given more (reply_size item) (size_of (item ∷ [])) (before + size_of items)
-          (reply_fits item),
+      replies_fall before given more payloads items,
+      size_by-more most (item ∷ []) items payloads,
+      falls_by given more (reply_size most item) (size_of most (item ∷ []))
+          (before + size_by payloads items) (reply_fits most item),
     )
+replies_fall before given more payloads items = omega arith

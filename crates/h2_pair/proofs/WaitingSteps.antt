@@ -1,5 +1,5 @@
 -- How much output of one end waits: what calls add before it is full, and replies.
-use Rattle.std.proofs.Common.{◌≡◌, ℕ, ◌+◌, ◌≤◌, ◌<◌, true, List, [], ◌∷◌, length, refl, ◌∙◌, arith}
+use Rattle.std.proofs.Common.{◌≡◌, ℕ, ◌+◌, ◌≤◌, ◌<◌, true, List, [], ◌∷◌, length, refl, arith}
 use Rattle.std.proofs.Common.{length-append}
 use Rattle.h2_frame.specs.Frames.{WindowUpdate}
 use Rattle.h2_block.specs.Grouping.{Item, alone}
@@ -7,8 +7,7 @@ use Rattle.h2_log.specs.Items.{encoding_of_items}
 use Rattle.h2_log.specs.Limits.{full_output}
 use Rattle.h2_log.specs.Log.{Log, output, waiting, max_payload_sent}
 use Rattle.h2_log.specs.LogSteps.{with_sent, with_credit_returned}
-use Rattle.h2_log.proofs.SentPayloads.{most_is_limit}
-use Rattle.h2_log_laws.proofs.ItemSizes.{size_of, size-append, size-update}
+use Rattle.h2_log_laws.proofs.ItemSizes.{size_of, size_by, size_by-more, size-update}
 use Rattle.h2_pair.proofs.WaitingReplies.{is_reply, reply_size, replies_left, replies_fall}
 
 -- what calls may add to an output that isn't full, and what waits then
@@ -18,40 +17,48 @@ most_of_calls = 65535 + 131113
 -- The output has so many octets, and the items; and what waits is at most what calls make of an
 -- output that isn't full, and replies.
 pub record Fits (before : ℕ) (log : Log) : Type 0 where
-  pub written : length log.written ≡ before + size_of log.sent
-  pub waits : before + size_of log.sent
-      ≤ log.given + (most_of_calls + replies_left before log.given log.sent)
+  pub written : length log.written ≡ before + size_by log.payloads log.sent
+  pub waits : before + size_by log.payloads log.sent
+      ≤ log.given + (most_of_calls + replies_left before log.given log.payloads log.sent)
 
 -- A log with the same output.
 pub fits_same : (before : ℕ) (old new : Log) → new.written ≡ old.written → new.sent ≡ old.sent
-    → new.given ≡ old.given → Fits before old → Fits before new
-fits_same before old new written sent given fits =
+    → new.payloads ≡ old.payloads → new.given ≡ old.given → Fits before old → Fits before new
+fits_same before old new written sent payloads given fits =
     record {
-      written = rw (written, sent) fits.written;
-      waits = rw (sent, given) fits.waits;
+      written = rw (written, sent, payloads) fits.written;
+      waits = rw (sent, payloads, given) fits.waits;
     }
 
 -- The octets that are added where items are sent.
 sent_length : (before : ℕ) (log : Log) (items : List Item) → Fits before log
-    → length (with_sent log items).written ≡ before + size_of (with_sent log items).sent
+    → length (with_sent log items).written
+    ≡ before + size_by (with_sent log items).payloads (with_sent log items).sent
 unfolding with_sent
 sent_length before log [] fits = fits.written
 sent_length before log (item ∷ items) fits =
-    length-append log.written (encoding_of_items (max_payload_sent log) (item ∷ items))
-    ∙ rw (most_is_limit log.received, fits.written) (omega (
+    omega (
       arith,
-      size-append (item ∷ items) log.sent,
-    ))
+      fits.written,
+      length-append log.written (encoding_of_items (max_payload_sent log) (item ∷ items)),
+      size_by-more (max_payload_sent log) (item ∷ items) log.sent log.payloads,
+    )
 
 -- A reply is sent.
 pub fits_reply : (before : ℕ) (log : Log) (item : Item) → is_reply item ≡ true → Fits before log
     → Fits before (with_sent log (item ∷ []))
 unfolding with_sent
 fits_reply before log item is fits =
-    let all : reply_size item ≡ size_of (item ∷ []) = rw is refl in
+    let most = max_payload_sent log in
+    let all : reply_size most item ≡ size_of most (item ∷ []) = rw is refl in
     record {
       written = sent_length before log (item ∷ []) fits;
-      waits = omega (arith, fits.waits, size-append (item ∷ []) log.sent, all);
+      waits = omega (
+        arith,
+        fits.waits,
+        size_by-more most (item ∷ []) log.sent log.payloads,
+        all,
+      );
     }
 
 -- Where less than the full output waits.
@@ -62,8 +69,8 @@ has_space log space = omega (arith, space)
 
 -- Items are sent where the output isn't full.
 pub fits_small : (before : ℕ) (log : Log) (items : List Item)
-    → length log.written < log.given + full_output → size_of items ≤ 131113 → Fits before log
-    → Fits before (with_sent log items)
+    → length log.written < log.given + full_output → size_of (max_payload_sent log) items ≤ 131113
+    → Fits before log → Fits before (with_sent log items)
 unfolding with_sent
 fits_small before log [] space small fits = fits
 fits_small before log (item ∷ items) space small fits =
@@ -74,7 +81,7 @@ fits_small before log (item ∷ items) space small fits =
         space,
         small,
         fits.written,
-        size-append (item ∷ items) log.sent,
+        size_by-more (max_payload_sent log) (item ∷ items) log.sent log.payloads,
       );
     }
 
@@ -83,8 +90,9 @@ pub fits_returned : (before : ℕ) (log : Log) → waiting log < full_output →
     → Fits before (with_credit_returned log)
 fits_returned before log space fits =
     fits_small before (record log { unreturned = 0 }) (alone (WindowUpdate 0 log.unreturned) ∷ [])
-    (has_space log space) (omega (arith, size-update 0 log.unreturned))
-    (fits_same before log (record log { unreturned = 0 }) refl refl refl fits)
+    (has_space log space)
+    (omega (arith, size-update (max_payload_sent log) 0 log.unreturned))
+    (fits_same before log (record log { unreturned = 0 }) refl refl refl refl fits)
 
 -- Output is given out.
 pub fits_given : (before : ℕ) (log : Log) (more : ℕ) → Fits before log
@@ -95,6 +103,6 @@ fits_given before log more fits =
       waits = omega (
         arith,
         fits.waits,
-        replies_fall before log.given more log.sent,
+        replies_fall before log.given more log.payloads log.sent,
       );
     }

@@ -14,7 +14,8 @@ use Rattle.h2_log.specs.Settings.{settings_count, one_settings, one_ack}
 use Rattle.h2_log.specs.Allowed.{AllowedHistory, Allowed, starts, reads, writes}
 use Rattle.h2_log.specs.CallRules.{opening_pairs}
 use Rattle.h2_log_laws.specs.Sending.{IsSendable}
-use Rattle.h2_log_laws.proofs.ItemSizes.{size_of, size-append, size-ack, size-ping, size-reset}
+use Rattle.h2_log_laws.proofs.ItemSizes.{size_of, size_by, size_by-more, size-ack, size-ping}
+use Rattle.h2_log_laws.proofs.ItemSizes.{size-reset}
 use Rattle.h2_log_laws.proofs.SettingsLists.{settings_or, count_next, settings_one, count_none}
 use Rattle.h2_pair.proofs.WaitingReplies.{is_reply, reply_size, replies_left}
 
@@ -41,37 +42,44 @@ abbrev pub octets_by_kind : (acks answers resets : ℕ) → ℕ
 octets_by_kind acks answers resets = 9 * acks + 17 * answers + 13 * resets
 
 -- An acknowledgment.
-ack_size : (pairs : List (ℕ × ℕ)) → pairs ≡ [] → size_of (alone (Settings true pairs) ∷ []) ≡ 9
-ack_size pairs none = rw none size-ack
+ack_size : (most : ℕ) (pairs : List (ℕ × ℕ)) → pairs ≡ []
+    → size_of most (alone (Settings true pairs) ∷ []) ≡ 9
+ack_size most pairs none = rw none (size-ack most)
 
 -- A reply has no more.
-kind_size : (item : Item) → IsSendable max_frame_size_sent item
-    → reply_size item ≤ octets_by_kind (one_ack item) (one_answer item) (one_reset item)
+kind_size : (most : ℕ) (item : Item) → IsSendable max_frame_size_sent item
+    → reply_size most item ≤ octets_by_kind (one_ack item) (one_answer item) (one_reset item)
 unfolding is_reply one_ack one_answer one_reset
-kind_size (alone (Reset stream code)) can = omega (arith, size-reset stream code)
-kind_size (alone (Settings true pairs)) can = omega (arith, ack_size pairs (ack_empty pairs can.1))
-kind_size (alone (Ping true octets)) can = omega (arith, size-ping true octets, can.2)
-kind_size item can = omega arith
+kind_size most (alone (Reset stream code)) can = omega (arith, size-reset most stream code)
+kind_size most (alone (Settings true pairs)) can =
+    omega (arith, ack_size most pairs (ack_empty pairs can.1))
+kind_size most (alone (Ping true octets)) can = omega (arith, size-ping most true octets, can.2)
+kind_size most item can = omega arith
 
 -- What is left of the replies is no more than those of the newer items and what is left of the
 -- older ones.
-pub left_of_both : (before given : ℕ) (newer older : List Item)
-    → AllByRecursion (IsSendable max_frame_size_sent) newer
-    → replies_left before given (newer ++ older)
+pub left_of_both : (before given : ℕ) (news olds : List ℕ) (newer older : List Item)
+    → length news ≡ length newer → AllByRecursion (IsSendable max_frame_size_sent) newer
+    → replies_left before given (news ++ olds) (newer ++ older)
     ≤ octets_by_kind (total one_ack newer) (total one_answer newer) (total one_reset newer)
-    + replies_left before given older
+    + replies_left before given olds older
 unfolding total
-left_of_both before given [] older can = omega arith
-left_of_both before given (item ∷ newer) older can =
-    omega (arith, left_of_both before given newer older can.1, kind_size item can.0)
+left_of_both before given [] olds [] older each_one can = omega arith
+left_of_both before given (most ∷ news) olds (item ∷ newer) older each_one can =
+    omega (
+      arith,
+      left_of_both before given news olds newer older (omega (arith, each_one)) can.1,
+      kind_size most item can.0,
+    )
+left_of_both before given news olds newer older each_one can = absurd (omega (arith, each_one))
 
 -- Nothing is left of items that were given out.
-pub none_left : (before given : ℕ) (items : List Item) → before + size_of items ≤ given
-    → replies_left before given items ≡ 0
-none_left before given [] fits = refl
-none_left before given (item ∷ items) fits =
-    let sum = size-append (item ∷ []) items in
-    omega (arith, sum, fits, none_left before given items (omega (arith, sum, fits)))
+pub none_left : (before given : ℕ) (payloads : List ℕ) (items : List Item)
+    → before + size_by payloads items ≤ given → replies_left before given payloads items ≡ 0
+none_left before given (most ∷ payloads) (item ∷ items) fits =
+    let sum = size_by-more most (item ∷ []) items payloads in
+    omega (arith, sum, fits, none_left before given payloads items (omega (arith, sum, fits)))
+none_left before given payloads items fits = refl
 
 -- An end has one SETTINGS more, at most, than were acknowledged.
 pub settings_wait : (role : Role) (received sent : List Item) → AllowedHistory role received sent

@@ -131,7 +131,8 @@ request_on_pipe_comes =
     (client_calls_comes tableless_values default_values (new_pair tableless_values default_values)
     (Open short_request true) (new_pair_comes tableless_values default_values
     (values_are tableless_values refl refl refl refl refl refl refl)
-    (values_are default_values refl refl refl refl refl refl refl)) (fields_are short_request refl) tt)
+    (values_are default_values refl refl refl refl refl refl refl))
+    (fields_are short_request refl) tt)
     (below _ _ refl) tt
 
 answer_on_pipe_comes : Comes tableless_values default_values answer_on_pipe
