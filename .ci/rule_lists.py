@@ -53,6 +53,7 @@ JOINED = "users join two ends, which no end does"
 LINK = "a link in memory is for users' tests"
 TEXTS = "hpack reads into a text that it has, with the function that appends"
 API = {
+    "h2_config::Config::with_max_frame": "a program with larger frames configures its ends so",
     "h2_flow::StreamState::end_in": "an end sets the side with the rest of its stream",
     "h2_flow::StreamState::end_out": "an end sets the side with the rest of its stream",
     "h2_flow::Window::give": WINDOWS,
@@ -140,4 +141,46 @@ SECTIONS = {
     "engines": "Connections over links, and the program's h2 serve, get and loop",
     "show": "The program's h2 show",
     "replay": "A replay, and the program's h2 replay",
+}
+
+# Where the profile chose against a sentence of an RFC, by section and sentence of the rule: the sentence, and why.
+CONFLICTS = {
+    "10.5 A block of more than 65,552 octets is ENHANCE_YOUR_CALM": "9113, 4.3: an endpoint that does not decompress a "
+    "field block MUST end the connection with COMPRESSION_ERROR. Such a block is not kept, so it cannot be decompressed; "
+    "the code says why, as 10.5 lets an endpoint do.",
+    "HPACK 4.2 A block without the update that a lower limit asks for is a fault": "7541, 4.2: where a limit fell and rose "
+    "between two blocks, the lowest MUST be signalled too. A block is held against the limit in force alone, so a peer "
+    "that leaves the lower update out is not at fault; nor is one that sends more updates than two.",
+    "5.1 On a closed stream a field block is PROTOCOL_ERROR": "9113, 5.1: a frame after both ends are closed MAY be "
+    "STREAM_CLOSED; 5.1.1: a lower number MUST be PROTOCOL_ERROR. Of a stream that is over nothing is kept, so both are the "
+    "same here.",
+    "5.1 On a closed stream DATA is STREAM_CLOSED (its scope: own)": "9113, 6.1: a stream error. 5.1 allows the connection "
+    "error, and nothing is kept of a stream that is over.",
+    "6.9 WINDOW_UPDATE on a closed stream is ignored": "9113, 6.9: an increment of 0 MUST be a stream error, on a closed "
+    "stream too. There is no stream left to reset, and RST_STREAM on a closed one is forbidden (5.1).",
+    "6.3 PRIORITY has five octets (a connection error: own)": "9113, 6.3: a stream error. 5.4.1 lets an endpoint end the "
+    "connection, and a head is checked before its stream is looked up.",
+    "8.3.1 A method that is no token, or is CONNECT (own), breaks M7": "9113, 8.5: CONNECT is well-formed. There are no "
+    "tunnels here, so a client sees RST_STREAM with PROTOCOL_ERROR and no status 405 or 501.",
+    "8.1.1 No length is compared in an answer to HEAD, in 204 and in 304": "9110, 6.4.1: these have no content. DATA that "
+    "comes all the same is handed out, as a part of the stream: whoever asked with HEAD ignores it.",
+    "8.3.1 An :authority with an @ in it names a user, and a call says so": "9113, 8.3.1: `:authority` MUST NOT have a user "
+    "part for http and https. It is not refused: `names_user` says so, and a server that minds answers 400.",
+    "8.2.2 te with another value than trailers breaks M10": "9113, 8.2.2: `te` stands in requests alone. `te: trailers` is "
+    "let through in responses and trailers too, where it says nothing.",
+    "8.1.1 A content-length that is no number, or several, breaks M11": "9110, 8.6: a list of equal numbers may be taken for "
+    "one, or refused. It is refused, and so is a number of more than 19 digits.",
+    "8.3.2 A status that is not three digits from 100 on breaks M9": "9110, 15: statuses from 600 on are invalid. They are "
+    "handed out: what a status means is the caller's.",
+    "6.8 Own streams above GOAWAY's last are reported as unprocessed": "9113, 6.8: frames on such streams may still come, and "
+    "are to be ignored. A stream that was reported is over here, so HEADERS or DATA on it end the connection.",
+    "6.8 An own GOAWAY is sent once, with the greatest stream processed": "9113, 6.8: a server SHOULD send 2^31-1 first and "
+    "the real number later. One GOAWAY is sent, so requests under way are not processed, and a client is told so.",
+    "6.5.3 An acknowledgment that is awaited is reported, others are ignored": "The RFC does not say what an acknowledgment "
+    "means that nobody awaits. It changes nothing.",
+    "5.1.2 A client has at most as many active streams as the server allows": "9113, 5.1.2: before SETTINGS there is no "
+    "limit. A client opens 100 until these have come, and never more than 1,000.",
+    "10.5 An end that resets 1,001 streams ends with ENHANCE_YOUR_CALM": "9113, 10.5: an endpoint SHOULD limit what costs "
+    "it work. Streams that the peer opens and resets, empty CONTINUATION frames and interim responses are not counted: each "
+    "costs a frame and leaves nothing behind.",
 }
