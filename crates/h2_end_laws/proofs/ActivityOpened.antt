@@ -1,11 +1,11 @@
 -- A stream is active once a call has answered its number; or, where it wasn't active, once fields
 -- of it were reported: at a server.
-use Rattle.std.proofs.Common.{◌≡◌, ◌⊎◌, ℕ, ◌%◌, ◌==◌, ◌&&◌, Bool, true, false, List, [], ◌∷◌}
-use Rattle.std.proofs.Common.{◌++◌, Option, Some, refl, sym, ◌∙◌, inl, inr, subst}
+use Rattle.std.proofs.Common.{◌≡◌, ℕ, ◌%◌, ◌==◌, Bool, true, false, List, [], ◌∷◌}
+use Rattle.std.proofs.Common.{◌++◌, Option, Some, refl, sym, ◌∙◌, subst}
 use Rattle.std.specs.List.{list_any}
-use Rattle.std.proofs.lemmas.Bool.{both_ways, or_cases, or_parts, or_from, or_left, and_left}
+use Rattle.std.proofs.lemmas.Bool.{both_ways, or_from, and_left}
 use Rattle.std.proofs.lemmas.Bool.{and_parts}
-use Rattle.std.proofs.lemmas.Bool.{and_right, eqb-true, eq-eqb, false_from_ne_true}
+use Rattle.std.proofs.lemmas.Bool.{false_from_ne_true}
 use Rattle.std.proofs.lemmas.List.{append_cancel_right}
 use Rattle.hpack.specs.declared.types.field.Field.{Field}
 use Rattle.h2_frame.specs.declared.code.Code.{Code}
@@ -14,9 +14,8 @@ use Rattle.h2_block.specs.Grouping.{Item, alone, block}
 use Rattle.h2_log.specs.declared.role.Role.{Role}
 use Rattle.h2_log.specs.declared.role.Role.TheVariants.{Client, Server}
 use Rattle.h2_log.specs.Acts.{Values, Open, Number}
-use Rattle.h2_log.specs.Items.{is_block_on, ends, resets, is_goaway, is_goaway_below}
+use Rattle.h2_log.specs.Items.{is_block_on, ends, resets, is_goaway_below}
 use Rattle.h2_log.specs.Events.{Event, FieldsEvent, reports_unprocessed}
-use Rattle.h2_log.specs.Settings.{is_server}
 use Rattle.h2_log.specs.States.{is_above, is_active, is_used}
 use Rattle.h2_log.specs.Log.{Log, active}
 use Rattle.h2_log.specs.LogView.{log_view}
@@ -25,16 +24,15 @@ use Rattle.h2_log.specs.ItemRules.{Decoded, replies_to, verdict_of}
 use Rattle.h2_log.specs.ItemEffects.{events_of}
 use Rattle.h2_log.specs.CallRules.{answer_of, items_of}
 use Rattle.h2_log.specs.LogCalls.{MayAnswer, accepts, refuses, lacks, fails, with_call}
-use Rattle.h2_log.specs.Allowed.{AllowedHistory, starts, reads, writes, Allowed, MayOpen}
-use Rattle.h2_log.specs.Allowed.{MayContinue}
+use Rattle.h2_log.specs.Allowed.{AllowedHistory}
 use Rattle.h2_log.specs.Histories.{IsLog}
 use Rattle.h2_log.proofs.StreamLemmas.{stream_of_log}
 use Rattle.h2_log_laws.proofs.InvariantLogs.{written_is_allowed}
-use Rattle.h2_log_laws.proofs.ItemLists.{below_quiet}
 use Rattle.h2_log_laws.proofs.LogGrowth.{grows_call}
-use Rattle.h2_log_laws.proofs.ReaderStates.{active_from, active_used, lasts_from}
-use Rattle.h2_log_laws.proofs.ReplyInvariant.{used_more, resets_used}
-use Rattle.h2_log_laws.proofs.StreamNumbers.{opening_uses}
+use Rattle.h2_log_laws.proofs.OpenedStreams.{block_first, block_resets, ends_used}
+use Rattle.h2_log_laws.proofs.OpenedStreams.{no_goaway_below, open_at_server, server_of}
+use Rattle.h2_log_laws.proofs.ReaderStates.{active_from, lasts_from}
+use Rattle.h2_log_laws.proofs.ReplyInvariant.{resets_used}
 use Rattle.h2_log_laws.proofs.LogHistory.{none_both}
 use Rattle.h2_end_laws.specs.Over.{used}
 use Rattle.h2_end_laws.specs.Takes.{MayTake, Took, has_failed, reports_unprocessed as named_one}
@@ -51,52 +49,6 @@ use Rattle.h2_end_laws.proofs.ActivitySteps.{Adds, AfterFrame, stays_same, has_b
 use Rattle.h2_end_laws.proofs.ActivitySteps.{frame_used, frame_after}
 use Rattle.h2_end_laws.proofs.WrittenSteps.{call_writes}
 use Rattle.h2_end_laws.proofs.OverEvents.{no_event}
-
--- So does a block that may be written.
-block_uses : (role : Role) (i : ℕ) (end : Bool) (octets : List ℕ) (received sent : List Item)
-    → MayOpen role i received sent ⊎ MayContinue role i received sent
-    → is_used role i received (block i end octets ∷ sent) ≡ true
-block_uses role i end octets received sent (inl opens) =
-    opening_uses role i end octets received sent opens.client opens.odd
-block_uses role i end octets received sent (inr goes) =
-    used_more role i [] (block i end octets ∷ []) received sent
-    (active_used role i received sent [] goes.active)
-
--- What may be written with END_STREAM is of a number that is used then.
-end_uses : (role : Role) (i : ℕ) (received sent : List Item) (item : Item)
-    → Allowed role received sent item → ends i item ≡ true
-    → is_used role i received (item ∷ sent) ≡ true
-unfolding ends
-end_uses role i received sent (block stream end octets) allowed is =
-    subst (λ (j : ℕ). is_used role j received (block stream end octets ∷ sent) ≡ true)
-    (eqb-true stream i (and_parts _ _ is).0)
-    (block_uses role stream end octets received sent allowed.1)
-end_uses role i received sent (alone (Data stream end octets pad)) allowed is =
-    subst (λ (j : ℕ). is_used role j received (alone (Data stream end octets pad) ∷ sent) ≡ true)
-    (eqb-true stream i (and_parts _ _ is).0)
-    (used_more role stream [] (alone (Data stream end octets pad) ∷ []) received sent
-    (active_used role stream received sent [] (allowed.1).goes_on.active))
-end_uses role i received sent (alone frame) allowed is = absurd (both_ways false refl is)
-
--- An opening ends nothing.
-settings_end : (i : ℕ) (ack : Bool) (pairs : List (ℕ × ℕ))
-    → ends i (alone (Settings ack pairs)) ≡ false
-unfolding ends
-settings_end i ack pairs = refl
-
--- What was ended is used.
-ends_used : (role : Role) (i : ℕ) (received sent : List Item) → AllowedHistory role received sent
-    → list_any (ends i) sent ≡ true → is_used role i received sent ≡ true
-ends_used role i _ _ (starts values ok) some =
-    absurd (both_ways _ (or_from _ _ (settings_end i false _) refl) some)
-ends_used role i _ sent (reads {received = received} item with_sent) some =
-    used_more role i (item ∷ []) [] received sent (ends_used role i received sent with_sent some)
-ends_used role i received _ (writes {sent = sent} item with_sent allowed) some =
-    elim (or_cases (ends i item) (list_any (ends i) sent) some) [
-      | inl here ↦ end_uses role i received sent item allowed here
-      | inr before ↦ used_more role i [] (item ∷ []) received sent
-          (ends_used role i received sent with_sent before)
-    ]
 
 -- Nothing was written of a number that wasn't used.
 pub record IsUnwritten (i : ℕ) (sent : List Item) : Type 0 where
@@ -138,44 +90,11 @@ open_at_client Client i received sent reported client odd here unended unreset k
       unnamed = unnamed;
     })
 
-no_goaway_below : (i : ℕ) (items : List Item) → list_any is_goaway items ≡ false
-    → list_any (is_goaway_below i) items ≡ false
-no_goaway_below i [] none = refl
-no_goaway_below i (item ∷ items) none =
-    let both = or_parts (is_goaway item) (list_any is_goaway items) none in
-    or_from _ _ (below_quiet i item both.0) (no_goaway_below i items both.1)
-
-open_at_server : (role : Role) (i : ℕ) (received sent : List Item) (reported : List Event)
-    → role ≡ Server → i % 2 == 1 ≡ true → list_any (is_block_on i) received ≡ true
-    → list_any (is_goaway_below i) sent ≡ false → list_any (ends i) sent ≡ false
-    → list_any (resets i) received ≡ false → list_any (resets i) sent ≡ false
-    → list_any (reports_unprocessed i) reported ≡ false
-    → is_active role i received sent reported ≡ true
-unfolding is_above
-open_at_server Client i received sent reported server odd here below unended unreset kept unnamed =
-    cc
-open_at_server Server i received sent reported server odd here below unended unreset kept unnamed =
-    active_from Server i received sent reported (record {
-      odd = odd;
-      opened = here;
-      below = below;
-      lasts = lasts_from i received sent (record {
-        ended = and_right (list_any (ends i) received) (list_any (ends i) sent) unended;
-        unreset = unreset;
-        kept = kept;
-      });
-      unnamed = unnamed;
-    })
-
 -- A number that was used is odd.
 pub used_odd : (role : Role) (i : ℕ) (received sent : List Item)
     → is_used role i received sent ≡ true → i % 2 == 1 ≡ true
 unfolding is_used
 used_odd role i received sent was = (and_parts _ _ was).0
-
-block_resets : (i id : ℕ) (end : Bool) (octets : List ℕ) → resets i (block id end octets) ≡ false
-unfolding resets
-block_resets i id end octets = refl
 
 -- The answer is the one of the rules.
 open_rules : (log : Log) (fields : List Field) (end : Bool) (id : ℕ)
@@ -207,17 +126,6 @@ active_by_open role values log fields end id is may =
     (open_at_client log.role id log.received _ log.reported new.0 odd
     (block_there id end _ writes.credit log.sent) (known.unended new.2) (known.unreset new.2) kept
     (known.unnamed new.2))
-
--- It is a server where the peer opens streams.
-server_of : (role : Role) (odd : Bool) → (is_server role && odd) ≡ true → role ≡ Server
-server_of Server odd is = refl
-server_of Client odd is = absurd (both_ways false refl is)
-
--- The block stands first.
-block_first : (i : ℕ) (end : Bool) (octets : List ℕ) (received : List Item)
-    → list_any (is_block_on i) (block i end octets ∷ received) ≡ true
-unfolding is_block_on
-block_first i end octets received = or_left (i == i) _ (eq-eqb i i refl)
 
 -- A block that was reported has opened its stream, where that wasn't active.
 block_opens : (before after : Log) (decoded : Option Decoded) (i : ℕ) (end : Bool)

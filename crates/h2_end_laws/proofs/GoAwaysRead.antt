@@ -12,7 +12,7 @@ use Rattle.h2_log.specs.LogView.{log_view}
 use Rattle.h2_log.specs.ItemEffects.{least_last}
 use Rattle.h2_log_laws.proofs.StreamNumbers.{last_none}
 use Rattle.h2_log_laws.proofs.LogViewLemmas.{least_by}
-use Rattle.h2_end_laws.proofs.FitItems.{IsFitItem}
+use Rattle.h2_log_laws.proofs.FitItems.{IsFitItem}
 
 -- A GOAWAY's last stream is no greater than the greatest number.
 abbrev pub IsTypedGoAway : Item → Type 0

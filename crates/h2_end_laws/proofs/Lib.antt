@@ -5,7 +5,6 @@ pub mod ConservedWindows
 pub mod DataWindows
 pub mod Failures
 pub mod FaultCodes
-pub mod FitItems
 pub mod FrameEnds
 pub mod GoAwaysRead
 pub mod Grouped

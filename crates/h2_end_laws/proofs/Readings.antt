@@ -36,7 +36,7 @@ use Rattle.h2_end_laws.specs.Replies.{replies_owed, replies_among}
 use Rattle.h2_end_laws.proofs.FaultCodes.{HasCode, verdict_coded}
 use Rattle.h2_end_laws.proofs.GoAwaysRead.{IsTypedGoAway, item_typed}
 use Rattle.h2_end_laws.proofs.Replies.{replies_of_logs}
-use Rattle.h2_end_laws.proofs.FitItems.{comes_fit}
+use Rattle.h2_log_laws.proofs.FitItems.{comes_fit}
 use Rattle.h2_end_laws.proofs.ReadVerdicts.{Says, says_of}
 use Rattle.h2_end_laws.proofs.ReadVerdicts.{says_one}
 use Rattle.h2_end_laws.proofs.ReadingRules.{IsUnreported, IsLow, IsFaulty, IsSaid, IsSeen}

@@ -48,7 +48,7 @@ use Rattle.h2_end_laws.proofs.Readings.{processed_append}
 use Rattle.h2_end_laws.proofs.SendableItems.{IsPayload, reset_sendable, update_sendable}
 use Rattle.h2_end_laws.proofs.SendableItems.{goaway_sendable, ping_sendable, ack_sendable, code_low}
 use Rattle.h2_end_laws.proofs.SendableItems.{are_sendable, both_sendable}
-use Rattle.h2_end_laws.proofs.FitItems.{IsFitItem, stream_low, comes_fit}
+use Rattle.h2_log_laws.proofs.FitItems.{IsFitItem, stream_low, comes_fit}
 use Rattle.h2_log_laws.proofs.StreamNumbers.{number_or_none as last_by}
 
 -- What was written can be sent, each item with its own greatest payload; what was read and reported

@@ -59,7 +59,7 @@ use Rattle.h2_log_laws.proofs.InvariantSends.{client_number}
 use Rattle.h2_log_laws.proofs.ReleasedCredit.{owes_active}
 use Rattle.h2_log_laws.proofs.ReleasedCredit.{unreleased_is}
 use Rattle.h2_log_laws.proofs.ReleasedCredit.{owes_one}
-use Rattle.h2_end_laws.proofs.FitItems.{IsFitItem, comes_fit}
+use Rattle.h2_log_laws.proofs.FitItems.{IsFitItem, comes_fit}
 
 -- The number of a block among items that can be sent has 31 bits.
 sent_low : (i : ℕ) (payloads : List ℕ) (items : List Item) → AreSendable payloads items

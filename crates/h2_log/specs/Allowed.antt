@@ -11,13 +11,14 @@ use Rattle.h2_block.specs.Grouping.{Item, alone, block, max_block_octets}
 use Rattle.h2_log.specs.declared.role.Role.{Role}
 use Rattle.h2_log.specs.declared.role.Role.TheVariants.{Client}
 use Rattle.h2_log.specs.Items.{data_on, data_of, increment_on, ends, resets, one_ping, one_answer}
-use Rattle.h2_log.specs.Items.{is_goaway, is_goaway_below, total, greatest_block}
+use Rattle.h2_log.specs.Items.{is_goaway, is_goaway_below, stream_of_item, total}
+use Rattle.h2_log.specs.Items.{greatest_block}
 use Rattle.h2_log.specs.Acts.{Values, AreInRange}
 use Rattle.h2_log.specs.Settings.{peer_of, value_read, settings_count, one_ack}
 use Rattle.h2_log.specs.Events.{reports_unprocessed}
 use Rattle.h2_log.specs.States.{is_active, is_used, count_below, greatest_number}
 use Rattle.h2_log.specs.Windows.{given_on, given_on_connection}
-use Rattle.h2_log.specs.Log.{Log, acked, allowed_by, max_payload_sent_by}
+use Rattle.h2_log.specs.Log.{Log, acked, allowed_by, least_goaway, max_payload_sent_by}
 use Rattle.h2_log.specs.CallRules.{opening_pairs, changed_pairs}
 
 -- Whether a stream is active, by what was read and written alone. Naming streams unprocessed makes
@@ -69,14 +70,25 @@ pub record MayUpdateWindow (role : Role) (i increment : ℕ)
   pub read : i ≢ 0 → total (increment_on i) sent + increment ≤ total (data_on i) received
   pub read_at_all : i ≡ 0 → total (increment_on 0) sent + increment ≤ total data_of received
 
--- A number may be reset, once, that was used. Of a stream that is over it says nothing: calls refuse
--- that (C2), and no verdict resets one.
+-- The stream was active before the item that was read last, which is one of its own: with that item
+-- the peer may have ended it.
+-- rule: 5.1 Each frame is sent only in states that allow it
+pub record WasActive (role : Role) (i : ℕ) (received sent : List Item) : Type 0 where
+  pub last : Item
+  pub older : List Item
+  pub read : received ≡ last ∷ older
+  pub its_own : stream_of_item last ≡ i
+  pub active : active_by_items role i older sent ≡ true
+
+-- A stream may be reset, once, that is active, or was so up to the item with which the peer has
+-- ended it (section 5.1: on a closed stream nothing is sent but PRIORITY).
 -- rule: 5.1 Each frame is sent only in states that allow it
 -- rule: 5.4.2 RST_STREAM is not answered by RST_STREAM, nor sent twice
 -- rule: 6.4 (own) An end resets a stream on request, and counts it
 pub record MayReset (role : Role) (i : ℕ) (received sent : List Item) : Type 0 where
   pub used : is_used role i received sent ≡ true
   pub once : list_any (resets i) sent ≡ false
+  pub active : (active_by_items role i received sent ≡ true) ⊎ WasActive role i received sent
 
 -- Settings may be changed to values within their bounds, once those before were acknowledged (own;
 -- section 6.5.3).
@@ -87,6 +99,11 @@ pub record MayChangeSettings (role : Role) (pairs : List (ℕ
   pub in_range : AreInRange values
   pub changed : pairs ≡ changed_pairs role (value_read 5 16384 sent) values
   pub none_waits : settings_count sent ≤ total one_ack received
+
+-- The last stream of GOAWAY doesn't grow (section 6.8).
+-- rule: 6.8 An own GOAWAY is sent once, with the greatest stream processed
+pub record MaySendGoAway (last : ℕ) (sent : List Item) : Type 0 where
+  pub no_greater : last ≤ least_goaway sent
 
 -- What may be written next. All but an acknowledgment stands after those of all SETTINGS that were
 -- read (section 6.5.3: at once).
@@ -111,6 +128,7 @@ Allowed role received sent (alone (Ping false octets)) = HasAcknowledged receive
 Allowed role received sent (alone (Ping true octets)) = HasAcknowledged received sent
     × (total one_answer sent + 1 ≡ total one_ping received)
 Allowed role received sent (alone (GoAway last code debug)) = HasAcknowledged received sent
+    × MaySendGoAway last sent
 Allowed role received sent (alone (WindowUpdate i increment)) = HasAcknowledged received sent
     × MayUpdateWindow role i increment received sent
 Allowed role received sent (alone (Continuation i whole fragment)) = ⊥

@@ -27,11 +27,11 @@ use Rattle.h2_log_laws.proofs.CallConditions.{first_none, none_holds, and_other}
 use Rattle.hpack.proofs.Tests.{none_since}
 use Rattle.h2_log_laws.proofs.CreditCases.{put_out_cases}
 use Rattle.h2_log_laws.proofs.InvariantSteps.{give_represents, fails_represents}
-use Rattle.h2_log_laws.proofs.InvariantSteps.{recalled_represents, step_log}
+use Rattle.h2_log_laws.proofs.InvariantSteps.{last_low, recalled_represents, step_log}
 use Rattle.h2_log_laws.proofs.LogHistory.{History, history_of, active_in_view}
-use Rattle.h2_log_laws.proofs.LogInvariant.{Good, Represents, Moves}
+use Rattle.h2_log_laws.proofs.LogInvariant.{Good, Represents, NumbersFit, Moves}
 use Rattle.h2_log_laws.proofs.LogViewLemmas.{when_some, stream_is_active}
-use Rattle.h2_log_laws.proofs.ReaderStates.{active_parts, active_from}
+use Rattle.h2_log_laws.proofs.ReaderStates.{active_parts, active_unnamed}
 use Rattle.h2_log_laws.proofs.ReplyInvariant.{active_resets}
 use Rattle.h2_log_laws.proofs.LogInduction.{WritesNone}
 use Rattle.h2_log_laws.proofs.LogInduction.{refused}
@@ -42,16 +42,7 @@ use Rattle.h2_log_laws.proofs.LogInduction.{puts_out}
 -- An active stream is active by what was read and written.
 pub active_is_active : (log : Log) (i : ℕ) → active log i ≡ true
     → active_by_items log.role i log.received log.sent ≡ true
-active_is_active log i active =
-    let parts = active_parts log.role i log.received log.sent log.reported active in
-    active_from log.role i log.received log.sent []
-    (record {
-      odd = parts.odd;
-      opened = parts.opened;
-      below = parts.below;
-      lasts = parts.lasts;
-      unnamed = refl;
-    })
+active_is_active log i = active_unnamed log.role i log.received log.sent log.reported
 
 -- an odd number isn't nothing
 pub odd_some : (i : ℕ) → i % 2 == 1 ≡ true → i ≢ 0
@@ -137,7 +128,7 @@ unfolding one_ack one_answer increment_on
 reset_moves v i id code calls good with_sent active same =
     writes_one v i (alone (Reset id code)) calls
     (writes (alone (Reset id code)) with_sent
-    (good.returned, active_resets v.role id [] v.received v.sent v.reported active)) refl refl
+    (good.returned, active_resets v.role id v.received v.sent v.reported active)) refl refl
     (λ j. refl) same
 
 -- The invariant holds after resetting a stream.
@@ -161,15 +152,17 @@ no_fault false other none = refl
 
 -- Refusing a stream stands, by the fault that it makes.
 refuse_by : (role : Role) (log : Log) (id code : ℕ) (fault : Option Code)
-    → Represents role (history_of log) → refusal_of (log_view log) (Refuse id code) ≡ None
+    → Represents role (history_of log) → (log.failed ≡ None → NumbersFit (history_of log))
+    → refusal_of (log_view log) (Refuse id code) ≡ None
     → refuse_fault (log_view log) code ≡ fault
     → Represents role (history_of (refused_with log (Refuse id code) Done fault))
 unfolding conditions refused_with items_of stream_of_act released refuse_fault
-refuse_by role log id code (Some fault) represents none is =
+refuse_by role log id code (Some fault) represents fit none is =
+    let up = none_since log.failed (first_none _ _ _ none).0 in
     fails_represents role fault (last_processed log) (called log (Refuse id code) Done)
     (recalled_represents role (history_of log) ((Refuse id code, Done) ∷ log.calls)
-    (λ j. refl) represents) (none_since log.failed (first_none _ _ _ none).0)
-refuse_by role log id code None represents none is =
+    (λ j. refl) represents) up (last_low log (fit up))
+refuse_by role log id code None represents fit none is =
     let holds = none_holds _ none in
     let up = none_since log.failed holds.0 in
     let other = no_fault (code == 2) _ is in
@@ -179,26 +172,27 @@ refuse_by role log id code None represents none is =
 
 -- The invariant holds after refusing a stream.
 pub refuse_represents : (role : Role) (log : Log) (id code : ℕ) (answer : Answer)
-    → Represents role (history_of log) → refusal_of (log_view log) (Refuse id code) ≡ None
+    → Represents role (history_of log) → (log.failed ≡ None → NumbersFit (history_of log))
+    → refusal_of (log_view log) (Refuse id code) ≡ None
     → answer ≡ Done → Represents role (history_of (with_call log (Refuse id code) answer))
 unfolding with_call conditions released
-refuse_represents role log id code answer represents none done = rw done
-    (refuse_by role log id code (refuse_fault (log_view log) code) represents none refl)
+refuse_represents role log id code answer represents fit none done = rw done
+    (refuse_by role log id code (refuse_fault (log_view log) code) represents fit none refl)
 
 -- The invariant holds after a connection that fails in a call, which was refused an allocation and
 -- can't be refused.
 pub failed_represents : (role : Role) (log : Log) (act : Act)
     → may_fail_for_memory (log_view log) act ≡ true → Represents role (history_of log)
-    → refusal_of (log_view log) act ≡ None → Represents role (history_of
-    (with_call log act OutOfMemory))
+    → (log.failed ≡ None → NumbersFit (history_of log)) → refusal_of (log_view log) act ≡ None
+    → Represents role (history_of (with_call log act OutOfMemory))
 unfolding with_call conditions released may_fail_for_memory
-failed_represents role log (Refuse id code) may represents none =
+failed_represents role log (Refuse id code) may represents fit none =
+    let up = none_since log.failed (first_none _ _ _ none).0 in
     fails_represents role InternalError (last_processed log) (called log
     (Refuse id code) OutOfMemory)
     (recalled_represents role (history_of log) ((Refuse id code, OutOfMemory) ∷ log.calls)
-    (λ j. refl) represents)
-    (none_since log.failed (first_none _ _ _ none).0)
-failed_represents role log act may represents none = absurd (both_ways false refl may)
+    (λ j. refl) represents) up (last_low log (fit up))
+failed_represents role log act may represents fit none = absurd (both_ways false refl may)
 
 -- The invariant holds after sending a PING.
 pub ping_represents : (role : Role) (log : Log) (octets : List ℕ)
@@ -223,10 +217,11 @@ ping_represents role log octets represents none =
 
 -- The invariant holds after leaving.
 pub leave_represents : (role : Role) (log : Log) → Represents role (history_of log)
+    → (log.failed ≡ None → NumbersFit (history_of log))
     → refusal_of (log_view log) SendGoAway ≡ None
     → Represents role (history_of (with_call log SendGoAway Done))
 unfolding conditions with_call items_of stream_of_act released one_ack one_answer increment_on
-leave_represents role log represents none =
+leave_represents role log represents fit none =
     let holds = none_holds _ none in
     let up = none_since log.failed holds.0 in
     let good = represents.good up in
@@ -234,7 +229,10 @@ leave_represents role log represents none =
     (last_processed log) 0 []) ∷ []) represents up refl
     (writes_one (history_of log) _ (alone (GoAway (last_processed log) 0 [])) _
     (writes (alone (GoAway
-    (last_processed log) 0 [])) represents.with_sent good.returned) refl refl (λ j. refl)
+    (last_processed log) 0 [])) represents.with_sent (
+      good.returned,
+      record { no_greater = last_low log (fit up) },
+    )) refl refl (λ j. refl)
     (λ j. refl))
 
 -- The invariant holds after changing settings.

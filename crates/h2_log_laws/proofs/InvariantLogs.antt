@@ -12,7 +12,7 @@ use Rattle.h2_log.specs.Events.{UnprocessedEvent, flow_on, reported_total, one_a
 use Rattle.h2_log.specs.Acts.{Values, AreInRange, Act, Answer, IsTypedAct, Open, SendFields}
 use Rattle.h2_log.specs.Acts.{SendData, Release, ResetStream, Refuse, SendPing, SendGoAway, PutOut}
 use Rattle.h2_log.specs.Acts.{ChangeSettings}
-use Rattle.h2_log.specs.Log.{Log, released, next_unprocessed}
+use Rattle.h2_log.specs.Log.{Log, released, last_processed, least_goaway, next_unprocessed}
 use Rattle.h2_log.specs.LogSteps.{with_sent, with_reported, owed_at_close, took_none, used}
 use Rattle.h2_log.specs.LogCalls.{opened, with_call, MayAnswer, accepts, refuses, lacks, fails}
 use Rattle.h2_log.specs.CallRules.{refusal_of, answer_of}
@@ -21,15 +21,17 @@ use Rattle.h2_log.specs.Histories.{IsLog, begins, took_some, took_one, met_fault
 use Rattle.h2_log.specs.Histories.{reported_one, called_one}
 use Rattle.h2_log.specs.Allowed.{AllowedHistory, starts}
 use Rattle.h2_log_laws.specs.Sums.{sum_below}
+use Rattle.h2_log_laws.proofs.FitItems.{completed_fit, stream_low}
 use Rattle.h2_log_laws.proofs.InvariantCalls.{refused_represents, reset_represents}
 use Rattle.h2_log_laws.proofs.InvariantCalls.{refuse_represents, failed_represents, ping_represents}
 use Rattle.h2_log_laws.proofs.InvariantCalls.{leave_represents, change_represents}
 use Rattle.h2_log_laws.proofs.InvariantCalls.{put_out_represents}
 use Rattle.h2_log_laws.proofs.InvariantReads.{frame_represents}
 use Rattle.h2_log_laws.proofs.InvariantSends.{open_represents, fields_represent, data_represents}
-use Rattle.h2_log_laws.proofs.InvariantSteps.{fails_represents, step_log}
+use Rattle.h2_log_laws.proofs.InvariantSteps.{fails_represents, last_low, step_log}
 use Rattle.h2_log_laws.proofs.LogHistory.{History, history_of, left, owes, used_view, sum_less}
-use Rattle.h2_log_laws.proofs.LogInvariant.{Represents, Moves}
+use Rattle.h2_log_laws.proofs.LogInvariant.{Represents, NumbersFit, Moves}
+use Rattle.h2_log_laws.proofs.ProcessedStreams.{numbers_fit}
 use Rattle.h2_log_laws.proofs.ReleasedCredit.{release_represents}
 use Rattle.h2_log_laws.proofs.StreamNumbers.{next_left}
 
@@ -70,43 +72,45 @@ unprocessed_represents role log represents up some =
 
 -- The invariant holds after a call that is accepted.
 accepted_represents : (role : Role) (log : Log) (act : Act) (answer : Answer)
-    → Represents role (history_of log) → IsTypedAct act
+    → Represents role (history_of log) → (log.failed ≡ None → NumbersFit (history_of log))
+    → IsTypedAct act
     → refusal_of (log_view log) act ≡ None → answer ≡ answer_of (log_view log) act
     → Represents role (history_of (with_call log act answer))
 unfolding IsTypedAct
-accepted_represents role log (Open fields end) answer represents typed none is = rw is
+accepted_represents role log (Open fields end) answer represents fit typed none is = rw is
     (open_represents role log fields end represents none)
-accepted_represents role log (SendFields id fields end) answer represents typed none is = rw is
+accepted_represents role log (SendFields id fields end) answer represents fit typed none is = rw is
     (fields_represent role log id fields end represents none)
-accepted_represents role log (SendData id octets end) answer represents typed none is = rw is
+accepted_represents role log (SendData id octets end) answer represents fit typed none is = rw is
     (data_represents role log id octets end represents none)
-accepted_represents role log (Release id count) answer represents typed none is = rw is
+accepted_represents role log (Release id count) answer represents fit typed none is = rw is
     (release_represents role log id count represents none)
-accepted_represents role log (ResetStream id code) answer represents typed none is = rw is
+accepted_represents role log (ResetStream id code) answer represents fit typed none is = rw is
     (reset_represents role log id code represents none)
 accepted_represents role log
-    (Refuse id code) answer represents typed none is =
-    refuse_represents role log id code answer represents none is
-accepted_represents role log (SendPing octets) answer represents typed none is = rw is
+    (Refuse id code) answer represents fit typed none is =
+    refuse_represents role log id code answer represents fit none is
+accepted_represents role log (SendPing octets) answer represents fit typed none is = rw is
     (ping_represents role log octets represents none)
-accepted_represents role log SendGoAway answer represents typed none is = rw is
-    (leave_represents role log represents none)
-accepted_represents role log (PutOut count) answer represents typed none is = rw is
+accepted_represents role log SendGoAway answer represents fit typed none is = rw is
+    (leave_represents role log represents fit none)
+accepted_represents role log (PutOut count) answer represents fit typed none is = rw is
     (put_out_represents role log count _ represents)
-accepted_represents role log (ChangeSettings values) answer represents typed none is = rw is
+accepted_represents role log (ChangeSettings values) answer represents fit typed none is = rw is
     (change_represents role log values represents typed none)
 
 -- The invariant holds after a call.
 call_represents : (role : Role) (log : Log) (act : Act) (answer : Answer)
-    → Represents role (history_of log) → IsTypedAct act → MayAnswer log act answer
+    → Represents role (history_of log) → (log.failed ≡ None → NumbersFit (history_of log))
+    → IsTypedAct act → MayAnswer log act answer
     → Represents role (history_of (with_call log act answer))
-call_represents role log act answer represents typed
-    (accepts none is) = accepted_represents role log act answer represents typed none is
-call_represents role log act answer represents typed (refuses refusal for is) = rw is
+call_represents role log act answer represents fit typed
+    (accepts none is) = accepted_represents role log act answer represents fit typed none is
+call_represents role log act answer represents fit typed (refuses refusal for is) = rw is
     (refused_represents role log act refusal represents)
-call_represents role log act answer represents typed (fails none may is) = rw is
-    (failed_represents role log act may represents none)
-call_represents role log act answer represents typed (lacks none may is) = rw is
+call_represents role log act answer represents fit typed (fails none may is) = rw is
+    (failed_represents role log act may represents fit none)
+call_represents role log act answer represents fit typed (lacks none may is) = rw is
     (refused_represents role log act _ represents)
 
 -- nothing of nothing
@@ -158,6 +162,12 @@ used_up : (log : Log) (octets unparsed : List ℕ) → log.failed ≡ None
 unfolding used
 used_up log octets unparsed up = up
 
+-- They change nothing of what GOAWAY names.
+used_low : (log : Log) (octets : List ℕ) → NumbersFit (history_of log)
+    → last_processed log ≤ least_goaway (used log octets []).sent
+unfolding used
+used_low log octets fit = last_low log fit
+
 -- The invariant of every log.
 pub log_represents : (role : Role) (values : Values) (log : Log) → IsLog role values log
     → Represents role (history_of log)
@@ -167,19 +177,24 @@ log_represents role values _ (took_some {log = log} is takes octets unparsed rea
 log_represents role values _ (took_one {log = log} is takes octets frame decoded read sees) =
     frame_represents role (used log octets []) decoded frame (rw (used_view log octets [])
     (log_represents role values log is)) (used_up log octets [] takes.up)
+    (rw (used_view log octets []) (numbers_fit role values log is takes.up)) (λ item step.
+    let small = stream_low item (completed_fit role values log octets frame item is read step) in
+    omega (arith, small))
 log_represents role values _ (met_fault {log = log} is takes octets fault at) =
     fails_represents role (wire_fault_code fault) _ (used log octets []) (rw
     (used_view log octets []) (log_represents role values log is))
     (used_up log octets [] takes.up)
+    (used_low log octets (numbers_fit role values log is takes.up))
 log_represents role values _ (ran_out_of_memory {log = log} is up octets may) =
     fails_represents role InternalError _ (used log octets []) (rw (used_view log octets [])
     (log_represents role values log is)) (used_up log octets [] up)
+    (used_low log octets (numbers_fit role values log is up))
 log_represents role values _
     (reported_one {log = log} is up some) = unprocessed_represents role log
     (log_represents role values log is) up some
 log_represents role values _
     (called_one {log = log} is act answer typed may) = call_represents role log act answer
-    (log_represents role values log is) typed may
+    (log_represents role values log is) (numbers_fit role values log is) typed may
 
 -- What an end has written was allowed when it wrote it.
 pub written_is_allowed : (role : Role) (values : Values) (log : Log) → IsLog role values log

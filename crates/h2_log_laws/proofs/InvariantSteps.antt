@@ -13,7 +13,7 @@ use Rattle.h2_log.specs.Settings.{one_ack}
 use Rattle.h2_log.specs.Events.{Event, flow_on, reported_total}
 use Rattle.h2_log.specs.Acts.{Act, Answer}
 use Rattle.h2_log.specs.States.{openings}
-use Rattle.h2_log.specs.Log.{Log, released, waiting}
+use Rattle.h2_log.specs.Log.{Log, last_processed, least_goaway, released, waiting}
 use Rattle.h2_frame.specs.Codes.{code_number}
 use Rattle.h2_log.specs.LogSteps.{with_sent, with_reported, with_unreturned, with_failure}
 use Rattle.h2_log.specs.LogSteps.{owed_at_close}
@@ -24,8 +24,8 @@ use Rattle.h2_log_laws.proofs.ReaderStates.{active_parts}
 use Rattle.h2_log_laws.proofs.LogHistory.{History, history_of, left, active_in_view, owes, owing}
 use Rattle.h2_log_laws.proofs.LogHistory.{moved, give, given_by, wrote_view, reports_view}
 use Rattle.h2_log_laws.proofs.LogHistory.{with_unreturned_view, owing_view, fails_view, sum_less}
-use Rattle.h2_log_laws.proofs.LogInvariant.{Good, Represents, Moves, active_before, less_by}
-use Rattle.h2_log_laws.proofs.LogInvariant.{step_represents}
+use Rattle.h2_log_laws.proofs.LogInvariant.{Good, Represents, NumbersFit, Moves}
+use Rattle.h2_log_laws.proofs.LogInvariant.{active_before, less_by, step_represents}
 
 -- an update of the connection's window isn't one of a stream's
 pub update_elsewhere : (i count : ℕ) → i ≢ 0 → increment_on i (alone (WindowUpdate 0 count)) ≡ 0
@@ -105,15 +105,21 @@ give_represents role v represents up some =
       good = λ still. give_good v good;
     }
 
--- The invariant holds after a failure: GOAWAY may always be written.
+-- The GOAWAY that comes next names no stream above the last one of a GOAWAY that was sent.
+pub last_low : (log : Log) → NumbersFit (history_of log)
+    → last_processed log ≤ least_goaway log.sent
+unfolding last_processed
+last_low log fit = fit.processed
+
+-- The invariant holds after a failure whose GOAWAY names no greater stream than those before.
 pub fails_represents : (role : Role) (code : Code) (last : ℕ) (log : Log)
-    → Represents role (history_of log) → log.failed ≡ None
+    → Represents role (history_of log) → log.failed ≡ None → last ≤ least_goaway log.sent
     → Represents role (history_of (with_failure code last log))
-fails_represents role code last log represents up =
+fails_represents role code last log represents up low =
     rw (fails_view code last log) (record {
       own = represents.own;
       with_sent = writes (alone (GoAway last (code_number code) [])) represents.with_sent
-          (represents.good up).returned;
+          ((represents.good up).returned, record { no_greater = low });
       good = λ none. absurd (cc);
     })
 

@@ -10,6 +10,7 @@ pub mod CreditCases
 pub mod DataOfCalls
 pub mod EncoderOfLogs
 pub mod EncoderSteps
+pub mod FitItems
 pub mod FrameSizes
 pub mod GrowthBySteps
 pub mod InvariantCalls
@@ -27,8 +28,10 @@ pub mod LogInvariant
 pub mod LogViewLemmas
 pub mod NextStreams
 pub mod NoGoAways
+pub mod OpenedStreams
 pub mod OutputRead
 pub mod PartsStay
+pub mod ProcessedStreams
 pub mod ReaderStates
 pub mod ReleasedCredit
 pub mod ReplyInvariant

@@ -210,3 +210,12 @@ pub processed_after : (events reported : List Event)
 unfolding greatest_processed
 processed_after [] reported = omega arith
 processed_after (event ∷ events) reported = omega (arith, processed_after events reported)
+
+-- The greatest stream of two lists that was processed.
+pub processed_append : (events reported : List Event) (n : ℕ) → greatest_processed events ≤ n
+    → greatest_processed reported ≤ n → greatest_processed (events ++ reported) ≤ n
+unfolding greatest_processed
+processed_append [] reported n here there = there
+processed_append (event ∷ events) reported n here there =
+    let after = processed_append events reported n (omega (arith, here)) there in
+    omega (arith, here, after)

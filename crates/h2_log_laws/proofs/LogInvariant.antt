@@ -9,12 +9,12 @@ use Rattle.h2_log.specs.declared.role.Role.{Role}
 use Rattle.h2_log.specs.declared.role.Role.TheVariants.{Client, Server}
 use Rattle.h2_log.specs.Items.{total, increment_on, data_on, data_of, one_ping, one_answer}
 use Rattle.h2_log.specs.Items.{is_goaway, is_block_on, ends, resets, is_goaway_below}
-use Rattle.h2_log.specs.Settings.{settings_count, one_ack}
+use Rattle.h2_log.specs.Settings.{is_server, settings_count, one_ack}
 use Rattle.h2_log.specs.Events.{Event, flow_on, reported_total, one_acked, one_pong}
-use Rattle.h2_log.specs.Events.{reports_unprocessed}
+use Rattle.h2_log.specs.Events.{greatest_processed, reports_unprocessed}
 use Rattle.h2_log.specs.Acts.{Act, Answer}
-use Rattle.h2_log.specs.States.{is_active, openings, is_above}
-use Rattle.h2_log.specs.Log.{released}
+use Rattle.h2_log.specs.States.{is_active, is_used, openings, is_above}
+use Rattle.h2_log.specs.Log.{least_goaway, released}
 use Rattle.h2_log.specs.Allowed.{HasAcknowledged, AllowedHistory}
 use Rattle.h2_log_laws.specs.Sums.{sum_below}
 use Rattle.h2_log_laws.proofs.ItemLists.{none_after, any_after}
@@ -46,6 +46,14 @@ pub record Represents (role : Role) (v : History) : Type 0 where
   pub own : v.role ≡ role
   pub with_sent : AllowedHistory v.role v.received v.sent
   pub good : v.failed ≡ None → Good v
+
+-- What stands of the numbers of streams as long as the connection hasn't failed: the GOAWAY that
+-- comes next names none above the last of one that was sent, and what the peer has reset is used.
+pub record NumbersFit (v : History) : Type 0 where
+  pub processed : (if is_server v.role then greatest_processed v.reported else 0)
+      ≤ least_goaway v.sent
+  pub reset_read : (i : ℕ) → list_any (resets i) v.received ≡ true
+      → is_used v.role i v.received v.sent ≡ true
 
 -- A step is sound: what it reads, writes and reports, on the stream `i`, and the calls after it.
 -- `lost`: the octets that nobody will release.

@@ -54,6 +54,20 @@ active_from role i received sent reported parts =
     let lasts = and_from _ _ below (not_from_false (is_over i received sent) parts.lasts) in
     and_from _ _ lasts (not_from_false (list_any (reports_unprocessed i) reported) parts.unnamed)
 
+-- An active stream is active by what was read and written alone.
+pub active_unnamed : (role : Role) (i : ℕ) (received sent : List Item) (reported : List Event)
+    → is_active role i received sent reported ≡ true → is_active role i received sent [] ≡ true
+active_unnamed role i received sent reported active =
+    let parts = active_parts role i received sent reported active in
+    active_from role i received sent []
+    (record {
+      odd = parts.odd;
+      opened = parts.opened;
+      below = parts.below;
+      lasts = parts.lasts;
+      unnamed = refl;
+    })
+
 -- What keeps a stream from being over.
 pub record LastsParts (i : ℕ) (received sent : List Item) : Type 0 where
   pub ended : (list_any (ends i) received && list_any (ends i) sent) ≡ false

@@ -3,25 +3,24 @@ use Rattle.std.proofs.Common.{◌≡◌, ◌≢◌, ℕ, ◌≤◌, ◌==◌, �
 use Rattle.std.proofs.Common.{List, [], ◌∷◌, ◌++◌, length, Option, refl, sym, inl, inr, arith}
 use Rattle.std.specs.List.{list_any}
 use Rattle.std.proofs.lemmas.Bool.{and_parts, and_from, eqb-true, ne_eqb, both_ways, or_cases}
-use Rattle.std.proofs.lemmas.Bool.{or_left, or_from, false_from_ne_true, eq-eqb, cases_eq}
+use Rattle.std.proofs.lemmas.Bool.{or_left, or_from, eq-eqb, cases_eq}
 use Rattle.h2_frame.specs.Frames.{Data, Reset, Settings, Ping}
 use Rattle.h2_frame.specs.Encoding.{payload_of}
 use Rattle.h2_block.specs.Grouping.{Item, alone, block}
 use Rattle.h2_log.specs.declared.role.Role.{Role}
 use Rattle.h2_log.specs.declared.role.Role.TheVariants.{Client, Server}
 use Rattle.h2_log.specs.Items.{total, increment_on, data_on, data_of, one_ping, one_answer}
-use Rattle.h2_log.specs.Items.{is_block_on, resets, opens_from}
+use Rattle.h2_log.specs.Items.{is_block_on, resets, opens_from, stream_of_item}
 use Rattle.h2_log.specs.Settings.{settings_count, one_settings, one_ack, is_server}
 use Rattle.h2_log.specs.Events.{Event, DataEvent, ResetEvent, flow_on, reported_total, one_acked}
 use Rattle.h2_log.specs.Events.{one_pong, reports_unprocessed}
 use Rattle.h2_log.specs.States.{Idle, is_active, is_used, openings, state_by}
-use Rattle.h2_log.specs.Log.{Log, active, state}
-use Rattle.h2_log.specs.LogView.{log_view}
-use Rattle.h2_log.specs.ItemRules.{peer_opens}
+use Rattle.h2_log.specs.Log.{active}
 use Rattle.h2_log.specs.Allowed.{HasAcknowledged, AllowedHistory, starts, reads, writes, Allowed}
 use Rattle.h2_log.specs.Allowed.{MayReset}
 use Rattle.h2_log_laws.proofs.ItemLists.{any_after}
-use Rattle.h2_log_laws.proofs.ReaderStates.{active_parts, lasts_parts, active_used, opens_here}
+use Rattle.h2_log_laws.proofs.ReaderStates.{active_parts, active_unnamed, active_used, lasts_parts}
+use Rattle.h2_log_laws.proofs.ReaderStates.{opens_here}
 use Rattle.h2_log_laws.proofs.LogHistory.{History, active_in_view}
 use Rattle.h2_log_laws.proofs.LogInvariant.{Good, Moves}
 
@@ -82,17 +81,35 @@ idle_unused true true closed_by_us idle = absurd (cc)
 idle_unused true false true idle = absurd (cc)
 idle_unused true false false idle = absurd (cc)
 
--- An active stream may be reset after whatever is read.
-pub active_resets : (role : Role) (i : ℕ) (news received sent : List Item)
-    (reported : List Event) → is_active role i received sent reported ≡ true
-    → MayReset role i (news ++ received) sent
-active_resets role i news received sent reported active =
+-- An active stream may be reset.
+pub active_resets : (role : Role) (i : ℕ) (received sent : List Item) (reported : List Event)
+    → is_active role i received sent reported ≡ true → MayReset role i received sent
+active_resets role i received sent reported active =
     let parts = active_parts role i received sent reported active in
     let lasts = lasts_parts i received sent parts.lasts in
     record {
-      used = used_more role i news [] received sent
-          (active_used role i received sent reported active);
+      used = active_used role i received sent reported active;
       once = lasts.kept;
+      active = inl (active_unnamed role i received sent reported active);
+    }
+
+-- So it may after an item on it is read.
+pub read_resets : (role : Role) (item : Item) (received sent : List Item) (reported : List Event)
+    → is_active role (stream_of_item item) received sent reported ≡ true
+    → MayReset role (stream_of_item item) (item ∷ received) sent
+read_resets role item received sent reported active =
+    let i = stream_of_item item in
+    let before = active_resets role i received sent reported active in
+    record {
+      used = used_more role i (item ∷ []) [] received sent before.used;
+      once = before.once;
+      active = inr (record {
+        last = item;
+        older = received;
+        read = refl;
+        its_own = refl;
+        active = active_unnamed role i received sent reported active;
+      });
     }
 
 -- The number of a block that a server reads is used.
@@ -104,18 +121,6 @@ used_here Client i end octets received sent opens = absurd (both_ways false refl
 used_here Server i end octets received sent opens =
     and_from _ _ opens (opens_here i (block i end octets ∷ received) opens (or_left (i == i) _
     (eq-eqb i i refl)))
-
--- An idle stream that the peer opens may be reset.
-pub idle_resets : (log : Log) (i : ℕ) (end : Bool) (octets : List ℕ)
-    → AllowedHistory log.role log.received log.sent → state log i ≡ Idle
-    → peer_opens (log_view log) i ≡ true
-    → MayReset log.role i (block i end octets ∷ log.received) log.sent
-idle_resets log i end octets with_sent idle opens =
-    record {
-      used = used_here log.role i end octets log.received log.sent opens;
-      once = false_from_ne_true _ (λ some. both_ways _ (idle_unused _ _ _ idle)
-          (resets_used log.role i log.received log.sent with_sent some));
-    }
 
 -- A step that reads an item, and reports of no flow.
 quiet : (v : History) (i : ℕ) (item : Item) (replies : List Item) (events : List Event)

@@ -2,7 +2,7 @@
 -- of what was read.
 use Rattle.std.proofs.Common.{◌≡◌, ◌⊎◌, ◌≢◌, ℕ, ◌+◌, ◌≤◌, ◌<◌, ◌==◌, ◌%◌, ◌&&◌, ◌||◌, nat_lt, max}
 use Rattle.std.proofs.Common.{Bool, true, false, if◌then◌else◌, List, [], ◌∷◌, refl, inl, inr, ◌^◌}
-use Rattle.std.proofs.Common.{arith}
+use Rattle.std.proofs.Common.{◌++◌, arith}
 use Rattle.std.proofs.Common.{nat_le}
 use Rattle.std.proofs.Common.{leb-true}
 use Rattle.std.specs.List.{list_any}
@@ -10,13 +10,13 @@ use Rattle.std.proofs.lemmas.Bool.{both_ways, eqb-true, or_cases, cases_lt, eq-e
 use Rattle.std.proofs.lemmas.Bool.{and_right, and_left, true_from_ne_false}
 use Rattle.std.proofs.lemmas.Bool.{and_from}
 use Rattle.std.proofs.lemmas.Bool.{and_parts}
-use Rattle.std.proofs.lemmas.Bool.{or_left}
+use Rattle.std.proofs.lemmas.Bool.{or_left, or_parts, ltb-false}
 use Rattle.h2_frame.specs.Frames.{Data, Headers, Priority, Reset, Settings, Ping, GoAway}
 use Rattle.h2_frame.specs.Frames.{WindowUpdate, Continuation, Unknown}
 use Rattle.h2_block.specs.Grouping.{Item, alone, block}
 use Rattle.h2_log.specs.declared.role.Role.{Role}
 use Rattle.h2_log.specs.declared.role.Role.TheVariants.{Client, Server}
-use Rattle.h2_log.specs.Items.{is_block_on, greatest_block, is_goaway}
+use Rattle.h2_log.specs.Items.{is_block_on, greatest_block, is_goaway, is_goaway_below}
 use Rattle.h2_log.specs.Items.{opens_from}
 use Rattle.h2_log.specs.Settings.{is_server}
 use Rattle.h2_log.specs.States.{least_block, greatest_number}
@@ -146,6 +146,26 @@ last_none (alone (GoAway last code debug) ∷ items) none = absurd (both_ways _ 
 last_none (alone (WindowUpdate stream increment) ∷ items) none = last_none items none
 last_none (alone (Continuation stream whole fragment) ∷ items) none = last_none items none
 last_none (alone (Unknown kind flags stream payload) ∷ items) none = last_none items none
+
+-- Items without GOAWAY leave the least last stream.
+pub least_kept : (items sent : List Item) → list_any is_goaway items ≡ false
+    → least_goaway (items ++ sent) ≡ least_goaway sent
+unfolding is_goaway least_goaway
+least_kept [] sent none = refl
+least_kept (block stream end octets ∷ items) sent none = least_kept items sent none
+least_kept (alone (GoAway last code debug) ∷ items) sent none = absurd (both_ways _ none refl)
+least_kept (alone frame ∷ items) sent none = least_kept items sent none
+
+-- A number above no GOAWAY's last stream is no greater than the least of these.
+pub least_above : (i : ℕ) (items : List Item) → i ≤ greatest_number
+    → list_any (is_goaway_below i) items ≡ false → i ≤ least_goaway items
+unfolding is_goaway_below least_goaway
+least_above i [] small none = small
+least_above i (block stream end octets ∷ items) small none = least_above i items small none
+least_above i (alone (GoAway last code debug) ∷ items) small none =
+    let parts = or_parts (nat_lt last i) (list_any (is_goaway_below i) items) none in
+    omega (arith, ltb-false last i parts.0, least_above i items small parts.1)
+least_above i (alone frame ∷ items) small none = least_above i items small none
 
 -- Where no number passes, there is no least one.
 pub least_none : (test : ℕ → Bool) (items : List Item) → ((j : ℕ) → j ≤ greatest_block items

@@ -28,7 +28,7 @@ use Rattle.h2_log.specs.ItemRules.{Decoded, verdict_by_rules, verdict_of_block}
 use Rattle.h2_log.specs.LogSteps.{read, with_sent, with_reported}
 use Rattle.h2_machine.specs.Represents.{goaway_sent_last}
 use Rattle.h2_log_laws.proofs.LogHistory.{reported_append}
-use Rattle.h2_log_laws.proofs.LogHistory.{none_both}
+use Rattle.h2_log_laws.proofs.LogHistory.{none_both, processed_append}
 use Rattle.h2_log_laws.proofs.ReaderStates.{active_parts, state_idle}
 use Rattle.h2_machine_laws.proofs.LogCore.{core}
 use Rattle.h2_machine_laws.proofs.OneItemMore.{any_quiet}
@@ -132,15 +132,6 @@ sent_numbered log (item ∷ items) none f =
 pub record EventsFit (role : Role) (received : List Item) (events : List Event) : Type 0 where
   pub processed : is_server role ≡ true → greatest_processed events ≤ greatest_block received
   pub unnamed : is_server role ≡ true → (i : ℕ) → list_any (reports_unprocessed i) events ≡ false
-
--- The greatest stream of two lists that was processed.
-processed_append : (events reported : List Event) (n : ℕ) → greatest_processed events ≤ n
-    → greatest_processed reported ≤ n → greatest_processed (events ++ reported) ≤ n
-unfolding greatest_processed
-processed_append [] reported n here there = there
-processed_append (event ∷ events) reported n here there =
-    let after = processed_append events reported n (omega (arith, here)) there in
-    omega (arith, here, after)
 
 -- Events that are reported keep it.
 pub reported_numbered : (log : Log) (events : List Event) → EventsFit log.role log.received events

@@ -28,6 +28,7 @@ use Rattle.h2_log.specs.LogSteps.{with_sent}
 use Rattle.h2_log.specs.LogSteps.{read}
 use Rattle.h2_log.specs.Log.{Log}
 use Rattle.h2_log.specs.LogView.{log_view}
+use Rattle.h2_log.specs.Histories.{IsLog, TakesFrame}
 use Rattle.h2_log_laws.proofs.LogInduction.{IsPendingInvariant, pending_by_logs, Comes}
 use Rattle.h2_wire.proofs.ReadingLemmas.{some_frames as frames_some}
 use Rattle.h2_frame.proofs.HeadLemmas.{stream-head_of as head_low}
@@ -178,12 +179,20 @@ begun_kept role values =
     sent_begun log [] fit = fit
     sent_begun log (item ∷ items) fit = fit
 
+-- An item that a frame completes is fit.
+pub completed_fit : (role : Role) (values : Values) (log : Log) (octets : List ℕ) (frame : Frame)
+    (item : Item) → IsLog role values log → TakesFrame role log octets frame
+    → frame_step (log_view (used log octets [])) frame ≡ completes item → IsFitItem item
+unfolding used
+completed_fit role values log octets frame item is framed step =
+    subst IsFitStep step (step_fit (log_view (used log octets [])) frame
+    (taken_fit _ _ _ log.frames frame [] framed)
+    (pending_by_logs role values (λ events log. IsFitBegun log.begun) (begun_kept role values)
+    log is))
+
 -- An item that comes is fit.
 pub comes_fit : (role : Role) (values : Values) (log : Log) (decoded : Option Decoded) (item : Item)
     → Comes role values decoded item log → IsFitItem item
-unfolding used
 comes_fit role values log decoded item comes =
-    subst IsFitStep comes.step (step_fit (log_view (used comes.before comes.octets [])) comes.frame
-    (taken_fit _ _ _ comes.before.frames comes.frame [] comes.framed)
-    (pending_by_logs role values (λ events log. IsFitBegun log.begun) (begun_kept role values)
-    comes.before comes.is))
+    completed_fit role values comes.before comes.octets comes.frame item comes.is comes.framed
+    comes.step
