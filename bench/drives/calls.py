@@ -89,6 +89,8 @@ def write_block(end, number, fields, ends):
     parts = [block[place:place + most] for place in range(0, len(block), most)] or [b""]
     for place, part in enumerate(parts):
         flags = 4 if place == len(parts) - 1 else 0
+        if len(part) > FIRST_FRAME:
+            end.marks.reach("long block sent")
         if place == 0:
             end.write(1, flags | ends, number, part)
         else:

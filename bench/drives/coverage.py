@@ -10,7 +10,8 @@ settings window, settings frame, settings overflow, settings taken, ack reported
 ping answered, pong reported, pong ignored, goaway reported, unprocessed, update by nothing, update overflow,
 update taken, stream update on idle, stream update ignored, stream update by nothing, stream update overflow,
 stream update taken, unknown, too many resets, too much output, credit returned, credit held back,
-credit returned later, frame size named, frame size lowered, frame too long, long frame sent, long frame taken,
+credit returned later, frame size named, frame size lowered, frame too long, long frame sent, long block sent,
+long frame taken,
 refused with internal error, refused at a thousand, take after failure, partial frame
 """
 
@@ -45,7 +46,8 @@ PAIR_WANTED = (
     + [f"{event} handed out" for event in
        ("head", "body", "trailers", "reset", "unprocessed", "goaway", "acked", "pong")]
     + ["a list with bodies both ways", "a list with a reset", "a list with a go_away",
-       "a list with changed settings", "a list with one octet delivered", "light", "heavy"]
+       "a list with changed settings", "a list with one octet delivered", "a list with a long frame", "light",
+       "heavy"]
 )
 
 

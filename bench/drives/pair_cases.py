@@ -5,7 +5,7 @@ from choose import FRAME_SIZES
 from coverage import Marks
 from joined import EndRefused, Joined
 from messages import REQUESTS, RESPONSES, any_message
-from model import Config
+from model import FIRST_FRAME, Config
 
 KINDS = {"request": 90, "respond": 110, "pump": 110, "move": 270, "deliver": 270, "release_all": 60, "reset": 20,
          "ping": 30, "go_away": 12, "change": 34}
@@ -24,7 +24,8 @@ def config(is_heavy, random):
     table = random.one_of([0, 33, 100, 4_096, 65_536])
     heavy = [20_000, 65_535, 65_535, 100_000, 2_147_483_647]
     window = random.one_of(heavy if is_heavy else [4, 10, 100, 65_535])
-    return Config(table, window, random.one_of([100, 101, 1_000]), random.one_of(FRAME_SIZES))
+    sizes = [size for size in FRAME_SIZES if size > FIRST_FRAME] if is_heavy else FRAME_SIZES
+    return Config(table, window, random.one_of([100, 101, 1_000]), random.one_of(sizes))
 
 
 class Play:
@@ -162,6 +163,8 @@ class Play:
         for act, what in (("reset", "a reset"), ("go_away", "a go_away"), ("change", "changed settings")):
             if act in self.done:
                 self.marks.reach(f"a list with {what}")
+        if self.events.counts["long frame taken"]:
+            self.marks.reach("a list with a long frame")
         for mark, count in self.events.counts.items():
             if mark.endswith(" handed out"):
                 self.marks.counts[mark] += count

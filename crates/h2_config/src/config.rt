@@ -94,8 +94,8 @@ impl Config {
     /// name it, a lesser one from their acknowledgment on.
     ///
     /// The connection's window stays 65,535 octets, so DATA with a greater payload ends the
-    /// connection with FLOW_CONTROL_ERROR all the same, and a field block stays 65,552 octets at
-    /// most.
+    /// connection all the same, with FLOW_CONTROL_ERROR where its stream is active. A field block
+    /// stays 65,552 octets at most.
     ///
     /// # Errors
     ///

@@ -1,30 +1,32 @@
 -- What a call makes of the parts of a connection, whatever log they represent.
-use Rattle.std.proofs.Common.{◌≡◌, Bool, true, false, is_some, Option, Some, None, Result, Ok}
-use Rattle.std.proofs.Common.{Err, inl, inr, IfOk, IfErr}
-use Rattle.std.proofs.Common.{OnOk, refl, sym, ap, subst, ◌∙◌, List, ◌∷◌}
-use Rattle.h2_wire.specs.Cutter.{CutterState}
+use Rattle.std.proofs.Common.{◌≡◌, ◌≤◌, ℕ, Bool, true, false, List, ◌∷◌, length, Some, None, Result}
+use Rattle.std.proofs.Common.{Ok, Err, inl, inr, IfOk, IfErr, OnOk, refl, sym, ap, subst, ◌∙◌}
+use Rattle.h2_wire.specs.Cutter.{CutterState, CutterLimited, saturated}
 use Rattle.h2_log.specs.declared.refusal.Refusal.{Refusal}
 use Rattle.h2_log.specs.declared.refusal.Refusal.TheVariants.{Memory}
 use Rattle.h2_log.specs.Acts.{Values, Act, Answer, Refused, IsTypedAct, Open, SendFields, SendData}
 use Rattle.h2_log.specs.Acts.{Release, ResetStream, Refuse, SendPing, SendGoAway, PutOut}
-use Rattle.h2_log.specs.Acts.{ChangeSettings}
+use Rattle.h2_log.specs.Acts.{ChangeSettings, AreInRange, Done}
+use Rattle.h2_log.specs.Limits.{most_max_frame}
 use Rattle.h2_log.specs.Log.{Log}
 use Rattle.h2_log.specs.LogView.{log_view}
 use Rattle.h2_log.specs.LogCalls.{MayAnswer, accepts, refuses, lacks, with_call}
 use Rattle.h2_log.specs.CallRules.{refusal_of, answer_of, may_lack_memory, first_of, conditions}
 use Rattle.h2_log.specs.View.{View}
-use Rattle.h2_log.proofs.StreamLemmas.{Keeps-call}
-use Rattle.h2_machine.specs.End.{End, end_view}
+use Rattle.h2_log.proofs.StreamLemmas.{Keeps, Keeps-call}
+use Rattle.h2_machine.specs.End.{End, end_view, payload_limit_of}
 use Rattle.h2_machine.specs.Machine.{after_call}
 use Rattle.h2_machine.specs.Represents.{Represents}
 use Rattle.h2_machine_laws.specs.Machines.{end_after}
 use Rattle.h2_machine_laws.proofs.AlikeAnswers.{answer_alike, views_alike}
 use Rattle.h2_machine_laws.proofs.CallRefusals.{refusal_same}
 use Rattle.h2_machine_laws.proofs.FreshNumbers.{calls_represent}
+use Rattle.h2_machine_laws.proofs.ReadLimits.{own_of_call}
 use Rattle.h2_core.specs.Calls.{CallRefused, CallAccepted}
 use Rattle.h2_conn.specs.Conn.{answer_by}
 use Rattle.h2_conn.specs.Inner.{PartsRepresent}
 use Rattle.h2_conn.proofs.AskLimits.{parts_kept}
+use Rattle.h2_conn.proofs.SetLimits.{has_cut_kept, parts_limited}
 use Rattle.hpack.proofs.Tests.{none_since as nothing}
 
 -- Whatever log the parts represent: the call may have the answer, and they represent the log with
@@ -34,14 +36,16 @@ PartsAnswer cutter e act answer new =
     (values : Values) (log : Log) → PartsRepresent values cutter e log
     → MayAnswer log act answer × PartsRepresent values cutter new (with_call log act answer)
 
--- The parts represent the log with a call that may have its answer.
+-- The parts represent the log with a call that may have its answer, where the end keeps its own
+-- settings.
 pub parts_called : (values : Values) (cutter : CutterState) (e : End) (log : Log) (act : Act)
     (answer : Answer) → PartsRepresent values cutter e log → IsTypedAct act
-    → MayAnswer log act answer
+    → MayAnswer log act answer → (end_after e act answer).own ≡ e.own
     → PartsRepresent values cutter (end_after e act answer) (with_call log act answer)
-parts_called values cutter e log act answer parts typed may =
+parts_called values cutter e log act answer parts typed may own =
     parts_kept values cutter e (end_after e act answer) log (with_call log act answer) parts
-    (Keeps-call log act answer) (calls_represent values e log act answer parts.machine typed may)
+    (Keeps-call log act answer) own
+    (calls_represent values e log act answer parts.machine typed may)
 
 -- A refusal that the machine gives, or a refused allocation, is one that the log may give.
 refusal_may : (values : Values) (e new : End) (log : Log) (act : Act) (refusal : Refusal)
@@ -74,7 +78,8 @@ refused_at values cutter e new log act refusal parts typed lacking refused =
       may,
       subst (λ (x : End). PartsRepresent values cutter x (with_call log act (Refused refusal)))
           (refused_after e act refusal ∙ sym refused.same)
-          (parts_called values cutter e log act (Refused refusal) parts typed may),
+          (parts_called values cutter e log act (Refused refusal) parts typed may
+          (ap (λ (x : End). x.own) (refused_after e act refusal))),
     )
 
 -- An accepted call makes the machine after it.
@@ -92,21 +97,34 @@ accepted_after e SendGoAway = refl
 accepted_after e (PutOut count) = refl
 accepted_after e (ChangeSettings values) = refl
 
+-- whether a call is the one that changes an end's own settings
+abbrev pub changes_settings : Act → Bool
+changes_settings (ChangeSettings values) = true
+changes_settings _ = false
+
+-- Any other leaves them as they are.
+own_kept : (e : End) (act : Act) → changes_settings act ≡ false → (after_call e act).own ≡ e.own
+own_kept e act other =
+    own_of_call e act
+    (λ values is. let wrong : changes_settings act ≡ true = ap changes_settings is in cc)
+
 -- A call that is accepted, with the machine's answer where the log has the same.
 pub accepted_with : (values : Values) (cutter : CutterState) (e new : End) (log : Log) (act : Act)
-    (answer : Answer) → PartsRepresent values cutter e log → IsTypedAct act
-    → answer ≡ answer_of (end_view e) act
+    (answer : Answer) → changes_settings act ≡ false → PartsRepresent values cutter e log
+    → IsTypedAct act → answer ≡ answer_of (end_view e) act
     → answer_of (end_view e) act ≡ answer_of (log_view log) act
     → refusal_of (end_view e) act ≡ None → new ≡ after_call e act
     → MayAnswer log act answer × PartsRepresent values cutter new (with_call log act answer)
-accepted_with values cutter e new log act answer parts typed is alike free after =
+accepted_with values cutter e new log act answer keeps parts typed is alike free after =
     let may : MayAnswer log act answer =
     accepts (sym (refusal_same values e log act parts.machine) ∙ free) (is ∙ alike) in
-    let made : end_after e act answer ≡ new =
-    ap (λ (x : Answer). end_after e act x) is ∙ accepted_after e act ∙ sym after in (
+    let called : end_after e act answer ≡ after_call e act =
+    ap (λ (x : Answer). end_after e act x) is ∙ accepted_after e act in (
       may,
-      subst (λ (x : End). PartsRepresent values cutter x (with_call log act answer)) made
-          (parts_called values cutter e log act answer parts typed may),
+      subst (λ (x : End). PartsRepresent values cutter x (with_call log act answer))
+          (called ∙ sym after)
+          (parts_called values cutter e log act answer parts typed may
+          (ap (λ (x : End). x.own) called ∙ own_kept e act keeps)),
     )
 
 -- Where none of some conditions holds, the first doesn't.
@@ -145,7 +163,7 @@ lacks_alike values e log act represents up =
 
 -- A call that is refused, and doesn't put output out, for memory only where the machine may lack
 -- it.
-refused_answers : (cutter : CutterState) (e new : End) (act : Act) (refusal : Refusal)
+pub refused_answers : (cutter : CutterState) (e new : End) (act : Act) (refusal : Refusal)
     → puts_out act ≡ false → IsTypedAct act
     → (refusal ≡ Memory → may_lack_memory (end_view e) act ≡ true)
     → CallRefused e act refusal new → PartsAnswer cutter e act (Refused refusal) new
@@ -154,40 +172,70 @@ refused_answers cutter e new act refusal other typed lacking refused values log 
     (λ memory free. sym (lacks_alike values e log act parts.machine (up_if_free e act other free))
     ∙ lacking memory) refused
 
--- A call that is accepted, and doesn't put output out.
+-- A call that is accepted, and doesn't put output out or change settings.
 pub accepted_answers : (cutter : CutterState) (e new : End) (act : Act) (answer : Answer)
-    → puts_out act ≡ false → IsTypedAct act → answer ≡ answer_of (end_view e) act
-    → CallAccepted e act new → PartsAnswer cutter e act answer new
-accepted_answers cutter e new act answer other typed is accepted values log parts =
-    accepted_with values cutter e new log act answer parts typed is
+    → puts_out act ≡ false → changes_settings act ≡ false → IsTypedAct act
+    → answer ≡ answer_of (end_view e) act → CallAccepted e act new
+    → PartsAnswer cutter e act answer new
+accepted_answers cutter e new act answer other keeps typed is accepted values log parts =
+    accepted_with values cutter e new log act answer keeps parts typed is
     (answer_alike values e log act parts.machine (up_if_free e act other accepted.free))
     accepted.free accepted.after
 
 -- What a call answers by its result, where its value is the machine's answer.
 pub answers_by : {A : Type 0} (answered : A → Answer) (result : Result A Refusal)
-    (cutter : CutterState) (e new : End) (act : Act) → puts_out act ≡ false → IsTypedAct act
+    (cutter : CutterState) (e new : End) (act : Act) → puts_out act ≡ false
+    → changes_settings act ≡ false → IsTypedAct act
     → (result ≡ Err Memory → may_lack_memory (end_view e) act ≡ true)
     → IfOk result (λ value. (answered value ≡ answer_of (end_view e) act)
     × CallAccepted e act new)
     → IfErr result (λ refusal. CallRefused e act refusal new)
     → PartsAnswer cutter e act (answer_by answered result) new
-answers_by answered (Ok value) cutter e new act other typed lacking ok err =
-    accepted_answers cutter e new act (answered value) other typed ok.0 ok.1
-answers_by answered (Err refusal) cutter e new act other typed lacking ok err =
+answers_by answered (Ok value) cutter e new act other keeps typed lacking ok err =
+    accepted_answers cutter e new act (answered value) other keeps typed ok.0 ok.1
+answers_by answered (Err refusal) cutter e new act other keeps typed lacking ok err =
     refused_answers cutter e new act refusal other typed (λ memory. lacking (ap Err memory)) err
 
 -- The same of calls whose answer is that they are done.
 pub done_by : {A : Type 0} (answer : Answer) (result : Result A Refusal)
-    (cutter : CutterState) (e new : End) (act : Act) → puts_out act ≡ false → IsTypedAct act
+    (cutter : CutterState) (e new : End) (act : Act) → puts_out act ≡ false
+    → changes_settings act ≡ false → IsTypedAct act
     → (result ≡ Err Memory → may_lack_memory (end_view e) act ≡ true)
     → answer ≡ answer_of (end_view e) act
     → OnOk result (CallAccepted e act new)
     → IfErr result (λ refusal. CallRefused e act refusal new)
     → PartsAnswer cutter e act (answer_by (λ done. answer) result) new
-done_by answer (Ok value) cutter e new act other typed lacking is ok err =
-    accepted_answers cutter e new act answer other typed is ok
-done_by answer (Err refusal) cutter e new act other typed lacking is ok err =
+done_by answer (Ok value) cutter e new act other keeps typed lacking is ok err =
+    accepted_answers cutter e new act answer other keeps typed is ok
+done_by answer (Err refusal) cutter e new act other keeps typed lacking is ok err =
     refused_answers cutter e new act refusal other typed (λ memory. lacking (ap Err memory)) err
+
+-- A change of settings that is accepted, once the cutter has the limit that is in force.
+pub change_answers : (cutter limited : CutterState) (e new : End) (changed : Values)
+    → AreInRange changed → CallAccepted e (ChangeSettings changed) new
+    → CutterLimited cutter (payload_limit_of new.own) limited
+    → payload_limit_of new.own ≤ most_max_frame → (values : Values) (log : Log)
+    → PartsRepresent values cutter e log
+    → MayAnswer log (ChangeSettings changed) Done
+    × PartsRepresent values limited new (with_call log (ChangeSettings changed) Done)
+unfolding IsTypedAct
+change_answers cutter limited e new changed in_range accepted set within values log parts =
+    let act : Act = ChangeSettings changed in
+    let next : Log = with_call log act Done in
+    let may : MayAnswer log act Done =
+    accepts (sym (refusal_same values e log act parts.machine) ∙ accepted.free)
+    (answer_alike values e log act parts.machine (up_if_free e act refl accepted.free)) in
+    let keeps : Keeps log next = Keeps-call log act Done in
+    let machine : Represents values new next =
+    subst (λ (x : End). Represents values x next) (accepted_after e act ∙ sym accepted.after)
+    (calls_represent values e log act Done parts.machine in_range may) in (
+      may,
+      parts_limited values cutter limited new next machine
+          (λ up. has_cut_kept values cutter e log next parts keeps up)
+          (parts.place
+          ∙ sym (ap (λ (input : List ℕ). saturated (length input)) keeps.input)) set
+          (λ up. within),
+    )
 
 -- A call that is refused for the first condition that holds, such as that the connection has
 -- failed.
@@ -200,7 +248,8 @@ condition_answers cutter e act refusal typed why values log parts =
       may,
       subst (λ (x : End). PartsRepresent values cutter x (with_call log act (Refused refusal)))
           (refused_after e act refusal)
-          (parts_called values cutter e log act (Refused refusal) parts typed may),
+          (parts_called values cutter e log act (Refused refusal) parts typed may
+          (ap (λ (x : End). x.own) (refused_after e act refusal))),
     )
 
 -- What is said of a value, otherwise.

@@ -1,5 +1,5 @@
 -- Calls that take no memory, and how many octets are kept at most.
-use Rattle.std.proofs.Common.{◌≡◌, ◌≢◌, ◌∙◌, ◌+◌, ◌≤◌, ℕ, suc, Bool, true, false, List, length}
+use Rattle.std.proofs.Common.{◌≡◌, ◌≢◌, ◌∙◌, ◌+◌, ◌≤◌, ℕ, Bool, true, false, List}
 use Rattle.std.proofs.Common.{Option, Some, None, is_some, IsSome, Result, Err, refl, ap, sym}
 use Rattle.std.proofs.Common.{arith}
 use Rattle.h2_frame.specs.declared.code.Code.{Code}
@@ -13,7 +13,6 @@ use Rattle.h2_log.specs.View.{View}
 use Rattle.h2_machine.specs.End.{End, end_view}
 use Rattle.h2_machine.specs.Represents.{Represents}
 use Rattle.h2_machine_laws.proofs.AlikeAnswers.{views_alike}
-use Rattle.h2_end_laws.proofs.PayloadLimits.{limits_to_come}
 use Rattle.h2_wire.specs.Cutter.{CutterState}
 use Rattle.h2_conn.specs.Inner.{PartsRepresent}
 
@@ -51,9 +50,9 @@ pub nothing_taken : (values : Values) (e : End) (log : Log) (id : ℕ) (octets :
 nothing_taken values e log id octets end result represents closed free none =
     nothing_by values e log id octets end result e.failed refl represents closed free none
 
--- A head and the greatest payload are kept at most.
+-- A head and the greatest payload that may be configured are kept at most.
 held_by : (inside : Bool) (count greatest : ℕ) → (inside ≡ true → count ≤ 24)
-    → (inside ≡ false → count ≤ 9 + greatest) → greatest ≤ 16384 → count ≤ 16393
+    → (inside ≡ false → count ≤ 9 + greatest) → greatest ≤ 1048576 → count ≤ 1048585
 held_by true count greatest few most within = omega (arith, few refl)
 held_by false count greatest few most within = omega (arith, most refl, within)
 
@@ -64,6 +63,6 @@ none_of (Some code) is = cc
 pub held_at_most : (values : Values) (cutter : CutterState) (e : End) (log : Log) (count : ℕ)
     → PartsRepresent values cutter e log → log.failed ≡ None
     → (cutter.in_preface ≡ true → count ≤ 24)
-    → (cutter.in_preface ≡ false → count ≤ 9 + cutter.greatest) → count ≤ 16393
+    → (cutter.in_preface ≡ false → count ≤ 9 + cutter.greatest) → count ≤ 1048585
 held_at_most values cutter e log count p up few most =
     held_by cutter.in_preface count cutter.greatest few most (p.greatest up)

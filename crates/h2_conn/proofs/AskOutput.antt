@@ -99,7 +99,7 @@ pub put_out_answers : (result : Result ℕ Refusal) (cutter : CutterState) (e ne
     → IfErr result (λ refusal. (refusal ≡ Memory) × (after ≡ before) × (new ≡ e))
     → PartsAnswer cutter e (PutOut count) (answer_by (λ given. Count given) result) new
 put_out_answers (Ok given) cutter e new count before after typed lacking ok err values log parts =
-    accepted_with values cutter e new log (PutOut count) (Count given) parts typed ok.answer
+    accepted_with values cutter e new log (PutOut count) (Count given) refl parts typed ok.answer
     (put_out_alike values e log count parts.machine) (never_refused e count) ok.machine
 put_out_answers (Err refusal) cutter e new count before after typed lacking ok
     (memory, kept, same) values log parts =

@@ -54,7 +54,7 @@ failing_answers cutter e new id code typed free calm is values log parts =
     (ap (λ (fault : Option Code). not (is_some fault)) none) refl in (
       may,
       subst (λ (x : End). PartsRepresent values cutter x (with_call log act OutOfMemory)) (sym is)
-          (parts_called values cutter e log act OutOfMemory parts typed may),
+          (parts_called values cutter e log act OutOfMemory parts typed may refl),
     )
 
 -- What it shows.
@@ -63,7 +63,7 @@ pub refusing_shows : (result : Result Unit Refusal) (cutter : CutterState) (e ne
     → PartsShow cutter e (Refuse id code) (answer_by (λ done. Done) result) new
 refusing_shows (Ok done) cutter e new id code typed (inl accepted) =
     shows_own cutter e new (Refuse id code) Done Done refl
-    (accepted_answers cutter e new (Refuse id code) Done refl typed refl accepted)
+    (accepted_answers cutter e new (Refuse id code) Done refl refl typed refl accepted)
 refusing_shows (Ok done) cutter e new id code typed (inr (free, calm, is)) =
     shows_own cutter e new (Refuse id code) OutOfMemory Done refl
     (failing_answers cutter e new id code typed free calm is)

@@ -4,7 +4,7 @@ use Rattle.std.proofs.Common.{inr, IfOk, IfErr, List, OnOk, refl, sym, ap, subst
 use Rattle.h2_log.specs.declared.refusal.Refusal.{Refusal}
 use Rattle.h2_log.specs.declared.refusal.Refusal.TheVariants.{Memory}
 use Rattle.h2_log.specs.Acts.{Act, IsTypedAct, Refuse, PutOut}
-use Rattle.h2_log.specs.CallRules.{refusal_of, returns_before_put_out, conditions, first_of}
+use Rattle.h2_log.specs.CallRules.{refusal_of, returns_before_put_out}
 use Rattle.h2_machine.specs.End.{End, end_view}
 use Rattle.h2_machine.specs.Machine.{after_call, before_put_out_at, return_credit}
 use Rattle.h2_machine_laws.proofs.BoundsOfSteps.{call_bounded}

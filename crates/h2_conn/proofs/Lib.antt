@@ -1,5 +1,7 @@
 -- The parts of a connection where its cutter is left as it is.
 pub mod AskLimits
+-- The parts where the limit of payloads is set.
+mod SetLimits
 -- What calls make of a connection.
 pub mod AskCalls
 pub mod AskSound

@@ -1,7 +1,7 @@
 -- What taking octets makes of the parts of a connection: it is a step of each log that they
 -- represent.
-use Rattle.std.proofs.Common.{◌≡◌, ◌≢◌, ℕ, ◌≤◌, List, [], ◌∷◌, ◌++◌, length, take, drop, Option}
-use Rattle.std.proofs.Common.{◌⊎◌, inl, inr, true, Some, None, refl, ap, sym, subst, ◌∙◌}
+use Rattle.std.proofs.Common.{◌≡◌, ◌≢◌, ℕ, ◌≤◌, true, List, [], ◌∷◌, ◌++◌, length, take, drop}
+use Rattle.std.proofs.Common.{Option, ◌⊎◌, inl, inr, Some, None, refl, ap, sym, subst, ◌∙◌}
 use Rattle.std.proofs.Common.{append-nil}
 use Rattle.std.proofs.lemmas.List.{take-append-drop, length-take-le}
 use Rattle.std.proofs.Math.Seq.{take-length}
@@ -15,10 +15,11 @@ use Rattle.h2_wire.specs.declared.fault.WireFault.TheVariants as faults
 use Rattle.h2_wire.specs.Faults.{wire_fault_code}
 use Rattle.h2_wire.specs.Streams.{Limits, Frames}
 use Rattle.h2_wire.specs.Cutter.{CutterState, CutterRepresents, CutterContinues, CutterFaults}
-use Rattle.h2_wire.specs.Cutter.{CutterFails, saturated}
+use Rattle.h2_wire.specs.Cutter.{CutterFails, CutterLimited, saturated}
 use Rattle.h2_wire.proofs.ReadingLemmas.{none_some}
 use Rattle.h2_log.specs.declared.role.Role.{Role}
 use Rattle.h2_log.specs.Acts.{Values}
+use Rattle.h2_log.specs.Limits.{most_max_frame}
 use Rattle.h2_log.specs.Events.{Event, UnprocessedEvent}
 use Rattle.h2_log.specs.ItemRules.{Decoded}
 use Rattle.h2_log.specs.Settings.{is_server}
@@ -31,7 +32,7 @@ use Rattle.h2_log.specs.View.{View}
 use Rattle.h2_log.specs.Histories.{IsLog, TakesOctets, TakesFrame}
 use Rattle.h2_log.specs.Histories.{IsDecodedFor, LacksMemory, to_report, to_keep, to_take}
 use Rattle.h2_log.proofs.StreamLemmas.{Keeps-frame, Keeps-none}
-use Rattle.h2_machine.specs.End.{End, end_view}
+use Rattle.h2_machine.specs.End.{End, end_view, payload_limit_of}
 use Rattle.h2_machine.specs.Machine.{after_frame, fail, close_unprocessed, unprocessed_of_end}
 use Rattle.h2_machine.specs.Represents.{Represents, RepresentsOutput, RepresentsStreams}
 use Rattle.h2_machine_laws.specs.Machines.{uses_part}
@@ -41,15 +42,18 @@ use Rattle.h2_machine_laws.specs.Machines.{log_after, machine_after}
 use Rattle.h2_machine_laws.proofs.AlikeAnswers.{views_alike}
 use Rattle.h2_machine_laws.proofs.EveryStep.{steps_represent, frames_represent}
 use Rattle.h2_machine_laws.proofs.NextUnprocessed.{next_same}
+use Rattle.h2_machine_laws.proofs.ReadLimits.{own_of_unprocessed}
 use Rattle.h2_end_laws.specs.Takes.{TakeAnswer, Took, Failed, events_answered, MayTake}
 use Rattle.h2_end_laws.specs.Takes.{has_failed, reports_unprocessed, ends_no_frame, ends_frame}
 use Rattle.h2_end_laws.specs.Takes.{meets_fault, runs_out_of_memory}
-use Rattle.h2_end_laws.proofs.PayloadLimits.{limits_to_come}
+use Rattle.h2_end_laws.proofs.PieceLogs.{limits_used}
 use Rattle.h2_core.specs.Failure.{FailsAlike}
 use Rattle.h2_core.specs.Frames.{FrameFails, FailsWithoutMemory, FrameLacksMemory}
 use Rattle.h2_conn.specs.declared.happened.Happened.{Happened}
 use Rattle.h2_conn.specs.Events.{happened_value}
 use Rattle.h2_conn.specs.Inner.{PartsRepresent, happened_events, FrameHappens}
+use Rattle.h2_conn.proofs.AskLimits.{cuts_same, parts_kept}
+use Rattle.h2_conn.proofs.SetLimits.{HasCut, parts_limited}
 use Rattle.h2_conn.proofs.TakeFaults.{fault_in}
 use Rattle.h2_conn.proofs.TakeMemory.{CutterLacks, keeps_octets, frame_needs}
 use Rattle.h2_conn.proofs.TakeReports.{frame_reported, decoded_for}
@@ -124,20 +128,6 @@ takes_octets values e log s up reported =
     let log_up : log.failed ≡ None = sym s.failed ∙ up in
     record { up = log_up; all_reported = sym (next_same values e log s log_up) ∙ reported }
 
--- The limits that are in force are always the same.
-limits_kept : (role : Role) (values : Values) (log after : Log) → IsLog role values log
-    → IsLog role values after → limits_from after ≡ limits_from log
-limits_kept role values log after is came =
-    limits_to_come role values after came ∙ sym (limits_to_come role values log is)
-
-same_cut : (cutter : CutterState) (role other : Role) (limits others : Limits)
-    (input octets : List ℕ) (frames more : List Frame) → other ≡ role → others ≡ limits
-    → octets ≡ input → more ≡ frames
-    → CutterRepresents cutter (is_server role) limits input frames
-    → CutterRepresents cutter (is_server other) others octets more
-same_cut cutter role other limits others input octets frames more role_is limits_are input_is
-    frames_are h = rw (role_is, limits_are, input_is, frames_are) h
-
 -- Octets that end no frame.
 pub no_frame_taken : (values : Values) (cutter new : CutterState) (e : End) (log : Log)
     (piece : List ℕ) (count : ℕ) → PartsRepresent values cutter e log → TakesOctets log
@@ -149,7 +139,7 @@ no_frame_taken values cutter new e log piece count p takes up all continues =
     ap (λ (n : ℕ). take n piece) all ∙ take-length piece in
     let now : CutterRepresents new (is_server log.role) (limits_from log) (log.input ++ piece)
     log.frames =
-    same_cut new log.role log.role (limits_from log) (limits_from log)
+    cuts_same new log.role log.role (limits_from log) (limits_from log)
     (log.input ++ take count piece) (log.input ++ piece) (log.frames ++ []) log.frames refl refl
     (ap (λ (o : List ℕ). log.input ++ o) (sym all_of)) (sym (append-nil log.frames))
     (continues.represents (is_server log.role) (limits_from log) log.input log.frames
@@ -162,9 +152,9 @@ no_frame_taken values cutter new e log piece count p takes up all continues =
       record {
         machine = machine;
         cut = λ going.
-            same_cut new log.role log.role (limits_from log) (limits_from after)
+            cuts_same new log.role log.role (limits_from log) (limits_from after)
             (log.input ++ piece) (log.input ++ piece) log.frames log.frames refl
-            (limits_kept e.role values log after p.machine.came machine.came) refl refl now;
+            (limits_used log piece new.unparsed) refl refl now;
         unparsed = λ going. refl;
         greatest = λ going. rw continues.same_greatest (p.greatest takes.up);
         place = now.place;
@@ -213,47 +203,39 @@ answered : (list : List Field) (octets : List ℕ) (happened : Option Happened)
 answered list octets None = refl
 answered list octets (Some happened) = refl
 
--- The parts after a frame that the connection outlives.
-frame_parts : (values : Values) (cutter new : CutterState) (e other : End) (log : Log)
+-- After a frame that the connection outlives the cutter has cut the octets of the log.
+has_cut_frame : (values : Values) (cutter new : CutterState) (e : End) (log : Log)
     (piece : List ℕ) (count : ℕ) (frame : Frame) (decoded : Option Decoded)
     → PartsRepresent values cutter e log → log.failed ≡ None
-    → IsCut cutter new piece count frame → other.role ≡ e.role
-    → Represents values other (took_frame log (take count piece) decoded frame)
-    → PartsRepresent values new other (took_frame log (take count piece) decoded frame)
+    → IsCut cutter new piece count frame
+    → HasCut new (took_frame log (take count piece) decoded frame)
 unfolding used
-frame_parts values cutter new e other log piece count frame decoded p up cut role machine =
+has_cut_frame values cutter new e log piece count frame decoded p up cut =
     let octets : List ℕ = take count piece in
     let after : Log = took_frame log octets decoded frame in
     let keeps = Keeps-frame (used log octets []) decoded frame in
-    let came : IsLog e.role values after =
-    subst (λ (r : Role). IsLog r values after) role machine.came in
     record {
-      machine = machine;
-      cut = λ going.
-          same_cut new log.role after.role (limits_from log) (limits_from after)
-          (log.input ++ octets) after.input (log.frames ++ frame ∷ []) after.frames keeps.role
-          (limits_kept e.role values log after p.machine.came came) keeps.input keeps.frames
-          (cut_now values cutter new e log piece count frame p up cut);
-      unparsed = λ going. cut.none ∙ sym keeps.unparsed;
-      greatest = λ going. rw cut.continues.same_greatest (p.greatest up);
-      place = cut_end values cutter new e log piece count frame decoded p up cut;
+      limits = limits_from log;
+      cut = cuts_same new log.role after.role (limits_from log) (limits_from log)
+          (log.input ++ octets) after.input (log.frames ++ frame ∷ []) after.frames keeps.role refl
+          keeps.input keeps.frames (cut_now values cutter new e log piece count frame p up cut);
+      same = λ place within. ap (λ (limits : Limits). limits place) keeps.limits;
+      unparsed = cut.none ∙ sym keeps.unparsed;
+      greatest = rw cut.continues.same_greatest (p.greatest up);
     }
 
--- The log keeps its role.
-same_role : (log : Log) (octets : List ℕ) (decoded : Option Decoded) (frame : Frame)
-    → (took_frame log octets decoded frame).role ≡ log.role
-unfolding used
-same_role log octets decoded frame = (Keeps-frame (used log octets []) decoded frame).role
-
--- A frame that the connection outlives.
-pub frame_taken : (values : Values) (cutter new : CutterState) (e other : End) (log : Log)
+-- A frame that the connection outlives, after which the cutter is given the limit in force.
+pub frame_taken : (values : Values) (cutter new limited : CutterState) (e other : End) (log : Log)
     (piece : List ℕ) (count : ℕ) (frame : Frame) (list : List Field) (octets : List ℕ)
     (happened : Option Happened) → PartsRepresent values cutter e log → TakesOctets log
     → e.failed ≡ None → IsCut cutter new piece count frame
     → FrameHappens e frame list octets happened other
-    → Takes values log piece (Took count (option_map (happened_value list octets) happened)) new
+    → CutterLimited new (payload_limit_of other.own) limited
+    → payload_limit_of other.own ≤ most_max_frame
+    → Takes values log piece (Took count (option_map (happened_value list octets) happened)) limited
     other
-frame_taken values cutter new e other log piece count frame list octets happened p takes up cut h =
+frame_taken values cutter new limited e other log piece count frame list octets happened p takes up
+    cut h set within =
     let taken : List ℕ = take count piece in
     let read = read_of values cutter new e log piece count frame p takes.up cut in
     let sees : IsDecodedFor log h.decoded frame =
@@ -271,8 +253,10 @@ frame_taken values cutter new e other log piece count frame list octets happened
       after,
       ends_frame takes taken (drop count piece) (sym (take-append-drop count piece)) frame
           h.decoded read sees refl (sym (length-take-le count piece cut.within), going, reported),
-      frame_parts values cutter new e other log piece count frame h.decoded p takes.up cut
-          (machine.role ∙ same_role log taken h.decoded frame ∙ sym p.machine.role) machine,
+      parts_limited values new limited other after machine
+          (λ going. has_cut_frame values cutter new e log piece count frame h.decoded p takes.up
+          cut) (cut_end values cutter new e log piece count frame h.decoded p takes.up cut) set
+          (λ going. within),
     )
 
 -- A frame with which the connection fails.
@@ -412,24 +396,12 @@ unprocessed_taken values cutter e other log piece id p up next some closed =
     subst (λ (x : End). Represents values x after)
     (sym (closed ∙ ap (λ (i : ℕ). close_unprocessed e i) next))
     (steps_represent values e log one_unprocessed p.machine (log_up, of_log)) in
-    let keeps = Keeps-none log in
-    let role : other.role ≡ e.role = machine.role ∙ keeps.role ∙ sym p.machine.role in
-    let came : IsLog e.role values after =
-    subst (λ (r : Role). IsLog r values after) role machine.came in (
+    let own : other.own ≡ e.own =
+    ap (λ (x : End). x.own) closed ∙ own_of_unprocessed e id in (
       after,
       reports_unprocessed log_up of_log
           (ap (λ (i : ℕ). Took 0 (Some (UnprocessedEvent i))) named) refl,
-      record {
-        machine = machine;
-        cut = λ going.
-            same_cut cutter log.role after.role (limits_from log) (limits_from after) log.input
-            after.input log.frames after.frames keeps.role
-            (limits_kept e.role values log after p.machine.came came) keeps.input keeps.frames
-            (p.cut log_up);
-        unparsed = λ going. p.unparsed log_up ∙ sym keeps.unparsed;
-        greatest = λ going. p.greatest log_up;
-        place = end_kept cutter.place log.input _ keeps.input p.place;
-      },
+      parts_kept values cutter e other log after p (Keeps-none log) own machine,
     )
 
 -- No octet more was used.

@@ -1,17 +1,16 @@
 -- A new end represents the log of one, and its values are sound.
-use Rattle.std.proofs.Common.{◌≤◌, ◌≡◌, ℕ, Bool, List, [], ◌∷◌, ◌++◌, refl, sym, subst, inl, inr}
+use Rattle.std.proofs.Common.{◌≡◌, ℕ, Bool, List, [], ◌∷◌, ◌++◌, refl, sym, subst, inl, inr, arith}
 use denote.Enum.Bare.{sameb}
 use Rattle.h2_wire.specs.Streams.{Limits, Frames}
-use Rattle.h2_wire.specs.Cutter.{CutterState, CutterRepresents}
+use Rattle.h2_wire.specs.Cutter.{CutterState, CutterRepresents, CutterLimited}
 use Rattle.h2_log.specs.declared.role.Role.{Role}
 use Rattle.h2_log.specs.declared.role.Role.TheVariants.{Client, Server}
 use Rattle.h2_log.specs.contracts.role.Role.{the_type}
 use Rattle.h2_log.specs.Acts.{Values, AreInRange}
 use Rattle.h2_log.specs.Settings.{is_server}
-use Rattle.h2_log.specs.LogSteps.{limits_from, with_sent}
+use Rattle.h2_log.specs.LogSteps.{with_sent}
 use Rattle.h2_log.specs.LogCalls.{opened}
-use Rattle.h2_log.specs.Histories.{begins}
-use Rattle.h2_machine.specs.End.{End}
+use Rattle.h2_machine.specs.End.{End, payload_limit_of}
 use Rattle.h2_machine.specs.Machine.{new_end}
 use Rattle.h2_machine.specs.Represents.{Represents}
 use Rattle.h2_machine_laws.proofs.BoundsOfSteps.{new_bounded}
@@ -22,9 +21,10 @@ use Rattle.h2_machine_laws.proofs.CountedBySteps.{is_counted}
 use Rattle.h2_machine_laws.proofs.NewEnd.{new_represents}
 use Rattle.h2_machine_laws.proofs.RangesOfSteps.{new_fits}
 use Rattle.h2_machine_laws.proofs.RangesOfSteps.{are_in_range}
-use Rattle.h2_end_laws.proofs.PayloadLimits.{payload_limits, limits_to_come}
+use Rattle.h2_machine_laws.proofs.ReadLimits.{limit_in_range}
 use Rattle.h2_core.specs.Endpoint.{IsSound}
 use Rattle.h2_conn.specs.Inner.{PartsRepresent}
+use Rattle.h2_conn.proofs.SetLimits.{HasCut, parts_limited}
 
 -- Whether an end is a server.
 pub is_a_server : (role : Role) → sameb the_type role Server ≡ is_server role
@@ -44,46 +44,45 @@ new_sound e role values in_range new =
     } in
     subst (λ (x : End). IsSound x) (sym new) sound
 
+-- the limits of payloads before an end's first SETTINGS
+abbrev pub first_limits : Limits
+first_limits = λ place. 16384
+
 -- Of no octets none are left.
 none_joined : (part unparsed : List ℕ) → [] ≡ part ++ unparsed → unparsed ≡ []
 none_joined [] unparsed joined = sym joined
 none_joined (first ∷ part) unparsed joined = cc
 
-none_left : (unparsed : List ℕ) (expects : Bool) → Frames expects payload_limits [] [] unparsed
+none_left : (unparsed : List ℕ) (expects : Bool) → Frames expects first_limits [] [] unparsed
     → unparsed ≡ []
 none_left unparsed expects (inl inside) = inside.all
 none_left unparsed expects (inr after) = none_joined after.part unparsed after.joined
 
--- A cutter that has used nothing has answered the frames of a new end's log.
-opened_cut : (cutter : CutterState) (role : Role) (values : Values) (limits : Limits)
-    → limits ≡ payload_limits
-    → CutterRepresents cutter (is_server role) payload_limits [] []
-    → CutterRepresents cutter (is_server (opened role values).role) limits
-    (opened role values).input (opened role values).frames
+-- A cutter that has used nothing has cut the octets of a new end's log.
+opened_cut : (cutter : CutterState) (role : Role) (values : Values)
+    → CutterRepresents cutter (is_server role) first_limits [] [] → cutter.greatest ≡ 16384
+    → HasCut cutter (opened role values)
 unfolding opened with_sent
-opened_cut cutter role values limits same h =
-    subst (λ (l : Limits). CutterRepresents cutter (is_server role) l [] []) (sym same) h
+opened_cut cutter role values cut greatest =
+    record {
+      limits = first_limits;
+      cut = cut;
+      same = λ place used. refl;
+      unparsed = none_left cutter.unparsed (is_server role) cut.split;
+      greatest = omega (arith, greatest);
+    }
 
--- Such a cutter keeps nothing.
-pub none_unparsed : (cutter : CutterState) (role : Role)
-    → CutterRepresents cutter (is_server role) payload_limits [] [] → cutter.unparsed ≡ []
-none_unparsed cutter role cut = none_left cutter.unparsed (is_server role) cut.split
-
--- A new end represents its log, with such a cutter.
-pub new_parts : (cutter : CutterState) (e : End) (role : Role) (values : Values)
+-- A new end represents its log, with such a cutter that is given the limit in force.
+pub new_parts : (cutter limited : CutterState) (e : End) (role : Role) (values : Values)
     → AreInRange values → e ≡ new_end role values
-    → CutterRepresents cutter (is_server role) payload_limits [] [] → cutter.unparsed ≡ []
-    → cutter.greatest ≤ 16384 → PartsRepresent values cutter e (opened role values)
+    → CutterRepresents cutter (is_server role) first_limits [] [] → cutter.greatest ≡ 16384
+    → CutterLimited cutter (payload_limit_of e.own) limited
+    → PartsRepresent values limited e (opened role values)
 unfolding opened with_sent
-new_parts cutter e role values in_range new cut none greatest =
+new_parts cutter limited e role values in_range new cut greatest set =
     let machine : Represents values e (opened role values) =
     subst (λ (x : End). Represents values x (opened role values)) (sym new)
     (new_represents role values in_range) in
-    record {
-      machine = machine;
-      cut = λ up. opened_cut cutter role values (limits_from (opened role values))
-          (limits_to_come role values (opened role values) (begins in_range)) cut;
-      unparsed = λ up. none;
-      greatest = λ up. greatest;
-      place = cut.place;
-    }
+    parts_limited values cutter limited e (opened role values) machine
+    (λ up. opened_cut cutter role values cut greatest) cut.place set
+    (λ up. limit_in_range e (new_sound e role values in_range new).ranges)

@@ -93,7 +93,7 @@ impl Endpoint {
     // contract: 6.5.3 (own) Own SETTINGS are changed once those before are acknowledged
     // rule: 6.5.3 (own) Own SETTINGS are changed once those before are acknowledged
     /// Changes this end's settings (RFC 9113, section 6.5.3): they hold from their acknowledgment
-    /// on.
+    /// on; a greater frame may be read at once.
     ///
     /// # Errors
     ///

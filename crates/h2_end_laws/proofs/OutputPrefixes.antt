@@ -1,5 +1,6 @@
 -- A prefix of what an end has written.
-use Rattle.std.proofs.Common.{◌≡◌, ℕ, ◌≤◌, not, List, [], ◌++◌, None, arith}
+use Rattle.std.proofs.Common.{◌≡◌, ℕ, ◌≤◌, min, not, List, [], ◌∷◌, ◌++◌, None, arith}
+use Rattle.std.specs.List.{AllByRecursion}
 use Rattle.h2_frame.specs.Frames.{Frame}
 use Rattle.h2_wire.specs.Streams.{Limits, Frames, expected_preface}
 use Rattle.h2_block.specs.Grouping.{Item, Groups}
@@ -17,6 +18,7 @@ use Rattle.h2_log_laws.proofs.PayloadsOfLogs.{written_by_payloads}
 use Rattle.h2_end_laws.specs.Prefixes.{IsPrefixOfItems}
 use Rattle.h2_end_laws.proofs.ReadPrefixes.{prefix_read}
 use Rattle.h2_end_laws.proofs.GroupedPrefixes.{prefix_grouped}
+use Rattle.h2_end_laws.proofs.SendableItems.{IsPayload}
 use Rattle.h2_end_laws.proofs.SendableCalls.{payloads_may, written_sendable_by}
 
 -- A prefix of octets that are read as frames that group to items.
@@ -45,15 +47,45 @@ pub written_of : (role : Role) (log : Log) → log.role ≡ role → log.written
     ≡ expected_preface (not (is_server role)) ++ encoding_by log.payloads log.sent
 written_of role log same written = rw same at written
 
--- All that a log has written is read as the frames of its items, each with its greatest payload.
+-- Greatest payloads that are bounded twice are within the lesser bound.
+within_both : (bound other : ℕ) (payloads : List ℕ)
+    → AllByRecursion (λ most. most ≤ bound) payloads
+    → AllByRecursion (λ most. (16384 ≤ most) × (most ≤ other)) payloads
+    → AllByRecursion (λ most. (16384 ≤ most) × (most ≤ min bound other)) payloads
+within_both bound other [] within between = tt
+within_both bound other (most ∷ payloads) within between =
+    let one = within.0 in let both = between.0 in (
+      (both.0, omega (arith, one, both.1)),
+      within_both bound other payloads within.1 between.1,
+    )
+
+-- All that a log has written is read as the frames of its items, each with its greatest payload,
+-- where payloads may be read that are as long as all of these.
+pub output_read_within : (role : Role) (values : Values) (log : Log) (limits : Limits)
+    → IsLog role values log → (bound : ℕ) → AllByRecursion (λ most. most ≤ bound) log.payloads
+    → ((place : ℕ) → bound ≤ limits place)
+    → Frames (not (is_server role)) limits log.written (frames_by log.payloads log.sent) []
+output_read_within role values log limits is bound within high =
+    rw (written_of role log (stream_of_log role values log is).role
+    (written_by_payloads role values log is).written)
+    (items_read_by (not (is_server role)) limits (min bound max_frame_size_sent) log.payloads
+    log.sent (omega arith) (λ place. omega (arith, high place))
+    (within_both bound max_frame_size_sent log.payloads within (payloads_may role values log is))
+    (written_sendable_by role values log is))
+
+-- No greatest payload is above the own limit.
+within_own : (payloads : List ℕ) → AllByRecursion IsPayload payloads
+    → AllByRecursion (λ most. most ≤ max_frame_size_sent) payloads
+within_own [] between = tt
+within_own (most ∷ payloads) between = ((between.0).1, within_own payloads between.1)
+
+-- So it is where payloads may be read that are as long as the own limit.
 pub output_read : (role : Role) (values : Values) (log : Log) (limits : Limits)
     → IsLog role values log → ((place : ℕ) → max_frame_size_sent ≤ limits place)
     → Frames (not (is_server role)) limits log.written (frames_by log.payloads log.sent) []
 output_read role values log limits is high =
-    rw (written_of role log (stream_of_log role values log is).role
-    (written_by_payloads role values log is).written)
-    (items_read_by (not (is_server role)) limits max_frame_size_sent log.payloads log.sent
-    (omega arith) high (payloads_may role values log is) (written_sendable_by role values log is))
+    output_read_within role values log limits is max_frame_size_sent
+    (within_own log.payloads (payloads_may role values log is)) high
 
 -- These frames group to the items.
 pub output_grouped : (role : Role) (values : Values) (log : Log) → IsLog role values log
@@ -62,12 +94,22 @@ output_grouped role values log is =
     items_grouped_by max_frame_size_sent log.payloads log.sent (payloads_may role values log is)
     (written_sendable_by role values log is)
 
--- A prefix of what a log has written.
+-- A prefix of what a log has written, where payloads may be read that are as long as all of its
+-- greatest payloads.
+pub output_begins_within : (role : Role) (values : Values) (log : Log) (limits : Limits)
+    (octets more : List ℕ) → IsLog role values log → log.written ≡ octets ++ more
+    → (bound : ℕ) → AllByRecursion (λ most. most ≤ bound) log.payloads
+    → ((place : ℕ) → bound ≤ limits place) → IsPrefixOfItems role limits octets log.sent
+output_begins_within role values log limits octets more is joined bound within high =
+    items_begin role limits octets more (frames_by log.payloads log.sent) log.sent
+    (rw joined at (output_read_within role values log limits is bound within high))
+    (output_grouped role values log is)
+
+-- So it is where payloads may be read that are as long as the own limit.
 pub output_begins : (role : Role) (values : Values) (log : Log) (limits : Limits)
     (octets more : List ℕ) → IsLog role values log → log.written ≡ octets ++ more
     → ((place : ℕ) → max_frame_size_sent ≤ limits place)
     → IsPrefixOfItems role limits octets log.sent
 output_begins role values log limits octets more is joined high =
-    items_begin role limits octets more (frames_by log.payloads log.sent) log.sent
-    (rw joined at (output_read role values log limits is high))
-    (output_grouped role values log is)
+    output_begins_within role values log limits octets more is joined max_frame_size_sent
+    (within_own log.payloads (payloads_may role values log is)) high

@@ -143,7 +143,7 @@ one_use role octet before log other (uses_frame frame decoded ends sees is)
     let decoded_same : decoded ≡ seen =
     one_seen before decoded seen (frame_step (log_view before) frame) sees saw_it in
     is ∙ ap₂ (λ (one : Option Decoded) (two : Frame).
-      without_turns (took_frame before (octet ∷ []) one two)) decoded_same frame_same ∙ sym same
+    without_turns (took_frame before (octet ∷ []) one two)) decoded_same frame_same ∙ sym same
 one_use role octet before log other (uses_frame frame decoded ends sees is)
     (uses_fault fault at same) =
     absurd (no_fault role _ _ [] before.frames (before.frames ++ frame ∷ []) _ fault ends at)

@@ -155,15 +155,13 @@ run_of role values _ (ran_out_of_memory {log = log} is up octets may) =
     after_piece role values (script_of is) (each Octet octets ++ OutOfMemory (is_in_frame may) ∷ [])
     _ (memory_piece role values octets _ log is up may (run_of role values log is))
 run_of role values _ (reported_one {log = log} is up some) =
-    after_piece role values (script_of is) (Unprocessed ∷ []) _
-    (
+    after_piece role values (script_of is) (Unprocessed ∷ []) _ (
       without_turns log,
       run_of role values log is,
       none_alike log (without_turns log) (alike_without log),
     )
 run_of role values _ (called_one {log = log} is act answer typed may) =
-    after_piece role values (script_of is) (Call act answer ∷ []) _
-    (
+    after_piece role values (script_of is) (Call act answer ∷ []) _ (
       without_turns log,
       run_of role values log is,
       call_alike log (without_turns log) act answer (alike_without log),

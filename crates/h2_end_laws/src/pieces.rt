@@ -1,10 +1,10 @@
 //! How octets are cut into pieces doesn't matter.
 
 ghost use Rattle.std.specs.Prelude.{◌≡◌, ◌≤◌, ℕ, List, ◌++◌};
+ghost use Rattle.std.specs.List.{AllByRecursion};
 ghost use Rattle.h2_wire.specs.Streams.{Limits};
 ghost use Rattle.h2_log.specs.declared.role.Role.{Role};
 ghost use Rattle.h2_log.specs.Acts.{Values};
-ghost use Rattle.h2_log.specs.Limits.{max_frame_size_sent};
 ghost use Rattle.h2_log.specs.Log.{Log};
 ghost use Rattle.h2_log.specs.Histories.{IsLog};
 ghost use Rattle.h2_end_laws.specs.Prefixes.{IsPrefixOfItems};
@@ -22,11 +22,12 @@ pub fn pieces_do_not_matter()
 {}
 
 /// A prefix of what an end has written is read as the first of its items, a field block that has
-/// begun, and the octets of a frame that isn't complete, without a fault, where payloads of 65,536
-/// octets may be read.
+/// begun, and the octets of a frame that isn't complete, without a fault, where payloads may be read
+/// that are as long as the greatest with which its items were written.
 pub fn prefix_of_the_output()
     ensures { (role : Role) (values : Values) (log : Log) (limits : Limits) (octets more : List ℕ)
         → IsLog role values log → log.written ≡ octets ++ more
-        → ((place : ℕ) → max_frame_size_sent ≤ limits place)
+        → (bound : ℕ) → AllByRecursion (λ most. most ≤ bound) log.payloads
+        → ((place : ℕ) → bound ≤ limits place)
         → IsPrefixOfItems role limits octets log.sent }
 {}

@@ -82,7 +82,7 @@ up_to_settings count (item ∷ items) =
 abbrev pub own_value : ℕ → ℕ → ℕ → List Item → ℕ
 own_value id first count sent = value_read id first (up_to_settings count sent)
 
--- the greatest of the values of numbers, from `first` on, and `more` after it
+-- the greatest of the values of the numbers from `first` to `first + more`
 unfoldable pub greatest_from : (ℕ → ℕ) → (first more : ℕ) → ℕ
 greatest_from value first zero = value first
 greatest_from value first (suc more) = max (value first) (greatest_from value (suc first) more)

@@ -22,6 +22,7 @@ pub payload_origin : (received sent after before : List Item) (item : Item)
     (payloads newer older : List ℕ) (payload : ℕ) → PayloadHistory received sent payloads
     → sent ≡ after ++ item ∷ before → payloads ≡ newer ++ payload ∷ older
     → length newer ≡ length after → PayloadOrigin received before payload
+unfolding total
 payload_origin _ _ [] before item _ newer older payload starts line same long = absurd (cc)
 payload_origin _ _ (first ∷ after) before item _ newer older payload starts line same long =
     absurd (cc)
@@ -37,21 +38,21 @@ payload_origin _ sent after before item payloads newer older payload
       in_force = from.in_force;
     }
 payload_origin received _ [] before item _ [] older payload
-    (writes last {sent = sent} history few) line same long =
+    (writes last {sent = sent} history all) line same long =
     let unparsed : sent ≡ before = cc in
     record {
       unread = [];
       read = received;
       front = refl;
-      acknowledged = rw (← unparsed) few;
+      acknowledged = rw (← unparsed) (omega (arith, all));
       in_force = cc;
     }
 payload_origin received _ [] before item _ (other ∷ newer) older payload
-    (writes last history few) line same long = absurd (omega arith)
+    (writes last history all) line same long = absurd (omega arith)
 payload_origin received _ (first ∷ after) before item _ [] older payload
-    (writes last history few) line same long = absurd (omega arith)
+    (writes last history all) line same long = absurd (omega arith)
 payload_origin received _ (first ∷ after) before item _ (other ∷ newer) older payload
-    (writes last {sent = sent} {payloads = payloads} history few) line same long =
+    (writes last {sent = sent} {payloads = payloads} history all) line same long =
     payload_origin received sent after before item payloads newer older payload history (cc) (cc)
     (omega arith)
 
@@ -61,7 +62,7 @@ pub payloads_counted : (received sent : List Item) (payloads : List ℕ)
 payloads_counted _ _ _ starts = refl
 payloads_counted _ sent payloads (reads item {received = received} history) =
     payloads_counted received sent payloads history
-payloads_counted received _ _ (writes item {sent = sent} {payloads = payloads} history few) =
+payloads_counted received _ _ (writes item {sent = sent} {payloads = payloads} history all) =
     omega (arith, payloads_counted received sent payloads history)
 
 -- Each is from 16,384 octets to the own limit.
@@ -71,5 +72,5 @@ pub payloads_between : (received sent : List Item) (payloads : List ℕ)
 payloads_between _ _ _ starts = tt
 payloads_between _ sent payloads (reads item {received = received} history) =
     payloads_between received sent payloads history
-payloads_between received _ _ (writes item {sent = sent} {payloads = payloads} history few) =
+payloads_between received _ _ (writes item {sent = sent} {payloads = payloads} history all) =
     (most_between received, payloads_between received sent payloads history)

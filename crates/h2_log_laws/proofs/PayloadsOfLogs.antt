@@ -1,8 +1,9 @@
 -- Each item that an end writes has the greatest payload that is in force then.
-use Rattle.std.proofs.Common.{map as each, ◌≡◌, ◌≤◌, ◌+◌, ℕ, not, Bool, true, false}
-use Rattle.std.proofs.Common.{if◌then◌else◌, List, [], ◌∷◌, ◌++◌, refl, sym, ap, ◌∙◌}
-use Rattle.std.proofs.Common.{append-nil, append_assoc, arith}
+use Rattle.std.proofs.Common.{map as each, ◌≡◌, ◌≤◌, ◌⊎◌, ◌+◌, ℕ, not, Bool, true, false}
+use Rattle.std.proofs.Common.{if◌then◌else◌, List, [], ◌∷◌, ◌++◌, length, refl, sym, ap, ◌∙◌}
+use Rattle.std.proofs.Common.{inl, inr, subst, append-nil, append_assoc, arith}
 use Rattle.h2_wire.specs.Streams.{expected_preface}
+use Rattle.h2_frame.specs.declared.code.Code.{Code}
 use Rattle.h2_frame.specs.Codes.{code_number}
 use Rattle.h2_frame.specs.Frames.{Settings, Ping, GoAway, WindowUpdate}
 use Rattle.h2_block.specs.Grouping.{Item, alone, block}
@@ -14,7 +15,7 @@ use Rattle.h2_log.specs.Settings.{is_server, one_ack, one_settings, settings_cou
 use Rattle.h2_log.specs.Log.{Log, max_payload_sent, max_payload_sent_by}
 use Rattle.h2_log.specs.LogView.{log_view}
 use Rattle.h2_log.specs.View.{View, ended_in}
-use Rattle.h2_log.specs.Verdicts.{Verdict, NoEvent}
+use Rattle.h2_log.specs.Verdicts.{Verdict, ConnectionFault, StreamFault, NoEvent, Reported}
 use Rattle.h2_log.specs.ItemRules.{replies_to}
 use Rattle.h2_log.specs.CallRules.{answer_of, items_of}
 use Rattle.h2_log.specs.LogSteps.{read, with_sent}
@@ -23,8 +24,9 @@ use Rattle.h2_log.specs.Histories.{IsLog}
 use Rattle.h2_log_laws.specs.Payloads.{encoding_by, PayloadHistory, WrittenByPayloads, starts}
 use Rattle.h2_log_laws.specs.Payloads.{reads, writes}
 use Rattle.h2_log_laws.proofs.DataOfCalls.{data_ack, none_of_items}
+use Rattle.h2_log_laws.proofs.InvariantReads.{Fits, Resets, Reports, verdict_fits}
 use Rattle.h2_log_laws.proofs.LogInduction.{IsLogInvariant, kept_by_logs}
-use Rattle.h2_log_laws.proofs.SettingsLists.{count_next}
+use Rattle.h2_log_laws.proofs.SettingsLists.{count_next, count_none}
 use Rattle.h2_log_laws.proofs.WindowsOfTwoEnds.{total-append}
 
 -- More items with one greatest payload stand after what was written.
@@ -50,9 +52,9 @@ written_more preface most items sent payloads written is =
     ∙ ap (λ (octets : List ℕ). preface ++ octets)
     (sym (encoding_more most items sent payloads))
 
--- What a log has written, where no more SETTINGS were acknowledged than were read.
+-- What a log has written, where all SETTINGS that were read are acknowledged.
 record IsCounted (log : Log) : Type 0 where
-  pub acknowledged : total one_ack log.sent ≤ settings_count log.received
+  pub acknowledged : total one_ack log.sent ≡ settings_count log.received
   pub by_payloads : WrittenByPayloads log
 
 -- Another log that has read and written the same.
@@ -68,43 +70,77 @@ counted log next role received sent payloads written is =
       };
     }
 
--- More items are written, with the greatest payload in force.
+-- More items are written, with the greatest payload in force: an acknowledgment alone, or ones that
+-- acknowledge nothing.
 history_more : (received items sent : List Item) (payloads : List ℕ)
-    → total one_ack items + total one_ack sent ≤ settings_count received
+    → total one_ack items + total one_ack sent ≡ settings_count received
+    → (length items ≤ 1) ⊎ (total one_ack items ≡ 0)
     → PayloadHistory received sent payloads
     → PayloadHistory received (items ++ sent)
     (each (λ one. max_payload_sent_by received) items ++ payloads)
 unfolding total
-history_more received [] sent payloads few is = is
-history_more received (item ∷ items) sent payloads few is =
-    writes item (history_more received items sent payloads (omega arith) is)
-    (omega (arith, total-append one_ack items sent))
+history_more received [] sent payloads all alike is = is
+history_more received (item ∷ []) sent payloads all alike is = writes item is (omega (arith, all))
+history_more received (item ∷ next ∷ items) sent payloads all (inl few) is = absurd (omega arith)
+history_more received (item ∷ next ∷ items) sent payloads all (inr none) is =
+    writes item
+    (history_more received (next ∷ items) sent payloads (omega arith) (inr (omega arith)) is)
+    (omega (arith, total-append one_ack (next ∷ items) sent))
 
--- So it is in a log, where not too many are acknowledgments.
+-- So it is in a log, where all SETTINGS are acknowledged then.
 sent_in_force : (log : Log) (items : List Item)
-    → total one_ack items + total one_ack log.sent ≤ settings_count log.received
+    → total one_ack items + total one_ack log.sent ≡ settings_count log.received
+    → (length items ≤ 1) ⊎ (total one_ack items ≡ 0)
     → WrittenByPayloads log → IsCounted (with_sent log items)
 unfolding with_sent total
-sent_in_force log [] few is = record { acknowledged = omega arith; by_payloads = is }
-sent_in_force log (item ∷ items) few is =
+sent_in_force log [] all alike is = record { acknowledged = omega arith; by_payloads = is }
+sent_in_force log (item ∷ items) all alike is =
     record {
       acknowledged = omega (arith, total-append one_ack items log.sent);
       by_payloads = record {
-        history = history_more log.received (item ∷ items) log.sent log.payloads few is.history;
+        history = history_more log.received (item ∷ items) log.sent log.payloads all alike
+            is.history;
         written = written_more (expected_preface (not (is_server log.role)))
             (max_payload_sent log) (item ∷ items) log.sent log.payloads log.written is.written;
       };
     }
 
--- Replies acknowledge no more than the item that is replied to.
-replies_acknowledge : (verdict : Verdict) (item : Item)
-    → total one_ack (replies_to verdict item) ≤ one_settings item
+-- What may be reported is no SETTINGS that ask for an acknowledgment.
+reported_asks : (log : Log) (item : Item) → Reports log item → one_settings item ≡ 0
+unfolding one_settings
+reported_asks log (alone (Settings true pairs)) may = refl
+reported_asks log (alone (Settings false pairs)) may = absurd (cc)
+reported_asks log item may = refl
+
+-- The reply to SETTINGS that have no event acknowledges them, and no other such reply acknowledges.
+silent_acknowledges : (item : Item) → total one_ack (replies_to NoEvent item) ≡ one_settings item
 unfolding replies_to total one_ack one_settings
-replies_acknowledge NoEvent (block stream end octets) = omega arith
-replies_acknowledge NoEvent (alone (Settings false pairs)) = omega arith
-replies_acknowledge NoEvent (alone (Ping false octets)) = omega arith
-replies_acknowledge NoEvent (alone frame) = omega arith
-replies_acknowledge other item = omega arith
+silent_acknowledges (block stream end octets) = refl
+silent_acknowledges (alone (Settings false pairs)) = refl
+silent_acknowledges (alone (Settings true pairs)) = refl
+silent_acknowledges (alone (Ping false octets)) = refl
+silent_acknowledges (alone (Ping true octets)) = refl
+silent_acknowledges (alone frame) = refl
+
+-- Replies acknowledge just the item that is replied to.
+replies_acknowledge : (log : Log) (verdict : Verdict) (item : Item)
+    → ((code : Code) → verdict ≡ ConnectionFault code → ⊥)
+    → Fits (Resets log item) (Reports log item) verdict
+    → total one_ack (replies_to verdict item) ≡ one_settings item
+unfolding replies_to total one_ack
+replies_acknowledge log (ConnectionFault code) item up fits = absurd (up code refl)
+replies_acknowledge log (StreamFault code) item up fits = sym fits.acks
+replies_acknowledge log NoEvent item up fits = silent_acknowledges item
+replies_acknowledge log Reported item up fits = sym (reported_asks log item fits)
+
+-- There is one reply at most.
+replies_few : (verdict : Verdict) (item : Item) → length (replies_to verdict item) ≤ 1
+unfolding replies_to
+replies_few NoEvent (block stream end octets) = omega arith
+replies_few NoEvent (alone (Settings false pairs)) = omega arith
+replies_few NoEvent (alone (Ping false octets)) = omega arith
+replies_few NoEvent (alone frame) = omega arith
+replies_few other item = omega arith
 
 -- A release acknowledges nothing, whether or not the peer has ended the stream.
 release_acknowledges : (i count : ℕ) (ended : Bool)
@@ -137,8 +173,8 @@ unfolding opened with_sent total one_ack encoding_of_items
 by_payloads role values =
     record {
       opening = λ in_range. record {
-        acknowledged = omega arith;
-        by_payloads = record { history = writes _ starts (omega arith); written = refl };
+        acknowledged = sym count_none;
+        by_payloads = record { history = writes _ starts (sym count_none); written = refl };
       };
       used = λ log octets unparsed is. counted log _ refl refl refl refl refl is;
       framed = λ log frames is. counted log _ refl refl refl refl refl is;
@@ -149,9 +185,12 @@ by_payloads role values =
           (omega (
             arith,
             is.acknowledged,
-            replies_acknowledge verdict item,
+            replies_acknowledge log verdict item replies.up
+                (subst (Fits (Resets log item) (Reports log item)) replies.is
+                (verdict_fits log decoded item)),
             count_next item log.received,
           ))
+          (inl (replies_few verdict item))
           (record {
             history = reads item is.by_payloads.history;
             written = is.by_payloads.written;
@@ -161,15 +200,18 @@ by_payloads role values =
       returned = λ log returns is.
           sent_in_force (record log { unreturned = 0 })
           (alone (WindowUpdate 0 log.unreturned) ∷ []) (omega (arith, is.acknowledged))
+          (inr refl)
           (counted log (record log { unreturned = 0 }) refl refl refl refl refl is).by_payloads;
       failed = λ log code last names is.
           let goaway = alone (GoAway last (code_number code) []) ∷ [] in
           counted (with_sent log goaway) _ refl refl refl refl refl
-          (sent_in_force log goaway (omega (arith, is.acknowledged)) is.by_payloads);
+          (sent_in_force log goaway (omega (arith, is.acknowledged)) (inr refl)
+          is.by_payloads);
       sent = λ log act accepted is.
           let next = called log act (answer_of (log_view log) act) in
           sent_in_force next (items_of (log_view log) act (answer_of (log_view log) act))
           (omega (arith, is.acknowledged, calls_acknowledge (log_view log) act))
+          (inr (calls_acknowledge (log_view log) act))
           (counted log next refl refl refl refl refl is).by_payloads;
       called = λ log act answer is_log none is. counted log _ refl refl refl refl refl is;
       given = λ log more is. counted log _ refl refl refl refl refl is;

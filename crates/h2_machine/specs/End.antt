@@ -54,7 +54,7 @@ pub record OwnSettings : Type 0 where
   pub in_force : Values
   pub awaited : Option Values
 
--- these values, or the first ones where there are none
+-- the second values, where there are any, and otherwise the first
 abbrev pub values_or : Values → Option Values → Values
 values_or first None = first
 values_or first (Some values) = values

@@ -116,3 +116,15 @@ limit_in_force :
     × (payload_limit 2 (smaller ∷ large_opening ∷ []) ≡ 16384)
 unfolding computing
 limit_in_force = (refl, refl, refl, refl)
+
+-- A change in mid-connection to a greater value, and one that names none.
+-- rule: 4.2 The limit of an end is its greatest MAX_FRAME_SIZE of those in force
+limit_after_changes :
+    (payload_limit 1 (alone (Settings false (changed_pairs Server 16384 large_values))
+    ∷ alone (Settings false (opening_pairs Server default_values)) ∷ []) ≡ 1048576)
+    × (payload_limit 2 (alone (Settings false (changed_pairs Server 1048576 large_values))
+    ∷ large_opening ∷ []) ≡ 1048576)
+    × (payload_limit 0 (alone (Settings false (opening_pairs Client default_values)) ∷ [])
+    ≡ 16384)
+unfolding computing
+limit_after_changes = (refl, refl, refl)

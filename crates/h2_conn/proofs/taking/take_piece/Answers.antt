@@ -1,10 +1,14 @@
 -- A piece is a step of each log that the parts represent: by the lemmas on each.
-use Rattle.std.proofs.Common.{◌≡◌, ◌∙◌, sym, ap, ℕ, take, Err}
+use Rattle.std.proofs.Common.{◌≡◌, ◌∙◌, sym, ap, subst, ℕ, take, Err}
 use Rattle.std.proofs.Math.Seq.{take-length}
-use Rattle.h2_frame.specs.Frames.{frame_of}
+use Rattle.h2_frame.specs.Frames.{Encodes, frame_of}
+use Rattle.h2_wire.specs.Cutter.{CutterState, CutterLimited, octets_of}
 use Rattle.h2_wire.specs.Faults.{wire_fault_code}
 use Rattle.h2_core.specs.Endpoint.{end_of}
+use Rattle.h2_machine.specs.End.{payload_limit_of}
 use Rattle.h2_machine.specs.Machine.{fail}
+use Rattle.h2_machine_laws.proofs.ReadLimits.{limit_in_range}
+use Rattle.h2_conn.proofs.SetLimits.{lies_limited, octets_limited}
 use Rattle.h2_conn.proofs.TakeFrames.{lies_there, same_body}
 use Rattle.h2_conn.proofs.TakeParts.{no_frame_taken, takes_octets, frame_taken, frame_stops}
 use Rattle.h2_conn.proofs.TakeParts.{cut_stopped, code_of, said_so}
@@ -50,23 +54,36 @@ pub returns-in-Ok-take_frame-clause-lies : goal.returns-in-Ok-take_frame-clause-
 returns-in-Ok-take_frame-clause-lies c =
     let ends = rw c.in-Some.is at c.in-Ok.ensures.advances in
     lies_there _ c.args.piece.now c.in-Some.complete c.in-Ok.advance.used
-    c.in-Ok-take_frame.happened ends.lies c.in-Ok-take_frame.ensures.lies
+    c.in-Ok-take_frame.happened
+    (lies_limited _ _ _ c.args.piece.now c.in-Some.complete c.set_limit.ensures ends.lies)
+    c.in-Ok-take_frame.ensures.lies
 
 pub returns-in-Ok-take_frame-clause-takes : goal.returns-in-Ok-take_frame-clause-takes
 returns-in-Ok-take_frame-clause-takes c = λ octets body values log p.
     let ends = rw c.in-Some.is at c.in-Ok.ensures.advances in
-    said_so values log c.args.piece.now c.in-Ok.advance.used _ _ _ _
-    (same_body c.advance.new.self c.args.piece.now c.in-Some.complete (frame_of c.frame.result) _
-    octets c.in-Ok.advance.used c.in-Ok-take_frame.happened c.frame.ensures.value
-    c.in-Ok-take_frame.ensures.lies body)
-    (frame_taken values _ _ _ _ log c.args.piece.now c.in-Ok.advance.used (frame_of c.frame.result)
+    let piece = c.args.piece.now in
+    let cut = c.advance.new.self in
+    let limited = c.set_limit.new.self in
+    let e = end_of c.take_frame.new.end in
+    let lent : Encodes (frame_of c.frame.result) (octets_of limited piece c.in-Some.complete) =
+    rw (octets_limited cut limited _ piece c.in-Some.complete c.set_limit.ensures)
+    c.frame.ensures.value in
+    let set : CutterLimited cut (payload_limit_of e.own) limited =
+    subst (λ (limit : ℕ). CutterLimited cut limit limited) c.payload_limit.ensures
+    c.set_limit.ensures in
+    let sound = frame_sound _ e _ _ _ c.in-Ok-take_frame.happened c.requires.sound c.requires.up
+    c.frame.ensures.good c.in-Ok-take_frame.ensures.happens in
+    said_so values log piece c.in-Ok.advance.used _ _ _ _
+    (same_body limited piece c.in-Some.complete (frame_of c.frame.result) _ octets
+    c.in-Ok.advance.used c.in-Ok-take_frame.happened lent c.in-Ok-take_frame.ensures.lies body)
+    (frame_taken values _ cut limited _ e log piece c.in-Ok.advance.used (frame_of c.frame.result)
     _ _ c.in-Ok-take_frame.happened p
     (takes_octets values _ log p.machine c.requires.up c.requires.reported) c.requires.up
     (record {
       continues = ends.continues (frame_of c.frame.result) c.frame.ensures.value;
       within = ends.within;
       none = ends.none_unparsed;
-    }) c.in-Ok-take_frame.ensures.happens)
+    }) c.in-Ok-take_frame.ensures.happens set (limit_in_range e sound.ranges))
 
 pub returns-in-Err-take_frame-clause-takes : goal.returns-in-Err-take_frame-clause-takes
 returns-in-Err-take_frame-clause-takes c = λ octets body values log p.
@@ -87,4 +104,5 @@ returns-in_default-clause-cuts c = λ up.
 pub returns-in-Ok-take_frame-clause-cuts : goal.returns-in-Ok-take_frame-clause-cuts
 returns-in-Ok-take_frame-clause-cuts c = λ up.
     let ends = rw c.in-Some.is at c.in-Ok.ensures.advances in
-    (ends.continues (frame_of c.frame.result) c.frame.ensures.value).sound
+    ap (λ (state : CutterState). state.fault) c.set_limit.ensures.same
+    ∙ (ends.continues (frame_of c.frame.result) c.frame.ensures.value).sound

@@ -1,10 +1,12 @@
--- By the lemmas on a call's answer.
+-- By the lemmas on a call's answer, and on the cutter's limit that is set.
 use Rattle.std.proofs.Common.{◌≡◌, None, refl, rules}
-use Rattle.h2_log.specs.Acts.{ChangeSettings, Done, IsTypedAct}
+use Rattle.std.proofs.lemmas.Result.{err_from_is_err_and}
+use Rattle.h2_log.specs.Acts.{ChangeSettings, IsTypedAct}
 use Rattle.h2_log.specs.CallRules.{may_lack_memory}
 use Rattle.h2_config.specs.ConfigValues.{values_of}
 use Rattle.h2_core.specs.Endpoint.{end_of}
-use Rattle.h2_conn.proofs.AskCalls.{done_by}
+use Rattle.h2_machine_laws.proofs.ReadLimits.{limit_in_range}
+use Rattle.h2_conn.proofs.AskCalls.{change_answers, refused_answers, up_if_free}
 use Rattle.h2_conn.proofs.AskSound.{was_up, sound_by}
 use Rattle.h2_conn.proofs.conn.Conn.change_settings.Goals as goal
 
@@ -23,8 +25,24 @@ invariant_of-self c =
       cuts = λ up. let before : e.failed ≡ None = was up in search rules;
     }
 
-pub returns : goal.returns
+pub returns-in_err-change_settings : goal.returns-in_err-change_settings
 unfolding IsTypedAct may_lack_memory
+returns-in_err-change_settings c =
+    let answer = err_from_is_err_and c.from_residual.result c.from_residual.ensures.1 in
+    rw (answer.1, answer.2) (refused_answers _ _ _ (ChangeSettings (values_of c.args.config))
+    c.in_err-change_settings.field-0.0 refl c.args.config.in_range (λ memory. refl)
+    c.in_err-change_settings.ensures.err)
+
+pub returns : goal.returns
+unfolding IsTypedAct
 returns c =
-    done_by Done c.change_settings.result _ _ _ _ refl c.args.config.in_range (λ lacks. refl) refl
-    c.change_settings.ensures.ok c.change_settings.ensures.err
+    let e = end_of c.args.self.now.inner.end in
+    let new = end_of c.change_settings.new.self in
+    let act = ChangeSettings (values_of c.args.config) in
+    let accepted = c.in_ok-change_settings.ensures.ok in
+    let sound = sound_by c.change_settings.result e new act c.args.config.in_range
+    (c.args.self.now.inner.sound (up_if_free e act refl accepted.free))
+    c.change_settings.ensures.ok c.change_settings.ensures.err in
+    rw c.limit_payloads.ensures.end (change_answers c.args.self.now.inner.cutter
+    c.limit_payloads.new.self.cutter e new (values_of c.args.config) c.args.config.in_range accepted
+    c.limit_payloads.ensures.cutter (limit_in_range new sound.ranges))

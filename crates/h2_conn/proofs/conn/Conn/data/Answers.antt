@@ -29,7 +29,7 @@ invariant_of-self c =
 pub returns-clause-answers : goal.returns-clause-answers
 unfolding IsTypedAct may_lack_memory
 returns-clause-answers c =
-    answers_by Count _ _ _ _ _ refl
+    answers_by Count _ _ _ _ _ refl refl
     (c.ranges.id.fits, all_octets c.args.octets.now c.type_inv.octets)
     (λ lacks. ap not (false_from_ne_true _ (λ none. c.send_data.ensures.nothing none lacks)))
     (value_as _ _ _ c.send_data.result (λ value is. ap Count is)

@@ -26,6 +26,6 @@ invariant_of-self c =
 pub returns : goal.returns
 unfolding IsTypedAct may_lack_memory
 returns c =
-    done_by Done c.send_fields.result _ _ _ _ refl
+    done_by Done c.send_fields.result _ _ _ _ refl refl
     (c.ranges.id.fits, c.send_fields.ensures.octets) (λ lacks. refl) refl
     c.send_fields.ensures.ok c.send_fields.ensures.err

@@ -24,6 +24,6 @@ invariant_of-self c =
 pub returns : goal.returns
 unfolding IsTypedAct may_lack_memory
 returns c =
-    done_by Done c.go_away.result _ _ _ _ refl
+    done_by Done c.go_away.result _ _ _ _ refl refl
     tt (λ lacks. refl) refl
     c.go_away.ensures.ok c.go_away.ensures.err

@@ -25,7 +25,7 @@ invariant_of-self c =
 pub returns : goal.returns
 unfolding IsTypedAct may_lack_memory
 returns c =
-    answers_by Number _ _ _ _ _ refl
+    answers_by Number _ _ _ _ _ refl refl
     c.open.ensures.octets (λ lacks. refl)
     (value_as _ _ _ c.open.result (λ value is. ap Number is)
     c.open.ensures.ok) c.open.ensures.err

@@ -26,6 +26,6 @@ invariant_of-self c =
 pub returns : goal.returns
 unfolding IsTypedAct may_lack_memory
 returns c =
-    done_by Done c.ping.result _ _ _ _ refl
+    done_by Done c.ping.result _ _ _ _ refl refl
     (search rules, all_octets c.args.octets (λ i. search rules)) (λ lacks. refl) refl
     c.ping.ensures.ok c.ping.ensures.err

@@ -24,6 +24,6 @@ invariant_of-self c =
 pub returns : goal.returns
 unfolding IsTypedAct may_lack_memory
 returns c =
-    done_by Done c.release.result _ _ _ _ refl
+    done_by Done c.release.result _ _ _ _ refl refl
     (c.ranges.id.fits, c.ranges.count.fits) (λ lacks. refl) refl
     c.release.ensures.ok c.release.ensures.err

@@ -24,6 +24,6 @@ invariant_of-self c =
 pub returns : goal.returns
 unfolding IsTypedAct may_lack_memory
 returns c =
-    done_by Done c.reset.result _ _ _ _ refl
+    done_by Done c.reset.result _ _ _ _ refl refl
     (c.ranges.id.fits, c.ranges.code.fits) (λ lacks. refl) refl
     c.reset.ensures.ok c.reset.ensures.err

@@ -1,0 +1,114 @@
+-- The parts of a connection where its cutter is given the limit of payloads that is in force.
+use Rattle.std.proofs.Common.{◌≡◌, ◌≤◌, ℕ, nat_le, Bool, true, false, if◌then◌else◌, List, length}
+use Rattle.std.proofs.Common.{None, refl, sym, ap, subst, ◌∙◌, arith}
+use Rattle.std.proofs.Math.Path.{fun_ext}
+use Rattle.h2_wire.specs.Cutter.{CutterState, CutterRepresents, CutterLimited, HasFrame, saturated}
+use Rattle.h2_wire.specs.Cutter.{octets_of}
+use Rattle.h2_wire.specs.Streams.{Limits}
+use Rattle.h2_wire.specs.declared.cut.Complete.{Complete}
+use Rattle.h2_log.specs.Acts.{Values}
+use Rattle.h2_log.specs.Limits.{most_max_frame}
+use Rattle.h2_log.specs.Settings.{is_server, payload_limit}
+use Rattle.h2_log.specs.Log.{Log, acked}
+use Rattle.h2_log.specs.LogSteps.{limits_from}
+use Rattle.h2_log.proofs.StreamLemmas.{Keeps}
+use Rattle.h2_machine.specs.End.{End, payload_limit_of}
+use Rattle.h2_machine.specs.Represents.{Represents}
+use Rattle.h2_machine_laws.proofs.ReadLimits.{limit_agrees}
+use Rattle.h2_conn.specs.Inner.{PartsRepresent}
+use Rattle.h2_conn.proofs.AskLimits.{cuts_same}
+
+-- A cutter that has cut the octets of a log, whatever limit it has for those to come.
+pub record HasCut (cutter : CutterState) (log : Log) : Type 0 where
+  pub limits : Limits
+  pub cut : CutterRepresents cutter (is_server log.role) limits log.input log.frames
+  pub same : (place : ℕ) → nat_le place (length log.input) ≡ true
+      → log.limits place ≡ limits place
+  pub unparsed : cutter.unparsed ≡ log.unparsed
+  pub greatest : cutter.greatest ≤ most_max_frame
+
+-- The limit at a place, by whether its octet was used.
+by_use : (used : Bool) (is was now limit : ℕ) → (used ≡ true → is ≡ was) → now ≡ limit
+    → (if used then is else now) ≡ (if used then was else limit)
+by_use true is was now limit same set = same refl
+by_use false is was now limit same set = set
+
+-- The limits of a log are those of the cutter once its limit is the one in force.
+limits_set : (log : Log) (limits : Limits) (limit : ℕ)
+    → ((place : ℕ) → nat_le place (length log.input) ≡ true → log.limits place ≡ limits place)
+    → payload_limit (acked log) log.sent ≡ limit
+    → limits_from log
+    ≡ (λ (place : ℕ). if nat_le place (length log.input) then limits place else limit)
+limits_set log limits limit same set =
+    fun_ext (λ place. by_use (nat_le place (length log.input)) (log.limits place) (limits place)
+    (payload_limit (acked log) log.sent) limit (same place) set)
+
+-- Such a cutter, whose limit is set, and the machine are the parts of a connection.
+pub parts_limited : (values : Values) (cutter limited : CutterState) (e : End) (log : Log)
+    → Represents values e log → (log.failed ≡ None → HasCut cutter log)
+    → cutter.place ≡ saturated (length log.input)
+    → CutterLimited cutter (payload_limit_of e.own) limited
+    → (log.failed ≡ None → payload_limit_of e.own ≤ most_max_frame)
+    → PartsRepresent values limited e log
+parts_limited values cutter limited e log machine has place set within =
+    record {
+      machine = machine;
+      cut = λ up.
+          let one = has up in
+          cuts_same limited log.role log.role _ (limits_from log) log.input log.input log.frames
+          log.frames refl
+          (limits_set log one.limits (payload_limit_of e.own) one.same
+          (sym (limit_agrees values e log machine up))) refl refl
+          (set.represents (is_server log.role) one.limits log.input log.frames one.cut);
+      unparsed = λ up. ap (λ (state : CutterState). state.unparsed) set.same ∙ (has up).unparsed;
+      greatest = λ up.
+          omega (
+            arith,
+            ap (λ (state : CutterState). state.greatest) set.same,
+            (has up).greatest,
+            within up,
+          );
+      place = ap (λ (state : CutterState). state.place) set.same ∙ place;
+    }
+
+-- The limits of octets that were used are those of the log.
+limit_of_used : (log : Log) (place : ℕ) → nat_le place (length log.input) ≡ true
+    → limits_from log place ≡ log.limits place
+limit_of_used log place used = rw used refl
+
+-- After a step that keeps the stream of octets the cutter has cut it.
+pub has_cut_kept : (values : Values) (cutter : CutterState) (e : End) (log next : Log)
+    → PartsRepresent values cutter e log → Keeps log next → next.failed ≡ None
+    → HasCut cutter next
+has_cut_kept values cutter e log next parts keeps going =
+    let up : log.failed ≡ None = keeps.up going in
+    record {
+      limits = limits_from log;
+      cut = cuts_same cutter log.role next.role (limits_from log) (limits_from log) log.input
+          next.input log.frames next.frames keeps.role refl keeps.input keeps.frames (parts.cut up);
+      same = λ place used. ap (λ (limits : Limits). limits place) keeps.limits
+          ∙ sym (limit_of_used log place
+          (ap (λ (input : List ℕ). nat_le place (length input)) (sym keeps.input) ∙ used));
+      unparsed = parts.unparsed up ∙ sym keeps.unparsed;
+      greatest = parts.greatest up;
+    }
+
+-- A frame that lies in the cutter lies there still.
+pub lies_limited : (cutter limited : CutterState) (limit : ℕ) (piece : List ℕ) (frame : Complete)
+    → CutterLimited cutter limit limited → HasFrame cutter piece frame
+    → HasFrame limited piece frame
+lies_limited cutter limited limit piece frame set has =
+    subst (λ (state : CutterState). HasFrame state piece frame) (sym set.same) (record {
+      complete = has.complete;
+      is_head = has.is_head;
+      bounded = has.bounded;
+      form = has.form;
+      sound = has.sound;
+    })
+
+-- Its octets are the same.
+pub octets_limited : (cutter limited : CutterState) (limit : ℕ) (piece : List ℕ) (frame : Complete)
+    → CutterLimited cutter limit limited
+    → octets_of limited piece frame ≡ octets_of cutter piece frame
+octets_limited cutter limited limit piece frame set =
+    ap (λ (state : CutterState). octets_of state piece frame) set.same
