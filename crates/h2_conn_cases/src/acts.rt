@@ -199,7 +199,12 @@ fn add_octets_act(text: &mut Text, name: &str, octets: &[u8]) {
 // Adds the line of new settings.
 fn add_change(text: &mut Text, config: Config) {
     write!(text, "change {}", config.table_limit());
-    write!(text, " {} {}", config.initial_window(), config.max_streams());
+    write!(
+        text,
+        " {} {}",
+        config.initial_window(),
+        config.max_streams()
+    );
     if config.max_frame() != Config::default().max_frame() {
         write!(text, " frames {}", config.max_frame());
     }
