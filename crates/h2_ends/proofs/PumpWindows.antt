@@ -21,7 +21,7 @@ use Rattle.h2_log.specs.LogView.{log_view}
 use Rattle.h2_log.specs.CallRules.{conditions, refusal_of, data_count, data_frames, data_items}
 use Rattle.h2_log.specs.CallRules.{items_of}
 use Rattle.h2_log.specs.LogCalls.{MayAnswer, accepts, refuses, lacks, fails, with_call, with_items}
-use Rattle.h2_log.proofs.SentPayloads.{most_is_limit}
+use Rattle.h2_log.proofs.SentPayloads.{most_between}
 use Rattle.h2_log_laws.proofs.CallConditions.{none_holds}
 use Rattle.h2_log_laws.proofs.ItemSizes.{size_of, size-frame, size-append}
 use Rattle.h2_log_laws.proofs.LogViewLemmas.{stream_is_active, count_by_sums}
@@ -77,63 +77,66 @@ none_without_room log id octets end may some =
     ((data_accepted log id octets end 0 may).1
     ∙ count_by_sums log id (length octets) (data_active log id octets end 0 may))
 
--- DATA takes at least its octets, by the test whether one is enough.
-frames_size_by : (most id : ℕ) (octets : List ℕ) (end b : Bool) (others : List Item)
-    → (b ≡ false → length (drop most octets) ≤ size_of others)
-    → length octets ≤ size_of (if b then alone (Data id end octets None) ∷ []
+-- DATA takes at least its octets, by the test whether one is enough, with whichever greatest payload
+-- it is written.
+frames_size_by : (by most id : ℕ) (octets : List ℕ) (end b : Bool) (others : List Item)
+    → (b ≡ false → length (drop most octets) ≤ size_of by others)
+    → length octets ≤ size_of by (if b then alone (Data id end octets None) ∷ []
     else others ++ alone (Data id false (take most octets) None) ∷ [])
 unfolding payload_of
-frames_size_by most id octets end true others many =
-    omega (arith, size-frame (Data id end octets None))
-frames_size_by most id octets end false others many =
+frames_size_by by most id octets end true others many =
+    omega (arith, size-frame by (Data id end octets None))
+frames_size_by by most id octets end false others many =
     omega (
       arith,
       many refl,
       length-drop most octets,
       length-take most octets,
-      size-append others (alone (Data id false (take most octets) None) ∷ []),
-      size-frame (Data id false (take most octets) None),
+      size-append by others (alone (Data id false (take most octets) None) ∷ []),
+      size-frame by (Data id false (take most octets) None),
     )
 
-frames_size : (count most id : ℕ) (octets : List ℕ) (end : Bool) → 0 < most
-    → length octets < count → length octets ≤ size_of (data_frames count most id octets end)
+frames_size : (by count most id : ℕ) (octets : List ℕ) (end : Bool) → 0 < most
+    → length octets < count → length octets ≤ size_of by (data_frames count most id octets end)
 unfolding data_frames
-frames_size zero most id octets end some enough = absurd (omega (arith, enough))
-frames_size (suc count) most id octets end some enough =
-    frames_size_by most id octets end (nat_le (length octets) most)
+frames_size by zero most id octets end some enough = absurd (omega (arith, enough))
+frames_size by (suc count) most id octets end some enough =
+    frames_size_by by most id octets end (nat_le (length octets) most)
     (data_frames count most id (drop most octets) end)
     (λ more. let above = leb-false (length octets) most more in
-    frames_size count most id (drop most octets) end some
+    frames_size by count most id (drop most octets) end some
     (omega (arith, length-drop most octets, above, enough, some)))
 
 -- So does a body, of which so many octets are sent.
-body_size_by : (count : ℕ) (items : List Item) (b : Bool) → (b ≡ true → count ≡ 0)
-    → count ≤ size_of items → count ≤ size_of (if b then [] else items)
-body_size_by count items true none many = omega (arith, none refl)
-body_size_by count items false none many = many
+body_size_by : (by count : ℕ) (items : List Item) (b : Bool) → (b ≡ true → count ≡ 0)
+    → count ≤ size_of by items → count ≤ size_of by (if b then [] else items)
+body_size_by by count items true none many = omega (arith, none refl)
+body_size_by by count items false none many = many
 
-body_size : (most id : ℕ) (octets : List ℕ) (end : Bool) (count : ℕ) → 0 < most
-    → count ≤ length octets → count ≤ size_of (data_items most id octets end count)
+body_size : (by most id : ℕ) (octets : List ℕ) (end : Bool) (count : ℕ) → 0 < most
+    → count ≤ length octets → count ≤ size_of by (data_items most id octets end count)
 unfolding data_items
-body_size most id octets end count some within =
-    body_size_by count _ (count == 0 && not (length octets == 0 && end))
+body_size by most id octets end count some within =
+    body_size_by by count _ (count == 0 && not (length octets == 0 && end))
     (λ none. eqb-true count 0 (and_parts _ _ none).0)
     (omega (
       arith,
       within,
       length-take count octets,
-      frames_size (suc count) most id (take count octets) (end && count == length octets) some
+      frames_size by (suc count) most id (take count octets) (end && count == length octets) some
           (omega (arith, length-take count octets)),
     ))
 
 -- What is written waits.
 waits_by : (log after : Log) (items : List Item) → log.given ≤ length log.written
     → after.given ≡ log.given → Writes log after items
-    → waiting log + size_of items ≤ waiting after
+    → waiting log + size_of (max_payload_sent after) items ≤ waiting after
 unfolding waiting output
 waits_by log after items within given writes =
-    let size = size-append writes.credit items in
-    let octets : length after.written ≡ length log.written + size_of (writes.credit ++ items) =
+    let most = max_payload_sent after in
+    let size = size-append most writes.credit items in
+    let octets : length after.written
+    ≡ length log.written + size_of most (writes.credit ++ items) =
     ap length writes.written ∙ length-append log.written _ in
     omega (arith, within, given, size, octets)
 
@@ -144,13 +147,14 @@ pub data_waits : (log : Log) (id : ℕ) (octets : List ℕ) (end : Bool) (n : �
 unfolding with_call items_of
 data_waits log id octets end n within may =
     let act = SendData id octets end in
-    let most = most_is_limit log.received in
+    let after = with_items log act (Count n) in
+    let least = (most_between log.received).0 in
     let writes = call_writes log act (Count n) (ap Count (data_accepted log id octets end n may).1)
     (λ other code wrong. cc) in
-    let waits = waits_by log (with_items log act (Count n)) (items_of (log_view log) act (Count n))
-    within (call_given log act (Count n) (λ other is. cc)) writes in
-    let size = body_size (max_payload_sent log) id octets end n (omega (arith, most))
-    (data_within log id octets end n may) in
+    let waits = waits_by log after (items_of (log_view log) act (Count n)) within
+    (call_given log act (Count n) (λ other is. cc)) writes in
+    let size = body_size (max_payload_sent after) (max_payload_sent log) id octets end n
+    (omega (arith, least)) (data_within log id octets end n may) in
     omega (arith, waits, size)
 
 -- After fields no less waits.

@@ -12,7 +12,6 @@ use Rattle.h2_log.specs.Items.{encoding_of_items}
 use Rattle.h2_log.specs.Log.{waiting, output, max_payload_sent}
 use Rattle.h2_log.specs.LogSteps.{with_sent}
 use Rattle.h2_log.specs.LogCalls.{before_put_out, with_call}
-use Rattle.h2_log.proofs.SentPayloads.{most_is_limit}
 use Rattle.h2_log_laws.proofs.ItemSizes.{size-update}
 use Rattle.h2_log_laws.proofs.CreditCases.{put_out_cases}
 use Rattle.h2_engines.specs.WithoutLink.{PutsOut}
@@ -37,7 +36,7 @@ ready_size log =
     (λ returns.
     let update = alone (WindowUpdate 0 log.unreturned) ∷ [] in
     let size : length (encoding_of_items (max_payload_sent log) update) ≡ 13 =
-    rw (most_is_limit log.received) (size-update 0 log.unreturned) in
+    size-update (max_payload_sent log) 0 log.unreturned in
     rw returns (omega (
       arith,
       length-append log.written (encoding_of_items (max_payload_sent log) update),

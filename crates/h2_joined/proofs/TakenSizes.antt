@@ -1,41 +1,40 @@
 -- What a call of `take` hands out has at most 65,536 octets: a list whose size is above that is
--- reset, and a body lies in the payload of one frame. This is a law of logs; it stands here until a
--- crate below has it.
-use Rattle.std.proofs.Common.{◌≡◌, ℕ, suc, ◌+◌, ◌≤◌, nat_lt, ◌&&◌, not, Bool, true, false}
-use Rattle.std.proofs.Common.{if◌then◌else◌, List, [], ◌∷◌, ◌++◌, length, drop, Option, Some, None}
-use Rattle.std.proofs.Common.{refl, sym, ap, ◌∙◌, subst, inl, inr, arith, length-append}
-use Rattle.std.proofs.Common.{length-drop}
+-- reset, and a body above the connection's window, which is at most 65,535 octets, is a fault. This
+-- is a law of logs; it stands here until a crate below has it.
+use Rattle.std.proofs.Common.{◌≡◌, ℕ, suc, ◌+◌, ◌≤◌, nat_lt, Bool, true, false, List, [], ◌∷◌}
+use Rattle.std.proofs.Common.{◌++◌, length, Option, Some, None, refl, sym, ap, ◌∙◌, subst, arith}
 use Rattle.std.specs.List.{AllByRecursion}
 use Rattle.std.proofs.lemmas.Bool.{ltb-false}
+use Rattle.std.proofs.lemmas.Bool.Decides.{nat_tests}
 use Rattle.hpack.specs.declared.types.field.Field.{Field}
 use Rattle.hpack.specs.Lists.{list_size}
 use Rattle.h2_frame.specs.declared.code.Code.{Code}
-use Rattle.h2_frame.specs.declared.code.Code.TheVariants.{FrameSizeError, ProtocolError}
-use Rattle.h2_frame.specs.Heads.{head_of, head_fault, form_fault}
+use Rattle.h2_frame.specs.Encoding.{payload_of}
 use Rattle.h2_frame.specs.Frames.{Frame, Data, Headers, Priority, Reset, Settings, Ping, GoAway}
-use Rattle.h2_frame.specs.Frames.{WindowUpdate, Continuation, Unknown, IsPadded}
-use Rattle.h2_wire.specs.Streams.{Limits, IsFrame, AreFrames, Frames}
-use Rattle.h2_block.specs.declared.fault.BlockFault.{BlockFault}
-use Rattle.h2_block.specs.Grouping.{Item, alone, block, Begun, next_fault}
+use Rattle.h2_frame.specs.Frames.{WindowUpdate, Continuation, Unknown}
+use Rattle.h2_frame.proofs.PaddingLemmas.{length-padded_body}
+use Rattle.h2_block.specs.Grouping.{Item, alone, block}
 use Rattle.h2_log.specs.declared.role.Role.{Role}
 use Rattle.h2_log.specs.Acts.{Values}
 use Rattle.h2_log.specs.Events.{Event, FieldsEvent, DataEvent, ResetEvent, UnprocessedEvent}
-use Rattle.h2_log.specs.Settings.{is_server}
+use Rattle.h2_log.specs.Items.{total, data_of}
 use Rattle.h2_log.specs.Limits.{max_list}
-use Rattle.h2_log.specs.Log.{Log, next_unprocessed}
+use Rattle.h2_log.specs.Log.{Log, next_unprocessed, state}
 use Rattle.h2_log.specs.LogView.{log_view}
 use Rattle.h2_log.specs.View.{View}
 use Rattle.h2_log.specs.States.{State, Idle, Active, ClosedByUs, Closed}
+use Rattle.h2_log.specs.Windows.{granted_on_connection, passes}
 use Rattle.h2_log.specs.Verdicts.{Verdict, ConnectionFault, StreamFault, NoEvent, Reported}
-use Rattle.h2_log.specs.Verdicts.{block_verdict, opening_verdict}
+use Rattle.h2_log.specs.Verdicts.{block_verdict, data_verdict, opening_verdict}
 use Rattle.h2_log.specs.ItemRules.{Decoded, FrameStep, fails_with, begins_block, completes}
-use Rattle.h2_log.specs.ItemRules.{frame_step, grouped, grouping_step, may_be_first}
-use Rattle.h2_log.specs.ItemRules.{verdict_by_rules, verdict_of}
+use Rattle.h2_log.specs.ItemRules.{frame_step, verdict_by_rules, verdict_of}
 use Rattle.h2_log.specs.ItemEffects.{events_of, fields_of}
-use Rattle.h2_log.specs.LogSteps.{limits_from, used, read, with_sent, with_reported}
+use Rattle.h2_log.specs.LogSteps.{used, read, with_sent, with_reported}
 use Rattle.h2_log.specs.LogSteps.{with_unreturned, with_failure, with_verdict, with_step}
 use Rattle.h2_log.specs.LogSteps.{with_frame, took_frame}
 use Rattle.h2_log.specs.Histories.{IsLog}
+use Rattle.h2_log_laws.proofs.InvariantLogs.{log_represents}
+use Rattle.h2_log_laws.proofs.LogViewLemmas.{data_by_sums}
 use Rattle.h2_message.specs.Reading.{Part, FieldsPart, OctetsPart}
 use Rattle.h2_message.specs.declared.reading.Place.{Place}
 use Rattle.h2_message.specs.declared.reading.Place.TheVariants as places
@@ -43,139 +42,29 @@ use Rattle.h2_message.specs.declared.reading.Reads.{Reads}
 use Rattle.h2_end_laws.specs.Takes.{MayTake, TakeAnswer, Took, AnswersFrame, has_failed}
 use Rattle.h2_end_laws.specs.Takes.{reports_unprocessed, ends_no_frame, ends_frame, meets_fault}
 use Rattle.h2_end_laws.specs.Takes as takes
-use Rattle.h2_end_laws.proofs.PayloadLimits.{limits_to_come}
 use Rattle.h2_end_laws.proofs.ReadVerdicts.{Says, says_of}
 use Rattle.h2_end_laws.proofs.TakeAnswers.{reported_is, sent_reported, unreturned_reported}
 use Rattle.h2_ends.specs.declared.end.End.{End}
 use Rattle.h2_ends.specs.Ends.{EndLog, Handed, Passed, EndAnswer, EndTook}
 use Rattle.h2_ends.specs.Ends.{part_of_event, handed_at, handed_as, reads_on, parts_on}
-use Rattle.h2_ends.specs.EndTakes.{EndMayTake, AnswersRefused, fails, hands_nothing, passes}
+use Rattle.h2_ends.specs.EndTakes.{EndMayTake, AnswersRefused, fails, hands_nothing, passes as hands_on}
 use Rattle.h2_ends.specs.EndTakes.{hands_out, refuses, runs_out_of_memory}
 use Rattle.h2_ends.specs.Represents.{EndRepresents}
 use Rattle.h2_joined.specs.Stored.{Fits}
-use Rattle.h2_wire.proofs.ReadingLemmas.{some_frames as frames_some}
 
--- A body has at most 65,536 octets, of a frame,
-abbrev FitsFrame : Frame → Type 0
-FitsFrame (Data stream end octets pad) = length octets ≤ 65536
-FitsFrame frame = Unit {0}
-
--- of an item,
-abbrev FitsItem : Item → Type 0
-FitsItem (alone frame) = FitsFrame frame
-FitsItem (block stream end octets) = Unit {0}
-
-abbrev FitsStep : FrameStep → Type 0
-FitsStep (fails_with code) = Unit {0}
-FitsStep (begins_block begun) = Unit {0}
-FitsStep (completes item) = FitsItem item
-
--- and of an event; and so is the size of its list.
+-- The size of a list, and a body, have at most 65,536 octets, in an event
 abbrev FitsEvent : Event → Type 0
 FitsEvent (FieldsEvent id list end) = list_size list ≤ 65536
 FitsEvent (DataEvent id octets flow end) = length octets ≤ 65536
 FitsEvent event = Unit {0}
 
--- A head without fault has a length within the limit.
-length_by : (b : Bool) (other : Option Code)
-    → (if b then Some FrameSizeError else other) ≡ None → b ≡ false
-length_by true other none = absurd (cc)
-length_by false other none = refl
-
--- A body is within its payload.
-body_within : (padded : Bool) (payload body : List ℕ) (pad : Option ℕ)
-    → IsPadded padded payload body pad → length body ≤ length payload
-body_within padded payload body None (plain, same) =
-    let counted = ap length same in omega (arith, counted)
-body_within padded payload body (Some count) (set, padding, counted, joined) =
-    let all : length payload ≡ suc (length (body ++ padding)) = ap length joined in
-    omega (arith, all, length-append body padding)
-
--- A frame that is read has a payload within the limit.
-frame_fits : (limit : ℕ) (frame : Frame) (octets : List ℕ) → limit ≡ 16384
-    → IsFrame limit frame octets → FitsFrame frame
-unfolding head_fault
-frame_fits limit (Data stream end body pad) octets same is =
-    let head = head_of octets in
-    let short = ltb-false limit head.length
-    (length_by (nat_lt limit head.length) (form_fault head) is.sound_head) in
-    let within = body_within _ (drop 9 octets) body pad ((is.encodes.carried).4) in
-    omega (arith, short, within, same, is.encodes.complete, length-drop 9 octets)
-frame_fits limit (Headers stream end whole fragment pad priority) octets same is = tt
-frame_fits limit (Priority stream payload) octets same is = tt
-frame_fits limit (Reset stream code) octets same is = tt
-frame_fits limit (Settings ack pairs) octets same is = tt
-frame_fits limit (Ping ack payload) octets same is = tt
-frame_fits limit (GoAway last code debug) octets same is = tt
-frame_fits limit (WindowUpdate stream increment) octets same is = tt
-frame_fits limit (Continuation stream whole fragment) octets same is = tt
-frame_fits limit (Unknown kind flags stream payload) octets same is = tt
-
-last_fits : (limits : Limits) → ((place : ℕ) → limits place ≡ 16384) → (preceding : ℕ)
-    (frames : List Frame) (frame : Frame) (octets : List ℕ)
-    → AreFrames limits preceding (frames ++ frame ∷ []) octets → FitsFrame frame
-last_fits limits same preceding [] frame octets are =
-    frame_fits (limits (preceding + 9)) frame are.0 (same (preceding + 9)) are.3
-last_fits limits same preceding (other ∷ frames) frame octets are =
-    last_fits limits same (preceding + length are.0) frames frame are.1 are.4
-
-read_fits : (expects : Bool) (limits : Limits) → ((place : ℕ) → limits place ≡ 16384)
-    → (stream : List ℕ) (frames : List Frame) (frame : Frame) (unparsed : List ℕ)
-    → Frames expects limits stream (frames ++ frame ∷ []) unparsed → FitsFrame frame
-read_fits expects limits same stream frames frame unparsed (inl inside) =
-    absurd (frames_some frames frame inside.none)
-read_fits expects limits same stream frames frame unparsed (inr after) =
-    last_fits limits same _ frames frame _ (after.sound).framed
-
--- What it makes of the block that has begun is no larger.
-grouped_fits : (begun : Option Begun) (frame : Frame) → FitsFrame frame
-    → FitsStep (grouped begun frame)
-unfolding grouped
-grouped_fits None (Data stream end octets pad) fit = fit
-grouped_fits None (Headers stream end true fragment pad priority) fit = tt
-grouped_fits None (Headers stream end false fragment pad priority) fit = tt
-grouped_fits None (Priority stream octets) fit = tt
-grouped_fits None (Reset stream code) fit = tt
-grouped_fits None (Settings ack pairs) fit = tt
-grouped_fits None (Ping ack octets) fit = tt
-grouped_fits None (GoAway last code debug) fit = tt
-grouped_fits None (WindowUpdate stream increment) fit = tt
-grouped_fits None (Continuation stream whole fragment) fit = tt
-grouped_fits None (Unknown kind flags stream payload) fit = tt
-grouped_fits (Some begun) (Continuation stream true fragment) fit = tt
-grouped_fits (Some begun) (Continuation stream false fragment) fit = tt
-grouped_fits (Some begun) (Headers stream end whole fragment pad priority) fit = tt
-grouped_fits (Some begun) (Data stream end octets pad) fit = fit
-grouped_fits (Some begun) (Priority stream octets) fit = tt
-grouped_fits (Some begun) (Reset stream code) fit = tt
-grouped_fits (Some begun) (Settings ack pairs) fit = tt
-grouped_fits (Some begun) (Ping ack octets) fit = tt
-grouped_fits (Some begun) (GoAway last code debug) fit = tt
-grouped_fits (Some begun) (WindowUpdate stream increment) fit = tt
-grouped_fits (Some begun) (Unknown kind flags stream payload) fit = tt
-
-step_by : (begun : Option Begun) (frame : Frame) (fault : Option BlockFault) → FitsFrame frame
-    → FitsStep (grouping_step begun frame fault)
-unfolding grouping_step
-step_by begun frame None fit = grouped_fits begun frame fit
-step_by begun frame (Some fault) fit = tt
-
-first_by : (b : Bool) (step : FrameStep) (code : Code) → FitsStep step
-    → FitsStep (if b then fails_with code else step)
-first_by true step code fit = tt
-first_by false step code fit = fit
-
-step_fits : (view : View) (frame : Frame) → FitsFrame frame → FitsStep (frame_step view frame)
-unfolding frame_step
-step_fits view frame fit =
-    first_by (not view.started && not (may_be_first frame)) _ ProtocolError
-    (step_by view.begun frame (next_fault view.begun frame) fit)
+-- and in an item.
+abbrev FitsItem : Option Decoded → Item → Type 0
+FitsItem decoded (block stream end octets) = list_size (fields_of decoded) ≤ 65536
+FitsItem decoded (alone (Data stream end octets pad)) = length octets ≤ 65536
+FitsItem decoded (alone frame) = Unit {0}
 
 -- What is reported of a block has no list that is too large.
-abbrev FitsList : Option Decoded → Item → Type 0
-FitsList decoded (block stream end octets) = list_size (fields_of decoded) ≤ 65536
-FitsList decoded (alone frame) = Unit {0}
-
 abbrev SaysFits : Type 0 → Verdict → Type 0
 SaysFits T verdict = Says (Unit {0}) (Unit {0}) T verdict
 
@@ -198,45 +87,81 @@ block_says T Active opens left full true large small = tt
 block_says T Active opens left full false true small = tt
 block_says T Active opens left full false false small = small refl
 
+-- What is reported of DATA doesn't pass the connection's window.
+data_says : (T : Type 0) (state : State) (beyond ended above : Bool) → (beyond ≡ false → T)
+    → SaysFits T (data_verdict state beyond ended above)
+unfolding data_verdict
+data_says T Idle beyond ended above inside = tt
+data_says T Closed beyond ended above inside = tt
+data_says T ClosedByUs true ended above inside = tt
+data_says T ClosedByUs false ended above inside = tt
+data_says T Active true ended above inside = tt
+data_says T Active false true above inside = tt
+data_says T Active false false true inside = tt
+data_says T Active false false false inside = inside refl
+
+-- What the peer may send on the connection at once, beside what it has sent, is at most 65,535
+-- octets.
+abbrev IsNarrow : Log → Type 0
+IsNarrow log = granted_on_connection log.sent ≤ 65535 + total data_of log.received
+
+-- So it is as long as the connection is up: no more is returned than was read.
+is_narrow : (role : Role) (values : Values) (log : Log) → IsLog role values log
+    → log.failed ≡ None → IsNarrow log
+unfolding granted_on_connection
+is_narrow role values log came up =
+    let whole = ((log_represents role values log came).good up).whole 0 in omega (arith, whole)
+
+-- A body within such a window is no larger.
+body_fits : (stream : ℕ) (end : Bool) (octets : List ℕ) (pad : Option ℕ) (granted consumed : ℕ)
+    → granted ≤ 65535 + consumed
+    → passes (length (payload_of (Data stream end octets pad))) granted consumed ≡ false
+    → length octets ≤ 65536
+unfolding payload_of
+body_fits stream end octets pad granted consumed narrow inside =
+    grind (arith, nat_tests, narrow, inside, length-padded_body octets pad)
+
 any_says : (verdict : Verdict) → SaysFits (Unit {0}) verdict
 any_says (ConnectionFault code) = tt
 any_says (StreamFault code) = tt
 any_says NoEvent = tt
 any_says Reported = tt
 
-rules_say : (view : View) (decoded : Option Decoded) (item : Item)
-    → SaysFits (FitsList decoded item) (verdict_by_rules view decoded item)
+rules_say : (log : Log) (decoded : Option Decoded) (item : Item) → IsNarrow log
+    → SaysFits (FitsItem decoded item) (verdict_by_rules (log_view log) decoded item)
 unfolding verdict_by_rules
-rules_say view None (block stream end octets) = tt
-rules_say view (Some decoded) (block stream end octets) =
-    block_says _ (view.state stream) _ _ _ _ (nat_lt max_list (list_size decoded.fields))
+rules_say log None (block stream end octets) narrow = tt
+rules_say log (Some decoded) (block stream end octets) narrow =
+    block_says _ (state log stream) _ _ _ _ (nat_lt max_list (list_size decoded.fields))
     (λ small. ltb-false max_list (list_size decoded.fields) small)
-rules_say view decoded (alone frame) =
-    any_says (verdict_by_rules view decoded (alone frame))
+rules_say log decoded (alone (Data stream end octets pad)) narrow =
+    rw (data_by_sums log decoded stream end octets pad) (data_says _ (state log stream) _ _ _
+    (body_fits stream end octets pad (granted_on_connection log.sent) (total data_of log.received)
+    narrow))
+rules_say log decoded (alone frame) narrow =
+    any_says (verdict_by_rules (log_view log) decoded (alone frame))
 
 -- So what is reported of an item fits.
 abbrev AllFit : List Event → Type 0
 AllFit events = AllByRecursion FitsEvent events
 
 events_fit : (view : View) (decoded : Option Decoded) (verdict : Verdict) (item : Item)
-    → SaysFits (FitsList decoded item) verdict → FitsItem item
-    → AllFit (events_of view decoded verdict item)
+    → SaysFits (FitsItem decoded item) verdict → AllFit (events_of view decoded verdict item)
 unfolding events_of
-events_fit view decoded (ConnectionFault code) item says fit = tt
-events_fit view decoded (StreamFault code) item says fit = (tt, tt)
-events_fit view decoded NoEvent item says fit = tt
-events_fit view decoded Reported (block stream end octets) says fit = (says, tt)
-events_fit view decoded Reported (alone (Data stream end octets pad)) says fit = (fit, tt)
-events_fit view decoded Reported (alone (Reset stream code)) says fit = (tt, tt)
-events_fit view decoded Reported (alone (Settings ack pairs)) says fit = (tt, tt)
-events_fit view decoded Reported (alone (Ping ack octets)) says fit = (tt, tt)
-events_fit view decoded Reported (alone (GoAway last code debug)) says fit = (tt, tt)
-events_fit view decoded Reported
-    (alone (Headers stream end whole fragment pad priority)) says fit = tt
-events_fit view decoded Reported (alone (Priority stream octets)) says fit = tt
-events_fit view decoded Reported (alone (WindowUpdate stream increment)) says fit = tt
-events_fit view decoded Reported (alone (Continuation stream whole fragment)) says fit = tt
-events_fit view decoded Reported (alone (Unknown kind flags stream payload)) says fit = tt
+events_fit view decoded (ConnectionFault code) item says = tt
+events_fit view decoded (StreamFault code) item says = (tt, tt)
+events_fit view decoded NoEvent item says = tt
+events_fit view decoded Reported (block stream end octets) says = (says, tt)
+events_fit view decoded Reported (alone (Data stream end octets pad)) says = (says, tt)
+events_fit view decoded Reported (alone (Reset stream code)) says = (tt, tt)
+events_fit view decoded Reported (alone (Settings ack pairs)) says = (tt, tt)
+events_fit view decoded Reported (alone (Ping ack octets)) says = (tt, tt)
+events_fit view decoded Reported (alone (GoAway last code debug)) says = (tt, tt)
+events_fit view decoded Reported (alone (Headers stream end whole fragment pad priority)) says = tt
+events_fit view decoded Reported (alone (Priority stream octets)) says = tt
+events_fit view decoded Reported (alone (WindowUpdate stream increment)) says = tt
+events_fit view decoded Reported (alone (Continuation stream whole fragment)) says = tt
+events_fit view decoded Reported (alone (Unknown kind flags stream payload)) says = tt
 
 -- More was reported, and it fits.
 abbrev Reports : (before after : Log) → Type 0
@@ -271,24 +196,23 @@ verdict_reports before log decoded item Reported same fit =
     replied_reports before (read log decoded item) _ _ _ same fit
 
 step_reports : (before log : Log) (decoded : Option Decoded) (step : FrameStep)
-    → log.reported ≡ before.reported → FitsStep step → Reports before (with_step log decoded step)
+    → log.reported ≡ before.reported → IsNarrow log → Reports before (with_step log decoded step)
 unfolding with_step
-step_reports before log decoded (fails_with code) same fit =
+step_reports before log decoded (fails_with code) same narrow =
     failing_reports before log code _ same
-step_reports before log decoded (begins_block begun) same fit = ([], same, tt)
-step_reports before log decoded (completes item) same fit =
+step_reports before log decoded (begins_block begun) same narrow = ([], same, tt)
+step_reports before log decoded (completes item) same narrow =
     let now = record log { begun = None } in
     verdict_reports before now decoded item _ same
     (events_fit (log_view now) decoded (verdict_of (log_view now) decoded item) item
-    (says_of (Unit {0}) (Unit {0}) (FitsList decoded item) now decoded item
-    (rules_say (log_view now) decoded item)) fit)
+    (says_of (Unit {0}) (Unit {0}) (FitsItem decoded item) now decoded item
+    (rules_say now decoded item narrow)))
 
 frame_reports : (log : Log) (octets : List ℕ) (decoded : Option Decoded) (frame : Frame)
-    → FitsFrame frame → Reports log (took_frame log octets decoded frame)
+    → IsNarrow log → Reports log (took_frame log octets decoded frame)
 unfolding with_frame used
-frame_reports log octets decoded frame fit =
-    step_reports log _ decoded (frame_step (log_view (used log octets [])) frame) refl
-    (step_fits (log_view (used log octets [])) frame fit)
+frame_reports log octets decoded frame narrow =
+    step_reports log _ decoded (frame_step (log_view (used log octets [])) frame) refl narrow
 
 -- One of the events that were reported fits.
 one_fits : (event : Event) (events before : List Event) → event ∷ before ≡ events ++ before
@@ -313,12 +237,9 @@ event_fits role values log after piece answer count event came
     (ends_no_frame takes unparsed part answers same) is = absurd (cc)
 event_fits role values log after piece answer count event came
     (ends_frame takes octets unused joined frame decoded framed sees same answers) is =
-    let limits = limits_to_come role values log came in
-    let fit = read_fits (is_server log.role) (limits_from log)
-    (λ place. ap (λ (l : Limits). l place) limits) (log.input ++ octets) log.frames frame []
-    framed in
     let says = subst (λ (a : TakeAnswer). AnswersFrame log after (length octets) a) is answers in
-    let (events, reported, all) = frame_reports log octets decoded frame fit in
+    let (events, reported, all) = frame_reports log octets decoded frame
+    (is_narrow role values log came takes.up) in
     one_fits event events log.reported (sym says.2 ∙ (ap (λ (l : Log). l.reported) same ∙ reported))
     all
 event_fits role values log after piece answer count event came
@@ -380,7 +301,7 @@ answer_fits role values end after piece answer used handed came
 answer_fits role values end after piece answer used handed came
     (hands_nothing count log may answers same) is = absurd (cc)
 answer_fits role values end after piece answer used handed came
-    (passes count event log may unread answers same) is =
+    (hands_on count event log may unread answers same) is =
     let one : handed ≡ Passed event = cc in subst Fits (sym one) (passed_fits event)
 answer_fits role values end after piece answer used handed came
     (hands_out count event log may id part of readable answers same) is =
