@@ -47,6 +47,9 @@ call_writes log act answer other =
       given = call_given log act answer other;
       items = gives.items;
       sent = gives.sent;
+      payloads = gives.payloads;
+      paid = gives.paid;
+      each_one = gives.each_one;
     }
 
 -- Octets that were taken.
