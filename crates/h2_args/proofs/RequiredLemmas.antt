@@ -27,7 +27,7 @@ use Rattle.clap.proofs.FaultLemmas.{free_args}
 use Rattle.clap.proofs.SimpleLemmas.{ready_simple, simple_groups}
 use Rattle.clap.proofs.WalkLemmas.{both, first_value-rows, one_text-rows}
 use Rattle.h2_args.specs.Commands.{number_rule}
-use Rattle.h2_args.specs.Words.{number_of}
+use Rattle.h2_args.specs.Words.{number_given}
 
 -- the command has no rule of one argument on another, and no argument that changes how words are
 -- read
@@ -208,7 +208,7 @@ pub record GivesNumber (r : Option ℕ) (least most : ℕ) (name : Text) (rows :
   pub given : r ≡ Some number
   pub low : least ≤ number
   pub high : number ≤ most
-  pub read : number ≡ number_of name rows
+  pub read : number ≡ number_given name rows
 
 -- A number in a range that the type holds is read from a required argument.
 pub required_number : (a : App) (c : Command) (e : app_of c ≡ a) (alone : IsAlone a)

@@ -26,9 +26,9 @@ is_set (Some text) = bytes_eq text (codes "true")
 is_set None = false
 
 -- the option has this value
-abbrev pub is_named : Text → Option Text → Bool
-is_named name (Some text) = bytes_eq text name
-is_named name None = false
+abbrev pub has_value : Text → Option Text → Bool
+has_value name (Some text) = bytes_eq text name
+has_value name None = false
 
 -- the number that an option's value writes in decimal digits, or this one where it isn't given
 abbrev pub number_or : ℕ → Option Text → ℕ
@@ -40,7 +40,7 @@ number_or default None = default
 abbrev pub show_options_in : List Row → ShowOptions
 show_options_in rows = record {
   hex = is_set (one_of (codes "hex") rows);
-  from = if is_named (codes "server") (first_of (codes "from") rows) then Server else Client;
+  from = if has_value (codes "server") (first_of (codes "from") rows) then Server else Client;
   max_frame = number_or 16384 (one_of (codes "max-frame") rows);
 }
 
@@ -69,7 +69,7 @@ ShowWordsFail words error =
 abbrev pub replay_options_in : List Row → ReplayOptions
 replay_options_in rows = record {
   hex = is_set (one_of (codes "hex") rows);
-  role = if is_named (codes "client") (first_of (codes "as") rows) then role.Client
+  role = if has_value (codes "client") (first_of (codes "as") rows) then role.Client
       else role.Server;
 }
 
@@ -94,13 +94,13 @@ ReplayWordsFail words error =
     (names : SideNames) × AreSides names × HasKind (replay_faults names words) error
 
 -- the number that an argument's value writes in decimal digits
-abbrev pub number_of : Text → List Row → ℕ
-number_of id rows = digits_value 10 (without_leading_plus (unwrap_or (one_of id rows) []))
+abbrev pub number_given : Text → List Row → ℕ
+number_given id rows = digits_value 10 (without_leading_plus (unwrap_or (one_of id rows) []))
 
 -- what the matches of `serve` say
 abbrev pub serve_options_in : List Row → ServeOptions
 serve_options_in rows =
-    record { port = number_of (codes "PORT") rows; count = number_of (codes "COUNT") rows }
+    record { port = number_given (codes "PORT") rows; count = number_given (codes "COUNT") rows }
 
 -- The port and the count that the words after `serve` give, if they have no fault.
 -- rule: engines (own) serve, get and loop have their words
@@ -126,8 +126,8 @@ get_faults = fault_of get_app
 
 -- The number of octets that the words after `loop` give, if they have no fault.
 -- rule: engines (own) serve, get and loop have their words
-abbrev pub octets_of : List Text → Option ℕ
-octets_of = given_by loop_app (number_of (codes "N"))
+abbrev pub octets_asked : List Text → Option ℕ
+octets_asked = given_by loop_app (number_given (codes "N"))
 
 -- the kinds of error that the words after `loop` may have
 abbrev pub loop_faults : List Text → Kinds

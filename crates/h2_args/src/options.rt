@@ -3,7 +3,7 @@
 ghost use Rattle.std.specs.Prelude.{◌≡◌, IfOk, false};
 ghost use Rattle.clap.specs.Words.{app_of, first_of, found_of, one_of, rows_of, rule_of};
 ghost use Rattle.h2_args.specs.Commands.{IsSideRule, hex_rule, named_app};
-ghost use Rattle.h2_args.specs.Words.{is_named, is_set};
+ghost use Rattle.h2_args.specs.Words.{has_value, is_set};
 
 use clap::{Arg, ArgAction, ArgMatches, Command};
 use std::alloc::{AllocError, Global};
@@ -86,7 +86,7 @@ pub(super) fn is_set(matches: &ArgMatches<'_>, flag: &str) -> bool
 
 /// Whether an option has this value.
 pub(super) fn is_named(matches: &ArgMatches<'_>, option: &str, name: &str) -> bool
-    ensures { result ≡ is_named name.now (first_of option.now (rows_of (found_of matches.now))) }
+    ensures { result ≡ has_value name.now (first_of option.now (rows_of (found_of matches.now))) }
 {
     match matches.get_str(option) {
         Some(given) => given == name,

@@ -4,7 +4,7 @@ ghost use Rattle.std.specs.Prelude.{◌≡◌, ◌≤◌, IfErr, IfOk, Some, fal
 ghost use Rattle.clap.specs.Words.{HasKind, app_of, rule_of};
 ghost use Rattle.h2_args.specs.Commands.{get_app, loop_app, required_rule, serve_app};
 ghost use Rattle.h2_args.specs.Commands.{with_numbers};
-ghost use Rattle.h2_args.specs.Words.{get_faults, loop_faults, octets_of, serve_faults};
+ghost use Rattle.h2_args.specs.Words.{get_faults, loop_faults, octets_asked, serve_faults};
 ghost use Rattle.h2_args.specs.Words.{serve_options_of, url_of};
 
 use crate::options::{CommandText, named_command};
@@ -78,7 +78,7 @@ pub fn get_args<'a>(alloc: Global, words: &'a [String]) -> Result<&'a str, Error
 ///
 /// Those of [`crate::show_args`].
 pub fn loop_args(alloc: Global, words: &[String]) -> Result<u32, Error>
-    ensures ok { IfOk result (λ count. octets_of (map string_bytes words.now) ≡ Some count) }
+    ensures ok { IfOk result (λ count. octets_asked (map string_bytes words.now) ≡ Some count) }
     ensures most { IfOk result (λ count. count ≤ MOST_POSTED) }
     ensures err { IfErr result (HasKind (loop_faults (map string_bytes words.now))) }
 {

@@ -12,7 +12,7 @@ use Rattle.h2_block.specs.declared.partial_block.PartialBlock.{PartialBlock}
 use Rattle.h2_block.specs.Grouping.{Item, alone, Begun, max_block_octets, fault_outside}
 use Rattle.h2_block.specs.Grouping.{fault_inside, next_fault}
 use Rattle.h2_block.specs.Gather.{GatherState, GatherRepresents, GatherFaults, GatherFails}
-use Rattle.h2_block.specs.PartialBlock.{state_of}
+use Rattle.h2_block.specs.PartialBlock.{gather_state_of}
 use Rattle.h2_block.proofs.GroupLemmas.{step_items, step_begun, none_some, Groups-step}
 
 -- A frame without fault was taken.
@@ -48,17 +48,17 @@ fails old frame faults.Memory new sound never fails_with = absurd (never refl)
 pub fails_with : (old new : PartialBlock) (fault : BlockFault) (frame : Frame) → old.fault ≡ None
     → (fault ≡ faults.Memory → ⊥)
     → new ≡ record old { opening = None; octets = new.octets; fault = Some fault }
-    → next_fault (state_of old).begun frame ≡ Some fault
-    → GatherFails (state_of old) frame fault (state_of new)
+    → next_fault (gather_state_of old).begun frame ≡ Some fault
+    → GatherFails (gather_state_of old) frame fault (gather_state_of new)
 fails_with old new fault frame sound never after faulty =
-    fails (state_of old) frame fault (state_of new) sound never (record {
+    fails (gather_state_of old) frame fault (gather_state_of new) sound never (record {
       known = ap (λ (partial : PartialBlock). partial.fault) after;
-      none_begun = ap (λ (partial : PartialBlock). (state_of partial).begun) after;
+      none_begun = ap (λ (partial : PartialBlock). (gather_state_of partial).begun) after;
       faulty = faulty;
       at = λ frames items represented. record {
         preceding = frames;
         last = frame;
-        begun = (state_of old).begun;
+        begun = (gather_state_of old).begun;
         joined = refl;
         grouped = represented.split;
         faulty = faulty;

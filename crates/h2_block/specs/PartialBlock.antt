@@ -6,8 +6,8 @@ use Rattle.h2_block.specs.Grouping.{max_block_octets}
 use Rattle.h2_block.specs.Gather.{GatherState}
 
 -- the state that a partial block represents
-abbrev pub state_of : PartialBlock → GatherState
-state_of partial =
+abbrev pub gather_state_of : PartialBlock → GatherState
+gather_state_of partial =
     record {
       begun = option_map (λ opening. record {
         stream = opening.stream;

@@ -23,11 +23,11 @@ pub struct Gather {
 
 impl Model for Gather {
     ghost use Rattle.h2_block.specs.Gather.{GatherState};
-    ghost use Rattle.h2_block.specs.PartialBlock.{state_of, PartialBlockInvariant};
+    ghost use Rattle.h2_block.specs.PartialBlock.{gather_state_of, PartialBlockInvariant};
 
     ghost Value = { GatherState };
 
-    ghost view = { λ gather. state_of gather.partial };
+    ghost view = { λ gather. gather_state_of gather.partial };
 
     ghost invariant = { λ gather. PartialBlockInvariant gather.partial };
 }

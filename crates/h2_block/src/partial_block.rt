@@ -6,7 +6,7 @@ ghost use Rattle.h2_frame.specs.Frames.{frame_of, Headers, Continuation};
 ghost use Rattle.h2_block.specs.Grouping.{is_standalone};
 ghost use Rattle.h2_block.specs.Gather.{GatherRepresents, GatherTakes, LeavesNone};
 ghost use Rattle.h2_block.specs.Gather.{ReportsFault, PassesItself, PassesNothing};
-ghost use Rattle.h2_block.specs.PartialBlock.{state_of, PartialBlockInvariant};
+ghost use Rattle.h2_block.specs.PartialBlock.{gather_state_of, PartialBlockInvariant};
 
 use crate::fault::BlockFault;
 use crate::gathered::Gathered;
@@ -41,7 +41,7 @@ pub(crate) struct PartialBlock {
 impl PartialBlock {
     /// No frame was taken.
     pub(crate) fn new(alloc: Global) -> PartialBlock
-        ensures represents { GatherRepresents (state_of result) [] [] }
+        ensures represents { GatherRepresents (gather_state_of result) [] [] }
         ensures invariant { PartialBlockInvariant result }
     {
         PartialBlock {
@@ -57,13 +57,13 @@ impl PartialBlock {
         requires { PartialBlockInvariant self.old }
         ensures failed { IfSome self.old.fault (λ fault. result ≡ Err fault) }
         ensures reported { self.old.fault ≡ None
-            → ReportsFault (state_of self.old).begun (frame_of frame.entry) result }
-        ensures alone { self.old.fault ≡ None → (state_of self.old).begun ≡ None
+            → ReportsFault (gather_state_of self.old).begun (frame_of frame.entry) result }
+        ensures alone { self.old.fault ≡ None → (gather_state_of self.old).begun ≡ None
             → is_standalone (frame_of frame.entry) ≡ true → IsOk result }
         ensures passed { PassesItself frame.entry result }
-        ensures takes { GatherTakes (state_of self.old) (frame_of frame.entry) result
-            (state_of self.new) }
-        ensures ended { LeavesNone result (state_of self.new) }
+        ensures takes { GatherTakes (gather_state_of self.old) (frame_of frame.entry) result
+            (gather_state_of self.new) }
+        ensures ended { LeavesNone result (gather_state_of self.new) }
         ensures invariant { PartialBlockInvariant self.new }
     {
         if let Some(fault) = self.fault {
@@ -85,9 +85,9 @@ impl PartialBlock {
         ensures reported { ReportsFault None (frame_of frame.entry) result }
         ensures alone { is_standalone (frame_of frame.entry) ≡ true → IsOk result }
         ensures passed { PassesItself frame.entry result }
-        ensures takes { GatherTakes (state_of self.old) (frame_of frame.entry) result
-            (state_of self.new) }
-        ensures ended { LeavesNone result (state_of self.new) }
+        ensures takes { GatherTakes (gather_state_of self.old) (frame_of frame.entry) result
+            (gather_state_of self.new) }
+        ensures ended { LeavesNone result (gather_state_of self.new) }
         ensures invariant { PartialBlockInvariant self.new }
     {
         match frame {
@@ -115,11 +115,12 @@ impl PartialBlock {
         requires sound { self.old.fault ≡ None }
         requires inside { self.old.opening ≡ Some opening }
         requires invariant { PartialBlockInvariant self.old }
-        ensures reported { ReportsFault (state_of self.old).begun (frame_of frame.entry) result }
+        ensures reported { ReportsFault (gather_state_of self.old).begun
+            (frame_of frame.entry) result }
         ensures passed { PassesNothing result }
-        ensures takes { GatherTakes (state_of self.old) (frame_of frame.entry) result
-            (state_of self.new) }
-        ensures ended { LeavesNone result (state_of self.new) }
+        ensures takes { GatherTakes (gather_state_of self.old) (frame_of frame.entry) result
+            (gather_state_of self.new) }
+        ensures ended { LeavesNone result (gather_state_of self.new) }
         ensures invariant { PartialBlockInvariant self.new }
     {
         match frame {
@@ -148,10 +149,10 @@ impl PartialBlock {
         ensures reported { 65552 < length fragment.now → result ≡ Err BlockFault.TooLong }
         ensures passed { PassesNothing result }
         ensures takes { (pad : Option ℕ) (priority : Option (List ℕ))
-            → GatherTakes (state_of self.old)
+            → GatherTakes (gather_state_of self.old)
             (Headers opening.stream opening.end whole fragment.now pad priority) result
-            (state_of self.new) }
-        ensures ended { LeavesNone result (state_of self.new) }
+            (gather_state_of self.new) }
+        ensures ended { LeavesNone result (gather_state_of self.new) }
         ensures invariant { PartialBlockInvariant self.new }
     {
         if fragment.len() > MAX_BLOCK_OCTETS {
@@ -185,9 +186,9 @@ impl PartialBlock {
         ensures reported { 65552 < vec_len self.old.octets + length fragment.now
             → result ≡ Err BlockFault.TooLong }
         ensures passed { PassesNothing result }
-        ensures takes { GatherTakes (state_of self.old)
-            (Continuation opening.stream whole fragment.now) result (state_of self.new) }
-        ensures ended { LeavesNone result (state_of self.new) }
+        ensures takes { GatherTakes (gather_state_of self.old)
+            (Continuation opening.stream whole fragment.now) result (gather_state_of self.new) }
+        ensures ended { LeavesNone result (gather_state_of self.new) }
         ensures invariant { PartialBlockInvariant self.new }
     {
         if fragment.len() > MAX_BLOCK_OCTETS - self.octets.len() {

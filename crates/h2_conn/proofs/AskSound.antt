@@ -15,14 +15,14 @@ use Rattle.h2_machine_laws.proofs.CountedBySteps.{counted, is_counted}
 use Rattle.h2_machine_laws.proofs.RangesOfSteps.{call_fits}
 use Rattle.h2_machine_laws.proofs.RangesOfSteps.{fits, are_in_range}
 use Rattle.h2_core.specs.Calls.{CallRefused, CallAccepted, CallRefuses}
-use Rattle.h2_core.specs.Endpoint.{IsSound}
+use Rattle.h2_core.specs.Endpoint.{IsSoundEnd}
 use Rattle.h2_core.specs.Readers.{PutsOut}
 use Rattle.h2_conn.proofs.AskCalls.{puts_out, up_if_free}
 use Rattle.h2_machine_laws.proofs.CallWithoutStream.{never_refused}
 
 -- A call that is accepted leaves an end sound.
 pub accepted_sound : (e : End) (act : Act) → refusal_of (end_view e) act ≡ None → IsTypedAct act
-    → IsSound e → IsSound (after_call e act)
+    → IsSoundEnd e → IsSoundEnd (after_call e act)
 accepted_sound e act free typed sound =
     record {
       bounded = call_bounded e act free typed sound.bounded;
@@ -52,11 +52,11 @@ was_up_refusing (Err refusal) e new id code (why, is) up =
 
 -- A call leaves an end sound, whatever it answers.
 pub sound_by : {A : Type 0} (result : Result A Refusal) (e new : End) (act : Act)
-    → IsTypedAct act → IsSound e → OnOk result (CallAccepted e act new)
-    → IfErr result (λ refusal. CallRefused e act refusal new) → IsSound new
+    → IsTypedAct act → IsSoundEnd e → OnOk result (CallAccepted e act new)
+    → IfErr result (λ refusal. CallRefused e act refusal new) → IsSoundEnd new
 sound_by (Ok value) e new act typed sound ok err =
-    subst IsSound (sym ok.after) (accepted_sound e act ok.free typed sound)
-sound_by (Err refusal) e new act typed sound ok err = subst IsSound (sym err.same) sound
+    subst IsSoundEnd (sym ok.after) (accepted_sound e act ok.free typed sound)
+sound_by (Err refusal) e new act typed sound ok err = subst IsSoundEnd (sym err.same) sound
 
 -- What holds beside something else of a value.
 pub beside_value : {A : Type 0} (X : A → Type 0) (P : Type 0) (result : Result A Refusal)
@@ -66,14 +66,15 @@ beside_value X P (Err refusal) ok = ok
 
 -- Refusing a stream leaves an end sound that hasn't failed.
 pub refusing_sound : (result : Result Unit Refusal) (e new : End) (id code : ℕ)
-    → IsTypedAct (Refuse id code) → IsSound e → CallRefuses e id code result new
-    → new.failed ≡ None → IsSound new
+    → IsTypedAct (Refuse id code) → IsSoundEnd e → CallRefuses e id code result new
+    → new.failed ≡ None → IsSoundEnd new
 refusing_sound (Ok done) e new id code typed sound (inl accepted) up =
-    subst IsSound (sym accepted.after) (accepted_sound e (Refuse id code) accepted.free typed sound)
+    subst IsSoundEnd (sym accepted.after) (accepted_sound e
+    (Refuse id code) accepted.free typed sound)
 refusing_sound (Ok done) e new id code typed sound (inr (free, calm, is)) up =
     let failed = ap (λ (x : End). x.failed) (sym is) ∙ up in absurd (cc)
 refusing_sound (Err refusal) e new id code typed sound (why, is) up =
-    subst IsSound (sym is) sound
+    subst IsSoundEnd (sym is) sound
 
 -- Returning credit leaves it whether an end has failed, by the test.
 ready_same_by : (e : End) (b : Bool) → (if b then return_credit e else e).failed ≡ e.failed
@@ -102,12 +103,12 @@ still_failed (Err refusal) e new count before after ok (memory, kept, same) =
 
 -- Putting output out leaves an end sound that hasn't failed.
 pub put_out_sound : (result : Result ℕ Refusal) (e new : End) (count : ℕ) (before after : List ℕ)
-    → IsTypedAct (PutOut count) → IsSound e
+    → IsTypedAct (PutOut count) → IsSoundEnd e
     → IfOk result (λ given. PutsOut e count given before after new)
     → IfErr result (λ refusal. (refusal ≡ Memory) × (after ≡ before) × (new ≡ e))
-    → IsSound new
+    → IsSoundEnd new
 put_out_sound (Ok given) e new count before after typed sound ok err =
-    subst IsSound (sym ok.machine)
+    subst IsSoundEnd (sym ok.machine)
     (accepted_sound e (PutOut count) (never_refused e count) typed sound)
 put_out_sound (Err refusal) e new count before after typed sound ok (memory, kept, same) =
-    subst IsSound (sym same) sound
+    subst IsSoundEnd (sym same) sound

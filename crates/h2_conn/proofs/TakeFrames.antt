@@ -25,16 +25,16 @@ use Rattle.h2_machine.specs.Machine.{with_begun}
 use Rattle.h2_machine_laws.proofs.RecvFrames.{completes_frame}
 use Rattle.h2_core.specs.declared.reader.Reported.{Reported as Answer}
 use Rattle.h2_core.specs.declared.reader.Reported.TheVariants as reports
-use Rattle.h2_core.specs.Items.{events_in}
+use Rattle.h2_core.specs.Items.{events_reported}
 use Rattle.h2_core.specs.Frames.{step_events, frame_events, FrameTaken}
 use Rattle.h2_conn.specs.Inner.{happened_events, FrameHappens}
-use Rattle.h2_conn.specs.Loans.{without_lent, octets_in, IsOf, LiesThere, IsBodyOf}
+use Rattle.h2_conn.specs.Loans.{without_lent, octets_of_body, IsBodyLent, LiesThere, IsBodyOf}
 
 -- An event of DATA has the octets of the frame.
 data_of_item : (view : View) (decoded : Option Decoded) (verdict : Verdict) (frame : Frame) (id : ℕ)
     (octets : List ℕ) (flow : ℕ) (end : Bool)
     → DataEvent id octets flow end ∷ [] ≡ events_of view decoded verdict (alone frame)
-    → octets ≡ octets_in frame
+    → octets ≡ octets_of_body frame
 unfolding events_of
 data_of_item view decoded (ConnectionFault code) frame id octets flow end is = cc
 data_of_item view decoded (StreamFault code) frame id octets flow end is = cc
@@ -67,24 +67,24 @@ data_of_block view decoded Reported stream last fragment id octets flow end othe
 
 data_of_step : (e : End) (decoded : Option Decoded) (frame : Frame) (step : FrameStep) (id : ℕ)
     (octets : List ℕ) (flow : ℕ) (end : Bool) → frame_step (end_view e) frame ≡ step
-    → DataEvent id octets flow end ∷ [] ≡ step_events e decoded step → octets ≡ octets_in frame
+    → DataEvent id octets flow end ∷ [] ≡ step_events e decoded step → octets ≡ octets_of_body frame
 data_of_step e decoded frame (fails_with code) id octets flow end step is = cc
 data_of_step e decoded frame (begins_block begun) id octets flow end step is = cc
 data_of_step e decoded frame (completes (block stream last fragment)) id octets flow end step is =
     data_of_block (end_view (with_begun e None)) decoded
     (verdict_of (end_view (with_begun e None)) decoded (block stream last fragment)) stream last
-    fragment id octets flow end (octets_in frame) is
+    fragment id octets flow end (octets_of_body frame) is
 data_of_step e decoded frame (completes (alone lone)) id octets flow end step is =
     data_of_item (end_view (with_begun e None)) decoded
     (verdict_of (end_view (with_begun e None)) decoded (alone lone)) lone id octets flow end is
-    ∙ ap octets_in (sym (completes_frame (end_view e) frame lone step))
+    ∙ ap octets_of_body (sym (completes_frame (end_view e) frame lone step))
 
 -- So what happened is what is reported.
 happened_same : (complete : Complete) (e : End) (decoded : Option Decoded) (frame : Frame)
     (list : List Field) (reported : Option Answer)
-    → events_in list reported ≡ frame_events e decoded frame
-    → happened_events list (octets_in frame) (option_map (without_lent complete) reported)
-    ≡ events_in list reported
+    → events_reported list reported ≡ frame_events e decoded frame
+    → happened_events list (octets_of_body frame) (option_map (without_lent complete) reported)
+    ≡ events_reported list reported
 happened_same complete e decoded frame list None is = refl
 happened_same complete e decoded frame list (Some (reports.Fields id end)) is = refl
 happened_same complete e decoded frame list (Some (reports.Data id lent flow end)) is =
@@ -99,7 +99,8 @@ happened_same complete e decoded frame list (Some (reports.Pong pong)) is = refl
 -- A frame that was taken has happened.
 pub frame_happens : (complete : Complete) (e new : End) (frame : Frame) (list : List Field)
     (reported : Option Answer) → FrameTaken e frame list reported new
-    → FrameHappens e frame list (octets_in frame) (option_map (without_lent complete) reported) new
+    → FrameHappens e frame list (octets_of_body frame) (option_map
+    (without_lent complete) reported) new
 frame_happens complete e new frame list reported taken =
     record {
       decoded = taken.decoded;
@@ -112,7 +113,7 @@ frame_happens complete e new frame list reported taken =
 
 -- A body that is reported of a frame is that frame's.
 pub is_of : (complete : Complete) (reported : Answer)
-    → IsOf complete (Some (without_lent complete reported))
+    → IsBodyLent complete (Some (without_lent complete reported))
 is_of complete (reports.Fields id end) = tt
 is_of complete (reports.Data id lent flow end) = refl
 is_of complete (reports.Reset id code ours) = tt
@@ -122,7 +123,7 @@ is_of complete (reports.Pong pong) = tt
 
 -- So it lies there.
 pub lies_there : (cutter : CutterState) (piece : List ℕ) (complete : Complete) (count : ℕ)
-    (happened : Option Happened) → HasFrame cutter piece complete → IsOf complete happened
+    (happened : Option Happened) → HasFrame cutter piece complete → IsBodyLent complete happened
     → LiesThere cutter piece (Ok (record { used = count; happened = happened }))
 lies_there cutter piece complete count None has is = tt
 lies_there cutter piece complete count (Some (happenings.Fields id end)) has is = tt
@@ -137,10 +138,10 @@ lies_there cutter piece complete count (Some (happenings.Pong pong)) has is = tt
 -- And its octets are those of the frame that was taken.
 pub same_body : (cutter : CutterState) (piece : List ℕ) (complete : Complete) (value : Frame)
     (list : List Field) (octets : List ℕ) (count : ℕ) (happened : Option Happened)
-    → Encodes value (octets_of cutter piece complete) → IsOf complete happened
+    → Encodes value (octets_of cutter piece complete) → IsBodyLent complete happened
     → IsBodyOf cutter piece octets (Ok (record { used = count; happened = happened }))
     → option_map (happened_value list octets) happened
-    ≡ option_map (happened_value list (octets_in value)) happened
+    ≡ option_map (happened_value list (octets_of_body value)) happened
 same_body cutter piece complete value list octets count None encodes is body = refl
 same_body cutter piece complete value list octets count (Some (happenings.Fields id end)) encodes
     is body = refl
@@ -149,7 +150,8 @@ same_body cutter piece complete value list octets count (Some (happenings.Data i
     let lent : Encodes other (octets_of cutter piece complete) =
     subst (λ (f : Complete). Encodes other (octets_of cutter piece f)) is again in
     ap (λ (o : List ℕ). Some (DataEvent id o flow end))
-    (same ∙ ap octets_in (one_frame_lem other value (octets_of cutter piece complete) lent encodes))
+    (same ∙ ap octets_of_body (one_frame_lem other value
+    (octets_of cutter piece complete) lent encodes))
 same_body cutter piece complete value list octets count (Some (happenings.Reset id code ours))
     encodes is body = refl
 same_body cutter piece complete value list octets count (Some (happenings.GoAway last code)) encodes

@@ -24,7 +24,7 @@ use Rattle.h2_machine_laws.proofs.CountedBySteps.{counted, is_counted}
 use Rattle.h2_machine_laws.proofs.CountedUnprocessed.{unprocessed_counts}
 use Rattle.h2_machine_laws.proofs.RangesOfSteps.{frame_in_range}
 use Rattle.h2_machine_laws.proofs.RangesOfSteps.{fits, are_in_range, closed_fits}
-use Rattle.h2_core.specs.Endpoint.{IsSound}
+use Rattle.h2_core.specs.Endpoint.{IsSoundEnd}
 use Rattle.h2_core.specs.Frames.{IsDecodedBy, FailsWithoutMemory}
 use Rattle.h2_core.proofs.FrameWritable.{writable}
 use Rattle.h2_conn.specs.declared.happened.Happened.{Happened}
@@ -40,12 +40,12 @@ decoded_at e decoded frame says stream end octets one step is =
 
 -- After a frame.
 pub frame_sound : (e other : End) (frame : Frame) (list : List Field) (octets : List ℕ)
-    (happened : Option Happened) → IsSound e → e.failed ≡ None → refusal frame ≡ None
-    → FrameHappens e frame list octets happened other → IsSound other
+    (happened : Option Happened) → IsSoundEnd e → e.failed ≡ None → refusal frame ≡ None
+    → FrameHappens e frame list octets happened other → IsSoundEnd other
 frame_sound e other frame list octets happened sound up good h =
     let number = (writable frame good).stream in
     let most : stream_of frame ≤ greatest_number = omega (arith, number) in
-    let after : IsSound (after_frame e h.decoded frame) =
+    let after : IsSoundEnd (after_frame e h.decoded frame) =
     record {
       bounded = frame_bounded e h.decoded frame up sound.bounded;
       window = is_whole (after_frame e h.decoded frame)
@@ -55,14 +55,14 @@ frame_sound e other frame list octets happened sound up good h =
       counts = is_counted (after_frame e h.decoded frame)
           (frame_counts e h.decoded frame (counted e sound.counts));
     } in
-    subst (λ (x : End). IsSound x) (sym h.after) after
+    subst (λ (x : End). IsSoundEnd x) (sym h.after) after
 
 -- After a stream that the peer doesn't process.
-pub unprocessed_sound : (e other : End) (id : ℕ) → IsSound e → e.failed ≡ None
+pub unprocessed_sound : (e other : End) (id : ℕ) → IsSoundEnd e → e.failed ≡ None
     → id ≡ unprocessed_of_end e.role e.streams.entries e.goaway.received → id ≢ 0
-    → other ≡ close_unprocessed e id → IsSound other
+    → other ≡ close_unprocessed e id → IsSoundEnd other
 unprocessed_sound e other id sound up next some closed =
-    let after : IsSound (close_unprocessed e id) =
+    let after : IsSoundEnd (close_unprocessed e id) =
     record {
       bounded = is_bounded (close_unprocessed e id) (ended_up e id 0 (is_up e up sound.bounded));
       window = is_whole (close_unprocessed e id) (ended e id 0 (lacks_none e.windows.recv
@@ -70,14 +70,14 @@ unprocessed_sound e other id sound up next some closed =
       ranges = are_in_range (close_unprocessed e id) (closed_fits e id 0 (fits e sound.ranges));
       counts = unprocessed_counts e id next some sound.counts;
     } in
-    subst (λ (x : End). IsSound x) (sym closed) after
+    subst (λ (x : End). IsSoundEnd x) (sym closed) after
 
 -- After a call that reports it, or for which memory is refused.
-pub closed_sound : (result : Result Unit Code) (e other : End) (id : ℕ) → IsSound e
+pub closed_sound : (result : Result Unit Code) (e other : End) (id : ℕ) → IsSoundEnd e
     → e.failed ≡ None → id ≡ unprocessed_of_end e.role e.streams.entries e.goaway.received → id ≢ 0
     → OnOk result (other ≡ close_unprocessed e id)
     → IfErr result (λ code. FailsWithoutMemory e code other
-    × (credit_needs_memory (end_view e) id ≡ true)) → other.failed ≡ None → IsSound other
+    × (credit_needs_memory (end_view e) id ≡ true)) → other.failed ≡ None → IsSoundEnd other
 closed_sound (Ok done) e other id sound up next some closed fails going =
     unprocessed_sound e other id sound up next some closed
 closed_sound (Err code) e other id sound up next some closed (fails, due) going =

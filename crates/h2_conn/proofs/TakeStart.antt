@@ -22,7 +22,7 @@ use Rattle.h2_machine_laws.proofs.NewEnd.{new_represents}
 use Rattle.h2_machine_laws.proofs.RangesOfSteps.{new_fits}
 use Rattle.h2_machine_laws.proofs.RangesOfSteps.{are_in_range}
 use Rattle.h2_machine_laws.proofs.ReadLimits.{limit_in_range}
-use Rattle.h2_core.specs.Endpoint.{IsSound}
+use Rattle.h2_core.specs.Endpoint.{IsSoundEnd}
 use Rattle.h2_conn.specs.Inner.{PartsRepresent}
 use Rattle.h2_conn.proofs.SetLimits.{HasCut, parts_limited}
 
@@ -33,16 +33,16 @@ is_a_server Server = refl
 
 -- The values of a new end are sound.
 pub new_sound : (e : End) (role : Role) (values : Values) → AreInRange values
-    → e ≡ new_end role values → IsSound e
+    → e ≡ new_end role values → IsSoundEnd e
 new_sound e role values in_range new =
-    let sound : IsSound (new_end role values) =
+    let sound : IsSoundEnd (new_end role values) =
     record {
       bounded = new_bounded role values in_range;
       window = is_whole (new_end role values) (new_holds role values);
       ranges = are_in_range (new_end role values) (new_fits role values in_range);
       counts = is_counted (new_end role values) (new_counts role values);
     } in
-    subst (λ (x : End). IsSound x) (sym new) sound
+    subst (λ (x : End). IsSoundEnd x) (sym new) sound
 
 -- the limits of payloads before an end's first SETTINGS
 abbrev pub first_limits : Limits

@@ -20,9 +20,9 @@ without_lent frame reports.Acked = happenings.Acked
 without_lent frame (reports.Pong octets) = happenings.Pong octets
 
 -- the octets of a body that a frame has
-abbrev pub octets_in : Frame → List ℕ
-octets_in (Data stream end octets pad) = octets
-octets_in _ = []
+abbrev pub octets_of_body : Frame → List ℕ
+octets_of_body (Data stream end octets pad) = octets
+octets_of_body _ = []
 
 -- the frame of the body that is reported, if one is
 abbrev pub frame_in : Option Happened → Option Complete
@@ -30,8 +30,8 @@ frame_in (Some (happenings.Data id frame flow end)) = Some frame
 frame_in _ = None
 
 -- A body that is reported is this frame's.
-abbrev pub IsOf : Complete → Option Happened → Type 0
-IsOf complete happened = IfSome (frame_in happened) (λ frame. frame ≡ complete)
+abbrev pub IsBodyLent : Complete → Option Happened → Type 0
+IsBodyLent complete happened = IfSome (frame_in happened) (λ frame. frame ≡ complete)
 
 -- The frame of a body that is reported lies in the cutter or the piece.
 abbrev pub LiesThere : CutterState → List ℕ → Result Progress Code → Type 0
@@ -44,5 +44,5 @@ abbrev pub IsBodyOf : CutterState → List ℕ → List ℕ → Result Progress 
 IsBodyOf cutter piece octets (Ok progress) =
     IfSome (frame_in progress.happened)
     (λ frame. (value : Frame) × Encodes value (octets_of cutter piece frame)
-    × (octets ≡ octets_in value))
+    × (octets ≡ octets_of_body value))
 IsBodyOf cutter piece octets (Err code) = Unit {0}

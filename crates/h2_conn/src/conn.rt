@@ -16,7 +16,7 @@ ghost use Rattle.h2_core.specs.Endpoint.{end_of};
 ghost use Rattle.h2_conn.specs.Inner.{PartsRepresent};
 ghost use Rattle.h2_conn.specs.Conn.{ConnRepresents, ConnTakes, ConnAdvances};
 ghost use Rattle.h2_conn.specs.Events.{code_result};
-ghost use Rattle.h2_conn.specs.Loans.{octets_in, LiesThere, IsBodyOf};
+ghost use Rattle.h2_conn.specs.Loans.{octets_of_body, LiesThere, IsBodyOf};
 ghost use Rattle.h2_conn.specs.contracts.conn.Conn.{the_row};
 
 use crate::event::{ConnFault, Event, Taken};
@@ -117,7 +117,7 @@ impl Conn {
     pub fn octets<'a>(&'a self, piece: &'a [u8], frame: Complete) -> &'a [u8]
         requires lies { HasFrame self.now.inner.cutter piece.now frame }
         ensures { (value : Frame) × Encodes value (octets_of self.now.inner.cutter piece.now frame)
-            × (result.now ≡ octets_in value) }
+            × (result.now ≡ octets_of_body value) }
     {
         body(self.inner.cutter.frame(piece, frame))
     }
@@ -204,7 +204,7 @@ fn new_inner(alloc: Global, role: Role, config: Config) -> Result<Inner, Refusal
 // rule: calls (own) An event has the octets, the fields and the numbers of its frame
 /// The octets of a frame's body; only DATA has any.
 fn body<'a>(frame: FrameRef<'a>) -> &'a [u8]
-    ensures { result.now ≡ octets_in (frame_of frame.entry) }
+    ensures { result.now ≡ octets_of_body (frame_of frame.entry) }
 {
     match frame {
         FrameRef::Data { octets, .. } => octets,

@@ -3,7 +3,7 @@
 ghost use Rattle.std.specs.Prelude.{◌≡◌, None};
 ghost use Rattle.h2_wire.specs.Cutter.{CutterLimited};
 ghost use Rattle.h2_machine.specs.End.{payload_limit_of};
-ghost use Rattle.h2_core.specs.Endpoint.{end_of, IsSound};
+ghost use Rattle.h2_core.specs.Endpoint.{end_of, IsSoundEnd};
 
 use h2_core::Endpoint;
 use h2_wire::Cutter;
@@ -16,7 +16,7 @@ pub(crate) struct Inner {
     /// The end.
     pub(crate) end: Endpoint,
     // As long as the connection has not failed, its values are sound and the cutter has not failed.
-    ghost sound: { end.failed ≡ None → IsSound (end_of end) },
+    ghost sound: { end.failed ≡ None → IsSoundEnd (end_of end) },
     ghost cuts: { end.failed ≡ None → cutter.fault ≡ None },
 }
 

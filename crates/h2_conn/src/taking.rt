@@ -4,9 +4,10 @@ ghost use Rattle.std.specs.Prelude.{◌≡◌, ℕ, ◌≤◌, List, None, IfOk,
 ghost use Rattle.h2_frame.specs.Frames.{frame_of};
 ghost use Rattle.h2_frame.specs.Encoding.{refusal};
 ghost use Rattle.h2_machine.specs.Machine.{unprocessed_of_end};
-ghost use Rattle.h2_core.specs.Endpoint.{end_of, IsSound};
+ghost use Rattle.h2_core.specs.Endpoint.{end_of, IsSoundEnd};
 ghost use Rattle.h2_conn.specs.Inner.{PartsTake, HappensByFrame};
-ghost use Rattle.h2_conn.specs.Loans.{without_lent, octets_in, IsOf, LiesThere, IsBodyOf};
+ghost use Rattle.h2_conn.specs.Loans.{without_lent, octets_of_body, IsBodyLent, LiesThere};
+ghost use Rattle.h2_conn.specs.Loans.{IsBodyOf};
 
 use crate::happened::{Happened, Progress};
 use crate::inner::Inner;
@@ -44,12 +45,12 @@ impl Inner {
 /// Cuts the piece, and takes the frame that it completes, which may change the limit of payloads.
 fn take_piece(cutter: &mut Cutter, end: &mut Endpoint, piece: &[u8]) -> Result<Progress, Code>
     requires up { end.old.failed ≡ None }
-    requires sound { IsSound (end_of end.old) }
+    requires sound { IsSoundEnd (end_of end.old) }
     requires cuts { cutter.old.fault ≡ None }
     requires reported { unprocessed_of_end end.old.role end.old.streams.entries
         end.old.goaway_received ≡ 0 }
     ensures used { IfOk result (λ progress. progress.used ≤ length piece.now) }
-    ensures sound { end.new.failed ≡ None → IsSound (end_of end.new) }
+    ensures sound { end.new.failed ≡ None → IsSoundEnd (end_of end.new) }
     ensures cuts { end.new.failed ≡ None → cutter.new.fault ≡ None }
     ensures lies { LiesThere cutter.new piece.now result }
     ensures takes { (octets : List ℕ) → IsBodyOf cutter.new piece.now octets result
@@ -91,11 +92,11 @@ fn take_frame(
     complete: Complete,
 ) -> Result<Option<Happened>, Code>
     requires up { end.old.failed ≡ None }
-    requires sound { IsSound (end_of end.old) }
+    requires sound { IsSoundEnd (end_of end.old) }
     requires good { refusal (frame_of frame) ≡ None }
-    ensures lies { IfOk result (λ happened. IsOf complete happened) }
+    ensures lies { IfOk result (λ happened. IsBodyLent complete happened) }
     ensures happens { HappensByFrame (end_of end.old) (frame_of frame.entry) end.new.list
-        (octets_in (frame_of frame.entry)) result (end_of end.new) }
+        (octets_of_body (frame_of frame.entry)) result (end_of end.new) }
 {
     match end.take_frame(frame)? {
         Some(reported) => Ok(Some(without_loan(reported, complete))),

@@ -4,11 +4,11 @@ use Rattle.std.proofs.Common.{ap, ◌∙◌}
 use Rattle.std.specs.Cmp.{nat_cmp_total}
 use Rattle.std.specs.FinMap as map
 use Rattle.std.proofs.lemmas.Bool.{eqb-true}
-use Rattle.h2_machine.specs.End.{Entry, StreamMap}
+use Rattle.h2_machine.specs.End.{StreamEntry, StreamMap}
 use Rattle.h2_machine.proofs.SetEntries.{get_set, get_removed}
 
 -- Each entry is what it was, by whether its number was added and taken away.
-entry_again : (m : StreamMap) (k : ℕ) (v : Entry) (q : ℕ) (same : Bool)
+entry_again : (m : StreamMap) (k : ℕ) (v : StreamEntry) (q : ℕ) (same : Bool)
     → map.get m k ≡ None → (q == k) ≡ same
     → map.get (map.remove (map.insert m k v) k) q ≡ map.get m q
 entry_again m k v q true none is =
@@ -24,7 +24,7 @@ entry_again m k v q false none is =
     ∙ ap (λ (b : Bool). if b then Some v else map.get m q) is
 
 -- A number of which nothing was kept, added and taken away, leaves the streams as they were.
-pub remove_inserted : (m : StreamMap) (k : ℕ) (v : Entry) → map.get m k ≡ None
+pub remove_inserted : (m : StreamMap) (k : ℕ) (v : StreamEntry) → map.get m k ≡ None
     → map.remove (map.insert m k v) k ≡ m
 remove_inserted m k v none =
     map.same_map nat_cmp_total map.nat_cmp-IsAntisymmetric (map.remove (map.insert m k v) k) m

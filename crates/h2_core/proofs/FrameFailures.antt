@@ -34,7 +34,7 @@ use Rattle.h2_machine.specs.Machine.{after_reported, add_unreturned, return_cred
 use Rattle.h2_machine.specs.Machine.{update_stream, close_stream, set_stream, widen_send_window}
 use Rattle.h2_machine.specs.Machine.{receive_data, receive_block, apply_own_settings, fail}
 use Rattle.h2_machine.specs.Machine.{with_flow, narrow_recv_window}
-use Rattle.h2_core.specs.Endpoint.{IsSound}
+use Rattle.h2_core.specs.Endpoint.{IsSoundEnd}
 use Rattle.h2_core.specs.Failure.{FailsAlike}
 use Rattle.h2_core.specs.Items.{ItemTaken, TakesItem}
 use Rattle.h2_core.specs.Frames.{FailsWithoutMemory}
@@ -136,9 +136,9 @@ abbrev pub with_table : End → Entries → End
 with_table e table = record e { reading = record e.reading { table = table } }
 
 -- An end with the table after a block is sound.
-pub table_sound : (e : End) (octets : List ℕ) (fields : List Field) (after : Entries) → IsSound e
+pub table_sound : (e : End) (octets : List ℕ) (fields : List Field) (after : Entries) → IsSoundEnd e
     → BlockSays e.reading.table e.own.in_force.table_limit octets fields after
-    → IsSound (with_table e after)
+    → IsSoundEnd (with_table e after)
 table_sound e octets fields after sound says =
     let within = block_within e.reading.table e.own.in_force.table_limit octets fields after says
     sound.ranges.table in

@@ -16,10 +16,10 @@ use Rattle.h2_log.specs.ItemRules.{frame_step, grouping_step, may_be_first, verd
 use Rattle.h2_machine.specs.End.{End, end_view}
 use Rattle.h2_machine.specs.Machine.{with_begun, after_frame, after_step, after_item, after_verdict}
 use Rattle.h2_machine.specs.Machine.{fail}
-use Rattle.h2_core.specs.Endpoint.{IsSound}
+use Rattle.h2_core.specs.Endpoint.{IsSoundEnd}
 use Rattle.h2_core.specs.Failure.{FailsAlike}
 use Rattle.h2_core.specs.Items.{ItemTaken, TakesItem, item_events}
-use Rattle.h2_core.specs.Frames.{FrameTaken, FrameFails, FrameLacksMemory, TakesFrame}
+use Rattle.h2_core.specs.Frames.{FrameTaken, FrameFails, FrameLacksMemory, EndTakesFrame}
 use Rattle.h2_core.specs.Frames.{IsDecodedBy, step_events}
 use Rattle.h2_log.specs.Memory.{needs_memory, step_needs_memory}
 use Rattle.h2_core.specs.Blocks.{TakesBlock, IsDecodedOf}
@@ -30,7 +30,7 @@ use Rattle.h2_core.specs.declared.reader.StepError.TheVariants.{Fault, OutOfMemo
 use Rattle.h2_core.proofs.FrameFailures.{verdict_up}
 
 -- An end that no longer has a block which has begun is sound.
-pub begun_sound : (e : End) → IsSound e → IsSound (with_begun e None)
+pub begun_sound : (e : End) → IsSoundEnd e → IsSoundEnd (with_begun e None)
 begun_sound e sound =
     record {
       bounded = record {
@@ -192,7 +192,7 @@ pub block_frame : (e new : End) (frame : Frame) (id : ℕ) (end : Bool) (octets 
     (list : List Field) (result : Result (Option Answer) Code)
     → frame_step (end_view e) frame ≡ completes (block id end octets)
     → TakesBlock (with_begun e None) id end octets list result new
-    → TakesFrame e frame list result new
+    → EndTakesFrame e frame list result new
 unfolding after_frame after_step
 block_frame e new frame id end octets list (Ok reported) is t =
     record {
@@ -288,7 +288,7 @@ pub headers_taken : (e new : End) (frame : Frame) (stream : ℕ) (end : Bool) (f
     → frame ≡ Headers stream end true fragment pad priority
     → (not e.reading.started && not (may_be_first frame)) ≡ false
     → e.reading.begun ≡ None → length fragment ≤ max_block_octets
-    → TakesBlock e stream end fragment list result new → TakesFrame e frame list result new
+    → TakesBlock e stream end fragment list result new → EndTakesFrame e frame list result new
 headers_taken e new frame stream end fragment pad priority list result is started none short taken =
     let headers : Frame = Headers stream end true fragment pad priority in
     let good : next_fault e.reading.begun frame ≡ None =

@@ -26,13 +26,13 @@ use Rattle.h2_log.specs.Events.{FieldsEvent}
 use Rattle.h2_log.specs.ItemEffects.{events_of}
 use Rattle.h2_log_laws.proofs.ItemSizes.{size_of, size-reset}
 use Rattle.h2_machine.specs.End.{End, end_view, stream_at, state_at, state_by_entry, reset_entry}
-use Rattle.h2_machine.specs.End.{owed_entry, Entry, active_entry, stream_in, is_above}
+use Rattle.h2_machine.specs.End.{owed_entry, StreamEntry, active_entry, stream_in, is_above_goaway}
 use Rattle.h2_machine.specs.Machine.{after_item, after_verdict, after_stream_fault, after_ignored}
 use Rattle.h2_machine.specs.Machine.{after_reported, is_fresh, with_table_after, add_unreturned}
 use Rattle.h2_machine.specs.Machine.{return_credit, more_unreturned, mark_used, reset_stream}
 use Rattle.h2_machine.specs.Machine.{queue_output, is_one, is_calm, receive_block}
 use Rattle.h2_log.specs.CallRules.{returns_credit}
-use Rattle.h2_core.specs.Endpoint.{end_of, IsSound}
+use Rattle.h2_core.specs.Endpoint.{end_of, IsSoundEnd}
 use Rattle.h2_core.specs.Items.{ItemTaken, TakesItem, item_events}
 use Rattle.h2_log.specs.Memory.{needs_memory}
 use Rattle.h2_core.specs.declared.reader.Reported.{Reported as Answer}
@@ -104,7 +104,7 @@ pub record Fresh (e : End) (id : ℕ) : Type 0 where
   pub above : nat_lt e.streams.highest id ≡ true
   pub absent : map.get e.streams.entries id ≡ None
 
-pub fresh_of : (e : End) (id : ℕ) → IsSound e → is_fresh e id ≡ true → Fresh e id
+pub fresh_of : (e : End) (id : ℕ) → IsSoundEnd e → is_fresh e id ≡ true → Fresh e id
 fresh_of e id sound fresh =
     let parts = and_parts (is_server e.role && id % 2 == 1) (nat_lt e.streams.highest id) fresh in
     let first = and_parts (is_server e.role) (id % 2 == 1) parts.0 in
@@ -136,14 +136,14 @@ opening_rule e id end octets decoded fresh =
     rule_of_block e id end octets decoded Idle (fresh_idle e id fresh)
     ∙ (rw (fresh.server, fresh.odd) refl)
 
-stale_by : (e : End) (id : ℕ) (stream : StreamView) → IsSound e
+stale_by : (e : End) (id : ℕ) (stream : StreamView) → IsSoundEnd e
     → stream_at e id ≡ Some stream → (fresh : Bool) → is_fresh e id ≡ fresh → fresh ≡ false
 stale_by e id stream sound active true is =
     let none = fresh_no_stream e id (fresh_of e id sound is) in cc
 stale_by e id stream sound active false is = refl
 
 -- An active number is not fresh.
-pub active_stale : (e : End) (id : ℕ) (stream : StreamView) → IsSound e
+pub active_stale : (e : End) (id : ℕ) (stream : StreamView) → IsSoundEnd e
     → stream_at e id ≡ Some stream → is_fresh e id ≡ false
 active_stale e id stream sound active = stale_by e id stream sound active (is_fresh e id) refl
 
@@ -236,7 +236,7 @@ pub fault_over : (e : End) (id : ℕ) (end : Bool) (octets : List ℕ) (decoded 
 fault_over e id end octets decoded code is much =
     limits_of_fault e id end octets decoded code is ∙ ap (λ (b : Bool). limited b code) much
 
-active_by : (entry : Option Entry) (idle above : Bool) (stream : StreamView)
+active_by : (entry : Option StreamEntry) (idle above : Bool) (stream : StreamView)
     → stream_in entry ≡ Some stream → state_by_entry entry idle above ≡ Active
 active_by None idle above stream is = cc
 active_by (Some reset_entry) idle above stream is = cc
@@ -246,7 +246,7 @@ active_by (Some (active_entry other)) idle above stream is = refl
 pub active_of : (e : End) (id : ℕ) (stream : StreamView) → stream_at e id ≡ Some stream
     → state_at e id ≡ Active
 active_of e id stream is = active_by (map.get e.streams.entries id)
-    (id % 2 == 0 || nat_lt e.streams.highest id) (is_above e id) stream is
+    (id % 2 == 0 || nat_lt e.streams.highest id) (is_above_goaway e id) stream is
 
 -- A block on an active stream: after the peer's end, with a list that is too large, or else.
 pub further_rule : (e : End) (id : ℕ) (end : Bool) (octets : List ℕ) (decoded : Decoded)
@@ -382,7 +382,7 @@ fresh_opens e id end octets decoded fresh =
     ∙ (rw (fresh.server, fresh.odd) refl)
 
 -- A number that isn't idle isn't fresh.
-pub stale_of : (e : End) (id : ℕ) (state : State) → IsSound e → state_at e id ≡ state
+pub stale_of : (e : End) (id : ℕ) (state : State) → IsSoundEnd e → state_at e id ≡ state
     → is_idle state ≡ false → (fresh : Bool) → is_fresh e id ≡ fresh → fresh ≡ false
 stale_of e id state sound is other false number = refl
 stale_of e id state sound is other true number =
@@ -390,7 +390,7 @@ stale_of e id state sound is other true number =
     let wrong : is_idle Idle ≡ false = ap is_idle (sym idle ∙ is) ∙ other in
     cc
 
-idle_by : (entry : Option Entry) (idle above : Bool) → state_by_entry entry idle above ≡ Idle
+idle_by : (entry : Option StreamEntry) (idle above : Bool) → state_by_entry entry idle above ≡ Idle
     → idle ≡ true
 idle_by None true above is = refl
 idle_by None false true is = cc
@@ -414,7 +414,7 @@ pub idle_unopened : (e : End) (id : ℕ) → state_at e id ≡ Idle → is_fresh
 idle_unopened e id idle stale =
     stale_opens (is_server e.role && id % 2 == 1) (id % 2 == 0) (nat_lt e.streams.highest id)
     (idle_by (map.get e.streams.entries id) (id % 2 == 0 || nat_lt e.streams.highest id)
-    (is_above e id) idle) stale
+    (is_above_goaway e id) idle) stale
     (λ opens. odd_even (id % 2) (and_parts (is_server e.role) (id % 2 == 1) opens).1)
 
 -- A block on an idle number that isn't fresh, or a closed one, is a fault of the connection.

@@ -21,7 +21,7 @@ use Rattle.h2_machine.specs.Machine.{update_stream}
 use Rattle.h2_core.specs.declared.receive.DataFrame.{DataFrame}
 use Rattle.h2_core.specs.declared.reader.Reported.{Reported as Answer}
 use Rattle.h2_core.specs.declared.reader.StepError.{StepError}
-use Rattle.h2_core.specs.DataFrames.{data_of}
+use Rattle.h2_core.specs.DataFrames.{frame_of_data}
 use Rattle.h2_core.specs.Items.{TakesItem, DiscardsData}
 use Rattle.h2_core.proofs.ItemStatuses.{active_state}
 use Rattle.h2_core.proofs.ItemVerdicts.{quiet_verdict, fault_stands, report_stands, ignored_taken}
@@ -29,7 +29,7 @@ use Rattle.h2_core.proofs.ItemVerdicts.{with_waiting, lacks_memory}
 
 -- The flow is the octets of the payload.
 abbrev pub HasFlow : DataFrame → Option ℕ → Type 0
-HasFlow one pad = one.flow ≡ length (payload_of (data_of one pad))
+HasFlow one pad = one.flow ≡ length (payload_of (frame_of_data one pad))
 
 -- Whether it exceeds the connection's window.
 exceeds_connection : (flow window : ℕ) → window < flow → exceeds flow (pos window) ≡ true
@@ -41,7 +41,7 @@ within_connection flow window few = grind (arith, ints, nat_tests)
 -- The verdict goes by the state of its stream.
 by_state : (e : End) (one : DataFrame) (pad : Option ℕ) (state : State) → HasFlow one pad
     → state_at e one.stream ≡ state
-    → verdict_by_rules (end_view e) None (alone (data_of one pad))
+    → verdict_by_rules (end_view e) None (alone (frame_of_data one pad))
     ≡ data_verdict state (exceeds one.flow (pos e.windows.recv)) (ended_in (stream_at e one.stream))
     (exceeds_stream one.flow (stream_at e one.stream))
 unfolding verdict_by_rules
@@ -50,42 +50,43 @@ by_state e one pad state flow is = rw (flow, is) refl
 -- On an idle stream it is a fault of the connection, and so it is on a closed one.
 pub idle_data : (e : End) (one : DataFrame) (pad : Option ℕ) → HasFlow one pad
     → Idle ≡ state_at e one.stream
-    → verdict_of (end_view e) None (alone (data_of one pad)) ≡ ConnectionFault ProtocolError
+    → verdict_of (end_view e) None (alone (frame_of_data one pad)) ≡ ConnectionFault ProtocolError
 unfolding data_verdict
 idle_data e one pad flow is =
-    fault_stands (end_view e) (data_of one pad) ProtocolError
+    fault_stands (end_view e) (frame_of_data one pad) ProtocolError
     (by_state e one pad Idle flow (sym is))
 
 pub past_data : (e : End) (one : DataFrame) (pad : Option ℕ) → HasFlow one pad
     → Closed ≡ state_at e one.stream
-    → verdict_of (end_view e) None (alone (data_of one pad)) ≡ ConnectionFault StreamClosed
+    → verdict_of (end_view e) None (alone (frame_of_data one pad)) ≡ ConnectionFault StreamClosed
 unfolding data_verdict
 past_data e one pad flow is =
-    fault_stands (end_view e) (data_of one pad) StreamClosed
+    fault_stands (end_view e) (frame_of_data one pad) StreamClosed
     (by_state e one pad Closed flow (sym is))
 
 -- So is what exceeds the connection's window on any other.
 pub beyond_connection : (e : End) (one : DataFrame) (pad : Option ℕ) → HasFlow one pad
     → (state_at e one.stream ≡ ClosedByUs) ⊎ (state_at e one.stream ≡ Active)
     → e.windows.recv < one.flow
-    → verdict_of (end_view e) None (alone (data_of one pad)) ≡ ConnectionFault FlowControlError
+    → verdict_of (end_view e) None (alone (frame_of_data one pad))
+    ≡ ConnectionFault FlowControlError
 unfolding data_verdict
 beyond_connection e one pad flow (inl is) much =
-    fault_stands (end_view e) (data_of one pad) FlowControlError
+    fault_stands (end_view e) (frame_of_data one pad) FlowControlError
     (by_state e one pad ClosedByUs flow is
     ∙ rw (exceeds_connection one.flow e.windows.recv much) refl)
 beyond_connection e one pad flow (inr is) much =
-    fault_stands (end_view e) (data_of one pad) FlowControlError
+    fault_stands (end_view e) (frame_of_data one pad) FlowControlError
     (by_state e one pad Active flow is
     ∙ rw (exceeds_connection one.flow e.windows.recv much) refl)
 
 -- On a stream that this end has closed it has no event.
 discarded : (e : End) (one : DataFrame) (pad : Option ℕ) → HasFlow one pad
     → state_at e one.stream ≡ ClosedByUs → one.flow ≤ e.windows.recv
-    → verdict_of (end_view e) None (alone (data_of one pad)) ≡ NoEvent
+    → verdict_of (end_view e) None (alone (frame_of_data one pad)) ≡ NoEvent
 unfolding data_verdict replies_to
 discarded e one pad flow is few =
-    quiet_verdict (end_view e) (data_of one pad) NoEvent
+    quiet_verdict (end_view e) (frame_of_data one pad) NoEvent
     (by_state e one pad ClosedByUs flow is
     ∙ rw (within_connection one.flow e.windows.recv few) refl) refl refl
 
@@ -93,7 +94,7 @@ discarded e one pad flow is few =
 pub late_data : (e : End) (one : DataFrame) (pad : Option ℕ) (stream : StreamView)
     → HasFlow one pad → stream_at e one.stream ≡ Some stream → stream.ended_in ≡ true
     → one.flow ≤ e.windows.recv
-    → verdict_by_rules (end_view e) None (alone (data_of one pad)) ≡ StreamFault StreamClosed
+    → verdict_by_rules (end_view e) None (alone (frame_of_data one pad)) ≡ StreamFault StreamClosed
 unfolding data_verdict
 late_data e one pad stream flow active ended few =
     by_state e one pad Active flow (active_state e one.stream stream active)
@@ -103,10 +104,11 @@ late_data e one pad stream flow active ended few =
 pub beyond_stream : (e : End) (one : DataFrame) (pad : Option ℕ) (stream : StreamView)
     → HasFlow one pad → stream_at e one.stream ≡ Some stream → stream.ended_in ≡ false
     → one.flow ≤ e.windows.recv → exceeds one.flow stream.recv_window ≡ true
-    → verdict_of (end_view e) None (alone (data_of one pad)) ≡ ConnectionFault FlowControlError
+    → verdict_of (end_view e) None (alone (frame_of_data one pad))
+    ≡ ConnectionFault FlowControlError
 unfolding data_verdict
 beyond_stream e one pad stream flow active unended few much =
-    fault_stands (end_view e) (data_of one pad) FlowControlError
+    fault_stands (end_view e) (frame_of_data one pad) FlowControlError
     (by_state e one pad Active flow (active_state e one.stream stream active)
     ∙ rw (within_connection one.flow e.windows.recv few, active, unended, much) refl)
 
@@ -114,10 +116,10 @@ beyond_stream e one pad stream flow active unended few much =
 pub reported_data : (e : End) (one : DataFrame) (pad : Option ℕ) (stream : StreamView)
     → HasFlow one pad → stream_at e one.stream ≡ Some stream → stream.ended_in ≡ false
     → one.flow ≤ e.windows.recv → exceeds one.flow stream.recv_window ≡ false
-    → verdict_of (end_view e) None (alone (data_of one pad)) ≡ Reported
+    → verdict_of (end_view e) None (alone (frame_of_data one pad)) ≡ Reported
 unfolding data_verdict
 reported_data e one pad stream flow active unended few within =
-    report_stands (end_view e) (data_of one pad)
+    report_stands (end_view e) (frame_of_data one pad)
     (by_state e one pad Active flow (active_state e one.stream stream active)
     ∙ rw (within_connection one.flow e.windows.recv few, active, unended, within) refl)
 
@@ -132,7 +134,7 @@ pub reported_after : (e : End) (one : DataFrame) (pad : Option ℕ) (stream : St
       owed = stream.owed + one.flow;
       ended_in = one.end;
     })
-    ≡ after_reported e None (alone (data_of one pad))
+    ≡ after_reported e None (alone (frame_of_data one pad))
 unfolding after_reported
 reported_after e one pad stream window waiting flow active unended is same =
     rw (is, same, flow, active, unended) refl
@@ -142,11 +144,12 @@ pub discarded_taken : (e : End) (one : DataFrame) (pad : Option ℕ) (list : Lis
     (result : Result (Option Answer) StepError) (new : End) → HasFlow one pad
     → state_at e one.stream ≡ ClosedByUs → one.flow ≤ e.windows.recv
     → DiscardsData e one.flow result new
-    → TakesItem e None (alone (data_of one pad)) list result new
+    → TakesItem e None (alone (frame_of_data one pad)) list result new
 unfolding after_ignored
 discarded_taken e one pad list (Ok answer) new flow is few h =
-    rw h.0 (ignored_taken e (data_of one pad) list new (discarded e one pad flow is few)
+    rw h.0 (ignored_taken e (frame_of_data one pad) list new (discarded e one pad flow is few)
     (rw (← flow) h.1))
 discarded_taken e one pad list (Err stop) new flow is few h =
-    rw h.0 (lacks_memory e (data_of one pad) list NoEvent new (discarded e one pad flow is few)
+    rw h.0 (lacks_memory e (frame_of_data one pad) list NoEvent new
+    (discarded e one pad flow is few)
     (ap (λ (count : ℕ). returns_credit count (length e.output.waiting)) (sym flow) ∙ h.1) h.2)

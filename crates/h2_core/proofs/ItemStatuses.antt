@@ -5,8 +5,8 @@ use Rattle.std.specs.FinMap as map
 use Rattle.h2_log.specs.States as states
 use Rattle.h2_log.specs.States.{State}
 use Rattle.h2_log.specs.View.{StreamView}
-use Rattle.h2_machine.specs.End.{Entry, active_entry, reset_entry, End, stream_in, stream_at}
-use Rattle.h2_machine.specs.End.{state_by_entry, state_at, is_above}
+use Rattle.h2_machine.specs.End.{StreamEntry, active_entry, reset_entry, End, stream_in, stream_at}
+use Rattle.h2_machine.specs.End.{state_by_entry, state_at, is_above_goaway}
 use Rattle.h2_core.specs.declared.status.Status.{Status}
 use Rattle.h2_core.specs.declared.status.Status.TheVariants.{ClosedByUs, Closed}
 use Rattle.h2_core.specs.Statuses.{state_of_status, stream_of_status}
@@ -18,7 +18,7 @@ pub closed_state : (status : Status) (state : State) → state_of_status status 
 closed_state status state same (inl is) = inl (sym same ∙ ap state_of_status is)
 closed_state status state same (inr is) = inr (sym same ∙ ap state_of_status is)
 
-entry_active : (entry : Option Entry) (idle above : Bool) (stream : StreamView)
+entry_active : (entry : Option StreamEntry) (idle above : Bool) (stream : StreamView)
     → stream_in entry ≡ Some stream → state_by_entry entry idle above ≡ states.Active
 entry_active None idle above stream is = cc
 entry_active (Some reset_entry) idle above stream is = cc
@@ -29,7 +29,7 @@ pub active_state : (e : End) (i : ℕ) (stream : StreamView) → stream_at e i �
     → state_at e i ≡ states.Active
 active_state e i stream is =
     entry_active (map.get e.streams.entries i) (i % 2 == 0 || nat_lt e.streams.highest i)
-    (is_above e i) stream is
+    (is_above_goaway e i) stream is
 
 -- Nothing is kept of a stream with a closed number.
 pub closed_stream : (status : Status) (stream : Option StreamView)

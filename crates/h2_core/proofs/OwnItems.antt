@@ -33,7 +33,7 @@ use Rattle.h2_core.specs.declared.endpoint.Endpoint.{Endpoint}
 use Rattle.h2_core.specs.declared.reader.Reported.TheVariants.{Acked}
 use Rattle.h2_core.specs.declared.reader.StepError.{StepError}
 use Rattle.h2_core.specs.declared.reader.StepError.TheVariants.{Fault, OutOfMemory}
-use Rattle.h2_core.specs.Endpoint.{end_of, streams_allowed}
+use Rattle.h2_core.specs.Endpoint.{end_of, streams_allowed_by}
 use Rattle.h2_core.proofs.ItemVerdicts.{lacks_memory}
 use Rattle.h2_core.specs.Items.{TakesItem, ItemTaken}
 use Rattle.h2_core.specs.Settings.{AppliesSettings, with_values}
@@ -88,9 +88,9 @@ value_five settings (suc (suc (suc (suc (suc (suc (suc id))))))) value =
     ) refl
 
 value_three : (settings : Settings) (before id value : ℕ)
-    → min 1000 before ≡ streams_allowed true settings.max_concurrent_streams
+    → min 1000 before ≡ streams_allowed_by true settings.max_concurrent_streams
     → min 1000 (if id == 3 then value else before)
-    ≡ streams_allowed true (with_value settings (id, value)).max_concurrent_streams
+    ≡ streams_allowed_by true (with_value settings (id, value)).max_concurrent_streams
 unfolding with_value
 value_three settings before zero value is = is
 value_three settings before (suc zero) value is = is
@@ -126,9 +126,9 @@ frame_after settings ((id, value) ∷ pairs) =
     rw (value_five settings id value) (frame_after (with_value settings (id, value)) pairs)
 
 allowed_after : (settings : Settings) (before : ℕ) (pairs : List (ℕ × ℕ))
-    → min 1000 before ≡ streams_allowed true settings.max_concurrent_streams
+    → min 1000 before ≡ streams_allowed_by true settings.max_concurrent_streams
     → min 1000 (value_after 3 before pairs)
-    ≡ streams_allowed true (with_values settings pairs).max_concurrent_streams
+    ≡ streams_allowed_by true (with_values settings pairs).max_concurrent_streams
 unfolding value_after with_values
 allowed_after settings before [] is = is
 allowed_after settings before ((id, value) ∷ pairs) is =
@@ -136,8 +136,8 @@ allowed_after settings before ((id, value) ∷ pairs) is =
     (value_three settings before id value is)
 
 allowed_before : (started : Bool) (named : Option ℕ) → (started ≡ false → named ≡ None)
-    → min 1000 (first_allowed started (streams_allowed started named))
-    ≡ streams_allowed true named
+    → min 1000 (first_allowed started (streams_allowed_by started named))
+    ≡ streams_allowed_by true named
 allowed_before true None unsaid = refl
 allowed_before true (Some count) unsaid = omega arith
 allowed_before false named unsaid = rw (unsaid refl) refl
@@ -145,8 +145,8 @@ allowed_before false named unsaid = rw (unsaid refl) refl
 pub streams_after : (settings : Settings) (started : Bool) (pairs : List (ℕ × ℕ))
     → (started ≡ false → settings.max_concurrent_streams ≡ None)
     → min 1000 (value_after 3
-    (first_allowed started (streams_allowed started settings.max_concurrent_streams)) pairs)
-    ≡ streams_allowed true (with_values settings pairs).max_concurrent_streams
+    (first_allowed started (streams_allowed_by started settings.max_concurrent_streams)) pairs)
+    ≡ streams_allowed_by true (with_values settings pairs).max_concurrent_streams
 streams_after settings started pairs unsaid =
     allowed_after settings _ pairs (allowed_before started settings.max_concurrent_streams unsaid)
 

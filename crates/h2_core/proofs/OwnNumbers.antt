@@ -6,12 +6,12 @@ use Rattle.std.proofs.Common.{ap, ◌∙◌}
 use Rattle.std.specs.FinMap as map
 use Rattle.h2_log.specs.declared.role.Role.{Role}
 use Rattle.h2_log.specs.declared.role.Role.TheVariants.{Client, Server}
-use Rattle.h2_machine.specs.End.{Entry, active_entry, reset_entry, StreamMap, stream_in}
+use Rattle.h2_machine.specs.End.{StreamEntry, active_entry, reset_entry, StreamMap, stream_in}
 use Rattle.h2_machine.specs.Machine.{first_active, is_active_entry, unprocessed_of_end}
 use Rattle.h2_machine.proofs.SortedEntries.{first_found}
 
 -- An active entry has a stream.
-active_stream : (x : Entry) → is_active_entry x ≡ true → stream_in (Some x) ≢ None
+active_stream : (x : StreamEntry) → is_active_entry x ≡ true → stream_in (Some x) ≢ None
 active_stream (active_entry stream) is none = cc
 active_stream reset_entry is none = cc
 

@@ -5,11 +5,11 @@ use Rattle.std.proofs.lemmas.Int.{ints}
 use Rattle.std.specs.FinMap as map
 use Rattle.std.specs.Ordering.{nat_cmp, is_eq}
 use Rattle.h2_log.specs.View.{StreamView}
-use Rattle.h2_machine.specs.End.{Entry, active_entry, reset_entry, End, stream_in, stream_at}
+use Rattle.h2_machine.specs.End.{StreamEntry, active_entry, reset_entry, End, stream_in, stream_at}
 use Rattle.h2_machine.specs.End.{owed_sum}
 use Rattle.h2_machine_laws.specs.Ranges.{count_active, StreamIsInRange}
 use Rattle.h2_streams.specs.Streams.{is_far}
-use Rattle.h2_core.specs.Endpoint.{IsSound}
+use Rattle.h2_core.specs.Endpoint.{IsSoundEnd}
 
 -- one for a stream
 abbrev one_of : Option StreamView → ℕ
@@ -22,8 +22,8 @@ owed_of None = 0
 owed_of (Some stream) = stream.owed
 
 -- An entry that is found by a test is counted, or one after it is.
-counted_by : (test : Bool) (i : ℕ) (entry : Entry) (found : Option Entry)
-    (entries : List (ℕ × Entry)) → one_of (stream_in found) ≤ count_active entries
+counted_by : (test : Bool) (i : ℕ) (entry : StreamEntry) (found : Option StreamEntry)
+    (entries : List (ℕ × StreamEntry)) → one_of (stream_in found) ≤ count_active entries
     → one_of (stream_in (cond test (Some entry) found)) ≤ count_active ((i, entry) ∷ entries)
 unfolding count_active
 counted_by true i (active_entry stream) found entries h = omega arith
@@ -32,7 +32,7 @@ counted_by false i (active_entry stream) found entries h = omega arith
 counted_by false i reset_entry found entries h = h
 
 -- An active entry that is found is counted.
-found_is_counted : (i : ℕ) (entries : List (ℕ × Entry))
+found_is_counted : (i : ℕ) (entries : List (ℕ × StreamEntry))
     → one_of (stream_in (map.find nat_cmp i entries)) ≤ count_active entries
 unfolding count_active
 found_is_counted i [] = omega arith
@@ -41,7 +41,8 @@ found_is_counted i (entry ∷ entries) =
     (found_is_counted i entries)
 
 -- What an entry owes that is found by a test is in the sum.
-owed_by : (test : Bool) (i : ℕ) (entry : Entry) (found : Option Entry) (entries : List (ℕ × Entry))
+owed_by : (test : Bool) (i : ℕ) (entry : StreamEntry) (found : Option StreamEntry) (entries : List
+    (ℕ × StreamEntry))
     → owed_of (stream_in found) ≤ owed_sum entries
     → owed_of (stream_in (cond test (Some entry) found)) ≤ owed_sum ((i, entry) ∷ entries)
 unfolding owed_sum
@@ -50,7 +51,7 @@ owed_by true i reset_entry found entries h = omega arith
 owed_by false i entry found entries h = omega arith
 
 -- What an entry owes that is found is in the sum.
-found_owes : (i : ℕ) (entries : List (ℕ × Entry))
+found_owes : (i : ℕ) (entries : List (ℕ × StreamEntry))
     → owed_of (stream_in (map.find nat_cmp i entries)) ≤ owed_sum entries
 unfolding owed_sum
 found_owes i [] = omega arith
@@ -64,7 +65,7 @@ found_in : (e : End) (i : ℕ) (stream : StreamView) → stream_at e i ≡ Some 
 found_in e i stream active = ap stream_in (sym (map.get-entries e.streams.entries i)) ∙ active
 
 -- Where a stream is active, one at least is counted.
-pub counted : (e : End) (i : ℕ) (stream : StreamView) → IsSound e → stream_at e i ≡ Some stream
+pub counted : (e : End) (i : ℕ) (stream : StreamView) → IsSoundEnd e → stream_at e i ≡ Some stream
     → 1 ≤ e.streams.active_count
 counted e i stream sound active =
     omega (
@@ -75,7 +76,7 @@ counted e i stream sound active =
     )
 
 -- The connection's receive window, what is unreturned and what one stream owes are 65,535 at most.
-pub owed_fits : (e : End) (i : ℕ) (stream : StreamView) → IsSound e → stream_at e i ≡ Some stream
+pub owed_fits : (e : End) (i : ℕ) (stream : StreamView) → IsSoundEnd e → stream_at e i ≡ Some stream
     → e.windows.recv + (e.windows.unreturned + stream.owed) ≤ 65535
 owed_fits e i stream sound active =
     omega (
@@ -85,7 +86,7 @@ owed_fits e i stream sound active =
       sound.window.whole,
     )
 
-pub connection_fits : (e : End) → IsSound e → e.windows.recv + e.windows.unreturned ≤ 65535
+pub connection_fits : (e : End) → IsSoundEnd e → e.windows.recv + e.windows.unreturned ≤ 65535
 connection_fits e sound = omega (arith, sound.window.whole)
 
 -- The windows of a stream in range are near zero.
@@ -99,27 +100,27 @@ near_recv : (e : End) (stream : StreamView) → StreamIsInRange e stream
 near_recv e stream range small = grind (arith, ints)
 
 -- The windows of an active stream are near zero.
-pub send_near : (e : End) (i : ℕ) (stream : StreamView) → IsSound e → stream_at e i ≡ Some stream
+pub send_near : (e : End) (i : ℕ) (stream : StreamView) → IsSoundEnd e → stream_at e i ≡ Some stream
     → is_far stream.send_window ≡ false
 send_near e i stream sound active = near_send e stream (sound.ranges.streams i stream active)
 
-pub recv_near : (e : End) (i : ℕ) (stream : StreamView) → IsSound e → stream_at e i ≡ Some stream
+pub recv_near : (e : End) (i : ℕ) (stream : StreamView) → IsSoundEnd e → stream_at e i ≡ Some stream
     → is_far stream.recv_window ≡ false
 recv_near e i stream sound active =
     near_recv e stream (sound.ranges.streams i stream active)
     (omega (arith, sound.ranges.own_window))
 
 -- Nothing is kept of a number that was not used.
-pub absent_above : (e : End) (i : ℕ) → IsSound e → e.streams.highest < i
+pub absent_above : (e : End) (i : ℕ) → IsSoundEnd e → e.streams.highest < i
     → map.get e.streams.entries i ≡ None
 absent_above e i sound above = sound.window.used i above
 
 -- Numbers of streams have 31 bits.
-pub highest_small : (e : End) → IsSound e → e.streams.highest < 2 ^ 31
+pub highest_small : (e : End) → IsSoundEnd e → e.streams.highest < 2 ^ 31
 highest_small e sound = omega (arith, sound.ranges.highest)
 
-pub last_small : (e : End) → IsSound e → e.streams.last_processed < 2 ^ 31
+pub last_small : (e : End) → IsSoundEnd e → e.streams.last_processed < 2 ^ 31
 last_small e sound = omega (arith, sound.ranges.highest, sound.ranges.last_processed)
 
-pub waiting_small : (e : End) → IsSound e → length e.output.waiting ≤ 262161
+pub waiting_small : (e : End) → IsSoundEnd e → length e.output.waiting ≤ 262161
 waiting_small e sound = omega (arith, sound.bounded.output)

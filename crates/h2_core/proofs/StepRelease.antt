@@ -22,7 +22,7 @@ use Rattle.h2_machine.specs.End.{active_entry, End, end_view, stream_in, stream_
 use Rattle.h2_machine.specs.Machine.{after_call, after_release, queue_output}
 use Rattle.h2_machine_laws.specs.Ranges.{StreamIsInRange}
 use Rattle.h2_streams.specs.Streams.{is_far}
-use Rattle.h2_core.specs.Endpoint.{IsSound}
+use Rattle.h2_core.specs.Endpoint.{IsSoundEnd}
 use Rattle.h2_core.proofs.SoundFacts.{absent_above, highest_small}
 
 -- No octets are released, or more than are owed.
@@ -46,7 +46,7 @@ owed-enough e id count stream is some enough =
     ap (λ (found : Option StreamView). count == 0 || nat_lt (owed_on found) count) (sym is) ∙ test
 
 -- A stream that is active has a number of 31 bits.
-pub active-number : (e : End) (id : ℕ) (stream : StreamView) → IsSound e
+pub active-number : (e : End) (id : ℕ) (stream : StreamView) → IsSoundEnd e
     → stream_at e id ≡ Some stream → id < 2 ^ 31
 active-number e id stream sound active = elim (cases_lt e.streams.highest id) [
   | inl above ↦
@@ -64,7 +64,7 @@ near_widened : (e : End) (stream : StreamView) (count : ℕ) → StreamIsInRange
     → is_far (stream.recv_window +ℤ pos count) ≡ false
 near_widened e stream count range small enough = grind (arith, ints)
 
-pub widened-near : (e : End) (id : ℕ) (stream : StreamView) (count : ℕ) → IsSound e
+pub widened-near : (e : End) (id : ℕ) (stream : StreamView) (count : ℕ) → IsSoundEnd e
     → stream_at e id ≡ Some stream → count ≤ stream.owed
     → is_far (stream.recv_window +ℤ pos count) ≡ false
 widened-near e id stream count sound active enough =

@@ -4,7 +4,7 @@ use Rattle.std.proofs.Common.{Option, Some, None, is_some, refl, sym, ap, ap₂,
 use Rattle.std.specs.Cmp.{nat_cmp_total}
 use Rattle.std.specs.FinMap as map
 use Rattle.h2_log.specs.View.{StreamView}
-use Rattle.h2_machine.specs.End.{Entry, active_entry, reset_entry, StreamMap, End}
+use Rattle.h2_machine.specs.End.{StreamEntry, active_entry, reset_entry, StreamMap, End}
 use Rattle.h2_machine.specs.End.{stream_in, stream_at, owed_entry}
 use Rattle.h2_machine.specs.Machine.{add_unreturned, close_stream, reset_stream, update_stream}
 use Rattle.h2_machine.proofs.SetEntries.{get_set, get_removed, get_set_same}
@@ -29,25 +29,25 @@ narrow_none e =
     (none_less e.windows.recv)
 
 -- What an entry owes is what its stream owes.
-owed_in : (entry : Option Entry) → owed_entry entry ≡ owed_of (stream_in entry)
+owed_in : (entry : Option StreamEntry) → owed_entry entry ≡ owed_of (stream_in entry)
 owed_in None = refl
 owed_in (Some reset_entry) = refl
 owed_in (Some (active_entry stream)) = refl
 
 -- An entry that is set and removed again, at each number.
-removed_again_by : (b : Bool) (v : Entry) (x : Option Entry)
+removed_again_by : (b : Bool) (v : StreamEntry) (x : Option StreamEntry)
     → (if b then None else (if b then Some v else x)) ≡ (if b then None else x)
 removed_again_by true v x = refl
 removed_again_by false v x = refl
 
 -- What is set doesn't count where it is removed.
-removed_again : (m : StreamMap) (k : ℕ) (v : Entry)
+removed_again : (m : StreamMap) (k : ℕ) (v : StreamEntry)
     → map.remove (map.insert m k v) k ≡ map.remove m k
 removed_again m k v =
     map.same_map nat_cmp_total map.nat_cmp-IsAntisymmetric (map.remove (map.insert m k v) k)
     (map.remove m k)
     (λ q. get_removed (map.insert m k v) k q
-    ∙ ap (λ (x : Option Entry). if q == k then None else x) (get_set m k v q)
+    ∙ ap (λ (x : Option StreamEntry). if q == k then None else x) (get_set m k v q)
     ∙ removed_again_by (q == k) v (map.get m q) ∙ sym (get_removed m k q))
 
 -- an end without a stream that was active
@@ -67,7 +67,8 @@ pub updated-over : (e : End) (i : ℕ) (stream : StreamView)
 updated-over e i stream over =
     ap (λ (b : Bool). if b then close_stream (set_stream e i stream) i 0 else set_stream e i stream)
     over
-    ∙ ap₂ (λ (entry : Option Entry) (entries : StreamMap). add_unreturned (0 + owed_entry entry)
+    ∙ ap₂ (λ (entry : Option StreamEntry) (entries : StreamMap). add_unreturned
+    (0 + owed_entry entry)
     (record e {
       streams = record e.streams {
         entries = entries;

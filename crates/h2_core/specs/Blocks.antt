@@ -18,7 +18,7 @@ use Rattle.h2_core.specs.declared.reader.Reported.{Reported}
 use Rattle.h2_core.specs.declared.reader.StepError.{StepError}
 use Rattle.h2_core.specs.Endpoint.{end_of}
 use Rattle.h2_core.specs.Failure.{FailsAlike}
-use Rattle.h2_core.specs.Items.{TakesItem, events_in, item_events}
+use Rattle.h2_core.specs.Items.{TakesItem, events_reported, item_events}
 use Rattle.h2_core.specs.Frames.{FailsWithoutMemory}
 
 -- A block was decoded, and what it decodes to is the end's table and, unless it is too large, its
@@ -53,7 +53,7 @@ pub record BlockTaken (e : End) (id : ℕ) (end : Bool) (octets : List ℕ) (lis
   pub says : IsDecodedOf e octets decoded
   pub after : new ≡ after_item e decoded (block id end octets)
   pub up : new.failed ≡ None
-  pub events : events_in list reported ≡ item_events e decoded (block id end octets)
+  pub events : events_reported list reported ≡ item_events e decoded (block id end octets)
 
 -- The machine fails with the block, and so does the end, with the same code.
 pub record BlockFails (e : End) (id : ℕ) (end : Bool) (octets : List ℕ) (code : Code) (new : End)

@@ -4,5 +4,5 @@ use Rattle.h2_frame.specs.Frames.{Frame, Data}
 use Rattle.h2_core.specs.declared.receive.DataFrame.{DataFrame}
 
 -- the frame, with padding of this length, or none
-abbrev pub data_of : DataFrame → Option ℕ → Frame
-data_of frame pad = Data frame.stream frame.end frame.octets.now pad
+abbrev pub frame_of_data : DataFrame → Option ℕ → Frame
+frame_of_data frame pad = Data frame.stream frame.end frame.octets.now pad

@@ -9,10 +9,10 @@ use Rattle.h2_core.specs.declared.endpoint.Endpoint.{Endpoint}
 
 -- how many streams a client may have active: 100 before the server's first SETTINGS, then the
 -- number that these name, and 1,000 where they name none; never above 1,000
-abbrev pub streams_allowed : Bool → Option ℕ → ℕ
-streams_allowed false named = 100
-streams_allowed true None = 1000
-streams_allowed true (Some count) = min 1000 count
+abbrev pub streams_allowed_by : Bool → Option ℕ → ℕ
+streams_allowed_by false named = 100
+streams_allowed_by true None = 1000
+streams_allowed_by true (Some count) = min 1000 count
 
 -- what an end keeps, as the machine's value
 abbrev pub end_of : Endpoint → End
@@ -38,7 +38,7 @@ end_of one = record {
   };
   peer = record {
     initial_window = one.streams.send_initial;
-    max_streams = streams_allowed one.started one.peer.max_concurrent_streams;
+    max_streams = streams_allowed_by one.started one.peer.max_concurrent_streams;
     max_frame = one.peer.max_frame_size;
   };
   own = record {
@@ -57,7 +57,7 @@ end_of one = record {
 
 -- The values of an end are bounded, counted and in the ranges that the machine's laws give, so that
 -- they fit the numbers that the code keeps them in.
-pub record IsSound (e : End) : Type 0 where
+pub record IsSoundEnd (e : End) : Type 0 where
   pub bounded : IsBounded e
   pub window : KeepsConnectionWindow e
   pub ranges : ValuesAreInRange e

@@ -17,7 +17,7 @@ use Rattle.h2_machine.specs.Machine.{after_frame, with_begun, fail}
 use Rattle.h2_core.specs.declared.endpoint.Endpoint.{Endpoint}
 use Rattle.h2_core.specs.declared.reader.Reported.{Reported}
 use Rattle.h2_core.specs.Failure.{FailsAlike}
-use Rattle.h2_core.specs.Items.{events_in, item_events}
+use Rattle.h2_core.specs.Items.{events_reported, item_events}
 
 -- What was seen of the field block that a frame completes is what it says at the end's table and
 -- limit; nothing was seen where it says nothing. Nothing is decoded of anything else.
@@ -46,7 +46,7 @@ pub record FrameTaken (e : End) (frame : Frame) (list : List Field) (reported : 
   pub says : IsDecodedBy e decoded (frame_step (end_view e) frame)
   pub after : new ≡ after_frame e decoded frame
   pub up : new.failed ≡ None
-  pub events : events_in list reported ≡ frame_events e decoded frame
+  pub events : events_reported list reported ≡ frame_events e decoded frame
 
 -- The machine fails with the frame, and so does the end, with the same code.
 pub record FrameFails (e : End) (frame : Frame) (code : Code) (new : End) : Type 0 where
@@ -68,9 +68,9 @@ pub record FrameLacksMemory (e : End) (frame : Frame) (code : Code) (new : End) 
   pub fails : FailsWithoutMemory e code new
 
 -- what a call that takes a frame makes of an end
-abbrev pub TakesFrame : End → Frame → List Field → Result (Option Reported) Code → End → Type 0
-TakesFrame e frame list (Ok reported) new = FrameTaken e frame list reported new
-TakesFrame e frame list (Err code) new =
+abbrev pub EndTakesFrame : End → Frame → List Field → Result (Option Reported) Code → End → Type 0
+EndTakesFrame e frame list (Ok reported) new = FrameTaken e frame list reported new
+EndTakesFrame e frame list (Err code) new =
     FrameFails e frame code new ⊎ FrameLacksMemory e frame code new
 
 -- The frame isn't the first one, or may be.

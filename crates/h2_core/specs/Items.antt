@@ -28,9 +28,9 @@ event_of list (GoAway last code) = GoAwayEvent last code
 event_of list Acked = AckedEvent
 event_of list (Pong octets) = PongEvent octets
 
-abbrev pub events_in : List Field → Option Reported → List Event
-events_in list None = []
-events_in list (Some reported) = event_of list reported ∷ []
+abbrev pub events_reported : List Field → Option Reported → List Event
+events_reported list None = []
+events_reported list (Some reported) = event_of list reported ∷ []
 
 -- what is reported of an item that comes next
 abbrev pub item_events : End → Option Decoded → Item → List Event
@@ -43,7 +43,7 @@ pub record ItemTaken (e : End) (decoded : Option Decoded) (item : Item) (list : 
     (reported : Option Reported) (new : End) : Type 0 where
   pub goes_on : (code : Code) → verdict_of (end_view e) decoded item ≢ ConnectionFault code
   pub after : new ≡ after_item e decoded item
-  pub events : events_in list reported ≡ item_events e decoded item
+  pub events : events_reported list reported ≡ item_events e decoded item
 
 -- What a step makes of an item. One that is at fault, or out of memory, has changed nothing.
 abbrev pub TakesItem : End → Option Decoded → Item → List Field → Result (Option Reported) StepError

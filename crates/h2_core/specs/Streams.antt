@@ -15,8 +15,8 @@ abbrev pub WindowHolds : Endpoint → ℕ → Type 0
 WindowHolds one more = one.recv_window + (one.unreturned + more) < 2 ^ 31
 
 -- Whether both sides of a stream have ended: it is over.
-abbrev pub is_over : StreamState → Bool
-is_over state = state.ended_in && state.ended_out
+abbrev pub both_ended : StreamState → Bool
+both_ended state = state.ended_in && state.ended_out
 
 -- what a stream owes, where there is one
 abbrev pub owed_by : Option Stream → ℕ

@@ -19,7 +19,7 @@ ghost use Rattle.h2_log.specs.CallRules.{has_all_streams, has_no_number, at_leas
 ghost use Rattle.h2_streams.specs.Streams.{stream_view, is_far};
 ghost use Rattle.h2_machine.specs.End.{end_view, stream_at, number_after};
 ghost use Rattle.h2_machine.specs.Machine.{queue_output, with_encoder, update_stream};
-ghost use Rattle.h2_core.specs.Endpoint.{end_of, IsSound};
+ghost use Rattle.h2_core.specs.Endpoint.{end_of, IsSoundEnd};
 ghost use Rattle.h2_core.specs.Calls.{CallRefused, CallAccepted, NotSendable, FramesFit, IsSizeOf};
 
 use crate::endpoint::Endpoint;
@@ -51,7 +51,7 @@ impl Endpoint {
     /// C1, C4, C5 (at a server always), C6, C7, C10, and C12 where an allocation was refused, in
     /// this order. Nothing has changed.
     pub fn open(&mut self, fields: &[Field], end: bool) -> Result<u32, Refusal>
-        requires sound { self.old.failed ≡ None → IsSound (end_of self.old) }
+        requires sound { self.old.failed ≡ None → IsSoundEnd (end_of self.old) }
         ensures ok { IfOk result (λ id. (id ≡ (end_view (end_of self.old)).next_number)
             × CallAccepted (end_of self.old) (Open fields.now end) (end_of self.new)) }
         ensures err { IfErr result (λ refusal. CallRefused (end_of self.old) (Open fields.now end)
@@ -81,7 +81,7 @@ impl Endpoint {
     /// Why a list of fields opens no stream now: the first of C1, C4, C5 (at a server always), C6,
     /// C7 and C10 that holds. It takes no memory.
     pub fn refusal_to_open(&self, fields: &[Field]) -> Option<Refusal>
-        requires sound { self.now.failed ≡ None → IsSound (end_of self.now) }
+        requires sound { self.now.failed ≡ None → IsSoundEnd (end_of self.now) }
         ensures { (end : Bool)
             → result ≡ refusal_of (end_view (end_of self.now)) (Open fields.now end) }
     {
@@ -98,7 +98,7 @@ impl Endpoint {
     ///
     /// C1, C2, C3, C7, C10 and C12, in this order. Nothing has changed.
     pub fn send_fields(&mut self, id: u32, fields: &[Field], end: bool) -> Result<(), Refusal>
-        requires sound { self.old.failed ≡ None → IsSound (end_of self.old) }
+        requires sound { self.old.failed ≡ None → IsSoundEnd (end_of self.old) }
         ensures ok { OnOk result (CallAccepted (end_of self.old) (SendFields id fields.now end)
             (end_of self.new)) }
         ensures err { IfErr result (λ refusal. CallRefused (end_of self.old)
@@ -131,7 +131,7 @@ impl Endpoint {
     ///
     /// C1, C2, C3, C7 and C12, in this order. Nothing has changed.
     pub fn send_data(&mut self, id: u32, octets: &[u8], end: bool) -> Result<usize, Refusal>
-        requires sound { self.old.failed ≡ None → IsSound (end_of self.old) }
+        requires sound { self.old.failed ≡ None → IsSoundEnd (end_of self.old) }
         ensures closed { IsSome self.old.failed → result ≡ Err Refusal.Closed }
         ensures nothing { sends_no_data (end_view (end_of self.old)) id octets.now end ≡ true
             → result ≢ Err Refusal.Memory }
@@ -198,7 +198,7 @@ impl Endpoint {
     /// Sends octets, as many as both windows let through, on an active stream. There is room for
     /// their frames, and for a WINDOW_UPDATE.
     fn write_data(&mut self, id: u32, mut stream: Stream, octets: &[u8], end: bool)
-        requires sound { IsSound (end_of self.old) }
+        requires sound { IsSoundEnd (end_of self.old) }
         requires up { self.old.failed ≡ None }
         requires active { stream_at (end_of self.old) id ≡ Some (stream_view stream) }
         requires count { length octets.now ≤ 65536 }

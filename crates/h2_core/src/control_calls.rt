@@ -5,7 +5,7 @@ ghost use Rattle.std.specs.Prelude.{◌≡◌, nat_le, length, is_some, None, tr
 ghost use Rattle.std.specs.Prelude.{IfErr};
 ghost use Rattle.h2_log.specs.Limits.{full_output};
 ghost use Rattle.h2_log.specs.Acts.{Release, ResetStream, SendPing, SendGoAway};
-ghost use Rattle.h2_core.specs.Endpoint.{end_of, IsSound};
+ghost use Rattle.h2_core.specs.Endpoint.{end_of, IsSoundEnd};
 ghost use Rattle.h2_core.specs.Calls.{CallRefused, CallAccepted, CallRefuses};
 
 use crate::endpoint::Endpoint;
@@ -28,7 +28,7 @@ impl Endpoint {
     ///
     /// C1, C2, C7, C11 and C12, in this order. Nothing has changed.
     pub fn release(&mut self, id: u32, count: u32) -> Result<(), Refusal>
-        requires sound { self.old.failed ≡ None → IsSound (end_of self.old) }
+        requires sound { self.old.failed ≡ None → IsSoundEnd (end_of self.old) }
         ensures ok { OnOk result (CallAccepted (end_of self.old) (Release id count)
             (end_of self.new)) }
         ensures err { IfErr result (λ refusal. CallRefused (end_of self.old) (Release id count)
@@ -71,7 +71,7 @@ impl Endpoint {
     ///
     /// C1, C2, C7, C9 and C12, in this order. Nothing has changed.
     pub fn reset(&mut self, id: u32, code: u32) -> Result<(), Refusal>
-        requires sound { self.old.failed ≡ None → IsSound (end_of self.old) }
+        requires sound { self.old.failed ≡ None → IsSoundEnd (end_of self.old) }
         ensures ok { OnOk result (CallAccepted (end_of self.old) (ResetStream id code)
             (end_of self.new)) }
         ensures err { IfErr result (λ refusal. CallRefused (end_of self.old) (ResetStream id code)
@@ -103,7 +103,7 @@ impl Endpoint {
     ///
     /// C1 and, unless the code is 2, C2. Nothing has changed.
     pub fn refuse(&mut self, id: u32, code: u32) -> Result<(), Refusal>
-        requires sound { self.old.failed ≡ None → IsSound (end_of self.old) }
+        requires sound { self.old.failed ≡ None → IsSoundEnd (end_of self.old) }
         ensures { CallRefuses (end_of self.old) id code result (end_of self.new) }
     {
         self.check_up()?;
@@ -160,7 +160,7 @@ impl Endpoint {
     ///
     /// C1, C6, C7 and C12, in this order. Nothing has changed.
     pub fn go_away(&mut self) -> Result<(), Refusal>
-        requires sound { self.old.failed ≡ None → IsSound (end_of self.old) }
+        requires sound { self.old.failed ≡ None → IsSoundEnd (end_of self.old) }
         ensures ok { OnOk result (CallAccepted (end_of self.old) SendGoAway (end_of self.new)) }
         ensures err { IfErr result (λ refusal. CallRefused (end_of self.old) SendGoAway refusal
             (end_of self.new)) }

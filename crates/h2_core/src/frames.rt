@@ -6,8 +6,8 @@ ghost use Rattle.h2_log.specs.ItemRules.{may_be_first};
 ghost use Rattle.h2_frame.specs.Frames.{frame_of};
 ghost use Rattle.h2_frame.specs.Encoding.{refusal};
 ghost use Rattle.h2_block.specs.Grouping.{alone, is_standalone};
-ghost use Rattle.h2_core.specs.Endpoint.{end_of, IsSound};
-ghost use Rattle.h2_core.specs.Frames.{TakesFrame, IsStarted};
+ghost use Rattle.h2_core.specs.Endpoint.{end_of, IsSoundEnd};
+ghost use Rattle.h2_core.specs.Frames.{EndTakesFrame, IsStarted};
 ghost use Rattle.h2_core.specs.Items.{TakesItem};
 ghost use Rattle.h2_core.specs.Stops.{FailsBy, IsSmall};
 
@@ -45,10 +45,10 @@ impl Endpoint {
     /// to another frame that takes memory, and never in place of a fault of the connection, but of
     /// one that a field block makes once it is decoded.
     pub fn take_frame<'a>(&mut self, frame: FrameRef<'a>) -> Result<Option<Reported<'a>>, Code>
-        requires sound { IsSound (end_of self.old) }
+        requires sound { IsSoundEnd (end_of self.old) }
         requires up { self.old.failed ≡ None }
         requires good { refusal (frame_of frame) ≡ None }
-        ensures { TakesFrame (end_of self.old) (frame_of frame.entry) self.new.list result
+        ensures { EndTakesFrame (end_of self.old) (frame_of frame.entry) self.new.list result
             (end_of self.new) }
     {
         if self.is_too_early(frame) {
@@ -84,11 +84,11 @@ impl Endpoint {
     // rule: 6.10 Inside a block any frame but its CONTINUATION is PROTOCOL_ERROR
     /// A frame that is not a complete block by itself: it is gathered, or passes on.
     fn gather_frame<'a>(&mut self, frame: FrameRef<'a>) -> Result<Option<Reported<'a>>, Code>
-        requires sound { IsSound (end_of self.old) }
+        requires sound { IsSoundEnd (end_of self.old) }
         requires up { self.old.failed ≡ None }
         requires good { refusal (frame_of frame) ≡ None }
         requires started { IsStarted self.old (frame_of frame) }
-        ensures { TakesFrame (end_of self.old) (frame_of frame.entry) self.new.list result
+        ensures { EndTakesFrame (end_of self.old) (frame_of frame.entry) self.new.list result
             (end_of self.new) }
     {
         let gathered = match self.gather.take(frame) {
@@ -123,7 +123,7 @@ impl Endpoint {
     // rule: 6.1 The complete payload of DATA, padding included, counts for windows
     /// A frame that is no part of a block, outside blocks.
     fn take_alone<'a>(&mut self, frame: FrameRef<'a>) -> Result<Option<Reported<'a>>, StepError>
-        requires sound { IsSound (end_of self.old) }
+        requires sound { IsSoundEnd (end_of self.old) }
         requires up { self.old.failed ≡ None }
         requires good { refusal (frame_of frame) ≡ None }
         requires alone { is_standalone (frame_of frame) ≡ true }
@@ -161,7 +161,7 @@ impl Endpoint {
     // rule: 5.4.1 A connection error is answered by GOAWAY, and nothing is sent after
     /// The connection fails for this cause, and its code is answered.
     pub(crate) fn fail_by(&mut self, stop: StepError) -> Code
-        requires sound { IsSound (end_of self.old) }
+        requires sound { IsSoundEnd (end_of self.old) }
         requires up { self.old.failed ≡ None }
         requires opened { IsSmall stop }
         ensures { FailsBy (end_of self.old) stop result (end_of self.new) }

@@ -10,7 +10,7 @@ ghost use Rattle.h2_log.specs.Memory.{credit_needs_memory};
 ghost use Rattle.h2_machine.specs.End.{end_view, payload_limit_of, stream_at};
 ghost use Rattle.h2_machine.specs.Machine.{fail, unprocessed_of_end, before_put_out_at};
 ghost use Rattle.h2_machine.specs.Machine.{close_unprocessed, first_active};
-ghost use Rattle.h2_core.specs.Endpoint.{end_of, IsSound};
+ghost use Rattle.h2_core.specs.Endpoint.{end_of, IsSoundEnd};
 ghost use Rattle.h2_core.specs.Frames.{FailsWithoutMemory};
 ghost use Rattle.h2_core.specs.Readers.{PutsOut, room_of, owed_of};
 
@@ -33,7 +33,7 @@ impl Endpoint {
     ///
     /// C12 where an allocation was refused. Nothing has changed.
     pub fn put_out(&mut self, count: usize, out: &mut Vec<u8>) -> Result<usize, Refusal>
-        requires sound { self.old.failed ≡ None → IsSound (end_of self.old) }
+        requires sound { self.old.failed ≡ None → IsSoundEnd (end_of self.old) }
         ensures ok { IfOk result (λ given. PutsOut (end_of self.old) count given out.old.items
             out.new.items (end_of self.new)) }
         ensures err { IfErr result (λ refusal. (refusal ≡ Refusal.Memory)
@@ -47,6 +47,11 @@ impl Endpoint {
         ensures room { returns_before_put_out (end_view (end_of self.old)) ≡ false
             → vec_len out.old + min count (length self.old.output.waiting) ≤ vec_capacity out.old
             → IsOk result }
+
+        // Where credit may be returned first, so are that and room for its WINDOW_UPDATE.
+        ensures due { 13 ≤ self.old.output.spare
+            → vec_len out.old + min count (length self.old.output.waiting + 13)
+            ≤ vec_capacity out.old → IsOk result }
     {
         let update = if self.returns_before_output() {
             SMALL_FRAME
@@ -74,7 +79,7 @@ impl Endpoint {
     /// Returns all that is unreturned, where that is to be done before output is given out. There
     /// is room for a WINDOW_UPDATE then.
     fn return_before_output(&mut self)
-        requires sound { self.old.failed ≡ None → IsSound (end_of self.old) }
+        requires sound { self.old.failed ≡ None → IsSoundEnd (end_of self.old) }
         requires room { returns_before_put_out (end_view (end_of self.old)) ≡ true
             → 13 ≤ self.old.output.spare }
         ensures { end_of self.new ≡ before_put_out_at (end_of self.old) }
@@ -106,7 +111,7 @@ impl Endpoint {
     /// INTERNAL_ERROR where what the stream owes is returned at once, and an allocation was
     /// refused: the connection has failed with it.
     pub fn close_unprocessed(&mut self, id: u32) -> Result<(), Code>
-        requires sound { IsSound (end_of self.old) }
+        requires sound { IsSoundEnd (end_of self.old) }
         requires up { self.old.failed ≡ None }
         requires next { id ≡ unprocessed_of_end self.old.role self.old.streams.entries
             self.old.goaway_received }
@@ -128,7 +133,7 @@ impl Endpoint {
     // contract: 5.4.1 A connection error is answered by GOAWAY, and nothing is sent after
     /// The cutter has met a fault, or memory was refused to it: the connection fails with the code.
     pub fn fail_with(&mut self, code: Code)
-        requires sound { IsSound (end_of self.old) }
+        requires sound { IsSoundEnd (end_of self.old) }
         requires up { self.old.failed ≡ None }
         ensures { end_of self.new ≡ fail code self.old.last_processed (end_of self.old) }
     {

@@ -9,9 +9,9 @@ ghost use Rattle.h2_frame.specs.Encoding.{payload_of};
 ghost use Rattle.h2_log.specs.ItemRules.{exceeds};
 ghost use Rattle.h2_streams.specs.Streams.{stream_view};
 ghost use Rattle.h2_machine.specs.End.{stream_at};
-ghost use Rattle.h2_core.specs.Endpoint.{end_of, IsSound};
+ghost use Rattle.h2_core.specs.Endpoint.{end_of, IsSoundEnd};
 ghost use Rattle.h2_core.specs.Items.{TakesItem, DiscardsData};
-ghost use Rattle.h2_core.specs.DataFrames.{data_of};
+ghost use Rattle.h2_core.specs.DataFrames.{frame_of_data};
 
 use crate::endpoint::Endpoint;
 use crate::limits::MAX_OUTPUT;
@@ -46,12 +46,12 @@ impl Endpoint {
         &mut self,
         frame: DataFrame<'a>,
     ) -> Result<Option<Reported<'a>>, StepError>
-        requires sound { IsSound (end_of self.old) }
+        requires sound { IsSoundEnd (end_of self.old) }
         requires up { self.old.failed ≡ None }
         requires number { (1 ≤ frame.stream) × (frame.stream < 2 ^ 31) }
         ensures { (pad : Option ℕ)
-            → frame.entry.flow ≡ length (payload_of (data_of frame.entry pad))
-            → TakesItem (end_of self.old) None (alone (data_of frame.entry pad)) self.new.list
+            → frame.entry.flow ≡ length (payload_of (frame_of_data frame.entry pad))
+            → TakesItem (end_of self.old) None (alone (frame_of_data frame.entry pad)) self.new.list
             result (end_of self.new) }
     {
         let stream = match self.status(frame.stream) {
@@ -83,15 +83,15 @@ impl Endpoint {
         frame: DataFrame<'a>,
         stream: Stream,
     ) -> Result<Option<Reported<'a>>, StepError>
-        requires sound { IsSound (end_of self.old) }
+        requires sound { IsSoundEnd (end_of self.old) }
         requires up { self.old.failed ≡ None }
         requires active { stream_at (end_of self.old) frame.stream ≡ Some (stream_view stream) }
         requires open { stream.state.ended_in ≡ false }
         requires connection { frame.flow ≤ self.old.recv_window }
         requires within { exceeds frame.flow stream.recv_window ≡ false }
         ensures { (pad : Option ℕ)
-            → frame.entry.flow ≡ length (payload_of (data_of frame.entry pad))
-            → TakesItem (end_of self.old) None (alone (data_of frame.entry pad)) self.new.list
+            → frame.entry.flow ≡ length (payload_of (frame_of_data frame.entry pad))
+            → TakesItem (end_of self.old) None (alone (frame_of_data frame.entry pad)) self.new.list
             result (end_of self.new) }
     {
         let mut changed = stream;
@@ -112,7 +112,7 @@ impl Endpoint {
     // rule: 5.1 DATA on a stream that this end has reset counts for the connection
     /// DATA on a stream that this end has closed: it is discarded, and its flow is unreturned.
     fn discard_data<'a>(&mut self, flow: u32) -> Result<Option<Reported<'a>>, StepError>
-        requires sound { IsSound (end_of self.old) }
+        requires sound { IsSoundEnd (end_of self.old) }
         requires up { self.old.failed ≡ None }
         requires connection { flow ≤ self.old.recv_window }
         ensures { DiscardsData (end_of self.old) flow result (end_of self.new) }
@@ -135,7 +135,7 @@ impl Endpoint {
         id: u32,
         code: u32,
     ) -> Result<Option<Reported<'a>>, StepError>
-        requires sound { IsSound (end_of self.old) }
+        requires sound { IsSoundEnd (end_of self.old) }
         requires up { self.old.failed ≡ None }
         ensures { TakesItem (end_of self.old) None (alone (ResetFrame id code)) self.new.list
             result (end_of self.new) }

@@ -6,7 +6,7 @@ ghost use Rattle.h2_streams.specs.Streams.{stream_view};
 ghost use Rattle.h2_machine.specs.End.{stream_at};
 ghost use Rattle.h2_machine.specs.Machine.{is_fresh, new_stream};
 ghost use Rattle.std.specs.Option.{option_map};
-ghost use Rattle.h2_core.specs.Endpoint.{end_of, IsSound};
+ghost use Rattle.h2_core.specs.Endpoint.{end_of, IsSoundEnd};
 ghost use Rattle.h2_core.specs.Blocks.{TakesBlock, TakesDecoded, decode_fault_code};
 
 use crate::endpoint::Endpoint;
@@ -34,7 +34,7 @@ impl Endpoint {
         end: bool,
         octets: &[u8],
     ) -> Result<Option<Reported<'a>>, Code>
-        requires sound { IsSound (end_of self.old) }
+        requires sound { IsSoundEnd (end_of self.old) }
         requires up { self.old.failed ≡ None }
         requires outside { self.old.gather.begun ≡ None }
         requires number { (1 ≤ id) × (id < 2 ^ 31) }
@@ -72,7 +72,7 @@ impl Endpoint {
         end: bool,
         too_large: bool,
     ) -> Result<Option<Reported<'a>>, StepError>
-        requires sound { IsSound (end_of self.old) }
+        requires sound { IsSoundEnd (end_of self.old) }
         requires up { self.old.failed ≡ None }
         requires number { (1 ≤ id) × (id < 2 ^ 31) }
         ensures { TakesDecoded self.old id end too_large result self.new }
@@ -97,7 +97,7 @@ impl Endpoint {
         too_large: bool,
         stream: Stream,
     ) -> Result<Option<Reported<'a>>, StepError>
-        requires sound { IsSound (end_of self.old) }
+        requires sound { IsSoundEnd (end_of self.old) }
         requires up { self.old.failed ≡ None }
         requires number { (1 ≤ id) × (id < 2 ^ 31) }
         requires active { stream_at (end_of self.old) id ≡ Some (stream_view stream) }
@@ -130,7 +130,7 @@ impl Endpoint {
         end: bool,
         too_large: bool,
     ) -> Result<Option<Reported<'a>>, StepError>
-        requires sound { IsSound (end_of self.old) }
+        requires sound { IsSoundEnd (end_of self.old) }
         requires up { self.old.failed ≡ None }
         requires number { (1 ≤ id) × (id < 2 ^ 31) }
         requires fresh { is_fresh (end_of self.old) id ≡ true }

@@ -9,7 +9,7 @@ ghost use Rattle.h2_log.specs.Settings.{peer_of};
 ghost use Rattle.h2_log.specs.ItemEffects.{encoder_after_settings};
 ghost use Rattle.h2_streams.specs.Streams.{is_above_by_shift};
 ghost use Rattle.h2_machine.specs.End.{any_above};
-ghost use Rattle.h2_core.specs.Endpoint.{end_of, IsSound};
+ghost use Rattle.h2_core.specs.Endpoint.{end_of, IsSoundEnd};
 ghost use Rattle.h2_core.specs.Items.{TakesItem};
 ghost use Rattle.h2_core.specs.Settings.{AppliesSettings, KnowsGreatest};
 
@@ -36,7 +36,7 @@ impl Endpoint {
         &mut self,
         pairs: Pairs<'_>,
     ) -> Result<Option<Reported<'a>>, StepError>
-        requires sound { IsSound (end_of self.old) }
+        requires sound { IsSoundEnd (end_of self.old) }
         requires up { self.old.failed ≡ None }
         ensures { TakesItem (end_of self.old) None
             (alone (SettingsFrame false (lent_pairs pairs.entry))) self.new.list result
@@ -111,7 +111,7 @@ impl Endpoint {
     // rule: 6.9.3 Until a lower own window is acknowledged the one before it holds
     /// The acknowledgment of own SETTINGS: those that await it come into force (section 6.5.3).
     pub(crate) fn take_acknowledgment<'a>(&mut self) -> Result<Option<Reported<'a>>, StepError>
-        requires sound { IsSound (end_of self.old) }
+        requires sound { IsSoundEnd (end_of self.old) }
         requires up { self.old.failed ≡ None }
         ensures { (pairs : List (ℕ × ℕ)) → TakesItem (end_of self.old) None
             (alone (SettingsFrame true pairs)) self.new.list result (end_of self.new) }

@@ -8,7 +8,7 @@ ghost use Rattle.h2_block.specs.Grouping.{alone};
 ghost use Rattle.h2_frame.specs.Frames.{WindowUpdate};
 ghost use Rattle.h2_streams.specs.Streams.{stream_view};
 ghost use Rattle.h2_machine.specs.End.{stream_at};
-ghost use Rattle.h2_core.specs.Endpoint.{end_of, IsSound};
+ghost use Rattle.h2_core.specs.Endpoint.{end_of, IsSoundEnd};
 ghost use Rattle.h2_core.specs.Items.{TakesItem};
 ghost use Rattle.h2_core.specs.Resets.{is_over_limits, ResetsForFault};
 
@@ -30,7 +30,7 @@ impl Endpoint {
         id: u32,
         increment: u32,
     ) -> Result<Option<Reported<'a>>, StepError>
-        requires sound { IsSound (end_of self.old) }
+        requires sound { IsSoundEnd (end_of self.old) }
         requires up { self.old.failed ≡ None }
         requires number { id < 2 ^ 31 }
         requires increment { increment < 2 ^ 31 }
@@ -51,7 +51,7 @@ impl Endpoint {
     // rule: 6.9.1 The connection's window above 2^31-1 is FLOW_CONTROL_ERROR
     /// No octets are a fault, and so is a window above 2<sup>31</sup> - 1.
     fn widen_connection<'a>(&mut self, increment: u32) -> Result<Option<Reported<'a>>, StepError>
-        requires sound { IsSound (end_of self.old) }
+        requires sound { IsSoundEnd (end_of self.old) }
         requires up { self.old.failed ≡ None }
         requires increment { increment < 2 ^ 31 }
         ensures { TakesItem (end_of self.old) None (alone (WindowUpdate 0 increment))
@@ -76,7 +76,7 @@ impl Endpoint {
         increment: u32,
         stream: Stream,
     ) -> Result<Option<Reported<'a>>, StepError>
-        requires sound { IsSound (end_of self.old) }
+        requires sound { IsSoundEnd (end_of self.old) }
         requires up { self.old.failed ≡ None }
         requires number { (1 ≤ id) × (id < 2 ^ 31) }
         requires increment { increment < 2 ^ 31 }
@@ -110,7 +110,7 @@ impl Endpoint {
         flow: u32,
         opened: u32,
     ) -> Result<Option<Reported<'a>>, StepError>
-        requires sound { IsSound (end_of self.old) }
+        requires sound { IsSoundEnd (end_of self.old) }
         requires up { self.old.failed ≡ None }
         requires number { (1 ≤ id) × (id < 2 ^ 31) }
         requires active { stream_at (end_of self.old) id ≡ option_map stream_view stream }

@@ -2,7 +2,7 @@
 
 ghost use Rattle.std.specs.Prelude.{◌≡◌, true};
 ghost use Rattle.h2_log.specs.Settings.{is_server};
-ghost use Rattle.h2_machine.specs.End.{state_at, stream_at, end_view, is_above};
+ghost use Rattle.h2_machine.specs.End.{state_at, stream_at, end_view, is_above_goaway};
 ghost use Rattle.h2_machine.specs.Machine.{is_fresh};
 ghost use Rattle.h2_log.specs.ItemRules.{is_at_capacity};
 ghost use Rattle.h2_core.specs.Endpoint.{end_of};
@@ -42,7 +42,7 @@ impl Endpoint {
     // rule: 6.8 Streams above the last of an own GOAWAY are ignored
     /// Whether a number of the peer's is above the last stream of this end's GOAWAY.
     fn is_above_goaway(&self, id: u32) -> bool
-        ensures { result ≡ is_above (end_of self.now) id }
+        ensures { result ≡ is_above_goaway (end_of self.now) id }
     {
         match self.goaway_sent {
             Some(last) => self.role == Role::Server && id > last,

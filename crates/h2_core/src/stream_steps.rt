@@ -11,7 +11,7 @@ ghost use Rattle.h2_machine.specs.End.{stream_at};
 ghost use Rattle.h2_machine.specs.Machine.{close_stream, reset_stream, update_stream};
 ghost use Rattle.h2_machine.specs.Machine.{queue_output};
 ghost use Rattle.h2_core.specs.Endpoint.{end_of};
-ghost use Rattle.h2_core.specs.Streams.{IsNear, WindowHolds, is_over, owed_by};
+ghost use Rattle.h2_core.specs.Streams.{IsNear, WindowHolds, both_ended, owed_by};
 
 use crate::endpoint::Endpoint;
 use crate::limits::{FULL_OUTPUT, SMALL_FRAME};
@@ -44,7 +44,7 @@ impl Endpoint {
         requires active { stream_at (end_of self.old) id ≢ None }
         requires near { IsNear stream }
         requires counted { 1 ≤ self.old.active_count }
-        requires room { is_over stream.state ≡ true
+        requires room { both_ended stream.state ≡ true
             → returns_credit stream.owed (length self.old.output.waiting) ≡ true
             → 13 ≤ self.old.output.spare }
         requires window { WindowHolds self.old stream.owed }
@@ -109,10 +109,10 @@ impl Endpoint {
 pub(crate) fn reserve_if_over(output: &mut Output, stream: Stream) -> Result<(), AllocError>
     ensures waiting { output.new.waiting ≡ output.old.waiting }
     ensures ended { output.new.ended ≡ output.old.ended }
-    ensures ok { OnOk result (is_over stream.state ≡ true
+    ensures ok { OnOk result (both_ended stream.state ≡ true
         → returns_credit stream.owed (length output.old.waiting) ≡ true
         → 13 ≤ output.new.spare) }
-    ensures err { OnErr result ((is_over stream.state ≡ true)
+    ensures err { OnErr result ((both_ended stream.state ≡ true)
         × (returns_credit stream.owed (length output.old.waiting) ≡ true)) }
 {
     if stream.state.closed() {

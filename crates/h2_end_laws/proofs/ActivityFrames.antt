@@ -19,7 +19,7 @@ use Rattle.h2_log.specs.Log.{Log, active, last_processed}
 use Rattle.h2_log.specs.LogView.{log_view}
 use Rattle.h2_log.specs.Verdicts.{Verdict, ConnectionFault, StreamFault, NoEvent, Reported}
 use Rattle.h2_log.specs.ItemRules.{Decoded, replies_to, verdict_of, is_stream_fault}
-use Rattle.h2_log.specs.ItemEffects.{events_of, fields_of}
+use Rattle.h2_log.specs.ItemEffects.{events_of, decoded_fields}
 use Rattle.h2_log_laws.proofs.ItemLists.{any_after}
 use Rattle.h2_log_laws.proofs.ItemLists.{goaway_no_block}
 use Rattle.h2_log_laws.proofs.ItemLists.{replies_no_block}
@@ -193,10 +193,10 @@ fields_reported : (before after : Log) (decoded : Option Decoded) (item : Item) 
 unfolding is_block_on events_of
 fields_reported before after decoded (block stream end octets) i is reported failed =
     record {
-      fields = fields_of decoded;
+      fields = decoded_fields decoded;
       end = end;
       one = reported
-          ∙ ap (λ (j : ℕ). FieldsEvent j (fields_of decoded) end ∷ before.reported)
+          ∙ ap (λ (j : ℕ). FieldsEvent j (decoded_fields decoded) end ∷ before.reported)
           (eqb-true stream i is);
       same = failed;
     }

@@ -23,7 +23,7 @@ use Rattle.h2_log.specs.ItemEffects.{events_of}
 use Rattle.h2_log_laws.proofs.ReaderStates.{active_used, state_active, state_is_active}
 use Rattle.h2_log_laws.proofs.ReplyInvariant.{used_more, used_here}
 use Rattle.h2_log_laws.proofs.ReplyInvariant.{idle_unused}
-use Rattle.h2_end_laws.specs.Over.{used}
+use Rattle.h2_end_laws.specs.Over.{is_number_used}
 use Rattle.h2_end_laws.specs.Activity.{event_may_close}
 use Rattle.h2_end_laws.proofs.ReadVerdicts.{Says, says_data, says_of}
 use Rattle.h2_end_laws.proofs.ReadingRules.{IsFaulty}
@@ -155,8 +155,9 @@ events_name_none view decoded Reported (alone (Continuation stream whole fragmen
 events_name_none view decoded Reported (alone (Unknown kind flags stream payload)) i = refl
 
 -- A stream in another state than Idle is used.
-state_used : (used active closed_by_us : Bool) → (state_by used active closed_by_us ≡ Idle → ⊥)
-    → used ≡ true
+state_used : (is_number_used active closed_by_us : Bool)
+    → (state_by is_number_used active closed_by_us ≡ Idle → ⊥)
+    → is_number_used ≡ true
 state_used true active closed_by_us other = refl
 state_used false active closed_by_us other = absurd (other refl)
 
@@ -225,7 +226,7 @@ unused_kept log decoded item verdict i is on unused =
 -- GOAWAY was written, and its number wasn't used; by the rules.
 abbrev pub IsNew : Log → ℕ → Type 0
 IsNew log i = (peer_opens (log_view log) i ≡ true) × (goaway_written log ≡ false)
-    × (used log i ≡ false)
+    × (is_number_used log i ≡ false)
 
 new_by_rules : (log : Log) (decoded : Option Decoded) (i : ℕ) (end : Bool) (octets : List ℕ)
     → active log i ≡ false

@@ -31,7 +31,7 @@ use Rattle.h2_log_laws.proofs.ReaderStates.{active_parts, active_used}
 use Rattle.h2_log_laws.proofs.ReplyInvariant.{used_more}
 use Rattle.h2_log_laws.proofs.LogHistory.{processed_after}
 use Rattle.h2_log_laws.proofs.LogHistory.{none_both}
-use Rattle.h2_end_laws.specs.Over.{used as was_used}
+use Rattle.h2_end_laws.specs.Over.{is_number_used as was_used}
 use Rattle.h2_end_laws.proofs.ReadingCalls.{log_read}
 use Rattle.h2_end_laws.proofs.ReadingRules.{LogIsLow}
 use Rattle.h2_end_laws.proofs.ActivityFrames.{was_active, frame_opens, HasFields}

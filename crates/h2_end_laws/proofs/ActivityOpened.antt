@@ -34,7 +34,7 @@ use Rattle.h2_log_laws.proofs.OpenedStreams.{no_goaway_below, open_at_server, se
 use Rattle.h2_log_laws.proofs.ReaderStates.{active_from, lasts_from}
 use Rattle.h2_log_laws.proofs.ReplyInvariant.{resets_used}
 use Rattle.h2_log_laws.proofs.LogHistory.{none_both}
-use Rattle.h2_end_laws.specs.Over.{used}
+use Rattle.h2_end_laws.specs.Over.{is_number_used}
 use Rattle.h2_end_laws.specs.Takes.{MayTake, Took, has_failed, reports_unprocessed as named_one}
 use Rattle.h2_end_laws.specs.Takes.{ends_no_frame, ends_frame, meets_fault, runs_out_of_memory}
 use Rattle.h2_end_laws.specs.Written.{IsCredit}
@@ -56,7 +56,7 @@ pub record IsUnwritten (i : ℕ) (sent : List Item) : Type 0 where
   pub unreset : list_any (resets i) sent ≡ false
 
 unused_unwritten : (role : Role) (values : Values) (log : Log) (i : ℕ)
-    → IsLog role values log → used log i ≡ false → IsUnwritten i log.sent
+    → IsLog role values log → is_number_used log i ≡ false → IsUnwritten i log.sent
 unused_unwritten role values log i is unused =
     let own = (stream_of_log role values log is).role in
     let allowed : AllowedHistory log.role log.received log.sent =
@@ -135,7 +135,7 @@ block_opens : (before after : Log) (decoded : Option Decoded) (i : ℕ) (end : B
     (credit ++ replies_to Reported (block i end octets))
     (events_of (log_view before) decoded Reported (block i end octets))
     → active before i ≡ false → LogIsKnown i before
-    → (used before i ≡ false → IsUnwritten i before.sent)
+    → (is_number_used before i ≡ false → IsUnwritten i before.sent)
     → (before.role ≡ Server) × (active after i ≡ true)
 block_opens before after decoded i end octets credit is is_credit adds inactive known unwritten =
     let item = block i end octets in
@@ -173,7 +173,7 @@ read_opens : (before after : Log) (decoded : Option Decoded) (item : Item) (verd
     (events_of (log_view before) decoded verdict item)
     → events_of (log_view before) decoded verdict item ≡ FieldsEvent id list end ∷ []
     → active before id ≡ false → LogIsKnown id before
-    → (used before id ≡ false → IsUnwritten id before.sent)
+    → (is_number_used before id ≡ false → IsUnwritten id before.sent)
     → (before.role ≡ Server) × (active after id ≡ true)
 unfolding events_of
 read_opens before after decoded item (ConnectionFault code) credit id list end is on is_credit adds
@@ -188,7 +188,8 @@ read_opens before after decoded (block stream last octets) Reported credit id li
     let now = block_opens before after decoded stream last octets credit is is_credit adds
     (subst (λ (j : ℕ). active before j ≡ false) same inactive)
     (subst (λ (j : ℕ). LogIsKnown j before) same known)
-    (subst (λ (j : ℕ). used before j ≡ false → IsUnwritten j before.sent) same unwritten) in
+    (subst (λ (j : ℕ). is_number_used before j ≡ false
+    → IsUnwritten j before.sent) same unwritten) in
     (now.0, subst (λ (j : ℕ). active after j ≡ true) (sym same) now.1)
 read_opens before after decoded (alone (Data stream last octets pad)) Reported credit id list end is
     on is_credit adds one inactive known unwritten = cc
@@ -208,7 +209,7 @@ frame_opens_it : (before after : Log) (decoded : Option Decoded) (id : ℕ) (lis
     (end : Bool) → AfterFrame before decoded after
     → after.reported ≡ FieldsEvent id list end ∷ before.reported
     → active before id ≡ false → LogIsKnown id before
-    → (used before id ≡ false → IsUnwritten id before.sent)
+    → (is_number_used before id ≡ false → IsUnwritten id before.sent)
     → (before.role ≡ Server) × (active after id ≡ true)
 frame_opens_it before after decoded id list end (stays_same adds failed) one inactive known
     unwritten = no_event _ before.reported (sym adds.reported ∙ one)

@@ -36,13 +36,13 @@ unfolding data_on payload_of
 few_on_stream i id end octets = chosen_low (id == i) (length octets)
 
 -- It takes at most its octets of the connection.
-few_on_connection : (id : ℕ) (end : Bool) (octets : List ℕ)
+pub few_on_connection : (id : ℕ) (end : Bool) (octets : List ℕ)
     → data_of (alone (Data id end octets None)) ≤ length octets
 unfolding data_of payload_of
 few_on_connection id end octets = omega arith
 
 -- A total of one item is its number.
-total_single : (f : Item → ℕ) (item : Item) → total f (item ∷ []) ≡ f item
+pub total_single : (f : Item → ℕ) (item : Item) → total f (item ∷ []) ≡ f item
 unfolding total
 total_single f item = omega arith
 
@@ -85,7 +85,7 @@ module _ (f : Item → ℕ)
   items_by items n false few = few
 
   -- The DATA of a call takes at most as many octets as are sent.
-  items_take : (most id : ℕ) (octets : List ℕ) (end : Bool) (count : ℕ) → count ≤ length octets
+  pub items_take : (most id : ℕ) (octets : List ℕ) (end : Bool) (count : ℕ) → count ≤ length octets
       → total f (data_items most id octets end count) ≤ count
   unfolding data_items
   items_take most id octets end count within =
@@ -118,7 +118,7 @@ module _ (f : Item → ℕ)
       )
 
 -- A window of which no more was taken than given isn't negative.
-not_negative : (given consumed : ℕ) → consumed ≤ given
+pub not_negative : (given consumed : ℕ) → consumed ≤ given
     → int_lt (pos given -ℤ pos consumed) (pos 0) ≡ false
 not_negative given consumed fits = grind (arith, nat_tests, ints)
 
@@ -132,7 +132,7 @@ unfolding data_of
 update_of n = refl
 
 -- As many octets as go are within both windows.
-count_fits : (n count given sent_on all sent_of : ℕ) → 0 < n
+pub count_fits : (n count given sent_on all sent_of : ℕ) → 0 < n
     → min count (min (min (given - sent_on) (all - sent_of)) max_data) ≡ n
     → (n ≤ count) × (sent_on + n ≤ given) × (sent_of + n ≤ all)
 count_fits n count given sent_on all sent_of some is =

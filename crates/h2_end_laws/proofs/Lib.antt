@@ -54,4 +54,5 @@ pub mod ActivitySteps
 pub mod ActivityTakes
 pub mod TurnsAdded
 pub mod Unread
+pub mod WithinWindows
 pub mod WrittenSteps

@@ -18,7 +18,7 @@ use Rattle.h2_log.specs.LogCalls.{MayAnswer, with_call}
 use Rattle.h2_log_laws.proofs.LogGrowth.{grows_call}
 use Rattle.h2_log_laws.proofs.LogHistory.{any_either}
 use Rattle.h2_log_laws.proofs.ReplyInvariant.{used_more}
-use Rattle.h2_end_laws.specs.Over.{used, IsOver}
+use Rattle.h2_end_laws.specs.Over.{is_number_used, IsOver}
 use Rattle.h2_end_laws.proofs.OverLists.{IsPast, past_sent}
 use Rattle.h2_end_laws.proofs.OverNumbers.{open_answer, fields_active, used_below}
 use Rattle.h2_end_laws.proofs.OverSteps.{Holds, call_keeps}
@@ -102,7 +102,8 @@ items_no_block i view act answer opens writes = refl
 
 -- So it is with any call on a stream that is over.
 opens_other : (log : Log) (i : ℕ) (act : Act) (answer : Answer) → MayAnswer log act answer
-    → used log i ≡ true → (fields : List Field) (end : Bool) (id : ℕ) → act ≡ Open fields end
+    → is_number_used log i ≡ true → (fields : List Field) (end : Bool) (id : ℕ)
+    → act ≡ Open fields end
     → answer ≡ Number id → (id == i) ≡ false
 opens_other log i act answer may was fields end id is answers =
     let opens : MayAnswer log (Open fields end) (Number id) = rw (is, answers) at may in
@@ -137,8 +138,8 @@ over_by_call log act answer i may over =
     (past_of log i over))
 
 -- What was used stays so.
-pub used_by_call : (log : Log) (act : Act) (answer : Answer) (i : ℕ) → used log i ≡ true
-    → used (with_call log act answer) i ≡ true
+pub used_by_call : (log : Log) (act : Act) (answer : Answer) (i : ℕ) → is_number_used log i ≡ true
+    → is_number_used (with_call log act answer) i ≡ true
 used_by_call log act answer i was =
     let grows = grows_call log act answer in
     rw (grows.role, grows.received, grows.sent)

@@ -15,7 +15,7 @@ use Rattle.h2_log.specs.ItemEffects.{events_of}
 use Rattle.h2_log.specs.ItemRules.{Decoded, FrameStep, fails_with, begins_block, completes}
 use Rattle.h2_log.specs.ItemRules.{frame_step, replies_to, verdict_of}
 use Rattle.h2_log_laws.proofs.ReplyInvariant.{used_more}
-use Rattle.h2_end_laws.specs.Over.{used as was_used, IsOver}
+use Rattle.h2_end_laws.specs.Over.{is_number_used as was_used, IsOver}
 use Rattle.h2_end_laws.specs.Takes.{MayTake, Took, has_failed, reports_unprocessed}
 use Rattle.h2_end_laws.specs.Takes.{ends_no_frame, ends_frame, meets_fault, runs_out_of_memory}
 use Rattle.h2_end_laws.proofs.OverCalls.{past_of}

@@ -28,7 +28,7 @@ use Rattle.h2_log_laws.proofs.ReaderStates.{opens_here}
 use Rattle.h2_log_laws.proofs.StreamNumbers.{next_odd}
 use Rattle.h2_log_laws.proofs.StreamNumbers.{opens_low}
 use Rattle.h2_log_laws.proofs.InvariantSends.{client_since}
-use Rattle.h2_end_laws.specs.Over.{used}
+use Rattle.h2_end_laws.specs.Over.{is_number_used}
 use Rattle.h2_end_laws.proofs.WrittenSteps.{call_writes}
 
 -- The number that a client's call answers.
@@ -78,7 +78,7 @@ used_by Client i received sent client was =
     (eqb-true (i % 2) 1 both.0, opens_low i sent both.1)
 used_by Server i received sent client was = cc
 
-pub used_below : (log : Log) (i : ℕ) → log.role ≡ Client → used log i ≡ true
+pub used_below : (log : Log) (i : ℕ) → log.role ≡ Client → is_number_used log i ≡ true
     → i < next_number log
 unfolding next_number
 used_below log i client was =
@@ -104,7 +104,7 @@ block_there i end octets credit sent =
 -- After a call that opens a stream, its number is used.
 opened_used : (log : Log) (fields : List Field) (end : Bool) (id : ℕ) → log.role ≡ Client
     → id ≡ next_number log → id % 2 ≡ 1
-    → used (with_call log (Open fields end) (Number id)) id ≡ true
+    → is_number_used (with_call log (Open fields end) (Number id)) id ≡ true
 unfolding items_of
 opened_used log fields end id client is odd =
     let act = Open fields end in
@@ -118,8 +118,8 @@ opened_used log fields end id client is odd =
 -- A call that opens a stream answers a new number.
 pub opened_is_new : (role : Role) (values : Values) (log : Log) (fields : List Field)
     (end : Bool) (id : ℕ) → IsLog role values log → MayAnswer log (Open fields end) (Number id)
-    → (log.role ≡ Client) × (id ≡ next_number log) × (used log id ≡ false)
-    × (used (with_call log (Open fields end) (Number id)) id ≡ true)
+    → (log.role ≡ Client) × (id ≡ next_number log) × (is_number_used log id ≡ false)
+    × (is_number_used (with_call log (Open fields end) (Number id)) id ≡ true)
 opened_is_new role values log fields end id is may =
     let both = open_answer log fields end id may in
     let own = (stream_of_log role values log is).role in

@@ -14,7 +14,7 @@ use Rattle.h2_log.specs.ItemRules.{Decoded, peer_opens, verdict_by_rules}
 use Rattle.h2_log_laws.proofs.ReaderStates.{active_used, not_idle, state_is_active}
 use Rattle.h2_log_laws.proofs.ReplyInvariant.{used_more, used_here}
 use Rattle.h2_log_laws.proofs.LogViewLemmas.{closed_by_us_is}
-use Rattle.h2_end_laws.specs.Over.{used, IsOver}
+use Rattle.h2_end_laws.specs.Over.{is_number_used, IsOver}
 use Rattle.h2_end_laws.specs.Takes.{TakeAnswer, MayTake}
 use Rattle.h2_end_laws.proofs.OverCalls.{past_of, over_of}
 use Rattle.h2_end_laws.proofs.OverLists.{IsPast, WasUsed, past_sent, past_reported, past_read}
@@ -110,7 +110,7 @@ used_by_rules i log decoded item was =
     (used_more log.role i (item ∷ []) [] log.received log.sent was)
 
 pub used_by_take : (log after : Log) (piece : List ℕ) (answer : TakeAnswer) (i : ℕ)
-    → MayTake log piece answer after → used log i ≡ true → used after i ≡ true
+    → MayTake log piece answer after → is_number_used log i ≡ true → is_number_used after i ≡ true
 used_by_take log after piece answer i may was =
     take_keeps i (WasUsed i)
     (λ role received sent reported items none was. used_more role i [] items received sent was)

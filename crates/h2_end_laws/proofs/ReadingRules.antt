@@ -38,7 +38,7 @@ use Rattle.h2_log_laws.proofs.ReplyInvariant.{used_here}
 use Rattle.h2_log_laws.proofs.InvariantCalls.{odd_some}
 use Rattle.h2_log_laws.proofs.RulesByTests.{second_false}
 use Rattle.h2_log_laws.proofs.LogViewLemmas.{closed_by_us_is}
-use Rattle.h2_end_laws.specs.Readings.{Reading, its_fields, its_octets, its_reset}
+use Rattle.h2_end_laws.specs.Readings.{ItemRead, its_fields, its_octets, its_reset}
 use Rattle.h2_end_laws.specs.Readings.{its_fault, its_goaway, its_acknowledgment, its_pong}
 use Rattle.h2_end_laws.specs.Readings.{MayBeSilent, AreEventsOf, fault_codes}
 use Rattle.h2_end_laws.proofs.FaultCodes.{HasCode}
@@ -240,7 +240,7 @@ rules_see log None (alone frame) = says_any (Unit {0}) _ tt
 rules_see log (Some decoded) (alone frame) = says_any (Unit {0}) _ tt
 
 -- what is read of an item, by its verdict
-abbrev pub reading_of : Log → Option Decoded → Item → Verdict → Reading
+abbrev pub reading_of : Log → Option Decoded → Item → Verdict → ItemRead
 reading_of log decoded item verdict =
     record {
       item = item;

@@ -29,7 +29,7 @@ use Rattle.h2_log_laws.proofs.ItemsThatCome.{comes_as_before, comes_up, comes_de
 use Rattle.h2_log_laws.proofs.LogHistory.{any_either}
 use Rattle.h2_log_laws.proofs.LogInduction.{Replies}
 use Rattle.h2_log_laws.proofs.NoGoAways.{replies_none}
-use Rattle.h2_end_laws.specs.Readings.{Reading, IsEventOf, its_pong, AreEventsOf, DecodesTo}
+use Rattle.h2_end_laws.specs.Readings.{ItemRead, IsEventOf, its_pong, AreEventsOf, DecodesTo}
 use Rattle.h2_end_laws.specs.Readings.{AreDecoded, items_read, events_read, events_of_items}
 use Rattle.h2_end_laws.specs.Readings.{AreReadings, fault_codes}
 use Rattle.h2_end_laws.specs.Replies.{replies_owed, replies_among}
@@ -47,7 +47,7 @@ use Rattle.h2_end_laws.proofs.ReadingRules.{processed_low}
 -- at a server unused numbers are above those processed.
 pub record AreRead (role : Role) (received sent : List Item) (reported : List Event)
     (table : Entries) (failed : Option Code) : Type 0 where
-  pub readings : List Reading
+  pub readings : List ItemRead
   pub items : items_read readings ≡ received
   pub events : events_read readings ≡ events_of_items reported
   pub each : AreReadings role sent reported readings
@@ -77,21 +77,25 @@ none_more (event ∷ events) later none after = cc
 
 -- Readings still stand where more was written, and unprocessed streams were reported.
 readings_more : (role : Role) (items sent : List Item) (events reported : List Event)
-    (readings : List Reading) → events_of_items events ≡ []
+    (readings : List ItemRead) → events_of_items events ≡ []
     → AreReadings role sent reported readings
     → AreReadings role (items ++ sent) (events ++ reported) readings
 readings_more role items sent events reported [] none are = none_more events reported none are
-readings_more role items sent events reported (reading ∷ readings) none are = (
-  items ++ are.0,
-  events ++ are.1,
-  ap (λ (line : List Item). items ++ line) are.2 ∙ sym (append_assoc items are.0 reading.sent),
-  ap (λ (line : List Event). events ++ line) are.3
-      ∙ sym (append_assoc events are.1 (reading.events ++ reading.reported)),
-  none_more events are.1 none are.4,
-  are.5,
-  are.6,
-  are.7,
-)
+readings_more role items sent events reported (reading ∷ readings) none are =
+    let stands = are.0 in (
+      record {
+        sent_later = items ++ stands.sent_later;
+        reported_later = events ++ stands.reported_later;
+        sent_is = ap (λ (line : List Item). items ++ line) stands.sent_is
+            ∙ sym (append_assoc items stands.sent_later reading.sent);
+        reported_is = ap (λ (line : List Event). events ++ line) stands.reported_is
+            ∙ sym (append_assoc events stands.reported_later (reading.events ++ reading.reported));
+        unprocessed_alone = none_more events stands.reported_later none stands.unprocessed_alone;
+        replied = stands.replied;
+        events = stands.events;
+      },
+      are.1,
+    )
 
 -- Items that are written keep this, if no GOAWAY is among them.
 wrote : (role : Role) (received items sent : List Item) (reported : List Event) (table : Entries)
@@ -180,7 +184,7 @@ unfolding events_of_items
 event_stays received _ _ _ reported (its_pong octets) = refl
 event_stays received _ _ _ reported is = refl
 
-events_stay : (role : Role) (received : List Item) (reading : Reading)
+events_stay : (role : Role) (received : List Item) (reading : ItemRead)
     (events reported : List Event) → AreEventsOf role received reading events
     → events_of_items (events ++ reported) ≡ events ++ events_of_items reported
 events_stay role received reading [] reported are = refl
@@ -225,13 +229,15 @@ item_read log decoded item verdict none sees coded typed replied seen says are =
       events = ap (λ (line : List Event). reading.events ++ line) are.events
           ∙ sym (events_stay log.role log.received reading reading.events log.reported said);
       each = (
-        [],
-        [],
-        refl,
-        refl,
-        none_later,
-        replied ∙ ap replies_owed (sym are.items),
-        rw are.items said,
+        record {
+          sent_later = [];
+          reported_later = [];
+          sent_is = refl;
+          reported_is = refl;
+          unprocessed_alone = none_later;
+          replied = replied ∙ ap replies_owed (sym are.items);
+          events = rw are.items said;
+        },
         are.each,
       );
       decoded_in = (log.table, are.decoded_in, decodes log decoded item verdict sees is_seen);

@@ -12,7 +12,7 @@ use Rattle.h2_log.specs.LogCalls.{with_call, opened}
 use Rattle.h2_log.specs.Histories.{IsLog, begins, called_one}
 use Rattle.h2_end_laws.specs.Replays.{ReplayAct, Take, Make, TakesAll, is_done, goes_on, has_fault}
 use Rattle.h2_end_laws.specs.Replays.{IsReplay, starts, takes, calls, acts_of_turns, Between}
-use Rattle.h2_end_laws.specs.Replays.{InTake, next_phase, phase_after}
+use Rattle.h2_end_laws.specs.Replays.{InTake, next_phase, script_phase}
 use Rattle.h2_end_laws.proofs.TakeAnswers.{take_closed}
 use Rattle.h2_end_laws.proofs.TurnsAdded.{AllPass, Adds, is_output, is_of_take, adds_twice}
 use Rattle.h2_end_laws.proofs.TurnsAdded.{adds_call, adds_take}
@@ -131,9 +131,9 @@ replay_acts role values _ _ _
     ∙ ap (λ (acts : List ReplayAct). Make act ∷ acts) (replay_acts role values acts log turns is)
 
 -- What happens inside of `take` stays there.
-phase_of_take : (news turns : List Turn) → AllPass is_of_take news → phase_after turns ≡ InTake
-    → phase_after (news ++ turns) ≡ InTake
-unfolding phase_after next_phase
+phase_of_take : (news turns : List Turn) → AllPass is_of_take news → script_phase turns ≡ InTake
+    → script_phase (news ++ turns) ≡ InTake
+unfolding script_phase next_phase
 phase_of_take [] turns pass is = is
 phase_of_take (In octets ∷ news) turns pass is = rw (phase_of_take news turns pass.1 is) refl
 phase_of_take (Out octets ∷ news) turns pass is = rw (phase_of_take news turns pass.1 is) refl
@@ -146,8 +146,8 @@ phase_of_take (TakeAnswered fault ∷ news) turns pass is = absurd (both_ways fa
 
 -- Output after an answer stands between acts.
 phase_of_output : (news turns : List Turn) → AllPass is_output news
-    → phase_after turns ≡ Between → phase_after (news ++ turns) ≡ Between
-unfolding phase_after next_phase
+    → script_phase turns ≡ Between → script_phase (news ++ turns) ≡ Between
+unfolding script_phase next_phase
 phase_of_output [] turns pass is = is
 phase_of_output (In octets ∷ news) turns pass is = absurd (both_ways false refl pass.0)
 phase_of_output (Out octets ∷ news) turns pass is =
@@ -160,32 +160,32 @@ phase_of_output (TakeAnswered fault ∷ news) turns pass is = absurd (both_ways 
 
 -- Octets that are handed to `take`, and what happens, and its answer.
 phase_of_taking : (octets : List ℕ) (fault : Option Code) (news turns : List Turn)
-    → AllPass is_of_take news → phase_after turns ≡ Between
-    → phase_after (TakeAnswered fault ∷ news ++ TakeCalled octets ∷ turns) ≡ Between
-unfolding phase_after next_phase
+    → AllPass is_of_take news → script_phase turns ≡ Between
+    → script_phase (TakeAnswered fault ∷ news ++ TakeCalled octets ∷ turns) ≡ Between
+unfolding script_phase next_phase
 phase_of_taking octets fault news turns pass is =
     rw (phase_of_take news (TakeCalled octets ∷ turns) pass (rw is refl)) refl
 
 -- A call and its answer.
-phase_of_called : (act : Act) (answer : Answer) (turns : List Turn) → phase_after turns ≡ Between
-    → phase_after (Answered answer ∷ Called act ∷ turns) ≡ Between
-unfolding phase_after next_phase
+phase_of_called : (act : Act) (answer : Answer) (turns : List Turn) → script_phase turns ≡ Between
+    → script_phase (Answered answer ∷ Called act ∷ turns) ≡ Between
+unfolding script_phase next_phase
 phase_of_called act answer turns is = rw is refl
 
 -- A call, its answer, and output.
 phase_of_call : (act : Act) (answer : Answer) (news turns : List Turn)
-    → HasCalled act answer news → phase_after turns ≡ Between
-    → phase_after (news ++ turns) ≡ Between
+    → HasCalled act answer news → script_phase turns ≡ Between
+    → script_phase (news ++ turns) ≡ Between
 phase_of_call act answer news turns call is =
-    ap (λ (line : List Turn). phase_after (line ++ turns)) call.all
-    ∙ ap phase_after (append_assoc call.outs (Answered (shown answer) ∷ Called act ∷ []) turns)
+    ap (λ (line : List Turn). script_phase (line ++ turns)) call.all
+    ∙ ap script_phase (append_assoc call.outs (Answered (shown answer) ∷ Called act ∷ []) turns)
     ∙ phase_of_output call.outs (Answered (shown answer) ∷ Called act ∷ turns) call.pass
     (phase_of_called act (shown answer) turns is)
 
 -- Each act has one call and one answer.
 pub replay_answers : (role : Role) (values : Values) (acts : List ReplayAct) (log : Log)
-    (turns : List Turn) → IsReplay role values acts log turns → phase_after turns ≡ Between
-unfolding phase_after next_phase opened
+    (turns : List Turn) → IsReplay role values acts log turns → script_phase turns ≡ Between
+unfolding script_phase next_phase opened
 replay_answers role values _ _ _ (starts in_range) = refl
 replay_answers role values _ _ _
     (takes {acts = acts} {log = log} {after = after} {turns = turns} is octets fault all news

@@ -11,3 +11,4 @@ pub mod Sendings
 pub mod Takes
 pub mod Activity
 pub mod Written
+pub mod WithinWindows

@@ -6,13 +6,13 @@ use Rattle.h2_log.specs.Log.{Log, active, send_window}
 
 -- Whether a number was used: it was opened, or passed over.
 -- rule (law): 5.1 A used number stays used, and a stream that is over stays over
-abbrev pub used : Log → ℕ → Bool
-used log i = is_used log.role i log.received log.sent
+abbrev pub is_number_used : Log → ℕ → Bool
+is_number_used log i = is_used log.role i log.received log.sent
 
 -- A stream is over: its number was used, and it isn't active.
 -- rule (law): 5.1 A used number stays used, and a stream that is over stays over
 pub record IsOver (log : Log) (i : ℕ) : Type 0 where
-  pub was_used : used log i ≡ true
+  pub was_used : is_number_used log i ≡ true
   pub not_active : active log i ≡ false
 
 -- Whether both windows let an octet go on the stream.

@@ -28,7 +28,7 @@ use Rattle.h2_end_laws.specs.Replies.{replies_owed, replies_among}
 
 -- an item that was read; what had been written and reported by then; what its block decodes to; and
 -- what was reported of it
-pub record Reading : Type 0 where
+pub record ItemRead : Type 0 where
   pub item : Item
   pub sent : List Item
   pub reported : List Event
@@ -88,7 +88,7 @@ MayBeSilent role received sent reported (alone frame) = Unit {0}
 
 -- At most one event is reported of an item, and it is what the item says. `received`: the items
 -- that were read before it.
-abbrev pub AreEventsOf : Role → (received : List Item) → Reading → List Event → Type 0
+abbrev pub AreEventsOf : Role → (received : List Item) → ItemRead → List Event → Type 0
 AreEventsOf role received reading [] =
     MayBeSilent role received reading.sent reading.reported reading.item
 AreEventsOf role received reading (event ∷ []) =
@@ -98,7 +98,7 @@ AreEventsOf role received reading (event ∷ other ∷ events) = ⊥
 -- A block decodes at the table after all blocks before it, with the table limit that was in force;
 -- other items change no table.
 -- rule: 4.3 Each received block is decoded, also one that is ignored
-abbrev pub DecodesTo : Entries → Item → Reading → Entries → Type 0
+abbrev pub DecodesTo : Entries → Item → ItemRead → Entries → Type 0
 DecodesTo before (alone frame) reading after = (reading.decoded ≡ None) × (after ≡ before)
 DecodesTo before (block stream end octets) reading after =
     (decoded : Decoded) × (reading.decoded ≡ Some decoded)
@@ -108,17 +108,17 @@ DecodesTo before (block stream end octets) reading after =
 
 -- The items decode one after another, from the first table on.
 -- rule: 4.3 Each received block is decoded, also one that is ignored
-abbrev pub AreDecoded : List Reading → Entries → Type 0
+abbrev pub AreDecoded : List ItemRead → Entries → Type 0
 AreDecoded [] after = after ≡ empty_table 4096
 AreDecoded (reading ∷ readings) after =
     (before : Entries) × AreDecoded readings before × DecodesTo before reading.item reading after
 
 -- the items of readings, and their events
-unfoldable pub items_read : List Reading → List Item
+unfoldable pub items_read : List ItemRead → List Item
 items_read [] = []
 items_read (reading ∷ readings) = reading.item ∷ items_read readings
 
-unfoldable pub events_read : List Reading → List Event
+unfoldable pub events_read : List ItemRead → List Event
 events_read [] = []
 events_read (reading ∷ readings) = reading.events ++ events_read readings
 
@@ -128,21 +128,31 @@ events_of_items [] = []
 events_of_items (UnprocessedEvent id ∷ events) = events_of_items events
 events_of_items (event ∷ events) = event ∷ events_of_items events
 
--- Each reading stands in the log where it was made: after its events, and before those of the next
--- one, only unprocessed streams were reported, and so before the first; and what had been written
--- by then has the replies to the items before it, and no other.
-abbrev pub AreReadings : Role → (sent : List Item) → (reported : List Event) → List Reading → Type 0
+-- A reading stands in the log where it was made: after its events, and before those of the next
+-- one, only unprocessed streams were reported; and what had been written by then has the replies to
+-- the items before it, and no other. `before`: the readings before this one.
+pub record IsPlacedIn (role : Role) (sent : List Item) (reported : List Event) (reading : ItemRead)
+    (before : List ItemRead) : Type 0 where
+  pub sent_later : List Item
+  pub reported_later : List Event
+  pub sent_is : sent ≡ sent_later ++ reading.sent
+  pub reported_is : reported ≡ reported_later ++ (reading.events ++ reading.reported)
+  pub unprocessed_alone : events_of_items reported_later ≡ []
+  pub replied : replies_among reading.sent ≡ replies_owed (items_read before)
+  pub events : AreEventsOf role (items_read before) reading reading.events
+
+-- Each reading stands so, up to what the next one found; before the first, only unprocessed streams
+-- were reported.
+abbrev pub AreReadings : Role → (sent : List Item) → (reported : List Event) → List ItemRead
+    → Type 0
 AreReadings role sent reported [] = events_of_items reported ≡ []
 AreReadings role sent reported (reading ∷ readings) =
-    (newer : List Item) × (later : List Event) × (sent ≡ newer ++ reading.sent)
-    × (reported ≡ later ++ (reading.events ++ reading.reported)) × (events_of_items later ≡ [])
-    × (replies_among reading.sent ≡ replies_owed (items_read readings))
-    × AreEventsOf role (items_read readings) reading reading.events
+    IsPlacedIn role sent reported reading readings
     × AreReadings role reading.sent reading.reported readings
 
 -- What a log has read, and what it has made of it.
 pub record HasReadings (log : Log) : Type 0 where
-  pub readings : List Reading
+  pub readings : List ItemRead
   pub items : items_read readings ≡ log.received
   pub events : events_read readings ≡ events_of_items log.reported
   pub each : AreReadings log.role log.sent log.reported readings

@@ -76,9 +76,9 @@ next_phase InTake (TakeAnswered fault) = Between
 next_phase InCall (Answered answer) = Between
 next_phase phase turn = Wrong
 
-unfoldable pub phase_after : List Turn → Phase
-phase_after [] = Between
-phase_after (turn ∷ turns) = next_phase (phase_after turns) turn
+unfoldable pub script_phase : List Turn → Phase
+script_phase [] = Between
+script_phase (turn ∷ turns) = next_phase (script_phase turns) turn
 
 -- the octets of acts, the first one first
 unfoldable pub octets_of_acts : List ReplayAct → List ℕ

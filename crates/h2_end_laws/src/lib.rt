@@ -25,6 +25,6 @@ pub use streams::{
 pub use takes::{frames_without_memory_are_taken, take_answers};
 pub use writes::{
     blocks_are_of_the_lists, each_is_replied_to, each_step_writes_what_it_owes,
-    nothing_follows_a_failure, receive_window_is_kept, stream_window_is_conserved,
-    windows_hold_data, written_items_can_be_sent,
+    no_data_passes_windows, nothing_follows_a_failure, receive_window_is_kept,
+    stream_window_is_conserved, windows_hold_data, written_items_can_be_sent,
 };

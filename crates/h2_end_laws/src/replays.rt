@@ -6,7 +6,7 @@ ghost use Rattle.h2_log.specs.Acts.{Values, Turn};
 ghost use Rattle.h2_log.specs.Log.{Log};
 ghost use Rattle.h2_log.specs.Histories.{IsLog};
 ghost use Rattle.h2_log_laws.specs.Turns.{octets_in, octets_out, events_in};
-ghost use Rattle.h2_end_laws.specs.Replays.{ReplayAct, IsReplay, acts_of_turns, phase_after};
+ghost use Rattle.h2_end_laws.specs.Replays.{ReplayAct, IsReplay, acts_of_turns, script_phase};
 ghost use Rattle.h2_end_laws.specs.Replays.{Between};
 ghost use Rattle.h2_end_laws.specs.Replays.{octets_of_acts};
 
@@ -19,7 +19,7 @@ pub fn replays_are_logs()
     ensures acts { (role : Role) (values : Values) (acts : List ReplayAct) (log : Log)
         (turns : List Turn) → IsReplay role values acts log turns → acts_of_turns turns ≡ acts }
     ensures answers { (role : Role) (values : Values) (acts : List ReplayAct) (log : Log)
-        (turns : List Turn) → IsReplay role values acts log turns → phase_after turns ≡ Between }
+        (turns : List Turn) → IsReplay role values acts log turns → script_phase turns ≡ Between }
     ensures recorded { (role : Role) (values : Values) (acts : List ReplayAct) (log : Log)
         (turns : List Turn) → IsReplay role values acts log turns
         → (octets_in turns ≡ log.input) × (octets_out turns ≡ log.written)

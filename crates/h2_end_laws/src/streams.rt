@@ -11,16 +11,17 @@ ghost use Rattle.h2_log.specs.Log.{Log, owed, next_number};
 ghost use Rattle.h2_log.specs.LogCalls.{MayAnswer, with_call};
 ghost use Rattle.h2_log.specs.Histories.{IsLog};
 ghost use Rattle.h2_end_laws.specs.Takes.{TakeAnswer, MayTake, Took};
-ghost use Rattle.h2_end_laws.specs.Over.{used, IsOver, has_room};
+ghost use Rattle.h2_end_laws.specs.Over.{is_number_used, IsOver, has_room};
 
 // contract: 5.1 A used number stays used, and a stream that is over stays over
 /// A number that was used stays used, and a stream that is over stays over (RFC 9113, section
 /// 5.1).
 pub fn over_streams_stay_over()
     ensures used_by_calls { (log : Log) (act : Act) (answer : Answer) (i : ℕ)
-        → used log i ≡ true → used (with_call log act answer) i ≡ true }
+        → is_number_used log i ≡ true → is_number_used (with_call log act answer) i ≡ true }
     ensures used_by_takes { (log after : Log) (piece : List ℕ) (answer : TakeAnswer) (i : ℕ)
-        → MayTake log piece answer after → used log i ≡ true → used after i ≡ true }
+        → MayTake log piece answer after → is_number_used log i ≡ true
+        → is_number_used after i ≡ true }
     ensures over_by_calls { (log : Log) (act : Act) (answer : Answer) (i : ℕ)
         → MayAnswer log act answer → IsOver log i → IsOver (with_call log act answer) i }
     ensures over_by_takes { (log after : Log) (piece : List ℕ) (answer : TakeAnswer) (i : ℕ)
@@ -33,10 +34,10 @@ pub fn over_streams_stay_over()
 pub fn events_are_of_streams_in_use()
     ensures fields { (log after : Log) (piece : List ℕ) (count id : ℕ) (list : List Field)
         (end : Bool) → MayTake log piece (Took count (Some (FieldsEvent id list end))) after
-        → (IsOver log id → ⊥) × (used after id ≡ true) }
+        → (IsOver log id → ⊥) × (is_number_used after id ≡ true) }
     ensures data { (log after : Log) (piece : List ℕ) (count id : ℕ) (octets : List ℕ) (flow : ℕ)
         (end : Bool) → MayTake log piece (Took count (Some (DataEvent id octets flow end))) after
-        → (IsOver log id → ⊥) × (used after id ≡ true) }
+        → (IsOver log id → ⊥) × (is_number_used after id ≡ true) }
 {}
 
 /// A call that opens a stream answers the next number, which wasn't used before, and is from then
@@ -44,8 +45,8 @@ pub fn events_are_of_streams_in_use()
 pub fn opened_numbers_are_new()
     ensures { (role : Role) (values : Values) (log : Log) (fields : List Field) (end : Bool)
         (id : ℕ) → IsLog role values log → MayAnswer log (Open fields end) (Number id)
-        → (log.role ≡ Client) × (id ≡ next_number log) × (used log id ≡ false)
-        × (used (with_call log (Open fields end) (Number id)) id ≡ true) }
+        → (log.role ≡ Client) × (id ≡ next_number log) × (is_number_used log id ≡ false)
+        × (is_number_used (with_call log (Open fields end) (Number id)) id ≡ true) }
 {}
 
 // contract: 6.9 Where nothing is owed nothing is, until octets are reported

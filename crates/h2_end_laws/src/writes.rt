@@ -23,6 +23,7 @@ ghost use Rattle.h2_log_laws.specs.Sending.{IsSendable, AreSendable};
 ghost use Rattle.h2_end_laws.specs.Failures.{EndsInGoAway};
 ghost use Rattle.h2_end_laws.specs.Replies.{replies_owed, replies_among};
 ghost use Rattle.h2_end_laws.specs.Sendings.{EncodesInOrder, settings_received, lists_accepted};
+ghost use Rattle.h2_end_laws.specs.WithinWindows.{KeepsWindows};
 ghost use Rattle.h2_end_laws.specs.Written.{Writes};
 
 // contract: 6.5.3 SETTINGS are acknowledged before anything else is sent
@@ -88,6 +89,18 @@ pub fn each_step_writes_what_it_owes()
         → ((code : Code) → verdict_of (log_view log) decoded item ≡ ConnectionFault code → ⊥)
         → Writes log (with_item log decoded item)
         (replies_to (verdict_of (log_view log) decoded item) item) }
+{}
+
+// contract: 6.9.1 DATA is sent within both windows
+/// No DATA of an end's whole history passes its windows. Of the item that was written last, if it
+/// is DATA with octets, neither send window is negative by all that was read (`newest`), as
+/// [`windows_hold_data`] says of each call; of any other such DATA that was written, by some first
+/// part of all that was read up to now, with just the SETTINGS that had been acknowledged
+/// (`within`). And on each stream as many octets of DATA were written as calls of `data` have sent
+/// (section 6.9.1).
+pub fn no_data_passes_windows()
+    ensures { (role : Role) (values : Values) (log : Log) → IsLog role values log
+        → KeepsWindows log }
 {}
 
 /// Right after DATA with octets was written, neither send window is negative (section 6.9.1).

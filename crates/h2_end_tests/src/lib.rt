@@ -1,7 +1,8 @@
 //! What no case says of the engines, of two joined ends, of laws and of what the README shows.
 //!
 //! - `engines`: refused allocations, `Debug`, and a list of acts that is run.
-//! - `laws`: that each law can be called. `uses`: that the README's programs answer.
+//! - `laws`: that each law can be called. `texts`: what refusals and faults say. `uses`: that the
+//!   README's programs answer.
 //!
 //! They stand in one crate without code of its own, so that the gate proves the crates that they
 //! test once for all of them. Ends that are driven at random are cases: `bench/drive` makes them.
@@ -11,5 +12,7 @@
 mod engines;
 #[cfg(test)]
 mod laws;
+#[cfg(test)]
+mod texts;
 #[cfg(test)]
 mod uses;

@@ -1,20 +1,16 @@
 -- A new end represents that nothing has happened.
-use Rattle.std.proofs.Common.{◌≡◌, ℕ, false, List, [], ◌++◌, None, refl, sym, ap, ◌∙◌, inl, inr}
-use Rattle.std.proofs.lemmas.Bool.{both_ways, false_from_ne_true}
+use Rattle.std.proofs.Common.{◌≡◌, ℕ, List, [], ◌++◌, None, refl, sym, ap, ◌∙◌, inl, inr}
+use Rattle.std.proofs.lemmas.Bool.{both_ways}
 use Rattle.h2_log.specs.declared.role.Role.{Role}
-use Rattle.h2_log.specs.declared.role.Role.TheVariants.{Client, Server}
 use Rattle.h2_log.specs.Acts.{Values}
-use Rattle.h2_log.specs.Items.{is_block_on}
-use Rattle.h2_log.specs.Log.{active}
 use Rattle.h2_log.specs.LogCalls.{opened}
 use Rattle.h2_log.specs.LogSteps.{with_sent}
 use Rattle.h2_conn.specs.Conn.{ConnRepresents}
-use Rattle.h2_log_laws.proofs.ReaderStates.{active_parts}
 use Rattle.h2_pair.specs.Tokens.{Token, tokens_sent, tokens_heard}
 use Rattle.h2_ends.specs.declared.end.End.{End}
 use Rattle.h2_ends.specs.declared.span.Spans.{Spans}
 use Rattle.h2_ends.specs.Ends.{message_for, parts_on, tokens_given, tokens_of_parts}
-use Rattle.h2_ends.specs.Represents.{EndRepresents, IsKept, IsInStep, SendsInOrder, new_end}
+use Rattle.h2_ends.specs.Represents.{EndRepresents, IsKept, IsInStep, SendsInOrder, new_end_log}
 use Rattle.h2_end_laws.proofs.OverRoom.{owed_inactive}
 use Rattle.h2_machine_laws.proofs.NewEnd.{new_is_active as none_active}
 
@@ -33,7 +29,7 @@ unfolding tokens_sent
 none_sent i = refl
 
 -- Nothing is kept of any stream, and nothing has happened on it.
-nothing_kept : (role : Role) (values : Values) (i : ℕ) → IsKept (new_end role values) i None
+nothing_kept : (role : Role) (values : Values) (i : ℕ) → IsKept (new_end_log role values) i None
 unfolding IsKept parts_on message_for
 nothing_kept role values i =
     record {
@@ -47,7 +43,7 @@ unfolding message_for
 none_given i = refl
 
 -- So all that it was given to say is said,
-new_sends : (role : Role) (values : Values) (i : ℕ) → SendsInOrder (new_end role values) i
+new_sends : (role : Role) (values : Values) (i : ℕ) → SendsInOrder (new_end_log role values) i
 unfolding tokens_given
 new_sends role values i =
     let none = ap (tokens_sent i) (opened_calls role values) ∙ none_sent i in
@@ -60,20 +56,20 @@ new_sends role values i =
 
 -- nothing was heard, and no stream is active.
 new_in_step : (spans : Spans) (role : Role) (values : Values) (i : ℕ)
-    → IsInStep spans None (new_end role values) i
+    → IsInStep spans None (new_end_log role values) i
 unfolding opened with_sent tokens_heard tokens_of_parts parts_on
 new_in_step spans role values i =
     record {
       all = λ up alive. absurd (both_ways _ (none_active role values i) alive);
       handed = inl refl;
       within = λ waiting waits. cc;
-      owes = λ some. absurd (some (owed_inactive (new_end role values).log i
+      owes = λ some. absurd (some (owed_inactive (new_end_log role values).log i
           (none_active role values i)));
     }
 
 pub starts : (role : Role) (values : Values) (end : End)
     → ConnRepresents values end.conn (opened role values) → end.role ≡ role
-    → end.streams.entries ≡ [] → EndRepresents values end (new_end role values)
+    → end.streams.entries ≡ [] → EndRepresents values end (new_end_log role values)
 starts role values end conn is none =
     record {
       streams = record {

@@ -2,7 +2,7 @@
 use Rattle.std.proofs.Common.{◌≡◌, ◌≢◌, ℕ, false, List, [], Result, Ok, Err, refl, sym}
 use Rattle.std.proofs.lemmas.Bool.{ne_eqb}
 use Rattle.h2_log.specs.declared.refusal.Refusal.{Refusal}
-use Rattle.h2_log.specs.Acts.{Values, Act, Answer, ResetStream, Refuse, SendPing, SendGoAway}
+use Rattle.h2_log.specs.Acts.{Values, Act, Answer, ResetStream, SendPing, SendGoAway}
 use Rattle.h2_log.specs.Acts.{ChangeSettings, PutOut, Number, Count, Done, Refused}
 use Rattle.h2_log.specs.LogCalls.{MayAnswer, with_call}
 use Rattle.h2_conn.specs.Conn.{ConnAnswers, answer_by}
@@ -12,6 +12,7 @@ use Rattle.h2_ends.specs.Ends.{EndLog}
 use Rattle.h2_ends.specs.EndTakes.{end_with_log}
 use Rattle.h2_ends.specs.Represents.{EndAnswers, EndRepresents, RepresentsBut}
 use Rattle.h2_end_laws.specs.Activity.{call_may_close}
+use Rattle.h2_ends.proofs.EndTokens.{no_part_tokens}
 use Rattle.h2_ends.proofs.InSteps.{called_as, called_but}
 
 -- A call that opens and closes no stream, and sends no token.
@@ -27,36 +28,7 @@ quiet_answers old new act answer answers role streams spans none opens closes = 
           closes,
     )
 
--- None of these calls sends one.
-reset_tokens : (id code i : ℕ) (answer : Answer)
-    → tokens_of_call i (ResetStream id code) answer ≡ []
-unfolding tokens_of_call
-reset_tokens id code i answer = refl
-
-pub refuse_tokens : (id code i : ℕ) (answer : Answer)
-    → tokens_of_call i (Refuse id code) answer ≡ []
-unfolding tokens_of_call
-refuse_tokens id code i answer = refl
-
-ping_tokens : (octets : List ℕ) (i : ℕ) (answer : Answer)
-    → tokens_of_call i (SendPing octets) answer ≡ []
-unfolding tokens_of_call
-ping_tokens octets i answer = refl
-
-go_away_tokens : (i : ℕ) (answer : Answer) → tokens_of_call i SendGoAway answer ≡ []
-unfolding tokens_of_call
-go_away_tokens i answer = refl
-
-settings_tokens : (own : Values) (i : ℕ) (answer : Answer)
-    → tokens_of_call i (ChangeSettings own) answer ≡ []
-unfolding tokens_of_call
-settings_tokens own i answer = refl
-
-put_out_tokens : (count i : ℕ) (answer : Answer) → tokens_of_call i (PutOut count) answer ≡ []
-unfolding tokens_of_call
-put_out_tokens count i answer = refl
-
--- Nor opens one a stream: what they answer is no number.
+-- None of these calls opens a stream: what they answer is no number.
 done_opens : (result : Result (Unit {0}) Refusal) (i : ℕ)
     → answer_by (λ done. Done) result ≢ Number i
 done_opens (Ok done) i = λ is. cc
@@ -102,7 +74,7 @@ pub pings : (old new : End) (octets : List ℕ) (result : Result (Unit {0}) Refu
     → EndAnswers old (SendPing octets) (answer_by (λ done. Done) result) new
 pings old new octets result answers role streams spans =
     quiet_answers old new (SendPing octets) _ answers role streams spans
-    (λ i. ping_tokens octets i _) (done_opens result) (λ i. ping_closes octets i _)
+    (λ i. no_part_tokens i (SendPing octets) _ tt) (done_opens result) (λ i. ping_closes octets i _)
 
 pub goes_away : (old new : End) (result : Result (Unit {0}) Refusal)
     → ConnAnswers old.conn SendGoAway (answer_by (λ done. Done) result) new.conn
@@ -110,7 +82,7 @@ pub goes_away : (old new : End) (result : Result (Unit {0}) Refusal)
     → EndAnswers old SendGoAway (answer_by (λ done. Done) result) new
 goes_away old new result answers role streams spans =
     quiet_answers old new SendGoAway _ answers role streams spans
-    (λ i. go_away_tokens i _) (done_opens result) (λ i. go_away_closes i _)
+    (λ i. no_part_tokens i SendGoAway _ tt) (done_opens result) (λ i. go_away_closes i _)
 
 pub changes_settings : (old new : End) (own : Values) (result : Result (Unit {0}) Refusal)
     → ConnAnswers old.conn (ChangeSettings own) (answer_by (λ done. Done) result) new.conn
@@ -118,7 +90,8 @@ pub changes_settings : (old new : End) (own : Values) (result : Result (Unit {0}
     → EndAnswers old (ChangeSettings own) (answer_by (λ done. Done) result) new
 changes_settings old new own result answers role streams spans =
     quiet_answers old new (ChangeSettings own) _ answers role streams spans
-    (λ i. settings_tokens own i _) (done_opens result) (λ i. settings_closes own i _)
+    (λ i. no_part_tokens i (ChangeSettings own) _ tt) (done_opens result)
+    (λ i. settings_closes own i _)
 
 pub puts_out : (old new : End) (count : ℕ) (result : Result ℕ Refusal)
     → ConnAnswers old.conn (PutOut count) (answer_by (λ given. Count given) result) new.conn
@@ -126,7 +99,7 @@ pub puts_out : (old new : End) (count : ℕ) (result : Result ℕ Refusal)
     → EndAnswers old (PutOut count) (answer_by (λ given. Count given) result) new
 puts_out old new count result answers role streams spans =
     quiet_answers old new (PutOut count) _ answers role streams spans
-    (λ i. put_out_tokens count i _) (count_opens result) (λ i. put_out_closes count i _)
+    (λ i. no_part_tokens i (PutOut count) _ tt) (count_opens result) (λ i. put_out_closes count i _)
 
 -- So is a reset that is refused; one that is done may close the stream.
 pub reset_is_refused : (old new : End) (id code : ℕ) (refusal : Refusal)
@@ -135,7 +108,7 @@ pub reset_is_refused : (old new : End) (id code : ℕ) (refusal : Refusal)
     → EndAnswers old (ResetStream id code) (Refused refusal) new
 reset_is_refused old new id code refusal answers role streams spans =
     quiet_answers old new (ResetStream id code) _ answers role streams spans
-    (λ i. reset_tokens id code i _) (done_opens (Err refusal))
+    (λ i. no_part_tokens i (ResetStream id code) _ tt) (done_opens (Err refusal))
     (λ i. reset_closes id code i refusal)
 
 pub reset_is_done : (values : Values) (old new : End) (end : EndLog) (id code : ℕ)
@@ -147,6 +120,6 @@ reset_is_done values old new end id code is answers role streams spans =
     let made = answers values end.log is.streams.conn in (
       made.0,
       called_but values old new end (ResetStream id code) Done id is made.0 made.1 role
-          streams spans (λ i. reset_tokens id code i Done) (done_opens (Ok tt))
+          streams spans (λ i. no_part_tokens i (ResetStream id code) Done tt) (done_opens (Ok tt))
           (reset_closes_one id code),
     )

@@ -1,9 +1,11 @@
--- A part of a message is handed out as that part.
+-- A part of a message is handed out as that part, and its tokens are those that were reported.
 use Rattle.std.proofs.Common.{◌≡◌, ◌≢◌, ℕ, ◌==◌, Bool, true, false, if◌then◌else◌}
 use Rattle.std.proofs.Common.{List, [], ◌∷◌, ◌++◌, Option, None, Some, refl, sym, ap, ◌∙◌}
+use Rattle.std.proofs.Common.{append-nil, append_assoc}
 use Rattle.std.proofs.lemmas.Bool.{eq-eqb, ne_eqb}
 use Rattle.std.specs.Prelude.{is_some}
 use Rattle.hpack.specs.declared.types.field.Field.{Field}
+use Rattle.h2_log.specs.Events.{Event, FieldsEvent, DataEvent}
 use Rattle.h2_message.specs.declared.reading.Reads.{Reads}
 use Rattle.h2_message.specs.declared.reading.Reads.TheVariants.{Requests, Responses}
 use Rattle.h2_message.specs.declared.reading.Phase.{Phase}
@@ -12,13 +14,16 @@ use Rattle.h2_message.specs.declared.reading.Place.{Place}
 use Rattle.h2_message.specs.declared.reading.Place.TheVariants as places
 use Rattle.h2_message.specs.declared.reading.Reading.{Reading}
 use Rattle.h2_message.specs.Messages.{first_broken, interim_rules}
-use Rattle.h2_message.specs.Reading.{Part, FieldsPart, OctetsPart}
+use Rattle.h2_message.specs.Reading.{Part, FieldsPart, OctetsPart, IsReadable}
 use Rattle.h2_message.specs.Phases.{Follows, phase_after, phase_after_all}
 use Rattle.h2_message.specs.Phases.{phase_after_head, phase_after_final, place_at_head, place_in}
-use Rattle.h2_message.specs.Phases.{place_after}
+use Rattle.h2_message.specs.Phases.{place_after, asks_head_first}
 use Rattle.h2_ends.specs.Ends.{InterimHanded, HeadHanded, BodyHanded, TrailersHanded}
-use Rattle.h2_ends.specs.Ends.{part_on, handed_at, handed_as}
+use Rattle.h2_ends.specs.Ends.{part_on, handed_at, handed_as, part_of_event}
+use Rattle.h2_ends.specs.Ends.{tokens_of_part, tokens_of_parts}
+use Rattle.h2_pair.specs.Tokens.{Token, tokens_of_event}
 use Rattle.h2_message.proofs.PhaseSteps.{after_both, after_none}
+use Rattle.h2_message.proofs.PhaseWhole.{not_readable}
 
 -- After no part the phase is the same.
 after_no_part : (reads : Reads) (phase : Option Phase) → phase_after_all reads phase [] ≡ phase
@@ -136,3 +141,85 @@ handed_here reads parts id (FieldsPart list, end) reading follows =
     here_from reads (phase_after_all reads (Some AtHead) parts) id list end reading.phase
     (sym (after_both reads (Some AtHead) parts ((FieldsPart list, end) ∷ [])) ∙ follows.phase)
 handed_here reads parts id (OctetsPart octets, end) reading follows = body_here id octets end
+
+-- What can be read has a phase, and so is handed out as the part that it is.
+pub has_phase : (found : Option Phase) → found ≢ None → (phase : Phase) × (found ≡ Some phase)
+has_phase None some = absurd (some refl)
+has_phase (Some phase) some = (phase, refl)
+
+-- A reading of requests answers whether the first asks with HEAD, and one of responses never.
+abbrev asks_read : Reads → List (Part × Bool) → Bool
+asks_read Requests parts = asks_head_first parts
+asks_read (Responses to_head) parts = false
+
+asks_no_response : (reads : Reads) (parts : List (Part × Bool)) → reads ≢ Requests
+    → asks_read reads parts ≡ false
+asks_no_response Requests parts others = absurd (others refl)
+asks_no_response (Responses to_head) parts others = refl
+
+pub readable_here : (reads : Reads) (parts : List (Part × Bool)) (id : ℕ) (part : Part × Bool)
+    → IsReadable reads (parts ++ part ∷ [])
+    → part_on id (handed_as reads parts id part) ≡ part ∷ []
+readable_here reads parts id part readable =
+    let all = parts ++ part ∷ [] in
+    let found = has_phase (phase_after_all reads (Some AtHead) all)
+    (λ none. not_readable reads all none readable) in
+    handed_here reads parts id part (record {
+      reads = reads;
+      phase = found.0;
+      asks_head = asks_read reads all;
+    }) (record {
+      reads_is = refl;
+      phase = found.1;
+      readable = readable;
+      asks_head = λ requests. rw requests refl;
+      asks_none = λ others. asks_no_response reads all others;
+    })
+
+-- A stream and its part are the same where they are found as the same.
+pub same_part : (one other : ℕ × (Part × Bool)) → Some one ≡ Some other
+    → (one.0 ≡ other.0) × (one.1 ≡ other.1)
+same_part one other is =
+    let same : one ≡ other = cc in (
+      ap (λ (found : ℕ × (Part × Bool)). found.0) same,
+      ap (λ (found : ℕ × (Part × Bool)). found.1) same,
+    )
+
+-- What is no part of a message has no tokens.
+pub no_tokens : (i : ℕ) (event : Event) → part_of_event event ≡ None → tokens_of_event i event ≡ []
+unfolding part_of_event tokens_of_event
+no_tokens i (FieldsEvent id list end) none = absurd (cc)
+no_tokens i (DataEvent id octets flow end) none = absurd (cc)
+no_tokens i event none = refl
+
+-- The tokens of a part are those of its event, and on another stream there are none.
+pub part_tokens : (event : Event) (id : ℕ) (part : Part × Bool)
+    → part_of_event event ≡ Some (id, part) → tokens_of_event id event ≡ tokens_of_part part
+unfolding part_of_event tokens_of_event tokens_of_part
+part_tokens (FieldsEvent stream list end) id part of =
+    let same = same_part (stream, (FieldsPart list, end)) (id, part) of in
+    rw (← same.0, ← same.1, eq-eqb stream stream refl) refl
+part_tokens (DataEvent stream octets flow end) id part of =
+    let same = same_part (stream, (OctetsPart octets, end)) (id, part) of in
+    rw (← same.0, ← same.1, eq-eqb stream stream refl) refl
+part_tokens event id part of = absurd (cc)
+
+pub other_tokens : (event : Event) (i id : ℕ) (part : Part × Bool)
+    → part_of_event event ≡ Some (id, part) → i ≢ id → tokens_of_event i event ≡ []
+unfolding part_of_event tokens_of_event
+other_tokens (FieldsEvent stream list end) i id part of other =
+    let same = same_part (stream, (FieldsPart list, end)) (id, part) of in
+    rw (ne_eqb stream i (λ here. other (sym here ∙ same.0))) refl
+other_tokens (DataEvent stream octets flow end) i id part of other =
+    let same = same_part (stream, (OctetsPart octets, end)) (id, part) of in
+    rw (ne_eqb stream i (λ here. other (sym here ∙ same.0))) refl
+other_tokens event i id part of other = absurd (cc)
+
+-- The tokens of parts with one more.
+pub tokens_with : (parts : List (Part × Bool)) (part : Part × Bool)
+    → tokens_of_parts (parts ++ part ∷ []) ≡ tokens_of_parts parts ++ tokens_of_part part
+unfolding tokens_of_parts
+tokens_with [] part = append-nil (tokens_of_part part)
+tokens_with (first ∷ parts) part =
+    ap (λ (tokens : List Token). tokens_of_part first ++ tokens) (tokens_with parts part)
+    ∙ sym (append_assoc (tokens_of_part first) (tokens_of_parts parts) (tokens_of_part part))

@@ -7,7 +7,7 @@ use Rattle.h2_log.specs.Events.{Event}
 use Rattle.h2_log.specs.Log.{Log, active}
 use Rattle.h2_log.specs.LogCalls.{MayAnswer, with_call}
 use Rattle.h2_end_laws.specs.Takes.{TakeAnswer, MayTake}
-use Rattle.h2_end_laws.specs.Over.{IsOver, used}
+use Rattle.h2_end_laws.specs.Over.{IsOver, is_number_used}
 use Rattle.h2_conn.specs.Conn.{ConnRepresents}
 use Rattle.h2_message.specs.declared.reading.Reads.{Reads}
 use Rattle.h2_message.specs.declared.reading.Reading.{Reading}
@@ -22,7 +22,7 @@ use Rattle.h2_ends.specs.declared.outgoing.Stream.{Stream}
 use Rattle.h2_ends.specs.Ends.{EndLog, Passed, message_for, parts_on, part_on, reads_on, handed_as}
 use Rattle.h2_ends.specs.Ends.{Handed, tokens_out}
 use Rattle.h2_ends.specs.EndTakes.{end_with_log, end_with_handed}
-use Rattle.h2_ends.specs.Represents.{RepresentsStreams, IsKept, SendsInOrder, kept_at}
+use Rattle.h2_ends.specs.Represents.{RepresentsMessages, IsKept, SendsInOrder, kept_at}
 use Rattle.h2_ends.specs.Represents.{IsOutgoing, outgoing_in}
 use Rattle.h2_ends.specs.Heads.{KeepsOne}
 use Rattle.h2_end_laws.proofs.OverCalls.{over_by_call, used_by_call}
@@ -42,7 +42,7 @@ pub record IsSame (old new : EndLog) (i : ℕ) : Type 0 where
   pub accepted : message_for i new.accepted ≡ message_for i old.accepted
   pub sent : tokens_out new i ≡ tokens_out old i
   pub role : new.log.role ≡ old.log.role
-  pub used_still : used old.log i ≡ true → used new.log i ≡ true
+  pub used_still : is_number_used old.log i ≡ true → is_number_used new.log i ≡ true
 
 -- Then the same is read on it, sent of it and kept of it.
 pub same_reads : (old new : EndLog) (i : ℕ) → IsSame old new i → reads_on new i ≡ reads_on old i
@@ -94,10 +94,10 @@ same_sent old new i same is =
 
 -- What is the same of all streams is kept.
 pub all_same : (values : Values) (end new : End) (old happened : EndLog)
-    → RepresentsStreams values end old → ConnRepresents values new.conn happened.log
+    → RepresentsMessages values end old → ConnRepresents values new.conn happened.log
     → new.role ≡ end.role → new.streams ≡ end.streams
     → ((i : ℕ) → IsOver old.log i → IsOver happened.log i) → ((i : ℕ) → IsSame old happened i)
-    → RepresentsStreams values new happened
+    → RepresentsMessages values new happened
 all_same values end new old happened is conn role streams over same =
     record {
       conn = conn;
@@ -111,13 +111,13 @@ all_same values end new old happened is conn role streams over same =
 
 -- So is what is the same of all but one, where that is over or this is kept of it.
 pub most_same : (values : Values) (end new : End) (old happened : EndLog) (id : ℕ)
-    (stream : Option Stream) → RepresentsStreams values end old
+    (stream : Option Stream) → RepresentsMessages values end old
     → ConnRepresents values new.conn happened.log → new.role ≡ end.role
     → happened.log.role ≡ old.log.role → KeepsOne end new id stream
     → ((i : ℕ) → IsOver old.log i → IsOver happened.log i)
     → ((i : ℕ) → i ≢ id → IsSame old happened i)
     → IsOver happened.log id ⊎ IsKept happened id stream
-    → SendsInOrder happened id → RepresentsStreams values new happened
+    → SendsInOrder happened id → RepresentsMessages values new happened
 most_same values end new old happened id stream is conn role same_role keeps over same one sent =
     record {
       conn = conn;
@@ -146,7 +146,7 @@ called_end happened act answer accepted = record {
 -- A call that sends tokens on one stream at most leaves all that is kept of the others.
 pub stepped : (values : Values) (end new : End) (happened : EndLog) (act : Act) (answer : Answer)
     (id : ℕ) (stream : Option Stream) (accepted : List (ℕ × SentMessage))
-    → RepresentsStreams values end happened → MayAnswer happened.log act answer
+    → RepresentsMessages values end happened → MayAnswer happened.log act answer
     → ConnRepresents values new.conn (with_call happened.log act answer)
     → new.role ≡ end.role → KeepsOne end new id stream
     → ((i : ℕ) → i ≢ id → tokens_of_call i act answer ≡ [])
@@ -154,7 +154,7 @@ pub stepped : (values : Values) (end new : End) (happened : EndLog) (act : Act) 
     → IsOver (with_call happened.log act answer) id
     ⊎ IsKept (called_end happened act answer accepted) id stream
     → SendsInOrder (called_end happened act answer accepted) id
-    → RepresentsStreams values new (called_end happened act answer accepted)
+    → RepresentsMessages values new (called_end happened act answer accepted)
 stepped values end new happened act answer id stream accepted is may conn role keeps none given one
     sent =
     most_same values end new happened (called_end happened act answer accepted) id stream is conn
@@ -170,11 +170,11 @@ stepped values end new happened act answer id stream accepted is may conn role k
 
 -- A call that sends no token leaves all that is kept.
 pub quiet_call : (values : Values) (end new : End) (happened : EndLog) (act : Act)
-    (answer : Answer) → RepresentsStreams values end happened → MayAnswer happened.log act answer
+    (answer : Answer) → RepresentsMessages values end happened → MayAnswer happened.log act answer
     → ConnRepresents values new.conn (with_call happened.log act answer)
     → new.role ≡ end.role → new.streams ≡ end.streams
     → ((i : ℕ) → tokens_of_call i act answer ≡ [])
-    → RepresentsStreams values new (end_with_log happened (with_call happened.log act answer))
+    → RepresentsMessages values new (end_with_log happened (with_call happened.log act answer))
 quiet_call values end new happened act answer is may conn role streams none =
     all_same values end new happened (end_with_log happened (with_call happened.log act answer)) is
     conn role streams (λ i past. over_by_call happened.log act answer i may past)
@@ -209,8 +209,8 @@ over_or_none happened id (Some stream) still (inr kept) =
 
 -- A stream that isn't active may be forgotten.
 pub forgotten : (values : Values) (end new : End) (happened : EndLog) (id : ℕ)
-    → RepresentsStreams values end happened → active happened.log id ≡ false → new.conn ≡ end.conn
-    → new.role ≡ end.role → KeepsOne end new id None → RepresentsStreams values new happened
+    → RepresentsMessages values end happened → active happened.log id ≡ false → new.conn ≡ end.conn
+    → new.role ≡ end.role → KeepsOne end new id None → RepresentsMessages values new happened
 forgotten values end new happened id is still conn role keeps =
     most_same values end new happened happened id None is (rw conn is.conn) role refl keeps
     (λ i past. past) (λ i other. same_itself happened i)
@@ -240,10 +240,10 @@ taken_kept happened piece answer log i stream may (inr kept) =
 
 -- Taking octets leaves all that is kept.
 pub taken : (values : Values) (end new : End) (happened : EndLog) (piece : List ℕ)
-    (answer : TakeAnswer) (log : Log) → RepresentsStreams values end happened
+    (answer : TakeAnswer) (log : Log) → RepresentsMessages values end happened
     → MayTake happened.log piece answer log → ConnRepresents values new.conn log
     → new.role ≡ end.role → new.streams ≡ end.streams
-    → RepresentsStreams values new (end_with_log happened log)
+    → RepresentsMessages values new (end_with_log happened log)
 taken values end new happened piece answer log is may conn role streams =
     all_same values end new happened (end_with_log happened log) is conn role streams
     (λ i past. over_by_take happened.log log piece answer i may past)
@@ -270,8 +270,8 @@ passed_none i event = refl
 
 -- What is no part of a message may be handed out.
 pub passed_on : (values : Values) (end : End) (happened : EndLog) (event : Event)
-    → RepresentsStreams values end happened
-    → RepresentsStreams values end (end_with_handed happened happened.log (Passed event))
+    → RepresentsMessages values end happened
+    → RepresentsMessages values end (end_with_handed happened happened.log (Passed event))
 passed_on values end happened event is =
     all_same values end end happened
     (end_with_handed happened happened.log (Passed event)) is is.conn refl refl (λ i past. past)
@@ -334,7 +334,7 @@ not_empty (first ∷ parts) part is = cc
 
 -- This is kept of a stream once a part of its message is handed out.
 pub kept_handed : (happened : EndLog) (handed : Handed) (id : ℕ) (part : Part × Bool)
-    (stream : Stream) → part_on id handed ≡ part ∷ [] → used happened.log id ≡ true
+    (stream : Stream) → part_on id handed ≡ part ∷ [] → is_number_used happened.log id ≡ true
     → Follows (reads_on happened id) (parts_on id happened.handed ++ part ∷ []) stream.reading
     → IsOutgoing happened id stream.outgoing
     → IsKept (end_with_handed happened happened.log handed) id (Some stream)
@@ -351,12 +351,12 @@ kept_handed happened handed id part stream here was follows outgoing =
 -- A part of a message that a reading has taken may be handed out, also where that has ended the
 -- stream.
 pub handed_on : (values : Values) (end new : End) (happened : EndLog) (id : ℕ)
-    (part : Part × Bool) (stream : Stream) → RepresentsStreams values end happened
-    → IsKept happened id (kept end id) → used happened.log id ≡ true
+    (part : Part × Bool) (stream : Stream) → RepresentsMessages values end happened
+    → IsKept happened id (kept end id) → is_number_used happened.log id ≡ true
     → Follows (reads_on happened id) (parts_on id happened.handed ++ part ∷ []) stream.reading
     → stream.outgoing ≡ outgoing_in (kept end id) → KeepsOne end new id (Some stream)
     → new.conn ≡ end.conn → new.role ≡ end.role
-    → RepresentsStreams values new (end_with_handed happened happened.log
+    → RepresentsMessages values new (end_with_handed happened happened.log
     (handed_as (reads_on happened id) (parts_on id happened.handed) id part))
 handed_on values end new happened id part stream is keeps_one was follows outgoing keeps conn role =
     let reads = reads_on happened id in

@@ -2,22 +2,20 @@
 use Rattle.std.proofs.Common.{◌≡◌, ℕ, List, [], ◌++◌, refl, ap, ◌∙◌, append-nil}
 use Rattle.h2_block.specs.Grouping.{Item}
 use Rattle.h2_log.specs.declared.role.Role.{Role}
-use Rattle.h2_log.specs.Acts.{Act, Answer}
+use Rattle.h2_log.specs.declared.refusal.Refusal.{Refusal}
+use Rattle.h2_log.specs.Acts.{Act, Answer, Open, SendFields, SendData, Refused}
 use Rattle.h2_log.specs.Events.{Event}
 use Rattle.h2_log.specs.Log.{Log}
-use Rattle.h2_log.specs.LogView.{log_view}
 use Rattle.h2_log.specs.LogCalls.{with_call}
-use Rattle.h2_log.specs.ItemRules.{verdict_by_rules}
 use Rattle.h2_log.specs.Verdicts.{Verdict, ConnectionFault, StreamFault, NoEvent, Reported}
 use Rattle.h2_end_laws.specs.Takes.{TakeAnswer, MayTake, has_failed, reports_unprocessed}
 use Rattle.h2_end_laws.specs.Takes.{ends_no_frame, ends_frame, meets_fault, runs_out_of_memory}
-use Rattle.h2_end_laws.proofs.OverSteps.{HoldsRead, take_keeps}
+use Rattle.h2_end_laws.proofs.OverSteps.{HoldsRead}
 use Rattle.h2_machine_laws.specs.Machines as steps
-use Rattle.h2_machine_laws.specs.Machines.{Step, log_after}
+use Rattle.h2_machine_laws.specs.Machines.{log_after}
 use Rattle.h2_pair.specs.Tokens.{Token, tokens_of_call, tokens_sent}
 use Rattle.h2_pair.proofs.HeardCalls.{step_calls}
 use Rattle.h2_log_laws.proofs.PartsStay.{call_calls}
-use Rattle.h2_pair.proofs.StepUnprocessed.{role_by_take as take_role}
 
 -- After a call its tokens follow those that were sent before.
 pub call_tokens : (i : ℕ) (log : Log) (act : Act) (answer : Answer)
@@ -34,6 +32,30 @@ call_adds_none i log act answer none =
     call_tokens i log act answer
     ∙ ap (λ (more : List Token). tokens_sent i log.calls ++ more) none
     ∙ append-nil (tokens_sent i log.calls)
+
+-- A call that is refused has none.
+pub refused_tokens : (i : ℕ) (act : Act) (refusal : Refusal)
+    → tokens_of_call i act (Refused refusal) ≡ []
+unfolding tokens_of_call
+refused_tokens i (Open fields end) refusal = refl
+refused_tokens i (SendFields id fields end) refusal = refl
+refused_tokens i (SendData id octets end) refusal = refl
+refused_tokens i act refusal = refl
+
+-- Nor has one that sends no part of a message.
+abbrev pub SendsNoPart : Act → Type 0
+SendsNoPart (Open fields end) = ⊥
+SendsNoPart (SendFields id fields end) = ⊥
+SendsNoPart (SendData id octets end) = ⊥
+SendsNoPart act = Unit {0}
+
+pub no_part_tokens : (i : ℕ) (act : Act) (answer : Answer) → SendsNoPart act
+    → tokens_of_call i act answer ≡ []
+unfolding tokens_of_call
+no_part_tokens i (Open fields end) answer none = absurd none
+no_part_tokens i (SendFields id fields end) answer none = absurd none
+no_part_tokens i (SendData id octets end) answer none = absurd none
+no_part_tokens i act answer none = refl
 
 -- Taking octets is no call.
 pub take_calls : (log after : Log) (piece : List ℕ) (answer : TakeAnswer)

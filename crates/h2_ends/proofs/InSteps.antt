@@ -1,11 +1,10 @@
 -- What a step leaves of what keeps step with what has happened, stream by stream.
-use Rattle.std.proofs.Common.{◌≡◌, ◌≢◌, ℕ, false, List, [], ◌∷◌, ◌++◌, Option, Some, None, sym, ap}
-use Rattle.std.proofs.Common.{◌∙◌, inl, inr, append-nil}
+use Rattle.std.proofs.Common.{◌≡◌, ◌≢◌, ℕ, false, List, [], ◌∷◌, ◌++◌, Option, Some, None, refl}
+use Rattle.std.proofs.Common.{sym, ap, ◌∙◌, inl, inr, append-nil}
 use Rattle.std.proofs.lemmas.Bool.{both_ways, cases_Bool}
 use Rattle.std.proofs.lemmas.List.Elements.{Contains-append_right}
 use Rattle.h2_log.specs.declared.role.Role.{Role}
 use Rattle.h2_log.specs.Acts.{Values, Act, Answer, Number}
-use Rattle.h2_log.specs.Events.{Event}
 use Rattle.h2_log.specs.Log.{Log, active}
 use Rattle.h2_log.specs.LogCalls.{MayAnswer, with_call}
 use Rattle.h2_log.specs.Histories.{IsLog}
@@ -24,7 +23,7 @@ use Rattle.h2_ends.specs.declared.end.End.{End}
 use Rattle.h2_ends.specs.declared.outgoing.Stream.{Stream}
 use Rattle.h2_ends.specs.declared.span.Span.{Span}
 use Rattle.h2_ends.specs.declared.span.Spans.{Spans}
-use Rattle.h2_ends.specs.Ends.{EndLog, Passed, tokens_of_parts}
+use Rattle.h2_ends.specs.Ends.{EndLog, Handed, part_on, tokens_of_parts, tokens_handed}
 use Rattle.h2_ends.specs.EndTakes.{end_with_log, end_with_handed}
 use Rattle.h2_ends.specs.Represents.{EndRepresents, RepresentsBut, IsInStep, KeepsActive, kept_at}
 use Rattle.h2_ends.specs.Represents.{HandsInOrder, OwesWithin, WasRefused, outgoing_in}
@@ -34,7 +33,7 @@ use Rattle.h2_end_laws.proofs.ActivityCalls.{active_by_call, inactive_by_call}
 use Rattle.h2_end_laws.proofs.ActivityTakes.{active_by_take, inactive_by_take}
 use Rattle.h2_end_laws.proofs.ActivityOwed.{none_owed_by_call, none_owed_by_take}
 use Rattle.h2_ends.proofs.EndTokens.{take_calls}
-use Rattle.h2_ends.proofs.EndSteps.{called_end, quiet_call, same_handed, passed_none}
+use Rattle.h2_ends.proofs.EndSteps.{called_end, quiet_call, same_handed}
 
 -- what a call of `take` reports of a stream, token by token
 abbrev pub tokens_reported : ℕ → TakeAnswer → List Token
@@ -52,7 +51,7 @@ refused_called log act answer i was = (
 )
 
 -- Other messages that were accepted, and more calls, leave what was handed out.
-handed_called : (happened : EndLog) (act : Act) (answer : Answer)
+pub handed_called : (happened : EndLog) (act : Act) (answer : Answer)
     (accepted : List (ℕ × SentMessage)) (i : ℕ) → MayAnswer happened.log act answer
     → HandsInOrder happened i → HandsInOrder (called_end happened act answer accepted) i
 handed_called happened act answer accepted i may (inl same) =
@@ -139,7 +138,7 @@ heard_taken log after piece (Took count (Some event)) i says none =
 heard_taken log after piece (Failed code) i says none = ap (tokens_heard i) says.4
 
 -- So it leaves what was handed out.
-handed_taken : (happened : EndLog) (piece : List ℕ) (answer : TakeAnswer) (log : Log) (i : ℕ)
+pub handed_taken : (happened : EndLog) (piece : List ℕ) (answer : TakeAnswer) (log : Log) (i : ℕ)
     → MayTake happened.log piece answer log → tokens_reported i answer ≡ []
     → HandsInOrder happened i → HandsInOrder (end_with_log happened log) i
 handed_taken happened piece answer log i may none (inl same) =
@@ -193,27 +192,32 @@ pub active_taken : (role : Role) (values : Values) (log after : Log) (piece : Li
 active_taken role values log after piece answer stream i is may stays keeps =
     λ some. active_by_take role values log after piece answer i is may (keeps some) stays
 
--- Something is passed on.
-pub in_step_passed : (spans : Spans) (stream : Option Stream) (happened : EndLog) (event : Event)
-    (i : ℕ) → IsInStep spans stream happened i
-    → IsInStep spans stream (end_with_handed happened happened.log (Passed event)) i
-in_step_passed spans stream happened event i is =
-    let same = sym (ap tokens_of_parts
-    (same_handed happened (Passed event) i (passed_none i event)).handed) in
+-- Where the same was handed out of a stream, it is in order as before.
+handed_by : (old new : EndLog) (i : ℕ) → new.log ≡ old.log
+    → tokens_handed new i ≡ tokens_handed old i → HandsInOrder old i → HandsInOrder new i
+handed_by old new i log same (inl is) = inl (rw (log, same) is)
+handed_by old new i log same (inr cut) =
+    inr (record {
+      refused = rw log cut.refused;
+      last = rw log cut.last;
+      prefix = rw (log, same) cut.prefix;
+    })
+
+-- So it is where something is handed out that is no part of its message.
+pub handed_no_part : (happened : EndLog) (handed : Handed) (i : ℕ) → part_on i handed ≡ []
+    → HandsInOrder happened i
+    → HandsInOrder (end_with_handed happened happened.log handed) i
+handed_no_part happened handed i none =
+    handed_by happened (end_with_handed happened happened.log handed) i refl
+    (ap tokens_of_parts (same_handed happened handed i none).handed)
+
+pub in_step_elsewhere : (spans : Spans) (stream : Option Stream) (happened : EndLog)
+    (handed : Handed) (i : ℕ) → part_on i handed ≡ [] → IsInStep spans stream happened i
+    → IsInStep spans stream (end_with_handed happened happened.log handed) i
+in_step_elsewhere spans stream happened handed i none is =
     record {
       all = is.all;
-      handed = elim is.handed [
-        | inl heard ↦ inl (heard ∙ same)
-        | inr cut ↦ inr (record {
-          refused = cut.refused;
-          last = cut.last;
-          prefix = (
-            cut.prefix.0,
-            cut.prefix.1
-                ∙ ap (λ (tokens : List Token). tokens ++ cut.prefix.0) same,
-          );
-        })
-      ];
+      handed = handed_no_part happened handed i none is.handed;
       within = is.within;
       owes = is.owes;
     }

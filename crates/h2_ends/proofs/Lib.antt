@@ -41,3 +41,6 @@ mod QuietRoom
 mod QuietSends
 mod QuietEnds
 pub mod ReadableParts
+pub mod MessageTokensPlaced
+pub mod MessageTokensSaid
+pub mod EndOrder

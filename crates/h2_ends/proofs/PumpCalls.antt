@@ -19,7 +19,8 @@ use Rattle.h2_ends.specs.declared.span.Span.{Span}
 use Rattle.h2_ends.specs.declared.span.Spans.{Spans}
 use Rattle.h2_ends.specs.Ends.{EndLog}
 use Rattle.h2_ends.specs.EndCalls.{IsStuckOn, Pumps, MayPump}
-use Rattle.h2_ends.specs.Represents.{EndRepresents, IsKept, IsInStep, InSpan, IsWithin, KeepsActive}
+use Rattle.h2_ends.specs.Represents.{EndRepresents, IsKept, IsInStep, InSpan, WaitsWithin}
+use Rattle.h2_ends.specs.Represents.{KeepsActive}
 use Rattle.h2_ends.specs.Represents.{outgoing_in}
 use Rattle.h2_ends.specs.Pumping.{IsPumping, KeepsActiveOnly, sends_nothing, IsStuckBelow}
 use Rattle.h2_ends.specs.Sends.{PumpGoes, NoneWaits, WaitsAsBefore, keeps_of}
@@ -82,7 +83,7 @@ pump_passes values start count conn role spans keeps happened id is stuck =
 
 -- On the streams below a number a message waits only in a span.
 abbrev pub WaitsIn : Span → (ℕ → Option Stream) → ℕ → Type 0
-WaitsIn span keeps id = (i : ℕ) → i < id → IsWithin span (keeps i) i
+WaitsIn span keeps id = (i : ℕ) → i < id → WaitsWithin span (keeps i) i
 
 -- Where a message waits, something is kept.
 kept_waits : (stream : Option Stream) (waits : Waiting)
@@ -244,9 +245,9 @@ module _ (values : Values) (start : EndLog) where
 -- stream, or it is in the span.
 pub waits_past : (old new : End) (left more : Span) (id : ℕ) → WaitsAsBefore old new id
     → WaitsIn left (keeps_of old) id → ((i : ℕ) → InSpan left i → InSpan more i)
-    → IsWithin more (keeps_of new id) id → WaitsIn more (keeps_of new) (id + 1)
+    → WaitsWithin more (keeps_of new id) id → WaitsIn more (keeps_of new) (id + 1)
 waits_past old new left more id as_before before wider here = λ i low. elim (cases_eq i id) [
-  | inl same ↦ subst (λ (j : ℕ). IsWithin more (keeps_of new j) j) (sym same) here
+  | inl same ↦ subst (λ (j : ℕ). WaitsWithin more (keeps_of new j) j) (sym same) here
   | inr other ↦ λ waits waiting_is. wider i (before i (omega (arith, low, other)) waits
       (ap outgoing_in (sym (as_before.others i other)) ∙ waiting_is))
 ]

@@ -22,7 +22,7 @@ use Rattle.h2_ends.specs.declared.outgoing.Stream.{Stream}
 use Rattle.h2_ends.specs.declared.outgoing.Waiting.{Waiting}
 use Rattle.h2_ends.specs.Ends.{EndLog, parts_on, reads_on, tokens_given, tokens_out}
 use Rattle.h2_ends.specs.EndCalls.{IsStuckOn}
-use Rattle.h2_ends.specs.Represents.{RepresentsStreams, IsKept, IsStream, IsOutgoing, SendsInOrder}
+use Rattle.h2_ends.specs.Represents.{RepresentsMessages, IsKept, IsStream, IsOutgoing, SendsInOrder}
 use Rattle.h2_ends.specs.Represents.{tokens_kept, outgoing_in}
 use Rattle.h2_ends.specs.Pumping.{end_after_call, with_outgoing, keeps_with, RepresentsBy}
 use Rattle.h2_ends.proofs.EndSteps.{kept, IsSame, same_kept, same_sent, outgoing_kept}
@@ -31,7 +31,7 @@ use Rattle.h2_ends.proofs.PumpTokens.{stuck_sent, stuck_unsaid}
 
 -- An end does so,
 pub by_end : (values : Values) (end : End) (happened : EndLog)
-    → RepresentsStreams values end happened
+    → RepresentsMessages values end happened
     → RepresentsBy values end.conn end.role (kept end) happened
 by_end values end happened is =
     record { represents = is.conn; same_role = is.role; streams = is.streams; sent = is.sent }
@@ -39,7 +39,7 @@ by_end values end happened is =
 -- and what does is an end that keeps the same.
 pub to_end : (values : Values) (new : End) (keeps : ℕ → Option Stream) (happened : EndLog)
     → RepresentsBy values new.conn new.role keeps happened → ((i : ℕ) → kept new i ≡ keeps i)
-    → RepresentsStreams values new happened
+    → RepresentsMessages values new happened
 to_end values new keeps happened is same =
     record {
       conn = is.represents;

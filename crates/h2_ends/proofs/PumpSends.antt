@@ -1,6 +1,6 @@
 -- What a pump makes of one stream: what holds before each call on it, and what each call leaves.
 use Rattle.std.proofs.Common.{◌≡◌, ◌≢◌, ◌⊎◌, inl, inr, ℕ, ◌+◌, ◌<◌, ◌≤◌, ◌==◌, ◌&&◌, Bool, true}
-use Rattle.std.proofs.Common.{false, List, [], length, Option, Some, None, is_none, option_map}
+use Rattle.std.proofs.Common.{false, List, length, Option, Some, None, is_none, option_map}
 use Rattle.std.proofs.Common.{refl, sym, ap, ◌∙◌, subst, arith, length-drop}
 use Rattle.std.specs.List.{list_any}
 use Rattle.std.proofs.lemmas.Bool.{both_ways, and_parts, and_right, cases_Bool, cases_eq, eqb-true}
@@ -17,7 +17,6 @@ use Rattle.h2_log.specs.LogCalls.{MayAnswer, with_call}
 use Rattle.h2_end_laws.proofs.OverRoom.{no_room_by_call}
 use Rattle.h2_conn.specs.declared.conn.Conn.{Conn}
 use Rattle.h2_conn.specs.Conn.{ConnRepresents}
-use Rattle.h2_pair.specs.Tokens.{tokens_of_call}
 use Rattle.h2_ends.specs.declared.outgoing.Outgoing.{Outgoing}
 use Rattle.h2_ends.specs.declared.outgoing.Outgoing.TheVariants as outgoings
 use Rattle.h2_ends.specs.declared.outgoing.Stream.{Stream}
@@ -37,6 +36,7 @@ use Rattle.h2_ends.proofs.PumpCalls.{pump_keeps}
 use Rattle.h2_ends.proofs.PumpEnds.{keeps_here, keeps_other, kept_is, call_represents, same_by}
 use Rattle.h2_ends.proofs.PumpEnds.{same_by_call, stuck_unless_waiting}
 use Rattle.h2_ends.proofs.EndSteps.{same_outgoing}
+use Rattle.h2_ends.proofs.EndTokens.{refused_tokens}
 use Rattle.h2_ends.proofs.PumpRefusals as refused
 use Rattle.h2_ends.proofs.PumpStays.{stays_active}
 use Rattle.h2_ends.proofs.PumpSteps.{pumps_until}
@@ -70,17 +70,6 @@ fields_close_none : (i id : ℕ) (fields : List Field) (end : Bool) (refusal : R
     → call_may_close i (SendFields id fields end) (Refused refusal) ≡ false
 unfolding call_may_close
 fields_close_none i id fields end refusal = refl
-
--- A refused call sends nothing.
-refused_data : (i id : ℕ) (octets : List ℕ) (end : Bool) (refusal : Refusal)
-    → tokens_of_call i (SendData id octets end) (Refused refusal) ≡ []
-unfolding tokens_of_call
-refused_data i id octets end refusal = refl
-
-refused_fields : (i id : ℕ) (fields : List Field) (end : Bool) (refusal : Refusal)
-    → tokens_of_call i (SendFields id fields end) (Refused refusal) ≡ []
-unfolding tokens_of_call
-refused_fields i id fields end refusal = refl
 
 -- As much space is lacking after it as before.
 lacks_after : (log : Log) (act : Act) (refusal : Refusal) → LacksSpace log refusal
@@ -242,11 +231,11 @@ module _ (values : Values) (start : EndLog) (role : Role) (spans : Spans)
         (conn_is : ConnRepresents values new (with_call happened.log (data_act id waits) (Count n)))
       where
         -- Octets were accepted, and this is to be sent then.
-        data_pumping : (outgoing : Outgoing)
+        data_pumping : (outgoing : Outgoing) → waits.sent < length waits.body.items
             → IsOutgoing (end_after_call happened (data_act id waits) (Count n)) id outgoing
             → IsPumping values start (count + n) new role spans (keeps_to outgoing)
             (end_after_call happened (data_act id waits) (Count n)) id
-        data_pumping outgoing sends =
+        data_pumping outgoing some sends =
             let octets = octets_left waits in
             let end = is_none waits.trailers in
             let given = is.pumping.represents.represents.machine.output.given in
@@ -258,7 +247,8 @@ module _ (values : Values) (start : EndLog) (role : Role) (spans : Spans)
                   is.pumping.represents is.alive may conn_is
                   (λ i other. data_none i id octets end (Count n) other) sends;
               in_step = in_step_after (data_act id waits) (Count n) may (λ i wrong. cc) outgoing;
-              calls = sends_data is.pumping.calls id n octets end next_here typed may;
+              calls = sends_data is.pumping.calls id n octets end next_here typed
+                  (body_waits happened id waits waits_here some) may;
               up = data_failed happened.log id octets end n ∙ is.pumping.up;
               sum = omega (arith, more, few);
               below = λ j low. stuck_by_data happened id octets end (Count n) j
@@ -287,7 +277,7 @@ module _ (values : Values) (start : EndLog) (role : Role) (spans : Spans)
             let rest = waits_after happened id waits n waits_here (omega (arith, some)) within
             goes in
             record {
-              pumping = data_pumping (outgoings.Waiting (sent_more waits n)) rest;
+              pumping = data_pumping (outgoings.Waiting (sent_more waits n)) some rest;
               alive = stays_active happened.log id octets end n may
                   (waiting_goes_on _ values after id (sent_more waits n) conn_is.machine.came rest);
               others = data_others (outgoings.Waiting (sent_more waits n));
@@ -307,7 +297,7 @@ module _ (values : Values) (start : EndLog) (role : Role) (spans : Spans)
                   let whole = eqb-true n (length octets) parts.1 in
                   inr (
                     record {
-                      pumping = data_pumping outgoings.Sent
+                      pumping = data_pumping outgoings.Sent some
                           (sent_after_data happened id waits n waits_here parts.0 whole);
                       others = data_others outgoings.Sent;
                     },
@@ -355,20 +345,20 @@ module _ (values : Values) (start : EndLog) (role : Role) (spans : Spans)
     stopped : (new : Conn) (act : Act) (refusal : Refusal)
         → MayAnswer happened.log act (Refused refusal)
         → ConnRepresents values new (with_call happened.log act (Refused refusal))
-        → ((i : ℕ) → tokens_of_call i act (Refused refusal) ≡ [])
         → ((i : ℕ) → call_may_close i act (Refused refusal) ≡ false)
         → calls.Pumps happened 0 (Some refusal) (end_after_call happened act (Refused refusal))
         → LacksSpace happened.log refusal
         → IsStopped count new (end_after_call happened act (Refused refusal)) waits refusal
     unfolding IsOutgoing
-    stopped new act refusal may conn_is none stays last lacks =
+    stopped new act refusal may conn_is stays last lacks =
         let outgoing = outgoings.Waiting waits in
         record {
           represents = call_represents values conn new role keeps happened act (Refused refusal) id
               (with_outgoing stream outgoing) outgoing is.pumping.represents is.alive may conn_is
-              (λ i other. none i) (same_outgoing happened
+              (λ i other. refused_tokens i act refusal) (same_outgoing happened
               (end_after_call happened act (Refused refusal)) id outgoing
-              (same_by_call happened act (Refused refusal) id (none id)) waits_here);
+              (same_by_call happened act (Refused refusal) id (refused_tokens id act refusal))
+              waits_here);
           in_step = in_step_after act (Refused refusal) may (λ i wrong. cc) outgoing;
           active = all_active_after act (Refused refusal) may (λ i wrong. cc) stays;
           calls = pumps_until start happened _ count refusal is.pumping.calls last;
@@ -385,7 +375,7 @@ module _ (values : Values) (start : EndLog) (role : Role) (spans : Spans)
         let octets = octets_left waits in
         let end = is_none waits.trailers in
         stopped new (data_act id waits) refusal may conn_is
-        (λ i. refused_data i id octets end refusal) (λ i. data_closes_none i id octets end refusal)
+        (λ i. data_closes_none i id octets end refusal)
         (data_refused happened id octets end refusal next_here typed
         (body_waits happened id waits waits_here some) may)
         (refused.data_refused happened.log id octets end refusal is.pumping.up is.alive goes_on may)
@@ -400,6 +390,7 @@ module _ (values : Values) (start : EndLog) (role : Role) (spans : Spans)
       fields_go none may conn_is =
           let act = SendFields id fields true in
           let left = length-drop waits.sent waits.body.items in
+          let none_left : length (octets_left waits) ≡ 0 = omega (arith, left, none) in
           let given = is.pumping.represents.represents.machine.output.given in
           let more = fields_wait happened.log id fields true given in
           let few = is.pumping.sum in
@@ -409,10 +400,10 @@ module _ (values : Values) (start : EndLog) (role : Role) (spans : Spans)
                   (with_outgoing stream (outgoings.Waiting waits)) outgoings.Sent
                   is.pumping.represents is.alive may conn_is
                   (λ i other. fields_none i id fields true Done other)
-                  (sent_after_fields happened id waits fields waits_here (omega (arith, left, none))
-                  are);
+                  (sent_after_fields happened id waits fields waits_here none_left are);
               in_step = in_step_after act Done may (λ i wrong. cc) outgoings.Sent;
-              calls = sends_trailers is.pumping.calls id fields next_here typed may;
+              calls = sends_trailers is.pumping.calls id fields next_here typed
+                  (trailers_wait happened id waits fields waits_here none_left are) may;
               up = fields_failed happened.log id fields true ∙ is.pumping.up;
               sum = omega (arith, more, few);
               below = λ j low. stuck_by_fields happened id fields true Done j
@@ -431,7 +422,6 @@ module _ (values : Values) (start : EndLog) (role : Role) (spans : Spans)
       fields_are_refused refusal none may conn_is =
           let left = length-drop waits.sent waits.body.items in
           stopped new (SendFields id fields true) refusal may conn_is
-          (λ i. refused_fields i id fields true refusal)
           (λ i. fields_close_none i id fields true refusal)
           (trailers_refused happened id fields refusal next_here typed
           (trailers_wait happened id waits fields waits_here (omega (arith, left, none)) are) may)

@@ -1,10 +1,9 @@
 -- A stream that this end has not ended stays active after it has sent octets on it.
 use Rattle.std.proofs.Common.{◌≡◌, ℕ, zero, suc, ◌==◌, ◌&&◌, not, nat_le, Bool, true, false}
 use Rattle.std.proofs.Common.{if◌then◌else◌, List, [], ◌∷◌, ◌++◌, length, take, drop, None, refl}
-use Rattle.std.proofs.Common.{inl, inr, ap, ◌∙◌, subst, sym}
+use Rattle.std.proofs.Common.{inl, inr, ap, subst, sym}
 use Rattle.std.specs.List.{list_any}
 use Rattle.std.proofs.lemmas.Bool.{or_from, and_right}
-use Rattle.std.proofs.lemmas.List.Folds.{list_any-append}
 use Rattle.h2_frame.specs.Frames.{Data, WindowUpdate}
 use Rattle.h2_block.specs.Grouping.{Item, alone}
 use Rattle.h2_log.specs.declared.role.Role.{Role}

@@ -10,28 +10,28 @@ use Rattle.h2_log_laws.proofs.NextStreams.{next_passes, next_found}
 use Rattle.h2_log_laws.proofs.ReaderStates.{active_parts}
 use Rattle.h2_ends.specs.Ends.{EndLog}
 use Rattle.h2_ends.specs.EndCalls.{Pumps, pumps_no_more, pumps_data, pumps_trailers}
-use Rattle.h2_ends.specs.Pumping.{Sending, sends_nothing, sends_data, sends_trailers}
+use Rattle.h2_ends.specs.Pumping.{PumpsSoFar, sends_nothing, sends_data, sends_trailers}
 
 -- Calls after them are calls of the pump.
 pub pumps_after : (start now after : EndLog) (count more : ℕ) (refused : Option Refusal)
-    → Sending start count now → Pumps now more refused after
+    → PumpsSoFar start count now → Pumps now more refused after
     → Pumps start (count + more) refused after
 pumps_after start _ after _ more refused sends_nothing pumps =
     let same : more ≡ 0 + more = omega arith in
     subst (λ (n : ℕ). Pumps start n refused after) same pumps
 pumps_after start _ after _ more refused (sends_data {count = count} {now = now} sending id sent
-    octets ends next typed may) pumps =
+    octets ends next typed waits may) pumps =
     let same : count + (sent + more) ≡ (count + sent) + more = omega arith in
     subst (λ (n : ℕ). Pumps start n refused after) same
     (pumps_after start now after count (sent + more) refused sending
-    (pumps_data now id sent more octets ends refused after next typed may pumps))
+    (pumps_data now id sent more octets ends refused after next typed waits may pumps))
 pumps_after start _ after count more refused (sends_trailers {now = now} sending id list next typed
-    may) pumps =
+    wait may) pumps =
     pumps_after start now after count more refused sending
-    (pumps_trailers now id more list refused after next typed may pumps)
+    (pumps_trailers now id more list refused after next typed wait may pumps)
 
 -- So are they themselves,
-pub pumps_all : (start now : EndLog) (count : ℕ) → Sending start count now
+pub pumps_all : (start now : EndLog) (count : ℕ) → PumpsSoFar start count now
     → Pumps start count None now
 pumps_all start now count sending =
     let same : count + 0 ≡ count = omega arith in
@@ -40,7 +40,7 @@ pumps_all start now count sending =
 
 -- and with one that was refused.
 pub pumps_until : (start now after : EndLog) (count : ℕ) (refusal : Refusal)
-    → Sending start count now → Pumps now 0 (Some refusal) after
+    → PumpsSoFar start count now → Pumps now 0 (Some refusal) after
     → Pumps start count (Some refusal) after
 pumps_until start now after count refusal sending last =
     let same : count + 0 ≡ count = omega arith in

@@ -120,38 +120,51 @@ stuck_waiting end id waiting waits some none =
     (waiting_is_kept end id waiting waits
     ∙ ap (λ (octets : List ℕ). each OctetToken octets ++ tail_kept waiting) first.2) none
 
--- Octets of a body that are left wait next.
+-- Trailers are none where they were none as they are kept.
+as_none : {A B : Type 0} (f : A → B) (o : Option A) → is_none o ≡ is_none (option_map f o)
+as_none f None = refl
+as_none f (Some x) = refl
+
+-- Octets of a body that are left wait next, and after them the trailers that are kept.
 pub body_waits : (end : EndLog) (id : ℕ) (waiting : Waiting) → IsWaiting end id waiting
-    → waiting.sent < length waiting.body.items → BodyWaits end id (octets_left waiting)
+    → waiting.sent < length waiting.body.items
+    → BodyWaits end id (octets_left waiting) (is_none waiting.trailers)
 body_waits end id waiting waits some =
     let left = length-drop waiting.sent waiting.body.items in
     record {
       some = λ none. let zero_left : length (octets_left waiting) ≡ 0 = ap length none in
           omega (arith, left, zero_left, some);
-      after = tail_kept waiting;
-      next = waiting_is_kept end id waiting waits;
+      trailers = option_map (λ fields. fields.items) waiting.trailers;
+      waits = waiting_is_kept end id waiting waits;
+      ends_is = as_none (λ fields. fields.items) waiting.trailers;
     }
 
 -- What octets of a body send on their stream.
-data_tokens : (id : ℕ) (octets : List ℕ) (end : Bool) (n : ℕ)
+pub data_tokens : (id : ℕ) (octets : List ℕ) (end : Bool) (n : ℕ)
     → tokens_of_call id (SendData id octets end) (Count n)
     ≡ each OctetToken (take n octets) ++ end_tokens (end && n == length octets)
 unfolding tokens_of_call
 data_tokens id octets end n = rw (eq-eqb id id refl) refl
 
 -- Octets that were sent, and those that are left.
+pub octets_split : (octets : List ℕ) (tail : List Token) (n : ℕ)
+    → each OctetToken (take n octets) ++ (each OctetToken (drop n octets) ++ tail)
+    ≡ each OctetToken octets ++ tail
+octets_split octets tail n =
+    sym (append_assoc (each OctetToken (take n octets)) (each OctetToken (drop n octets)) tail)
+    ∙ ap (λ (line : List Token). line ++ tail)
+    (sym (map-append OctetToken (take n octets) (drop n octets))
+    ∙ ap (each OctetToken) (take-append-drop n octets))
+
 left_split : (waiting : Waiting) (n : ℕ)
     → each OctetToken (take n (octets_left waiting)) ++ tokens_kept (sent_more waiting n)
     ≡ tokens_kept waiting
 left_split waiting n =
     let octets = octets_left waiting in
-    let tail = tail_kept waiting in
-    ap (λ (rest : List ℕ). each OctetToken (take n octets) ++ (each OctetToken rest ++ tail))
+    ap (λ (rest : List ℕ).
+    each OctetToken (take n octets) ++ (each OctetToken rest ++ tail_kept waiting))
     (sym (drop-drop n waiting.sent waiting.body.items))
-    ∙ sym (append_assoc (each OctetToken (take n octets)) (each OctetToken (drop n octets)) tail)
-    ∙ ap (λ (line : List Token). line ++ tail)
-    (sym (map-append OctetToken (take n octets) (drop n octets))
-    ∙ ap (each OctetToken) (take-append-drop n octets))
+    ∙ octets_split octets (tail_kept waiting) n
 
 -- So many octets more were sent, without the end: what is kept then waits.
 kept_rest : (waiting : Waiting) (n : ℕ) (ended : Bool) (out out_after tokens : List Token)
@@ -169,7 +182,7 @@ kept_rest waiting n false out out_after tokens goes more is =
     (sym (more ∙ ap (λ (line : List Token). out ++ line) (append-nil here)))
 
 -- What is not nothing, with more after it, isn't.
-begun_more : (out more : List Token) → out ≢ [] → (out ++ more) ≢ []
+pub begun_more : (out more : List Token) → out ≢ [] → (out ++ more) ≢ []
 begun_more [] more some = λ is. some refl
 begun_more (token ∷ out) more some = λ is. cc
 
@@ -211,26 +224,21 @@ waits_after end id waiting n waits start within goes =
 all_octets : (octets : List ℕ) (n : ℕ) → n ≡ length octets → take n octets ≡ octets
 all_octets octets n all = rw all (take-length octets)
 
-end_alone : (waiting : Waiting) → is_none waiting.trailers ≡ true
-    → tail_kept waiting ≡ EndToken ∷ []
+pub octets_all : (octets : List ℕ) (trailers : Option (List Field)) (n : ℕ) → n ≡ length octets
+    → is_none trailers ≡ true → each OctetToken (take n octets) ++ EndToken ∷ []
+    ≡ each OctetToken octets ++ (trailers_tokens trailers ++ EndToken ∷ [])
 unfolding trailers_tokens
-end_alone waiting none =
-    ap (λ (trailers : Option _). trailers_tokens (option_map (λ fields. fields.items) trailers)
-    ++ EndToken ∷ []) (no_trailers waiting.trailers none)
-  where
-    no_trailers : {A : Type 0} → (trailers : Option A) → is_none trailers ≡ true → trailers ≡ None
-    no_trailers None none = refl
-    no_trailers (Some x) none = absurd (both_ways false refl none)
+octets_all octets None n all none =
+    ap (λ (line : List ℕ). each OctetToken line ++ EndToken ∷ []) (all_octets octets n all)
+octets_all octets (Some list) n all none = absurd (both_ways false refl none)
 
 kept_all : (waiting : Waiting) (n : ℕ) (ended : Bool) → n ≡ length (octets_left waiting)
     → is_none waiting.trailers ≡ true → ended ≡ true
     → each OctetToken (take n (octets_left waiting)) ++ end_tokens ended ≡ tokens_kept waiting
 unfolding end_tokens
 kept_all waiting n true all none ended =
-    ap (λ (octets : List ℕ). each OctetToken octets ++ EndToken ∷ [])
-    (all_octets (octets_left waiting) n all)
-    ∙ ap (λ (tail : List Token). each OctetToken (octets_left waiting) ++ tail)
-    (sym (end_alone waiting none))
+    octets_all (octets_left waiting) (option_map (λ fields. fields.items) waiting.trailers) n all
+    (sym (as_none (λ fields. fields.items) waiting.trailers) ∙ none)
 kept_all waiting n false all none ended = cc
 
 pub sent_after_data : (end : EndLog) (id : ℕ) (waiting : Waiting) (n : ℕ) → IsWaiting end id waiting
@@ -250,7 +258,7 @@ sent_after_data end id waiting n waits none all =
     )
 
 -- Once no octets are left and the trailers were sent, all was sent.
-fields_tokens : (id : ℕ) (fields : List Field)
+pub fields_tokens : (id : ℕ) (fields : List Field)
     → tokens_of_call id (SendFields id fields true) Done ≡ FieldsToken fields true ∷ (EndToken ∷ [])
 unfolding tokens_of_call end_tokens
 fields_tokens id fields = rw (eq-eqb id id refl) refl

@@ -1,12 +1,10 @@
 -- What sending on a stream makes of windows, and of the output that waits.
-use Rattle.std.proofs.Common.{◌≡◌, ◌≢◌, ℕ, zero, suc, ◌+◌, ◌-◌, ◌≤◌, ◌<◌, ◌==◌, min, nat_lt, nat_le}
+use Rattle.std.proofs.Common.{◌≡◌, ◌≢◌, ℕ, zero, suc, ◌+◌, ◌-◌, ◌≤◌, ◌<◌, ◌==◌, min, nat_le}
 use Rattle.std.proofs.Common.{◌&&◌, not, Bool, true, false, if◌then◌else◌, List, [], ◌∷◌, ◌++◌}
 use Rattle.std.proofs.Common.{length, take, drop, None, refl, sym, ap, ◌∙◌, arith, length-append}
 use Rattle.std.proofs.Common.{length-take, length-drop, pos, ◌-ℤ◌, leb-false, ltb-true}
 use Rattle.std.specs.Prelude.{int_lt}
-use Rattle.std.proofs.lemmas.Int.{ints}
 use Rattle.std.proofs.lemmas.Bool.{and_parts, false_from_ne_true, eqb-true}
-use Rattle.std.proofs.lemmas.Bool.Decides.{nat_tests}
 use Rattle.hpack.specs.declared.types.field.Field.{Field}
 use Rattle.h2_frame.specs.Frames.{Data}
 use Rattle.h2_frame.specs.Encoding.{payload_of}
@@ -77,8 +75,8 @@ none_without_room log id octets end may some =
     ((data_accepted log id octets end 0 may).1
     ∙ count_by_sums log id (length octets) (data_active log id octets end 0 may))
 
--- DATA takes at least its octets, by the test whether one is enough, with whichever greatest payload
--- it is written.
+-- DATA takes at least its octets, by the test whether one is enough, with whichever greatest
+-- payload it is written.
 frames_size_by : (by most id : ℕ) (octets : List ℕ) (end b : Bool) (others : List Item)
     → (b ≡ false → length (drop most octets) ≤ size_of by others)
     → length octets ≤ size_of by (if b then alone (Data id end octets None) ∷ []

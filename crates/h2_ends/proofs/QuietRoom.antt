@@ -1,7 +1,7 @@
 -- Whether both windows let an octet go on a stream, by what a connection answers of them.
-use Rattle.std.proofs.Common.{◌≡◌, ◌≢◌, ℕ, Bool, true, false, if◌then◌else◌, ℤ, pos}
+use Rattle.std.proofs.Common.{◌≡◌, ℕ, Bool, true, false, if◌then◌else◌, ℤ, pos}
 use Rattle.std.proofs.Common.{int_lt, Option, Some, None, is_some, refl, sym, ap, subst}
-use Rattle.std.proofs.lemmas.Bool.{both_ways, and_parts, false_from_ne_true, ne_eqb}
+use Rattle.std.proofs.lemmas.Bool.{and_parts, false_from_ne_true, ne_eqb}
 use Rattle.h2_frame.specs.declared.code.Code.{Code}
 use Rattle.h2_log.specs.CallRules.{reader_room}
 use Rattle.h2_log.specs.Log.{Log, active, send_window}
@@ -9,7 +9,6 @@ use Rattle.h2_log.specs.LogView.{log_view}
 use Rattle.h2_log.specs.Windows.{connection_send_window}
 use Rattle.h2_end_laws.specs.Over.{has_room}
 use Rattle.h2_ends.specs.Quiet.{HasRoom}
-use Rattle.h2_ends.proofs.PumpSteps.{zero_inactive}
 use Rattle.h2_log_laws.proofs.InvariantCalls.{active_some as not_zero}
 
 -- What the connection answers of its own window, as long as it is up,

@@ -1,5 +1,5 @@
 -- The calls of a release of all that is owed, one more at their end.
-use Rattle.std.proofs.Common.{◌≡◌, ◌≢◌, ◌⊎◌, inl, inr, ℕ, ◌+◌, ◌<◌, ◌-◌, false, [], Option}
+use Rattle.std.proofs.Common.{◌≡◌, ◌≢◌, ◌⊎◌, inl, inr, ℕ, ◌+◌, ◌<◌, ◌-◌, false, Option}
 use Rattle.std.proofs.Common.{Some, None, Ok, Err, refl, sym, ◌∙◌, subst, arith, nat_lt, ltb-true}
 use Rattle.std.proofs.Common.{ltb-false}
 use Rattle.std.proofs.lemmas.Bool.{cases_Bool, cases_eq}
@@ -9,7 +9,6 @@ use Rattle.h2_log.specs.Log.{Log, active, owed, unreleased, released}
 use Rattle.h2_log.specs.LogCalls.{MayAnswer, with_call}
 use Rattle.h2_end_laws.proofs.OverRoom.{none_owed, none_owed_more}
 use Rattle.h2_conn.specs.Conn.{ConnRepresents}
-use Rattle.h2_pair.specs.Tokens.{tokens_of_call}
 use Rattle.h2_ends.specs.declared.end.End.{End}
 use Rattle.h2_ends.specs.declared.refusal.EndRefusal.TheVariants as refusals
 use Rattle.h2_ends.specs.Ends.{EndLog}
@@ -19,6 +18,7 @@ use Rattle.h2_ends.specs.declared.span.Span.{Span}
 use Rattle.h2_ends.specs.Represents.{EndRepresents, InSpan}
 use Rattle.h2_ends.specs.Pumping.{end_after_call, LacksSpace}
 use Rattle.h2_end_laws.specs.Activity.{call_may_close}
+use Rattle.h2_ends.proofs.EndTokens.{no_part_tokens}
 use Rattle.h2_ends.proofs.InSteps.{called_as}
 use Rattle.h2_ends.proofs.PumpRefusals.{release_refused}
 use Rattle.h2_ends.proofs.PumpSteps.{IsNext, zero_inactive}
@@ -141,10 +141,6 @@ release_passes values start end happened id is none =
         subst (λ (i : ℕ). owed happened.log i ≡ 0) same none
 
 -- or once that was released: a release sends no token, opens no stream and closes none.
-none_sent : (i id count : ℕ) (answer : Answer) → tokens_of_call i (Release id count) answer ≡ []
-unfolding tokens_of_call
-none_sent i id count answer = refl
-
 none_closed : (i id count : ℕ) (answer : Answer)
     → call_may_close i (Release id count) answer ≡ false
 unfolding call_may_close
@@ -161,7 +157,7 @@ release_goes_on values start end new happened id is some typed may conn role str
     release_passes values start new (after_release happened id) id (record {
       represents = called_as values end new happened (Release id (owed happened.log id)) Done
           is.represents may conn role streams spans
-          (λ i. none_sent i id (owed happened.log id) Done) (λ i number. cc)
+          (λ i. no_part_tokens i (Release id (owed happened.log id)) Done tt) (λ i number. cc)
           (λ i. none_closed i id (owed happened.log id) Done);
       calls = releases_more is.calls id (record { some = some; below = is.below }) typed may;
       up = release_failed happened.log id (owed happened.log id) ∙ is.up;
@@ -222,8 +218,8 @@ pub refusal_represents : (values : Values) (start : EndLog) (end new : End) (hap
 refusal_represents values start end new happened id refusal is may conn role streams spans =
     called_as values end new happened (Release id (owed happened.log id)) (Refused refusal)
     is.represents may conn role streams spans
-    (λ i. none_sent i id (owed happened.log id) (Refused refusal)) (λ i number. cc)
-    (λ i. none_closed i id (owed happened.log id) (Refused refusal))
+    (λ i. no_part_tokens i (Release id (owed happened.log id)) (Refused refusal) tt)
+    (λ i number. cc) (λ i. none_closed i id (owed happened.log id) (Refused refusal))
 
 -- As much is owed then.
 refused_owes : (log : Log) (id count : ℕ) (refusal : Refusal)

@@ -14,7 +14,7 @@ use Rattle.h2_log.specs.CallRules.{is_too_large}
 use Rattle.h2_log.specs.LogCalls.{MayAnswer, with_call}
 use Rattle.h2_conn.specs.Conn.{ConnRepresents}
 use Rattle.h2_log_laws.proofs.LogGrowth.{grows_call}
-use Rattle.h2_end_laws.specs.Over.{IsOver, used}
+use Rattle.h2_end_laws.specs.Over.{IsOver, is_number_used}
 use Rattle.h2_end_laws.proofs.OverCalls.{used_by_call}
 use Rattle.h2_end_laws.proofs.OverNumbers.{opened_is_new}
 use Rattle.h2_message.specs.declared.message.Message.{Message}
@@ -29,7 +29,7 @@ use Rattle.h2_ends.specs.declared.outgoing.Stream.{Stream}
 use Rattle.h2_ends.specs.Ends.{EndLog, message_for, reads_on, tokens_out, asked_head}
 use Rattle.h2_ends.specs.EndCalls.{end_with_message, IsAsked, MayRespond}
 use Rattle.h2_pair.specs.Tokens.{is_head_alone}
-use Rattle.h2_ends.specs.Represents.{EndRepresents, RepresentsBut, RepresentsStreams, IsKept}
+use Rattle.h2_ends.specs.Represents.{EndRepresents, RepresentsBut, RepresentsMessages, IsKept}
 use Rattle.h2_ends.specs.Represents.{IsStream, IsOutgoing, IsUntouched, kept_at}
 use Rattle.h2_ends.specs.Heads.{IsGiven, IsOpened, IsAnswered, KeepsOne, given_stream}
 use Rattle.h2_ends.proofs.EndSteps.{called_end, stepped}
@@ -42,7 +42,7 @@ use Rattle.h2_ends.proofs.RequestSent.{head_tokens, sent_in_order, outgoing_afte
 use Rattle.h2_ends.proofs.RequestSent.{sent_first, accepted_here, accepted_elsewhere}
 
 -- Nothing was given or handed out on a number that wasn't used.
-untouched_by : (end : EndLog) (id : ℕ) (kept : Option Stream) → used end.log id ≡ false
+untouched_by : (end : EndLog) (id : ℕ) (kept : Option Stream) → is_number_used end.log id ≡ false
     → IsOver end.log id ⊎ IsKept end id kept → IsUntouched end id × (kept ≡ None)
 unfolding IsKept
 untouched_by end id kept new (inl past) = absurd (both_ways _ new past.was_used)
@@ -50,7 +50,7 @@ untouched_by end id None new (inr kept) = (kept, refl)
 untouched_by end id (Some stream) new (inr kept) = absurd (both_ways _ new kept.was_used)
 
 pub untouched : (values : Values) (old : End) (end : EndLog) (id : ℕ)
-    → EndRepresents values old end → used end.log id ≡ false
+    → EndRepresents values old end → is_number_used end.log id ≡ false
     → IsUntouched end id × (kept_at id old.streams.entries ≡ None)
 untouched values old end id is new =
     untouched_by end id (kept_at id old.streams.entries) new (is.streams.streams id)
@@ -67,23 +67,23 @@ unfolding reads_on
 server_reads end i server = rw server refl
 
 -- A call that sends a block on one stream sends no token on another.
-open_elsewhere : (i id : ℕ) (message : SentMessage) → i ≢ id
+pub open_elsewhere : (i id : ℕ) (message : SentMessage) → i ≢ id
     → tokens_of_call i (Open message.head (is_head_alone message)) (Number id) ≡ []
 unfolding tokens_of_call
 open_elsewhere i id message other = rw (ne_eqb id i (λ same. other (sym same))) refl
 
-open_here : (id : ℕ) (message : SentMessage)
+pub open_here : (id : ℕ) (message : SentMessage)
     → tokens_of_call id (Open message.head (is_head_alone message)) (Number id)
     ≡ head_tokens message
 unfolding tokens_of_call
 open_here id message = rw (eq-eqb id id refl) refl
 
-fields_elsewhere : (i id : ℕ) (message : SentMessage) → i ≢ id
+pub fields_elsewhere : (i id : ℕ) (message : SentMessage) → i ≢ id
     → tokens_of_call i (SendFields id message.head (is_head_alone message)) Done ≡ []
 unfolding tokens_of_call
 fields_elsewhere i id message other = rw (ne_eqb id i (λ same. other (sym same))) refl
 
-fields_here : (id : ℕ) (message : SentMessage)
+pub fields_here : (id : ℕ) (message : SentMessage)
     → tokens_of_call id (SendFields id message.head (is_head_alone message)) Done
     ≡ head_tokens message
 unfolding tokens_of_call
@@ -98,7 +98,7 @@ sent_head : (values : Values) (old given : End) (end : EndLog) (act : Act) (answ
     → ConnRepresents values given.conn (with_call end.log act answer)
     → given.role ≡ old.role → KeepsOne old given id (Some stream)
     → IsStream (end_with_message end act answer id message) id stream
-    → RepresentsStreams values given (end_with_message end act answer id message)
+    → RepresentsMessages values given (end_with_message end act answer id message)
 unfolding IsKept
 sent_head values old given end act answer id message stream is may none others tokens conn role
     keeps one =

@@ -6,8 +6,7 @@ use Rattle.std.proofs.lemmas.Bool.{both_ways, cases_eq, false_from_ne_true}
 use Rattle.hpack.specs.declared.types.field.Field.{Field}
 use Rattle.h2_log.specs.declared.refusal.Refusal.{Refusal}
 use Rattle.h2_log.specs.declared.refusal.Refusal.TheVariants.{Memory}
-use Rattle.h2_log.specs.declared.role.Role.{Role}
-use Rattle.h2_log.specs.declared.role.Role.TheVariants.{Client, Server}
+use Rattle.h2_log.specs.declared.role.Role.TheVariants.{Client}
 use Rattle.h2_log.specs.Acts.{Values, IsTypedAct, Open, Number, Refused}
 use Rattle.h2_log.specs.Settings.{is_server}
 use Rattle.h2_log.specs.CallRules.{is_too_large, refusal_of}
@@ -15,7 +14,7 @@ use Rattle.h2_log.specs.Log.{Log, next_number}
 use Rattle.h2_log.specs.LogView.{log_view}
 use Rattle.h2_log.specs.LogCalls.{MayAnswer, with_call}
 use Rattle.h2_log_laws.proofs.CallConditions.{neither_other}
-use Rattle.h2_end_laws.specs.Over.{used}
+use Rattle.h2_end_laws.specs.Over.{is_number_used}
 use Rattle.h2_end_laws.proofs.OverNumbers.{open_answer, used_below}
 use Rattle.h2_conn.specs.Conn.{ConnRepresents, answer_by, reader_next_number}
 use Rattle.h2_message.specs.declared.reading.Reading.{Reading}
@@ -30,14 +29,15 @@ use Rattle.h2_ends.specs.EndTakes.{end_with_log}
 use Rattle.h2_ends.specs.EndCalls.{RefusesMessage}
 use Rattle.h2_pair.specs.Tokens.{is_head_alone}
 use Rattle.h2_ends.specs.Represents.{EndRepresents, kept_at}
-use Rattle.h2_ends.specs.Heads.{Opens, KeepsOne}
+use Rattle.h2_ends.specs.Heads.{OpensStream, KeepsOne}
+use Rattle.h2_ends.proofs.EndTokens.{refused_tokens}
 use Rattle.h2_ends.proofs.InSteps.{called_as}
 use Rattle.h2_ends.proofs.RequestTable.{kept_alike}
 use Rattle.h2_ends.proofs.RequestSteps.{refused_open_keeps}
 use Rattle.h2_ends.proofs.RequestHeads.{untouched}
 use Rattle.h2_ends.proofs.RequestRefusals.{is_refused, refused_so, refuses_fitting, refuses_head}
 use Rattle.h2_ends.proofs.RequestRefusals.{open_too_large, trailers_refuse_open, whatever_end}
-use Rattle.h2_ends.proofs.RequestRefusals.{no_number_refuses, refused_sends_none}
+use Rattle.h2_ends.proofs.RequestRefusals.{no_number_refuses}
 use Rattle.h2_ends.proofs.RequestSends.{unchanged_by}
 use Rattle.h2_ends.proofs.TableSteps.{ChangesAt, keeps_but}
 use Rattle.h2_log_laws.proofs.InvariantSends.{client_since as client_by}
@@ -71,7 +71,7 @@ opens_surely : (values : Values) (old new : End) (end : EndLog) (message : SentM
     → ConnRepresents values new.conn
     (with_call end.log (Open list ends) (answer_by (λ id. Number id) result))
     → new.role ≡ old.role → new.streams ≡ old.streams → new.spans ≡ old.spans
-    → Opens values end message old result new
+    → OpensStream values end message old result new
 opens_surely values old new end message list ends (Ok id) first refuses typed is may conn role
     streams waiting =
     let wrong = is_refused end.log (Open list ends) (Number id) first.0 first.1 may in cc
@@ -85,7 +85,7 @@ opens_surely values old new end message list ends (Err refusal) first refuses ty
       refuses refusal (first.1 ∙ ap Some one),
       unchanged_by end act refusal typed tt may,
       called_as values old new end act (Refused refusal) is may conn role streams waiting
-          (λ i. refused_sends_none i list ends refusal) (λ i wrong. cc)
+          (λ i. refused_tokens i act refusal) (λ i wrong. cc)
           (λ i. refused_open_keeps i list ends refusal),
     )
 
@@ -99,7 +99,7 @@ pub opens_trailers : (values : Values) (old new : End) (end : EndLog) (message :
     → ConnRepresents values new.conn (with_call end.log
     (Open (trailer_fields message.trailers) true) (answer_by (λ id. Number id) result))
     → new.role ≡ old.role → new.streams ≡ old.streams → new.spans ≡ old.spans
-    → Opens values end message old result new
+    → OpensStream values end message old result new
 opens_trailers values old new end message result large typed is may conn role streams waiting =
     opens_surely values old new end message (trailer_fields message.trailers) true result
     (open_too_large (log_view end.log) (trailer_fields message.trailers) true large)
@@ -114,7 +114,7 @@ pub opens_nowhere : (values : Values) (old new : End) (end : EndLog) (message : 
     → ConnRepresents values new.conn
     (with_call end.log (Open message.head true) (answer_by (λ id. Number id) result))
     → new.role ≡ old.role → new.streams ≡ old.streams → new.spans ≡ old.spans
-    → Opens values end message old result new
+    → OpensStream values end message old result new
 opens_nowhere values old new end message result none typed is may conn role streams waiting =
     opens_surely values old new end message message.head true result
     (no_number_refuses end.log message.head true none)
@@ -129,7 +129,7 @@ next_by log id true is next = cc
 next_by log id false is next = (client_by log.role (neither_other _ _ is), cc)
 
 pub next_is_new : (log : Log) (id : ℕ) → reader_next_number log ≡ Some id
-    → (id ≡ next_number log) × (used log id ≡ false)
+    → (id ≡ next_number log) × (is_number_used log id ≡ false)
 next_is_new log id next =
     let both = next_by log id (is_some log.failed || is_server log.role) refl next in
     let same = both.1 in (
@@ -171,7 +171,7 @@ pub opens_not : (values : Values) (old new : End) (end : EndLog) (message : Sent
     → ConnRepresents values new.conn (with_call end.log
     (Open message.head (is_head_alone message)) (answer_by (λ id. Number id) result))
     → new.role ≡ old.role → new.spans ≡ old.spans → KeepsOne old new id None
-    → Opens values end message old result new
+    → OpensStream values end message old result new
 opens_not values old new end message id (Ok number) err fits next typed is may conn role waiting
     keeps = absurd (both_ways false refl err)
 opens_not values old new end message id (Err refusal) err fits next typed is may conn role waiting
@@ -185,7 +185,7 @@ opens_not values old new end message id (Err refusal) err fits next typed is may
       unchanged_by end act refusal typed tt may,
       kept_alike values mid new (end_with_log end (with_call end.log act (Refused refusal)))
           (called_as values old mid end act (Refused refusal) is may conn refl refl refl
-          (λ i. refused_sends_none i message.head (is_head_alone message) refusal)
+          (λ i. refused_tokens i act refusal)
           (λ i wrong. cc)
           (λ i. refused_open_keeps i message.head (is_head_alone message) refusal)) refl role
           waiting (kept_as_before old new id none keeps),
@@ -203,7 +203,7 @@ pub opens_new : (values : Values) (old new : End) (end : EndLog) (message : Sent
     → new.role ≡ old.role → new.spans ≡ old.spans
     → Follows (Responses (asks_head message.head)) [] reading
     → KeepsOne old new id (Some (record { reading = reading; outgoing = outgoings.NotGiven }))
-    → Opens values end message old result new
+    → OpensStream values end message old result new
 opens_new values old new end message id (Ok number) reading ok fits next may conn role waiting
     follows keeps =
     let same : id ≡ number = (next_is_new end.log id next).0

@@ -22,7 +22,6 @@ use Rattle.h2_log.specs.LogCalls.{MayAnswer, accepts, refuses, lacks, fails}
 use Rattle.h2_log_laws.proofs.CallConditions.{none_holds, neither_one}
 use Rattle.h2_conn.specs.Conn.{reader_next_number}
 use Rattle.h2_message.specs.Messages.{SentMessage, trailer_fields}
-use Rattle.h2_pair.specs.Tokens.{tokens_of_call}
 use Rattle.h2_ends.specs.EndCalls.{RefusesMessage}
 use Rattle.h2_log_laws.proofs.CallConditions.{first_kept as first_stays}
 
@@ -197,14 +196,3 @@ pub whatever_end : (view : View) (fields : List Field) (one other : Bool)
     → refusal_of view (Open fields one) ≡ refusal_of view (Open fields other)
 unfolding conditions
 whatever_end view fields one other = refl
-
--- A call that is refused sends no token.
-pub refused_sends_none : (i : ℕ) (fields : List Field) (end : Bool) (refusal : Refusal)
-    → tokens_of_call i (Open fields end) (Refused refusal) ≡ []
-unfolding tokens_of_call
-refused_sends_none i fields end refusal = refl
-
-pub refused_fields_send_none : (i id : ℕ) (fields : List Field) (end : Bool) (refusal : Refusal)
-    → tokens_of_call i (SendFields id fields end) (Refused refusal) ≡ []
-unfolding tokens_of_call
-refused_fields_send_none i id fields end refusal = refl

@@ -1,5 +1,5 @@
 -- What keeps step with a call that opens or closes one stream at most.
-use Rattle.std.proofs.Common.{◌≡◌, ◌≢◌, ℕ, ◌&&◌, if◌then◌else◌, Bool, true, false, List, Option}
+use Rattle.std.proofs.Common.{◌≡◌, ◌≢◌, ℕ, if◌then◌else◌, Bool, true, false, List, Option}
 use Rattle.std.proofs.Common.{Some, None, refl, sym, ap, ◌∙◌, inl, inr}
 use Rattle.std.proofs.lemmas.Bool.{both_ways, cases_eq, ne_eqb}
 use Rattle.hpack.specs.declared.types.field.Field.{Field}
@@ -11,7 +11,7 @@ use Rattle.h2_log.specs.LogCalls.{MayAnswer, accepts, refuses, lacks, fails}
 use Rattle.h2_log_laws.proofs.CallConditions.{none_holds}
 use Rattle.hpack.proofs.Tests.{none_since}
 use Rattle.h2_log_laws.proofs.LogGrowth.{grows_call}
-use Rattle.h2_end_laws.specs.Over.{used}
+use Rattle.h2_end_laws.specs.Over.{is_number_used}
 use Rattle.h2_message.specs.declared.message.Message.{Message}
 use Rattle.h2_message.specs.Messages.{SentMessage}
 use Rattle.h2_message.specs.Values.{message_value}
@@ -24,8 +24,8 @@ use Rattle.h2_ends.specs.declared.span.Span.{Span}
 use Rattle.h2_ends.specs.declared.span.Spans.{Spans}
 use Rattle.h2_ends.specs.Ends.{EndLog, tokens_handed}
 use Rattle.h2_pair.specs.Tokens.{is_head_alone}
-use Rattle.h2_ends.specs.Represents.{EndRepresents, RepresentsBut, RepresentsStreams, IsInStep}
-use Rattle.h2_ends.specs.Represents.{IsWithin, InSpan, HandsInOrder, KeepsActive}
+use Rattle.h2_ends.specs.Represents.{EndRepresents, RepresentsBut, RepresentsMessages, IsInStep}
+use Rattle.h2_ends.specs.Represents.{WaitsWithin, InSpan, HandsInOrder, KeepsActive}
 use Rattle.h2_ends.specs.Heads.{KeepsOne, given_stream}
 use Rattle.h2_ends.proofs.EndSteps.{called_end, kept}
 use Rattle.h2_end_laws.specs.Activity.{call_may_close}
@@ -48,7 +48,7 @@ wider spans more stream happened i grows same is =
 pub stepped_but : (values : Values) (end new : End) (happened : EndLog) (act : Act)
     (answer : Answer) (id : ℕ) (stream : Option Stream) (accepted : List (ℕ × SentMessage))
     → EndRepresents values end happened → MayAnswer happened.log act answer
-    → RepresentsStreams values new (called_end happened act answer accepted)
+    → RepresentsMessages values new (called_end happened act answer accepted)
     → KeepsOne end new id stream
     → ((i : ℕ) → InSpan end.spans.waiting i → InSpan new.spans.waiting i)
     → new.spans.owing ≡ end.spans.owing
@@ -127,7 +127,7 @@ open_up log fields ends id (lacks none may is) = cc
 open_up log fields ends id (fails none may is) = cc
 
 -- On a number that wasn't used nothing is cut short.
-uncut : (end : EndLog) (id : ℕ) → used end.log id ≡ false → end.log.failed ≡ None
+uncut : (end : EndLog) (id : ℕ) → is_number_used end.log id ≡ false → end.log.failed ≡ None
     → HandsInOrder end id → tokens_heard id end.log.reported ≡ tokens_handed end id
 uncut end id new up (inl same) = same
 uncut end id new up (inr cut) = elim cut.last [
@@ -138,7 +138,7 @@ uncut end id new up (inr cut) = elim cut.last [
 -- So what was handed out of the stream that is opened is what was reported of it.
 pub handed_open : (end : EndLog) (fields : List Field) (ends : Bool) (id : ℕ)
     (accepted : List (ℕ × SentMessage)) → MayAnswer end.log (Open fields ends) (Number id)
-    → used end.log id ≡ false → HandsInOrder end id
+    → is_number_used end.log id ≡ false → HandsInOrder end id
     → HandsInOrder (called_end end (Open fields ends) (Number id) accepted) id
 handed_open end fields ends id accepted may new hands =
     inl (ap (tokens_heard id) (grows_call end.log (Open fields ends) (Number id)).reported
@@ -159,6 +159,6 @@ within_by span id message false is here waiting waits = here is
 
 pub within_given : (span : Span) (id : ℕ) (message : Message) (stream : Stream)
     → (is_head_alone (message_value message) ≡ false → InSpan span id)
-    → IsWithin span (Some (given_stream message stream)) id
+    → WaitsWithin span (Some (given_stream message stream)) id
 within_given span id message stream here =
     within_by span id message (is_head_alone (message_value message)) refl here

@@ -1,13 +1,13 @@
 -- Octets of a body are reported of active streams alone.
-use Rattle.std.proofs.Common.{◌≡◌, ℕ, suc, Bool, true, List, [], ◌∷◌, ◌++◌, length, Option, Some}
-use Rattle.std.proofs.Common.{None, sym, ap, ◌∙◌, arith, subst}
+use Rattle.std.proofs.Common.{◌≡◌, ℕ, Bool, true, List, [], ◌∷◌, ◌++◌, Option, Some}
+use Rattle.std.proofs.Common.{None, sym, ap, ◌∙◌, subst}
 use Rattle.h2_frame.specs.Frames.{Frame, Data, Reset, Settings, Ping, GoAway}
 use Rattle.h2_block.specs.Grouping.{Item, alone, block}
 use Rattle.h2_log.specs.Events.{Event, DataEvent, UnprocessedEvent}
 use Rattle.h2_log.specs.Log.{Log, active, state, next_unprocessed}
 use Rattle.h2_log.specs.View.{View}
 use Rattle.h2_log.specs.LogView.{log_view}
-use Rattle.h2_log.specs.LogSteps.{read, used, with_sent, with_reported, with_unreturned}
+use Rattle.h2_log.specs.LogSteps.{read, used}
 use Rattle.h2_log.specs.LogSteps.{with_verdict, with_step, with_frame, took_frame}
 use Rattle.h2_log.specs.Verdicts.{Verdict, ConnectionFault, StreamFault, NoEvent, Reported}
 use Rattle.h2_log.specs.ItemEffects.{events_of}
@@ -17,7 +17,7 @@ use Rattle.h2_log_laws.proofs.ReaderStates.{state_is_active}
 use Rattle.h2_end_laws.specs.Takes.{MayTake, Took, has_failed, reports_unprocessed}
 use Rattle.h2_end_laws.specs.Takes.{ends_no_frame, ends_frame, meets_fault, runs_out_of_memory}
 use Rattle.h2_end_laws.proofs.ReadVerdicts.{Says, says_of, says_data}
-use Rattle.h2_end_laws.proofs.TakeAnswers.{reported_is, sent_reported, unreturned_reported}
+use Rattle.h2_end_laws.proofs.TakeAnswers.{sent_reported}
 use Rattle.h2_end_laws.proofs.OverEvents.{replied_reported, same_event}
 use Rattle.h2_end_laws.proofs.ReadVerdicts.{says_nothing}
 use Rattle.h2_end_laws.proofs.OverEvents.{no_event}

@@ -5,7 +5,7 @@ use Rattle.std.proofs.lemmas.Bool.{both_ways, eq-eqb}
 use Rattle.hpack.specs.declared.types.field.Field.{Field}
 use Rattle.h2_frame.specs.Frames.{Frame, Encodes}
 use Rattle.h2_frame.proofs.FrameLemmas.{one_frame_lem}
-use Rattle.h2_conn.specs.Loans.{octets_in}
+use Rattle.h2_conn.specs.Loans.{octets_of_body}
 use Rattle.h2_frame.specs.declared.code.Code.TheVariants.{InternalError}
 use Rattle.h2_log.specs.declared.role.Role.TheVariants.{Server}
 use Rattle.h2_log.specs.Acts.{Values, Answer, Refuse}
@@ -26,8 +26,8 @@ use Rattle.h2_ends.specs.declared.taking.Unread.TheVariants as unreads
 use Rattle.h2_ends.specs.Ends.{EndLog, Handed, BodyHanded, Passed, EndAnswer, EndTook, EndFailed}
 use Rattle.h2_ends.specs.Ends.{reads_on, parts_on, handed_as, handed_at, part_of_event}
 use Rattle.h2_ends.specs.Ends.{tokens_of_part}
-use Rattle.h2_ends.specs.EndTakes.{EndMayTake, IsReadableWith, AnswersRefused, end_with_log}
-use Rattle.h2_ends.specs.EndTakes.{end_with_handed, passes, hands_out, refuses}
+use Rattle.h2_ends.specs.EndTakes.{EndMayTake, IsReadableWith, end_with_log}
+use Rattle.h2_ends.specs.EndTakes.{end_with_handed, passes, hands_out, refuses, refusal_fails}
 use Rattle.h2_ends.specs.EndTakes.{runs_out_of_memory}
 use Rattle.h2_ends.specs.Loans.{BodyLiesIn}
 use Rattle.h2_ends.specs.declared.span.Span.{Span}
@@ -147,15 +147,15 @@ pub part_refused : (values : Values) (now new : End) (end : EndLog) (piece : Lis
     (end_with_log (end_with_log end log) (with_call log (Refuse id 1) one)) result new
     → IsResetBy id 1 result
     → Hands values end piece (answer_of_report list octets count result) new
-unfolding AnswersRefusal AnswersRefused
+unfolding AnswersRefusal
 part_refused values now new end piece count event log id part list octets one (Ok handed) reported
     of stops may answers is =
     let same = reads_after values now end piece count event log id reported in
     let after = with_call log (Refuse id 1) one in (
       end_with_handed end after (Passed (ResetEvent id 1 true)),
       refuses count event log reported.took id part of
-          (λ goes. stops (goes_after end log id part same goes)) one may
-          (rw (answers.0, is) (refl, refl)),
+          (λ goes. stops (goes_after end log id part same goes)) one may answers.0 (rw is refl)
+          refl,
       passed_over values new (end_with_log end after) (ResetEvent id 1 true) answers.1,
     )
 part_refused values now new end piece count event log id part list octets one (Err fault) reported
@@ -163,9 +163,9 @@ part_refused values now new end piece count event log id part list octets one (E
     let same = reads_after values now end piece count event log id reported in
     let after = with_call log (Refuse id 1) one in (
       end_with_log end after,
-      refuses count event log reported.took id part of
-          (λ goes. stops (goes_after end log id part same goes)) one may
-          (rw answers.0 (refl, refl)),
+      refusal_fails count event log reported.took id part of
+          (λ goes. stops (goes_after end log id part same goes)) one may fault.code answers.0
+          refl refl,
       answers.1,
     )
 
@@ -287,6 +287,7 @@ reset_lies end piece id code (Err fault) is = tt
 
 -- The octets of a body are those of its frame, which is one.
 pub same_body : (bytes octets lent : List ℕ) (value other : Frame) → Encodes value bytes
-    → Encodes other bytes → octets ≡ octets_in value → lent ≡ octets_in other → octets ≡ lent
+    → Encodes other bytes → octets ≡ octets_of_body value → lent ≡ octets_of_body other
+    → octets ≡ lent
 same_body bytes octets lent value other encodes again is lent_is =
-    is ∙ ap octets_in (one_frame_lem value other bytes encodes again) ∙ sym lent_is
+    is ∙ ap octets_of_body (one_frame_lem value other bytes encodes again) ∙ sym lent_is

@@ -1,14 +1,13 @@
 -- What keeps step with what has happened, once octets were taken and once a part of a message was
 -- read.
 use Rattle.std.proofs.Common.{◌≡◌, ◌≢◌, ◌⊎◌, ℕ, ◌==◌, Bool, true, false, List, [], ◌∷◌, ◌++◌}
-use Rattle.std.proofs.Common.{Option, Some, None, inl, inr, refl, sym, ap, ◌∙◌, append-nil}
-use Rattle.std.proofs.Common.{append_assoc}
+use Rattle.std.proofs.Common.{Some, None, inl, inr, refl, sym, ap, ◌∙◌}
 use Rattle.std.proofs.lemmas.Bool.{cases_eq, false_from_ne_true, ne_eqb}
 use Rattle.h2_log.specs.declared.role.Role.TheVariants.{Server}
 use Rattle.h2_log.specs.Acts.{Values}
 use Rattle.h2_log.specs.Events.{Event, ResetEvent, UnprocessedEvent}
 use Rattle.h2_log.specs.Log.{Log, active}
-use Rattle.h2_end_laws.specs.Over.{IsOver, used}
+use Rattle.h2_end_laws.specs.Over.{IsOver, is_number_used}
 use Rattle.h2_end_laws.specs.Takes.{TakeAnswer, MayTake, Took, has_failed, reports_unprocessed}
 use Rattle.h2_end_laws.specs.Takes.{ends_no_frame, ends_frame, meets_fault, runs_out_of_memory}
 use Rattle.h2_end_laws.proofs.TakeAnswers.{log_after_take}
@@ -19,7 +18,6 @@ use Rattle.h2_pair.specs.Tokens.{Token, tokens_of_event, tokens_heard}
 use Rattle.h2_ends.specs.declared.end.End.{End}
 use Rattle.h2_ends.specs.declared.outgoing.Stream.{Stream}
 use Rattle.h2_ends.specs.declared.span.Span.{Span}
-use Rattle.h2_ends.specs.declared.span.Spans.{Spans}
 use Rattle.h2_ends.specs.Ends.{EndLog, Handed, Passed, parts_on, part_on, reads_on, handed_as}
 use Rattle.h2_ends.specs.Ends.{tokens_handed, tokens_of_part, tokens_of_parts}
 use Rattle.h2_ends.specs.EndTakes.{end_with_log, end_with_handed}
@@ -27,10 +25,11 @@ use Rattle.h2_ends.specs.Heads.{KeepsOne}
 use Rattle.h2_ends.specs.Represents.{EndRepresents, RepresentsBut, IsInStep, KeepsActive}
 use Rattle.h2_ends.specs.Represents.{HandsInOrder, InSpan, OwesWithin, outgoing_in}
 use Rattle.h2_ends.specs.Taking.{HasReported, IsReadOn, end_with_part}
-use Rattle.h2_ends.proofs.EndParts.{handed_elsewhere}
-use Rattle.h2_ends.proofs.EndSteps.{kept, taken, same_handed, parts_handed, handed_part, handed_on}
-use Rattle.h2_ends.proofs.EndSteps.{passed_on}
-use Rattle.h2_ends.proofs.InSteps.{tokens_reported, in_step_taken, active_taken, in_step_passed}
+use Rattle.h2_ends.proofs.EndParts.{handed_elsewhere, tokens_with}
+use Rattle.h2_ends.proofs.EndSteps.{kept, taken, parts_handed, handed_part, handed_on}
+use Rattle.h2_ends.proofs.EndSteps.{passed_on, passed_none}
+use Rattle.h2_ends.proofs.InSteps.{tokens_reported, in_step_taken, active_taken}
+use Rattle.h2_ends.proofs.InSteps.{in_step_elsewhere}
 use Rattle.h2_end_laws.specs.Activity.{take_may_close, event_may_close, take_has_fields}
 use Rattle.h2_end_laws.specs.Activity.{take_has_data}
 
@@ -55,7 +54,8 @@ pub passed_over : (values : Values) (end : End) (happened : EndLog) (event : Eve
 passed_over values end happened event is =
     record {
       streams = passed_on values end happened event is.streams;
-      in_step = λ i. in_step_passed end.spans (kept end i) happened event i (is.in_step i);
+      in_step = λ i. in_step_elsewhere end.spans (kept end i) happened (Passed event) i
+          (passed_none i event) (is.in_step i);
       active = is.active;
     }
 
@@ -134,7 +134,7 @@ unprocessed_but values now end piece count id log reported =
     (λ i. refl) (λ i. refl) (λ i other. differs i id other)
 
 -- The connection was up before it reported something.
-up_before : (log after : Log) (piece : List ℕ) (count : ℕ) (event : Event)
+pub up_before : (log after : Log) (piece : List ℕ) (count : ℕ) (event : Event)
     → MayTake log piece (Took count (Some event)) after → log.failed ≡ None
 up_before log after piece count event (has_failed code failed answers same) = cc
 up_before log after piece count event (reports_unprocessed up some answers same) = up
@@ -147,7 +147,7 @@ up_before log after piece count event (runs_out_of_memory up octets unused joine
     same) = cc
 
 -- Of a stream that isn't over the connection has reported what was handed out.
-handed_so_far : (end : EndLog) (id : ℕ) → (IsOver end.log id → ⊥) → end.log.failed ≡ None
+pub handed_so_far : (end : EndLog) (id : ℕ) → (IsOver end.log id → ⊥) → end.log.failed ≡ None
     → HandsInOrder end id → tokens_heard id end.log.reported ≡ tokens_handed end id
 handed_so_far end id runs up (inl same) = same
 handed_so_far end id runs up (inr cut) = elim cut.last [
@@ -156,7 +156,7 @@ handed_so_far end id runs up (inr cut) = elim cut.last [
 ]
 
 -- What is heard of it then is what the event reports.
-heard_then : (id : ℕ) (event : Event) (before after : List Event)
+pub heard_then : (id : ℕ) (event : Event) (before after : List Event)
     → after ≡ event ∷ before
     → tokens_heard id after ≡ tokens_heard id before ++ tokens_of_event id event
 unfolding tokens_heard
@@ -198,7 +198,7 @@ reported_wider values now end piece count event log owing more reported =
 pub read_on : (values : Values) (now : End) (end : EndLog) (piece : List ℕ) (count : ℕ)
     (event : Event) (log : Log) (id : ℕ) (part : Part × Bool)
     → HasReported values now end piece count event log
-    → (IsOver end.log id → ⊥) × (used log id ≡ true)
+    → (IsOver end.log id → ⊥) × (is_number_used log id ≡ true)
     → tokens_of_event id event ≡ tokens_of_part part
     → ((i : ℕ) → i ≢ id → tokens_of_event i event ≡ [])
     → ((i : ℕ) → i ≢ id → take_has_fields i (Took count (Some event)) ≡ false)
@@ -237,52 +237,14 @@ read_on values now end piece count event log id part reported of here none no_fi
           (reported.active id);
     }
 
--- Where the same was handed out of a stream, it is in order as before.
-handed_by : (old new : EndLog) (i : ℕ) → new.log ≡ old.log
-    → tokens_handed new i ≡ tokens_handed old i → HandsInOrder old i → HandsInOrder new i
-handed_by old new i log same (inl is) = inl (rw (log, same) is)
-handed_by old new i log same (inr cut) =
-    inr (record {
-      refused = rw log cut.refused;
-      last = rw log cut.last;
-      prefix = rw (log, same) cut.prefix;
-    })
-
--- Something is handed out that is no part of the message of a stream.
-in_step_elsewhere : (spans : Spans) (stream : Option Stream) (happened : EndLog)
-    (handed : Handed) (i : ℕ) → part_on i handed ≡ [] → IsInStep spans stream happened i
-    → IsInStep spans stream (end_with_handed happened happened.log handed) i
-in_step_elsewhere spans stream happened handed i none is =
-    record {
-      all = is.all;
-      handed = handed_by happened (end_with_handed happened happened.log handed) i refl
-          (ap tokens_of_parts (same_handed happened handed i none).handed) is.handed;
-      within = is.within;
-      owes = is.owes;
-    }
-
--- The tokens of parts that follow one another.
-tokens_then : (parts more : List (Part × Bool))
-    → tokens_of_parts (parts ++ more) ≡ tokens_of_parts parts ++ tokens_of_parts more
-unfolding tokens_of_parts
-tokens_then [] more = refl
-tokens_then (part ∷ parts) more =
-    ap (λ (tokens : List Token). tokens_of_part part ++ tokens) (tokens_then parts more)
-    ∙ sym (append_assoc (tokens_of_part part) (tokens_of_parts parts) (tokens_of_parts more))
-
-tokens_of_one : (part : Part × Bool) → tokens_of_parts (part ∷ []) ≡ tokens_of_part part
-unfolding tokens_of_parts
-tokens_of_one part = append-nil (tokens_of_part part)
-
--- Those of a part that is handed out follow those before.
-handed_then : (happened : EndLog) (handed : Handed) (id : ℕ) (part : Part × Bool)
+-- The tokens of a part that is handed out follow those before.
+pub handed_then : (happened : EndLog) (handed : Handed) (id : ℕ) (part : Part × Bool)
     → part_on id handed ≡ part ∷ []
     → tokens_handed (end_with_handed happened happened.log handed) id
     ≡ tokens_handed happened id ++ tokens_of_part part
 handed_then happened handed id part here =
     ap tokens_of_parts (parts_handed happened handed id part here)
-    ∙ tokens_then (parts_on id happened.handed) (part ∷ [])
-    ∙ ap (λ (tokens : List Token). tokens_handed happened id ++ tokens) (tokens_of_one part)
+    ∙ tokens_with (parts_on id happened.handed) part
 
 -- The part that has come is handed out: what is kept of its stream keeps step.
 in_step_here : (values : Values) (end : End) (happened : EndLog) (id : ℕ) (part : Part × Bool)

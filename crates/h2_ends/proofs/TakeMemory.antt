@@ -6,7 +6,7 @@ use Rattle.h2_end_laws.proofs.Promised.{never_out_of_memory}
 use Rattle.h2_message.specs.Reading.{FieldsPart, OctetsPart}
 use Rattle.h2_ends.specs.Ends.{EndLog, EndAnswer, EndFailed, part_of_event}
 use Rattle.h2_ends.specs.EndTakes.{EndMayTake, EndNeedsNoMemory, fails, hands_nothing, passes}
-use Rattle.h2_ends.specs.EndTakes.{hands_out, refuses, runs_out_of_memory}
+use Rattle.h2_ends.specs.EndTakes.{hands_out, refuses, refusal_fails, runs_out_of_memory}
 
 -- A call that took octets hasn't failed.
 took_none : (count : ℕ) (answer : EndAnswer) (taken : EndAnswer) → answer ≡ taken
@@ -29,8 +29,11 @@ never_at_ends end after piece answer
     (hands_out count event log may id part is_part readable says same) promised =
     took_none count answer _ says (λ is. cc)
 never_at_ends end after piece answer
-    (refuses count event log may id part is_part unreadable refused answered answers) promised =
-    λ is. unreadable (promised.reads count event log may id part is_part).2
+    (refuses count event log may id part is_part unreadable refused answered up says same)
+    promised = took_none count answer _ says (λ is. cc)
+never_at_ends end after piece answer
+    (refusal_fails count event log may id part is_part unreadable refused answered code down says
+    same) promised = λ is. unreadable (promised.reads count event log may id part is_part).2
 never_at_ends end after piece answer
     (runs_out_of_memory count id list ends log may role first readable refused answered says same)
     promised = λ is.

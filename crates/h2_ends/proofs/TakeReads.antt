@@ -23,7 +23,7 @@ use Rattle.h2_ends.specs.declared.taking.Unread.TheVariants as unreads
 use Rattle.h2_ends.specs.Ends.{EndLog, message_for, parts_on, reads_on, asked_head}
 use Rattle.h2_ends.specs.Ends.{tokens_of_part}
 use Rattle.h2_ends.specs.EndTakes.{IsReadableWith}
-use Rattle.h2_ends.specs.Represents.{RepresentsStreams, RepresentsBut, IsKept, IsStream}
+use Rattle.h2_ends.specs.Represents.{RepresentsMessages, RepresentsBut, IsKept, IsStream}
 use Rattle.h2_ends.specs.Represents.{IsUntouched, KeepsActive, reads_of_new, kept_at, outgoing_in}
 use Rattle.h2_ends.specs.Taking.{IsReadOn, MustRefuse, ReadsFields, ReadsData, end_with_part}
 use Rattle.h2_ends.specs.Heads.{KeepsOne}
@@ -44,8 +44,8 @@ untouched values end happened id part is found = subst (IsKept happened id) foun
 
 -- An end that keeps the same represents the same.
 streams_alike : (values : Values) (end new : End) (happened : EndLog)
-    → RepresentsStreams values end happened → new.conn ≡ end.conn → new.role ≡ end.role
-    → ((i : ℕ) → kept new i ≡ kept end i) → RepresentsStreams values new happened
+    → RepresentsMessages values end happened → new.conn ≡ end.conn → new.role ≡ end.role
+    → ((i : ℕ) → kept new i ≡ kept end i) → RepresentsMessages values new happened
 streams_alike values end new happened is conn role alike =
     record {
       conn = rw conn is.conn;
@@ -153,7 +153,7 @@ reads_by Client given none = rw none refl
 reads_by Server given none = refl
 
 reads_first : (values : Values) (end : End) (happened : EndLog) (id : ℕ)
-    → RepresentsStreams values end happened → IsUntouched happened id
+    → RepresentsMessages values end happened → IsUntouched happened id
     → reads_of_new end.role ≡ reads_on happened id
 unfolding reads_on
 reads_first values end happened id is none =

@@ -13,7 +13,7 @@ use Rattle.h2_log.specs.LogView.{log_view}
 use Rattle.h2_log.specs.LogCalls.{MayAnswer, with_call, accepts, refuses, lacks, fails}
 use Rattle.h2_log.specs.LogCalls.{refused_with}
 use Rattle.h2_log_laws.proofs.LogGrowth.{grows_call}
-use Rattle.h2_end_laws.specs.Over.{IsOver, used}
+use Rattle.h2_end_laws.specs.Over.{IsOver, is_number_used}
 use Rattle.h2_end_laws.proofs.OverCalls.{used_by_call}
 use Rattle.h2_conn.specs.Conn.{ConnShows}
 use Rattle.h2_pair.specs.Tokens.{tokens_heard, IsPrefixOfTokens}
@@ -23,7 +23,7 @@ use Rattle.h2_ends.specs.Ends.{EndLog, tokens_handed}
 use Rattle.h2_ends.specs.EndTakes.{end_with_log}
 use Rattle.h2_ends.specs.Represents.{RepresentsBut, IsInStep, IsCutShort, WasRefused}
 use Rattle.h2_ends.specs.Taking.{MustRefuse}
-use Rattle.h2_ends.proofs.ControlSteps.{refuse_tokens}
+use Rattle.h2_ends.proofs.EndTokens.{no_part_tokens}
 use Rattle.h2_ends.proofs.EndSteps.{kept, quiet_call}
 use Rattle.h2_ends.proofs.InSteps.{in_step_called, active_called, owes_called}
 use Rattle.h2_ends.proofs.TakeInStep.{differs}
@@ -63,7 +63,7 @@ was_refused log id code one = (
 
 -- Once it is refused, the stream is over, or the connection has failed.
 refused_last : (log : Log) (id code : ℕ) (one : Answer) (failed : Option Code)
-    → MayAnswer log (Refuse id code) one → used log id ≡ true
+    → MayAnswer log (Refuse id code) one → is_number_used log id ≡ true
     → (with_call log (Refuse id code) one).failed ≡ failed
     → IsOver (with_call log (Refuse id code) one) id
     ⊎ ((with_call log (Refuse id code) one).failed ≢ None)
@@ -75,8 +75,8 @@ refused_last log id code one None may was is =
 refused_last log id code one (Some failed) may was is = inr (λ none. cc)
 
 -- So what was handed out of it is all that will be.
-cut_short : (end : EndLog) (id code : ℕ) (one : Answer) → MayAnswer end.log (Refuse id code) one
-    → used end.log id ≡ true
+pub cut_short : (end : EndLog) (id code : ℕ) (one : Answer) → MayAnswer end.log (Refuse id code) one
+    → is_number_used end.log id ≡ true
     → IsPrefixOfTokens (tokens_handed end id) (tokens_heard id end.log.reported)
     → IsCutShort (end_with_log end (with_call end.log (Refuse id code) one)) id
 cut_short end id code one may was prefix =
@@ -112,7 +112,7 @@ refused values old new id code answer end shows role streams waiting is =
       made.2,
       record {
         streams = quiet_call values old new end (Refuse id code) made.0 is.streams made.2 made.3
-            role streams (λ i. refuse_tokens id code i made.0);
+            role streams (λ i. no_part_tokens i (Refuse id code) made.0 tt);
         in_step = λ i. elim (cases_eq i id) [
           | inl here ↦ rw (here, streams, waiting)
               (refused_in_step values old id code made.0 end is made.2)

@@ -1,7 +1,7 @@
 -- What the calls of a client or a server may answer, and what has happened after them (RFC 9113,
 -- sections 8.1 and 6.9).
 use Rattle.std.specs.Prelude.{map as each, ◌≡◌, ◌≢◌, ◌⊎◌, ◌≤◌, ◌<◌, ℕ, ◌+◌, Bool, true, false}
-use Rattle.std.specs.Prelude.{List, [], ◌∷◌, ◌++◌, Option, Some, None}
+use Rattle.std.specs.Prelude.{List, [], ◌∷◌, ◌++◌, Option, Some, None, is_none}
 use Rattle.std.specs.Prelude.{Result, Ok, Err}
 use Rattle.hpack.specs.declared.types.field.Field.{Field}
 use Rattle.h2_log.specs.declared.refusal.Refusal.{Refusal}
@@ -20,7 +20,8 @@ use Rattle.h2_message.specs.Messages.{SentMessage, trailer_fields, broken_by_req
 use Rattle.h2_message.specs.Messages.{broken_by_response}
 use Rattle.h2_message.specs.Phases.{asks_head_first}
 use Rattle.h2_pair.specs.Quiet.{IsStuck}
-use Rattle.h2_pair.specs.Tokens.{Token, FieldsToken, OctetToken, EndToken, is_head_alone}
+use Rattle.h2_pair.specs.Tokens.{FieldsToken, OctetToken, EndToken, is_head_alone}
+use Rattle.h2_pair.specs.Tokens.{trailers_tokens}
 use Rattle.h2_ends.specs.declared.refusal.EndRefusal.{EndRefusal}
 use Rattle.h2_ends.specs.declared.refusal.EndRefusal.TheVariants as refusals
 use Rattle.h2_ends.specs.Ends.{EndLog, message_for, parts_on, tokens_waiting}
@@ -133,35 +134,40 @@ pub record IsNext (end : EndLog) (id : ℕ) : Type 0 where
   pub active : active end.log id ≡ true
   pub below : (j : ℕ) → j < id → IsStuckOn end j
 
--- Of a body these octets wait next on a stream, some.
-pub record BodyWaits (end : EndLog) (id : ℕ) (octets : List ℕ) : Type 0 where
+-- What waits on a stream are these octets, at least one, the rest of a body, and then trailers or
+-- none. `ends` says that there are none, so that the message ends with the octets.
+-- rule: 8.1 What was sent on a stream is a prefix of its message
+pub record BodyWaits (end : EndLog) (id : ℕ) (octets : List ℕ) (ends : Bool) : Type 0 where
   pub some : octets ≢ []
-  pub after : List Token
-  pub next : tokens_waiting end id ≡ each OctetToken octets ++ after
+  pub trailers : Option (List Field)
+  pub waits : tokens_waiting end id ≡ each OctetToken octets ++ (trailers_tokens trailers
+      ++ EndToken ∷ [])
+  pub ends_is : ends ≡ is_none trailers
 
 -- These trailers wait on a stream, and nothing before them.
+-- rule: 8.1 What was sent on a stream is a prefix of its message
 abbrev pub TrailersWait : EndLog → ℕ → List Field → Type 0
 TrailersWait end id list = tokens_waiting end id ≡ FieldsToken list true ∷ EndToken ∷ []
 
--- The calls of a `pump`: each is on an active stream, while nothing could go on any lower one; so
--- many octets of bodies were sent. The last one may have been refused, where something waits: for
--- this.
+-- The calls of a `pump`: each is on an active stream, while nothing could go on any lower one, and
+-- hands over what waits there: the rest of a body, or trailers. So many octets of bodies were sent.
+-- The last call may have been refused, for the reason that is given.
 -- rule: 8.1 (own) pump sends the lower streams first, and all that can go
 pub data Pumps : (end : EndLog) → (count : ℕ) → Option Refusal → (after : EndLog) → Type 0 where
   pumps_no_more : (end : EndLog) → Pumps end 0 None end
   pumps_data : (end : EndLog) (id sent more : ℕ) (octets : List ℕ) (ends : Bool)
       (refused : Option Refusal) (after : EndLog) → IsNext end id
-      → IsTypedAct (SendData id octets ends)
+      → IsTypedAct (SendData id octets ends) → BodyWaits end id octets ends
       → MayAnswer end.log (SendData id octets ends) (Count sent)
       → Pumps (end_with_log end (with_call end.log (SendData id octets ends) (Count sent))) more
       refused after → Pumps end (sent + more) refused after
   pumps_trailers : (end : EndLog) (id more : ℕ) (list : List Field) (refused : Option Refusal)
       (after : EndLog) → IsNext end id → IsTypedAct (SendFields id list true)
-      → MayAnswer end.log (SendFields id list true) Done
+      → TrailersWait end id list → MayAnswer end.log (SendFields id list true) Done
       → Pumps (end_with_log end (with_call end.log (SendFields id list true) Done)) more refused
       after → Pumps end more refused after
   data_refused : (end : EndLog) (id : ℕ) (octets : List ℕ) (ends : Bool) (refusal : Refusal)
-      → IsNext end id → IsTypedAct (SendData id octets ends) → BodyWaits end id octets
+      → IsNext end id → IsTypedAct (SendData id octets ends) → BodyWaits end id octets ends
       → MayAnswer end.log (SendData id octets ends) (Refused refusal)
       → Pumps end 0 (Some refusal)
       (end_with_log end (with_call end.log (SendData id octets ends) (Refused refusal)))
@@ -171,8 +177,7 @@ pub data Pumps : (end : EndLog) → (count : ℕ) → Option Refusal → (after 
       → Pumps end 0 (Some refusal)
       (end_with_log end (with_call end.log (SendFields id list true) (Refused refusal)))
 
--- A pump that was not refused ends where the output is full, or where nothing of what waits could
--- go.
+-- A pump that answers `Ok` ends where the output is full, or where nothing of what waits could go.
 -- rule: 8.1 (own) pump sends the lower streams first, and all that can go
 abbrev pub HasPumpedAll : EndLog → ℕ → EndLog → Type 0
 HasPumpedAll end count after =

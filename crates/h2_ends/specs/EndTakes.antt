@@ -1,6 +1,6 @@
 -- What a call of `take` may answer at a client or a server, and what has happened after it (RFC
 -- 9113, sections 8.1 and 8.1.1).
-use Rattle.std.specs.Prelude.{◌≡◌, ℕ, Bool, true, List, [], ◌∷◌, ◌++◌, Option, Some, None}
+use Rattle.std.specs.Prelude.{◌≡◌, ℕ, Bool, true, List, [], ◌∷◌, ◌++◌, Some, None}
 use Rattle.hpack.specs.declared.types.field.Field.{Field}
 use Rattle.h2_frame.specs.declared.code.Code.{Code}
 use Rattle.h2_frame.specs.declared.code.Code.TheVariants.{InternalError}
@@ -28,22 +28,14 @@ end_with_handed end log handed = record end { log = log; handed = handed ∷ end
 abbrev pub IsReadableWith : EndLog → ℕ → (Part × Bool) → Type 0
 IsReadableWith end id part = IsReadable (reads_on end id) (parts_on id end.handed ++ part ∷ [])
 
--- What is answered once a stream was refused with PROTOCOL_ERROR: that this end has reset it (which
--- the last octet of the part may have closed already: then no RST_STREAM is sent); or the
--- connection has failed.
--- rule: 8.1.1 (own) How the connection takes a refusal is what is answered
-unfoldable pub AnswersRefused : EndLog → Log → (count id : ℕ) → EndAnswer → EndLog → Option Code
-    → Type 0
-AnswersRefused end log count id answer after None =
-    (answer ≡ EndTook count (Some (Passed (ResetEvent id 1 true))))
-    × (after ≡ end_with_handed end log (Passed (ResetEvent id 1 true)))
-AnswersRefused end log count id answer after (Some code) =
-    (answer ≡ EndFailed code) × (after ≡ end_with_log end log)
-
 -- The connection takes octets. What it reports is handed out; but a part of a message only where
--- what was read of the stream with it begins a message that breaks no rule. At a server the first
--- field block of a stream takes memory, and where that is refused the connection fails.
+-- what was read of the stream with it begins a message that breaks no rule. Else the stream is
+-- refused with PROTOCOL_ERROR, and the answer is that this end has reset it (which the last octet of
+-- the part may have closed already: then no RST_STREAM is sent); or the connection has failed. At a
+-- server the first field block of a stream takes memory, and where that is refused the connection
+-- fails.
 -- rule: 8.1.1 A malformed message is a stream error PROTOCOL_ERROR
+-- rule: 8.1.1 (own) How the connection takes a refusal is what is answered
 -- rule: 8.1 (own) A server without memory for a first block fails with INTERNAL_ERROR
 pub data EndMayTake (end : EndLog) (piece : List ℕ) (answer : EndAnswer) (after : EndLog) : Type 0
   where
@@ -72,8 +64,18 @@ pub data EndMayTake (end : EndLog) (piece : List ℕ) (answer : EndAnswer) (afte
         → (id : ℕ) (part : Part × Bool) → part_of_event event ≡ Some (id, part)
         → (IsReadableWith end id part → ⊥) → (refused : Answer)
         → MayAnswer log (Refuse id 1) refused
-        → AnswersRefused end (with_call log (Refuse id 1) refused) count id answer after
-        (with_call log (Refuse id 1) refused).failed
+        → (with_call log (Refuse id 1) refused).failed ≡ None
+        → answer ≡ EndTook count (Some (Passed (ResetEvent id 1 true)))
+        → after ≡ end_with_handed end (with_call log (Refuse id 1) refused)
+        (Passed (ResetEvent id 1 true))
+        → EndMayTake end piece answer after
+    refusal_fails : (count : ℕ) (event : Event) (log : Log)
+        → MayTake end.log piece (Took count (Some event)) log
+        → (id : ℕ) (part : Part × Bool) → part_of_event event ≡ Some (id, part)
+        → (IsReadableWith end id part → ⊥) → (refused : Answer)
+        → MayAnswer log (Refuse id 1) refused → (code : Code)
+        → (with_call log (Refuse id 1) refused).failed ≡ Some code → answer ≡ EndFailed code
+        → after ≡ end_with_log end (with_call log (Refuse id 1) refused)
         → EndMayTake end piece answer after
     runs_out_of_memory : (count id : ℕ) (list : List Field) (ends : Bool) (log : Log)
         → MayTake end.log piece (Took count (Some (FieldsEvent id list ends))) log

@@ -73,9 +73,9 @@ pub record IsOpened (values : Values) (end : EndLog) (message : SentMessage) (ol
   }))
 
 -- What opening a stream answers, and makes of an end.
-abbrev pub Opens : Values → EndLog → SentMessage → End → Result ℕ Refusal → End → Type 0
-Opens values end message old (Ok id) new = IsOpened values end message old id new
-Opens values end message old (Err refusal) new =
+abbrev pub OpensStream : Values → EndLog → SentMessage → End → Result ℕ Refusal → End → Type 0
+OpensStream values end message old (Ok id) new = IsOpened values end message old id new
+OpensStream values end message old (Err refusal) new =
     (after : EndLog)
     × RefusesMessage end.log (Open message.head (is_head_alone message)) message refusal
     × IsUnchanged end after × EndRepresents values new after

@@ -8,3 +8,4 @@ pub mod Pumping
 pub mod Taking
 pub mod Heads
 pub mod Sends
+pub mod MessageTokens

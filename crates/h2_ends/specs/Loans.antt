@@ -5,7 +5,7 @@ use Rattle.h2_frame.specs.Frames.{Frame, Encodes}
 use Rattle.h2_wire.specs.Cutter.{HasFrame, octets_of}
 use Rattle.h2_log.specs.Events as log
 use Rattle.h2_conn.specs.declared.event.ConnFault.{ConnFault}
-use Rattle.h2_conn.specs.Loans.{octets_in}
+use Rattle.h2_conn.specs.Loans.{octets_of_body}
 use Rattle.h2_ends.specs.declared.end.End.{End}
 use Rattle.h2_ends.specs.declared.taking.HandedOut.{HandedOut}
 use Rattle.h2_ends.specs.declared.taking.HandedOut.TheVariants as parts
@@ -62,7 +62,7 @@ BodyLiesThere end piece (Err fault) = Unit {0}
 unfoldable pub IsBodyIn : End → List ℕ → List ℕ → Option HandedOut → Type 0
 IsBodyIn end piece octets (Some (parts.Body id frame ends)) =
     (value : Frame) × Encodes value (octets_of end.conn.inner.cutter piece frame)
-    × (octets ≡ octets_in value)
+    × (octets ≡ octets_of_body value)
 IsBodyIn end piece octets _ = Unit {0}
 
 unfoldable pub IsBodyHanded : End → List ℕ → List ℕ → Result EndProgress ConnFault → Type 0

@@ -19,7 +19,7 @@ use Rattle.h2_ends.specs.declared.outgoing.Waiting.{Waiting}
 use Rattle.h2_ends.specs.declared.span.Spans.{Spans}
 use Rattle.h2_ends.specs.Ends.{EndLog}
 use Rattle.h2_ends.specs.EndTakes.{end_with_log}
-use Rattle.h2_ends.specs.EndCalls.{IsStuckOn, IsNext, Pumps}
+use Rattle.h2_ends.specs.EndCalls.{IsStuckOn, IsNext, BodyWaits, TrailersWait, Pumps}
 use Rattle.h2_ends.specs.Represents.{IsKept, SendsInOrder, IsInStep, KeepsActive}
 
 -- the end after a call of its connection
@@ -43,16 +43,16 @@ abbrev pub KeepsActiveBut : Log → (ℕ → Option Stream) → ℕ → Type 0
 KeepsActiveBut log keeps id = (i : ℕ) → i ≢ id → KeepsActive log (keeps i) i
 
 -- The calls of a pump so far, none of which was refused: as Pumps, with the newest last.
-pub data Sending (start : EndLog) : (count : ℕ) → (now : EndLog) → Type 0 where
-  sends_nothing : Sending start 0 start
-  sends_data : {count : ℕ} → {now : EndLog} → Sending start count now → (id sent : ℕ)
+pub data PumpsSoFar (start : EndLog) : (count : ℕ) → (now : EndLog) → Type 0 where
+  sends_nothing : PumpsSoFar start 0 start
+  sends_data : {count : ℕ} → {now : EndLog} → PumpsSoFar start count now → (id sent : ℕ)
       (octets : List ℕ) (ends : Bool) → IsNext now id → IsTypedAct (SendData id octets ends)
-      → MayAnswer now.log (SendData id octets ends) (Count sent)
-      → Sending start (count + sent) (end_after_call now (SendData id octets ends) (Count sent))
-  sends_trailers : {count : ℕ} → {now : EndLog} → Sending start count now → (id : ℕ)
+      → BodyWaits now id octets ends → MayAnswer now.log (SendData id octets ends) (Count sent)
+      → PumpsSoFar start (count + sent) (end_after_call now (SendData id octets ends) (Count sent))
+  sends_trailers : {count : ℕ} → {now : EndLog} → PumpsSoFar start count now → (id : ℕ)
       (list : List Field) → IsNext now id → IsTypedAct (SendFields id list true)
-      → MayAnswer now.log (SendFields id list true) Done
-      → Sending start count (end_after_call now (SendFields id list true) Done)
+      → TrailersWait now id list → MayAnswer now.log (SendFields id list true) Done
+      → PumpsSoFar start count (end_after_call now (SendFields id list true) Done)
 
 -- a stream with this to send
 abbrev pub with_outgoing : Stream → Outgoing → Stream
@@ -77,7 +77,7 @@ pub record IsPumping (values : Values) (start : EndLog) (count : ℕ) (conn : Co
     (spans : Spans) (keeps : ℕ → Option Stream) (happened : EndLog) (id : ℕ) : Type 0 where
   pub represents : RepresentsBy values conn role keeps happened
   pub in_step : (i : ℕ) → IsInStep spans (keeps i) happened i
-  pub calls : Sending start count happened
+  pub calls : PumpsSoFar start count happened
   pub up : happened.log.failed ≡ None
   pub sum : count ≤ waiting happened.log
   pub below : IsStuckBelow happened id

@@ -12,7 +12,7 @@ use Rattle.h2_log.specs.Acts.{Values, Act, Answer, Refuse}
 use Rattle.h2_log.specs.CallRules.{is_too_large}
 use Rattle.h2_log.specs.Log.{Log, active, owed}
 use Rattle.h2_log.specs.LogCalls.{MayAnswer, with_call, opened}
-use Rattle.h2_end_laws.specs.Over.{IsOver, used}
+use Rattle.h2_end_laws.specs.Over.{IsOver, is_number_used}
 use Rattle.h2_conn.specs.Conn.{ConnRepresents}
 use Rattle.h2_message.specs.declared.message.Message.{Message}
 use Rattle.h2_message.specs.declared.reading.Reads.{Reads}
@@ -41,8 +41,8 @@ use Rattle.h2_ends.specs.Loans.{answer_handed, answer_of_taken}
 
 -- a new client or server
 -- rule: 8.1 (own) A new client or server is that end of a connection
-abbrev pub new_end : Role → Values → EndLog
-new_end role values = record { log = opened role values; accepted = []; handed = [] }
+abbrev pub new_end_log : Role → Values → EndLog
+new_end_log role values = record { log = opened role values; accepted = []; handed = [] }
 
 -- what is read on a stream of which nothing has happened
 abbrev pub reads_of_new : Role → Reads
@@ -81,7 +81,7 @@ IsOutgoing end i outgoings.Sent =
 
 -- What is kept of a stream. At a server its head was handed out.
 pub record IsStream (end : EndLog) (i : ℕ) (stream : Stream) : Type 0 where
-  pub was_used : used end.log i ≡ true
+  pub was_used : is_number_used end.log i ≡ true
   pub reading : Follows (reads_on end i) (parts_on i end.handed) stream.reading
   pub outgoing : IsOutgoing end i stream.outgoing
   pub asked : end.log.role ≡ Server → parts_on i end.handed ≢ []
@@ -135,8 +135,8 @@ outgoing_in None = outgoings.NotGiven
 outgoing_in (Some stream) = stream.outgoing
 
 -- Where a message waits on a stream, its number is one of the span.
-abbrev pub IsWithin : Span → Option Stream → ℕ → Type 0
-IsWithin span stream i =
+abbrev pub WaitsWithin : Span → Option Stream → ℕ → Type 0
+WaitsWithin span stream i =
     (waiting : Waiting) → outgoing_in stream ≡ outgoings.Waiting waiting → InSpan span i
 
 -- Where something is owed on a stream, its number is one of the span.
@@ -151,7 +151,7 @@ pub record IsInStep (spans : Spans) (stream : Option Stream) (happened : EndLog)
   where
     pub all : happened.log.failed ≡ None → active happened.log i ≡ true → stream ≢ None
     pub handed : HandsInOrder happened i
-    pub within : IsWithin spans.waiting stream i
+    pub within : WaitsWithin spans.waiting stream i
     pub owes : OwesWithin spans.owing happened.log i
 
 -- Something is kept only where the stream is active.
@@ -161,7 +161,7 @@ KeepsActive log stream i = stream ≢ None → active log i ≡ true
 
 -- The end's connection represents the log, and of each stream that isn't over the end keeps what
 -- was given, sent and handed out.
-pub record RepresentsStreams (values : Values) (end : End) (happened : EndLog) : Type 0 where
+pub record RepresentsMessages (values : Values) (end : End) (happened : EndLog) : Type 0 where
   pub conn : ConnRepresents values end.conn happened.log
   pub role : end.role ≡ happened.log.role
   pub streams : (i : ℕ) → IsOver happened.log i
@@ -172,13 +172,13 @@ pub record RepresentsStreams (values : Values) (end : End) (happened : EndLog) :
 -- of each of them as long as the connection is up.
 -- rule: 8.1 (own) A new client or server is that end of a connection
 pub record EndRepresents (values : Values) (end : End) (happened : EndLog) : Type 0 where
-  pub streams : RepresentsStreams values end happened
+  pub streams : RepresentsMessages values end happened
   pub in_step : (i : ℕ) → IsInStep end.spans (kept_at i end.streams.entries) happened i
   pub active : (i : ℕ) → KeepsActive happened.log (kept_at i end.streams.entries) i
 
 -- So it is but for one stream, of which something may be kept that isn't active any more.
 pub record RepresentsBut (values : Values) (end : End) (happened : EndLog) (id : ℕ) : Type 0 where
-  pub streams : RepresentsStreams values end happened
+  pub streams : RepresentsMessages values end happened
   pub in_step : (i : ℕ) → IsInStep end.spans (kept_at i end.streams.entries) happened i
   pub active : (i : ℕ) → i ≢ id → KeepsActive happened.log (kept_at i end.streams.entries) i
 

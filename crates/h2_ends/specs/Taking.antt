@@ -11,12 +11,12 @@ use Rattle.h2_log.specs.Acts.{Values}
 use Rattle.h2_log.specs.Events.{Event}
 use Rattle.h2_log.specs.Histories.{IsLog}
 use Rattle.h2_log.specs.Log.{Log, active}
-use Rattle.h2_end_laws.specs.Over.{IsOver, used}
+use Rattle.h2_end_laws.specs.Over.{IsOver, is_number_used}
 use Rattle.h2_end_laws.specs.Takes.{MayTake, Took}
 use Rattle.h2_conn.specs.declared.event.ConnFault.{ConnFault}
 use Rattle.h2_conn.specs.declared.happened.Happened.{Happened}
 use Rattle.h2_conn.specs.Events.{happened_value}
-use Rattle.h2_conn.specs.Loans.{frame_in, octets_in}
+use Rattle.h2_conn.specs.Loans.{frame_in, octets_of_body}
 use Rattle.h2_message.specs.declared.reading.Place.{Place}
 use Rattle.h2_message.specs.Reading.{Part, FieldsPart, OctetsPart}
 use Rattle.h2_message.specs.Phases.{place_after}
@@ -30,8 +30,8 @@ use Rattle.h2_ends.specs.Ends.{EndLog, EndAnswer, EndTook, EndFailed, parts_on, 
 use Rattle.h2_ends.specs.EndTakes.{EndMayTake, IsReadableWith, end_with_log, end_with_handed}
 use Rattle.h2_ends.specs.Loans.{handed_value}
 use Rattle.h2_ends.specs.Ends.{tokens_handed, tokens_of_part}
-use Rattle.h2_ends.specs.Represents.{RepresentsStreams, EndRepresents, IsKept, kept_at, IsInStep}
-use Rattle.h2_ends.specs.Represents.{KeepsActive, IsWithin, OwesWithin}
+use Rattle.h2_ends.specs.Represents.{RepresentsMessages, EndRepresents, IsKept, kept_at, IsInStep}
+use Rattle.h2_ends.specs.Represents.{KeepsActive, WaitsWithin, OwesWithin}
 
 -- What is kept of all streams but one keeps step with what has happened, and is of active streams;
 -- where a message waits on that one, or something is owed, that is found.
@@ -39,7 +39,7 @@ pub record IsInStepBut (end : End) (happened : EndLog) (id : ℕ) : Type 0 where
   pub others : (i : ℕ) → i ≢ id
       → IsInStep end.spans (kept_at i end.streams.entries) happened i
   pub active : (i : ℕ) → i ≢ id → KeepsActive happened.log (kept_at i end.streams.entries) i
-  pub within : IsWithin end.spans.waiting (kept_at id end.streams.entries) id
+  pub within : WaitsWithin end.spans.waiting (kept_at id end.streams.entries) id
   pub owes : OwesWithin end.spans.owing happened.log id
 
 -- A part of a message has come on the stream and isn't handed out yet. What is kept of the stream
@@ -47,10 +47,10 @@ pub record IsInStepBut (end : End) (happened : EndLog) (id : ℕ) : Type 0 where
 -- server, and the stream is active.
 pub record IsReadOn (values : Values) (end : End) (happened : EndLog) (id : ℕ)
     (part : Part × Bool) : Type 0 where
-  pub streams : RepresentsStreams values end happened
+  pub streams : RepresentsMessages values end happened
   pub others : IsInStepBut end happened id
   pub kept : IsKept happened id (kept_at id end.streams.entries)
-  pub was_used : used happened.log id ≡ true
+  pub was_used : is_number_used happened.log id ≡ true
   pub heard : tokens_heard id happened.log.reported
       ≡ tokens_handed happened id ++ tokens_of_part part
   pub first : kept_at id end.streams.entries ≡ None
@@ -59,9 +59,9 @@ pub record IsReadOn (values : Values) (end : End) (happened : EndLog) (id : ℕ)
 
 -- Parts have come on a stream of which only the beginning was handed out: it is to be refused.
 pub record MustRefuse (values : Values) (end : End) (happened : EndLog) (id : ℕ) : Type 0 where
-  pub streams : RepresentsStreams values end happened
+  pub streams : RepresentsMessages values end happened
   pub others : IsInStepBut end happened id
-  pub was_used : used happened.log id ≡ true
+  pub was_used : is_number_used happened.log id ≡ true
   pub prefix : IsPrefixOfTokens (tokens_handed happened id)
       (tokens_heard id happened.log.reported)
 
@@ -121,7 +121,7 @@ pub record HasReported (values : Values) (now : End) (end : EndLog) (piece : Lis
     (event : Event) (log : Log) : Type 0 where
   pub took : MayTake end.log piece (Took count (Some event)) log
   pub logged : (role : Role) × IsLog role values end.log
-  pub streams : RepresentsStreams values now (end_with_log end log)
+  pub streams : RepresentsMessages values now (end_with_log end log)
   pub kept : (i : ℕ) → IsOver end.log i
       ⊎ IsKept (end_with_log end log) i (kept_at i now.streams.entries)
   pub in_step : (i : ℕ) → IsInStep now.spans (kept_at i now.streams.entries) end i
@@ -143,7 +143,7 @@ abbrev pub IsBodyHere : End → List ℕ → List ℕ → Happened → Type 0
 IsBodyHere end piece octets happened =
     IfSome (frame_in (Some happened))
     (λ frame. (value : Frame) × Encodes value (octets_of end.conn.inner.cutter piece frame)
-    × (octets ≡ octets_in value))
+    × (octets ≡ octets_of_body value))
 
 -- Of what is reported, with the octets of its body, the end makes an answer of `take`.
 abbrev pub EndHands : End → List ℕ → Happened → (octets : List ℕ) → Result HandedOut ConnFault

@@ -15,7 +15,7 @@ ghost use Rattle.h2_message.specs.Values.{message_value};
 ghost use Rattle.h2_ends.specs.Ends.{EndLog};
 ghost use Rattle.h2_ends.specs.Quiet.{IsQuietEnd};
 ghost use Rattle.h2_ends.specs.Represents.{EndRepresents, EndAnswers, EndPumps, EndReleases};
-ghost use Rattle.h2_ends.specs.Represents.{EndRequests, new_end};
+ghost use Rattle.h2_ends.specs.Represents.{EndRequests, new_end_log};
 
 use crate::end::End;
 use crate::refusal::EndRefusal;
@@ -39,7 +39,7 @@ impl Client {
     /// `Conn` (E2) with `Memory` (C12) where an allocation was refused.
     pub fn new(alloc: Global, config: Config) -> Result<Client, EndRefusal>
         ensures ok { IfOk result (λ client. EndRepresents (values_of config) client.end
-            (new_end roles.Client (values_of config))) }
+            (new_end_log roles.Client (values_of config))) }
         ensures err { IfErr result (λ refusal. refusal ≡ EndRefusal.Conn Refusal.Memory) }
     {
         match End::new(alloc, Role::Client, config) {

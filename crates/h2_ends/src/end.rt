@@ -4,7 +4,7 @@ ghost use Rattle.std.specs.Prelude.{◌≡◌, ◌⊎◌, None, IfOk, IfErr};
 ghost use Rattle.h2_config.specs.ConfigValues.{values_of};
 ghost use Rattle.h2_log.specs.Acts.{Values};
 ghost use Rattle.h2_ends.specs.Ends.{EndLog};
-ghost use Rattle.h2_ends.specs.Represents.{EndRepresents, RepresentsBut, new_end, reads_of_new};
+ghost use Rattle.h2_ends.specs.Represents.{EndRepresents, RepresentsBut, new_end_log, reads_of_new};
 ghost use Rattle.h2_ends.specs.Represents.{kept_at};
 ghost use Rattle.h2_ends.specs.Sends.{WaitsAsBefore};
 
@@ -34,7 +34,7 @@ impl End {
     /// A new end, whose opening waits.
     pub(crate) fn new(alloc: Global, role: Role, config: Config) -> Result<End, Refusal>
         ensures ok { IfOk result (λ end. EndRepresents (values_of config) end
-            (new_end role (values_of config))) }
+            (new_end_log role (values_of config))) }
         ensures err { IfErr result (λ refusal. refusal ≡ Refusal.Memory) }
     {
         let conn = match role {

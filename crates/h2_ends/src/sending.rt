@@ -9,7 +9,7 @@ ghost use Rattle.h2_message.specs.Messages.{trailer_fields};
 ghost use Rattle.h2_message.specs.Values.{message_value};
 ghost use Rattle.h2_ends.specs.Ends.{EndLog};
 ghost use Rattle.h2_pair.specs.Tokens.{is_head_alone};
-ghost use Rattle.h2_ends.specs.Heads.{AnswersHead, IsGiven, Opens, SendsHead, outgoing_for};
+ghost use Rattle.h2_ends.specs.Heads.{AnswersHead, IsGiven, OpensStream, SendsHead, outgoing_for};
 ghost use Rattle.h2_ends.specs.Represents.{EndRepresents, EndPumps, EndReleases, EndRequests};
 ghost use Rattle.h2_ends.specs.Represents.{EndResponds};
 ghost use Rattle.h2_ends.specs.Sends.{IsNextIn, PumpsOn, Sends, StopsBy, WaitsAsBefore};
@@ -61,7 +61,7 @@ impl End {
     /// Opens a stream with the head of a request.
     fn open(&mut self, message: &Message) -> Result<u32, Refusal>
         ensures { (values : Values) (end : EndLog) → EndRepresents values self.old end
-            → Opens values end (message_value message.now) self.old result self.new }
+            → OpensStream values end (message_value message.now) self.old result self.new }
     {
         if let Some(trailers) = large_trailers(message) {
             // The connection refuses them, and says whether something else comes first.

@@ -1,12 +1,11 @@
 -- What is kept of requests once one of them was answered, or its stream was reset; and at first.
 use Rattle.h2_engines.proofs.Names.{◌≡◌, ◌≢◌, ℕ, Bool, true, false, if◌then◌else◌, List, [], ◌∷◌}
 use Rattle.h2_engines.proofs.Names.{Option, Some, None, Ok, refl, sym, ap, ◌∙◌, subst, inl, inr}
-use Rattle.h2_engines.proofs.Names.{ne_eqb, eq-eqb, cases_eq, both_ways, ◌⊎◌, Server}
-use Rattle.h2_engines.proofs.Names.{Values, Act, SendFields, ResetStream, Done, SentMessage}
-use Rattle.h2_engines.proofs.Names.{Part, first_in, call_calls, is_head_alone, EndLog, end_with_log}
-use Rattle.h2_engines.proofs.Names.{new_end}
+use Rattle.h2_engines.proofs.Names.{ne_eqb, cases_eq, both_ways, ◌⊎◌, Server, Values, Act}
+use Rattle.h2_engines.proofs.Names.{SendFields, ResetStream, Done, SentMessage, Part, first_in}
+use Rattle.h2_engines.proofs.Names.{call_calls, is_head_alone, EndLog, end_with_log, new_end_log}
 use Rattle.h2_log.specs.LogCalls.{with_call}
-use Rattle.h2_message.specs.Phases.{ends}
+use Rattle.h2_message.specs.Phases.{ends_message}
 use Rattle.h2_ends.specs.Ends.{message_for, parts_on}
 use Rattle.h2_ends.specs.EndCalls.{MayRespond, end_with_message}
 use Rattle.h2_engines.specs.declared.request.Request.{Request}
@@ -15,7 +14,8 @@ use Rattle.h2_engines.specs.Answers.{answer_to, answer_with, body_of_parts, is_t
 use Rattle.h2_engines.specs.PartialMessages.{RequestState, has_not_come, comes, was_answered}
 use Rattle.h2_engines.specs.PartialMessages.{was_given_up, KeepsRequests, KeepsOthers, IsToAnswer}
 use Rattle.h2_engines.specs.PartialMessages.{request_at}
-use Rattle.h2_engines.specs.ServerHistories.{IsResponding, WasReset, WasTooLarge, WasAnswered}
+use Rattle.h2_engines.specs.ServerHistories.{IsResponding, WasReportedReset, WasTooLarge}
+use Rattle.h2_engines.specs.ServerHistories.{WasAnswered}
 use Rattle.h2_engines.specs.ServerHistories.{AreOnce, AnswersAll, calm}
 use Rattle.h2_engines.proofs.SameRequests.{SameOn, same_on, stands_as}
 use Rattle.h2_engines.proofs.LinkInvariants.{holds_responding}
@@ -116,23 +116,23 @@ none_at : (requests : Requests) (id : ℕ) → requests.kept.entries ≡ []
     → request_at id requests ≡ None
 none_at requests id none = rw none refl
 
-none_come : (values : Values) (id : ℕ) → RequestState (new_end Server values) id None
+none_come : (values : Values) (id : ℕ) → RequestState (new_end_log Server values) id None
 unfolding parts_on message_for
 none_come values id = has_not_come refl refl
 
 pub kept_none : (requests : Requests) → requests.kept.entries ≡ [] → (values : Values)
-    → KeepsRequests requests (new_end Server values)
+    → KeepsRequests requests (new_end_log Server values)
 kept_none requests none values id = rw ((none_at requests id none)) (none_come values id)
 
 -- A stream of which all has come was answered or given up.
-no_end : {parts : List (Part × Bool)} → parts ≡ [] → ends parts ≡ true → ⊥
-unfolding ends
+no_end : {parts : List (Part × Bool)} → parts ≡ [] → ends_message parts ≡ true → ⊥
+unfolding ends_message
 no_end none whole =
-    let goes : false ≡ true = ap ends (sym none) ∙ whole in cc
+    let goes : false ≡ true = ap ends_message (sym none) ∙ whole in cc
 
 all_stand : {end : EndLog} {id : ℕ} {request : Option Request} → RequestState end id request
-    → ends (parts_on id end.handed) ≡ true
-    → WasAnswered end id ⊎ (WasReset end id ⊎ WasTooLarge end id)
+    → ends_message (parts_on id end.handed) ≡ true
+    → WasAnswered end id ⊎ (WasReportedReset end id ⊎ WasTooLarge end id)
 all_stand (has_not_come none unsaid) whole = absurd (no_end none whole)
 all_stand (comes head parts kept are goes fits is unsaid) whole = absurd (both_ways _ goes whole)
 all_stand (was_answered was) whole = inl was
@@ -145,7 +145,8 @@ no_large none large =
     let fits : false ≡ true = ap is_too_large_body (sym none) ∙ large in cc
 
 large_stands : {end : EndLog} {id : ℕ} {request : Option Request} → RequestState end id request
-    → is_too_large_body (parts_on id end.handed) ≡ true → WasReset end id ⊎ WasTooLarge end id
+    → is_too_large_body (parts_on id end.handed) ≡ true
+    → WasReportedReset end id ⊎ WasTooLarge end id
 large_stands (has_not_come none unsaid) large = absurd (no_large none large)
 large_stands (comes head parts kept are goes fits is unsaid) large =
     absurd (both_ways _ fits large)

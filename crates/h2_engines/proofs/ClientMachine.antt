@@ -3,7 +3,7 @@ use Rattle.h2_engines.proofs.Names.{◌≡◌, ◌≢◌, ℕ, Bool, true, false
 use Rattle.h2_engines.proofs.Names.{Ok, Err, refl, sym, ap, ◌∙◌, subst, inl, inr, append-nil}
 use Rattle.h2_engines.proofs.Names.{Contains, Event, SentMessage, first_in, End, EndLog, Handed}
 use Rattle.h2_engines.proofs.Names.{EndAnswer, EndTook, EndFailed, Passed, EndMayTake, LinkError}
-use Rattle.h2_message.specs.Phases.{ends}
+use Rattle.h2_message.specs.Phases.{ends_message}
 use Rattle.h2_ends.specs.Ends.{message_for, part_on, parts_on}
 use Rattle.h2_engines.specs.declared.fetcher.Coming.{Coming}
 use Rattle.h2_engines.specs.declared.machine.Heard.{Heard}
@@ -75,7 +75,7 @@ hears_why : (message : SentMessage) (id : ℕ) (coming : Coming) (whole : Bool) 
     {piece : List ℕ} (answer : EndAnswer) {after : EndLog} (error : LinkError) (octets : List ℕ)
     → EndMayTake end piece answer after → ErrsFetching answer id error
     → SaysUsed answer octets after.log → message_for id after.accepted ≡ Some message
-    → ends (parts_on id end.handed) ≡ false
+    → ends_message (parts_on id end.handed) ≡ false
     → HearsNoMore message (Fetching id coming whole) after error
 unfolding ErrsFetching
 hears_why message id coming whole (EndFailed code) {after} error octets may errs says accepted not
@@ -84,7 +84,7 @@ hears_why message id coming whole (EndFailed code) {after} error octets may errs
     fails code (kept_failed may) errs (λ other. (
       accepted,
       unfinished after id other
-          (ap (λ (handed : List Handed). ends (parts_on id handed)) taken.handed ∙ not),
+          (ap (λ (handed : List Handed). ends_message (parts_on id handed)) taken.handed ∙ not),
     ))
 hears_why message id coming whole (EndTook count None) error octets may errs says accepted not =
     absurd errs
@@ -92,15 +92,15 @@ hears_why message id coming whole (EndTook count (Some handed)) {after} error oc
     (inl memory) says accepted not =
     gives_up says.1 (
       accepted,
-      subst (λ (one : LinkError). EndsUnfinished after id (Err one)) (sym memory) tt,
-    ) (inl memory)
+      subst (λ (one : LinkError). EndsUnfinished after id (Err one)) (sym memory.0) tt,
+    ) (inl memory.0)
 hears_why message id coming whole {end} (EndTook count (Some handed)) {after} error octets may
     (inr (inl reset)) says accepted not =
     let taken = taken_says may in
     let last = taken.handed ∙ ap (λ (one : Handed). one ∷ end.handed) reset.2 in
     gives_up says.1 (
       accepted,
-      unfinished after id error (ap ends (passed_parts id _ end.handed last) ∙ not),
+      unfinished after id error (ap ends_message (passed_parts id _ end.handed last) ∙ not),
     ) (inr (λ writes. (
       reset.0,
       reset.3,
@@ -112,7 +112,7 @@ hears_why message id coming whole {end} (EndTook count (Some handed)) {after} er
     let last = taken.handed ∙ ap (λ (one : Handed). one ∷ end.handed) left.0 in
     gives_up says.1 (
       accepted,
-      unfinished after id error (ap ends (passed_parts id _ end.handed last) ∙ not),
+      unfinished after id error (ap ends_message (passed_parts id _ end.handed last) ∙ not),
     ) (inr (λ writes. (
       refused_stream,
       left.1,

@@ -1,10 +1,9 @@
 -- How a client ends its fetch, over a link and without one, by how it was driven.
-use Rattle.h2_engines.proofs.Names.{◌≡◌, ℕ, Bool, true, false, List, [], ◌∷◌, Option}
-use Rattle.h2_engines.proofs.Names.{Some, None, Result, Ok, Err, if◌then◌else◌, refl, sym, ap, ◌∙◌}
-use Rattle.h2_engines.proofs.Names.{subst, inl, inr, IfErr, eq-eqb, Appends-nil, Field}
-use Rattle.h2_engines.proofs.Names.{Code, InternalError, Client, Values, AreInRange, Log}
-use Rattle.h2_engines.proofs.Names.{Keeps-call, SentMessage, Part, call_given, is_head_alone}
-use Rattle.h2_engines.proofs.Names.{EndLog, new_end, LinkError}
+use Rattle.h2_engines.proofs.Names.{◌≡◌, ℕ, Bool, true, false, List, [], ◌∷◌, Option, Some, None}
+use Rattle.h2_engines.proofs.Names.{Result, Ok, Err, if◌then◌else◌, refl, sym, ap, ◌∙◌, subst, inl}
+use Rattle.h2_engines.proofs.Names.{inr, IfErr, eq-eqb, Appends-nil, Field, Code, InternalError}
+use Rattle.h2_engines.proofs.Names.{Client, Values, AreInRange, Log, Keeps-call, SentMessage, Part}
+use Rattle.h2_engines.proofs.Names.{call_given, is_head_alone, EndLog, new_end_log, LinkError}
 use Rattle.std.proofs.Common.{◌⊎◌, map as each, IfOk}
 use Rattle.std.specs.Prelude.{OnErr}
 use Rattle.h2_log.specs.Acts.{Open, Number}
@@ -24,8 +23,8 @@ use Rattle.h2_engines.specs.ClientSteps.{HasRequested, IsFetchedOf}
 use Rattle.h2_engines.specs.Linked.{Traffic, IsLinked, HasTakenAll}
 use Rattle.h2_engines.specs.Machines.{Course, Keeps, IsDriven, EndsFor, lacks_memory, link_fails}
 use Rattle.h2_engines.specs.Machines.{has_failed, has_stalled, stops_itself, HasEnded, TakenSo}
-use Rattle.h2_engines.specs.Machines.{TakesPiece, DrivenSo, Drives}
-use Rattle.h2_engines.specs.PartialMessages.{AreHeads, HasCome, IsWhole, interims_alone}
+use Rattle.h2_engines.specs.Machines.{MachineTakesPiece, DrivenSo, Drives, HasSentFor}
+use Rattle.h2_engines.specs.PartialMessages.{AreHeadsSoFar, HasCome, IsWhole, interims_alone}
 use Rattle.h2_engines.specs.PartialMessages.{interim_parts}
 use Rattle.h2_engines.specs.ServerSteps.{error_with}
 use Rattle.h2_engines.specs.WithoutLink.{IsFetchingAlone, StopsFetchAlone, FetchesInSo}
@@ -56,11 +55,11 @@ pub ends_at_once : {values : Values} (message : SentMessage) (start : Traffic) (
     → Fetches values message start start (Err error)
 ends_at_once {values} message start error range refused =
     record {
-      end = new_end Client values;
+      end = new_end_log Client values;
       fetching = begins range;
       linked = all_in_part
           (nothing_linked start (opened Client values) (new_log values).0 (new_log values).1);
-      so = inr refused;
+      so = inr (record { refused = refused; new = refl; same = refl });
     }
 
 -- The message for a stream is the one that was accepted for it.
@@ -76,7 +75,8 @@ unfolding with_call
 open_failed log list end id = items_failed log (Open list end) (Number id)
 
 -- Nothing has come.
-no_heads : (coming : Coming) → coming.head ≡ None → coming.interims.items ≡ [] → AreHeads coming
+no_heads : (coming : Coming) → coming.head ≡ None → coming.interims.items ≡ []
+    → AreHeadsSoFar coming
 no_heads coming head interims =
     record {
       interims = rw interims tt;
@@ -95,7 +95,17 @@ no_parts : (id : ℕ) → parts_on id [] ≡ []
 unfolding parts_on
 no_parts id = refl
 
--- The message was accepted: the client is driven.
+-- The message was accepted: no octets were used yet,
+none_used : {values : Values} {message : SentMessage} {fetcher : Fetcher}
+    → (has : HasRequested values message fetcher) → has.end.log.input ≡ []
+unfolding MayRequest
+none_used {values} {message} {fetcher} has =
+    let new = opened Client values in
+    let act = Open message.head (is_head_alone message) in
+    ap (λ (end : EndLog). end.log.input) has.requested.3
+    ∙ (Keeps-call new act (Number fetcher.id)).input ∙ (new_log values).0
+
+-- and the client is driven.
 new_driven : {values : Values} {message : SentMessage} (start : Traffic) {fetcher : Fetcher}
     → AreInRange values → fetcher.whole ≡ false → (has : HasRequested values message fetcher)
     → IsDriven (record { values = values; message = message; start = start }) start
@@ -112,8 +122,7 @@ new_driven {values} {message} start {fetcher} range not has =
     record {
       happened = requests range (Ok fetcher.id) has.requested;
       represents = has.represents;
-      linked = nothing_linked start has.end.log (ap (λ (one : Log). one.input) log
-          ∙ (Keeps-call new act (Number fetcher.id)).input ∙ (new_log values).0) (ap
+      linked = nothing_linked start has.end.log (none_used has) (ap
           (λ (one : Log). one.given) log ∙ call_given new act (Number fetcher.id)
           (λ count same. cc) ∙ (new_log values).1);
       up = ap (λ (one : Log). one.failed) log ∙ open_failed new message.head
@@ -127,18 +136,25 @@ new_driven {values} {message} start {fetcher} range not has =
       );
     }
 
+-- Its body need not have been sent before it has used some.
+first_sent : {values : Values} {message : SentMessage} {fetcher : Fetcher}
+    → (has : HasRequested values message fetcher)
+    → HasSentFor (client_held fetcher).kept has.end
+first_sent has = λ some. absurd (some (none_used has))
+
 -- A connection has failed, and all is written.
 fails_so : (start now : Traffic) (end : EndLog) (id : ℕ) (code : Code)
     → end.log.failed ≡ Some code → HasTakenAll start now end.log
     → EndsFetchSo start now end id (Err (error_with code))
-fails_so start now end id InternalError failed taken = tt
+fails_so start now end id InternalError failed taken = inl (inr failed)
 fails_so start now end id code failed taken =
     record { code = code; failed = failed; other = λ same. cc; number_is = refl; taken = taken }
 
 ends_so : {start now : Traffic} (fetcher : Fetcher) {end : EndLog} {error : LinkError}
     → EndsFor true start now (client_held fetcher).kept end error
     → EndsFetchSo start now end fetcher.id (Err error)
-ends_so fetcher (lacks_memory is) = rw is tt
+ends_so fetcher (lacks_memory is (inl up)) = rw is (inl (inl up))
+ends_so fetcher (lacks_memory is (inr (said, cannot))) = rw is (inr cannot)
 ends_so fetcher (link_fails is said) = rw is tt
 ends_so {start} {now} fetcher {end} (has_failed code failed is taken) =
     rw is (fails_so start now end fetcher.id code failed (taken refl))
@@ -170,7 +186,7 @@ pub drive_fetches : {values : Values} {message : SentMessage} (before now : Traf
     → Fetches values message before now (Err error)
 unfolding DrivenSo
 drive_fetches before now new error range not has drives =
-    let so = drives _ has.end (new_driven before range not has) in
+    let so = drives _ has.end (new_driven before range not has) (first_sent has) in
     ended_fetches new so.1
 
 -- never where its input has ended then;
@@ -181,7 +197,7 @@ pub drive_not_cut : {values : Values} {message : SentMessage} (before now : Traf
     → CutsOffAtEnd {A = Fetched} (Err error) ended
 unfolding DrivenSo
 drive_not_cut before now new error ended range not has drives =
-    let so = drives _ has.end (new_driven before range not has) in
+    let so = drives _ has.end (new_driven before range not has) (first_sent has) in
     not_cut Fetched error ended (goes_for (client_held new).kept so.1.why)
 
 -- or where that has ended before the response was whole;
@@ -193,7 +209,7 @@ pub drive_cut_off : {values : Values} {message : SentMessage} (before now : Traf
 unfolding DrivenSo Keeps
 drive_cut_off before now new true ends range not has drives = absurd (cc)
 drive_cut_off {message} before now new false ends range not has drives =
-    let so = drives _ has.end (new_driven before range not has) in
+    let so = drives _ has.end (new_driven before range not has) (first_sent has) in
     let driven = so.1.0 in
     let holds = holds_again message (client_held new).kept so.0 errors.CutOff driven.keeps in
     record {
@@ -205,7 +221,7 @@ drive_cut_off {message} before now new false ends range not has drives =
         accepted = holds.0;
         sends = driven.represents.streams.sent;
         unfinished = holds.1;
-        so = (driven.up, driven.linked.given, so.1.1);
+        so = (driven.up, driven.linked.given, so.1.1, so.1.2, so.1.3);
       });
     }
 
@@ -244,7 +260,7 @@ pub drive_whole : {values : Values} {message : SentMessage} (before now : Traffi
 unfolding DrivenSo Keeps
 drive_whole before now new false result said range not has drives of none = absurd (cc)
 drive_whole before now new true (Ok fetched) said range not has drives of none =
-    let so = drives _ has.end (new_driven before range not has) in
+    let so = drives _ has.end (new_driven before range not has) (first_sent has) in
     let driven = so.1.1 in
     record {
       end = so.0;
@@ -259,7 +275,7 @@ drive_whole before now new true (Ok fetched) said range not has drives of none =
       });
     }
 drive_whole before now new true (Err error) said range not has drives of none =
-    let so = drives _ has.end (new_driven before range not has) in
+    let so = drives _ has.end (new_driven before range not has) (first_sent has) in
     let keeps = so.1.1.keeps in
     absurd (not_missing new (parts_on new.id so.0.handed) keeps.1 keeps.2 none)
 
@@ -289,7 +305,7 @@ alone_driven {end} piece is =
 code_stops : (end : EndLog) (id : ℕ) (code : Code) → end.log.failed ≡ Some code
     → StopsFetchAlone end id (error_with code)
 unfolding StopsFetchAlone
-code_stops end id InternalError failed = tt
+code_stops end id InternalError failed = inr failed
 code_stops end id code failed =
     record { code = code; failed = failed; other = λ same. cc; number_is = refl }
 
@@ -297,7 +313,8 @@ ends_alone : {start now : Traffic} (fetcher : Fetcher) {end : EndLog} {error : L
     → now.stalled ≡ false → EndsFor false start now (client_held fetcher).kept end error
     → StopsFetchAlone end fetcher.id error
 unfolding StopsFetchAlone
-ends_alone fetcher none (lacks_memory is) = rw is tt
+ends_alone fetcher none (lacks_memory is (inl up)) = rw is (inl up)
+ends_alone fetcher none (lacks_memory is (inr (said, cannot))) = absurd (cc)
 ends_alone fetcher none (link_fails is said) = absurd (cc)
 ends_alone fetcher {end} none (has_failed code failed is taken) =
     rw is (code_stops end fetcher.id code failed)
@@ -308,7 +325,7 @@ ends_alone fetcher none (stops_itself (number, is, dropped)) = rw is dropped
 -- So it takes octets in.
 pub takes_in : (real now : Traffic) (old new : Fetcher) (piece : List ℕ)
     (result : Result Bool LinkError)
-    → TakesPiece false real now (client_held old) (client_held new) piece result
+    → MachineTakesPiece false real now (client_held old) (client_held new) piece result
     → ClientTakesIn old new piece result
 unfolding TakenSo FetchesInSo Keeps
 takes_in real now old new piece (Ok true) takes values message end is =

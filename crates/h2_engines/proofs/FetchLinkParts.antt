@@ -2,7 +2,7 @@
 use Rattle.h2_engines.proofs.Names.{◌≡◌, ℕ, Bool, false, List, [], ◌∷◌, ◌++◌, refl, Field, Part}
 use Rattle.h2_engines.proofs.Names.{FieldsPart}
 use Rattle.std.proofs.Common.{map as each}
-use Rattle.h2_message.specs.Phases.{ends}
+use Rattle.h2_message.specs.Phases.{ends_message}
 use Rattle.h2_engines.specs.declared.fetcher.Coming.{Coming}
 use Rattle.h2_engines.specs.PartialMessages.{HasCome, interims_alone, head_and_body, interim_parts}
 use Rattle.h2_engines.specs.PartialMessages.{data_parts_of}
@@ -28,8 +28,8 @@ unfolding GoOn
 data_go_on [] = tt
 data_go_on (octets ∷ data_parts) = (refl, data_go_on data_parts)
 
-none_ends : (parts : List (Part × Bool)) → GoOn parts → ends parts ≡ false
-unfolding GoOn ends
+none_ends : (parts : List (Part × Bool)) → GoOn parts → ends_message parts ≡ false
+unfolding GoOn ends_message
 none_ends [] goes = refl
 none_ends ((part, end) ∷ []) goes = goes.0
 none_ends ((part, end) ∷ (next ∷ parts)) goes = none_ends (next ∷ parts) goes.1
@@ -40,7 +40,7 @@ unfolding GoOn
 body_goes_on head data_parts = (refl, data_go_on data_parts)
 
 pub come_not_whole : {coming : Coming} {parts : List (Part × Bool)} → HasCome coming parts
-    → ends parts ≡ false
+    → ends_message parts ≡ false
 come_not_whole {coming} (interims_alone are no_head no_body no_trailers) =
     none_ends _ (interims_go_on (each (λ list. list.items) coming.interims.items))
 come_not_whole {coming} (head_and_body are head data_parts head_is body_is no_trailers) =

@@ -13,7 +13,7 @@ use Rattle.h2_ends.specs.Ends.{part_on}
 use Rattle.h2_engines.specs.declared.fetcher.Coming.{Coming}
 use Rattle.h2_engines.specs.ClientSteps.{NotesPart, notes_interim, notes_head, notes_body}
 use Rattle.h2_engines.specs.ClientSteps.{notes_trailers, notes_nothing}
-use Rattle.h2_engines.specs.PartialMessages.{AreHeads, HasCome, interims_alone, head_and_body}
+use Rattle.h2_engines.specs.PartialMessages.{AreHeadsSoFar, HasCome, interims_alone, head_and_body}
 use Rattle.h2_engines.specs.PartialMessages.{IsWhole, interim_parts, data_parts_of}
 use Rattle.h2_engines.proofs.FetcherPlaces.{head_there}
 
@@ -181,7 +181,7 @@ on_head {old} new list end head interims body trailers none final
 
 -- The same heads are.
 same_heads : {old : Coming} (new : Coming) → new.interims ≡ old.interims → new.head ≡ old.head
-    → AreHeads old → AreHeads new
+    → AreHeadsSoFar old → AreHeadsSoFar new
 same_heads new interims head heads =
     record {
       interims = rw interims heads.interims;

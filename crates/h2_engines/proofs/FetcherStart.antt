@@ -1,8 +1,8 @@
 -- How a new client has made its request.
-use Rattle.h2_engines.proofs.Names.{◌≡◌, ◌≢◌, [], Option, Some, None, Ok, Err, refl, ap, ◌∙◌}
-use Rattle.h2_engines.proofs.Names.{subst, inl, inr, ◌⊎◌, Refusal, Memory, Client, Values}
-use Rattle.h2_engines.proofs.Names.{Malformed, Message, SentMessage, LinkError, End, EndRefusal}
-use Rattle.h2_engines.proofs.Names.{EndLog, EndRepresents, new_end}
+use Rattle.h2_engines.proofs.Names.{◌≡◌, ◌≢◌, [], Option, Some, None, Ok, Err, refl, ap, ◌∙◌, subst}
+use Rattle.h2_engines.proofs.Names.{inl, inr, ◌⊎◌, Refusal, Memory, Client, Values, Malformed}
+use Rattle.h2_engines.proofs.Names.{Message, SentMessage, LinkError, End, EndRefusal, EndLog}
+use Rattle.h2_engines.proofs.Names.{EndRepresents, new_end_log}
 use Rattle.h2_log.specs.declared.refusal.Refusal.TheVariants.{ListTooLarge}
 use Rattle.h2_ends.specs.declared.refusal.EndRefusal.TheVariants as refusals
 use Rattle.h2_ends.specs.EndCalls.{MayRequest}
@@ -15,12 +15,12 @@ use Rattle.h2_engines.specs.ClientSteps.{HasRequested}
 
 -- It was accepted.
 pub has_requested : {values : Values} (message : SentMessage) {old : End} (fetcher : Fetcher)
-    → EndRepresents values old (new_end Client values)
+    → EndRepresents values old (new_end_log Client values)
     → EndRequests old message (Ok fetcher.id) fetcher.client.end → fetcher.coming.head ≡ None
     → fetcher.coming.body.items ≡ [] → fetcher.coming.interims.items ≡ []
     → fetcher.coming.trailers ≡ None → HasRequested values message fetcher
 has_requested {values} message fetcher represents requests none empty no_interims no_trailers =
-    let (end, may, now) = requests.1 values (new_end Client values) represents in
+    let (end, may, now) = requests.1 values (new_end_log Client values) represents in
     record {
       end = end;
       requested = may;
@@ -36,19 +36,19 @@ broken_some : {broken : Option Malformed} (rule : Malformed) → broken ≡ Some
 broken_some rule is none = absurd (cc)
 
 refused_rule : (values : Values) (message : SentMessage) (rule : Malformed) (after : EndLog)
-    → MayRequest (new_end Client values) message (Err (refusals.BadMessage rule)) after
+    → MayRequest (new_end_log Client values) message (Err (refusals.BadMessage rule)) after
     → IsRefusedMessage values message
 unfolding MayRequest
 refused_rule values message rule after may = inl (broken_some rule may.0)
 
 pub refused_as_broken : {values : Values} (message : SentMessage) {old : End} (new : End)
     (back : Message) {refusal : EndRefusal} (rule : Malformed)
-    → EndRepresents values old (new_end Client values) → refusal ≡ refusals.BadMessage rule
+    → EndRepresents values old (new_end_log Client values) → refusal ≡ refusals.BadMessage rule
     → EndRequests old message (Err (back, refusal)) new → IsRefusedMessage values message
 refused_as_broken {values} message new back rule represents is requests =
-    let (end, may, now) = requests.1 values (new_end Client values) represents in
+    let (end, may, now) = requests.1 values (new_end_log Client values) represents in
     refused_rule values message rule end (subst
-    (λ (one : EndRefusal). MayRequest (new_end Client values) message (Err one) end) is may)
+    (λ (one : EndRefusal). MayRequest (new_end_log Client values) message (Err one) end) is may)
 
 -- or its fields are too many.
 too_many : (found : Option Refusal) → (found ≡ Some ListTooLarge)
@@ -57,22 +57,22 @@ too_many found (inl is) = is
 too_many found (inr other) = let wrong = other.1 in cc
 
 refused_list : (values : Values) (message : SentMessage) (after : EndLog)
-    → MayRequest (new_end Client values) message (Err (refusals.Conn ListTooLarge)) after
+    → MayRequest (new_end_log Client values) message (Err (refusals.Conn ListTooLarge)) after
     → IsRefusedMessage values message
 unfolding MayRequest
 refused_list values message after may = inr (too_many _ may.1)
 
 pub refused_as_large : {values : Values} (message : SentMessage) {old : End} (new : End)
     (back : Message) {refusal : EndRefusal} (reason : Refusal)
-    → EndRepresents values old (new_end Client values) → refusal ≡ refusals.Conn reason
+    → EndRepresents values old (new_end_log Client values) → refusal ≡ refusals.Conn reason
     → reason ≡ ListTooLarge → EndRequests old message (Err (back, refusal)) new
     → IsRefusedMessage values message
 refused_as_large {values} message new back {refusal} reason represents named same requests =
     let is : refusal ≡ refusals.Conn ListTooLarge =
     named ∙ ap (λ (one : Refusal). refusals.Conn one) same in
-    let (end, may, now) = requests.1 values (new_end Client values) represents in
+    let (end, may, now) = requests.1 values (new_end_log Client values) represents in
     refused_list values message end (subst
-    (λ (one : EndRefusal). MayRequest (new_end Client values) message (Err one) end) is may)
+    (λ (one : EndRefusal). MayRequest (new_end_log Client values) message (Err one) end) is may)
 
 -- A request that was refused for something else was not refused as out of memory.
 otherwise : (values : Values) (message : SentMessage) (refusal : Refusal)
@@ -97,7 +97,7 @@ ends_otherwise values message refusal small why =
 refused_so : (values : Values) (message : SentMessage) (refusal : EndRefusal) (after : EndLog)
     → ((rule : Malformed) → refusal ≢ refusals.BadMessage rule)
     → refusal ≢ refusals.Conn ListTooLarge
-    → MayRequest (new_end Client values) message (Err refusal) after
+    → MayRequest (new_end_log Client values) message (Err refusal) after
     → IsNotAccepted values message (Err (error_after refusal))
 unfolding MayRequest
 refused_so values message (refusals.BadMessage rule) after kept small may =
@@ -110,10 +110,10 @@ refused_so values message refusal after kept small may = absurd may
 -- So the fetch has ended.
 pub refused_otherwise : {values : Values} (message : SentMessage) {old : End} (new : End)
     (back : Message) (refusal : EndRefusal) {error : LinkError}
-    → EndRepresents values old (new_end Client values)
+    → EndRepresents values old (new_end_log Client values)
     → ((rule : Malformed) → refusal ≢ refusals.BadMessage rule)
     → refusal ≢ refusals.Conn ListTooLarge → error ≡ error_after refusal
     → EndRequests old message (Err (back, refusal)) new → IsNotAccepted values message (Err error)
 refused_otherwise {values} message new back refusal represents kept small is requests =
-    let (end, may, now) = requests.1 values (new_end Client values) represents in
+    let (end, may, now) = requests.1 values (new_end_log Client values) represents in
     rw is (refused_so values message refusal end kept small may)

@@ -1,4 +1,5 @@
 pub mod AnswerRequests
+pub mod AnswersSent
 pub mod ClientMachine
 pub mod FetchEnds
 pub mod FetchLinkParts
@@ -32,10 +33,12 @@ pub mod ResponderRefusals
 pub mod ResponderStalls
 pub mod ResponderWrites
 pub mod SameRequests
+pub mod SentAll
 pub mod ServeEnds
 pub mod ServeLinkLogs
 pub mod ServeLinkTakes
 pub mod ServerMachine
+pub mod SpokenStreams
 pub mod TakeMessages
 pub mod TakeRequests
 pub mod TurnsOfFrames

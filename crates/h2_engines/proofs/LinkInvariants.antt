@@ -2,12 +2,11 @@
 -- stays a server's end or a client's.
 use Rattle.h2_engines.proofs.Names.{◌≡◌, ℕ, List, Option, Result, Ok, Err, refl, ap, ◌∙◌, inl, inr}
 use Rattle.h2_engines.proofs.Names.{Refusal, Server, Client, Values, Act, Answer, Refuse, PutOut}
-use Rattle.h2_engines.proofs.Names.{true, Count, Done}
-use Rattle.h2_engines.proofs.Names.{OutOfMemory, Refused, SentMessage, EndRefusal, EndLog}
-use Rattle.h2_engines.proofs.Names.{EndAnswer}
-use Rattle.h2_engines.proofs.Names.{EndMayTake, end_with_log, Pumps, pumps_no_more, pumps_data}
-use Rattle.h2_engines.proofs.Names.{pumps_trailers, data_refused, trailers_refused, Releases}
-use Rattle.h2_engines.proofs.Names.{releases_no_more, releases_one, releases_refused, new_end}
+use Rattle.h2_engines.proofs.Names.{true, Count, Done, OutOfMemory, Refused, SentMessage}
+use Rattle.h2_engines.proofs.Names.{EndRefusal, EndLog, EndAnswer, EndMayTake, end_with_log, Pumps}
+use Rattle.h2_engines.proofs.Names.{pumps_no_more, pumps_data, pumps_trailers, data_refused}
+use Rattle.h2_engines.proofs.Names.{trailers_refused, Releases, releases_no_more, releases_one}
+use Rattle.h2_engines.proofs.Names.{releases_refused, new_end_log}
 use Rattle.h2_log.specs.Acts.{Open, SendFields, SendData, Release}
 use Rattle.h2_log.specs.Log.{owed}
 use Rattle.h2_log.specs.declared.refusal.Refusal.TheVariants as reasons
@@ -29,10 +28,28 @@ IsQuiet (PutOut count) answer = ⊥
 IsQuiet (Refuse id code) answer = ⊥
 IsQuiet act answer = Unit {0}
 
+-- A call sends a part of a message or releases octets, and was not left without memory: so it is
+-- quiet.
+abbrev pub SendsOrReleases : Act → Answer → Type 0
+SendsOrReleases act OutOfMemory = ⊥
+SendsOrReleases (Open fields end) answer = Unit {0}
+SendsOrReleases (SendFields id fields end) answer = Unit {0}
+SendsOrReleases (SendData id octets end) answer = Unit {0}
+SendsOrReleases (Release id count) answer = Unit {0}
+SendsOrReleases act answer = ⊥
+
+pub sends_quietly : (act : Act) (answer : Answer) → SendsOrReleases act answer → IsQuiet act answer
+sends_quietly act OutOfMemory sends = sends
+sends_quietly (Open fields end) answer sends = tt
+sends_quietly (SendFields id fields end) answer sends = tt
+sends_quietly (SendData id octets end) answer sends = tt
+sends_quietly (Release id count) answer sends = tt
+sends_quietly act answer sends = absurd sends
+
 -- Each such call of its connection keeps this of an end,
 abbrev pub CallsKeep : (EndLog → Type 0) → Type 0
 CallsKeep P =
-    (end : EndLog) (act : Act) (answer : Answer) → IsQuiet act answer → P end
+    (end : EndLog) (act : Act) (answer : Answer) → SendsOrReleases act answer → P end
     → P (end_with_log end (with_call end.log act answer))
 
 -- or each call at all.
@@ -42,17 +59,17 @@ AllKeep P =
     → P (end_with_log end (with_call end.log act answer))
 
 quietly : (P : EndLog → Type 0) → AllKeep P → CallsKeep P
-quietly P keep end act answer quiet holds = keep end act answer holds
+quietly P keep end act answer sends holds = keep end act answer holds
 
 -- So do the calls of a pump and of a release,
 pump_keeps : (P : EndLog → Type 0) → CallsKeep P
     → {before : EndLog} {count : ℕ} {refused : Option Refusal} {after : EndLog}
     → Pumps before count refused after → P before → P after
 pump_keeps P keep (pumps_no_more end) holds = holds
-pump_keeps P keep (pumps_data end id sent more octets ends refusal last next typed may rest) holds
-    =
+pump_keeps P keep (pumps_data end id sent more octets ends refusal last next typed waits may rest)
+    holds =
     pump_keeps P keep rest (keep end (SendData id octets ends) (Count sent) tt holds)
-pump_keeps P keep (pumps_trailers end id more list refusal last next typed may rest) holds =
+pump_keeps P keep (pumps_trailers end id more list refusal last next typed wait may rest) holds =
     pump_keeps P keep rest (keep end (SendFields id list true) Done tt holds)
 pump_keeps P keep (data_refused end id octets ends refusal next typed waits may) holds =
     keep end (SendData id octets ends) (Refused refusal) tt holds
@@ -97,17 +114,18 @@ released_keeps P keep before (Err (refusals.Conn reasons.Memory)) after may hold
 released_keeps P keep before (Err other) after may holds = absurd may
 
 -- and an answer that is refused.
-head_quiet : (act : Act) (refusal : Refusal) → IsHeadCall act → IsQuiet act (Refused refusal)
-head_quiet (Open fields end) refusal head = tt
-head_quiet (SendFields id fields end) refusal head = tt
-head_quiet act refusal head = absurd head
+head_sends : (act : Act) (refusal : Refusal) → IsHeadCall act
+    → SendsOrReleases act (Refused refusal)
+head_sends (Open fields end) refusal head = tt
+head_sends (SendFields id fields end) refusal head = tt
+head_sends act refusal head = absurd head
 
 unchanged_keeps : (P : EndLog → Type 0) → CallsKeep P → (before after : EndLog)
     → IsUnchanged before after → P before → P after
 unfolding IsUnchanged
 unchanged_keeps P keep before after (inl same) holds = rw same holds
 unchanged_keeps P keep before after (inr called) holds =
-    rw called.5 (keep before called.0 (Refused called.1) (head_quiet called.0 called.1 called.3)
+    rw called.5 (keep before called.0 (Refused called.1) (head_sends called.0 called.1 called.3)
     holds)
 
 -- An answer that is taken keeps this.
@@ -157,7 +175,7 @@ TakesKeep P =
 
 -- Whatever has happened at a server over a link, what each call keeps holds of it,
 pub holds_responding : (P : EndLog → Type 0) → AllKeep P → AnswersKeep P → TakesKeep P
-    → {values : Values} → P (new_end Server values) → {end : EndLog} → IsResponding values end
+    → {values : Values} → P (new_end_log Server values) → {end : EndLog} → IsResponding values end
     → P end
 holds_responding P keep answer take new (server.begins range) = new
 holds_responding P keep answer take new
@@ -183,12 +201,13 @@ holds_responding P keep answer take new (server.gives_out {end = before} was cou
 
 -- and so it is with a client.
 holds_fetching : (P : EndLog → Type 0) → AllKeep P → RequestsKeep P → TakesKeep P
-    → {values : Values} → P (new_end Client values) → {message : SentMessage} {end : EndLog}
+    → {values : Values} → P (new_end_log Client values) → {message : SentMessage} {end : EndLog}
     → IsFetching values message end → P end
 holds_fetching P keep request take new (client.begins range) = new
 holds_fetching P keep request take {values} new {message} {end}
     (client.requests range result may) =
-    requested_keeps P (quietly P keep) request (new_end Client values) message result end may new
+    requested_keeps P (quietly P keep) request (new_end_log Client values) message result end may
+    new
 holds_fetching P keep request take new
     (client.takes {end = before} {after = after} was piece said may) =
     take before piece said after may (holds_fetching P keep request take new was)

@@ -1,64 +1,88 @@
--- What each round of a machine that is driven over a link makes of it: what waits is written,
--- octets are read and taken, and credit is returned.
+-- What each round of a machine that is driven over a link makes of it: output is written, octets
+-- are read and taken, credit is returned, and what waits is sent.
 use Rattle.h2_engines.proofs.Names.{◌≡◌, ◌≤◌, ℕ, ◌+◌, ◌-◌, ◌^◌, Bool, true, false, List, [], ◌++◌}
 use Rattle.h2_engines.proofs.Names.{length, take, Option, Result, Ok, Err, refl, sym, ap, ◌∙◌}
-use Rattle.h2_engines.proofs.Names.{subst, append-nil, inr, arith, Appends, Appends-trans, Log}
-use Rattle.h2_engines.proofs.Names.{given_out, EndLog, LinkError}
+use Rattle.h2_engines.proofs.Names.{subst, append-nil, inl, inr, arith, Appends, Appends-trans, Log}
+use Rattle.h2_engines.proofs.Names.{Values, given_out, full_output, EndLog, LinkError, ◌<◌}
 use Rattle.std.proofs.Math.Seq.{take-append_seam}
+use Rattle.h2_log.specs.Log.{waiting}
+use Rattle.h2_conn.specs.Conn.{ConnRepresents}
 use Rattle.h2_link.specs.declared.error.LinkError.TheVariants as errors
 use Rattle.h2_link.specs.Links.{ended_after}
 use Rattle.h2_engines.specs.declared.request.Next.TheVariants as nexts
 use Rattle.h2_engines.specs.Failures.{EndsWriting, failures_at_end}
 use Rattle.h2_engines.specs.Linked.{Traffic, IsLinked, HasTakenAll}
-use Rattle.h2_engines.specs.Machines.{MachineState, Course, IsDriven, lacks_memory}
-use Rattle.h2_engines.specs.Machines.{link_fails}
-use Rattle.h2_engines.specs.Machines.{has_stalled, WritesWaiting, TakenSo, TakesPiece}
-use Rattle.h2_engines.specs.Machines.{DrivenSo}
-use Rattle.h2_engines.specs.ServerSteps.{PumpsSome}
+use Rattle.h2_engines.specs.Machines.{MachineState, Course, IsDriven, lacks_memory, link_fails}
+use Rattle.h2_engines.specs.Machines.{has_stalled, WritesWaiting, TakenSo, MachineTakesPiece}
+use Rattle.h2_engines.specs.Machines.{DrivenSo, MessageState, HasSentFor, Serving, Fetching}
+use Rattle.h2_engines.specs.Serves.{HasReturnedAll, HasSentAll}
 use Rattle.h2_engines.specs.WithoutLink.{SendsWaiting}
-use Rattle.h2_engines.proofs.MachineLaws.{holds_again, stays_driven, ends_going, pumps_at}
+use Rattle.h2_engines.proofs.MachineLaws.{holds_again, stays_driven, ends_going}
 use Rattle.h2_engines.proofs.MachineTakes.{written_driven, ends_unwritten}
-use Rattle.h2_engines.proofs.ResponderStalls.{pump_ends}
-use Rattle.h2_engines.proofs.ServeLinkLogs.{pumped_stays}
-use Rattle.h2_engines.proofs.TurnsPassed.{turns_of_pump}
+use Rattle.h2_engines.proofs.SentAll.{all_sent}
 use Rattle.h2_engines.proofs.WithoutLinkSends.{sends_at, sent_stays, sent_turns, sent_error}
 
 -- What the loop keeps: the machine is driven, these octets weren't used yet, and in each round a
--- turn has passed at least. What more is to hold at each read and at the end, as that the output is
--- full or nothing that waits could go, has its place here.
+-- turn has passed at least.
 pub record IsGoing (course : Course) (now : Traffic) (held : MachineState) (unused : List ℕ)
     (rounds : ℕ) : Type 0 where
   pub end : EndLog
   pub turns : rounds ≤ length end.log.turns
   pub driven : IsDriven course now held end unused nexts.Again
 
--- Whatever had happened at first, it goes on now.
-abbrev pub DrivesOn : (before now : Traffic) → (old new : MachineState) → (unused : List ℕ)
-    → (rounds : ℕ) → Type 0
-DrivesOn before now old new unused rounds =
-    (course : Course) (end : EndLog) → IsDriven course before old end [] nexts.Again
-    → IsGoing course now new unused rounds
+-- The same, where what could be sent was sent, unless the output is full.
+pub record IsPumped (course : Course) (now : Traffic) (held : MachineState) (rounds : ℕ) : Type 0
+  where
+    pub going : IsGoing course now held [] rounds
+    pub sent : waiting going.end.log < full_output → HasSentFor held.kept going.end
 
--- The same, where the link took the whole output.
+-- The same, where what could be sent was sent, credit was returned and the link took the whole
+-- output.
 pub record IsSent (course : Course) (now : Traffic) (held : MachineState) (rounds : ℕ) : Type 0
   where
     pub going : IsGoing course now held [] rounds
     pub all : HasTakenAll course.start now going.end.log
+    pub returned : HasReturnedAll going.end.log
+    pub sent : HasSentFor held.kept going.end
+
+-- Whatever had happened at first, it goes on now.
+abbrev pub DrivesOn : (before now : Traffic) → (old new : MachineState) → (rounds : ℕ) → Type 0
+DrivesOn before now old new rounds =
+    (course : Course) (end : EndLog) → IsDriven course before old end [] nexts.Again
+    → HasSentFor old.kept end → IsPumped course now new rounds
+
+-- Where all that could be was sent, a machine has sent what it must;
+sent_for : (kept : MessageState) {end : EndLog} → HasSentAll end → HasSentFor kept end
+sent_for (Serving requests answered) sent = sent
+sent_for (Fetching id coming whole) sent = λ some. sent
+
+-- and it still has where no more octets were used and nothing more could be sent.
+sent_still : (kept : MessageState) {before after : EndLog}
+    → after.log.input ≡ before.log.input → (HasSentAll before → HasSentAll after)
+    → HasSentFor kept before → HasSentFor kept after
+sent_still (Serving requests answered) same keep sent = keep sent
+sent_still (Fetching id coming whole) same keep sent = λ some.
+    keep (sent (λ none. some (same ∙ none)))
 
 -- how the driving has ended
 abbrev pub Ends : Course → (now : Traffic) → MachineState → Result Bool LinkError → Type 0
 Ends course now held result = (after : EndLog) × DrivenSo course now held after result
 
 -- At first it is driven;
-pub drives_first : (now : Traffic) (held : MachineState) → DrivesOn now now held held [] 0
-drives_first now held course end is = record { end = end; turns = omega arith; driven = is }
+pub drives_first : (now : Traffic) (held : MachineState) → DrivesOn now now held held 0
+drives_first now held course end is sent =
+    record {
+      going = record { end = end; turns = omega arith; driven = is };
+      sent = λ few. sent;
+    }
 
 -- it ends early where it goes on,
 pub going_ends : {course : Course} (now : Traffic) (held : MachineState) {unused : List ℕ}
     {rounds : ℕ} (error : LinkError) → error ≡ errors.Memory
     → IsGoing course now held unused rounds → Ends course now held (Err error)
 unfolding DrivenSo
-going_ends now held error memory go = (go.end, ends_going go.driven (lacks_memory memory))
+going_ends now held error memory go =
+    (go.end, ends_going go.driven (lacks_memory memory (inl go.driven.up)))
 
 pub no_round : {course : Course} (now : Traffic) (held : MachineState) {unused : List ℕ}
     {rounds : ℕ}
@@ -69,59 +93,87 @@ no_round now held all go =
     let out : 2 ^ 64 - 1 ≤ length go.end.log.turns = omega (arith, all, go.turns) in
     (go.end, ends_going go.driven (has_stalled refl (inr out)))
 
+-- Credit is returned, and what waits of messages is sent,
+waited_on : {course : Course} {now : Traffic} {self : MachineState} (new : MachineState)
+    {rounds : ℕ} (result : Result (Unit {0}) LinkError) → IsGoing course now self [] rounds
+    → new.kept ≡ self.kept → SendsWaiting self.end new.end result → IsGoing course now new [] rounds
+waited_on {course} {self} new result go kept sends =
+    let sent = sends course.values go.end go.driven.represents in
+    record {
+      end = sent.0;
+      turns = omega (arith, go.turns, sent_turns sent.2);
+      driven = stays_driven new go.driven kept (sent_stays sent.2)
+          (sends_at course self.kept go.driven.happened sent.2) sent.1;
+    }
+
+pub waiting_on : {course : Course} {now : Traffic} {self : MachineState} (new : MachineState)
+    {rounds : ℕ} {done : Unit {0}} → IsGoing course now self [] rounds → new.kept ≡ self.kept
+    → SendsWaiting self.end new.end (Ok done) → IsPumped course now new rounds
+unfolding waited_on
+waiting_on {course} new {rounds} {done} go kept sends =
+    let sent = sends course.values go.end go.driven.represents in
+    record {
+      going = waited_on new (Ok done) go kept sends;
+      sent = λ few. sent_for new.kept
+          (all_sent sent.2 go.driven.up go.driven.represents.streams.conn.machine.came few);
+    }
+
+-- or there is no memory for that.
+pub waiting_last : {course : Course} (now : Traffic) {self : MachineState} (new : MachineState)
+    {rounds : ℕ} (error : LinkError) → IsGoing course now self [] rounds
+    → new.kept ≡ self.kept → SendsWaiting self.end new.end (Err error)
+    → Ends course now new (Err error)
+waiting_last {course} now new error go kept sends =
+    let sent = sends course.values go.end go.driven.represents in
+    going_ends now new error (sent_error sent.2) (waited_on new (Err error) go kept sends)
+
 -- What waits is written,
-pub sent_on : {course : Course} {middle now : Traffic} {self : MachineState} (new : MachineState)
-    {rounds : ℕ} {done : Unit {0}} → IsGoing course middle self [] rounds → new.kept ≡ self.kept
-    → WritesWaiting middle now self new (Ok done) → IsSent course now new (rounds + 1)
-sent_on {course} new go kept sends =
+pub written_on : {course : Course} {middle now : Traffic} {self : MachineState}
+    (new : MachineState) {rounds : ℕ} {done : Unit {0}} → IsPumped course middle self rounds
+    → new.kept ≡ self.kept → WritesWaiting middle now self new (Ok done)
+    → IsGoing course now new [] (rounds + 1)
+written_on {course} new pumped kept sends =
+    let go = pumped.going in
     let wrote = sends course go.end [] go.driven.represents go.driven.happened go.driven.linked in
     record {
-      going = record {
-        end = wrote.after;
-        turns = omega (arith, go.turns, wrote.turns);
-        driven = written_driven new go.driven kept wrote;
-      };
+      end = wrote.after;
+      turns = omega (arith, go.turns, wrote.turns);
+      driven = written_driven new go.driven kept wrote;
+    }
+
+-- all of it where the output isn't full,
+pub sent_on : {course : Course} {middle now : Traffic} {self : MachineState} (new : MachineState)
+    {rounds : ℕ} {done : Unit {0}} {count : ℕ}
+    → ((values : Values) (log : Log) → ConnRepresents values self.end.conn log
+    → count ≡ waiting log) → count < full_output → IsPumped course middle self rounds
+    → new.kept ≡ self.kept
+    → WritesWaiting middle now self new (Ok done) → IsSent course now new (rounds + 1)
+unfolding written_on
+sent_on {course} {self = self} new {count = count} reads few pumped kept sends =
+    let go = pumped.going in
+    let wrote = sends course go.end [] go.driven.represents go.driven.happened go.driven.linked in
+    let waits = reads course.values go.end.log go.driven.represents.streams.conn in
+    record {
+      going = written_on new pumped kept sends;
       all = wrote.taken.taken;
+      returned = wrote.taken.returned (wrote.same.failed ∙ go.driven.up);
+      sent = rw kept (sent_still self.kept wrote.same.used wrote.sent
+          (pumped.sent (omega (arith, waits, few))));
     }
 
 -- or can't be.
 pub sent_last : {course : Course} {middle : Traffic} (now : Traffic) {self : MachineState}
-    (new : MachineState) {rounds : ℕ} (error : LinkError) → IsGoing course middle self [] rounds
+    (new : MachineState) {rounds : ℕ} (error : LinkError) → IsPumped course middle self rounds
     → new.kept ≡ self.kept → WritesWaiting middle now self new (Err error) → EndsWriting error
     → Ends course now new (Err error)
 unfolding DrivenSo
-sent_last {course} now {self} new error go kept sends writing =
+sent_last {course} now {self} new error pumped kept sends writing =
+    let go = pumped.going in
     let wrote = sends course go.end [] go.driven.represents go.driven.happened go.driven.linked in (
       wrote.after,
       ends_unwritten course self new kept wrote writing
           (holds_again course.message self.kept go.end error go.driven.keeps),
     )
-
--- Where the output was full, what more can be sent is put into it,
-pub pumped_on : {course : Course} {now : Traffic} {self : MachineState} (new : MachineState)
-    {rounds : ℕ} (result : Result (Unit {0}) LinkError) → IsSent course now self rounds
-    → new.kept ≡ self.kept → PumpsSome self.end new.end result → IsGoing course now new [] rounds
-pumped_on {course} {self} new result sent kept (answer, pumps, ends) =
-    let going = sent.going in
-    let driven = going.driven in
-    let (after, pumped, represents) = pumps course.values going.end driven.represents in
-    record {
-      end = after;
-      turns = omega (arith, going.turns, turns_of_pump going.end after answer pumped);
-      driven = stays_driven new driven kept (pumped_stays going.end answer after pumped)
-          (pumps_at course self.kept going.end after answer driven.happened pumped) represents;
-    }
-
--- or there is no memory for that.
-pub pumped_last : {course : Course} (now : Traffic) {self : MachineState} (new : MachineState)
-    {rounds : ℕ} (error : LinkError) → IsSent course now self rounds → new.kept ≡ self.kept
-    → PumpsSome self.end new.end (Err error) → Ends course now new (Err error)
-pumped_last {course} now new error sent kept pumps =
-    let going = sent.going in
-    let pumped = pumps.1 course.values going.end going.driven.represents in
-    going_ends now new error
-    (pump_ends going.end pumped.0 pumps.0 error going.driven.up pumped.1 pumps.2)
-    (pumped_on new (Err error) sent kept pumps)
 
 -- The link gives octets, and takes none.
 appends_as : (one two : Option (List ℕ)) (octets is : List ℕ) → octets ≡ is
@@ -155,14 +207,14 @@ read_driven now is gives takes =
     }
 
 pub read_on : {course : Course} {middle : Traffic} (now : Traffic) {self : MachineState}
-    {octets : List ℕ} {rounds : ℕ} → IsSent course middle self rounds
+    {octets : List ℕ} {rounds : ℕ} → IsGoing course middle self [] rounds
     → Appends middle.given now.given octets → Appends middle.taken now.taken []
     → IsGoing course now self octets rounds
-read_on now sent gives takes =
+read_on now go gives takes =
     record {
-      end = sent.going.end;
-      turns = sent.going.turns;
-      driven = read_driven now sent.going.driven gives takes;
+      end = go.end;
+      turns = go.turns;
+      driven = read_driven now go.driven gives takes;
     }
 
 -- It gives none, at the end of the input,
@@ -178,26 +230,27 @@ read_ends {course} {middle} now self sent gives takes =
         appends_as course.start.taken now.taken (log.written ++ []) log.written
             (append-nil log.written)
             (Appends-trans course.start.taken middle.taken now.taken log.written [] sent.all takes),
+        sent.returned,
+        sent.sent,
       ),
     )
 
 -- or where a read has failed.
 pub read_fails : {course : Course} {middle : Traffic} (now : Traffic) (self : MachineState)
-    {rounds : ℕ} → IsSent course middle self rounds → Appends middle.given now.given []
+    {rounds : ℕ} → IsGoing course middle self [] rounds → Appends middle.given now.given []
     → Appends middle.taken now.taken [] → Ends course now self (Err errors.Device)
 unfolding DrivenSo
-read_fails now self sent gives takes = (
-  sent.going.end,
-  ends_going (read_driven now sent.going.driven gives takes) (link_fails refl refl),
-)
+read_fails now self go gives takes =
+    (go.end, ends_going (read_driven now go.driven gives takes) (link_fails refl refl))
 
 -- A piece is taken,
 pub taken_on : {course : Course} {middle now : Traffic} {self new : MachineState} {piece : List ℕ}
     {rounds : ℕ} {whole : Bool} → whole ≡ false → IsGoing course middle self piece rounds
-    → TakesPiece true middle now self new piece (Ok whole) → IsGoing course now new [] rounds
+    → MachineTakesPiece true middle now self new piece (Ok whole) → IsGoing course now new [] rounds
 unfolding TakenSo
 taken_on {course} {middle} {now} {self} {new} {piece} not go takes =
-    let so = subst (λ (one : Bool). TakesPiece true middle now self new piece (Ok one)) not takes
+    let so = subst (λ (one : Bool). MachineTakesPiece true middle now self new piece
+    (Ok one)) not takes
     course middle go.end go.driven in
     record { end = so.0; turns = omega (arith, go.turns, so.1); driven = so.2 }
 
@@ -205,10 +258,11 @@ taken_on {course} {middle} {now} {self} {new} {piece} not go takes =
 pub taken_whole : {course : Course} {middle : Traffic} (now : Traffic) {self : MachineState}
     (new : MachineState) (piece : List ℕ) {rounds : ℕ} {whole : Bool} → whole ≡ true
     → IsGoing course middle self piece rounds
-    → TakesPiece true middle now self new piece (Ok whole) → Ends course now new (Ok true)
+    → MachineTakesPiece true middle now self new piece (Ok whole) → Ends course now new (Ok true)
 unfolding TakenSo DrivenSo
 taken_whole {course} {middle} now {self} new piece said go takes =
-    let so = subst (λ (one : Bool). TakesPiece true middle now self new piece (Ok one)) said takes
+    let so = subst (λ (one : Bool). MachineTakesPiece true middle now self new piece
+    (Ok one)) said takes
     course middle go.end go.driven in
     let driven : (unused : List ℕ) × IsDriven course now new so.0 unused nexts.Whole = so.2 in
     (so.0, driven)
@@ -217,33 +271,10 @@ taken_whole {course} {middle} now {self} new piece said go takes =
 pub taken_last : {course : Course} {middle : Traffic} (now : Traffic) {self : MachineState}
     (new : MachineState) (piece : List ℕ) {rounds : ℕ} (error : LinkError)
     → IsGoing course middle self piece rounds
-    → TakesPiece true middle now self new piece (Err error) → Ends course now new (Err error)
+    → MachineTakesPiece true middle now self new piece (Err error) → Ends course now new (Err error)
 unfolding TakenSo DrivenSo
 taken_last {course} {middle} now new piece error go takes =
     let so = takes course middle go.end go.driven in (so.0, so.2)
-
--- Credit is returned, and what waits of messages is sent,
-pub waiting_on : {course : Course} {now : Traffic} {self : MachineState} (new : MachineState)
-    {unused : List ℕ} {rounds : ℕ} (result : Result (Unit {0}) LinkError)
-    → IsGoing course now self unused rounds → new.kept ≡ self.kept
-    → SendsWaiting self.end new.end result → IsGoing course now new unused rounds
-waiting_on {course} {self} new result go kept sends =
-    let sent = sends course.values go.end go.driven.represents in
-    record {
-      end = sent.0;
-      turns = omega (arith, go.turns, sent_turns sent.2);
-      driven = stays_driven new go.driven kept (sent_stays sent.2)
-          (sends_at course self.kept go.driven.happened sent.2) sent.1;
-    }
-
--- or there is no memory for that.
-pub waiting_last : {course : Course} (now : Traffic) {self : MachineState} (new : MachineState)
-    {unused : List ℕ} {rounds : ℕ} (error : LinkError) → IsGoing course now self unused rounds
-    → new.kept ≡ self.kept → SendsWaiting self.end new.end (Err error)
-    → Ends course now new (Err error)
-waiting_last {course} now new error go kept sends =
-    let sent = sends course.values go.end go.driven.represents in
-    going_ends now new error (sent_error sent.2) (waiting_on new (Err error) go kept sends)
 
 -- What the link gave of a buffer: nothing,
 pub gives_none : (one two : Option (List ℕ)) (buffer : List ℕ) (count : ℕ) → count ≡ 0

@@ -1,9 +1,9 @@
 -- What stays of a machine where nothing of messages has happened at its end, and what may happen
 -- there.
 use Rattle.h2_engines.proofs.Names.{◌≡◌, ◌≢◌, ℕ, Bool, true, false, List, length, Result, Err, refl}
-use Rattle.h2_engines.proofs.Names.{sym, ap, ◌∙◌, subst, SentMessage, EndRefusal, EndLog, Handed}
-use Rattle.h2_engines.proofs.Names.{EndRepresents, LinkError}
-use Rattle.h2_message.specs.Phases.{ends}
+use Rattle.h2_engines.proofs.Names.{sym, ap, ◌∙◌, subst, inr, SentMessage, EndRefusal, EndLog}
+use Rattle.h2_engines.proofs.Names.{Handed, EndRepresents, LinkError}
+use Rattle.h2_message.specs.Phases.{ends_message}
 use Rattle.h2_ends.specs.Ends.{message_for, parts_on}
 use Rattle.h2_ends.specs.EndCalls.{MayPump, MayReleaseAll}
 use Rattle.h2_link.specs.declared.error.LinkError.TheVariants as errors
@@ -14,9 +14,8 @@ use Rattle.h2_engines.specs.Failures.{EndsWriting}
 use Rattle.h2_engines.specs.Fetches.{EndsUnfinished}
 use Rattle.h2_engines.specs.Linked.{Traffic, IsLinked, StallsWriting}
 use Rattle.h2_engines.specs.Machines.{MessageState, Serving, Fetching, MachineState, Course}
-use Rattle.h2_engines.specs.Machines.{Happens, Keeps}
-use Rattle.h2_engines.specs.Machines.{IsDriven, Holds, IsDue, EndsFor, lacks_memory}
-use Rattle.h2_engines.specs.Machines.{link_fails, has_stalled, HasEnded}
+use Rattle.h2_engines.specs.Machines.{Happens, Keeps, IsDriven, EndsBeforeResponse, IsDue, EndsFor}
+use Rattle.h2_engines.specs.Machines.{lacks_memory, link_fails, has_stalled, HasEnded}
 use Rattle.h2_engines.specs.PartialMessages.{HasCome, IsWhole}
 use Rattle.h2_engines.specs.ServerHistories as server
 use Rattle.h2_engines.specs.ServerSteps.{IsSameOfMessages}
@@ -79,11 +78,12 @@ unfinished_same : (before after : EndLog) (id : ℕ) (error : LinkError)
     → EndsUnfinished after id (Err error)
 unfinished_same before after id errors.Memory same is = tt
 unfinished_same before after id error same is =
-    ap (λ (handed : List Handed). ends (parts_on id handed)) same ∙ is
+    ap (λ (handed : List Handed). ends_message (parts_on id handed)) same ∙ is
 
 pub holds_same : (message : SentMessage) (kept : MessageState) {before after : EndLog}
-    (error : LinkError) → IsSameOfMessages before after → Holds message kept before error
-    → Holds message kept after error
+    (error : LinkError) → IsSameOfMessages before after
+    → EndsBeforeResponse message kept before error
+    → EndsBeforeResponse message kept after error
 holds_same message (Serving requests answered) error same holds = tt
 holds_same message (Fetching id coming whole) {before} {after} error same holds = (
   ap (message_for id) same.accepted ∙ holds.0,
@@ -91,13 +91,14 @@ holds_same message (Fetching id coming whole) {before} {after} error same holds 
 )
 
 -- It holds whenever a machine goes on,
-pub unfinished : (end : EndLog) (id : ℕ) (error : LinkError) → ends (parts_on id end.handed) ≡ false
+pub unfinished : (end : EndLog) (id : ℕ) (error : LinkError)
+    → ends_message (parts_on id end.handed) ≡ false
     → EndsUnfinished end id (Err error)
 unfinished end id errors.Memory is = tt
 unfinished end id error is = is
 
 pub holds_again : (message : SentMessage) (kept : MessageState) (end : EndLog) (error : LinkError)
-    → Keeps message kept end nexts.Again → Holds message kept end error
+    → Keeps message kept end nexts.Again → EndsBeforeResponse message kept end error
 unfolding Keeps
 holds_again message (Serving requests answered) end error keeps = tt
 holds_again message (Fetching id coming whole) end error keeps =
@@ -105,7 +106,8 @@ holds_again message (Fetching id coming whole) end error keeps =
 
 -- or something is due.
 pub holds_due : (message : SentMessage) (kept : MessageState) (end : EndLog) (due : Next)
-    (error : LinkError) → IsDue due → Keeps message kept end due → Holds message kept end error
+    (error : LinkError) → IsDue due → Keeps message kept end due
+    → EndsBeforeResponse message kept end error
 unfolding Keeps
 holds_due message (Serving requests answered) end due error is keeps = tt
 holds_due message (Fetching id coming whole) end (nexts.Answer stream request) error is keeps =
@@ -141,7 +143,7 @@ stays_driven {course} {old} new {end} {after} {next} is kept stays happened repr
 pub ends_linked : {writes : Bool} (course : Course) {now : Traffic} (held : MachineState)
     {end : EndLog} {unused : List ℕ} {error : LinkError} → Happens course held.kept end
     → EndRepresents course.values held.end end → IsLinked course.start now end.log unused
-    → Holds course.message held.kept end error
+    → EndsBeforeResponse course.message held.kept end error
     → EndsFor writes course.start now held.kept end error
     → HasEnded writes course now held end error
 ends_linked course {now} held {end} {unused} happened represents linked holds why =
@@ -170,6 +172,7 @@ pub writing_ends : (start now : Traffic) (kept : MessageState) (end : EndLog) (e
     → EndsWriting error → StallsWriting {A = Unit {0}} now end (Err error)
     → EndsFor true start now kept end error
 writing_ends start now kept end errors.Device is stalls = link_fails refl refl
-writing_ends start now kept end errors.Memory is stalls = lacks_memory refl
+writing_ends start now kept end errors.Memory is stalls =
+    lacks_memory refl (inr (refl, stalls))
 writing_ends start now kept end errors.NoProgress is stalls = has_stalled refl stalls
 writing_ends start now kept end error is stalls = absurd is

@@ -2,8 +2,8 @@
 use Rattle.std.proofs.lemmas.List.{take_rest}
 use Rattle.h2_engines.proofs.Names.{◌≡◌, ◌≢◌, ◌≤◌, ℕ, ◌+◌, ◌-◌, ◌^◌, Bool, true, false, List}
 use Rattle.h2_engines.proofs.Names.{length, take, drop, Some, None, Result, Ok, Err, refl, sym, ◌∙◌}
-use Rattle.h2_engines.proofs.Names.{subst, inl, inr, arith, length-drop, length-take, take_all}
-use Rattle.h2_engines.proofs.Names.{drop_all, Code, SentMessage, EndLog, EndRepresents, LinkError}
+use Rattle.h2_engines.proofs.Names.{subst, inl, inr, arith, drop_all, Code, SentMessage, EndLog}
+use Rattle.h2_engines.proofs.Names.{EndRepresents, LinkError}
 use Rattle.std.proofs.lemmas.List.{drop-drop}
 use Rattle.h2_link.specs.declared.error.LinkError.TheVariants as errors
 use Rattle.h2_engines.specs.declared.machine.Heard.{Heard}
@@ -12,16 +12,14 @@ use Rattle.h2_engines.specs.declared.request.Next.TheVariants as nexts
 use Rattle.h2_engines.specs.Failures.{EndsWriting, failures_at_end, failures_by}
 use Rattle.h2_engines.specs.Linked.{Traffic, HasTakenAll}
 use Rattle.h2_engines.specs.Machines.{MessageState, Serving, Fetching, MachineState, Course}
-use Rattle.h2_engines.specs.Machines.{Happens, Keeps}
-use Rattle.h2_engines.specs.Machines.{IsDriven, Holds, EndsFor, lacks_memory, has_failed}
-use Rattle.h2_engines.specs.Machines.{has_stalled, stops_itself, HasEnded, HearsNoMore, fails}
-use Rattle.h2_engines.specs.Machines.{gives_up, HasHeardLast, HearsSo, Hears, IsDue, RespondedSo}
-use Rattle.h2_engines.specs.Machines.{Responds}
-use Rattle.h2_engines.specs.Machines.{WritesOut, WritesWaiting, flow, WritesAndResponds, EndsEarly}
-use Rattle.h2_engines.specs.Machines.{TakenSo}
+use Rattle.h2_engines.specs.Machines.{Happens, Keeps, IsDriven, EndsBeforeResponse, EndsFor}
+use Rattle.h2_engines.specs.Machines.{lacks_memory, has_failed, has_stalled, stops_itself, HasEnded}
+use Rattle.h2_engines.specs.Machines.{HearsNoMore, fails, gives_up, HasHeardLast, HearsSo, Hears}
+use Rattle.h2_engines.specs.Machines.{IsDue, RespondedSo, Responds, WritesOut, WritesWaiting, flow}
+use Rattle.h2_engines.specs.Machines.{WritesAndResponds, EndsEarly, TakenSo}
 use Rattle.h2_engines.specs.PartialMessages.{KeepsNext}
-use Rattle.h2_engines.proofs.MachineLaws.{keeps_same, holds_same, holds_due}
-use Rattle.h2_engines.proofs.MachineLaws.{ends_linked, ends_going, writing_ends}
+use Rattle.h2_engines.proofs.MachineLaws.{keeps_same, holds_same, holds_due, ends_linked}
+use Rattle.h2_engines.proofs.MachineLaws.{ends_going, writing_ends}
 use Rattle.h2_engines.proofs.MachineWrites.{written_links}
 use Rattle.h2_engines.proofs.ResponderRefusals.{waits_none}
 
@@ -45,7 +43,7 @@ written_driven {course} {old} new {end} {unused} {next} is kept wrote =
 pub ends_unwritten : (course : Course) {now : Traffic} (old new : MachineState) {end : EndLog}
     {unused : List ℕ} {error : LinkError} → new.kept ≡ old.kept
     → (wrote : WritesOut (Happens course old.kept) course.values course.start now end new.end
-    unused (Err error)) → EndsWriting error → Holds course.message old.kept end error
+    unused (Err error)) → EndsWriting error → EndsBeforeResponse course.message old.kept end error
     → HasEnded true course now new wrote.after error
 ends_unwritten course {now} old new {unused} {error} kept wrote writing holds =
     record {
@@ -93,7 +91,7 @@ plain_due before now old new due result acts course base end unused is driven =
 
 -- Why it can't hear on, and what holds then.
 holds_last : {message : SentMessage} {kept : MessageState} {end : EndLog} {error : LinkError}
-    → HearsNoMore message kept end error → Holds message kept end error
+    → HearsNoMore message kept end error → EndsBeforeResponse message kept end error
 holds_last {error} (fails code failed is holds) = holds error
 holds_last (gives_up up holds why) = holds
 
@@ -104,7 +102,8 @@ why_last : (writes : Bool) (course : Course) (now : Traffic) {kept : MessageStat
     → EndsFor writes course.start now kept end error
 why_last writes course now taken (fails code failed is holds) =
     has_failed code failed is (taken code failed)
-why_last writes course now taken (gives_up up holds (inl memory)) = lacks_memory memory
+why_last writes course now taken (gives_up up holds (inl memory)) =
+    lacks_memory memory (inl up)
 why_last writes course now taken (gives_up up holds (inr why)) = stops_itself (why writes)
 
 ends_last : (writes : Bool) {course : Course} {now : Traffic} {held : MachineState} {end : EndLog}
@@ -156,7 +155,8 @@ ends_written before now old new error done failed kept writes course base end la
       omega (arith, wrote.turns),
       ends_linked course new (rw kept wrote.happened) wrote.represents
           (written_links last.unused wrote.given wrote.taken) (subst
-          (λ (one : MessageState). Holds course.message one wrote.after error) (sym kept) holds)
+          (λ (one : MessageState). EndsBeforeResponse course.message one wrote.after error)
+          (sym kept) holds)
           (subst (λ (one : MessageState). EndsFor true course.start now one wrote.after error)
           (sym kept) why),
     )
@@ -164,7 +164,7 @@ ends_written before now old new error done failed kept writes course base end la
 -- or could not be.
 holds_failed : (course : Course) {kept : MessageState} {end : EndLog} {error : LinkError}
     (other : LinkError) → end.log.failed ≢ None → HearsNoMore course.message kept end error
-    → Holds course.message kept end other
+    → EndsBeforeResponse course.message kept end other
 holds_failed course other failed (fails code is error_is holds) = holds other
 holds_failed course other failed (gives_up up holds why) = absurd (failed up)
 

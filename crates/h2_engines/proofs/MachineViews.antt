@@ -8,9 +8,9 @@ use Rattle.h2_engines.specs.declared.responder.Responder.{Responder}
 use Rattle.h2_engines.specs.Linked.{Traffic, traffic, IsLinked, IsLinkedInPart}
 use Rattle.h2_engines.specs.Failures.{CutsOffAtEnd, failures_at_end, failures_by}
 use Rattle.h2_engines.specs.Machines.{MachineState, MessageState, Serving, Fetching, EndsFor}
-use Rattle.h2_engines.specs.Machines.{lacks_memory}
-use Rattle.h2_engines.specs.Machines.{link_fails, has_failed, has_stalled, stops_itself, MeetsEnd}
-use Rattle.h2_engines.specs.Machines.{cannot_reset, counts_no_more, answer_refused, reset_refused}
+use Rattle.h2_engines.specs.Machines.{lacks_memory, link_fails, has_failed, has_stalled}
+use Rattle.h2_engines.specs.Machines.{stops_itself, MeetsEnd, cannot_reset, counts_no_more}
+use Rattle.h2_engines.specs.Machines.{answer_refused, reset_refused}
 use Rattle.h2_engines.specs.ServerSteps.{error_with}
 use Rattle.h2_engines.specs.WithoutLink.{UsesPiece}
 use Rattle.h2_engines.proofs.MachineTakes.{failures_err}
@@ -67,7 +67,7 @@ code_goes code same = cc
 
 pub goes_for : {writes : Bool} {start now : Traffic} (kept : MessageState) {end : EndLog}
     {error : LinkError} → EndsFor writes start now kept end error → error ≢ errors.CutOff
-goes_for kept (lacks_memory is) same = cc
+goes_for kept (lacks_memory is why) same = cc
 goes_for kept (link_fails is said) same = cc
 goes_for kept (has_failed code failed is taken) same = code_goes code (sym is ∙ same)
 goes_for kept (has_stalled is stalled) same = cc

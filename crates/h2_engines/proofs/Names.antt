@@ -29,7 +29,7 @@ pub use Rattle.h2_ends.specs.Ends.{EndLog, Handed, EndAnswer, EndTook, EndFailed
 pub use Rattle.h2_ends.specs.Ends.{asked_head, InterimHanded, HeadHanded, BodyHanded}
 pub use Rattle.h2_ends.specs.Ends.{TrailersHanded}
 pub use Rattle.h2_ends.specs.Loans.{event_handed}
-pub use Rattle.h2_ends.specs.Represents.{new_end, EndTakes, EndRepresents, EndAnswers}
+pub use Rattle.h2_ends.specs.Represents.{new_end_log, EndTakes, EndRepresents, EndAnswers}
 pub use Rattle.h2_ends.specs.declared.end.End.{End}
 pub use Rattle.h2_ends.specs.declared.event.EndEvent.{EndEvent}
 pub use Rattle.h2_ends.specs.declared.event.EndTaken.{EndTaken}

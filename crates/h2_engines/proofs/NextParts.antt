@@ -10,7 +10,7 @@ use Rattle.h2_message.specs.declared.reading.Place.TheVariants as places
 use Rattle.h2_message.specs.Messages.{trailer_rules}
 use Rattle.h2_message.specs.Reading.{AreSoundInterims, ended, message_parts, final_parts}
 use Rattle.h2_message.specs.Phases.{is_short, phase_in_body, phase_after_final, phase_after_head}
-use Rattle.h2_message.specs.Phases.{phase_after_data, phase_after, phase_after_all, ends}
+use Rattle.h2_message.specs.Phases.{phase_after_data, phase_after, phase_after_all, ends_message}
 use Rattle.h2_message.specs.Phases.{place_at_head, place_in}
 use Rattle.h2_message.proofs.PhaseSteps.{after_both, after_none}
 
@@ -136,8 +136,8 @@ request_parts readable =
 
 -- and what comes before another part doesn't end.
 goes_before : (line : List Part) (parts : List (Part × Bool)) (part : Part × Bool)
-    (more : List (Part × Bool)) → ended line ≡ parts ++ part ∷ more → ends parts ≡ false
-unfolding ended ends
+    (more : List (Part × Bool)) → ended line ≡ parts ++ part ∷ more → ends_message parts ≡ false
+unfolding ended ends_message
 goes_before line [] part more is = refl
 goes_before [] (first ∷ parts) part more is = cc
 goes_before (one ∷ []) (first ∷ []) part more is = cc
@@ -150,7 +150,7 @@ goes_before (one ∷ (two ∷ line)) (first ∷ (next ∷ parts)) part more is =
     goes_before (two ∷ line) (next ∷ parts) part more rest
 
 pub goes_with : (parts : List (Part × Bool)) (part : Part × Bool)
-    → IsReadable Requests (parts ++ part ∷ []) → ends parts ≡ false
+    → IsReadable Requests (parts ++ part ∷ []) → ends_message parts ≡ false
 goes_with parts part readable =
     goes_before (final_parts readable.message) parts part readable.more
     (request_parts readable ∙ append_assoc parts (part ∷ []) readable.more)

@@ -4,15 +4,15 @@ use Rattle.h2_engines.proofs.Names.{length, refl, sym, ap, ◌∙◌, append_ass
 use Rattle.h2_engines.proofs.Names.{nat_lt, Field, method_of, path_of, Part, FieldsPart, OctetsPart}
 use Rattle.std.proofs.lemmas.Bool.{ltb-true, ltb-false, lt-ltb, le-ltb}
 use Rattle.std.proofs.lemmas.List.{length-append}
-use Rattle.h2_message.specs.Phases.{ends}
+use Rattle.h2_message.specs.Phases.{ends_message}
 use Rattle.h2_engines.specs.declared.request.Request.{Request}
 use Rattle.h2_engines.specs.Answers.{IsRequest, body_in, body_of_parts, is_too_large_body, text_of}
-use Rattle.h2_engines.specs.PartialMessages.{IsLonger, room_of}
+use Rattle.h2_engines.specs.PartialMessages.{IsLonger, body_room}
 
 -- The last part says whether it ends.
 pub ends_last : (parts : List (Part × Bool)) (part : Part) (last : Bool)
-    → ends (parts ++ (part, last) ∷ []) ≡ last
-unfolding ends
+    → ends_message (parts ++ (part, last) ∷ []) ≡ last
+unfolding ends_message
 ends_last [] part last = refl
 ends_last (first ∷ []) part last = refl
 ends_last (first ∷ (next ∷ parts)) part last = ends_last (next ∷ parts) part last
@@ -94,7 +94,7 @@ kept_length {head} {parts} is =
 -- Octets that have no room make the body too large, and those that have don't.
 pub no_room : {head : List Field} {parts : List (Part × Bool)} {request : Request}
     (octets : List ℕ) (last : Bool) → IsRequest head parts request
-    → room_of request < length octets
+    → body_room request < length octets
     → 1048576 < length (body_in (parts ++ (OctetsPart octets, last) ∷ []))
 no_room {parts} octets last is less =
     let kept = kept_length is in
@@ -103,7 +103,7 @@ no_room {parts} octets last is less =
 
 pub has_room : {head : List Field} {parts : List (Part × Bool)} {request : Request}
     (octets : List ℕ) (last : Bool) → IsRequest head parts request
-    → length (body_in parts) ≤ 1048576 → length octets ≤ room_of request
+    → length (body_in parts) ≤ 1048576 → length octets ≤ body_room request
     → length (body_in (parts ++ (OctetsPart octets, last) ∷ [])) ≤ 1048576
 has_room {parts} octets last is few enough =
     let kept = kept_length is in

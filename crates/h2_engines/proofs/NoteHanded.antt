@@ -4,7 +4,7 @@ use Rattle.h2_engines.proofs.Names.{length, Option, Some, None, refl, sym, ap, �
 use Rattle.h2_engines.proofs.Names.{arith, ◌⊎◌, both_ways, cases_eq, Field, Server, Event}
 use Rattle.h2_engines.proofs.Names.{ResetEvent, Part, FieldsPart, OctetsPart, EndLog, EndTook}
 use Rattle.h2_engines.proofs.Names.{Handed, Passed, EndMayTake}
-use Rattle.h2_message.specs.Phases.{ends}
+use Rattle.h2_message.specs.Phases.{ends_message}
 use Rattle.h2_ends.specs.Ends.{message_for, parts_on}
 use Rattle.h2_engines.specs.declared.request.Next.{Next}
 use Rattle.h2_engines.specs.declared.request.Next.TheVariants as nexts
@@ -15,7 +15,7 @@ use Rattle.h2_engines.specs.PartialMessages.{RequestState, has_not_come, comes, 
 use Rattle.h2_engines.specs.PartialMessages.{was_given_up, KeepsRequests, KeepsOthers, IsToAnswer}
 use Rattle.h2_engines.specs.PartialMessages.{KeepsNext, request_at, ChangesAt, EndsRequest}
 use Rattle.h2_engines.specs.PartialMessages.{AddsOctets, EndsKept, NotesHanded, NotesTaken}
-use Rattle.h2_engines.specs.ServerHistories.{WasReset, WasTooLarge}
+use Rattle.h2_engines.specs.ServerHistories.{WasReportedReset, WasTooLarge}
 use Rattle.h2_engines.proofs.NoteBodies.{ends_last, is_large, is_not_large, not_large}
 use Rattle.h2_engines.proofs.NoteBodies.{too_large_more, no_room, has_room, longer_request}
 use Rattle.h2_engines.proofs.NoteBodies.{same_request, body_same}
@@ -54,7 +54,7 @@ record HasRequest (end : EndLog) (id : ℕ) (last : Bool) (request : Request) : 
   pub parts : List (Part × Bool)
   pub came : parts_on id end.handed ≡ (FieldsPart head, head_last) ∷ parts
   pub goes : last ≡ false → head_last ≡ false
-  pub is_last : ends (parts_on id end.handed) ≡ last
+  pub is_last : ends_message (parts_on id end.handed) ≡ last
   pub fits : is_too_large_body (parts_on id end.handed) ≡ false
   pub request_is : IsRequest head parts request
   pub unsaid : message_for id end.accepted ≡ None
@@ -104,7 +104,7 @@ drops_request {new} end {after} keeps same again changes one =
 
 -- A stream that goes on was not answered.
 not_answered : {end : EndLog} {id : ℕ} {request : Option Request}
-    → ends (parts_on id end.handed) ≡ false → RequestState end id request
+    → ends_message (parts_on id end.handed) ≡ false → RequestState end id request
     → message_for id end.accepted ≡ None
 not_answered goes (has_not_come none unsaid) = unsaid
 not_answered goes (comes head parts kept are on fits is unsaid) = unsaid
@@ -113,7 +113,8 @@ not_answered goes (was_given_up why unsaid) = unsaid
 
 -- A stream that was given up still was with one part more.
 given_up_more : {end after : EndLog} {id : ℕ} {part : Part × Bool} → Hands end after id part
-    → WasReset end id ⊎ WasTooLarge end id → WasReset after id ⊎ WasTooLarge after id
+    → WasReportedReset end id ⊎ WasTooLarge end id
+    → WasReportedReset after id ⊎ WasTooLarge after id
 given_up_more hands (inl reset) = inl (hands.resets reset)
 given_up_more {end} {id} {part} hands (inr large) =
     inr (record {
@@ -124,7 +125,7 @@ given_up_more {end} {id} {part} hands (inr large) =
 
 still_given_up : (end after : EndLog) (id : ℕ) (part : Part × Bool) (request : Option Request)
     → request ≡ None → Hands end after id part → parts_on id end.handed ≢ []
-    → ends (parts_on id end.handed) ≡ false → RequestState end id request
+    → ends_message (parts_on id end.handed) ≡ false → RequestState end id request
     → RequestState after id None
 still_given_up end after id part request none hands some goes (has_not_come nothing unsaid) =
     absurd (some nothing)
@@ -179,7 +180,7 @@ has_more {end} {id} part last coming hands is few =
       parts = coming.parts ++ (part, last) ∷ [];
       came = came;
       goes = λ on. refl;
-      is_last = ap ends hands.parts ∙ ends_last (parts_on id end.handed) part last;
+      is_last = ap ends_message hands.parts ∙ ends_last (parts_on id end.handed) part last;
       fits = is_not_large (coming.parts ++ (part, last) ∷ []) coming.head false came few;
       request_is = is;
       unsaid = hands.message ∙ coming.unsaid;
@@ -190,7 +191,7 @@ notes_head : (old new : Requests) {end after : EndLog} {id : ℕ} {list : List F
     {request : Request} (next : Next) → KeepsRequests old end → parts_on id end.handed ≡ []
     → Hands end after id (FieldsPart list, last) → IsRequest list [] request
     → EndsRequest old new id last request next → KeepsNext new after next
-unfolding ends body_in
+unfolding ends_message body_in
 notes_head old new {end} {after} {id} {list} last {request} next keeps none hands is ended =
     let came : parts_on id after.handed ≡ (FieldsPart list, last) ∷ [] =
     hands.parts ∙ ap (λ (parts : List (Part × Bool)). parts ++ (FieldsPart list, last) ∷ []) none
@@ -202,16 +203,16 @@ notes_head old new {end} {after} {id} {list} last {request} next keeps none hand
       parts = [];
       came = came;
       goes = λ on. on;
-      is_last = ap ends came;
+      is_last = ap ends_message came;
       fits = is_not_large [] list last came (omega arith);
       request_is = is;
-      unsaid = hands.message ∙ not_answered (ap ends none) (keeps id);
+      unsaid = hands.message ∙ not_answered (ap ends_message none) (keeps id);
     }) ended
 
 -- Octets are noted, by what is kept.
 notes_octets : (old new : Requests) {end after : EndLog} {id : ℕ} (octets : List ℕ) (last : Bool)
     (kept : Option Request) (next : Next) → request_at id old ≡ kept → KeepsRequests old end
-    → parts_on id end.handed ≢ [] → ends (parts_on id end.handed) ≡ false
+    → parts_on id end.handed ≢ [] → ends_message (parts_on id end.handed) ≡ false
     → Hands end after id (OctetsPart octets, last) → AddsOctets old new id octets last kept next
     → KeepsNext new after next
 unfolding AddsOctets KeepsNext
@@ -238,7 +239,7 @@ notes_octets old new {end} {id} octets last (Some request) next at keeps some go
 -- Trailers are noted.
 notes_trailers : (old new : Requests) {end after : EndLog} {id : ℕ} (list : List Field)
     (kept : Option Request) (next : Next) → request_at id old ≡ kept → KeepsRequests old end
-    → parts_on id end.handed ≢ [] → ends (parts_on id end.handed) ≡ false
+    → parts_on id end.handed ≢ [] → ends_message (parts_on id end.handed) ≡ false
     → Hands end after id (FieldsPart list, true) → EndsKept old new id kept next
     → KeepsNext new after next
 unfolding EndsKept
@@ -267,7 +268,7 @@ goes_on requests end next (inr done) keeps = rw done keeps
 
 -- A reset is noted.
 after_reset : {end after : EndLog} {id : ℕ} {request : Option Request} → SameOn end after id
-    → WasReset after id → RequestState end id request → RequestState after id None
+    → WasReportedReset after id → RequestState end id request → RequestState after id None
 after_reset same reset (has_not_come none unsaid) =
     was_given_up (inl reset) (same.message ∙ unsaid)
 after_reset same reset (comes head parts kept are on fits is unsaid) =

@@ -1,17 +1,16 @@
 -- What is kept of requests after one of the entries was changed.
-use Rattle.h2_engines.proofs.Names.{◌≡◌, ◌≢◌, ℕ, Bool, true, false, List, Option, Some, None}
-use Rattle.h2_engines.proofs.Names.{◌≤◌, length, refl, sym, ap, ◌∙◌, inr, ne_eqb, eq-eqb}
+use Rattle.h2_engines.proofs.Names.{◌≡◌, ℕ, Bool, true, List, Option, Some, None, ◌≤◌, length, ap}
+use Rattle.h2_engines.proofs.Names.{◌∙◌, inr}
 use Rattle.std.proofs.Common.{cond}
 use Rattle.std.specs.Map.{lookup}
 use Rattle.std.specs.Ordering.{nat_cmp, is_eq}
 use Rattle.std.specs.BTreeMap.{is_at}
-use Rattle.std.specs.Cmp.{unsigned_tied}
 use Rattle.h2_engines.specs.declared.request.Request.{Request}
 use Rattle.h2_engines.specs.declared.request.Requests.{Requests}
 use Rattle.h2_engines.specs.declared.request.Next.{Next}
 use Rattle.h2_engines.specs.declared.request.Next.TheVariants as nexts
 use Rattle.h2_engines.specs.PartialMessages.{ChangesAt, request_at, EndsKept, EndsRequest}
-use Rattle.h2_engines.specs.PartialMessages.{AddsOctets, IsLonger, room_of}
+use Rattle.h2_engines.specs.PartialMessages.{AddsOctets, IsLonger, body_room}
 use Rattle.h2_ends.proofs.TableSteps.{test_other, test_same}
 
 -- other entries, with another one at a number
@@ -53,7 +52,7 @@ changes_none old new id none same =
 -- The last octets: the longer one is kept, and then taken out.
 pub adds_last : {old next : Requests} (new : Requests) {id : ℕ} (octets : List ℕ)
     {kept : Option Request} (request : Request) {longer : Request} (result : Next)
-    → kept ≡ Some request → length octets ≤ room_of request → IsLonger request octets longer
+    → kept ≡ Some request → length octets ≤ body_room request → IsLonger request octets longer
     → ChangesAt old next id (Some longer) → EndsKept next new id (request_at id next) result
     → AddsOctets old new id octets true kept result
 unfolding AddsOctets EndsRequest EndsKept

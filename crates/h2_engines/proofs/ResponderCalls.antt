@@ -30,7 +30,7 @@ answers_refused old new id count back same ends responds values end represents =
 reset_after : (refusal : Refusal) → refusal ≢ TooManyResets
     → ResetSo (Refused refusal) (Err (error_after (Conn refusal)))
 unfolding ResetSo
-reset_after Memory other = (Memory, refl)
+reset_after Memory other = refl
 reset_after refusal other = (refusal, refl, other, refl)
 
 -- So the reset was refused otherwise.

@@ -1,5 +1,5 @@
 -- How often a link has failed, and what it has taken, where writing to it has ended early.
-use Rattle.h2_engines.proofs.Names.{◌≡◌, ℕ, ◌+◌, List, Option, Err, ap, ◌∙◌, LinkError}
+use Rattle.h2_engines.proofs.Names.{◌≡◌, ◌≢◌, ℕ, ◌+◌, List, Option, Err, ap, ◌∙◌, LinkError}
 use Rattle.h2_link.specs.declared.error.LinkError.TheVariants as errors
 use Rattle.h2_link.specs.Links.{WritesAll, TakesFirst}
 use Rattle.h2_engines.specs.Failures.{failures_at_end, IsOfCall, EndsWriting, IsOfServer}
@@ -33,6 +33,14 @@ unfolding WritesAll
 written_ends before after failures failures_now errors.Device octets so = tt
 written_ends before after failures failures_now errors.NoProgress octets so = tt
 written_ends before after failures failures_now other octets so = absurd so
+
+-- It takes no memory.
+pub written_known : (before after : Option (List ℕ)) (failures failures_now : ℕ)
+    (error : LinkError) (octets : List ℕ)
+    → WritesAll before after failures failures_now (Err error) octets → error ≢ errors.Memory
+unfolding WritesAll
+written_known before after failures failures_now errors.Memory octets so is = absurd so
+written_known before after failures failures_now error octets so is = cc
 
 -- A call of an end may end a server.
 pub call_ends_server : (error : LinkError) → IsOfCall error → IsOfServer error

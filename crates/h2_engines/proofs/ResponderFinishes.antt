@@ -6,7 +6,6 @@ use Rattle.std.proofs.Common.{◌==◌, ◌||◌, is_some, zero, suc}
 use Rattle.std.proofs.lemmas.Bool.{and_parts, or_parts, eqb-true, false_from_ne_true}
 use Rattle.h2_log.specs.Log.{active, next_active, reader_next_live, reader_held}
 use Rattle.h2_log_laws.proofs.NextStreams.{next_passes, next_found}
-use Rattle.h2_log_laws.proofs.ReaderStates.{active_parts}
 use Rattle.h2_link.specs.declared.error.LinkError.TheVariants as errors
 use Rattle.h2_engines.specs.ServerSteps.{FinishedSo}
 use Rattle.h2_ends.proofs.PumpSteps.{none_by, zero_inactive, some_by}

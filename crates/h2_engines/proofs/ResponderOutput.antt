@@ -1,7 +1,7 @@
 -- What a call that puts output out makes of a log: its octets are the next ones of the output; and
 -- where it puts none out, none waits.
 use Rattle.h2_engines.proofs.Names.{◌≡◌, ◌≤◌, ℕ, ◌+◌, List, ◌++◌, length, take, drop, PutOut, Count}
-use Rattle.h2_engines.proofs.Names.{refl, Refusal, Act, Refused, Log, given_out, gives_call}
+use Rattle.h2_engines.proofs.Names.{Log, given_out, gives_call}
 use Rattle.h2_log.specs.LogCalls.{with_call}
 use Rattle.h2_pair.proofs.CarriedOctets.{given_more as gives_more}
 use Rattle.h2_pair.proofs.StepCalls.{call_failed}

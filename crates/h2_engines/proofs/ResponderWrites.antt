@@ -1,7 +1,7 @@
 -- What has happened at an end and over a link since its output began to be written.
-use Rattle.h2_engines.proofs.Names.{◌≡◌, ◌≤◌, ◌<◌, ℕ, ◌+◌, ◌-◌, ◌^◌, List, [], length, take}
-use Rattle.h2_engines.proofs.Names.{Ok, Err, subst, inr, arith, Appends, Refusal, Values}
-use Rattle.h2_engines.proofs.Names.{Answer, PutOut, Count, Refused, MayAnswer, Keeps-call, GivesOut}
+use Rattle.h2_engines.proofs.Names.{◌≡◌, ◌≢◌, ◌≤◌, ◌<◌, ℕ, ◌+◌, ◌-◌, ◌^◌, List, [], length, take}
+use Rattle.h2_engines.proofs.Names.{Ok, Err, subst, inr, arith, Appends, Refusal, Values, Answer}
+use Rattle.h2_engines.proofs.Names.{PutOut, Count, Refused, MayAnswer, Keeps-call, GivesOut}
 use Rattle.h2_engines.proofs.Names.{LinkError, StallsAtNoProgress, End, Conn, EndLog, end_with_log}
 use Rattle.h2_engines.proofs.Names.{EndRepresents, EndAnswers}
 use Rattle.h2_log.specs.Acts.{IsTypedAct}
@@ -10,6 +10,7 @@ use Rattle.h2_link.specs.declared.error.LinkError.TheVariants as errors
 use Rattle.h2_engines.specs.Failures.{error_after}
 use Rattle.h2_engines.specs.Linked.{Traffic, IsLinked}
 use Rattle.h2_engines.specs.Machines.{WritesOut}
+use Rattle.h2_engines.specs.Serves.{HasSentAll}
 use Rattle.h2_engines.specs.ServerSteps.{IsSameOfMessages}
 use Rattle.h2_engines.proofs.ResponderOutput.{put_out_failed, put_out_octets}
 use Rattle.h2_ends.proofs.PumpWindows.{refused_failed}
@@ -17,7 +18,8 @@ use Rattle.h2_engines.proofs.ResponderOutput.{given_more}
 use Rattle.h2_engines.proofs.ResponderEnds.{same_itself, same_twice, same_by_call, given_within}
 use Rattle.h2_engines.proofs.ResponderEnds.{gives_as, linked_by, takes_first, given_first}
 use Rattle.h2_engines.proofs.ResponderEnds.{refused_first}
-use Rattle.h2_engines.proofs.ResponderStalls.{stalls_by_link, stalls_no_more, put_out_ends}
+use Rattle.h2_engines.proofs.SentAll.{put_sent}
+use Rattle.h2_engines.proofs.ResponderStalls.{stalls_by_link, stalls_no_more}
 use Rattle.h2_engines.proofs.TurnsPassed.{turns_of_call}
 use Rattle.h2_engines.proofs.WithoutLinkOutput.{none_put}
 
@@ -38,6 +40,15 @@ pub record WritesOn (P : EndLog → Type 0) (values : Values) (start now : Traff
   pub same : IsSameOfMessages before after
   pub linked : IsLinked start now after.log unused
   pub turns : rounds + length before.log.turns ≤ length after.log.turns
+  pub sent : HasSentAll before → HasSentAll after
+
+-- Where nothing more could be sent, nothing can once output is put out.
+put_on : {values : Values} {old : End} {before : EndLog} (end : EndLog) (count : ℕ)
+    (answer : Answer) → EndRepresents values old end → MayAnswer end.log (PutOut count) answer
+    → (HasSentAll before → HasSentAll end) → HasSentAll before
+    → HasSentAll (end_with_log end (with_call end.log (PutOut count) answer))
+put_on end count answer represents may so was =
+    put_sent end count answer represents.streams.conn.machine.came may (so was)
 
 -- Nothing was written yet.
 pub writes_nothing : (P : EndLog → Type 0) {values : Values} {start now : Traffic} {end : EndLog}
@@ -51,6 +62,7 @@ writes_nothing P {end} represents happened linked =
       same = same_itself end;
       linked = linked;
       turns = omega arith;
+      sent = λ was. was;
     }
 
 -- The next octets are put out, and the link takes all of them.
@@ -78,6 +90,7 @@ writes_more P may {values} {middle} now new count given {octets} typed answers g
           (Keeps-call end.log _ _).input (given_more end.log count given within) none
           (subst (Appends middle.taken now.taken) same took) so.linked;
       turns = omega (arith, so.turns, turns_of_call end.log (PutOut count) (Count given));
+      sent = put_on end count (Count given) so.represents put.0 so.sent;
     }
 
 -- Or only some of them.
@@ -86,13 +99,13 @@ pub writes_first : (P : EndLog → Type 0) → MayPutOut P
     (new : End) {unused : List ℕ} {rounds : ℕ} (count given : ℕ) (octets : List ℕ) (some : ℕ)
     (error : LinkError) → count < 2 ^ 64 → EndAnswers old (PutOut count) (Count given) new
     → GivesOut old.conn count given [] octets → Appends middle.given now.given []
-    → Appends middle.taken now.taken (take some octets)
+    → Appends middle.taken now.taken (take some octets) → error ≢ errors.Memory
     → StallsAtNoProgress {A = Unit {0}} (Err error) now.stalled
     → WritesOn P values start middle before old unused rounds
     → WritesOut P values start now before new unused (Err error)
 unfolding IsTypedAct
 writes_first P may {values} {start} {middle} now new {unused} count given octets some error typed
-    answers gives none took stalled so =
+    answers gives none took known stalled so =
     let end = so.after in
     let after = with_call end.log (PutOut count) (Count given) in
     let put = answers values end so.represents in
@@ -111,7 +124,8 @@ writes_first P may {values} {start} {middle} now new {unused} count given octets
           (subst (λ (one : List ℕ). Appends middle.taken now.taken (take some one)) same took)
           so.linked.taken;
       turns = omega (arith, so.turns, turns_of_call end.log (PutOut count) (Count given));
-      stalls = stalls_by_link now (end_with_log end after) error stalled;
+      stalls = stalls_by_link now (end_with_log end after) error known stalled;
+      sent = put_on end count (Count given) so.represents put.0 so.sent;
     }
 
 -- Where no octets are put out, all of the output was written.
@@ -137,9 +151,11 @@ writes_all P may {values} {start} {now} new {unused} count done typed some answe
       taken = record {
         all = none.all;
         taken = rw none.same so.linked.taken;
+        returned = none.returned;
       };
       turns = omega (arith, so.turns, turns_of_call end.log (PutOut count) (Count 0));
       stalls = tt;
+      sent = put_on end count (Count 0) so.represents put.0 so.sent;
     }
 
 -- Where that is refused, what was given out was written.
@@ -163,7 +179,8 @@ writes_refused P may {values} {start} {now} new {unused} count refusal typed ans
       given = rw ((Keeps-call end.log _ _).input) so.linked.given;
       taken = refused_first start now end.log (PutOut count) refusal so.linked.taken;
       turns = omega (arith, so.turns, turns_of_call end.log (PutOut count) (Refused refusal));
-      stalls = stalls_no_more now (end_with_log end after) (put_out_ends put.0 is);
+      stalls = stalls_no_more now end count refusal put.0 is;
+      sent = put_on end count (Refused refusal) so.represents put.0 so.sent;
     }
 
 -- So it is where nothing more is tried, since there were as many rounds as may be.
@@ -181,4 +198,5 @@ writes_no_more P {start} {now} all so =
       taken = given_first start now so.after.log so.linked.taken;
       turns = omega (arith, all, so.turns);
       stalls = inr (omega (arith, all, so.turns));
+      sent = so.sent;
     }

@@ -1,7 +1,7 @@
 -- What is kept of requests says the same of an end at which nothing of a request has happened.
 use Rattle.h2_engines.proofs.Names.{◌≡◌, ℕ, List, Option, sym, ap, ◌∙◌, subst, inl, inr, ◌⊎◌}
 use Rattle.h2_engines.proofs.Names.{Contains, ResetEvent, EndLog, Handed, Passed}
-use Rattle.h2_message.specs.Phases.{ends}
+use Rattle.h2_message.specs.Phases.{ends_message}
 use Rattle.h2_ends.specs.Ends.{message_for, parts_on}
 use Rattle.h2_engines.specs.declared.request.Next.{Next}
 use Rattle.h2_engines.specs.declared.request.Next.TheVariants as nexts
@@ -11,7 +11,7 @@ use Rattle.h2_engines.specs.Answers.{answer_to, is_too_large_body}
 use Rattle.h2_engines.specs.PartialMessages.{RequestState, has_not_come, comes, was_answered}
 use Rattle.h2_engines.specs.PartialMessages.{was_given_up, KeepsRequests, KeepsOthers, IsToAnswer}
 use Rattle.h2_engines.specs.PartialMessages.{KeepsNext}
-use Rattle.h2_engines.specs.ServerHistories.{WasReset, WasTooLarge, WasAnswered}
+use Rattle.h2_engines.specs.ServerHistories.{WasReportedReset, WasTooLarge, WasAnswered}
 use Rattle.h2_engines.specs.ServerSteps.{IsSameOfMessages}
 use Rattle.h2_engines.proofs.TakeMessages.{KeepsCalls}
 
@@ -19,7 +19,7 @@ use Rattle.h2_engines.proofs.TakeMessages.{KeepsCalls}
 pub record SameOn (before after : EndLog) (id : ℕ) : Type 0 where
   pub parts : parts_on id after.handed ≡ parts_on id before.handed
   pub message : message_for id after.accepted ≡ message_for id before.accepted
-  pub resets : WasReset before id → WasReset after id
+  pub resets : WasReportedReset before id → WasReportedReset after id
   pub calls : KeepsCalls before.log after.log
 
 -- A request that was answered still was;
@@ -27,7 +27,7 @@ answered_as : {before after : EndLog} {id : ℕ} → SameOn before after id → 
     → WasAnswered after id
 answered_as same was =
     record {
-      whole = ap ends same.parts ∙ was.whole;
+      whole = ap ends_message same.parts ∙ was.whole;
       fits = ap is_too_large_body same.parts ∙ was.fits;
       message = was.message;
       asked = ap answer_to same.parts ∙ was.asked;
@@ -36,7 +36,8 @@ answered_as same was =
 
 -- and one that was given up.
 given_up_as : {before after : EndLog} {id : ℕ} → SameOn before after id
-    → WasReset before id ⊎ WasTooLarge before id → WasReset after id ⊎ WasTooLarge after id
+    → WasReportedReset before id ⊎ WasTooLarge before id
+    → WasReportedReset after id ⊎ WasTooLarge after id
 given_up_as same (inl reset) = inl (same.resets reset)
 given_up_as same (inr large) =
     inr (record {
@@ -50,7 +51,7 @@ pub stands_as : {before after : EndLog} {id : ℕ} {request : Option Request}
 stands_as same (has_not_come none unsaid) =
     has_not_come (same.parts ∙ none) (same.message ∙ unsaid)
 stands_as same (comes head parts kept are goes fits is unsaid) =
-    comes head parts kept (same.parts ∙ are) (ap ends same.parts ∙ goes)
+    comes head parts kept (same.parts ∙ are) (ap ends_message same.parts ∙ goes)
     (ap is_too_large_body same.parts ∙ fits) is (same.message ∙ unsaid)
 stands_as same (was_answered was) = was_answered (answered_as same was)
 stands_as same (was_given_up why unsaid) =
@@ -98,7 +99,7 @@ to_answer_as : {before after : EndLog} {id : ℕ} {request : Request} → IsSame
 to_answer_as {id} same is =
     let parts = ap (parts_on id) same.handed in
     record {
-      whole = ap ends parts ∙ is.whole;
+      whole = ap ends_message parts ∙ is.whole;
       fits = ap is_too_large_body parts ∙ is.fits;
       head = is.head;
       end_of_head = is.end_of_head;

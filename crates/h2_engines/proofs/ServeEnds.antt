@@ -1,13 +1,13 @@
 -- How a server ends, over a link and without one, by how it was driven.
 use Rattle.h2_engines.proofs.Names.{◌≡◌, ℕ, Bool, true, false, List, [], ◌++◌, Some, None, Result}
-use Rattle.h2_engines.proofs.Names.{Ok, Err, refl, sym, ap, ◌∙◌, inl, inr, IfErr}
-use Rattle.h2_engines.proofs.Names.{Appends-nil, Code, InternalError, Server, Values, AreInRange}
-use Rattle.h2_engines.proofs.Names.{EndLog, new_end, LinkError}
+use Rattle.h2_engines.proofs.Names.{Ok, Err, refl, sym, ap, ◌∙◌, inl, inr, IfErr, Appends-nil, Code}
+use Rattle.h2_engines.proofs.Names.{InternalError, Server, Values, AreInRange, EndLog, new_end_log}
+use Rattle.h2_engines.proofs.Names.{LinkError, both_ways}
 use Rattle.std.specs.Prelude.{OnOk}
 use Rattle.h2_log.specs.LogCalls.{opened}
 use Rattle.h2_log.specs.LogSteps.{with_sent}
 use Rattle.h2_pair.specs.Tokens.{Token, tokens_sent}
-use Rattle.h2_ends.specs.Ends.{message_for, tokens_given}
+use Rattle.h2_ends.specs.Ends.{tokens_given}
 use Rattle.h2_link.specs.declared.error.LinkError.TheVariants as errors
 use Rattle.h2_engines.specs.declared.request.Next.TheVariants as nexts
 use Rattle.h2_engines.specs.declared.responder.Responder.{Responder}
@@ -16,17 +16,21 @@ use Rattle.h2_engines.specs.Linked.{Traffic, IsLinked, HasTakenAll}
 use Rattle.h2_engines.specs.Machines.{Course, Keeps, IsDriven, EndsFor, lacks_memory, link_fails}
 use Rattle.h2_engines.specs.Machines.{has_failed, has_stalled, stops_itself, cannot_reset}
 use Rattle.h2_engines.specs.Machines.{counts_no_more, answer_refused, reset_refused, ServerStops}
-use Rattle.h2_engines.specs.Machines.{TakenSo, TakesPiece, DrivenSo, Drives, MayEnd}
+use Rattle.h2_engines.specs.Machines.{TakenSo, MachineTakesPiece, DrivenSo, Drives, MayEnd}
 use Rattle.h2_engines.specs.PartialMessages.{KeepsNext}
 use Rattle.h2_engines.specs.ServerHistories.{begins}
-use Rattle.h2_engines.specs.Serves.{Serves, SendsAll, EndsServingSo}
+use Rattle.h2_engines.specs.Serves.{Serves, HasReturnedAll, HasSentAll, SendsAll}
+use Rattle.h2_engines.specs.Serves.{EndsServingSo}
 use Rattle.h2_engines.specs.Serves as stops
 use Rattle.h2_engines.specs.ServerSteps.{error_with, ServerFinishes, FinishedSo}
 use Rattle.h2_engines.specs.WithoutLink.{IsServingAlone, StopsAlone, TakesInSo, ServerTakesIn}
 use Rattle.h2_engines.specs.WithoutLink as alone
 use Rattle.h2_engines.proofs.AnswerRequests.{kept_all}
+use Rattle.h2_engines.proofs.AnswersSent.{sent_whole}
 use Rattle.h2_engines.proofs.MachineViews.{server_held, no_message, begun, carried, links_alone}
 use Rattle.h2_engines.proofs.MachineViews.{uses_alone, all_in_part, goes_for, not_cut}
+use Rattle.h2_end_laws.proofs.OverRoom.{owed_inactive}
+use Rattle.h2_machine_laws.proofs.NewEnd.{new_is_active}
 use Rattle.h2_ends.proofs.ControlStart.{none_sent, none_given as none_accepted}
 
 -- A server that goes on is one that is driven.
@@ -65,7 +69,7 @@ never_whole responder is = is.keeps.0
 
 -- A new one, over a link of which nothing has gone.
 new_links : (values : Values) (start : Traffic)
-    → IsLinked start start (new_end Server values).log []
+    → IsLinked start start (new_end_log Server values).log []
 unfolding opened with_sent
 new_links values start =
     record { given = Appends-nil start.given; taken = Appends-nil start.taken }
@@ -75,7 +79,11 @@ new_calls : (values : Values) → (opened Server values).calls ≡ []
 unfolding opened with_sent
 new_calls values = refl
 
-new_sends : (values : Values) → SendsAll (new_end Server values)
+new_up : (values : Values) → (opened Server values).failed ≡ None
+unfolding opened with_sent
+new_up values = refl
+
+new_sends : (values : Values) → SendsAll (new_end_log Server values)
 unfolding tokens_given
 new_sends values i =
     let none = ap (tokens_sent i) (new_calls values) ∙ none_sent i in
@@ -86,21 +94,29 @@ new_sends values i =
       begun = λ given. absurd (given (none_accepted i));
     }
 
+-- Nothing is owed by it, and nothing waits.
+new_sent_all : (values : Values) → HasSentAll (new_end_log Server values)
+new_sent_all values =
+    record {
+      none_owed = λ i. owed_inactive (opened Server values) i (new_is_active Server values i);
+      stuck = λ i alive. absurd (both_ways _ (new_is_active Server values i) alive);
+    }
+
 pub none_serves : {values : Values} (start : Traffic) {error : LinkError} → AreInRange values
     → error ≡ errors.Memory → Serves values start start (Err error)
 none_serves {values} start range memory =
     record {
-      end = new_end Server values;
+      end = new_end_log Server values;
       responding = begins range;
       sends = new_sends values;
       linked = all_in_part (new_links values start);
-      so = rw memory tt;
+      so = rw memory (inl (inl (new_up values)));
     }
 
 -- It has failed with a code, and all is written.
 ends_with : (start now : Traffic) (end : EndLog) (code : Code) → end.log.failed ≡ Some code
     → HasTakenAll start now end.log → EndsServingSo start now end (Err (error_with code))
-ends_with start now end InternalError failed taken = tt
+ends_with start now end InternalError failed taken = inl (inr failed)
 ends_with start now end code failed taken =
     inl (record {
       code = code;
@@ -122,7 +138,8 @@ stops_so start now (reset_refused is id refusal large refused other after) =
 ends_so : {start now : Traffic} (responder : Responder) {end : EndLog} {error : LinkError}
     → EndsFor true start now (server_held responder).kept end error
     → EndsServingSo start now end (Err error)
-ends_so responder (lacks_memory is) = rw is tt
+ends_so responder (lacks_memory is (inl up)) = rw is (inl (inl up))
+ends_so responder (lacks_memory is (inr (said, cannot))) = rw is (inr cannot)
 ends_so responder (link_fails is said) = rw is tt
 ends_so {start} {now} responder {end} (has_failed code failed is taken) =
     rw is (ends_with start now end code failed (taken refl))
@@ -134,16 +151,16 @@ abbrev course_of : Values → Traffic → Course
 course_of values start = record { values = values; message = no_message; start = start }
 
 drives_new : {values : Values} (before now : Traffic) {old : Responder} (new : Responder)
-    (result : Result Bool LinkError) → IsServingAlone values old (new_end Server values)
+    (result : Result Bool LinkError) → IsServingAlone values old (new_end_log Server values)
     → Drives before now (server_held old) (server_held new) result
     → (after : EndLog) × DrivenSo (course_of values before) now (server_held new) after result
 drives_new {values} before now new result is drives =
-    drives (course_of values before) (new_end Server values)
-    (serving_driven is (new_links values before))
+    drives (course_of values before) (new_end_log Server values)
+    (serving_driven is (new_links values before)) (new_sent_all values)
 
 -- and ends early,
 pub drive_serves : {values : Values} (before now : Traffic) {old : Responder} (new : Responder)
-    (error : LinkError) → IsServingAlone values old (new_end Server values)
+    (error : LinkError) → IsServingAlone values old (new_end_log Server values)
     → Drives before now (server_held old) (server_held new) (Err error)
     → Serves values before now (Err error)
 unfolding DrivenSo
@@ -159,7 +176,7 @@ drive_serves before now new error is drives =
 
 -- never where its input has ended then,
 pub drive_not_cut : {values : Values} (before now : Traffic) {old : Responder} (new : Responder)
-    (error : LinkError) (ended : Bool) → IsServingAlone values old (new_end Server values)
+    (error : LinkError) (ended : Bool) → IsServingAlone values old (new_end_log Server values)
     → Drives before now (server_held old) (server_held new) (Err error)
     → CutsOffAtEnd {A = ℕ} (Err error) ended
 unfolding DrivenSo
@@ -170,28 +187,34 @@ drive_not_cut before now new error ended is drives =
 -- and one whose input has ended.
 finished_so : {start now : Traffic} {responder : Responder} {values : Values} {end : EndLog}
     (result : Result ℕ LinkError) → IsServingAlone values responder end
-    → IsLinked start now end.log [] → HasTakenAll start now end.log
-    → FinishedSo end responder.answered result → EndsServingSo start now end result
+    → IsLinked start now end.log [] → HasTakenAll start now end.log → HasReturnedAll end.log
+    → HasSentAll end → FinishedSo end responder.answered result → EndsServingSo start now end result
 unfolding FinishedSo
-finished_so {responder} (Ok count) is linked taken so =
+finished_so {responder} (Ok count) is linked taken returned all so =
+    let rests = so.1 is.up in
+    let answers = kept_all responder.requests is.responding is.keeps in
     record {
-      rests = so.1 is.up;
+      rests = rests;
       given = linked.given;
       taken = taken;
-      answers = kept_all responder.requests is.responding is.keeps;
+      returned = returned;
+      answers = answers;
+      sent = sent_whole is.responding is.represents is.up rests.none_active answers;
       counted = so.0 ∙ is.count;
     }
-finished_so {responder} (Err error) is linked taken so =
+finished_so {responder} (Err error) is linked taken returned all so =
     rw so.0 (
       so.1 is.up,
       linked.given,
       taken,
+      returned,
       kept_all responder.requests is.responding is.keeps,
+      all,
     )
 
 pub finish_serves : {values : Values} (before now : Traffic) {old : Responder} (new : Responder)
     (whole : Bool) (result : Result ℕ LinkError)
-    → IsServingAlone values old (new_end Server values)
+    → IsServingAlone values old (new_end_log Server values)
     → Drives before now (server_held old) (server_held new) (Ok whole)
     → ServerFinishes new.server.end new.answered result → Serves values before now result
 unfolding DrivenSo
@@ -206,13 +229,13 @@ finish_serves {values} before now new false result is drives finishes =
       responding = driven.happened;
       sends = driven.represents.streams.sent;
       linked = all_in_part driven.linked;
-      so = finished_so result (driven_serving new driven) driven.linked so.1.1
-          (finishes values so.0 driven.represents);
+      so = finished_so result (driven_serving new driven) driven.linked so.1.1 so.1.2
+          so.1.3 (finishes values so.0 driven.represents);
     }
 
 -- The input has ended then, and no call of the link has failed.
 pub finish_ended : {values : Values} (before now : Traffic) {old : Responder} (new : Responder)
-    (whole : Bool) → IsServingAlone values old (new_end Server values)
+    (whole : Bool) → IsServingAlone values old (new_end_log Server values)
     → Drives before now (server_held old) (server_held new) (Ok whole) → whole ≡ false
 unfolding DrivenSo
 finish_ended before now new true is drives =
@@ -224,7 +247,7 @@ finish_ended before now new false is drives = refl
 code_stops : (end : EndLog) (code : Code) → end.log.failed ≡ Some code
     → StopsAlone end (error_with code)
 unfolding StopsAlone
-code_stops end InternalError failed = tt
+code_stops end InternalError failed = inr failed
 code_stops end code failed =
     inl (record { code = code; failed = failed; other = λ same. cc; number_is = refl })
 
@@ -242,7 +265,8 @@ ends_alone : {start now : Traffic} (responder : Responder) {end : EndLog} {error
     → now.stalled ≡ false → EndsFor false start now (server_held responder).kept end error
     → StopsAlone end error
 unfolding StopsAlone
-ends_alone responder none (lacks_memory is) = rw is tt
+ends_alone responder none (lacks_memory is (inl up)) = rw is (inl up)
+ends_alone responder none (lacks_memory is (inr (said, cannot))) = absurd (cc)
 ends_alone responder none (link_fails is said) = absurd (cc)
 ends_alone responder {end} none (has_failed code failed is taken) =
     rw is (code_stops end code failed)
@@ -252,7 +276,7 @@ ends_alone responder none (stops_itself why) = stops_alone why
 
 -- So it takes octets in: all of them, or until it stops.
 pub takes_in : (real now : Traffic) (old new : Responder) (piece : List ℕ) (whole : Bool)
-    → TakesPiece false real now (server_held old) (server_held new) piece (Ok whole)
+    → MachineTakesPiece false real now (server_held old) (server_held new) piece (Ok whole)
     → ServerTakesIn old new piece (Ok tt)
 unfolding TakenSo TakesInSo
 takes_in real now old new piece true takes values end is =
@@ -271,7 +295,7 @@ takes_in real now old new piece false takes values end is =
 
 pub takes_in_part : (real now : Traffic) (old new : Responder) (piece : List ℕ)
     (error : LinkError)
-    → TakesPiece false real now (server_held old) (server_held new) piece (Err error)
+    → MachineTakesPiece false real now (server_held old) (server_held new) piece (Err error)
     → ServerTakesIn old new piece (Err error)
 unfolding TakenSo TakesInSo
 takes_in_part real now old new piece error takes values end is =

@@ -2,20 +2,20 @@
 use Rattle.h2_engines.proofs.Names.{◌≡◌, ◌≢◌, ◌≤◌, ℕ, List, length, refl, sym, ◌∙◌, subst, Act}
 use Rattle.h2_engines.proofs.Names.{Answer, Refuse, PutOut, OutOfMemory, Refused, Log, Keeps-call}
 use Rattle.h2_engines.proofs.Names.{TakeAnswer, MayTake, reports_unprocessed, ends_no_frame}
-use Rattle.h2_engines.proofs.Names.{ends_frame, meets_fault, sent_failed, given_out, gives_call}
-use Rattle.h2_engines.proofs.Names.{call_given, Result, EndRefusal, EndLog}
-use Rattle.h2_log.specs.LogCalls.{with_items, with_call}
+use Rattle.h2_engines.proofs.Names.{ends_frame, meets_fault, given_out, gives_call, call_given}
+use Rattle.h2_engines.proofs.Names.{Result, EndRefusal, EndLog}
+use Rattle.h2_log.specs.LogCalls.{with_call}
 use Rattle.h2_end_laws.specs.Takes.{has_failed, runs_out_of_memory}
-use Rattle.h2_end_laws.proofs.Failures.{unreturned_failed}
 use Rattle.h2_machine_laws.specs.Machines as steps
-use Rattle.h2_machine_laws.specs.Machines.{Step, log_after}
+use Rattle.h2_machine_laws.specs.Machines.{MachineStep, log_after}
 use Rattle.h2_pair.proofs.CarriedOctets.{given_same}
 use Rattle.h2_pair.proofs.LogOutput.{Adds, adds_reads}
 use Rattle.h2_pair.proofs.StepsOfLogs.{step_adds, IsNoCall}
 use Rattle.h2_ends.specs.EndCalls.{MayPump, MayReleaseAll}
 use Rattle.h2_engines.specs.Linked.{Traffic, IsLinked}
 use Rattle.h2_engines.specs.ServerSteps.{IsSameOfMessages}
-use Rattle.h2_engines.proofs.LinkInvariants.{IsQuiet, CallsKeep, pumped_keeps, released_keeps}
+use Rattle.h2_engines.proofs.LinkInvariants.{IsQuiet, CallsKeep, sends_quietly, pumped_keeps}
+use Rattle.h2_engines.proofs.LinkInvariants.{released_keeps}
 use Rattle.h2_engines.proofs.TakeMessages.{KeepsCalls, keeps_by_call}
 use Rattle.h2_end_laws.proofs.Failures.{items_failed}
 
@@ -53,7 +53,8 @@ call_writes log act answer other =
     }
 
 -- Octets that were taken.
-step_writes : (log : Log) {after : Log} (step : Step) → IsNoCall step → after ≡ log_after log step
+step_writes : (log : Log) {after : Log} (step : MachineStep) → IsNoCall step
+    → after ≡ log_after log step
     → Writes log after
 step_writes log {after} step none same =
     subst (λ (new : Log). Writes log new) (sym same) (step_adds log step none)
@@ -150,11 +151,11 @@ stays_twice a b =
       calls = λ act answer was. b.calls act answer (a.calls act answer was);
     }
 
--- So it is after quiet calls, of a pump or a release.
+-- So it is after the calls of a pump or a release.
 calls_stay : (before : EndLog) → CallsKeep (StaysOn before)
-calls_stay before end act answer quiet stays =
+calls_stay before end act answer sends stays =
     stays_twice stays (record {
-      goes = call_goes end.log act answer quiet;
+      goes = call_goes end.log act answer (sends_quietly act answer sends);
       accepted = refl;
       handed = refl;
       calls = keeps_by_call end.log act answer;

@@ -1,12 +1,12 @@
 -- What a server that is driven makes of octets, and of what is due.
 use Rattle.h2_engines.proofs.Names.{◌≡◌, ◌≤◌, ◌<◌, ℕ, ◌+◌, ◌-◌, ◌^◌, Bool, true, false, List, ◌∷◌}
 use Rattle.h2_engines.proofs.Names.{length, Some, None, Result, Ok, Err, if◌then◌else◌, refl, sym}
-use Rattle.h2_engines.proofs.Names.{ap, ◌∙◌, subst, inl, arith, IfErr, Refusal, Answer}
-use Rattle.h2_engines.proofs.Names.{SendFields, ResetStream, Done, Refused, has_failed}
-use Rattle.h2_engines.proofs.Names.{is_no_stream, is_full, Log, log_view, MayAnswer, accepts}
-use Rattle.h2_engines.proofs.Names.{refuses, lacks, fails, is_head_alone, first_in, SentMessage}
-use Rattle.h2_engines.proofs.Names.{EndRefusal, EndLog, EndAnswer, EndTook, EndFailed, EndMayTake}
-use Rattle.h2_engines.proofs.Names.{end_with_log, LinkError}
+use Rattle.h2_engines.proofs.Names.{ap, ◌∙◌, subst, inl, arith, IfErr, Refusal, Answer, SendFields}
+use Rattle.h2_engines.proofs.Names.{ResetStream, Done, Refused, has_failed, is_no_stream, is_full}
+use Rattle.h2_engines.proofs.Names.{Log, log_view, MayAnswer, accepts, refuses, lacks, fails}
+use Rattle.h2_engines.proofs.Names.{is_head_alone, first_in, SentMessage, EndRefusal, EndLog}
+use Rattle.h2_engines.proofs.Names.{EndAnswer, EndTook, EndFailed, EndMayTake, end_with_log}
+use Rattle.h2_engines.proofs.Names.{LinkError}
 use Rattle.std.proofs.lemmas.Bool.{leb-true}
 use Rattle.h2_log.specs.declared.refusal.Refusal.TheVariants as reasons
 use Rattle.h2_log.specs.Acts.{IsTypedAct}
@@ -27,8 +27,7 @@ use Rattle.h2_engines.specs.Failures.{IsOfCall}
 use Rattle.h2_engines.specs.PartialMessages.{KeepsNext, KeepsRequests, IsToAnswer}
 use Rattle.h2_engines.specs.Linked.{Traffic}
 use Rattle.h2_engines.specs.Machines.{Serving, MachineState, Course, Keeps, IsDriven, EndsFor}
-use Rattle.h2_engines.specs.Machines.{HearsNoMore}
-use Rattle.h2_engines.specs.Machines.{gives_up, Hears, IsDue, RespondedSo, Responds}
+use Rattle.h2_engines.specs.Machines.{HearsNoMore, gives_up, Hears, IsDue, RespondedSo, Responds}
 use Rattle.h2_engines.specs.Machines as stops
 use Rattle.h2_engines.specs.ServerHistories.{IsResponding, takes, answers, resets, calm}
 use Rattle.h2_engines.specs.Serves.{CannotReset}
@@ -42,7 +41,8 @@ use Rattle.h2_engines.proofs.MachineViews.{server_held}
 use Rattle.h2_engines.proofs.NoteHanded.{kept_noted}
 use Rattle.h2_engines.proofs.ResponderEnds.{given_within}
 use Rattle.h2_engines.proofs.ResponderRefusals.{answer_not_full}
-use Rattle.h2_engines.proofs.LinkInvariants.{CallsKeep, AnswersKeep, responded_keeps, kept_role}
+use Rattle.h2_engines.proofs.LinkInvariants.{CallsKeep, AnswersKeep, sends_quietly, responded_keeps}
+use Rattle.h2_engines.proofs.LinkInvariants.{kept_role}
 use Rattle.h2_engines.proofs.TakeMessages.{taken_says, kept_failed}
 use Rattle.h2_engines.proofs.ServeLinkLogs.{GoesOn, goes_none, goes_twice, call_goes, goes_links}
 use Rattle.h2_engines.proofs.ServeLinkTakes.{SaysUsed}
@@ -90,7 +90,8 @@ server_hears old new piece (Err error) same hears course now end is =
 
 -- A request was answered, or can't be: the connection goes on.
 calls_go : (log : Log) → CallsKeep (λ one. GoesOn log one.log)
-calls_go log end act answer quiet goes = goes_twice goes (call_goes end.log act answer quiet)
+calls_go log end act answer sends goes =
+    goes_twice goes (call_goes end.log act answer (sends_quietly act answer sends))
 
 answers_go : (log : Log) → AnswersKeep (λ one. GoesOn log one.log)
 unfolding MayRespond
@@ -123,14 +124,14 @@ same_turns same =
 
 -- The request was not answered: so it ends.
 calls_ends : (writes : Bool) (start now : Traffic) (requests : Requests) (answered : ℕ)
-    (end : EndLog) (error : LinkError) → IsOfCall error
+    (end : EndLog) (error : LinkError) → IsOfCall error → end.log.failed ≡ None
     → (error ≡ errors.NoProgress → stops.ServerStops writes end error)
     → EndsFor writes start now (Serving requests answered) end error
-calls_ends writes start now requests answered end errors.Memory of_call why =
-    stops.lacks_memory refl
-calls_ends writes start now requests answered end errors.NoProgress of_call why =
+calls_ends writes start now requests answered end errors.Memory of_call up why =
+    stops.lacks_memory refl (inl up)
+calls_ends writes start now requests answered end errors.NoProgress of_call up why =
     stops.stops_itself (why refl)
-calls_ends writes start now requests answered end error of_call why = absurd of_call
+calls_ends writes start now requests answered end error of_call up why = absurd of_call
 
 record HasNotAnswered (writes : Bool) (course : Course) (now : Traffic) (new : Responder)
     (end after : EndLog) (error : LinkError) : Type 0 where
@@ -141,41 +142,46 @@ record HasNotAnswered (writes : Bool) (course : Course) (now : Traffic) (new : R
 
 not_answered : (writes : Bool) (course : Course) (now : Traffic) (new : Responder)
     {end after : EndLog} {id : ℕ} {request : Request} {count : ℕ} {error : LinkError}
-    → IsOfCall error → IsResponding course.values end → count ≡ length end.accepted
+    → IsOfCall error → IsResponding course.values end → end.log.failed ≡ None
+    → count ≡ length end.accepted
     → IsToAnswer end id request → (writes ≡ true → waiting end.log ≡ 0)
     → NotAnswered end id (answer_with request.text.items request.to_head) after count error
     → HasNotAnswered writes course now new end after error
-not_answered writes course now new of_call responding counted to_answer none
+not_answered writes course now new of_call responding up counted to_answer none
     (no_memory memory same) =
+    let goes = same_goes same in
     record {
       turns = same_turns same;
       responding = rw same responding;
-      goes = same_goes same;
-      why = stops.lacks_memory memory;
+      goes = goes;
+      why = stops.lacks_memory memory (inl (goes.failed ∙ up));
     }
-not_answered writes course now new {end} {after} {error} of_call responding counted to_answer none
-    (counts_no_more most same) =
+not_answered writes course now new {end} {after} {error} of_call responding up counted to_answer
+    none (counts_no_more most same) =
+    let goes = same_goes same in
     let accepted : length after.accepted ≡ length end.accepted =
     ap (λ (one : EndLog). length one.accepted) same in
     let all : 2 ^ 32 - 1 ≤ length after.accepted = omega (arith, most, counted, accepted) in
     record {
       turns = same_turns same;
       responding = rw same responding;
-      goes = same_goes same;
+      goes = goes;
       why = calls_ends writes course.start now new.requests new.answered after error of_call
-          (λ is. stops.counts_no_more is all);
+          (goes.failed ∙ up) (λ is. stops.counts_no_more is all);
     }
-not_answered writes course now new {end} {after} {id} {request} {error} of_call responding counted
-    to_answer none (is_refused refusal may is) =
+not_answered writes course now new {end} {after} {id} {request} {error} of_call responding up
+    counted to_answer none (is_refused refusal may is) =
     let message = answer_with request.text.items request.to_head in
     let asked = kept_to_answer to_answer in
+    let goes = responded_goes end id message (Err refusal) after may in
     record {
       turns = turns_of_response end after id message (Err refusal) may;
       responding = answers responding id message (Err refusal) to_answer.whole to_answer.fits asked
           may;
-      goes = responded_goes end id message (Err refusal) after may;
-      why = calls_ends writes course.start now new.requests new.answered after error of_call (λ
-          same. stops.answer_refused same end id message refusal to_answer.whole asked may
+      goes = goes;
+      why = calls_ends writes course.start now new.requests new.answered after error of_call
+          (goes.failed ∙ up) (λ same. stops.answer_refused same end id message refusal
+          to_answer.whole asked may
           (λ said. answer_not_full end id message refusal after (none said) may) (sym is ∙ same));
     }
 
@@ -213,8 +219,8 @@ server_answers old new id request (Ok done) counted requests of_call answered wr
 server_answers old new id request (Err error) counted requests of_call answered writes course now
     end unused due none is =
     let now_is = answered course.values end is.represents in
-    let says = not_answered writes course now new of_call is.happened is.keeps.1 is.keeps.0.1 none
-    now_is.2 in (
+    let says = not_answered writes course now new of_call is.happened is.up is.keeps.1 is.keeps.0.1
+    none now_is.2 in (
       now_is.0,
       says.turns,
       ends_linked course (server_held new) says.responding now_is.1
@@ -275,28 +281,29 @@ cannot_reset end id large left is =
 reset_ends : (writes : Bool) (start now : Traffic) (requests : Requests) (answered : ℕ)
     (end : EndLog) {id : ℕ} {answer : Answer} (error : LinkError)
     → is_too_large_body (parts_on id end.handed) ≡ true
-    → MayAnswer end.log (ResetStream id calm) answer → ResetSo answer (Err error)
+    → MayAnswer end.log (ResetStream id calm) answer
+    → (reset_with end id answer).log.failed ≡ None → ResetSo answer (Err error)
     → EndsFor writes start now (Serving requests answered) (reset_with end id answer) error
 unfolding ResetSo with_call
-reset_ends writes start now requests answered end {id} {answer} (errors.Stream number) large may so
-    =
+reset_ends writes start now requests answered end {id} {answer} (errors.Stream number) large may up
+    so =
     stops.stops_itself (stops.cannot_reset number refl (subst
     (λ (one : Answer). CannotReset (reset_with end id one) number) (sym so.1)
     (cannot_reset end id large (none_left end.log id calm answer so.1 may) so.0)))
-reset_ends writes start now requests answered end errors.Memory large may so =
-    stops.lacks_memory refl
-reset_ends writes start now requests answered end {id} errors.NoProgress large may so =
+reset_ends writes start now requests answered end errors.Memory large may up so =
+    stops.lacks_memory refl (inl up)
+reset_ends writes start now requests answered end {id} errors.NoProgress large may up so =
     stops.stops_itself (subst
     (λ (one : Answer). stops.ServerStops writes (reset_with end id one) errors.NoProgress)
     (sym so.1) (stops.reset_refused refl id so.0 large
     (first_in (ResetStream id calm, Refused so.0) end.log.calls) so.2 so.3))
-reset_ends writes start now requests answered end error large may so = absurd so
+reset_ends writes start now requests answered end error large may up so = absurd so
 
 reset_refused : (answer : Answer) (error : LinkError) → ResetSo answer (Err error)
     → (refusal : Refusal) × (answer ≡ Refused refusal)
 unfolding ResetSo
 reset_refused answer (errors.Stream number) so = (reasons.TooManyResets, so.1)
-reset_refused answer errors.Memory so = so
+reset_refused answer errors.Memory so = (reasons.Memory, so)
 reset_refused answer errors.NoProgress so = (so.0, so.1)
 reset_refused answer errors.Device so = absurd so
 reset_refused answer errors.CutOff so = absurd so
@@ -355,5 +362,6 @@ server_resets old new id (Err error) fits same requests reset writes course now 
       ends_linked course (server_held new)
           (resets is.happened id answer is.keeps.0.1 (reset_typed id fits) now_is.1) now_is.2
           (goes_links (given_within is.represents) goes is.linked) tt (reset_ends writes
-          course.start now new.requests new.answered end error is.keeps.0.1 now_is.1 now_is.3),
+          course.start now new.requests new.answered end error is.keeps.0.1 now_is.1
+          (goes.failed ∙ is.up) now_is.3),
     )

@@ -10,7 +10,7 @@ use Rattle.h2_engines.proofs.Names.{Passed, Code, Act, Answer, Refuse, Event, Re
 use Rattle.h2_engines.proofs.Names.{later_in, call_calls, ◌∙◌}
 use Rattle.h2_log.specs.LogCalls.{with_call}
 use Rattle.h2_ends.specs.Ends.{handed_as, parts_on, reads_on}
-use Rattle.h2_ends.specs.EndTakes.{AnswersRefused, IsReadableWith, fails, refuses}
+use Rattle.h2_ends.specs.EndTakes.{IsReadableWith, fails, refuses, refusal_fails}
 use Rattle.h2_ends.proofs.EndTokens.{take_calls}
 use Rattle.h2_pair.proofs.StepUnprocessed.{role_by_take as take_role}
 use Rattle.h2_ends.proofs.TakeRefusing.{memory_fails}
@@ -69,31 +69,22 @@ up_after {before} {log} {piece} {count} {event} may =
 
 -- The connection has refused a stream.
 refused_says : (before : EndLog) {piece : List ℕ} {count : ℕ} {event : Option Event} {log : Log}
-    → MayTake before.log piece (Took count event) log → (id : ℕ) (said : Answer)
-    → {answer : EndAnswer} {after : EndLog} (failed : Option Code)
-    → (with_call log (Refuse id 1) said).failed ≡ failed
-    → AnswersRefused before (with_call log (Refuse id 1) said) count id answer after failed
+    {answer is : EndAnswer} {after : EndLog} → MayTake before.log piece (Took count event) log
+    → (id code : ℕ) (said : Answer) → answer ≡ is
+    → after ≡ record before {
+      log = with_call log (Refuse id code) said;
+      handed = handed_after is before.handed;
+    } → SaysOf before (Took count event) is (with_call log (Refuse id code) said)
     → SaysTaken before piece answer after
-unfolding AnswersRefused
-refused_says before {count} {event} {log} takes id said None is answers =
-    rw answers.0 (rw answers.1 (record {
+refused_says before {count} {event} {log} takes id code said same now says =
+    rw same (rw now (record {
       took = Took count event;
       log = log;
       takes = takes;
-      called = inr (id, 1, said, refl);
+      called = inr (id, code, said, refl);
       accepted = refl;
       handed = refl;
-      says = (event, refl, is, hands_event (ResetEvent id 1 true));
-    }))
-refused_says before {count} {event} {log} takes id said (Some code) is answers =
-    rw answers.0 (rw answers.1 (record {
-      took = Took count event;
-      log = log;
-      takes = takes;
-      called = inr (id, 1, said, refl);
-      accepted = refl;
-      handed = refl;
-      says = is;
+      says = says;
     }))
 
 -- It has refused none.
@@ -124,19 +115,17 @@ taken_says {before} (passes count event log takes none same now) =
 taken_says {before} (hands_out count event log takes id part is readable same now) =
     plain_says before _ log takes same now
     (Some event, refl, up_after takes, hands_part id part readable)
-taken_says {before} (refuses count event log takes id part is broken refused may answers) =
-    refused_says before takes id refused _ refl answers
+taken_says {before}
+    (refuses count event log takes id part is broken refused may up same now) =
+    refused_says before takes id 1 refused same now
+    (Some event, refl, up, hands_event (ResetEvent id 1 true))
+taken_says {before}
+    (refusal_fails count event log takes id part is broken refused may code down same now) =
+    refused_says before takes id 1 refused same now down
 taken_says {before}
     (runs_out_of_memory count id list ends log takes role none readable refused may same now) =
-    rw same (rw now (record {
-      took = _;
-      log = log;
-      takes = takes;
-      called = inr (id, 2, refused, refl);
-      accepted = refl;
-      handed = refl;
-      says = memory_fails log id refused (up_after takes) may;
-    }))
+    refused_says before takes id 2 refused same now
+    (memory_fails log id refused (up_after takes) may)
 
 -- What holds of the log after octets were taken of the connection, and still does once a stream
 -- was refused, holds after a call of `take`.

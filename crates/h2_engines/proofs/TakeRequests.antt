@@ -1,16 +1,15 @@
 -- What a server's end hands out of a request, and where.
 use Rattle.h2_engines.proofs.Names.{◌≡◌, ◌≢◌, ℕ, Bool, true, false, if◌then◌else◌, List, [], ◌∷◌}
-use Rattle.h2_engines.proofs.Names.{◌++◌, refl, sym, ap, ◌∙◌, subst, append-nil, ne_eqb}
-use Rattle.h2_engines.proofs.Names.{eq-eqb, Contains, ◌==◌, Field, Server, Event, ResetEvent}
-use Rattle.h2_engines.proofs.Names.{is_server, Reads, Requests, Responses, Place, Part, FieldsPart}
-use Rattle.h2_engines.proofs.Names.{OctetsPart, IsReadable, first_in, later_in, EndLog}
-use Rattle.h2_engines.proofs.Names.{Handed, HeadHanded, BodyHanded, TrailersHanded, Passed}
-use Rattle.h2_engines.proofs.Names.{asked_head}
-use Rattle.h2_message.specs.Phases.{ends}
-use Rattle.h2_ends.specs.Ends.{handed_as, handed_at, message_for, part_on, parts_on, reads_on}
-use Rattle.h2_engines.specs.ServerHistories.{WasReset}
-use Rattle.h2_engines.proofs.NextParts.{place_first, place_later, request_begun}
-use Rattle.h2_engines.proofs.NextParts.{no_octets_first, goes_with}
+use Rattle.h2_engines.proofs.Names.{◌++◌, refl, sym, ap, ◌∙◌, subst, append-nil, ne_eqb, eq-eqb}
+use Rattle.h2_engines.proofs.Names.{Contains, ◌==◌, Field, Server, Event, ResetEvent, Reads}
+use Rattle.h2_engines.proofs.Names.{Requests, Place, Part, FieldsPart, OctetsPart, IsReadable}
+use Rattle.h2_engines.proofs.Names.{first_in, later_in, EndLog, Handed, HeadHanded, BodyHanded}
+use Rattle.h2_engines.proofs.Names.{TrailersHanded, Passed}
+use Rattle.h2_message.specs.Phases.{ends_message}
+use Rattle.h2_ends.specs.Ends.{handed_as, handed_at, message_for, part_on, parts_on}
+use Rattle.h2_engines.specs.ServerHistories.{WasReportedReset}
+use Rattle.h2_engines.proofs.NextParts.{place_first, place_later, request_begun, no_octets_first}
+use Rattle.h2_engines.proofs.NextParts.{goes_with}
 use Rattle.h2_engines.proofs.SameRequests.{SameOn}
 use Rattle.h2_engines.proofs.TakeMessages as read
 use Rattle.h2_engines.proofs.TakeMessages.{KeepsCalls, HandsAsRead}
@@ -22,9 +21,9 @@ pub data HandsOut (end : EndLog) : Handed → Type 0 where
   hands_head : (id : ℕ) (list : List Field) (last : Bool) → parts_on id end.handed ≡ []
       → HandsOut end (HeadHanded id list last)
   hands_body : (id : ℕ) (octets : List ℕ) (last : Bool) → parts_on id end.handed ≢ []
-      → ends (parts_on id end.handed) ≡ false → HandsOut end (BodyHanded id octets last)
+      → ends_message (parts_on id end.handed) ≡ false → HandsOut end (BodyHanded id octets last)
   hands_trailers : (id : ℕ) (list : List Field) → parts_on id end.handed ≢ []
-      → ends (parts_on id end.handed) ≡ false → HandsOut end (TrailersHanded id list)
+      → ends_message (parts_on id end.handed) ≡ false → HandsOut end (TrailersHanded id list)
   hands_event : (event : Event) → HandsOut end (Passed event)
 
 -- How a part of a request is handed out.
@@ -61,11 +60,11 @@ hands_part end id [] (OctetsPart octets, last) are readable =
 hands_part end id (first ∷ parts) (FieldsPart list, last) are readable =
     rw ((as_trailers first parts id list last readable)) (hands_trailers id list
     (some_parts first parts are)
-    (ap ends are ∙ goes_with (first ∷ parts) (FieldsPart list, last) readable))
+    (ap ends_message are ∙ goes_with (first ∷ parts) (FieldsPart list, last) readable))
 hands_part end id (first ∷ parts) (OctetsPart octets, last) are readable =
     subst (HandsOut end) (as_body Requests (first ∷ parts) id octets last) (hands_body id octets
     last (some_parts first parts are)
-    (ap ends are ∙ goes_with (first ∷ parts) (OctetsPart octets, last) readable))
+    (ap ends_message are ∙ goes_with (first ∷ parts) (OctetsPart octets, last) readable))
 
 hands_as_read : (end : EndLog) (id : ℕ) (part : Part × Bool) {reads : Reads} → reads ≡ Requests
     → IsReadable reads (parts_on id end.handed ++ part ∷ [])
@@ -85,7 +84,7 @@ server_hands end role (read.hands_part id part readable) =
 pub record Hands (end after : EndLog) (id : ℕ) (part : Part × Bool) : Type 0 where
   pub parts : parts_on id after.handed ≡ parts_on id end.handed ++ part ∷ []
   pub message : message_for id after.accepted ≡ message_for id end.accepted
-  pub resets : WasReset end id → WasReset after id
+  pub resets : WasReportedReset end id → WasReportedReset after id
   pub calls : KeepsCalls end.log after.log
   pub others : (i : ℕ) → i ≢ id → SameOn end after i
 
@@ -104,7 +103,7 @@ parts_with {end} i hands is =
     (λ (part : List (Part × Bool)). parts_on i end.handed ++ part) is
 
 resets_with : {end after : EndLog} {one : Handed} (i : ℕ) → HandedOne end after one
-    → WasReset end i → WasReset after i
+    → WasReportedReset end i → WasReportedReset after i
 resets_with {end} {one} i hands reset = (
   reset.0,
   reset.1,
@@ -175,7 +174,7 @@ event_besides i hands = same_besides i hands refl
 
 -- A reset that was handed out.
 pub reset_now : {end after : EndLog} (id code : ℕ) (ours : Bool)
-    → HandedOne end after (Passed (ResetEvent id code ours)) → WasReset after id
+    → HandedOne end after (Passed (ResetEvent id code ours)) → WasReportedReset after id
 reset_now {end} id code ours hands = (
   code,
   ours,

@@ -78,7 +78,7 @@ turns_of_answer {end} {piece} may =
 
 -- Nor does a call,
 turns_kept : (n : ℕ) → CallsKeep (λ one. n ≤ length one.log.turns)
-turns_kept n end act answer quiet so = omega (arith, so, turns_of_call end.log act answer)
+turns_kept n end act answer sends so = omega (arith, so, turns_of_call end.log act answer)
 
 answer_turns : (n : ℕ) → AnswersKeep (λ one. n ≤ length one.log.turns)
 unfolding MayRespond

@@ -1,10 +1,13 @@
 -- How many octets a call puts out of the output of a log: as many as were asked for, or all.
-use Rattle.h2_engines.proofs.Names.{◌≡◌, ◌≤◌, ◌<◌, ℕ, ◌+◌, ◌-◌, if◌then◌else◌, List, [], ◌∷◌, ◌++◌}
+use Rattle.h2_engines.proofs.Names.{◌≡◌, ◌≤◌, ◌<◌, ℕ, ◌+◌, if◌then◌else◌, List, [], ◌∷◌, ◌++◌}
 use Rattle.h2_engines.proofs.Names.{length, take, drop, refl, sym, ap, ◌∙◌, arith, length-append}
 use Rattle.h2_engines.proofs.Names.{append-nil, take_all, length-drop, length-take, PutOut, Count}
+use Rattle.h2_engines.proofs.Names.{None, false, inl, inr, nat_lt, full_output}
 use Rattle.h2_engines.proofs.Names.{returns_before_put_out, Log, MayAnswer, accepts, refuses, lacks}
 use Rattle.h2_engines.proofs.Names.{fails, called, log_view, given_out}
-use Rattle.std.proofs.Common.{min}
+use Rattle.std.specs.Prelude.{◌&&◌}
+use Rattle.std.proofs.Common.{min, ltb-false}
+use Rattle.std.proofs.lemmas.Bool.{and_cases}
 use Rattle.h2_frame.specs.Frames.{WindowUpdate}
 use Rattle.h2_block.specs.Grouping.{alone}
 use Rattle.h2_log.specs.CallRules.{update_size}
@@ -14,7 +17,7 @@ use Rattle.h2_log.specs.LogSteps.{with_sent}
 use Rattle.h2_log.specs.LogCalls.{before_put_out, with_call}
 use Rattle.h2_log_laws.proofs.ItemSizes.{size-update}
 use Rattle.h2_log_laws.proofs.CreditCases.{put_out_cases}
-use Rattle.h2_engines.specs.WithoutLink.{PutsOut}
+use Rattle.h2_engines.specs.WithoutLink.{PutsOutNext}
 use Rattle.h2_engines.proofs.ResponderOutput.{given_more, put_out_octets}
 
 -- how many octets are put out
@@ -87,7 +90,7 @@ all_given log {given} is all = ap (λ (n : ℕ). take n log.written) is ∙ take
 -- So octets are put out, and appended to others.
 pub puts_out : {log : Log} {count given : ℕ} (old new : List ℕ) → log.given ≤ length log.written
     → MayAnswer log (PutOut count) (Count given) → new ≡ old ++ put_out_octets log count given
-    → PutsOut log (with_call log (PutOut count) (Count given)) count given old new
+    → PutsOutNext log (with_call log (PutOut count) (Count given)) count given old new
 puts_out {log} {count} {given} old new within may appended =
     let after = with_call log (PutOut count) (Count given) in
     let puts = puts_count within may in
@@ -100,14 +103,43 @@ puts_out {log} {count} {given} old new within may appended =
       all = λ few. all_given after (call_given log count given) (puts.all few);
     }
 
--- None waited, and none waits: all of the output was given out.
+-- None waited, and none waits: all of the output was given out; and while the connection is up no
+-- credit of it waits to be returned.
 pub record PutsNone (log after : Log) : Type 0 where
   pub all : given_out after ≡ after.written
   pub same : after.written ≡ given_out log
+  pub returned : after.failed ≡ None → after.unreturned ≡ 0
 
 no_more : (octets none : List ℕ) → 0 ≡ length none → octets ++ none ≡ octets
 no_more octets [] is = append-nil octets
 no_more octets (one ∷ none) is = absurd (omega arith)
+
+-- Where nothing waits, any credit that is due is returned.
+none_more : (more waits : ℕ) → waits ≡ 0 → (nat_lt 0 more && nat_lt waits full_output) ≡ false
+    → more ≡ 0
+none_more more waits none keeps =
+    elim (and_cases (nat_lt 0 more) (nat_lt waits full_output) keeps) [
+      | inl low ↦ let few = ltb-false 0 more low in omega (arith, few)
+      | inr low ↦ let full = ltb-false waits full_output low in absurd (omega (arith, none, full))
+    ]
+
+-- So where none is returned before output is put out, none is due.
+no_credit_due : (log : Log) → log.failed ≡ None → waiting log ≡ 0
+    → returns_before_put_out (log_view log) ≡ false → log.unreturned ≡ 0
+unfolding waiting output
+no_credit_due log up none keeps = none_more log.unreturned (waiting log) none (rw up at keeps)
+
+-- Where no octets are put out, none is due afterwards.
+no_credit_left : {log : Log} {count : ℕ} → 0 < count → MayAnswer log (PutOut count) (Count 0)
+    → (with_call log (PutOut count) (Count 0)).failed ≡ None
+    → (with_call log (PutOut count) (Count 0)).unreturned ≡ 0
+unfolding with_call with_sent waiting output
+no_credit_left {log} {count} some may =
+    let is = answered may in
+    let none : waiting log ≡ 0 = omega (arith, some, is) in
+    put_out_cases (λ (next : Log). next.failed ≡ None → next.unreturned ≡ 0)
+    (called log (PutOut count) (Count 0)) (λ returns up. refl) (λ keeps up.
+    no_credit_due (called log (PutOut count) (Count 0)) up none keeps)
 
 pub none_put : {log : Log} {count : ℕ} → 0 < count → log.given ≤ length log.written
     → MayAnswer log (PutOut count) (Count 0)
@@ -117,4 +149,5 @@ none_put {log} {count} some within may =
     record {
       all = puts.all some;
       same = sym (puts.all some) ∙ puts.next ∙ no_more (given_out log) puts.octets puts.counted;
+      returned = no_credit_left some may;
     }

@@ -14,7 +14,7 @@ use Rattle.h2_engines.specs.Machines.{MessageState, Serving, Fetching, MachineSt
 use Rattle.h2_engines.specs.Machines.{PutsWaiting}
 use Rattle.h2_engines.specs.PartialMessages.{KeepsNext}
 use Rattle.h2_engines.specs.ServerSteps.{IsSameOfMessages}
-use Rattle.h2_engines.specs.WithoutLink.{SendsWaiting, PutsOut, PutOutSo, ServerPutsOut}
+use Rattle.h2_engines.specs.WithoutLink.{SendsWaiting, PutsOutNext, PutOutSo, ServerPutsOut}
 use Rattle.h2_engines.specs.WithoutLink.{ClientPutsOut}
 use Rattle.h2_engines.proofs.MachineLaws.{puts_at, keeps_same}
 use Rattle.h2_engines.proofs.MachineViews.{server_held, client_held, no_message, begun}
@@ -27,8 +27,8 @@ use Rattle.h2_engines.proofs.WithoutLinkSends.{sent_same, sent_given, sent_error
 
 -- The same octets had been given out before.
 puts_after : (one : Log) {two three : Log} {count given : ℕ} {before now : List ℕ}
-    → given_out two ≡ given_out one → PutsOut two three count given before now
-    → PutsOut one three count given before now
+    → given_out two ≡ given_out one → PutsOutNext two three count given before now
+    → PutsOutNext one three count given before now
 puts_after one same puts =
     record {
       octets = puts.octets;

@@ -2,7 +2,8 @@
 use Rattle.h2_engines.proofs.Names.{EndRepresents}
 use Rattle.h2_engines.proofs.Names.{◌≡◌, ◌≢◌, ◌≤◌, ℕ, true, false, length, Option, Some, None}
 use Rattle.h2_engines.proofs.Names.{Result}
-use Rattle.h2_engines.proofs.Names.{Ok, Err, refl, sym, ◌∙◌, arith, Code, Values, Log}
+use Rattle.h2_engines.proofs.Names.{Ok, Err, refl, sym, ◌∙◌, inl, inr, ◌⊎◌, arith, Code, Values}
+use Rattle.h2_engines.proofs.Names.{Log}
 use Rattle.h2_engines.proofs.Names.{given_out, End, EndRefusal, EndLog, LinkError}
 use Rattle.std.proofs.Common.{is_some}
 use Rattle.h2_log.specs.declared.refusal.Refusal.TheVariants as reasons
@@ -84,7 +85,23 @@ not_released old new failed error reads none released values end represents =
           (release_memory end released.0 after.0 error up after.1 released.2) up after.1,
     )
 
+-- Where it goes on, all was given back, or the output is full.
+released_so : (answer : Result (Unit {0}) EndRefusal) (done : Unit {0})
+    → EndsRelease answer (Ok done)
+    → (answer ≡ Ok tt) ⊎ (answer ≡ Err (refusals.Conn reasons.OutputFull))
+unfolding EndsRelease EndsAfter
+released_so (Ok also) done ends = inl refl
+released_so (Err (refusals.Conn reasons.OutputFull)) done ends = inr refl
+released_so (Err other) done ends = absurd ends
+
 -- Then what waits is sent, as far as it goes.
+pumped_so : (middle after : EndLog) (answer : Result ℕ EndRefusal) (done : Unit {0})
+    → MayPump middle answer after → EndsAfter answer (Ok done)
+    → (sent : ℕ) × MayPump middle (Ok sent) after
+unfolding EndsAfter
+pumped_so middle after (Ok sent) done may ends = (sent, may)
+pumped_so middle after (Err refusal) done may ends = absurd ends
+
 pub sends_so : (old middle new : End) (failed : Option Code) (done : Unit {0})
     (result : Result (Unit {0}) LinkError) → ReadsFailed old.conn failed
     → is_some failed ≡ false → ReleasesSome old middle (Ok done) → PumpsSome middle new result
@@ -93,7 +110,11 @@ sends_so old middle new failed done (Ok also) reads none released pumped values 
     let up = is_up old.conn failed values end.log reads none represents.streams.conn in
     let first = released.1 values end represents in
     let second = pumped.1 values first.0 first.2 in
-    (second.0, second.2, sends first.0 released.0 pumped.0 up first.1 second.1)
+    let sent = pumped_so first.0 second.0 pumped.0 also second.1 pumped.2 in (
+      second.0,
+      second.2,
+      sends first.0 released.0 sent.0 up first.1 (released_so released.0 done released.2) sent.1,
+    )
 sends_so old middle new failed done (Err error) reads none released pumped values end represents =
     let up = is_up old.conn failed values end.log reads none represents.streams.conn in
     let first = released.1 values end represents in
@@ -115,8 +136,8 @@ sent_holds : (P : EndLog → Type 0)
     → {before after : EndLog} {result : Result (Unit {0}) LinkError} → P before
     → HasSent before after result → P after
 sent_holds P release pump was (has_failed failed same) = rw same was
-sent_holds P release pump {before} {after} was (sends middle released sent up may then) =
-    pump middle after sent (release before middle released was may) then
+sent_holds P release pump {before} {after} was (sends middle released sent up may all then) =
+    pump middle after (Ok sent) (release before middle released was may) then
 sent_holds P release pump {before} {after} was (releases_no_more released error is up may) =
     release before after released was may
 sent_holds P release pump {before} {after} was

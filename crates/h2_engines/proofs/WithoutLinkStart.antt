@@ -1,6 +1,6 @@
 -- A new server without a link.
 use Rattle.h2_engines.proofs.Names.{◌≡◌, [], None, refl, Server, Values, AreInRange, EndRepresents}
-use Rattle.h2_engines.proofs.Names.{new_end}
+use Rattle.h2_engines.proofs.Names.{new_end_log}
 use Rattle.h2_log.specs.LogCalls.{opened}
 use Rattle.h2_log.specs.LogSteps.{with_sent}
 use Rattle.h2_engines.specs.declared.responder.Responder.{Responder}
@@ -14,9 +14,9 @@ unfolding opened with_sent
 new_up values = refl
 
 pub new_serves : {values : Values} (responder : Responder) → AreInRange values
-    → EndRepresents values responder.server.end (new_end Server values)
+    → EndRepresents values responder.server.end (new_end_log Server values)
     → responder.requests.kept.entries ≡ [] → responder.answered ≡ 0
-    → IsServingAlone values responder (new_end Server values)
+    → IsServingAlone values responder (new_end_log Server values)
 new_serves {values} responder range represents none zero =
     record {
       responding = begins range;

@@ -11,16 +11,17 @@ use Rattle.h2_ends.specs.declared.refusal.EndRefusal.{EndRefusal}
 use Rattle.h2_ends.specs.Ends.{EndLog, EndAnswer}
 use Rattle.h2_ends.specs.EndTakes.{EndMayTake, end_with_log}
 use Rattle.h2_ends.specs.EndCalls.{MayRequest, MayPump, MayReleaseAll}
-use Rattle.h2_ends.specs.Represents.{new_end}
+use Rattle.h2_ends.specs.Represents.{new_end_log}
 use Rattle.h2_engines.specs.declared.fetcher.Fetched.{Fetched}
 
 -- What has happened at a client since it was new: it made one request, with this message; it took
 -- octets, released, pumped and gave out.
 -- rule: engines (own) A response that is fetched is the message handed out, whole
 pub data IsFetching (values : Values) (message : SentMessage) : EndLog → Type 0 where
-  begins : AreInRange values → IsFetching values message (new_end Client values)
+  begins : AreInRange values → IsFetching values message (new_end_log Client values)
   requests : {after : EndLog} → AreInRange values → (result : Result ℕ EndRefusal)
-      → MayRequest (new_end Client values) message result after → IsFetching values message after
+      → MayRequest (new_end_log Client values) message result after
+      → IsFetching values message after
   takes : {end after : EndLog} → IsFetching values message end → (piece : List ℕ)
       (answer : EndAnswer) → EndMayTake end piece answer after → IsFetching values message after
   releases : {end after : EndLog} → IsFetching values message end

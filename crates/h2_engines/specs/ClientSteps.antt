@@ -14,7 +14,7 @@ use Rattle.h2_ends.specs.Ends.{InterimHanded, HeadHanded, BodyHanded, TrailersHa
 use Rattle.h2_ends.specs.Ends.{parts_on}
 use Rattle.h2_ends.specs.EndTakes.{EndMayTake}
 use Rattle.h2_ends.specs.EndCalls.{MayRequest}
-use Rattle.h2_ends.specs.Represents.{EndRepresents, new_end}
+use Rattle.h2_ends.specs.Represents.{EndRepresents, new_end_log}
 use Rattle.h2_link.specs.declared.error.LinkError.{LinkError}
 use Rattle.h2_link.specs.declared.error.LinkError.TheVariants as errors
 use Rattle.h2_engines.specs.declared.fetcher.Coming.{Coming}
@@ -34,12 +34,19 @@ KeepsResponse end id coming (nexts.Answer stream request) = ⊥
 KeepsResponse end id coming (nexts.Reset stream) = ⊥
 KeepsResponse end id coming next = HasCome coming (parts_on id end.handed)
 
--- why a call of `take` ends the fetch
+-- The stream of the fetch was reset, or its request was not processed.
+abbrev pub DropsStream : Handed → ℕ → Type 0
+DropsStream handed id =
+    ((code : ℕ) × (ours : Bool) × (handed ≡ Passed (ResetEvent id code ours)))
+    ⊎ (handed ≡ Passed (UnprocessedEvent id))
+
+-- why a call of `take` ends the fetch: it has failed; there was no memory to keep what was handed
+-- out, which doesn't end the stream; or it ends that
 unfoldable pub ErrsFetching : EndAnswer → ℕ → LinkError → Type 0
 ErrsFetching (EndFailed code) id error = error ≡ error_with code
 ErrsFetching (EndTook count None) id error = ⊥
 ErrsFetching (EndTook count (Some handed)) id error =
-    (error ≡ errors.Memory)
+    ((error ≡ errors.Memory) × (DropsStream handed id → ⊥))
     ⊎ (((code : ℕ) × (ours : Bool) × (handed ≡ Passed (ResetEvent id code ours))
     × (error ≡ errors.Reset code))
     ⊎ ((handed ≡ Passed (UnprocessedEvent id)) × (error ≡ errors.Reset refused_stream)))
@@ -86,7 +93,7 @@ pub data NotesPart (id : ℕ) (old new : Coming) : Handed → Bool → Type 0 wh
 -- A new client has made its request.
 pub record HasRequested (values : Values) (message : SentMessage) (fetcher : Fetcher) : Type 0 where
   pub end : EndLog
-  pub requested : MayRequest (new_end Client values) message (Ok fetcher.id) end
+  pub requested : MayRequest (new_end_log Client values) message (Ok fetcher.id) end
   pub represents : EndRepresents values fetcher.client.end end
   pub none_come : fetcher.coming.head ≡ None
   pub no_body : fetcher.coming.body.items ≡ []

@@ -1,8 +1,11 @@
 -- How a connection over a link may end early, and how often the link has failed then.
 -- contract: h2_engines::fetch_link
 -- contract: h2_engines::serve_link
-use Rattle.std.specs.Prelude.{◌≡◌, ℕ, ◌+◌, Bool, true, Result, Err}
+use Rattle.std.specs.Prelude.{◌≡◌, ◌⊎◌, ℕ, ◌+◌, Bool, true, List, ◌∷◌, Some, None, Result, Err}
+use Rattle.h2_frame.specs.declared.code.Code.TheVariants.{InternalError}
 use Rattle.h2_log.specs.declared.refusal.Refusal.TheVariants.{Memory}
+use Rattle.h2_log.specs.Acts.{Act, Answer, PutOut, Refused}
+use Rattle.h2_log.specs.Log.{Log}
 use Rattle.h2_ends.specs.declared.refusal.EndRefusal.{EndRefusal}
 use Rattle.h2_ends.specs.declared.refusal.EndRefusal.TheVariants as refusals
 use Rattle.h2_link.specs.declared.error.LinkError.{LinkError}
@@ -18,6 +21,24 @@ failures_at_end failures result = failures
 abbrev pub failures_by : ℕ → LinkError → ℕ
 failures_by failures errors.Device = failures + 1
 failures_by failures error = failures
+
+-- The connection is up, or it has failed with INTERNAL_ERROR, as it does where memory was refused.
+-- rule: engines (own) N2 has the code with which the connection failed; memory is N3
+abbrev pub HasNoConnectionFault : Log → Type 0
+HasNoConnectionFault log = (log.failed ≡ None) ⊎ (log.failed ≡ Some InternalError)
+
+-- The last call was to put output out, and was refused for memory: so not all of it was written,
+-- even where the connection has failed with another code.
+-- rule: engines (own) N2 has the code with which the connection failed; memory is N3
+pub record CannotPutOut (log : Log) : Type 0 where
+  pub count : ℕ
+  pub before : List (Act × Answer)
+  pub last : log.calls ≡ (PutOut count, Refused Memory) ∷ before
+
+-- Over a link N3 is answered only so; which allocation was refused no log says.
+-- rule: engines (own) N2 has the code with which the connection failed; memory is N3
+abbrev pub IsOutOfMemory : Log → Type 0
+IsOutOfMemory log = HasNoConnectionFault log ⊎ CannotPutOut log
 
 -- N4 is answered only where the link has met the end of its input.
 -- rule: engines (own) N4 comes only where the input ended early

@@ -9,15 +9,18 @@ use Rattle.h2_log.specs.Acts.{Values, Open}
 use Rattle.h2_log.specs.Events.{ResetEvent, UnprocessedEvent}
 use Rattle.h2_log.specs.LogCalls.{opened}
 use Rattle.h2_message.specs.Messages.{SentMessage, broken_by_request}
-use Rattle.h2_message.specs.Phases.{ends}
+use Rattle.h2_message.specs.Phases.{ends_message}
 use Rattle.h2_pair.specs.Tokens.{is_head_alone}
 use Rattle.h2_ends.specs.Ends.{EndLog, Passed, message_for, parts_on}
 use Rattle.h2_ends.specs.EndCalls.{refusal_of_message}
+use Rattle.h2_ends.specs.Represents.{new_end_log}
 use Rattle.h2_link.specs.declared.error.LinkError.{LinkError}
 use Rattle.h2_link.specs.declared.error.LinkError.TheVariants as errors
 use Rattle.h2_engines.specs.declared.fetcher.Fetched.{Fetched}
+use Rattle.h2_engines.specs.Failures.{IsOutOfMemory}
 use Rattle.h2_engines.specs.Linked.{Traffic, HasGiven, IsLinkedInPart, HasTakenAll, HasStalled}
-use Rattle.h2_engines.specs.Serves.{HasFailedWith, SendsAll}
+use Rattle.h2_engines.specs.Serves.{HasFailedWith, HasReturnedAll, HasSentAll}
+use Rattle.h2_engines.specs.Serves.{SendsAll}
 use Rattle.h2_engines.specs.ClientHistories.{IsFetching, IsFetched}
 
 -- REFUSED_STREAM (RFC 9113, section 7): what is said of a request that was not processed
@@ -50,7 +53,10 @@ IsRefusedOtherwise values message =
     (refusal : Refusal) × (refusal_of_request values message ≡ Some refusal)
     × (refusal ≢ ListTooLarge) × (refusal ≢ Memory)
 
--- what is said of each end, where the message was accepted for this stream
+-- what is said of each end, where the message was accepted for this stream; N1 comes where a call
+-- of the link has failed, whatever has happened at the client; at N4 the credit of the connection
+-- was returned, and all that could be sent was, unless the input gave nothing, since a body is sent
+-- once the server's first octets have come
 -- rule: engines (own) N4 comes only where the input ended early
 abbrev pub EndsFetchSo : (start now : Traffic) → EndLog → (id : ℕ) → Result Fetched LinkError
     → Type 0
@@ -60,9 +66,11 @@ EndsFetchSo start now end id (Err (errors.Stream number)) =
 EndsFetchSo start now end id (Err (errors.Reset number)) = WasDropped end id number
 EndsFetchSo start now end id (Err errors.CutOff) =
     (end.log.failed ≡ None) × HasGiven start now end.log [] × HasTakenAll start now end.log
+    × HasReturnedAll end.log × (end.log.input ≢ [] → HasSentAll end)
 EndsFetchSo start now end id (Err errors.NoProgress) = HasStalled now end
 EndsFetchSo start now end id (Err errors.Refused) = ⊥
-EndsFetchSo start now end id (Err other) = Unit {0}
+EndsFetchSo start now end id (Err errors.Memory) = IsOutOfMemory end.log
+EndsFetchSo start now end id (Err errors.Device) = Unit {0}
 
 -- A fetch ends early only before its response is whole, whatever comes after that; out of memory
 -- says nothing.
@@ -70,7 +78,7 @@ EndsFetchSo start now end id (Err other) = Unit {0}
 abbrev pub EndsUnfinished : EndLog → (id : ℕ) → Result Fetched LinkError → Type 0
 EndsUnfinished end id (Ok fetched) = Unit {0}
 EndsUnfinished end id (Err errors.Memory) = Unit {0}
-EndsUnfinished end id (Err error) = ends (parts_on id end.handed) ≡ false
+EndsUnfinished end id (Err error) = ends_message (parts_on id end.handed) ≡ false
 
 -- The message was accepted for a stream, what was sent there is a prefix of it, and so the fetch
 -- has ended.
@@ -90,6 +98,15 @@ IsNotAccepted values message (Err errors.Memory) = Unit {0}
 IsNotAccepted values message (Err errors.NoProgress) = IsRefusedOtherwise values message
 IsNotAccepted values message result = ⊥
 
+-- The message was not accepted: nothing has happened at the client, and nothing has gone over the
+-- link.
+-- rule: engines (own) N7 comes only where the message breaks a rule or is too large
+pub record EndsAtOnce (values : Values) (message : SentMessage) (start now : Traffic)
+    (end : EndLog) (result : Result Fetched LinkError) : Type 0 where
+  pub refused : IsNotAccepted values message result
+  pub new : end ≡ new_end_log Client values
+  pub same : now ≡ start
+
 -- However it ends: this has happened at the client; what the link gave since the connection began,
 -- is what it used, and more; and what the link took is the beginning of its output.
 pub record Fetches (values : Values) (message : SentMessage) (start now : Traffic)
@@ -97,4 +114,4 @@ pub record Fetches (values : Values) (message : SentMessage) (start now : Traffi
   pub end : EndLog
   pub fetching : IsFetching values message end
   pub linked : IsLinkedInPart start now end.log
-  pub so : EndsFetch start now message end result ⊎ IsNotAccepted values message result
+  pub so : EndsFetch start now message end result ⊎ EndsAtOnce values message start now end result

@@ -7,6 +7,7 @@ use Rattle.h2_ends.specs.Ends.{EndLog}
 use Rattle.h2_link.specs.declared.error.LinkError.{LinkError}
 use Rattle.h2_link.specs.declared.error.LinkError.TheVariants as errors
 use Rattle.h2_pair.specs.Pairs.{given_out}
+use Rattle.h2_engines.specs.Failures.{CannotPutOut}
 
 -- the octets that a link has given and taken so far, where it says so; and whether a write of
 -- octets has taken none
@@ -60,7 +61,8 @@ IsOutOfRounds end = 2 ^ 64 - 1 ≤ length end.log.turns
 abbrev pub HasStalled : (now : Traffic) → EndLog → Type 0
 HasStalled now end = (now.stalled ≡ true) ⊎ IsOutOfRounds end
 
--- Where what waits is written, N5 is answered only so.
+-- Where what waits is written, N3 and N5 are answered only so.
 abbrev pub StallsWriting : {A : Type 0} → (now : Traffic) → EndLog → Result A LinkError → Type 0
+StallsWriting now end (Err errors.Memory) = CannotPutOut end.log
 StallsWriting now end (Err errors.NoProgress) = HasStalled now end
 StallsWriting now end result = Unit {0}

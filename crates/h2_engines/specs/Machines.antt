@@ -6,9 +6,9 @@ use Rattle.h2_frame.specs.declared.code.Code.{Code}
 use Rattle.h2_log.specs.declared.refusal.Refusal.{Refusal}
 use Rattle.h2_log.specs.declared.refusal.Refusal.TheVariants.{OutputFull, TooManyResets}
 use Rattle.h2_log.specs.Acts.{Values, ResetStream, Refused}
-use Rattle.h2_log.specs.Log.{waiting}
+use Rattle.h2_log.specs.Log.{Log, waiting}
 use Rattle.h2_message.specs.Messages.{SentMessage}
-use Rattle.h2_message.specs.Phases.{ends}
+use Rattle.h2_message.specs.Phases.{ends_message}
 use Rattle.h2_ends.specs.declared.end.End.{End}
 use Rattle.h2_ends.specs.declared.refusal.EndRefusal.{EndRefusal}
 use Rattle.h2_ends.specs.declared.refusal.EndRefusal.TheVariants.{Conn}
@@ -24,13 +24,13 @@ use Rattle.h2_engines.specs.declared.request.Next.TheVariants as nexts
 use Rattle.h2_engines.specs.declared.request.Requests.{Requests}
 use Rattle.h2_engines.specs.Answers.{answer_to, is_too_large_body}
 use Rattle.h2_engines.specs.ClientHistories.{IsFetching}
-use Rattle.h2_engines.specs.Failures.{IsOfClient, IsOfServer, error_after}
+use Rattle.h2_engines.specs.Failures.{CannotPutOut, IsOfClient, IsOfServer, error_after}
 use Rattle.h2_engines.specs.Fetches.{EndsUnfinished, WasDropped}
 use Rattle.h2_engines.specs.Linked.{Traffic, HasGiven, IsLinked, HasStalled, HasTakenAll}
 use Rattle.h2_engines.specs.Linked.{HasTakenFirst, StallsWriting}
 use Rattle.h2_engines.specs.PartialMessages.{KeepsNext, HasCome, IsWhole}
 use Rattle.h2_engines.specs.ServerHistories.{IsResponding, calm}
-use Rattle.h2_engines.specs.Serves.{CannotReset}
+use Rattle.h2_engines.specs.Serves.{CannotReset, HasReturnedAll, HasSentAll}
 use Rattle.h2_engines.specs.ServerSteps.{IsSameOfMessages, TookBy, error_with}
 use Rattle.h2_engines.specs.WithoutLink.{PutOutSo}
 
@@ -82,20 +82,20 @@ pub record IsDriven (course : Course) (now : Traffic) (held : MachineState) (end
   pub keeps : Keeps course.message held.kept end next
 
 -- The machine is a server, or a client, and ends so by itself.
-abbrev pub IsOf : (serves : Bool) → LinkError → Type 0
-IsOf true error = IsOfServer error
-IsOf false error = IsOfClient error
+abbrev pub StopsWith : (serves : Bool) → LinkError → Type 0
+StopsWith true error = IsOfServer error
+StopsWith false error = IsOfClient error
 
 -- Where it is driven over a link, that may fail.
 abbrev pub MayEnd : (writes serves : Bool) → LinkError → Type 0
 MayEnd true serves errors.Device = Unit {0}
-MayEnd writes serves error = IsOf serves error
+MayEnd writes serves error = StopsWith serves error
 
 -- what holds of a client that ends early: its message was accepted, and its response isn't whole,
 -- unless memory was refused
-abbrev pub Holds : SentMessage → MessageState → EndLog → LinkError → Type 0
-Holds message (Serving requests answered) end error = Unit {0}
-Holds message (Fetching id coming whole) end error =
+abbrev pub EndsBeforeResponse : SentMessage → MessageState → EndLog → LinkError → Type 0
+EndsBeforeResponse message (Serving requests answered) end error = Unit {0}
+EndsBeforeResponse message (Fetching id coming whole) end error =
     (message_for id end.accepted ≡ Some message) × EndsUnfinished end id (Err error)
 
 -- Why a server ends by itself: it can't reset a stream any more; it can count no more answers; or
@@ -107,7 +107,7 @@ pub data ServerStops (writes : Bool) (end : EndLog) (error : LinkError) : Type 0
   counts_no_more : error ≡ errors.NoProgress → 2 ^ 32 - 1 ≤ length end.accepted
       → ServerStops writes end error
   answer_refused : error ≡ errors.NoProgress → (before : EndLog) (id : ℕ) (message : SentMessage)
-      (refusal : EndRefusal) → ends (parts_on id before.handed) ≡ true
+      (refusal : EndRefusal) → ends_message (parts_on id before.handed) ≡ true
       → answer_to (parts_on id before.handed) ≡ Some message
       → MayRespond before id message (Err refusal) end
       → (writes ≡ true → refusal ≢ Conn OutputFull)
@@ -123,10 +123,16 @@ StopsItself writes (Serving requests answered) end error = ServerStops writes en
 StopsItself writes (Fetching id coming whole) end error =
     (number : ℕ) × (error ≡ errors.Reset number) × WasDropped end id number
 
+-- Why memory is said to be refused while a machine is driven: the connection is up, or output can't
+-- be put out. A connection that has failed for it is `has_failed`.
+abbrev pub LacksWhileDriven : (writes : Bool) → Log → Type 0
+LacksWhileDriven writes log = (log.failed ≡ None) ⊎ ((writes ≡ true) × CannotPutOut log)
+
 -- Why a machine that is driven ends early.
 pub data EndsFor (writes : Bool) (start now : Traffic) (kept : MessageState) (end : EndLog)
     (error : LinkError) : Type 0 where
-  lacks_memory : error ≡ errors.Memory → EndsFor writes start now kept end error
+  lacks_memory : error ≡ errors.Memory → LacksWhileDriven writes end.log
+      → EndsFor writes start now kept end error
   link_fails : error ≡ errors.Device → writes ≡ true → EndsFor writes start now kept end error
   has_failed : (code : Code) → end.log.failed ≡ Some code → error ≡ error_with code
       → (writes ≡ true → HasTakenAll start now end.log) → EndsFor writes start now kept end error
@@ -143,7 +149,7 @@ pub record HasEnded (writes : Bool) (course : Course) (now : Traffic) (held : Ma
   pub given : HasGiven course.start now end.log unused
   pub taken : HasTakenFirst course.start now end.log
   pub alone : writes ≡ false → IsLinked course.start now end.log unused
-  pub holds : Holds course.message held.kept end error
+  pub holds : EndsBeforeResponse course.message held.kept end error
   pub why : EndsFor writes course.start now held.kept end error
 
 -- Why a machine can't hear on: the connection has failed, before its response is whole; or it is up
@@ -151,8 +157,9 @@ pub record HasEnded (writes : Bool) (course : Course) (now : Traffic) (held : Ma
 pub data HearsNoMore (message : SentMessage) (kept : MessageState) (end : EndLog)
     (error : LinkError) : Type 0 where
   fails : (code : Code) → end.log.failed ≡ Some code → error ≡ error_with code
-      → ((other : LinkError) → Holds message kept end other) → HearsNoMore message kept end error
-  gives_up : end.log.failed ≡ None → Holds message kept end error
+      → ((other : LinkError) → EndsBeforeResponse message kept end other)
+      → HearsNoMore message kept end error
+  gives_up : end.log.failed ≡ None → EndsBeforeResponse message kept end error
       → (error ≡ errors.Memory) ⊎ ((writes : Bool) → StopsItself writes kept end error)
       → HearsNoMore message kept end error
 
@@ -206,7 +213,8 @@ Responds old new due result =
     → (after : EndLog) × (length end.log.turns ≤ length after.log.turns)
     × RespondedSo writes course now new after unused result
 
--- The end was written out, or as far as it went, in a turn at least.
+-- The end was written out, or as far as it went, in a turn at least. Where nothing more could be
+-- sent, nothing can.
 pub record WritesOut (P : EndLog → Type 0) (values : Values) (start now : Traffic)
     (before : EndLog) (new : End) (unused : List ℕ) (result : Result (Unit {0}) LinkError) : Type 0
   where
@@ -218,6 +226,7 @@ pub record WritesOut (P : EndLog → Type 0) (values : Values) (start now : Traf
     pub taken : TookBy start now after.log result
     pub turns : length before.log.turns < length after.log.turns
     pub stalls : StallsWriting now after result
+    pub sent : HasSentAll before → HasSentAll after
 
 -- Whatever has happened at the end of a machine and over the link, what waits is written.
 abbrev pub WritesWaiting : (before now : Traffic) → (old new : MachineState)
@@ -259,19 +268,27 @@ TakenSo writes course now held after (Ok true) =
 TakenSo writes course now held after (Err error) = HasEnded writes course now held after error
 
 -- A machine that is driven takes a piece, and does what becomes due.
-abbrev pub TakesPiece : (writes : Bool) → (before now : Traffic) → (old new : MachineState)
+abbrev pub MachineTakesPiece : (writes : Bool) → (before now : Traffic) → (old new : MachineState)
     → (piece : List ℕ) → Result Bool LinkError → Type 0
-TakesPiece writes before now old new piece result =
+MachineTakesPiece writes before now old new piece result =
     (course : Course) (base : Traffic) (end : EndLog)
     → IsDriven course (flow writes before base) old end piece nexts.Again
     → (after : EndLog) × (length end.log.turns ≤ length after.log.turns)
     × TakenSo writes course (flow writes now base) new after result
 
--- how the driving over a link ends: where its input has ended, all was used and all is written
+-- What a machine has sent before it reads on over a link: all that could be. Of a client that holds
+-- once it has used octets: it sends its body after the first of them.
+abbrev pub HasSentFor : MessageState → EndLog → Type 0
+HasSentFor (Serving requests answered) end = HasSentAll end
+HasSentFor (Fetching id coming whole) end = end.log.input ≢ [] → HasSentAll end
+
+-- how the driving over a link ends: where its input has ended, all was used, what could be sent was
+-- sent, credit was returned, and all is written
 unfoldable pub DrivenSo : Course → (now : Traffic) → MachineState → EndLog → Result Bool LinkError
     → Type 0
 DrivenSo course now held after (Ok false) =
     IsDriven course now held after [] nexts.Again × HasTakenAll course.start now after.log
+    × HasReturnedAll after.log × HasSentFor held.kept after
 DrivenSo course now held after (Ok true) =
     (unused : List ℕ) × IsDriven course now held after unused nexts.Whole
 DrivenSo course now held after (Err error) = HasEnded true course now held after error
@@ -286,7 +303,7 @@ abbrev pub Drives : (before now : Traffic) → (old new : MachineState) → Resu
     → Type 0
 Drives before now old new result =
     (course : Course) (end : EndLog) → IsDriven course before old end [] nexts.Again
-    → (after : EndLog) × DrivenSo course now new after result
+    → HasSentFor old.kept end → (after : EndLog) × DrivenSo course now new after result
 
 -- What an end has put out, where nothing else has happened.
 pub record HasPutOut (P : EndLog → Type 0) (values : Values) (new : End) (end : EndLog) (count : ℕ)

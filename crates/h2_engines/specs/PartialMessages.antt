@@ -8,7 +8,7 @@ use Rattle.std.specs.BTreeMap.{is_at}
 use Rattle.hpack.specs.declared.types.field.Field.{Field}
 use Rattle.h2_log.specs.Events.{ResetEvent}
 use Rattle.h2_message.specs.Messages.{first_broken, interim_rules}
-use Rattle.h2_message.specs.Phases.{ends}
+use Rattle.h2_message.specs.Phases.{ends_message}
 use Rattle.h2_message.specs.Reading.{Part, FieldsPart, OctetsPart, BreakNone}
 use Rattle.h2_ends.specs.Ends.{EndLog, Handed, HeadHanded, BodyHanded, TrailersHanded, Passed}
 use Rattle.h2_ends.specs.Ends.{message_for, parts_on}
@@ -19,7 +19,7 @@ use Rattle.h2_engines.specs.declared.request.Requests.{Requests}
 use Rattle.h2_engines.specs.declared.fetcher.Coming.{Coming}
 use Rattle.h2_engines.specs.declared.fetcher.Fetched.{Fetched}
 use Rattle.h2_engines.specs.Answers.{IsRequest, is_too_large_body, greatest_body}
-use Rattle.h2_engines.specs.ServerHistories.{WasReset, WasTooLarge, WasAnswered}
+use Rattle.h2_engines.specs.ServerHistories.{WasReportedReset, WasTooLarge, WasAnswered}
 use Rattle.h2_engines.specs.ClientHistories.{IsFetched}
 
 -- what is kept of the request on a stream
@@ -32,11 +32,11 @@ pub data RequestState (end : EndLog) (id : ℕ) : Option Request → Type 0 wher
       → RequestState end id None
   comes : (head : List Field) (parts : List (Part × Bool)) (request : Request)
       → parts_on id end.handed ≡ (FieldsPart head, false) ∷ parts
-      → ends (parts_on id end.handed) ≡ false
+      → ends_message (parts_on id end.handed) ≡ false
       → is_too_large_body (parts_on id end.handed) ≡ false → IsRequest head parts request
       → message_for id end.accepted ≡ None → RequestState end id (Some request)
   was_answered : WasAnswered end id → RequestState end id None
-  was_given_up : WasReset end id ⊎ WasTooLarge end id → message_for id end.accepted ≡ None
+  was_given_up : WasReportedReset end id ⊎ WasTooLarge end id → message_for id end.accepted ≡ None
       → RequestState end id None
 
 -- Each request is in such a state.
@@ -51,7 +51,7 @@ pub record KeepsOthers (requests : Requests) (end : EndLog) (id : ℕ) : Type 0 
 
 -- The request is whole, and to be answered next.
 pub record IsToAnswer (end : EndLog) (id : ℕ) (request : Request) : Type 0 where
-  pub whole : ends (parts_on id end.handed) ≡ true
+  pub whole : ends_message (parts_on id end.handed) ≡ true
   pub fits : is_too_large_body (parts_on id end.handed) ≡ false
   pub head : List Field
   pub end_of_head : Bool
@@ -87,8 +87,8 @@ pub record IsLonger (old : Request) (octets : List ℕ) (new : Request) : Type 0
   pub to_head : new.to_head ≡ old.to_head
 
 -- how many octets of a body may follow
-abbrev pub room_of : Request → ℕ
-room_of request = greatest_body - (length request.text.items - request.start)
+abbrev pub body_room : Request → ℕ
+body_room request = greatest_body - (length request.text.items - request.start)
 
 -- octets of a body are added to what is kept, if any is
 unfoldable pub AddsOctets : (old new : Requests) → ℕ → List ℕ → (end : Bool) → Option Request → Next
@@ -96,8 +96,8 @@ unfoldable pub AddsOctets : (old new : Requests) → ℕ → List ℕ → (end :
 AddsOctets old new id octets end None next =
     (next ≡ nexts.Again) × ChangesAt old new id None
 AddsOctets old new id octets end (Some request) next =
-    ((room_of request < length octets) × (next ≡ nexts.Reset id) × ChangesAt old new id None)
-    ⊎ ((length octets ≤ room_of request)
+    ((body_room request < length octets) × (next ≡ nexts.Reset id) × ChangesAt old new id None)
+    ⊎ ((length octets ≤ body_room request)
     × ((longer : Request) × IsLonger request octets longer
     × EndsRequest old new id end longer next))
 
@@ -131,7 +131,7 @@ abbrev pub data_parts_of : List (List ℕ) → List (Part × Bool)
 data_parts_of data_parts = each (λ octets. (OctetsPart octets, false)) data_parts
 
 -- The interim responses that came are such, and the head that came is none.
-pub record AreHeads (coming : Coming) : Type 0 where
+pub record AreHeadsSoFar (coming : Coming) : Type 0 where
   pub interims : AllByRecursion (λ fields. BreakNone (interim_rules fields))
       (each (λ list. list.items) coming.interims.items)
   pub head : (head : List Field) → option_map (λ list. list.items) coming.head ≡ Some head
@@ -140,10 +140,10 @@ pub record AreHeads (coming : Coming) : Type 0 where
 -- These parts of a response have come, the first one first: interim responses alone; or the head
 -- too, and octets of the body.
 pub data HasCome (coming : Coming) : List (Part × Bool) → Type 0 where
-  interims_alone : AreHeads coming → coming.head ≡ None → coming.body.items ≡ []
+  interims_alone : AreHeadsSoFar coming → coming.head ≡ None → coming.body.items ≡ []
       → coming.trailers ≡ None
       → HasCome coming (interim_parts (each (λ list. list.items) coming.interims.items))
-  head_and_body : AreHeads coming → (head : List Field) (data_parts : List (List ℕ))
+  head_and_body : AreHeadsSoFar coming → (head : List Field) (data_parts : List (List ℕ))
       → option_map (λ list. list.items) coming.head ≡ Some head
       → coming.body.items ≡ concat data_parts → coming.trailers ≡ None
       → HasCome coming (interim_parts (each (λ list. list.items) coming.interims.items)

@@ -7,12 +7,12 @@ use Rattle.h2_log.specs.Acts.{Values, AreInRange, Answer, IsTypedAct, ResetStrea
 use Rattle.h2_log.specs.Events.{ResetEvent}
 use Rattle.h2_log.specs.LogCalls.{MayAnswer, with_call}
 use Rattle.h2_message.specs.Messages.{SentMessage}
-use Rattle.h2_message.specs.Phases.{ends}
+use Rattle.h2_message.specs.Phases.{ends_message}
 use Rattle.h2_ends.specs.declared.refusal.EndRefusal.{EndRefusal}
 use Rattle.h2_ends.specs.Ends.{EndLog, EndAnswer, Passed, message_for, parts_on}
 use Rattle.h2_ends.specs.EndTakes.{EndMayTake, end_with_log}
 use Rattle.h2_ends.specs.EndCalls.{MayRespond, MayPump, MayReleaseAll}
-use Rattle.h2_ends.specs.Represents.{new_end}
+use Rattle.h2_ends.specs.Represents.{new_end_log}
 use Rattle.h2_engines.specs.Answers.{answer_to, is_too_large_body}
 
 -- ENHANCE_YOUR_CALM (RFC 9113, section 7): a body is too large
@@ -24,11 +24,11 @@ calm = 11
 -- and gave out.
 -- rule: engines (own) A request that is whole is answered once, by method, path and body
 pub data IsResponding (values : Values) : EndLog → Type 0 where
-  begins : AreInRange values → IsResponding values (new_end Server values)
+  begins : AreInRange values → IsResponding values (new_end_log Server values)
   takes : {end after : EndLog} → IsResponding values end → (piece : List ℕ) (answer : EndAnswer)
       → EndMayTake end piece answer after → IsResponding values after
   answers : {end after : EndLog} → IsResponding values end → (id : ℕ) (message : SentMessage)
-      (result : Result (Unit {0}) EndRefusal) → ends (parts_on id end.handed) ≡ true
+      (result : Result (Unit {0}) EndRefusal) → ends_message (parts_on id end.handed) ≡ true
       → is_too_large_body (parts_on id end.handed) ≡ false
       → answer_to (parts_on id end.handed) ≡ Some message
       → MayRespond end id message result after → IsResponding values after
@@ -46,8 +46,8 @@ pub data IsResponding (values : Values) : EndLog → Type 0 where
       → IsResponding values (end_with_log end (with_call end.log (PutOut count) answer))
 
 -- The stream was reset, by either end, and that was handed out.
-abbrev pub WasReset : EndLog → ℕ → Type 0
-WasReset end id =
+abbrev pub WasReportedReset : EndLog → ℕ → Type 0
+WasReportedReset end id =
     (code : ℕ) × (ours : Bool) × Contains end.handed (Passed (ResetEvent id code ours))
 
 -- The server has reset the stream, since its request was too large.
@@ -59,7 +59,7 @@ pub record WasTooLarge (end : EndLog) (id : ℕ) : Type 0 where
 -- The request is whole, and it was answered with what it asked.
 -- rule: engines (own) A request that is whole is answered once, by method, path and body
 pub record WasAnswered (end : EndLog) (id : ℕ) : Type 0 where
-  pub whole : ends (parts_on id end.handed) ≡ true
+  pub whole : ends_message (parts_on id end.handed) ≡ true
   pub fits : is_too_large_body (parts_on id end.handed) ≡ false
   pub message : SentMessage
   pub asked : answer_to (parts_on id end.handed) ≡ Some message
@@ -74,9 +74,9 @@ AreOnce ((id, message) ∷ accepted) = (message_for id accepted ≡ None) × Are
 -- too large one was; and nothing else was answered, and no stream twice.
 -- rule: engines (own) A request that is whole is answered once, by method, path and body
 pub record AnswersAll (end : EndLog) : Type 0 where
-  pub all : (id : ℕ) → ends (parts_on id end.handed) ≡ true
-      → WasAnswered end id ⊎ (WasReset end id ⊎ WasTooLarge end id)
+  pub all : (id : ℕ) → ends_message (parts_on id end.handed) ≡ true
+      → WasAnswered end id ⊎ (WasReportedReset end id ⊎ WasTooLarge end id)
   pub too_large : (id : ℕ) → is_too_large_body (parts_on id end.handed) ≡ true
-      → WasReset end id ⊎ WasTooLarge end id
+      → WasReportedReset end id ⊎ WasTooLarge end id
   pub none_else : (id : ℕ) → message_for id end.accepted ≢ None → WasAnswered end id
   pub once : AreOnce end.accepted

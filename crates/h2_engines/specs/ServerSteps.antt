@@ -10,7 +10,7 @@ use Rattle.h2_log.specs.Acts.{Values, Act, Answer, ResetStream, Done, Refused}
 use Rattle.h2_log.specs.Log.{Log}
 use Rattle.h2_log.specs.LogCalls.{MayAnswer, with_call}
 use Rattle.h2_log.specs.declared.refusal.Refusal.{Refusal}
-use Rattle.h2_log.specs.declared.refusal.Refusal.TheVariants.{OutputFull, TooManyResets}
+use Rattle.h2_log.specs.declared.refusal.Refusal.TheVariants.{Memory, OutputFull, TooManyResets}
 use Rattle.h2_message.specs.Messages.{SentMessage}
 use Rattle.h2_pair.specs.Pairs.{given_out}
 use Rattle.h2_ends.specs.declared.end.End.{End}
@@ -29,7 +29,7 @@ use Rattle.h2_engines.specs.Linked.{Traffic, HasTakenAll, HasTakenFirst}
 use Rattle.h2_engines.specs.Failures.{error_after}
 use Rattle.h2_engines.specs.PartialMessages.{NotesTaken}
 use Rattle.h2_engines.specs.ServerHistories.{calm}
-use Rattle.h2_engines.specs.Serves.{IsAtRest, IsCutOff}
+use Rattle.h2_engines.specs.Serves.{HasReturnedAll, IsAtRest, IsCutOff}
 
 -- how a connection ends that has failed with this code
 -- rule: engines (own) N2 has the code with which the connection failed; memory is N3
@@ -47,10 +47,12 @@ pub record IsSameOfMessages (before after : EndLog) : Type 0 where
   pub failed : after.log.failed ≡ before.log.failed
   pub used : after.log.input ≡ before.log.input
 
--- Nothing waits: the link took all of the output.
+-- Nothing waits: the link took all of the output; and no credit of the connection does, while it is
+-- up.
 pub record IsWrittenOut (start now : Traffic) (log : Log) : Type 0 where
   pub all : given_out log ≡ log.written
   pub taken : HasTakenAll start now log
+  pub returned : log.failed ≡ None → HasReturnedAll log
 
 -- what the link took, by how it was written
 abbrev pub TookBy : {A : Type 0} → (start now : Traffic) → Log → Result A LinkError → Type 0
@@ -111,7 +113,7 @@ unfoldable pub ResetSo : Answer → Result (Unit {0}) LinkError → Type 0
 ResetSo answer (Ok done) = answer ≡ Done
 ResetSo answer (Err (errors.Stream number)) =
     (number ≡ calm) × (answer ≡ Refused TooManyResets)
-ResetSo answer (Err errors.Memory) = (refusal : Refusal) × (answer ≡ Refused refusal)
+ResetSo answer (Err errors.Memory) = answer ≡ Refused Memory
 ResetSo answer (Err errors.NoProgress) =
     (refusal : Refusal) × (answer ≡ Refused refusal) × (refusal ≢ TooManyResets)
     × (error_after (Conn refusal) ≡ errors.NoProgress)
@@ -124,14 +126,16 @@ ServerResets old new id result =
     × EndRepresents values new (end_with_log end (with_call end.log (ResetStream id calm) answer))
     × ResetSo answer result
 
--- A call of an end ends the connection only where it was refused, and as the refusal says.
+-- A call of an end ends the connection where it was refused, and as the refusal says.
 unfoldable pub EndsAfter : {A : Type 0} → Result A EndRefusal → Result (Unit {0}) LinkError → Type 0
-EndsAfter answer (Ok done) = Unit {0}
+EndsAfter (Ok value) (Ok done) = Unit {0}
+EndsAfter (Err refusal) (Ok done) = ⊥
 EndsAfter (Ok value) (Err error) = ⊥
 EndsAfter (Err refusal) (Err error) = error ≡ error_after refusal
 
 -- What a full output holds back is given back later.
 unfoldable pub EndsRelease : Result (Unit {0}) EndRefusal → Result (Unit {0}) LinkError → Type 0
+EndsRelease (Err (Conn OutputFull)) (Ok done) = Unit {0}
 EndsRelease (Err (Conn OutputFull)) (Err error) = ⊥
 EndsRelease answer result = EndsAfter answer result
 

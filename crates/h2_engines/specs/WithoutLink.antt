@@ -7,11 +7,11 @@ use Rattle.h2_frame.specs.declared.code.Code.{Code}
 use Rattle.h2_frame.specs.declared.code.Code.TheVariants.{InternalError}
 use Rattle.h2_frame.specs.Codes.{code_number}
 use Rattle.h2_log.specs.declared.refusal.Refusal.{Refusal}
-use Rattle.h2_log.specs.declared.refusal.Refusal.TheVariants.{TooManyResets}
+use Rattle.h2_log.specs.declared.refusal.Refusal.TheVariants.{OutputFull, TooManyResets}
 use Rattle.h2_log.specs.Acts.{Values, ResetStream, Refused}
 use Rattle.h2_log.specs.Log.{Log}
 use Rattle.h2_message.specs.Messages.{SentMessage}
-use Rattle.h2_message.specs.Phases.{ends}
+use Rattle.h2_message.specs.Phases.{ends_message}
 use Rattle.h2_pair.specs.Pairs.{given_out}
 use Rattle.h2_ends.specs.declared.end.End.{End}
 use Rattle.h2_ends.specs.declared.refusal.EndRefusal.{EndRefusal}
@@ -25,7 +25,7 @@ use Rattle.h2_engines.specs.declared.fetcher.Fetcher.{Fetcher}
 use Rattle.h2_engines.specs.declared.responder.Responder.{Responder}
 use Rattle.h2_engines.specs.Answers.{answer_to, is_too_large_body}
 use Rattle.h2_engines.specs.ClientHistories.{IsFetching}
-use Rattle.h2_engines.specs.Failures.{error_after}
+use Rattle.h2_engines.specs.Failures.{HasNoConnectionFault, error_after}
 use Rattle.h2_engines.specs.Fetches.{WasDropped}
 use Rattle.h2_engines.specs.Linked.{IsOutOfRounds}
 use Rattle.h2_engines.specs.PartialMessages.{KeepsRequests, HasCome, IsWhole}
@@ -46,13 +46,15 @@ pub record FailsWith (log : Log) (number : ℕ) : Type 0 where
   pub other : code ≢ InternalError
   pub number_is : number ≡ code_number code
 
--- What was given back and sent before output is put out: while the connection is up, what was owed
--- and what could be sent, as far as the calls went; once it has failed, nothing.
+-- What was given back and sent before output is put out: while the connection is up, all that was
+-- owed and could be sent, but for what a full output holds back, or as far as there was memory;
+-- once it has failed, nothing.
 pub data HasSent (before after : EndLog) : Result (Unit {0}) LinkError → Type 0 where
   has_failed : before.log.failed ≢ None → after ≡ before → HasSent before after (Ok tt)
-  sends : (middle : EndLog) (released : Result (Unit {0}) EndRefusal) (sent : Result ℕ EndRefusal)
+  sends : (middle : EndLog) (released : Result (Unit {0}) EndRefusal) (sent : ℕ)
       → before.log.failed ≡ None → MayReleaseAll before released middle
-      → MayPump middle sent after → HasSent before after (Ok tt)
+      → (released ≡ Ok tt) ⊎ (released ≡ Err (Conn OutputFull))
+      → MayPump middle (Ok sent) after → HasSent before after (Ok tt)
   releases_no_more : (released : Result (Unit {0}) EndRefusal) (error : LinkError)
       → error ≡ errors.Memory → before.log.failed ≡ None → MayReleaseAll before released after
       → HasSent before after (Err error)
@@ -69,7 +71,7 @@ SendsWaiting old new result =
 -- So many octets were put out and appended to others: the next ones of the output, at most as many
 -- as were asked for, and fewer only where they were all.
 -- rule: engines (own) Without a link a server answers whole requests, a client reads one
-pub record PutsOut (before after : Log) (count given : ℕ) (old new : List ℕ) : Type 0 where
+pub record PutsOutNext (before after : Log) (count given : ℕ) (old new : List ℕ) : Type 0 where
   pub octets : List ℕ
   pub appended : new ≡ old ++ octets
   pub next : given_out after ≡ given_out before ++ octets
@@ -82,7 +84,7 @@ unfoldable pub PutOutSo : (before after : EndLog) → ℕ → (old new : List �
     → Type 0
 PutOutSo before after count old new (Ok given) =
     ((sent : EndLog) × HasSent before sent (Ok tt) × IsSameOfMessages sent after)
-    × PutsOut before.log after.log count given old new
+    × PutsOutNext before.log after.log count given old new
 PutOutSo before after count old new (Err error) =
     (error ≡ errors.Memory) × (new ≡ old) × (given_out after.log ≡ given_out before.log)
 
@@ -121,7 +123,7 @@ pub data MakesNoProgress (end : EndLog) : Type 0 where
   out_of_rounds : IsOutOfRounds end → MakesNoProgress end
   counts_no_more : 2 ^ 32 - 1 ≤ length end.accepted → MakesNoProgress end
   answer_refused : (before : EndLog) (id : ℕ) (message : SentMessage) (refusal : EndRefusal)
-      → ends (parts_on id before.handed) ≡ true
+      → ends_message (parts_on id before.handed) ≡ true
       → answer_to (parts_on id before.handed) ≡ Some message
       → MayRespond before id message (Err refusal) end
       → error_after refusal ≡ errors.NoProgress → MakesNoProgress end
@@ -131,11 +133,11 @@ pub data MakesNoProgress (end : EndLog) : Type 0 where
       → error_after (Conn refusal) ≡ errors.NoProgress → MakesNoProgress end
 
 -- Why a server stops: the connection has failed with this code, or a stream can't be reset any
--- more; memory was refused; or it makes no progress.
+-- more; memory was refused, and the connection has no other fault; or it makes no progress.
 -- rule: engines (own) Without a link a server answers whole requests, a client reads one
 unfoldable pub StopsAlone : EndLog → LinkError → Type 0
 StopsAlone end (errors.Stream number) = FailsWith end.log number ⊎ CannotReset end number
-StopsAlone end errors.Memory = Unit {0}
+StopsAlone end errors.Memory = HasNoConnectionFault end.log
 StopsAlone end errors.NoProgress = MakesNoProgress end
 StopsAlone end error = ⊥
 
@@ -195,11 +197,11 @@ ClientPutsOut old new count before now result =
     → ClientPutOut values message old new end count before now result
 
 -- Why a fetch stops: the connection has failed with this code; the stream was dropped; memory was
--- refused; or the client is out of rounds.
+-- refused, and the connection has no other fault; or the client is out of rounds.
 unfoldable pub StopsFetchAlone : EndLog → (id : ℕ) → LinkError → Type 0
 StopsFetchAlone end id (errors.Stream number) = FailsWith end.log number
 StopsFetchAlone end id (errors.Reset number) = WasDropped end id number
-StopsFetchAlone end id errors.Memory = Unit {0}
+StopsFetchAlone end id errors.Memory = HasNoConnectionFault end.log
 StopsFetchAlone end id errors.NoProgress = IsOutOfRounds end
 StopsFetchAlone end id error = ⊥
 

@@ -17,10 +17,13 @@ use std::alloc::Global;
 // rule: engines (own) N1 comes exactly where a call of the link has failed
 // contract: engines (own) N2 has the code with which the connection failed; memory is N3
 // rule: engines (own) N4 comes only where the input ended early
+// contract: engines (own) Over a link credit is returned and what could be sent is sent
 // contract: engines (own) N6 has the code with which the request's stream was reset
 // contract: engines (own) N7 comes only where the message breaks a rule or is too large
 /// Makes a request over a new connection, and answers its response once that is whole, whatever of
-/// the request is still to be sent. Nothing is taken of what was read behind the response.
+/// the request is still to be sent. Nothing is taken of what was read after the response. Where the
+/// input ends too early, the credit of the connection was returned; and once octets of the server
+/// have come, nothing is owed, and nothing that waits could go.
 ///
 /// # Errors
 ///

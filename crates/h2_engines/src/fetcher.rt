@@ -7,7 +7,8 @@ ghost use Rattle.h2_message.specs.Values.{message_value};
 ghost use Rattle.h2_ends.specs.Loans.{event_handed};
 ghost use Rattle.h2_engines.specs.Failures.{IsOfClient};
 ghost use Rattle.h2_engines.specs.Fetches.{IsNotAccepted};
-ghost use Rattle.h2_engines.specs.ClientSteps.{ClientHears, HasRequested, IsFetchedOf, NotesPart};
+ghost use Rattle.h2_engines.specs.ClientSteps.{ClientHears, DropsStream, HasRequested};
+ghost use Rattle.h2_engines.specs.ClientSteps.{IsFetchedOf, NotesPart};
 ghost use Rattle.h2_engines.specs.Machines.{Fetching};
 ghost use Rattle.h2_engines.specs.WithoutLink.{ClientPutsOut, ClientTakesIn};
 
@@ -61,9 +62,11 @@ pub struct Fetcher {
 impl Coming {
     // rule: engines (own) A response that is fetched is the message handed out, whole
     /// Keeps what was handed out of the response on a stream, and says whether that is whole.
+    /// Memory is refused only for a part of a message.
     fn note(&mut self, alloc: Global, stream: u32, event: EndEvent<'_>) -> Result<bool, AllocError>
-        ensures { IfOk result (λ whole. NotesPart stream self.old self.new
+        ensures notes { IfOk result (λ whole. NotesPart stream self.old self.new
             (event_handed event.entry) whole) }
+        ensures err { OnErr result (DropsStream (event_handed event.entry) stream → ⊥) }
     {
         match event {
             EndEvent::Interim { id, list } if id == stream => {

@@ -7,8 +7,8 @@ ghost use Rattle.h2_conn.specs.Conn.{GivesOut, answer_by};
 ghost use Rattle.h2_ends.specs.Represents.{EndAnswers, EndPumps, EndReleases};
 ghost use Rattle.h2_engines.specs.Failures.{EndsWriting, IsOfCall, failures_at_end, failures_by};
 ghost use Rattle.h2_engines.specs.Linked.{traffic};
-ghost use Rattle.h2_engines.specs.Machines.{MachineState, Hears, Responds, IsOf, MayEnd};
-ghost use Rattle.h2_engines.specs.Machines.{WritesAndResponds, EndsEarly, TakesPiece};
+ghost use Rattle.h2_engines.specs.Machines.{MachineState, Hears, Responds, StopsWith, MayEnd};
+ghost use Rattle.h2_engines.specs.Machines.{WritesAndResponds, EndsEarly, MachineTakesPiece};
 ghost use Rattle.h2_engines.specs.Machines.{Drives, MeetsEnd, WritesWaiting, PutsWaiting};
 ghost use Rattle.h2_engines.specs.ServerSteps.{PumpsSome};
 ghost use Rattle.h2_engines.specs.WithoutLink.{SendsWaiting};
@@ -53,12 +53,12 @@ pub(crate) trait Machine {
     fn take(&mut self, piece: &[u8]) -> Result<Heard, LinkError>
         ensures hears { Hears (held self.old) (held self.new) piece.now result }
         ensures within { IfOk result (λ heard. heard.used ≤ length piece.now) }
-        ensures err { IfErr result (IsOf serves) };
+        ensures err { IfErr result (StopsWith serves) };
 
     /// Makes an answer or a reset that is due.
     fn act(&mut self, due: Next) -> Result<(), LinkError>
         ensures acts { Responds (held self.old) (held self.new) due result }
-        ensures err { IfErr result (IsOf serves) };
+        ensures err { IfErr result (StopsWith serves) };
 
     /// Sends what waits of messages, as windows allow.
     fn pump(&mut self) -> Result<usize, EndRefusal>
@@ -145,7 +145,7 @@ fn end_early<M: Machine, L: Link>(
     error: LinkError,
 ) -> LinkError
     requires fits { L.faults link.old < 2 ^ 64 - 1 }
-    requires is { IsOf M.serves error }
+    requires is { StopsWith M.serves error }
     ensures ends { EndsEarly writes
         (traffic (L.given link.old) (L.taken link.old) (L.stalled link.old))
         (traffic (L.given link.new) (L.taken link.new) (L.stalled link.new))
@@ -177,7 +177,7 @@ pub(crate) fn take_all<M: Machine, L: Link>(
     piece: &[u8],
 ) -> Result<bool, LinkError>
     requires { L.faults link.old < 2 ^ 64 - 1 }
-    ensures takes { TakesPiece writes
+    ensures takes { MachineTakesPiece writes
         (traffic (L.given link.old) (L.taken link.old) (L.stalled link.old))
         (traffic (L.given link.new) (L.taken link.new) (L.stalled link.new))
         (M.held machine.old) (M.held machine.new) piece.now result }
@@ -206,7 +206,8 @@ pub(crate) fn take_all<M: Machine, L: Link>(
 // rule (tested): engines (own) Where the output was full it pumps and writes before it reads
 // rule: engines (own) N5 comes only where a write has taken nothing
 /// Drives a machine over a link until its response is whole, or the input has ended: answers
-/// whether it is whole. Where the output was full, what more can be sent is written before a read.
+/// whether it is whole. Where the output was full, what is still owed is given back, and what more
+/// can be sent is written, before a read.
 pub(crate) fn drive<M: Machine, L: Link>(machine: &mut M, link: &mut L) -> Result<bool, LinkError>
     requires { L.faults link.old < 2 ^ 64 - 1 }
     ensures drives { Drives
@@ -222,7 +223,7 @@ pub(crate) fn drive<M: Machine, L: Link>(machine: &mut M, link: &mut L) -> Resul
         let is_full = machine.conn().waiting() >= FULL_OUTPUT;
         write_out(machine, link)?;
         if is_full {
-            pump(machine)?;
+            send_waiting(machine)?;
             continue;
         }
         let is_whole = match link.read(&mut input) {
@@ -238,6 +239,7 @@ pub(crate) fn drive<M: Machine, L: Link>(machine: &mut M, link: &mut L) -> Resul
     Err(LinkError::NoProgress)
 }
 
+// rule: engines (own) Over a link credit is returned and what could be sent is sent
 /// Gives back all that is owed and sends what waits of messages, while the connection is up. What a
 /// full output holds back is given back later.
 fn send_waiting<M: Machine>(machine: &mut M) -> Result<(), LinkError>

@@ -3,7 +3,7 @@
 ghost use Rattle.std.specs.Prelude.{◌≡◌, ◌≤◌, ◌<◌, ◌^◌, [], IfOk, IfErr, length, true};
 ghost use Rattle.h2_config.specs.ConfigValues.{values_of};
 ghost use Rattle.h2_log.specs.declared.role.Role.TheVariants as roles;
-ghost use Rattle.h2_ends.specs.Represents.{EndRepresents, new_end};
+ghost use Rattle.h2_ends.specs.Represents.{EndRepresents, new_end_log};
 ghost use Rattle.h2_engines.specs.Answers.{answer_with};
 ghost use Rattle.h2_engines.specs.Failures.{IsOfCall, IsOfServer};
 ghost use Rattle.h2_engines.specs.Machines.{Serving};
@@ -40,11 +40,11 @@ impl Responder {
     /// `Memory` (N3) where an allocation was refused.
     pub fn new(alloc: Global, config: Config) -> Result<Responder, LinkError>
         ensures ok { IfOk result (λ responder. EndRepresents (values_of config)
-            responder.server.end (new_end roles.Server (values_of config))) }
+            responder.server.end (new_end_log roles.Server (values_of config))) }
         ensures requests { IfOk result (λ responder. responder.requests.kept.entries ≡ []) }
         ensures answered { IfOk result (λ responder. responder.answered ≡ 0) }
         ensures alone { IfOk result (λ responder. IsServingAlone (values_of config) responder
-            (new_end roles.Server (values_of config))) }
+            (new_end_log roles.Server (values_of config))) }
         ensures err { IfErr result (λ error. error ≡ LinkError.Memory) }
     {
         let Ok(server) = Server::new(alloc, config) else {

@@ -14,13 +14,16 @@ use std::alloc::Global;
 
 // contract: engines (own) A request that is whole is answered once, by method, path and body
 // contract: engines (own) An answer to HEAD has neither body nor content-length
+// contract: engines (own) Over a link credit is returned and what could be sent is sent
 // contract: engines (own) A request of more than 1,048,576 octets is ENHANCE_YOUR_CALM
 // rule: engines (own) N1 comes exactly where a call of the link has failed
 // contract: engines (own) N2 has the code with which the connection failed; memory is N3
 /// Serves a connection until its input ends: answers each whole request with its method, a space,
 /// its path, a line end and its body, and answers how many requests were answered. An answer to
 /// HEAD has neither body nor `content-length`. A stream whose request has a body of more than
-/// 1,048,576 octets is reset with ENHANCE_YOUR_CALM.
+/// 1,048,576 octets is reset with ENHANCE_YOUR_CALM. Where the input ends, the credit of the
+/// connection was returned and each answer was sent whole; where it ends too early, all that was
+/// owed was given back, and nothing that waits could go.
 ///
 /// # Errors
 ///

@@ -21,27 +21,27 @@ use Rattle.h2_config.specs.declared.config.Config.{Config}
 use Rattle.h2_config.specs.ConfigValues.{values_of}
 use Rattle.h2_conn.specs.declared.conn.Conn.{Conn}
 use Rattle.h2_conn.specs.Conn.{ConnRepresents}
-use Rattle.h2_events.specs.Replayer.{first_values, EndReplays, TakesPiece, joined}
+use Rattle.h2_events.specs.Replayer.{first_values, EndReplays, HandsPiece, joined_pieces}
 use Rattle.h2_events.specs.Report.{IsReplayOf, TakesInput, FailsInInput, ReplayReports}
-use Rattle.h2_events.specs.Report.{ReplayReportsOctets, status_of}
+use Rattle.h2_events.specs.Report.{ReplayReportsOctets, replay_status}
 use Rattle.h2_end_laws.proofs.ReplayedLogs.{adds_all as turns_added}
 
 -- The connection has failed with the code of a fault that is met in them, and with none otherwise.
 failed_after : (log after : Log) (octets : List ℕ) (fault : Option Code)
     → TakesAll log octets fault after → after.failed ≡ fault
 failed_after log after _ _ (is_done octets may) =
-    let (prefix, unused, joined, much, input, reported, up) =
+    let (prefix, unused, joined_pieces, much, input, reported, up) =
     log_after_take log after octets _ may in up
 failed_after log after _ _ (goes_on {between = between} octets count event fault may more others) =
     failed_after between after (drop count octets) fault others
 failed_after log after _ _ (has_fault octets code may) =
-    let (prefix, unused, joined, input, reported, failed) =
+    let (prefix, unused, joined_pieces, input, reported, failed) =
     log_after_take log after octets _ may in failed
 
 -- a replay of pieces with one more is one of all of them
 taken_after : (role : Role) (pieces : List (List ℕ)) (old new : Conn) (piece : List ℕ)
-    (fault : Option Code) → EndReplays role pieces old → TakesPiece old piece fault new
-    → (log : Log) × IsReplayOf role (joined pieces ++ piece) log
+    (fault : Option Code) → EndReplays role pieces old → HandsPiece old piece fault new
+    → (log : Log) × IsReplayOf role (joined_pieces pieces ++ piece) log
     × (log.failed ≡ fault)
 unfolding octets_of_acts
 taken_after role pieces old new piece fault before takes_piece =
@@ -85,7 +85,7 @@ replays_none role conn represents =
 
 -- a piece more
 pub replays_more : (role : Role) (pieces : List (List ℕ)) (old new : Conn) (piece : List ℕ)
-    → EndReplays role pieces old → TakesPiece old piece None new
+    → EndReplays role pieces old → HandsPiece old piece None new
     → EndReplays role (piece ∷ pieces) new
 replays_more role pieces old new piece before takes_piece =
     let (after, all, represents) = takes_piece first_values before.log before.represents in
@@ -100,7 +100,7 @@ replays_more role pieces old new piece before takes_piece =
 
 -- what an end that hasn't failed reports of the octets of its pieces
 pub takes_input : (role : Role) (pieces : List (List ℕ)) (conn : Conn) → EndReplays role pieces conn
-    → TakesInput role (joined pieces)
+    → TakesInput role (joined_pieces pieces)
 takes_input role pieces conn now =
     record {
       log = now.log;
@@ -111,13 +111,13 @@ takes_input role pieces conn now =
 -- what an end that fails in a piece reports of the octets, whatever follows
 pub fails_in_input : (role : Role) (pieces : List (List ℕ)) (old new : Conn)
     (piece more : List ℕ) (code : Code) → EndReplays role pieces old
-    → TakesPiece old piece (Some code) new → code ≢ InternalError
-    → FailsInInput role ((joined pieces ++ piece) ++ more) code
+    → HandsPiece old piece (Some code) new → code ≢ InternalError
+    → FailsInInput role ((joined_pieces pieces ++ piece) ++ more) code
 fails_in_input role pieces old new piece more code before takes_piece theirs =
     let (log, replay, failed) = taken_after role pieces old new piece (Some code) before takes_piece
     in
     record {
-      taken = joined pieces ++ piece;
+      taken = joined_pieces pieces ++ piece;
       unread = more;
       split = refl;
       log = log;
@@ -129,22 +129,24 @@ fails_in_input role pieces old new piece more code before takes_piece theirs =
 -- at the end of the input
 pub end_reports : (role : Role) (pieces : List (List ℕ)) (conn : Conn)
     (before mid after : Option (List ℕ)) (buffer : List ℕ) (count : ℕ)
-    → Consumes before mid (joined pieces) → Consumes mid after (take count buffer) → count ≡ 0
+    → Consumes before mid (joined_pieces pieces) → Consumes mid after (take count buffer)
+    → count ≡ 0
     → IsAtEnd after → EndReplays role pieces conn
     → IfSome before (λ octets. ReplayReports role octets None)
 end_reports role pieces conn before mid after buffer count first none zero end now =
-    let all : Consumes before after (joined pieces) =
-    subst (Consumes before after) (append-nil (joined pieces))
-    (Consumes-trans before mid after (joined pieces) [] first
+    let all : Consumes before after (joined_pieces pieces) =
+    subst (Consumes before after) (append-nil (joined_pieces pieces))
+    (Consumes-trans before mid after (joined_pieces pieces) [] first
     (subst (λ (n : ℕ). Consumes mid after (take n buffer)) zero none)) in
-    Consumes-whole before after (joined pieces) (λ octets. ReplayReports role octets None) all end
+    Consumes-whole before after (joined_pieces pieces)
+    (λ octets. ReplayReports role octets None) all end
     (takes_input role pieces conn now)
 
 -- where the connection fails in a piece
 pub fault_reports : (role : Role) (pieces : List (List ℕ)) (old new : Conn)
     (before after : Option (List ℕ)) (piece : List ℕ) (code : Code)
-    → Consumes before after (joined pieces ++ piece) → EndReplays role pieces old
-    → TakesPiece old piece (Some code) new → code ≢ InternalError
+    → Consumes before after (joined_pieces pieces ++ piece) → EndReplays role pieces old
+    → HandsPiece old piece (Some code) new → code ≢ InternalError
     → IfSome before (λ octets. ReplayReports role octets (Some code))
 fault_reports role pieces old new None after piece code read now takes_piece theirs = tt
 fault_reports role pieces old new (Some all) None piece code read now takes_piece theirs =
@@ -155,7 +157,7 @@ fault_reports role pieces old new (Some all) (Some left) piece code read now tak
 
 -- the status reports what came of the octets
 pub status_reports : (role : Role) (octets : List ℕ) (fault : Option Code)
-    → ReplayReports role octets fault → ReplayReportsOctets role octets (status_of fault)
+    → ReplayReports role octets fault → ReplayReportsOctets role octets (replay_status fault)
 status_reports role octets None reports = reports
 status_reports role octets (Some code) reports = (code, reports)
 
@@ -178,14 +180,14 @@ new_replays role config (Ok conn) (table, window, streams, frame) represents =
 
 -- one piece that was handed to a new end
 pub piece_reports : (role : Role) (old new : Conn) (octets : List ℕ) → EndReplays role [] old
-    → TakesPiece old octets None new → ReplayReports role octets None
+    → HandsPiece old octets None new → ReplayReports role octets None
 unfolding octets_of_acts
 piece_reports role old new octets before takes_piece =
     takes_input role (octets ∷ []) new (replays_more role [] old new octets before takes_piece)
 
 -- one piece in which a new end fails
 pub piece_fails : (role : Role) (old new : Conn) (octets : List ℕ) (code : Code)
-    → EndReplays role [] old → TakesPiece old octets (Some code) new → code ≢ InternalError
+    → EndReplays role [] old → HandsPiece old octets (Some code) new → code ≢ InternalError
     → ReplayReports role octets (Some code)
 unfolding octets_of_acts
 piece_fails role old new octets code before takes_piece theirs =
@@ -195,7 +197,7 @@ piece_fails role old new octets code before takes_piece theirs =
 -- the status of a result reports what came of the octets
 pub result_reports : {E : Type 0} (role : Role) (octets : List ℕ) (fault : Option Code)
     (result : Result Shown E) → ReplayReports role octets fault
-    → IfOk result (λ shown. shown.status ≡ status_of fault)
+    → IfOk result (λ shown. shown.status ≡ replay_status fault)
     → IfOk result (λ shown. ReplayReportsOctets role octets shown.status)
 result_reports role octets fault (Err error) reports is = tt
 result_reports role octets fault (Ok shown) reports is =
@@ -205,7 +207,7 @@ result_reports role octets fault (Ok shown) reports is =
 pub result_reports_all : {E : Type 0} (role : Role) (before : Option (List ℕ))
     (fault : Option Code) (result : Result Shown E)
     → IfSome before (λ octets. ReplayReports role octets fault)
-    → IfOk result (λ shown. shown.status ≡ status_of fault)
+    → IfOk result (λ shown. shown.status ≡ replay_status fault)
     → IfOk result (λ shown. IfSome before
     (λ octets. ReplayReportsOctets role octets shown.status))
 result_reports_all {E = E} role before fault (Err error) reports is = tt

@@ -16,7 +16,7 @@ use Rattle.h2_conn.specs.Conn.{ConnTakes}
 use Rattle.h2_conn.specs.Events.{event_value}
 use Rattle.h2_events.specs.declared.replayer.ReplayError.{ReplayError}
 use Rattle.h2_events.specs.declared.replayer.ReplayError.TheVariants as errors
-use Rattle.h2_events.specs.Replayer.{TakesPiece, TakesPrefix, ReportsCode, ReplayErrorReports}
+use Rattle.h2_events.specs.Replayer.{HandsPiece, TakesPrefix, ReportsCode, ReplayErrorReports}
 
 -- what is left of a piece
 abbrev pub left : List ℕ → ℕ → List ℕ
@@ -75,7 +75,7 @@ goes_on_inside old now new piece done taken within unused more before call =
 -- once the piece was used and nothing is reported
 pub all_taken : (old now new : Conn) (piece : List ℕ) (done : ℕ) (taken : Taken)
     → TakesPrefix old piece done now → ConnTakes now (left piece done) (Ok taken) new
-    → taken.event ≡ None → done + taken.used ≡ length piece → TakesPiece old piece None new
+    → taken.event ≡ None → done + taken.used ≡ length piece → HandsPiece old piece None new
 all_taken old now new piece done taken before call silent whole values log represents =
     let (between, same, continues) = before values log represents in
     let (next, may, after_it) = call values between same in

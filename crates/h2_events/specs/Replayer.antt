@@ -19,8 +19,8 @@ first_values =
     record { table_limit = 4096; initial_window = 65535; max_streams = 100; max_frame = 16384 }
 
 -- the octets of pieces, of which the newest stands first
-abbrev pub joined : List (List ℕ) → List ℕ
-joined pieces = octets_of_acts (map Take pieces)
+abbrev pub joined_pieces : List (List ℕ) → List ℕ
+joined_pieces pieces = octets_of_acts (map Take pieces)
 
 -- The end was new, took these pieces, the newest first, and no other call was made; and it hasn't
 -- failed.
@@ -34,8 +34,8 @@ pub record EndReplays (role : Role) (pieces : List (List ℕ)) (conn : Conn) : T
 -- Whatever log it represents: `take` was called until the piece was used and nothing more was
 -- reported, or until the connection failed with a code.
 -- rule: replay (own) The status is 0 only where an end took the whole input
-abbrev pub TakesPiece : Conn → List ℕ → Option Code → Conn → Type 0
-TakesPiece old piece fault new =
+abbrev pub HandsPiece : Conn → List ℕ → Option Code → Conn → Type 0
+HandsPiece old piece fault new =
     (values : Values) (log : Log) → ConnRepresents values old log
     → (after : Log) × TakesAll log piece fault after × ConnRepresents values new after
 
@@ -61,5 +61,5 @@ IsFailed (Failed failure) = failure ≢ failures.BadHex
 -- what an error of handing a piece to an end says of the end; a failure says nothing of it
 abbrev pub ReplayErrorReports : Conn → List ℕ → ReplayError → Conn → Type 0
 ReplayErrorReports old piece (Fault code) new =
-    TakesPiece old piece (Some code) new × (code ≢ InternalError)
+    HandsPiece old piece (Some code) new × (code ≢ InternalError)
 ReplayErrorReports old piece (Failed failure) new = failure ≢ failures.BadHex

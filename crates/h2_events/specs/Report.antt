@@ -11,7 +11,7 @@ use Rattle.h2_log.specs.Acts.{Turn}
 use Rattle.h2_log.specs.Log.{Log}
 use Rattle.h2_end_laws.specs.Replays.{Take, IsReplay}
 use Rattle.h2_events.specs.declared.options.ReplayOptions.{ReplayOptions}
-use Rattle.h2_events.specs.Replayer.{first_values, joined}
+use Rattle.h2_events.specs.Replayer.{first_values, joined_pieces}
 
 -- The octets were handed to `take` of a new end in these pieces, the newest first, and no other
 -- call was made; and this is the end's log then.
@@ -20,7 +20,7 @@ pub record IsReplayOf (role : Role) (octets : List ℕ) (log : Log) : Type 0 whe
   pub pieces : List (List ℕ)
   pub turns : List Turn
   pub replay : IsReplay role first_values (map Take pieces) log turns
-  pub all : joined pieces ≡ octets
+  pub all : joined_pieces pieces ≡ octets
 
 -- The end took all of the octets, and hasn't failed.
 -- rule: replay (own) The status is 0 only where an end took the whole input
@@ -48,9 +48,9 @@ ReplayReports role octets (Some code) = FailsInInput role octets code
 
 -- the status, by the code with which the connection failed
 -- rule: replay (own) The status is 1 only where that end has failed
-abbrev pub status_of : Option Code → Status
-status_of None = statuses.Good
-status_of (Some code) = statuses.Fault
+abbrev pub replay_status : Option Code → Status
+replay_status None = statuses.Good
+replay_status (Some code) = statuses.Fault
 
 -- What the status reports of the octets.
 abbrev pub ReplayReportsOctets : Role → List ℕ → Status → Type 0

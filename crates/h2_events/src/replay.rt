@@ -1,14 +1,14 @@
 //! An input, replayed to its end.
 
 ghost use Rattle.std.specs.Prelude.{◌≡◌, ◌≢◌, ◌<◌, ◌++◌, length, [], None, true, Err, codes};
-ghost use Rattle.std.specs.Prelude.{IsOk, IfOk, OnOk, IfErr, IfSome};
+ghost use Rattle.std.specs.Prelude.{IfOk, OnOk, IfErr, IfSome};
 ghost use Rattle.std.specs.Io.Buffered.{writer_buffer};
 ghost use Rattle.std.specs.Io.KnownBytes.{Appends};
 ghost use Rattle.h2_frame.specs.Codes.{name_of};
 ghost use Rattle.h2_show.specs.Hexadecimal.{IsBadHex};
-ghost use Rattle.h2_events.specs.Replayer.{EndReplays, TakesPiece, ReplayErrorReports};
+ghost use Rattle.h2_events.specs.Replayer.{EndReplays, HandsPiece, ReplayErrorReports};
 ghost use Rattle.h2_events.specs.Report.{ReplayReports, ReplayReportsInput, ReplayReportsOctets};
-ghost use Rattle.h2_events.specs.Report.{ReplayReportsText, status_of};
+ghost use Rattle.h2_events.specs.Report.{ReplayReportsText, replay_status};
 
 use crate::lines::write_out;
 use crate::opening::Opening;
@@ -16,7 +16,7 @@ use crate::options::ReplayOptions;
 use crate::replayer::{ReplayError, new_end, take_piece};
 use h2_conn::{Conn, Role};
 use h2_frame::Code;
-use h2_show::{Failure, Hint, PIECE, Shown, Status, new_buffer, read_hex, read_some};
+use h2_show::{Failure, Hint, PIECE, Shown, Status, new_buffer, read_hex, read_next};
 use std::alloc::Global;
 use std::io::{BufWriter, Read, Write};
 
@@ -45,7 +45,8 @@ struct Ended {
 ///
 /// [`Failure::Device`] where a read or a write failed, [`Failure::Memory`] when out of memory, and
 /// [`Failure::BadHex`] where the input isn't the hexadecimal text that was announced. What was
-/// printed by then is written in any case, unless the writer itself fails.
+/// printed by then is written in any case, unless the writer itself fails: where it does so at the
+/// end, that is [`Failure::Device`], whatever its error.
 pub fn replay_input<R: Read, W: Write>(
     alloc: Global,
     options: ReplayOptions,
@@ -71,11 +72,14 @@ fn replay_lines<R: Read, W: Write + Drop>(
     input: &mut R,
     lines: &mut BufWriter<W>,
 ) -> Result<Shown, Failure>
+    requires { writer_buffer lines.old ≡ [] }
     ensures reports { IfOk result (λ shown. IfSome (R.remaining input.old)
         (λ given. ReplayReportsInput options given shown.status)) }
     ensures bad_hex { result ≡ Err Failure.BadHex
         → (options.hex ≡ true) × IfSome (R.remaining input.old) IsBadHex }
-    ensures written { IsOk result → writer_buffer lines.new ≡ [] }
+
+    // Whatever else it ends with, what was printed is written.
+    ensures written { result ≢ Err Failure.Device → writer_buffer lines.new ≡ [] }
 {
     let shown = if options.hex {
         replay_hex(alloc, options.role, input, lines)
@@ -85,7 +89,9 @@ fn replay_lines<R: Read, W: Write + Drop>(
     if let Err(Failure::Device) = shown {
         return shown;
     }
-    lines.flush()?;
+    if lines.flush().is_err() {
+        return Err(Failure::Device);
+    }
     shown
 }
 
@@ -96,6 +102,7 @@ fn replay_octets<R: Read, W: Write + Drop>(
     input: &mut R,
     lines: &mut BufWriter<W>,
 ) -> Result<Shown, Failure>
+    requires { writer_buffer lines.old ≡ [] }
     ensures reports { IfOk result (λ shown. IfSome (R.remaining input.old)
         (λ octets. ReplayReportsOctets role octets shown.status)) }
     ensures bad_hex { result ≢ Err Failure.BadHex }
@@ -118,6 +125,7 @@ fn replay_pieces<R: Read, W: Write + Drop>(
     lines: &mut BufWriter<W>,
 ) -> Result<Ended, Failure>
     requires room { 0 < length buffer.old }
+    requires written { writer_buffer lines.old ≡ [] }
     requires starts { EndReplays role [] conn.old }
     ensures reports { IfOk result (λ ended. IfSome (R.remaining input.old)
         (λ octets. ReplayReports role octets ended.fault)) }
@@ -125,7 +133,7 @@ fn replay_pieces<R: Read, W: Write + Drop>(
 {
     let mut opening = Opening::new(role);
     for _ in 0..u64::MAX {
-        let count = read_some(input, buffer)?;
+        let count = read_next(input, buffer, lines)?;
         if count == 0 {
             return Ok(Ended {
                 fault: None,
@@ -154,7 +162,7 @@ fn write_piece<W: Write + Drop>(
     piece: &[u8],
     lines: &mut BufWriter<W>,
 ) -> Result<(), ReplayError>
-    ensures ok { OnOk result (TakesPiece conn.old piece.now None conn.new) }
+    ensures ok { OnOk result (HandsPiece conn.old piece.now None conn.new) }
     ensures err { IfErr result (λ error. ReplayErrorReports conn.old piece.now error conn.new) }
     ensures written { OnOk result (writer_buffer lines.new ≡ []) }
 {
@@ -210,7 +218,7 @@ fn finish<W: Write>(
     ended: Ended,
     out: &mut W,
 ) -> Result<Shown, Failure>
-    ensures status { IfOk result (λ shown. shown.status ≡ status_of ended.fault) }
+    ensures status { IfOk result (λ shown. shown.status ≡ replay_status ended.fault) }
     ensures bad_hex { result ≢ Err Failure.BadHex }
 {
     let status = match ended.fault {

@@ -1,7 +1,7 @@
 //! One end, and the lines of what it reports.
 
 ghost use Rattle.std.specs.Prelude.{[], None, OnOk, IfOk, IfErr};
-ghost use Rattle.h2_events.specs.Replayer.{EndReplays, TakesPiece, ReportsCode, ReplayErrorReports};
+ghost use Rattle.h2_events.specs.Replayer.{EndReplays, HandsPiece, ReportsCode, ReplayErrorReports};
 ghost use Rattle.h2_events.specs.Replayer.{IsFailed};
 
 use crate::lines::write_event;
@@ -68,7 +68,7 @@ pub(crate) fn take_piece<W: Write>(
     piece: &[u8],
     out: &mut W,
 ) -> Result<(), ReplayError>
-    ensures ok { OnOk result (TakesPiece conn.old piece.now None conn.new) }
+    ensures ok { OnOk result (HandsPiece conn.old piece.now None conn.new) }
     ensures err { IfErr result (λ error. ReplayErrorReports conn.old piece.now error conn.new) }
 {
     let mut done = 0;

@@ -9,7 +9,8 @@ use Rattle.h2_joined.specs.declared.act.Side.{Side}
 use Rattle.h2_joined.specs.declared.act.Acted.{Acted}
 use Rattle.h2_joined.specs.declared.act.Acted.TheVariants as acted
 use Rattle.h2_joined.specs.declared.joined.Joined.{Joined}
-use Rattle.h2_joined.specs.Joints.{Doing, Pumps, ReleasesAll, Calls, acted_by, acted_as, IsCall}
+use Rattle.h2_joined.specs.Joints.{Doing, Pumps, ReleasesAll, Calls, acted_by, acted_as}
+use Rattle.h2_joined.specs.Joints.{IsControlCall}
 use Rattle.h2_joined.specs.Joints.{pumps, releases_all, calls}
 use Rattle.h2_joined.specs.Kept.{MakesAct, made, end_at}
 use Rattle.h2_joined.proofs.KeptActs.{ChangesEnd, acts_on_end}
@@ -58,7 +59,7 @@ release_acts side old new result answer same changes does =
     }))
 
 pub call_acts : (side : Side) (old new : Joined) (act : Act) (answered : Answer) (answer : Acted)
-    → answer ≡ acted_as answered → IsCall act → IsTypedAct act
+    → answer ≡ acted_as answered → IsControlCall act → IsTypedAct act
     → ChangesEnd side old new → EndAnswers (end_at side old) act answered (end_at side new)
     → MakesAct old (made side (Calls act) answer) new
 call_acts side old new act answered answer same is typed changes does =

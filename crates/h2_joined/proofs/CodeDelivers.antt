@@ -24,7 +24,7 @@ use Rattle.h2_joined.specs.Joints.{delivers, delivery_fails, delivery_stops, has
 use Rattle.h2_joined.specs.Kept.{HoldsOctets, KeepsHanded, KeepsEnd, MakesAct, made, end_at}
 use Rattle.h2_joined.specs.Kept.{kept_of}
 use Rattle.h2_joined.specs.Kept.{other_side, accepted_value}
-use Rattle.h2_joined.specs.Delivering.{TakesPipe, PutsPipe, TakesOctets, IsKeptAt, EndsWithin}
+use Rattle.h2_joined.specs.Delivering.{TakesPipe, PutsPipe, TakesDelivery, IsKeptAt, EndsWithin}
 use Rattle.h2_joined.specs.Delivering.{delivery_of}
 use Rattle.h2_joined.proofs.KeptActs.{acts_by, acts_on_end, same_kept}
 
@@ -101,7 +101,7 @@ pub record DeliversAt (side : Side) (old : Joined) (count : ℕ) (octets : List 
   pub up : HasFailed side old None
   pub out : TakesPipe side old pipe before
   pub first : (all : List ℕ) → HoldsOctets pipe all → octets ≡ take count all
-  pub takes : TakesOctets side before octets of after
+  pub takes : TakesDelivery side before octets of after
   pub rest : (all : List ℕ) → HoldsOctets pipe all
       → HoldsOctets left (drop (used_by of (length octets)) all)
   pub back : PutsPipe side after left (unfinished_by of) new

@@ -3,7 +3,7 @@ use Rattle.std.proofs.Common.{◌≡◌, ℕ, ◌+◌, ◌<◌, ◌^◌, List, [
 use Rattle.std.proofs.Common.{Result, Ok, Err, IfOk, refl, sym, ap, ◌∙◌, subst, append_assoc}
 use Rattle.std.proofs.Common.{append-nil, arith}
 use Rattle.std.specs.Result.{OnErr}
-use Rattle.std.proofs.lemmas.List.{length-take, drop_all}
+use Rattle.std.proofs.lemmas.List.{length-take, length-append, drop_all}
 use Rattle.h2_log.specs.declared.refusal.Refusal.{Refusal}
 use Rattle.h2_log.specs.Acts.{Values, IsTypedAct, PutOut, Count, Refused}
 use Rattle.h2_log.specs.Log.{Log}
@@ -33,6 +33,7 @@ holds_more old new octets more pipes holds =
       items = pipes.items ∙ ap (λ (all : List ℕ). all ++ more) holds.items
           ∙ append_assoc holds.delivered octets more;
       count = pipes.used ∙ holds.count;
+      half = omega (arith, holds.half, length-append octets more);
     }
 
 -- The call was made at one end, and what it gave out is on the pipe to the other.

@@ -11,7 +11,7 @@ use Rattle.h2_joined.specs.declared.octets.Delivered.TheVariants as delivered
 use Rattle.h2_joined.specs.declared.joined.Joined.{Joined}
 use Rattle.h2_joined.specs.Joints.{Delivery, IsDelivered, Whole, Fails, Stops, is_whole, goes_on}
 use Rattle.h2_joined.specs.Joints.{fails, stops, most_calls}
-use Rattle.h2_joined.specs.Delivering.{ChangesOnly, IsKeptAt, TakesNext, TakesOctets}
+use Rattle.h2_joined.specs.Delivering.{ChangesOnly, IsKeptAt, TakesNext, TakesDelivery}
 use Rattle.h2_joined.proofs.CodeTakes.{both_only}
 
 -- So many octets were delivered so far, by so many calls: the rest goes on from there.
@@ -80,7 +80,7 @@ module _ (side : Side) (old now new : Joined) (octets : List ℕ) (calls taken :
       }
 
   pub takes_whole : TakesNext side now (drop taken octets) nexts.Whole new
-      → TakesOctets side old octets delivered.Whole new
+      → TakesDelivery side old octets delivered.Whole new
   takes_whole next =
       record {
         within = tt;
@@ -99,7 +99,7 @@ module _ (side : Side) (old now new : Joined) (octets : List ℕ) (calls taken :
 
   pub takes_failed : (code : Code)
       → TakesNext side now (drop taken octets) (nexts.Failed code) new
-      → TakesOctets side old octets (delivered.Failed code) new
+      → TakesDelivery side old octets (delivered.Failed code) new
   takes_failed code next =
       record {
         within = tt;
@@ -120,7 +120,7 @@ module _ (side : Side) (old now new : Joined) (octets : List ℕ) (calls taken :
 pub takes_stopped : (side : Side) (old now new : Joined) (octets : List ℕ) (calls taken : ℕ)
     → TakesSoFar side old octets calls taken now
     → TakesNext side now (drop taken octets) nexts.Stopped new
-    → TakesOctets side old octets (delivered.Stopped taken) new
+    → TakesDelivery side old octets (delivered.Stopped taken) new
 takes_stopped side old now new octets calls taken sofar next =
     record {
       within = sofar.within;
@@ -142,7 +142,7 @@ takes_stopped side old now new octets calls taken sofar next =
 -- No call is left.
 pub takes_no_more : (side : Side) (old now : Joined) (octets : List ℕ) (calls taken : ℕ)
     → TakesSoFar side old octets calls taken now
-    → TakesOctets side old octets (delivered.Stopped taken) now
+    → TakesDelivery side old octets (delivered.Stopped taken) now
 takes_no_more side old now octets calls taken sofar =
     record {
       within = sofar.within;

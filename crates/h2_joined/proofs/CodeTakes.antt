@@ -19,7 +19,7 @@ use Rattle.h2_joined.specs.declared.octets.Taking.{Taking}
 use Rattle.h2_joined.specs.declared.octets.Taking.TheVariants as takings
 use Rattle.h2_joined.specs.declared.octets.Next.TheVariants as nexts
 use Rattle.h2_joined.specs.declared.joined.Joined.{Joined}
-use Rattle.h2_joined.specs.Stored.{AreStored, Fits, HasRoom, KeepsMore, events_of}
+use Rattle.h2_joined.specs.Stored.{AreStored, Fits, HasRoomForEvent, KeepsMore, events_kept}
 use Rattle.h2_joined.specs.Kept.{KeepsHanded, end_at, kept_of}
 use Rattle.h2_joined.specs.Delivering.{TakesOnce, ChangesOnly, IsKeptAt, IsTaken, MakesRoom}
 use Rattle.h2_joined.specs.Delivering.{TakesNext, TookAt}
@@ -39,7 +39,7 @@ keeps_one_more : (old new : Store) (one : Handed) (handed now : List Handed)
 keeps_one_more old new one handed now more says keeps =
     record {
       same = says ∙ ap (λ (all : List Handed). one ∷ all) keeps.same
-          ∙ sym (reverse-append (events_of old) (one ∷ []))
+          ∙ sym (reverse-append (events_kept old) (one ∷ []))
           ∙ ap (λ (events : List Handed). reverse events) (sym more.more);
       stored = more.stored;
     }
@@ -65,7 +65,7 @@ took_nothing old new store piece taken none takes values end represents =
 -- Where something is, that is kept.
 pub took_event : (old new : End) (store new_store : Store) (piece : List ℕ) (taken : EndTaken)
     (event : EndEvent) → taken.event ≡ Some event
-    → (HasRoom store → Fits (event_handed event) → AreStored store
+    → (HasRoomForEvent store → Fits (event_handed event) → AreStored store
     → KeepsMore store (event_handed event) new_store)
     → EndTakes old piece (Ok taken) new
     → TakesOnce old store piece (takings.Took taken.used true) new new_store

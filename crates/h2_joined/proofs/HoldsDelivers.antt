@@ -1,27 +1,17 @@
 -- What delivering octets makes of an end: call after call of `take`, until all octets are used and
 -- nothing is handed out, the connection has failed, or there is no room before a call.
-use Rattle.std.proofs.Common.{◌≡◌, ℕ, suc, List, ◌++◌, drop, length, Option}
-use Rattle.std.proofs.Common.{Some, None, refl, subst}
+use Rattle.std.proofs.Common.{◌≡◌, ℕ, suc, List, ◌++◌, drop, length}
+use Rattle.std.proofs.Common.{None, refl, subst}
 use Rattle.std.proofs.Math.Seq.{drop-length}
-use Rattle.h2_frame.specs.declared.code.Code.{Code}
-use Rattle.h2_log.specs.Log.{Log, next_unprocessed}
+use Rattle.h2_log.specs.Log.{next_unprocessed}
 use Rattle.h2_pair.proofs.StepUnprocessed.{take_reports_all}
 use Rattle.h2_ends.specs.Ends.{EndLog, EndAnswer, EndTook, EndFailed}
-use Rattle.h2_ends.specs.EndTakes.{EndMayTake, AnswersRefused, fails, hands_nothing, passes}
-use Rattle.h2_ends.specs.EndTakes.{hands_out, refuses, runs_out_of_memory}
+use Rattle.h2_ends.specs.EndTakes.{EndMayTake, fails, hands_nothing, passes}
+use Rattle.h2_ends.specs.EndTakes.{hands_out, refuses, refusal_fails, runs_out_of_memory}
+use Rattle.h2_ends.proofs.EndOrder.{KeepsOrder}
 use Rattle.h2_joined.specs.Joints as joints
-use Rattle.h2_joined.specs.Joints.{KeepsOrder, Delivery, Whole, Fails, Stops, IsDelivered}
+use Rattle.h2_joined.specs.Joints.{Delivery, Whole, Fails, Stops, IsDelivered}
 use Rattle.h2_joined.proofs.HoldsTakes.{Around, HoldsIn, FallsIn, take_leads}
-
--- Where a stream is refused, something is handed out, or the connection has failed.
-refusal_hands : (end after : EndLog) (log : Log) (count id used : ℕ) (answer : EndAnswer)
-    (failed : Option Code) → AnswersRefused end log count id answer after failed
-    → answer ≡ EndTook used None → ⊥
-unfolding AnswersRefused
-refusal_hands end after log count id used answer None answers none =
-    let one = answers.0 in cc
-refusal_hands end after log count id used answer (Some code) answers none =
-    let one = answers.0 in cc
 
 -- A call of `take` that hands out nothing leaves no stream that the peer does not process and that
 -- was not reported.
@@ -36,8 +26,11 @@ reports_all end piece answer after count (passes used event log may unread answe
 reports_all end piece answer after count
     (hands_out used event log may id part of readable answers same) none = absurd (cc)
 reports_all end piece answer after count
-    (refuses used event log may id part of stops refused answers leads) none =
-    absurd (refusal_hands end after _ used id count answer _ leads none)
+    (refuses used event log may id part of stops refused answers_it up answers same) none =
+    absurd (cc)
+reports_all end piece answer after count
+    (refusal_fails used event log may id part of stops refused answers_it code down answers same)
+    none = absurd (cc)
 reports_all end piece answer after count
     (runs_out_of_memory used id list ends log may role first readable refused answers_it answers
     same) none = absurd (cc)

@@ -5,12 +5,13 @@ use Rattle.std.proofs.lemmas.List.{take-append-drop}
 use Rattle.std.proofs.lemmas.List.Elements.{Contains-append_right}
 use Rattle.h2_log.specs.Acts.{Values}
 use Rattle.h2_ends.specs.Ends.{EndLog}
+use Rattle.h2_ends.proofs.EndOrder.{KeepsOrder}
 use Rattle.h2_joined.specs.declared.act.Side.{Side}
 use Rattle.h2_joined.specs.declared.act.Side.TheVariants.{Client, Server}
 use Rattle.h2_joined.specs.declared.act.Acted.{Acted}
 use Rattle.h2_joined.specs.declared.act.Acted.TheVariants as acted
 use Rattle.h2_joined.specs.Joints.{Delivers, Delivery, Whole, Fails, Stops, IsDelivered, JointEnd}
-use Rattle.h2_joined.specs.Joints.{KeepsOrder, Made}
+use Rattle.h2_joined.specs.Joints.{Made}
 use Rattle.h2_joined.proofs.HoldsDelivers.{delivery_leads, DeliversIn}
 use Rattle.h2_joined.proofs.HoldsTakes.{Around, HoldsIn}
 use Rattle.h2_joined.proofs.JointHolds.{JointHolds, EndHolds}

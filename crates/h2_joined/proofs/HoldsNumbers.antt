@@ -1,28 +1,28 @@
 -- The stream of which an end of a pair hears a part of a message has a number below 2^31 (RFC 9113,
 -- section 5.1.1).
 use Rattle.std.proofs.Common.{◌≡◌, ℕ, ◌<◌, ◌^◌, ◌%◌, ◌==◌, ◌&&◌, nat_le, Bool, true, false, List}
-use Rattle.std.proofs.Common.{[], ◌∷◌, ◌++◌, Some, inl, inr, refl, ap, arith}
+use Rattle.std.proofs.Common.{[], ◌∷◌, Some, inl, inr, refl, arith}
 use Rattle.std.specs.List.{AllByRecursion, list_any}
 use Rattle.std.proofs.lemmas.Bool.{both_ways, or_cases, and_parts, leb-true}
 use Rattle.h2_block.specs.Grouping.{Item, alone, block}
 use Rattle.h2_log.specs.declared.role.Role.{Role}
 use Rattle.h2_log.specs.declared.role.Role.TheVariants as roles
 use Rattle.h2_log.specs.Acts.{Values}
-use Rattle.h2_log.specs.Events.{Event, FieldsEvent, DataEvent}
+use Rattle.h2_log.specs.Events.{Event}
 use Rattle.h2_log.specs.Items.{opens_from}
 use Rattle.h2_log.specs.Limits.{max_frame_size_sent}
 use Rattle.h2_log.specs.Log.{Log}
 use Rattle.h2_log.specs.States.{is_used, openings}
 use Rattle.h2_log_laws.specs.Sending.{IsSendable}
-use Rattle.h2_end_laws.specs.Over.{used}
+use Rattle.h2_end_laws.specs.Over.{is_number_used}
 use Rattle.h2_end_laws.specs.Takes.{MayTake, Took}
-use Rattle.h2_end_laws.proofs.OverEvents.{fields_in_use, data_in_use}
 use Rattle.h2_end_laws.proofs.SendableCalls.{written_sendable}
-use Rattle.h2_message.specs.Reading.{Part, FieldsPart, OctetsPart}
+use Rattle.h2_message.specs.Reading.{Part}
 use Rattle.h2_pair.specs.Pairs.{Half}
 use Rattle.h2_pair.proofs.CarriedItems.{items_both_ways}
 use Rattle.h2_pair.proofs.PairLogs.{both_logs}
 use Rattle.h2_ends.specs.Ends.{part_of_event}
+use Rattle.h2_ends.proofs.EndOrder.{part_in_use}
 use Rattle.h2_joined.specs.declared.act.Side.{Side}
 use Rattle.h2_joined.specs.declared.act.Side.TheVariants.{Client, Server}
 use Rattle.h2_joined.proofs.HoldsSides.{IsPairAt, has_role_at}
@@ -50,7 +50,7 @@ was_opened role i received sent was = (and_parts _ _ was).1
 -- At either end of a pair: a client has written what opens its streams, and a server has read it.
 used_low_at : (side : Side) (client_values server_values : Values) (one other : Half)
     (calm : Type 0) (i : ℕ) → IsPairAt side client_values server_values one other calm
-    → used one.log i ≡ true → i < 2 ^ 31
+    → is_number_used one.log i ≡ true → i < 2 ^ 31
 used_low_at Client client_values server_values one other calm i pair was =
     let role = has_role_at Client client_values server_values one other calm pair in
     let opened = was_opened one.log.role i one.log.received one.log.sent was in
@@ -67,28 +67,6 @@ used_low_at Server client_values server_values one other calm i pair was =
     (all_later (IsSendable max_frame_size_sent) way.0 one.log.received (rw way.1 at all))
     (rw role at opened)
 
--- A stream and its part are the same where they are found as the same.
-pub same_part : (one other : ℕ × (Part × Bool)) → Some one ≡ Some other
-    → (one.0 ≡ other.0) × (one.1 ≡ other.1)
-same_part one other is =
-    let same : one ≡ other = cc in (
-      ap (λ (found : ℕ × (Part × Bool)). found.0) same,
-      ap (λ (found : ℕ × (Part × Bool)). found.1) same,
-    )
-
--- The stream of a part of a message was used.
-part_used : (before after : Log) (piece : List ℕ) (count : ℕ) (event : Event) (id : ℕ)
-    (part : Part × Bool) → MayTake before piece (Took count (Some event)) after
-    → part_of_event event ≡ Some (id, part) → used after id ≡ true
-unfolding part_of_event
-part_used before after piece count (FieldsEvent stream list end) id part may of =
-    let same = same_part (stream, (FieldsPart list, end)) (id, part) of in
-    rw (← same.0) (fields_in_use before after piece count stream list end may).1
-part_used before after piece count (DataEvent stream octets flow end) id part may of =
-    let same = same_part (stream, (OctetsPart octets, end)) (id, part) of in
-    rw (← same.0) (data_in_use before after piece count stream octets flow end may).1
-part_used before after piece count event id part may of = absurd (cc)
-
 -- So its number is low.
 pub part_low_at : (side : Side) (client_values server_values : Values) (one other : Half)
     (calm : Type 0) (before : Log) (piece : List ℕ) (count : ℕ) (event : Event) (id : ℕ)
@@ -98,4 +76,4 @@ pub part_low_at : (side : Side) (client_values server_values : Values) (one othe
 part_low_at side client_values server_values one other calm before piece count event id part pair
     may of =
     used_low_at side client_values server_values one other calm id pair
-    (part_used before one.log piece count event id part may of)
+    (part_in_use before one.log piece count event id part may of).1

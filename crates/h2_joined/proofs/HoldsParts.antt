@@ -1,40 +1,27 @@
 -- What holds of what an end hands out goes on holding as its connection reports more.
-use Rattle.std.proofs.Common.{◌≡◌, ◌≢◌, ◌⊎◌, ℕ, Bool, List, [], ◌∷◌}
-use Rattle.std.proofs.Common.{◌++◌, Option, Some, None, inl, inr, refl, sym, ap, ◌∙◌, arith}
-use Rattle.std.proofs.Common.{append-nil, append_assoc}
+use Rattle.std.proofs.Common.{◌≡◌, ◌⊎◌, ℕ, Bool, List, [], ◌∷◌, ◌++◌, Some, None, inl, inr, refl}
+use Rattle.std.proofs.Common.{sym, ap, ◌∙◌, arith, append-nil}
 use Rattle.std.specs.List.{AllByRecursion, Contains}
-use Rattle.std.proofs.lemmas.Bool.{cases_eq, eq-eqb, ne_eqb}
+use Rattle.std.proofs.lemmas.Bool.{cases_eq}
 use Rattle.std.proofs.lemmas.List.Elements.{Contains-append_right}
 use Rattle.hpack.specs.declared.types.field.Field.{Field}
 use Rattle.h2_log.specs.Events.{Event, FieldsEvent, DataEvent}
 use Rattle.h2_log.specs.Log.{Log}
-use Rattle.h2_message.specs.declared.reading.Phase.{Phase}
-use Rattle.h2_message.specs.declared.reading.Phase.TheVariants.{AtHead}
 use Rattle.h2_message.specs.declared.reading.Place.{Place}
 use Rattle.h2_message.specs.declared.reading.Place.TheVariants as places
 use Rattle.h2_message.specs.declared.reading.Reads.{Reads}
 use Rattle.h2_message.specs.Reading.{Part, FieldsPart, OctetsPart, IsReadable}
-use Rattle.h2_message.specs.Phases.{asks_head_first, phase_after_all, place_after}
-use Rattle.h2_message.proofs.PhaseWhole.{not_readable}
+use Rattle.h2_message.specs.Phases.{place_after}
 use Rattle.h2_pair.specs.Tokens.{Token, tokens_of_event, tokens_heard, IsNoEmptyData}
 use Rattle.h2_pair.proofs.FaultsInvariant.{first_or_later}
 use Rattle.h2_ends.specs.Ends.{EndLog, Handed, Passed, IsNoEmptyPart, part_on, parts_on}
 use Rattle.h2_ends.specs.Ends.{part_of_event, tokens_of_part, tokens_of_parts, handed_as, handed_at}
 use Rattle.h2_ends.specs.EndTakes.{end_with_log, end_with_handed}
-use Rattle.h2_ends.proofs.EndParts.{handed_here, handed_elsewhere}
+use Rattle.h2_ends.proofs.EndParts.{handed_elsewhere, same_part, no_tokens, part_tokens}
+use Rattle.h2_ends.proofs.EndParts.{other_tokens, readable_here, tokens_with}
 use Rattle.h2_joined.specs.declared.act.Side.{Side}
 use Rattle.h2_joined.specs.Joints.{Made}
-use Rattle.h2_joined.proofs.HoldsNumbers.{same_part}
 use Rattle.h2_joined.proofs.JointHolds.{EndHolds}
-
--- The tokens of parts with one more.
-pub tokens_with : (parts : List (Part × Bool)) (part : Part × Bool)
-    → tokens_of_parts (parts ++ part ∷ []) ≡ tokens_of_parts parts ++ tokens_of_part part
-unfolding tokens_of_parts
-tokens_with [] part = append-nil (tokens_of_part part)
-tokens_with (first ∷ parts) part =
-    ap (λ (tokens : List Token). tokens_of_part first ++ tokens) (tokens_with parts part)
-    ∙ sym (append_assoc (tokens_of_part first) (tokens_of_parts parts) (tokens_of_part part))
 
 -- All parts with one more say something.
 pub says_with : (parts : List (Part × Bool)) (part : Part × Bool)
@@ -119,13 +106,6 @@ holds_none made side end log holds same calls =
       asked = λ id code was. holds.asked id code (rw calls at was);
     }
 
--- What is no part of a message has no tokens.
-no_tokens : (i : ℕ) (event : Event) → part_of_event event ≡ None → tokens_of_event i event ≡ []
-unfolding part_of_event tokens_of_event
-no_tokens i (FieldsEvent id list end) none = absurd (cc)
-no_tokens i (DataEvent id octets flow end) none = absurd (cc)
-no_tokens i event none = refl
-
 passes_it : (i : ℕ) (event : Event) → part_of_event event ≡ None
     → HandsAs i event (Passed event)
 unfolding part_on
@@ -140,29 +120,6 @@ holds_passed made side end event log holds more calls none =
     holds_more made side end event (Passed event) log holds more calls
     (λ i. passes_it i event none) (record { passed = λ other is. cc; passes = λ no. refl })
 
--- The tokens of a part are those of its event, and on another stream there are none.
-pub part_tokens : (event : Event) (id : ℕ) (part : Part × Bool)
-    → part_of_event event ≡ Some (id, part) → tokens_of_event id event ≡ tokens_of_part part
-unfolding part_of_event tokens_of_event tokens_of_part
-part_tokens (FieldsEvent stream list end) id part of =
-    let same = same_part (stream, (FieldsPart list, end)) (id, part) of in
-    rw (← same.0, ← same.1, eq-eqb stream stream refl) refl
-part_tokens (DataEvent stream octets flow end) id part of =
-    let same = same_part (stream, (OctetsPart octets, end)) (id, part) of in
-    rw (← same.0, ← same.1, eq-eqb stream stream refl) refl
-part_tokens event id part of = absurd (cc)
-
-other_tokens : (event : Event) (i id : ℕ) (part : Part × Bool)
-    → part_of_event event ≡ Some (id, part) → i ≢ id → tokens_of_event i event ≡ []
-unfolding part_of_event tokens_of_event
-other_tokens (FieldsEvent stream list end) i id part of other =
-    let same = same_part (stream, (FieldsPart list, end)) (id, part) of in
-    rw (ne_eqb stream i (λ here. other (sym here ∙ same.0))) refl
-other_tokens (DataEvent stream octets flow end) i id part of other =
-    let same = same_part (stream, (OctetsPart octets, end)) (id, part) of in
-    rw (ne_eqb stream i (λ here. other (sym here ∙ same.0))) refl
-other_tokens event i id part of other = absurd (cc)
-
 -- It says something where its event does.
 pub part_says : (event : Event) (id : ℕ) (part : Part × Bool)
     → part_of_event event ≡ Some (id, part) → IsNoEmptyData event → IsNoEmptyPart part
@@ -174,29 +131,6 @@ part_says (DataEvent stream octets flow end) id part of some =
     let same = same_part (stream, (OctetsPart octets, end)) (id, part) of in
     rw (← same.1) some
 part_says event id part of some = absurd (cc)
-
--- What can be read has a phase, and so is handed out as the part that it is.
-has_phase : (found : Option Phase) → found ≢ None → (phase : Phase) × (found ≡ Some phase)
-has_phase None some = absurd (some refl)
-has_phase (Some phase) some = (phase, refl)
-
-readable_here : (reads : Reads) (parts : List (Part × Bool)) (id : ℕ) (part : Part × Bool)
-    → IsReadable reads (parts ++ part ∷ [])
-    → part_on id (handed_as reads parts id part) ≡ part ∷ []
-readable_here reads parts id part readable =
-    let all = parts ++ part ∷ [] in
-    let found = has_phase (phase_after_all reads (Some AtHead) all)
-    (λ none. not_readable reads all none readable) in
-    handed_here reads parts id part (record {
-      reads = reads;
-      phase = found.0;
-      asks_head = asks_head_first all;
-    }) (record {
-      reads_is = refl;
-      phase = found.1;
-      readable = readable;
-      asks_head = λ request. refl;
-    })
 
 -- A part of a message isn't passed on.
 place_unpassed : (place : Place) (id : ℕ) (list : List Field) (end : Bool) (event : Event)

@@ -21,9 +21,10 @@ use Rattle.h2_ends.specs.Represents.{SendsInOrder}
 use Rattle.h2_joined.specs.declared.act.Side.{Side}
 use Rattle.h2_joined.specs.declared.act.Side.TheVariants.{Client, Server}
 use Rattle.h2_joined.specs.Joints.{Made}
-use Rattle.h2_joined.proofs.HoldsParts.{tokens_with, says_with, part_tokens, part_says}
+use Rattle.h2_joined.proofs.HoldsParts.{says_with, part_says}
 use Rattle.h2_joined.proofs.HoldsSides.{IsPairAt, role_at, hears_at, reports_at}
 use Rattle.h2_joined.proofs.JointHolds.{EndHolds, AcceptWell}
+use Rattle.h2_ends.proofs.EndParts.{part_tokens, tokens_with}
 use Rattle.h2_ends.proofs.ReadableParts.{readable_request, readable_response}
 
 -- Both ends have accepted messages that break no rule.

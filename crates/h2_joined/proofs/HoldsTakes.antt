@@ -1,10 +1,10 @@
 -- What a call of `take` makes of an end to which octets are delivered.
-use Rattle.std.proofs.Common.{◌≡◌, ◌≢◌, ℕ, ◌<◌, ◌^◌, List, ◌∷◌, ◌++◌, drop, Option, Some, None}
-use Rattle.std.proofs.Common.{Bool, refl, arith}
+use Rattle.std.proofs.Common.{◌≡◌, ◌≢◌, ℕ, ◌<◌, ◌^◌, List, ◌∷◌, ◌++◌, drop, Some, None}
+use Rattle.std.proofs.Common.{Bool, true, refl, arith}
 use Rattle.h2_frame.specs.declared.code.Code.{Code}
 use Rattle.h2_frame.specs.declared.code.Code.TheVariants.{InternalError}
 use Rattle.h2_log.specs.Acts.{Values, Answer, Refuse}
-use Rattle.h2_log.specs.Events.{Event, FieldsEvent}
+use Rattle.h2_log.specs.Events.{Event, FieldsEvent, ResetEvent}
 use Rattle.h2_log.specs.Log.{Log}
 use Rattle.h2_log.specs.LogCalls.{MayAnswer, with_call}
 use Rattle.h2_end_laws.specs.Takes.{MayTake, AfterTake, Took, Failed}
@@ -13,14 +13,15 @@ use Rattle.h2_message.specs.Reading.{Part, FieldsPart}
 use Rattle.h2_pair.specs.Pairs.{Half}
 use Rattle.h2_ends.specs.Ends.{EndLog, Passed, EndAnswer, EndTook, EndFailed, IsNoEmptyPart}
 use Rattle.h2_ends.specs.Ends.{part_of_event, parts_on, reads_on, handed_as}
-use Rattle.h2_ends.specs.EndTakes.{EndMayTake, IsReadableWith, AnswersRefused, end_with_log}
+use Rattle.h2_ends.specs.EndTakes.{EndMayTake, IsReadableWith, end_with_log}
 use Rattle.h2_ends.specs.EndTakes.{end_with_handed, fails, hands_nothing, passes, hands_out}
-use Rattle.h2_ends.specs.EndTakes.{refuses, runs_out_of_memory}
+use Rattle.h2_ends.specs.EndTakes.{refuses, refusal_fails, runs_out_of_memory}
+use Rattle.h2_ends.proofs.EndOrder.{KeepsOrder}
 use Rattle.h2_ends.proofs.EndTokens.{take_calls}
 use Rattle.h2_ends.proofs.TakeRefusing.{memory_fails}
 use Rattle.h2_joined.specs.declared.act.Side.{Side}
 use Rattle.h2_joined.specs.declared.act.Side.TheVariants.{Client, Server}
-use Rattle.h2_joined.specs.Joints.{JointEnd, KeepsOrder, Made, half_of}
+use Rattle.h2_joined.specs.Joints.{JointEnd, Made, half_of}
 use Rattle.h2_joined.proofs.HoldsNumbers.{part_low_at}
 use Rattle.h2_joined.proofs.HoldsParts.{holds_none, holds_passed, holds_handed}
 use Rattle.h2_joined.proofs.HoldsReads.{AcceptAt, readable_at}
@@ -238,28 +239,22 @@ falls_in around code end log unused later lost other_lost pair failed calm =
       calm = calm;
     }
 
--- A stream was refused, and the connection has failed with that or not. That isn't so as long as
--- memory was not refused.
-leads_refused : (around : Around) (end after : EndLog) (log : Log) (piece later : List ℕ)
-    (count id : ℕ) (answer : EndAnswer) (lost other_lost : List ℕ) (failed : Option Code)
+-- A stream was refused, and that is handed out. That isn't so as long as memory was not refused.
+leads_reset : (around : Around) (end : EndLog) (log : Log) (piece later : List ℕ)
+    (count id : ℕ) (lost other_lost : List ℕ)
     → IsPairIn around (half_with log (drop count piece ++ later) lost) other_lost ⊥
-    → log.failed ≡ failed → AnswersRefused end log count id answer after failed
-    → (AllHadMemory around.made → ⊥) → LeadsIn around piece later answer after
-unfolding AnswersRefused
-leads_refused around end after log piece later count id answer lost other_lost None pair is answers
-    calm =
-    rw (answers.0, answers.1) (record {
+    → (AllHadMemory around.made → ⊥)
+    → LeadsIn around piece later (EndTook count (Some (Passed (ResetEvent id 1 true))))
+    (end_with_handed end log (Passed (ResetEvent id 1 true)))
+leads_reset around end log piece later count id lost other_lost pair calm =
+    record {
       lost = lost;
       other_lost = other_lost;
       pair = where_at around.side around.client_values around.server_values
           (half_with log (drop count piece ++ later) lost) (half_of around.other other_lost) ⊥
           (AllHadMemory around.made) pair calm;
       calm = λ had. absurd (calm had);
-    })
-leads_refused around end after log piece later count id answer lost other_lost (Some code) pair is
-    answers calm =
-    rw (answers.0, answers.1) (falls_in around code end log (drop count piece) later lost other_lost
-    pair is (λ had other. calm had))
+    }
 
 -- The connection fails as it takes octets. As long as memory was not refused it has no fault.
 leads_failed : (around : Around) (end : EndLog) (piece later : List ℕ) (code : Code) (log : Log)
@@ -302,13 +297,22 @@ take_leads around end piece later answer after order is
     rw (answers, same)
     (leads_handed around end piece later count event log id part order is may of readable)
 take_leads around end piece later answer after order is
-    (refuses count event log may id part of stops refused answers leads) =
-    leads_refused around end after (with_call log (Refuse id 1) refused) piece later count id answer
-    is.lost is.other_lost _
+    (refuses count event log may id part of stops refused answers_it up answers same) =
+    rw (answers, same) (leads_reset around end (with_call log (Refuse id 1) refused) piece later
+    count id is.lost is.other_lost
     (refused_in around end piece later count event log id part 1 refused is may of (omega arith)
-    answers) refl leads
+    answers_it)
     (λ had. stops (readable_in around end piece later count event log id part order is may of
-    had).0)
+    had).0))
+take_leads around end piece later answer after order is
+    (refusal_fails count event log may id part of stops refused answers_it code down answers
+    same) =
+    rw (answers, same) (falls_in around code end (with_call log (Refuse id 1) refused)
+    (drop count piece) later is.lost is.other_lost
+    (refused_in around end piece later count event log id part 1 refused is may of (omega arith)
+    answers_it) down
+    (λ had other. stops (readable_in around end piece later count event log id part order is may of
+    had).0))
 take_leads around end piece later answer after order is
     (runs_out_of_memory count id list ends log may role first readable refused answers_it answers
     same) =

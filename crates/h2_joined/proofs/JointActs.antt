@@ -16,13 +16,15 @@ use Rattle.h2_pair.proofs.PairLogs.{both_logs}
 use Rattle.h2_ends.specs.declared.refusal.EndRefusal.{EndRefusal}
 use Rattle.h2_ends.specs.Ends.{EndLog}
 use Rattle.h2_ends.specs.EndCalls.{MayRequest, MayRespond}
+use Rattle.h2_ends.proofs.EndOrder.{KeepsOrder}
 use Rattle.h2_joined.specs.declared.act.Side.{Side}
 use Rattle.h2_joined.specs.declared.act.Side.TheVariants.{Client, Server}
 use Rattle.h2_joined.specs.declared.act.Acted.{Acted}
 use Rattle.h2_joined.specs.Joints.{Doing, Calls, JointEnd, with_happened, with_answer, with_given}
-use Rattle.h2_joined.specs.Joints.{acted_as, IsCall, Whole, Fails, Stops, MayDo, requests, responds}
+use Rattle.h2_joined.specs.Joints.{acted_as, IsControlCall, Whole, Fails, Stops, MayDo, requests}
+use Rattle.h2_joined.specs.Joints.{responds}
 use Rattle.h2_joined.specs.Joints.{pumps, releases_all, calls, moves, delivers, delivery_fails}
-use Rattle.h2_joined.specs.Joints.{has_failed, delivery_stops, KeepsOrder, Made}
+use Rattle.h2_joined.specs.Joints.{has_failed, delivery_stops, Made}
 use Rattle.h2_joined.specs.Joints.{no_copy_of_a_request, no_copy_of_a_response}
 use Rattle.h2_joined.specs.Joints.{IsNextAct, at_client, at_server, continues}
 use Rattle.h2_joined.specs.Joints.{IsJoint, begins, half_of}
@@ -35,6 +37,7 @@ use Rattle.h2_joined.proofs.JointChains.{KeptByCalls, holds_by_pump, holds_by_re
 use Rattle.h2_joined.proofs.JointChains.{holds_by_refused_request, holds_by_refused_response}
 use Rattle.h2_joined.proofs.JointAnswers.{request_accepted, response_accepted}
 use Rattle.h2_joined.proofs.JointStart.{new_ends_hold}
+use Rattle.h2_joined.proofs.OrderKept.{act_keeps_order}
 
 -- One act more leaves what holds of an end,
 end_more : (made : List Made) (one : Made) (side : Side) (end : EndLog) → EndHolds made side end
@@ -99,7 +102,8 @@ ClientStays client_values server_values made client server end =
 client_kept : (client_values server_values : Values) (made : List Made)
     (client server : JointEnd)
     → KeptByCalls (ClientStays client_values server_values made client server)
-client_kept client_values server_values made client server end act answer stays ordinary typed may =
+client_kept client_values server_values made client server end act answer stays ordinary typed may
+    next =
     client_called_within client_values server_values made (with_happened client end) server act
     answer end.accepted stays typed may (ordinary_of_act made Client act answer ordinary)
     (ordinary_stays_in act ordinary)
@@ -115,7 +119,8 @@ ServerStays client_values server_values made client server end =
 server_kept : (client_values server_values : Values) (made : List Made)
     (client server : JointEnd)
     → KeptByCalls (ServerStays client_values server_values made client server)
-server_kept client_values server_values made client server end act answer stays ordinary typed may =
+server_kept client_values server_values made client server end act answer stays ordinary typed may
+    next =
     server_called_within client_values server_values made client (with_happened server end) act
     answer end.accepted stays typed may (ordinary_of_act made Server act answer ordinary)
     (ordinary_stays_in act ordinary)
@@ -218,11 +223,11 @@ abbrev call_made : Side → Act → Answer → Made
 call_made side act answer = record { side = side; doing = Calls act; acted = acted_as answer }
 
 -- A call that is an act refuses no stream, and where it resets one, that is the act.
-call_of_act : (made : List Made) (side : Side) (act : Act) (answer : Answer) → IsCall act
+call_of_act : (made : List Made) (side : Side) (act : Act) (answer : Answer) → IsControlCall act
     → IsOfAct (call_made side act answer ∷ made) side act answer
 call_of_act made side act answer call =
     record {
-      no_refusal = λ id code is. absurd (subst IsCall is call);
+      no_refusal = λ id code is. absurd (subst IsControlCall is call);
       reset = λ id code is done. subst (λ (one : Made). Contains
           (call_made side act answer ∷ made) one)
           (ap (λ (a : Act). call_made side a answer) is
@@ -230,8 +235,8 @@ call_of_act made side act answer call =
           (first_in (call_made side act answer) made);
     }
 
-call_stays_in : (act : Act) → IsCall act → (count : ℕ) → act ≢ PutOut count
-call_stays_in act call count is = absurd (subst IsCall is call)
+call_stays_in : (act : Act) → IsControlCall act → (count : ℕ) → act ≢ PutOut count
+call_stays_in act call count is = absurd (subst IsControlCall is call)
 
 -- What puts output out refuses and resets none.
 move_of_act : (made : List Made) (side : Side) (count : ℕ) (answer : Answer)
@@ -382,13 +387,19 @@ next_holds : (client_values server_values : Values) (made : List Made)
     → IsNextAct client server act new_client new_server
     → JointHolds client_values server_values (act ∷ made) new_client new_server
 next_holds client_values server_values made client server new_client new_server _ holds
-    (at_client doing answer may order) =
+    (at_client doing answer may) =
+    let logs = both_logs client_values server_values (half_of client holds.client_lost)
+    (half_of server holds.server_lost) holds.pair in
     client_acted client_values server_values made client server new_client new_server doing answer
-    holds may order
+    holds may (act_keeps_order roles.Client client_values client server new_client new_server doing
+    answer logs.client_log holds.client_order may)
 next_holds client_values server_values made client server new_client new_server _ holds
-    (at_server doing answer may order) =
+    (at_server doing answer may) =
+    let logs = both_logs client_values server_values (half_of client holds.client_lost)
+    (half_of server holds.server_lost) holds.pair in
     server_acted client_values server_values made client server new_client new_server doing answer
-    holds may order
+    holds may (act_keeps_order roles.Server server_values server client new_server new_client doing
+    answer logs.server_log holds.server_order may)
 
 -- and whatever acts were made it holds.
 pub joint_holds : (client_values server_values : Values) (made : List Made)

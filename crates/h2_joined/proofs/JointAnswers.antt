@@ -7,7 +7,7 @@ use Rattle.std.proofs.lemmas.Bool.{both_ways, cases_Bool, ne_eqb, eqb-true}
 use Rattle.h2_log.specs.declared.role.Role.TheVariants.{Client}
 use Rattle.h2_log.specs.Acts.{Values, Open, SendFields, Number, Done}
 use Rattle.h2_log.specs.LogCalls.{MayAnswer}
-use Rattle.h2_end_laws.specs.Over.{used}
+use Rattle.h2_end_laws.specs.Over.{is_number_used}
 use Rattle.h2_end_laws.proofs.OverNumbers.{opened_is_new}
 use Rattle.h2_message.specs.Messages.{SentMessage, asks_head, broken_by_request, broken_by_response}
 use Rattle.h2_message.specs.Phases.{asks_head_first}
@@ -50,9 +50,9 @@ accepted_used : (client_values server_values : Values) (made : List Made)
     (client server : JointEnd) (i : ℕ) (message : SentMessage)
     → JointHolds client_values server_values made client server
     → message_for i client.happened.accepted ≡ Some message
-    → used client.happened.log i ≡ true
+    → is_number_used client.happened.log i ≡ true
 accepted_used client_values server_values made client server i message holds is =
-    sent_used client_values client.happened.log i (both_logs client_values server_values
+    sent_used Client client_values client.happened.log i (both_logs client_values server_values
     (half_of client holds.client_lost) (half_of server holds.server_lost) holds.pair).client_log
     ((holds.client_order.sends i).begun (not_none _ message is))
 
@@ -81,7 +81,7 @@ request_accepted client_values server_values made client server message id end h
           let was = accepted_used client_values server_values made client server i answer.request
           holds answer.accepted in
           let other : (id == i) ≡ false = ne_eqb id i (λ same. both_ways _ new
-          (subst (λ (j : ℕ). used client.happened.log j ≡ true) (sym same) was)) in
+          (subst (λ (j : ℕ). is_number_used client.happened.log j ≡ true) (sym same) was)) in
           record {
             request = answer.request;
             accepted = given_before i id message accepted other ∙ answer.accepted;

@@ -1,14 +1,14 @@
 -- One call of the connection at either end keeps what holds of two joined ends.
-use Rattle.std.proofs.Common.{◌≡◌, ◌≢◌, inl, inr, ℕ, true, false, List, ◌∷◌, ◌++◌, refl, sym, ap}
+use Rattle.std.proofs.Common.{◌≡◌, ◌≢◌, inl, inr, ℕ, false, List, ◌∷◌, ◌++◌, refl, sym, ap}
 use Rattle.std.proofs.Common.{◌∙◌, append-nil, subst}
 use Rattle.std.proofs.lemmas.Bool.{both_ways}
-use Rattle.h2_log.specs.Acts.{Values, Act, Answer, IsTypedAct, Open, SendFields, SendData, Release}
-use Rattle.h2_log.specs.Acts.{ResetStream, Refuse, SendPing, SendGoAway, PutOut, ChangeSettings}
+use Rattle.h2_log.specs.Acts.{Values, Act, Answer, IsTypedAct}
+use Rattle.h2_log.specs.Acts.{ResetStream, Refuse, PutOut}
 use Rattle.h2_log.specs.Acts.{Done, OutOfMemory}
 use Rattle.h2_log.specs.View.{View}
 use Rattle.h2_log.specs.Log.{Log}
 use Rattle.h2_log.specs.LogView.{log_view}
-use Rattle.h2_log.specs.CallRules.{answer_of, may_fail_for_memory}
+use Rattle.h2_log.specs.CallRules.{may_fail_for_memory}
 use Rattle.h2_log.specs.LogCalls.{MayAnswer, with_call, accepts, refuses, lacks, fails}
 use Rattle.h2_log_laws.proofs.LogGrowth.{grows_call}
 use Rattle.h2_message.specs.Messages.{SentMessage}

@@ -15,34 +15,40 @@ use Rattle.h2_ends.specs.EndCalls.{IsHeadCall, IsUnchanged, MayRequest, MayRespo
 use Rattle.h2_ends.specs.EndCalls.{pumps_no_more, pumps_data, pumps_trailers, data_refused}
 use Rattle.h2_ends.specs.EndCalls.{trailers_refused, MayPump, Releases, releases_no_more}
 use Rattle.h2_ends.specs.EndCalls.{releases_one, releases_refused, MayReleaseAll}
+use Rattle.h2_ends.proofs.EndOrder.{SendsNext, data_next, trailers_next, refused_next}
+use Rattle.h2_ends.proofs.EndOrder.{no_part_next}
 use Rattle.h2_joined.proofs.JointCalls.{IsOrdinary}
 
--- An ordinary call keeps what holds of an end.
+-- An ordinary call that sends what waits keeps what holds of an end.
 abbrev pub KeptByCalls : (EndLog → Type 0) → Type 0
 KeptByCalls Holds =
     (end : EndLog) (act : Act) (answer : Answer) → Holds end → IsOrdinary act → IsTypedAct act
-    → MayAnswer end.log act answer → Holds (end_with_log end (with_call end.log act answer))
+    → MayAnswer end.log act answer → SendsNext end act answer
+    → Holds (end_with_log end (with_call end.log act answer))
 
 -- So do the calls of a pump,
 holds_by_pumps : (Holds : EndLog → Type 0) → KeptByCalls Holds → (end after : EndLog) (count : ℕ)
     (refused : Option Refusal) → Pumps end count refused after → Holds end → Holds after
 holds_by_pumps Holds kept _ _ _ _ (pumps_no_more end) holds = holds
 holds_by_pumps Holds kept _ _ _ _
-    (pumps_data end id sent more octets ends refused after next typed may others) holds =
+    (pumps_data end id sent more octets ends refused after next typed waits may others) holds =
     holds_by_pumps Holds kept
     (end_with_log end (with_call end.log (SendData id octets ends) (Count sent))) after more
-    refused others (kept end (SendData id octets ends) (Count sent) holds tt typed may)
+    refused others (kept end (SendData id octets ends) (Count sent) holds tt typed may
+    (data_next end id octets ends sent waits))
 holds_by_pumps Holds kept _ _ _ _
-    (pumps_trailers end id more list refused after next typed may others) holds =
+    (pumps_trailers end id more list refused after next typed wait may others) holds =
     holds_by_pumps Holds kept
     (end_with_log end (with_call end.log (SendFields id list true) Done)) after more refused others
-    (kept end (SendFields id list true) Done holds tt typed may)
+    (kept end (SendFields id list true) Done holds tt typed may (trailers_next end id list wait))
 holds_by_pumps Holds kept _ _ _ _
     (data_refused end id octets ends refusal next typed waits may) holds =
     kept end (SendData id octets ends) (Refused refusal) holds tt typed may
+    (refused_next end (SendData id octets ends) refusal)
 holds_by_pumps Holds kept _ _ _ _
     (trailers_refused end id list refusal next typed wait may) holds =
     kept end (SendFields id list true) (Refused refusal) holds tt typed may
+    (refused_next end (SendFields id list true) refusal)
 
 -- and those of a release of all that is owed.
 holds_by_releases : (Holds : EndLog → Type 0) → KeptByCalls Holds → (end after : EndLog)
@@ -51,9 +57,11 @@ holds_by_releases Holds kept _ _ _ (releases_no_more end) holds = holds
 holds_by_releases Holds kept _ _ _ (releases_one end id refused after next typed may others) holds =
     holds_by_releases Holds kept
     (end_with_log end (with_call end.log (Release id (owed end.log id)) Done)) after refused others
-    (kept end (Release id (owed end.log id)) Done holds tt typed may)
+    (kept end (Release id (owed end.log id)) Done holds tt typed may
+    (no_part_next end (Release id (owed end.log id)) Done tt))
 holds_by_releases Holds kept _ _ _ (releases_refused end id refusal next typed may) holds =
     kept end (Release id (owed end.log id)) (Refused refusal) holds tt typed may
+    (refused_next end (Release id (owed end.log id)) refusal)
 
 -- A call that sends a head is ordinary.
 ordinary_head : (act : Act) → IsHeadCall act → IsOrdinary act
@@ -67,7 +75,8 @@ holds_unchanged : (Holds : EndLog → Type 0) → KeptByCalls Holds → (end aft
 unfolding IsUnchanged
 holds_unchanged Holds kept end after (inl same) holds = subst Holds (sym same) holds
 holds_unchanged Holds kept end after (inr (act, refusal, typed, head, may, same)) holds =
-    subst Holds (sym same) (kept end act (Refused refusal) holds (ordinary_head act head) typed may)
+    subst Holds (sym same) (kept end act (Refused refusal) holds (ordinary_head act head) typed may
+    (refused_next end act refusal))
 
 -- So it is with a pump,
 pub holds_by_pump : (Holds : EndLog → Type 0) → KeptByCalls Holds → (end after : EndLog)

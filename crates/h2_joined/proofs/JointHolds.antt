@@ -12,10 +12,11 @@ use Rattle.h2_pair.specs.Tokens.{tokens_heard}
 use Rattle.h2_pair.specs.Undisturbed.{IsUndisturbed, WasAsked}
 use Rattle.h2_ends.specs.Ends.{EndLog, Passed, IsNoEmptyPart, message_for, parts_on, part_of_event}
 use Rattle.h2_ends.specs.Ends.{tokens_handed}
+use Rattle.h2_ends.proofs.EndOrder.{KeepsOrder}
 use Rattle.h2_joined.specs.declared.act.Side.{Side}
 use Rattle.h2_joined.specs.declared.act.Side.TheVariants.{Client, Server}
 use Rattle.h2_joined.specs.declared.act.Acted.TheVariants.{Failed}
-use Rattle.h2_joined.specs.Joints.{JointEnd, KeepsOrder, Made, half_of}
+use Rattle.h2_joined.specs.Joints.{JointEnd, Made, half_of}
 use Rattle.h2_joined.specs.Headline.{WasResetAt}
 
 -- No connection has failed in the act since memory was refused.

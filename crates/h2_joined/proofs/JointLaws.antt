@@ -1,8 +1,7 @@
 -- What follows for two joined ends: no fault is reported, and once they are quiet each message was
 -- handed out whole.
-use Rattle.std.proofs.Common.{◌≡◌, inl, inr, ℕ, true, false, List, [], ◌∷◌, ◌++◌, drop, length}
-use Rattle.std.proofs.Common.{Option, Some, None, refl, sym, ap, ◌∙◌, subst}
-use Rattle.std.proofs.Math.Seq.{drop-append_seam}
+use Rattle.std.proofs.Common.{◌≡◌, inl, inr, ℕ, true, false, List, Option}
+use Rattle.std.proofs.Common.{Some, None, refl, sym, ap, ◌∙◌, subst}
 use Rattle.h2_log.specs.Acts.{Values}
 use Rattle.h2_log.specs.Events.{ResetEvent, UnprocessedEvent}
 use Rattle.h2_message.specs.Messages.{SentMessage}
@@ -12,7 +11,7 @@ use Rattle.h2_pair.specs.Undisturbed.{IsFaultless}
 use Rattle.h2_pair.proofs.FaultsOfPairs.{faultless_client, faultless_server}
 use Rattle.h2_pair.proofs.HeardQuiet.{server_hears_whole, client_hears_whole}
 use Rattle.h2_ends.specs.Ends.{EndLog, message_for, part_of_event, tokens_given, tokens_handed}
-use Rattle.h2_ends.specs.Ends.{tokens_said, tokens_out, tokens_waiting}
+use Rattle.h2_ends.specs.Ends.{tokens_said}
 use Rattle.h2_ends.specs.Represents.{SendsInOrder}
 use Rattle.h2_ends.specs.Quiet.{IsQuietEnd}
 use Rattle.h2_joined.specs.declared.act.Side.{Side}
@@ -21,6 +20,7 @@ use Rattle.h2_joined.specs.Joints.{JointEnd, Made, half_of}
 use Rattle.h2_joined.specs.Headline.{AreQuiet, WasResetIn, ReportsNoFault}
 use Rattle.h2_joined.proofs.JointHolds.{JointHolds, EndHolds, AllHadMemory}
 use Rattle.h2_joined.proofs.JointOrder.{server_hands, client_hands}
+use Rattle.h2_ends.proofs.EndOrder.{waiting_of, none_begins}
 use Rattle.h2_ends.proofs.PumpTokens.{said_is as said_of}
 
 -- An end whose connection reports no fault reports none.
@@ -102,17 +102,6 @@ sending_of end i message is sends =
       sent = sym (said_of end i message is) ∙ sends.prefix;
       begun = sends.begun (λ none. let wrong : Some message ≡ None = sym is ∙ none in cc);
     }
-
-waiting_of : (end : EndLog) (i : ℕ) (sends : SendsInOrder end i)
-    → tokens_waiting end i ≡ sends.waiting
-waiting_of end i sends =
-    ap (drop (length (tokens_out end i))) sends.prefix
-    ∙ drop-append_seam (tokens_out end i) sends.waiting
-
--- A prefix of nothing is nothing.
-none_begins : (tokens rest : List Token) → [] ≡ tokens ++ rest → tokens ≡ []
-none_begins [] rest is = refl
-none_begins (token ∷ tokens) rest is = absurd (cc)
 
 -- Where no message was accepted for a stream, nothing was handed out on it; where one was, all of
 -- it, by what a quiet pair has heard.

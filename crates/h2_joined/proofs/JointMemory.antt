@@ -1,6 +1,6 @@
 -- A connection that has failed stays failed. So where memory was not refused where it counts, it
 -- was not in any act.
-use Rattle.std.proofs.Common.{◌≡◌, ◌≢◌, ℕ, suc, List, take, drop, Option, Some, None, Result, Ok}
+use Rattle.std.proofs.Common.{◌≡◌, ◌≢◌, ℕ, suc, List, take, drop, Some, Result, Ok}
 use Rattle.std.proofs.Common.{Err, refl, ap, subst, ◌∙◌}
 use Rattle.h2_frame.specs.declared.code.Code.{Code}
 use Rattle.h2_frame.specs.declared.code.Code.TheVariants.{InternalError}
@@ -15,9 +15,9 @@ use Rattle.h2_message.specs.Messages.{SentMessage}
 use Rattle.h2_pair.specs.Tokens.{is_head_alone}
 use Rattle.h2_pair.proofs.StepCalls.{call_failed}
 use Rattle.h2_ends.specs.declared.refusal.EndRefusal.{EndRefusal}
-use Rattle.h2_ends.specs.Ends.{EndLog, EndAnswer, EndTook, EndFailed}
-use Rattle.h2_ends.specs.EndTakes.{EndMayTake, AnswersRefused, end_with_log, fails, hands_nothing}
-use Rattle.h2_ends.specs.EndTakes.{passes, hands_out, refuses, runs_out_of_memory}
+use Rattle.h2_ends.specs.Ends.{EndLog, EndAnswer, EndFailed}
+use Rattle.h2_ends.specs.EndTakes.{EndMayTake, fails, hands_nothing}
+use Rattle.h2_ends.specs.EndTakes.{passes, hands_out, refuses, refusal_fails, runs_out_of_memory}
 use Rattle.h2_ends.specs.EndCalls.{MayRequest, MayRespond}
 use Rattle.h2_ends.proofs.TakeRefusing.{memory_fails}
 use Rattle.h2_joined.specs.declared.act.Side.{Side}
@@ -26,7 +26,8 @@ use Rattle.h2_joined.specs.declared.act.Acted.{Acted}
 use Rattle.h2_joined.specs.declared.act.Acted.TheVariants as acted
 use Rattle.h2_joined.specs.Joints as joints
 use Rattle.h2_joined.specs.Joints.{Doing, JointEnd, Made, Delivery, Whole, Fails, Stops}
-use Rattle.h2_joined.specs.Joints.{IsDelivered, MayDo, IsCall, IsJoint, IsNextAct, MemorySufficed}
+use Rattle.h2_joined.specs.Joints.{IsDelivered, MayDo, IsControlCall, IsJoint, IsNextAct}
+use Rattle.h2_joined.specs.Joints.{MemorySufficed}
 use Rattle.h2_joined.specs.Joints.{acted_by, acted_as}
 use Rattle.h2_joined.proofs.JointHolds.{ActHadMemory, AllHadMemory}
 use Rattle.h2_joined.proofs.JointCalls.{IsOrdinary, answers_in_memory}
@@ -44,7 +45,7 @@ abbrev HasFailed : Code → EndLog → Type 0
 HasFailed code end = end.log.failed ≡ Some code
 
 failed_kept : (code : Code) → KeptByCalls (HasFailed code)
-failed_kept code end act answer failed ordinary typed may =
+failed_kept code end act answer failed ordinary typed may next =
     call_stays end.log act answer (λ id c is. absurd (subst IsOrdinary is ordinary)) may ∙ failed
 
 request_keeps : (code : Code) (end after : EndLog) (message : SentMessage)
@@ -84,7 +85,8 @@ act_keeps one other _ _ _ _ code (joints.pumps result after may) failed =
 act_keeps one other _ _ _ _ code (joints.releases_all result after may) failed =
     holds_by_release (HasFailed code) (failed_kept code) one.happened after result may failed
 act_keeps one other _ _ _ _ code (joints.calls act answer call typed may) failed =
-    call_stays one.happened.log act answer (λ id c is. absurd (subst IsCall is call)) may ∙ failed
+    call_stays one.happened.log act answer (λ id c is. absurd (subst IsControlCall is call)) may
+    ∙ failed
 act_keeps one other _ _ _ _ code (joints.moves count answer typed may) failed =
     call_stays one.happened.log (PutOut count) answer (λ id c is. cc) may ∙ failed
 act_keeps one other _ _ _ _ code (joints.delivers count after up delivered) failed =
@@ -113,21 +115,7 @@ other_stays one other _ _ _ _ (joints.delivery_stops count unused after up deliv
 other_stays one other _ _ _ _ (joints.no_copy_of_a_request message) = refl
 other_stays one other _ _ _ _ (joints.no_copy_of_a_response id message) = refl
 
--- A call of `take` that answers a failure leaves the connection failed so: where a stream was
--- refused,
-refused_fails : (end after : EndLog) (log : Log) (count id : ℕ) (answer : EndAnswer)
-    (failed : Option Code) (code : Code) → log.failed ≡ failed
-    → AnswersRefused end log count id answer after failed → answer ≡ EndFailed code
-    → HasFailed code after
-unfolding AnswersRefused
-refused_fails end after log count id answer None code is answers so =
-    let one = answers.0 in absurd (cc)
-refused_fails end after log count id answer (Some fault) code is answers so =
-    let one = answers.0 in
-    let same : log.failed ≡ Some code = cc in
-    ap (λ (e : EndLog). e.log.failed) answers.1 ∙ same
-
--- and else.
+-- A call of `take` that answers a failure leaves the connection failed so.
 take_fails : (end after : EndLog) (piece : List ℕ) (answer : EndAnswer) (code : Code)
     → EndMayTake end piece answer after → answer ≡ EndFailed code → HasFailed code after
 take_fails end after piece answer code (fails fault log may answers same) is =
@@ -141,9 +129,13 @@ take_fails end after piece answer code (passes used event log may unread answers
 take_fails end after piece answer code
     (hands_out used event log may id part of readable answers same) is = absurd (cc)
 take_fails end after piece answer code
-    (refuses used event log may id part of stops refused answers leads) is =
-    refused_fails end after (with_call log (Refuse id 1) refused) used id answer _ code refl leads
-    is
+    (refuses used event log may id part of stops refused answers_it up answers same) is =
+    absurd (cc)
+take_fails end after piece answer code
+    (refusal_fails used event log may id part of stops refused answers_it fault down answers same)
+    is =
+    let so : (with_call log (Refuse id 1) refused).failed ≡ Some code = cc in
+    ap (λ (e : EndLog). e.log.failed) same ∙ so
 take_fails end after piece answer code
     (runs_out_of_memory used id list ends log may role first readable refused answers_it answers
     same) is =
@@ -232,7 +224,7 @@ had_memory_in side one other new_one new_other doing answer may went_on =
 had_before : (client server new_client new_server : JointEnd) (act : Made)
     → IsNextAct client server act new_client new_server
     → MemorySufficed new_client new_server → ActHadMemory act × MemorySufficed client server
-had_before client server new_client new_server _ (joints.at_client doing answer may order) had = (
+had_before client server new_client new_server _ (joints.at_client doing answer may) had = (
   had_memory_in Client client server new_client new_server doing answer may had.client_went_on,
   record {
     client_went_on = λ failed. had.client_went_on (act_keeps client server new_client new_server
@@ -242,7 +234,7 @@ had_before client server new_client new_server _ (joints.at_client doing answer 
         (other_stays client server new_client new_server doing answer may) ∙ failed);
   },
 )
-had_before client server new_client new_server _ (joints.at_server doing answer may order) had = (
+had_before client server new_client new_server _ (joints.at_server doing answer may) had = (
   had_memory_in Server server client new_server new_client doing answer may had.server_went_on,
   record {
     client_went_on = λ failed. had.client_went_on

@@ -1,10 +1,10 @@
 -- What an end has handed out is a prefix of what the other was given to say.
-use Rattle.std.proofs.Common.{◌≡◌, ◌≢◌, inl, inr, ℕ, true, List, [], sym, ◌∙◌, append-nil, subst}
+use Rattle.std.proofs.Common.{◌≡◌, ◌≢◌, inl, inr, ℕ, true, false, List, [], sym, ◌∙◌, append-nil}
+use Rattle.std.proofs.Common.{subst}
 use Rattle.std.specs.List.{list_any}
-use Rattle.std.proofs.lemmas.Bool.{cases_Bool, and_from}
+use Rattle.std.proofs.lemmas.Bool.{both_ways, cases_Bool, and_from}
 use Rattle.h2_block.specs.Grouping.{Item}
 use Rattle.h2_log.specs.declared.role.Role.{Role}
-use Rattle.h2_log.specs.declared.role.Role.TheVariants.{Client}
 use Rattle.h2_log.specs.Acts.{Values}
 use Rattle.h2_log.specs.Histories.{IsLog}
 use Rattle.h2_log.specs.Log.{Log}
@@ -12,7 +12,7 @@ use Rattle.h2_log.specs.States.{is_used, openings}
 use Rattle.h2_log.proofs.StreamLemmas.{stream_of_log}
 use Rattle.h2_log_laws.proofs.InvariantLogs.{written_is_allowed}
 use Rattle.h2_log_laws.proofs.ReaderStates.{opens_here}
-use Rattle.h2_end_laws.specs.Over.{used}
+use Rattle.h2_end_laws.specs.Over.{is_number_used}
 use Rattle.h2_end_laws.specs.Sendings.{lists_accepted}
 use Rattle.h2_pair.specs.Tokens.{Token, tokens_sent, tokens_heard, IsPrefixOfTokens}
 use Rattle.h2_pair.proofs.HeardGoAways.{speaks}
@@ -69,14 +69,23 @@ unfolding is_used
 opened_used role i received sent is =
     and_from _ _ is.odd (opens_here i (openings role received sent) is.odd is.opened)
 
--- So is one on which a client has sent something.
-pub sent_used : (values : Values) (log : Log) (i : ℕ) → IsLog Client values log
-    → tokens_sent i log.calls ≢ [] → used log i ≡ true
-sent_used values log i is some = elim (cases_Bool (list_any (speaks i) log.sent)) [
-  | inl spoken ↦ subst (λ (role : Role). is_used role i log.received log.sent ≡ true)
-      (sym (stream_of_log Client values log is).role)
-      (opened_used Client i log.received log.sent (spoken_opened Client i log.received log.sent
-      (written_is_allowed Client values log is) spoken))
-  | inr silent ↦ absurd (some (tokens_carried i Client values log is
-      ∙ silent_tokens i log.sent (lists_accepted log.calls) silent))
+-- On one that isn't used an end has sent nothing,
+pub unused_unsent : (role : Role) (values : Values) (log : Log) (i : ℕ) → IsLog role values log
+    → is_number_used log i ≡ false → tokens_sent i log.calls ≡ []
+unused_unsent role values log i is unused = elim (cases_Bool (list_any (speaks i) log.sent)) [
+  | inl spoken ↦ absurd (both_ways _ unused
+      (subst (λ (own : Role). is_used own i log.received log.sent ≡ true)
+      (sym (stream_of_log role values log is).role)
+      (opened_used role i log.received log.sent (spoken_opened role i log.received log.sent
+      (written_is_allowed role values log is) spoken))))
+  | inr silent ↦ tokens_carried i role values log is
+      ∙ silent_tokens i log.sent (lists_accepted log.calls) silent
+]
+
+-- and so one on which it has sent something is.
+pub sent_used : (role : Role) (values : Values) (log : Log) (i : ℕ) → IsLog role values log
+    → tokens_sent i log.calls ≢ [] → is_number_used log i ≡ true
+sent_used role values log i is some = elim (cases_Bool (is_number_used log i)) [
+  | inl was ↦ was
+  | inr unused ↦ absurd (some (unused_unsent role values log i is unused))
 ]

@@ -12,13 +12,14 @@ use Rattle.h2_pair.specs.Tokens.{tokens_sent, tokens_heard}
 use Rattle.h2_pair.specs.Undisturbed.{IsUndisturbed}
 use Rattle.h2_pair.proofs.FaultsInvariant.{none_in}
 use Rattle.h2_ends.specs.Ends.{message_for, parts_on, tokens_given, tokens_of_parts}
-use Rattle.h2_ends.specs.Represents.{new_end}
+use Rattle.h2_ends.specs.Represents.{new_end_log}
+use Rattle.h2_ends.proofs.EndOrder.{KeepsOrder}
 use Rattle.h2_joined.specs.declared.act.Side.{Side}
-use Rattle.h2_joined.specs.Joints.{KeepsOrder, new_joint_end}
+use Rattle.h2_joined.specs.Joints.{new_joint_end}
 use Rattle.h2_joined.proofs.JointHolds.{JointHolds, EndHolds, AcceptWell}
 
 -- A new end has said and handed out nothing,
-new_order : (role : Role) (values : Values) → KeepsOrder (new_end role values)
+new_order : (role : Role) (values : Values) → KeepsOrder (new_end_log role values)
 unfolding opened with_sent tokens_sent tokens_heard message_for parts_on tokens_given
     tokens_of_parts
 new_order role values =
@@ -29,7 +30,7 @@ new_order role values =
 
 -- was asked for nothing,
 new_holds : (side : Side) (role : Role) (values : Values)
-    → EndHolds [] side (new_end role values)
+    → EndHolds [] side (new_end_log role values)
 unfolding opened with_sent tokens_heard parts_on tokens_of_parts
 new_holds side role values =
     record {
@@ -45,7 +46,7 @@ new_holds side role values =
 
 -- and has accepted no message.
 new_accepted : (client_values server_values : Values)
-    → AcceptWell (new_end roles.Client client_values) (new_end roles.Server server_values)
+    → AcceptWell (new_end_log roles.Client client_values) (new_end_log roles.Server server_values)
 unfolding message_for
 new_accepted client_values server_values =
     record {

@@ -16,19 +16,10 @@ use Rattle.h2_joined.specs.declared.kept.Kept.{Kept}
 use Rattle.h2_joined.specs.declared.pipe.Pipe.{Pipe}
 use Rattle.h2_joined.specs.declared.store.Store.{Store}
 use Rattle.h2_joined.specs.declared.joined.Joined.{Joined}
-use Rattle.h2_joined.specs.Joints.{Doing, JointEnd, MayDo, KeepsOrder, with_happened}
+use Rattle.h2_joined.specs.Joints.{Doing, JointEnd, MayDo, with_happened}
 use Rattle.h2_joined.specs.Joints.{at_client, at_server, continues}
 use Rattle.h2_joined.specs.Kept.{HoldsOctets, KeepsHanded, KeepsEnd, MakesAct, made}
 use Rattle.h2_joined.specs.Kept.{accepted_value, end_at, kept_of, other_side}
-
--- What was sent and handed out at an end that is represented keeps the order.
-keeps_order : (values : Values) (end : End) (happened : EndLog)
-    → EndRepresents values end happened → KeepsOrder happened
-keeps_order values end happened represents =
-    record {
-      sends = represents.streams.sent;
-      hands = λ i. (represents.in_step i).handed;
-    }
 
 -- What an act at one end has to show: it may be made, and both ends and what is kept are as it
 -- says.
@@ -61,8 +52,7 @@ pub acts_by : (side : Side) (old new : Joined) (doing : Doing) (answer : Acted)
     → DoesAll side old new doing answer → MakesAct old (made side doing answer) new
 acts_by sides.Client old new doing answer same does ours theirs before client server both =
     let done = does ours client server both.client_represents both.client_kept both.server_kept in
-    let next = at_client doing answer done.may
-    (keeps_order ours new.client.end done.new_one.happened done.represents) in (
+    let next = at_client doing answer done.may in (
       done.new_one,
       done.new_other,
       next,
@@ -77,8 +67,7 @@ acts_by sides.Client old new doing answer same does ours theirs before client se
     )
 acts_by sides.Server old new doing answer same does theirs ours before client server both =
     let done = does ours server client both.server_represents both.server_kept both.client_kept in
-    let next = at_server doing answer done.may
-    (keeps_order ours new.server.end done.new_one.happened done.represents) in (
+    let next = at_server doing answer done.may in (
       done.new_other,
       done.new_one,
       next,

@@ -2,7 +2,6 @@
 use Rattle.std.proofs.Common.{◌≡◌, ℕ, List, ◌∷◌, Option, Some, None, Result, Ok, Err, inl}
 use Rattle.std.proofs.Common.{inr}
 use Rattle.std.proofs.Common.{refl, sym, ap, ◌∙◌}
-use Rattle.h2_frame.specs.declared.code.Code.{Code}
 use Rattle.h2_log.specs.declared.refusal.Refusal.{Refusal}
 use Rattle.h2_log.specs.declared.refusal.Refusal.TheVariants as reasons
 use Rattle.h2_log.specs.Log.{Log}
@@ -10,8 +9,8 @@ use Rattle.h2_message.specs.Messages.{SentMessage}
 use Rattle.h2_ends.specs.declared.refusal.EndRefusal.{EndRefusal}
 use Rattle.h2_ends.specs.declared.refusal.EndRefusal.TheVariants as refusals
 use Rattle.h2_ends.specs.Ends.{EndLog, Handed, EndAnswer, EndTook, EndFailed}
-use Rattle.h2_ends.specs.EndTakes.{EndMayTake, AnswersRefused, fails, hands_nothing, passes}
-use Rattle.h2_ends.specs.EndTakes.{hands_out, refuses, runs_out_of_memory}
+use Rattle.h2_ends.specs.EndTakes.{EndMayTake, fails, hands_nothing, passes}
+use Rattle.h2_ends.specs.EndTakes.{hands_out, refuses, refusal_fails, runs_out_of_memory}
 use Rattle.h2_ends.specs.EndCalls.{MayRequest, MayRespond, MayPump, MayReleaseAll, IsUnchanged}
 use Rattle.h2_ends.specs.EndCalls.{Pumps, pumps_no_more, pumps_data, pumps_trailers}
 use Rattle.h2_ends.specs.EndCalls.{data_refused, trailers_refused}
@@ -35,11 +34,11 @@ pump_says : (before : EndLog) (count : ℕ) (refused : Option Refusal) (after : 
 pump_says before count refused after (pumps_no_more end) =
     record { accepted = refl; handed = refl }
 pump_says before count refused after (pumps_data end id sent more octets ends refusal last next
-    typed may rest) =
+    typed waits may rest) =
     let says = pump_says _ more refusal last rest in
     record { accepted = says.accepted; handed = says.handed }
-pump_says before count refused after (pumps_trailers end id more list refusal last next typed may
-    rest) =
+pump_says before count refused after (pumps_trailers end id more list refusal last next typed wait
+    may rest) =
     let says = pump_says _ more refusal last rest in
     record { accepted = says.accepted; handed = says.handed }
 pump_says before count refused after
@@ -163,15 +162,6 @@ taken_as before answer is log handed after same now says =
           ∙ ap (λ (one : EndAnswer). handed_after one before.handed) (sym same);
     }
 
-refused_says : (before : EndLog) (log : Log) (count id : ℕ) (answer : EndAnswer) (after : EndLog)
-    (failed : Option Code) → AnswersRefused before log count id answer after failed
-    → SaysTaken before answer after
-unfolding AnswersRefused
-refused_says before log count id answer after None refused =
-    taken_as before answer _ log _ after refused.0 refused.1 refl
-refused_says before log count id answer after (Some code) refused =
-    taken_as before answer _ log _ after refused.0 refused.1 refl
-
 pub taken_says : (before : EndLog) (piece : List ℕ) (answer : EndAnswer) (after : EndLog)
     → EndMayTake before piece answer after → SaysTaken before answer after
 taken_says before piece answer after (fails code log takes same now) =
@@ -184,8 +174,11 @@ taken_says before piece answer after (hands_out count event log takes id part is
     now) =
     taken_as before answer _ log _ after same now refl
 taken_says before piece answer after (refuses count event log takes id part is broken refused may
-    answers) =
-    refused_says before _ count id answer after _ answers
+    up same now) =
+    taken_as before answer _ _ _ after same now refl
+taken_says before piece answer after (refusal_fails count event log takes id part is broken
+    refused may code down same now) =
+    taken_as before answer _ _ _ after same now refl
 taken_says before piece answer after (runs_out_of_memory count id list ends log takes role none
     readable refused may same now) =
     taken_as before answer _ _ _ after same now refl

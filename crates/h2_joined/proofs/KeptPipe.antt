@@ -1,9 +1,9 @@
 -- The octets of a pipe, once some were delivered.
-use Rattle.std.proofs.Common.{◌≡◌, ℕ, ◌+◌, ◌-◌, ◌^◌, ◌<◌, min, List, [], ◌++◌, length, take}
+use Rattle.std.proofs.Common.{◌≡◌, ℕ, ◌+◌, ◌-◌, ◌^◌, ◌<◌, ◌≤◌, min, List, [], ◌++◌, length, take}
 use Rattle.std.proofs.Common.{drop}
 use Rattle.std.proofs.Common.{refl, sym, ap, ◌∙◌, arith}
-use Rattle.std.proofs.lemmas.List.{length-append, length-take-le, take-append-drop, drop-drop}
-use Rattle.std.proofs.lemmas.List.{drop_at, drop_min}
+use Rattle.std.proofs.lemmas.List.{length-append, length-take-le, length-drop, take-append-drop}
+use Rattle.std.proofs.lemmas.List.{drop-drop, drop_at, drop_min}
 use Rattle.h2_joined.specs.declared.pipe.Pipe.{Pipe}
 use Rattle.h2_joined.specs.Kept.{HoldsOctets}
 
@@ -30,17 +30,22 @@ left_after pipe octets count used holds small is =
     )
     (drop_min count octets)
 
--- The octets that were delivered are kept.
+-- The octets that were delivered are kept, while they are less than half.
 pub holds_behind : (pipe new : Pipe) (octets : List ℕ) (count used : ℕ)
     → HoldsOctets pipe octets → length pipe.octets.items < 2 ^ 64 → IsUsed pipe count used
+    → used + used ≤ length pipe.octets.items
     → new.octets.items ≡ pipe.octets.items → new.used ≡ used → HoldsOctets new (drop count octets)
-holds_behind pipe new octets count used holds small is same at =
+holds_behind pipe new octets count used holds small is few same at =
+    let front = length-take-le used pipe.octets.items (omega (arith, is)) in
+    let left = ap length (left_after pipe octets count used holds small is) in
+    let all = length-drop used pipe.octets.items in
     record {
       delivered = take used pipe.octets.items;
       items = same ∙ sym (take-append-drop used pipe.octets.items)
           ∙ ap (λ (left : List ℕ). take used pipe.octets.items ++ left)
           (left_after pipe octets count used holds small is);
-      count = at ∙ sym (length-take-le used pipe.octets.items (omega (arith, is)));
+      count = at ∙ sym front;
+      half = omega (arith, front, left, all, few);
     }
 
 -- They are dropped.
@@ -53,4 +58,5 @@ holds_alone pipe new octets count used holds small is left none =
       delivered = [];
       items = left ∙ left_after pipe octets count used holds small is;
       count = none;
+      half = omega arith;
     }

@@ -13,9 +13,9 @@ use Rattle.h2_joined.specs.declared.store.Span.{Span}
 use Rattle.h2_joined.specs.declared.store.FieldPlace.{FieldPlace}
 use Rattle.h2_joined.specs.declared.store.EventPlace.{EventPlace}
 use Rattle.h2_joined.specs.declared.store.EventPlace.TheVariants as places
-use Rattle.h2_joined.specs.Stored.{part_of, field_of, fields_of, event_of, IsSpan, IsFieldPlace}
+use Rattle.h2_joined.specs.Stored.{part_of, stored_field, stored_fields, event_kept, IsSpan}
+use Rattle.h2_joined.specs.Stored.{IsFieldPlace}
 use Rattle.h2_joined.specs.Stored.{IsEventPlace}
-use Rattle.h2_pair.proofs.Lists.{all_both as all_joined}
 
 -- The item at a place of a list, with what is made of it.
 pub made_at : {A B : Type 0} (f : A → B) (items : List A) (i : ℕ) (other : A) → i < length items
@@ -34,8 +34,8 @@ part_more items more span is =
 
 -- So does a field,
 field_more : (octets more : List ℕ) (place : FieldPlace) → IsFieldPlace (length octets) place
-    → field_of (octets ++ more) place ≡ field_of octets place
-unfolding field_of
+    → stored_field (octets ++ more) place ≡ stored_field octets place
+unfolding stored_field
 field_more octets more place is =
     ap₂ (λ (name value : List ℕ). record {
       name = name;
@@ -46,7 +46,7 @@ field_more octets more place is =
 
 pub fields_more : (octets more : List ℕ) (fields : List FieldPlace)
     → AllByRecursion (IsFieldPlace (length octets)) fields
-    → fields_of (octets ++ more) fields ≡ fields_of octets fields
+    → stored_fields (octets ++ more) fields ≡ stored_fields octets fields
 fields_more octets more [] all = refl
 fields_more octets more (place ∷ fields) all =
     ap₂ (λ (f : Field) (fs : List Field). f ∷ fs) (field_more octets more place all.0)
@@ -68,10 +68,10 @@ all_dropped P (suc n) (item ∷ items) all = all_dropped P n items all.1
 -- The fields of a span stay,
 listed : (octets more : List ℕ) (fields others : List FieldPlace) (list : Span)
     → AllByRecursion (IsFieldPlace (length octets)) fields → IsSpan (length fields) list
-    → fields_of (octets ++ more) (part_of (fields ++ others) list)
-    ≡ fields_of octets (part_of fields list)
+    → stored_fields (octets ++ more) (part_of (fields ++ others) list)
+    ≡ stored_fields octets (part_of fields list)
 listed octets more fields others list all is =
-    ap (λ (l : List FieldPlace). fields_of (octets ++ more) l) (part_more fields others list is)
+    ap (λ (l : List FieldPlace). stored_fields (octets ++ more) l) (part_more fields others list is)
     ∙ fields_more octets more (part_of fields list)
     (all_taken (IsFieldPlace (length octets)) (list.end - list.start) (drop list.start fields)
     (all_dropped (IsFieldPlace (length octets)) list.start fields all))
@@ -80,8 +80,8 @@ listed octets more fields others list all is =
 event_more : (octets more : List ℕ) (fields others : List FieldPlace) (place : EventPlace)
     → AllByRecursion (IsFieldPlace (length octets)) fields
     → IsEventPlace (length octets) (length fields) place
-    → event_of (octets ++ more) (fields ++ others) place ≡ event_of octets fields place
-unfolding event_of IsEventPlace
+    → event_kept (octets ++ more) (fields ++ others) place ≡ event_kept octets fields place
+unfolding event_kept IsEventPlace
 event_more octets more fields others (places.Interim id list) all is =
     ap (λ (l : List Field). InterimHanded id l) (listed octets more fields others list all is)
 event_more octets more fields others (places.Head id list end) all is =
@@ -99,8 +99,8 @@ event_more octets more fields others (places.Pong pong) all is = refl
 pub events_more : (octets more : List ℕ) (fields others : List FieldPlace)
     (events : List EventPlace) → AllByRecursion (IsFieldPlace (length octets)) fields
     → AllByRecursion (IsEventPlace (length octets) (length fields)) events
-    → map (event_of (octets ++ more) (fields ++ others)) events
-    ≡ map (event_of octets fields) events
+    → map (event_kept (octets ++ more) (fields ++ others)) events
+    ≡ map (event_kept octets fields) events
 events_more octets more fields others [] all are = refl
 events_more octets more fields others (place ∷ events) all are =
     ap₂ (λ (h : Handed) (hs : List Handed). h ∷ hs)

@@ -17,16 +17,18 @@ use Rattle.h2_joined.specs.declared.store.FieldPlace.{FieldPlace}
 use Rattle.h2_joined.specs.declared.store.EventPlace.{EventPlace}
 use Rattle.h2_joined.specs.declared.store.EventPlace.TheVariants as places
 use Rattle.h2_joined.specs.declared.store.Store.{Store}
-use Rattle.h2_joined.specs.Stored.{part_of, field_of, fields_of, event_of, events_of, IsSpan}
-use Rattle.h2_joined.specs.Stored.{IsFieldPlace, IsEventPlace, AreStored, HasRoom, KeepsItems}
-use Rattle.h2_joined.specs.Stored.{KeepsMore, KeepsOctets, KeepsField, AreFieldsKept}
-use Rattle.h2_joined.specs.Stored.{KeepsList, IsPlaced, PlacesEvent, Fits, most_octets}
+use Rattle.h2_joined.specs.Stored.{part_of, stored_field, stored_fields, event_kept, events_kept}
+use Rattle.h2_joined.specs.Stored.{IsSpan}
+use Rattle.h2_joined.specs.Stored.{IsFieldPlace, IsEventPlace, AreStored, HasRoomForEvent}
+use Rattle.h2_joined.specs.Stored.{KeepsItems}
+use Rattle.h2_joined.specs.Stored.{KeepsMore, StoresOctets, KeepsField, AreFieldsKept}
+use Rattle.h2_joined.specs.Stored.{KeepsList, IsPlaced, PlacesEvent, Fits, most_event_octets}
 use Rattle.h2_joined.specs.Kept.{KeepsHanded}
 use Rattle.h2_joined.proofs.KeptPlaces.{fields_more, events_more, fields_within, events_within}
 use Rattle.h2_pair.proofs.Lists.{all_both as all_joined}
 
 -- The same items are the same events, wherever they lie.
-same_events : (old new : Store) → KeepsItems old new → events_of new ≡ events_of old
+same_events : (old new : Store) → KeepsItems old new → events_kept new ≡ events_kept old
 same_events old new same = rw (same.octets, same.fields, same.events) refl
 
 same_stored : (old new : Store) → KeepsItems old new → AreStored old → AreStored new
@@ -74,13 +76,13 @@ part_kept_first before more others span starts ends =
 
 -- A field is kept by its name and its value.
 pub field_kept : (old one two new : Store) (name value : Span) (names values : List ℕ)
-    (sensitive : Bool) → KeepsOctets old names name one → KeepsOctets one values value two
+    (sensitive : Bool) → StoresOctets old names name one → StoresOctets one values value two
     → new.events ≡ two.events → new.octets ≡ two.octets
     → vec_capacity two.fields ≤ vec_capacity new.fields
     → (vec_len two.fields < vec_capacity two.fields → new.fields.items
     ≡ two.fields.items ++ record { name = name; value = value; sensitive = sensitive } ∷ [])
     → KeepsField old (record { name = names; value = values; sensitive = sensitive }) new
-unfolding field_of
+unfolding stored_field
 field_kept old one two new name value names values sensitive first second same_events same_octets
     grows pushes =
     record {
@@ -142,11 +144,11 @@ field_kept old one two new name value names values sensitive first second same_e
     }
 
 -- An event whose place was made is kept.
-pub event_kept : (old mid new : Store) (handed : Handed) (place : EventPlace)
+pub placed_kept : (old mid new : Store) (handed : Handed) (place : EventPlace)
     → IsPlaced old handed place mid → new.octets.items ≡ mid.octets.items
     → new.fields.items ≡ mid.fields.items → new.events.items ≡ old.events.items ++ place ∷ []
     → AreStored old → KeepsMore old handed new
-event_kept old mid new handed place placed octets fields events stored =
+placed_kept old mid new handed place placed octets fields events stored =
     let octets_are = octets ∙ placed.octets_are in
     let fields_are = fields ∙ placed.fields_are in
     let more_octets = length-append old.octets.items placed.octets in
@@ -157,14 +159,16 @@ event_kept old mid new handed place placed octets fields events stored =
     omega (arith, more_octets, count) in
     let fewer : length old.fields.items ≤ length new.fields.items =
     omega (arith, more_fields, fields_count) in
-    let kept : map (event_of new.octets.items new.fields.items) old.events.items ≡ events_of old =
+    let kept : map (event_kept new.octets.items new.fields.items) old.events.items
+    ≡ events_kept old =
     rw (octets_are, fields_are) (events_more old.octets.items placed.octets old.fields.items
     placed.fields old.events.items stored.fields stored.events) in
-    let one : event_of new.octets.items new.fields.items place ≡ handed =
+    let one : event_kept new.octets.items new.fields.items place ≡ handed =
     rw (octets, fields) placed.same in
     record {
-      more = ap (λ (e : List EventPlace). map (event_of new.octets.items new.fields.items) e) events
-          ∙ map-append (event_of new.octets.items new.fields.items) old.events.items (place ∷ [])
+      more = ap (λ (e : List EventPlace). map
+          (event_kept new.octets.items new.fields.items) e) events
+          ∙ map-append (event_kept new.octets.items new.fields.items) old.events.items (place ∷ [])
           ∙ ap₂ (λ (before : List Handed) (last : Handed). before ++ last ∷ []) kept one;
       stored = record {
         fields = subst (λ (f : List FieldPlace).
@@ -200,7 +204,7 @@ pub record KeptSoFar (old : Store) (list : List Field) (count : ℕ) (now : Stor
 
 pub record ListSoFar (old : Store) (list : List Field) (count : ℕ) (now : Store) : Type 0 where
   pub events : now.events ≡ old.events
-  pub kept : HasRoom old → list_size list ≤ most_octets → KeptSoFar old list count now
+  pub kept : HasRoomForEvent old → list_size list ≤ most_event_octets → KeptSoFar old list count now
 
 pub list_begins : (old : Store) (list : List Field) → ListSoFar old list 0 old
 list_begins old list =
@@ -264,9 +268,9 @@ list_goes_on old now new list count field left taken sofar keeps =
               fields_are = one.fields
                   ∙ ap (λ (f : List FieldPlace). f ++ one.place ∷ []) before.fields_are
                   ∙ append_assoc old.fields.items before.places (one.place ∷ []);
-              same = map-append (field_of new.octets.items) before.places (one.place ∷ [])
+              same = map-append (stored_field new.octets.items) before.places (one.place ∷ [])
                   ∙ ap₂ (λ (fs : List Field) (f : Field). fs ++ f ∷ [])
-                  (ap (λ (o : List ℕ). fields_of o before.places) one.octets
+                  (ap (λ (o : List ℕ). stored_fields o before.places) one.octets
                   ∙ fields_more now.octets.items text before.places before.within ∙ before.same)
                   one.same
                   ∙ sym taken;
@@ -298,7 +302,7 @@ list_goes_on old now new list count field left taken sofar keeps =
 
 -- A list that is kept is that of its span.
 record ListPlaced (list : List Field) (span : Span) (new : Store) : Type 0 where
-  same : fields_of new.octets.items (part_of new.fields.items span) ≡ list
+  same : stored_fields new.octets.items (part_of new.fields.items span) ≡ list
   within : IsSpan (length new.fields.items) span
 
 list_placed : (old new : Store) (list : List Field) (span : Span) → KeepsList old list span new
@@ -306,9 +310,9 @@ list_placed : (old new : Store) (list : List Field) (span : Span) → KeepsList 
 list_placed old new list span keeps kept =
     let count = ap length kept.fields_are ∙ length-append old.fields.items kept.places in
     record {
-      same = ap (λ (f : List FieldPlace). fields_of new.octets.items (part_of f span))
+      same = ap (λ (f : List FieldPlace). stored_fields new.octets.items (part_of f span))
           kept.fields_are
-          ∙ ap (λ (f : List FieldPlace). fields_of new.octets.items f)
+          ∙ ap (λ (f : List FieldPlace). stored_fields new.octets.items f)
           (part_kept old.fields.items kept.places span keeps.start
           (keeps.end ∙ ap length kept.fields_are))
           ∙ kept.same;
@@ -321,9 +325,9 @@ list_placed old new list span keeps kept =
 -- So an event with a list has its place,
 pub list_event : (old new : Store) (list : List Field) (span : Span) (handed : Handed)
     (place : EventPlace) → KeepsList old list span new
-    → (Fits handed → list_size list ≤ most_octets)
-    → (fields_of new.octets.items (part_of new.fields.items span) ≡ list
-    → event_of new.octets.items new.fields.items place ≡ handed)
+    → (Fits handed → list_size list ≤ most_event_octets)
+    → (stored_fields new.octets.items (part_of new.fields.items span) ≡ list
+    → event_kept new.octets.items new.fields.items place ≡ handed)
     → (IsSpan (length new.fields.items) span
     → IsEventPlace (length new.octets.items) (length new.fields.items) place)
     → PlacesEvent old handed place new
@@ -346,9 +350,9 @@ list_event old new list span handed place keeps small same within =
 
 -- one with a body,
 pub body_event : (old new : Store) (octets : List ℕ) (span : Span) (id : ℕ) (end : Bool)
-    → KeepsOctets old octets span new
+    → StoresOctets old octets span new
     → PlacesEvent old (BodyHanded id octets end) (places.Body id span end) new
-unfolding event_of Fits IsEventPlace
+unfolding event_kept Fits IsEventPlace
 body_event old new octets span id end keeps =
     record {
       events = keeps.events;
@@ -373,7 +377,7 @@ body_event old new octets span id end keeps =
 
 -- and one without either.
 pub bare_event : (old : Store) (handed : Handed) (place : EventPlace)
-    → event_of old.octets.items old.fields.items place ≡ handed
+    → event_kept old.octets.items old.fields.items place ≡ handed
     → IsEventPlace (length old.octets.items) (length old.fields.items) place
     → PlacesEvent old handed place old
 bare_event old handed place same within =

@@ -13,10 +13,14 @@ pub mod JointChains
 pub mod JointOrder
 pub mod JointAnswers
 pub mod JointStart
+pub mod OrderKept
 pub mod JointActs
 pub mod JointLaws
 pub mod JointMemory
+pub mod Unparsed
 pub mod RunLaws
+pub mod JointPlaces
+pub mod RunParts
 pub mod RunHeadline
 pub mod RunActs
 pub mod KeptPipe

@@ -1,11 +1,11 @@
 -- A list of acts that is made, act by act.
 use Rattle.std.proofs.Common.{map as each, ◌≡◌, ℕ, ◌+◌, ◌<◌, ◌≤◌, List, []}
 use Rattle.std.proofs.Common.{◌∷◌, ◌++◌, length}
-use Rattle.std.proofs.Common.{take, refl, sym, ap, subst, ◌∙◌, add-one}
+use Rattle.std.proofs.Common.{take, drop, refl, sym, ap, subst, ◌∙◌, add-one, append-nil}
 use Rattle.std.proofs.Math.Seq.{take-suc}
 use Rattle.std.specs.Prelude.{reverse}
 use Rattle.std.specs.Prelude.{get_or}
-use Rattle.std.proofs.lemmas.List.{reverse-append, map-append, take_all}
+use Rattle.std.proofs.lemmas.List.{reverse-append, map-append, take_all, take-append-drop}
 use Rattle.h2_log.specs.Acts.{Values}
 use Rattle.h2_joined.specs.declared.act.Side.{Side}
 use Rattle.h2_joined.specs.declared.act.Acted.{Acted}
@@ -13,46 +13,56 @@ use Rattle.h2_joined.specs.declared.act.JointAct.{JointAct}
 use Rattle.h2_joined.specs.declared.joined.Joined.{Joined}
 use Rattle.h2_joined.specs.Joints.{Doing, JointEnd, Made}
 use Rattle.h2_joined.specs.Kept.{MakesAct, JoinedRepresents, made_of}
-use Rattle.h2_joined.specs.Runs.{RunsActs, Runs, GotMemory, act_made, act_value}
+use Rattle.h2_joined.specs.Runs.{Runs, GotMemory, joint_act_value, MoreActs}
+use Rattle.h2_joined.specs.Runs.{MakesAll, StopsAtAct}
 use Rattle.h2_joined.proofs.RunHeadline.{has_headline}
 
 -- None was made yet.
-pub runs_none : (client_values server_values : Values) (joined : Joined)
-    (client server : JointEnd)
-    → JoinedRepresents client_values server_values joined [] client server
-    → RunsActs client_values server_values [] joined
-runs_none client_values server_values joined client server is = record {
-  made = [];
-  client = client;
-  server = server;
-  represents = is;
-  acts_are = refl;
-  memory = tt;
-}
+pub makes_none : (joined : Joined) → MakesAll joined [] joined
+makes_none joined client_values server_values before client server is = (
+  record { news = []; client = client; server = server; represents = is; acts_are = refl },
+  tt,
+)
 
 -- One act more.
 more_acts : (acts : List JointAct) (act : JointAct)
-    → reverse (each act_value (acts ++ act ∷ [])) ≡ act_value act ∷ reverse (each act_value acts)
+    → reverse (each joint_act_value (acts ++ act ∷ []))
+    ≡ joint_act_value act ∷ reverse (each joint_act_value acts)
 more_acts acts act =
-    ap (λ (values : List (Side × Doing)). reverse values) (map-append act_value acts (act ∷ []))
-    ∙ reverse-append (each act_value acts) (act_value act ∷ [])
+    ap (λ (values : List (Side
+    × Doing)). reverse values) (map-append joint_act_value acts (act ∷ []))
+    ∙ reverse-append (each joint_act_value acts) (joint_act_value act ∷ [])
 
-runs_one : (client_values server_values : Values) (acts : List JointAct) (act : JointAct)
-    (answer : Acted) (old new : Joined) → RunsActs client_values server_values acts old
-    → MakesAct old (made_of act answer) new → GotMemory answer
-    → RunsActs client_values server_values (acts ++ act ∷ []) new
-runs_one client_values server_values acts act answer old new before does memory =
+one_more : (client_values server_values : Values) (before : List Made) (acts : List JointAct)
+    (act : JointAct) (answer : Acted) (old new : Joined)
+    → (so_far : MoreActs client_values server_values old before acts)
+    → MakesAct old (made_of act answer) new
+    → (more : MoreActs client_values server_values new before (acts ++ act ∷ []))
+    × (more.news ≡ made_of act answer ∷ so_far.news)
+one_more client_values server_values before acts act answer old new so_far does =
     let (new_client, new_server, next, after) =
-    does client_values server_values before.made before.client before.server before.represents in
-    record {
-      made = made_of act answer ∷ before.made;
-      client = new_client;
-      server = new_server;
-      represents = after;
-      acts_are = ap (λ (values : List (Side × Doing)). act_value act ∷ values) before.acts_are
-          ∙ sym (more_acts acts act);
-      memory = (memory, before.memory);
-    }
+    does client_values server_values (so_far.news ++ before) so_far.client so_far.server
+    so_far.represents in (
+      record {
+        news = made_of act answer ∷ so_far.news;
+        client = new_client;
+        server = new_server;
+        represents = after;
+        acts_are = ap (λ (values : List (Side
+            × Doing)). joint_act_value act ∷ values) so_far.acts_are
+            ∙ sym (more_acts acts act);
+      },
+      refl,
+    )
+
+makes_one : (acts : List JointAct) (act : JointAct) (answer : Acted) (first old new : Joined)
+    → MakesAll first acts old → MakesAct old (made_of act answer) new → GotMemory answer
+    → MakesAll first (acts ++ act ∷ []) new
+makes_one acts act answer first old new makes does memory client_values server_values before client
+    server is =
+    let so_far = makes client_values server_values before client server is in
+    let more = one_more client_values server_values before acts act answer old new so_far.0 does in
+    (more.0, rw more.1 (memory, so_far.1))
 
 -- The next act of a list, by its place.
 next_taken : (acts : List JointAct) (place : ℕ) (act : JointAct) → place < length acts
@@ -61,28 +71,58 @@ next_taken acts place act within is =
     rw add-one (take-suc acts place act within
     ∙ ap (λ (item : JointAct). take place acts ++ item ∷ []) (sym is))
 
-pub runs_next : (client_values server_values : Values) (acts : List JointAct) (place : ℕ)
-    (act : JointAct) (answer : Acted) (old new : Joined) → place < length acts
-    → act ≡ get_or acts place act
-    → RunsActs client_values server_values (take place acts) old
-    → MakesAct old (made_of act answer) new → GotMemory answer
-    → RunsActs client_values server_values (take (place + 1) acts) new
-runs_next client_values server_values acts place act answer old new within is before does memory =
-    subst (λ (so_far : List JointAct). RunsActs client_values server_values so_far new)
+pub makes_next : (acts : List JointAct) (place : ℕ) (act : JointAct) (answer : Acted)
+    (first old new : Joined) → place < length acts → act ≡ get_or acts place act
+    → MakesAll first (take place acts) old → MakesAct old (made_of act answer) new
+    → GotMemory answer → MakesAll first (take (place + 1) acts) new
+makes_next acts place act answer first old new within is makes does memory =
+    subst (λ (so_far : List JointAct). MakesAll first so_far new)
     (sym (next_taken acts place act within is))
-    (runs_one client_values server_values (take place acts) act answer old new before does memory)
+    (makes_one (take place acts) act answer first old new makes does memory)
+
+-- It is the last one, where it hasn't got its memory.
+pub stops_there : (acts : List JointAct) (place : ℕ) (act : JointAct) (answer : Acted)
+    (first old new : Joined) → place < length acts → act ≡ get_or acts place act
+    → MakesAll first (take place acts) old → MakesAct old (made_of act answer) new
+    → (GotMemory answer → ⊥) → StopsAtAct first acts new
+stops_there acts place act answer first old new within is makes does lacks = (
+  take place acts ++ act ∷ [],
+  drop (place + 1) acts,
+  sym (take-append-drop (place + 1) acts)
+      ∙ ap (λ (so_far : List JointAct). so_far ++ drop (place + 1) acts)
+      (next_taken acts place act within is),
+  λ client_values server_values before client server both.
+      let so_far = makes client_values server_values before client server both in
+      let more = one_more client_values server_values before (take place acts) act answer old new
+      so_far.0 does in
+      (more.0, made_of act answer, so_far.0.news, more.1, lacks, so_far.1),
+)
 
 -- All were made.
-pub runs_all : (client_values server_values : Values) (acts : List JointAct) (place : ℕ)
-    (joined : Joined) → length acts ≤ place
-    → RunsActs client_values server_values (take place acts) joined
-    → Runs client_values server_values acts joined
-runs_all client_values server_values acts place joined over before =
-    let runs =
-    subst (λ (so_far : List JointAct). RunsActs client_values server_values so_far joined)
-    (take_all place acts over) before in
+pub makes_all : (acts : List JointAct) (place : ℕ) (first joined : Joined) → length acts ≤ place
+    → MakesAll first (take place acts) joined → MakesAll first acts joined
+makes_all acts place first joined over makes =
+    subst (λ (so_far : List JointAct). MakesAll first so_far joined) (take_all place acts over)
+    makes
+
+-- The headline holds then of two ends that were new.
+pub runs_all : (client_values server_values : Values) (acts : List JointAct) (first joined : Joined)
+    (client server : JointEnd)
+    → JoinedRepresents client_values server_values first [] client server
+    → MakesAll first acts joined → Runs client_values server_values acts joined
+runs_all client_values server_values acts first joined client server is makes =
+    let all = makes client_values server_values [] client server is in
+    let none = append-nil all.0.news in
+    let represents = rw none at all.0.represents in
     record {
-      runs = runs;
-      headline = has_headline client_values server_values joined runs.made runs.client runs.server
-          runs.represents;
+      runs = record {
+        made = all.0.news;
+        client = all.0.client;
+        server = all.0.server;
+        represents = represents;
+        acts_are = all.0.acts_are;
+        memory = all.1;
+      };
+      headline = has_headline client_values server_values joined all.0.news all.0.client
+          all.0.server represents;
     }

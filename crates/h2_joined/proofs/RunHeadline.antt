@@ -2,52 +2,52 @@
 use Rattle.std.proofs.Common.{◌≡◌, ℕ, List, ◌++◌, sym, ap, ◌∙◌}
 use Rattle.h2_log.specs.Acts.{Values}
 use Rattle.h2_message.specs.Messages.{SentMessage}
-use Rattle.h2_pair.specs.Tokens.{Token, IsPrefixOfTokens}
-use Rattle.h2_ends.specs.Ends.{EndLog, Handed, parts_on, tokens_of_parts, tokens_given}
-use Rattle.h2_ends.specs.Ends.{message_for, tokens_handed, tokens_said}
+use Rattle.h2_ends.specs.Ends.{EndLog, message_for}
+use Rattle.h2_ends.specs.MessageTokens.{MessageToken, parts_heard, parts_said, IsPrefixOfParts}
 use Rattle.h2_joined.specs.declared.kept.Kept.{Kept}
 use Rattle.h2_joined.specs.declared.joined.Joined.{Joined}
 use Rattle.h2_joined.specs.Joints.{JointEnd, Made}
 use Rattle.h2_joined.specs.Headline.{AreQuiet}
 use Rattle.h2_joined.specs.Kept.{KeepsHanded, KeepsEnd, JoinedRepresents}
-use Rattle.h2_joined.specs.Runs.{tokens_recorded, tokens_accepted, AreInOrder, AreWhole}
+use Rattle.h2_joined.specs.Runs.{parts_recorded, parts_accepted, AreInOrder, AreWhole}
 use Rattle.h2_joined.specs.Runs.{HasHeadline}
-use Rattle.h2_joined.proofs.RunLaws.{prefix_at_server, prefix_at_client, client_no_fault}
-use Rattle.h2_joined.proofs.RunLaws.{server_no_fault, whole_at_server, whole_at_client}
+use Rattle.h2_joined.proofs.RunLaws.{client_no_fault, server_no_fault}
+use Rattle.h2_joined.proofs.RunParts.{parts_begin_at_server, parts_begin_at_client}
+use Rattle.h2_joined.proofs.RunParts.{parts_whole_at_server, parts_whole_at_client}
+use Rattle.h2_joined.proofs.RunLaws.{keep_throughout}
 
 -- What is kept is what was handed out.
 handed_same : (kept : Kept) (end : EndLog) (i : ℕ) → KeepsHanded kept.handed end.handed
-    → tokens_recorded kept i ≡ tokens_handed end i
-handed_same kept end i keeps =
-    sym (ap (λ (handed : List Handed). tokens_of_parts (parts_on i handed)) keeps.same)
+    → parts_recorded kept i ≡ parts_heard i end.handed
+handed_same kept end i keeps = sym (ap (parts_heard i) keeps.same)
 
 -- What is kept as accepted was accepted.
 accepted_same : (kept : Kept) (one : JointEnd) (i : ℕ) → KeepsEnd kept one
-    → tokens_said one.happened i ≡ tokens_accepted kept i
+    → parts_said (message_for i one.happened.accepted) ≡ parts_accepted kept i
 accepted_same kept one i keeps =
-    ap (λ (accepted : List (ℕ × SentMessage)). tokens_given (message_for i accepted)) keeps.accepted
+    ap (λ (accepted : List (ℕ × SentMessage)). parts_said (message_for i accepted)) keeps.accepted
 
 -- A prefix, by what it is and what it is of.
-prefix_of_same : (one two whole other : List Token) → one ≡ two → IsPrefixOfTokens two whole
-    → whole ≡ other → IsPrefixOfTokens one other
+prefix_of_same : (one two whole other : List MessageToken) → one ≡ two
+    → IsPrefixOfParts two whole → whole ≡ other → IsPrefixOfParts one other
 prefix_of_same one two whole other is (more, all) same =
-    (more, sym same ∙ all ∙ ap (λ (tokens : List Token). tokens ++ more) (sym is))
+    (more, sym same ∙ all ∙ ap (λ (parts : List MessageToken). parts ++ more) (sym is))
 
 pub in_order : (client_values server_values : Values) (joined : Joined) (made : List Made)
     (client server : JointEnd)
     → JoinedRepresents client_values server_values joined made client server → AreInOrder joined
 in_order client_values server_values joined made client server is = record {
   at_server_in_order = λ i.
-      prefix_of_same (tokens_recorded joined.at_server i) (tokens_handed server.happened i)
-      (tokens_said client.happened i) (tokens_accepted joined.at_client i)
+      prefix_of_same (parts_recorded joined.at_server i) (parts_heard i server.happened.handed)
+      (parts_said (message_for i client.happened.accepted)) (parts_accepted joined.at_client i)
       (handed_same joined.at_server server.happened i is.server_kept.handed)
-      (prefix_at_server client_values server_values made client server i is.joint)
+      (parts_begin_at_server client_values server_values made client server i is.joint)
       (accepted_same joined.at_client client i is.client_kept);
   at_client_in_order = λ i.
-      prefix_of_same (tokens_recorded joined.at_client i) (tokens_handed client.happened i)
-      (tokens_said server.happened i) (tokens_accepted joined.at_server i)
+      prefix_of_same (parts_recorded joined.at_client i) (parts_heard i client.happened.handed)
+      (parts_said (message_for i server.happened.accepted)) (parts_accepted joined.at_server i)
       (handed_same joined.at_client client.happened i is.client_kept.handed)
-      (prefix_at_client client_values server_values made client server i is.joint)
+      (parts_begin_at_client client_values server_values made client server i is.joint)
       (accepted_same joined.at_server server i is.server_kept);
 }
 
@@ -58,12 +58,12 @@ pub are_whole : (client_values server_values : Values) (joined : Joined) (made :
 are_whole client_values server_values joined made client server is quiet = record {
   at_server_whole = λ i not_reset.
       handed_same joined.at_server server.happened i is.server_kept.handed
-      ∙ (whole_at_server client_values server_values made client server i is.joint quiet not_reset
-      ∙ accepted_same joined.at_client client i is.client_kept);
+      ∙ (parts_whole_at_server client_values server_values made client server i is.joint quiet
+      not_reset ∙ accepted_same joined.at_client client i is.client_kept);
   at_client_whole = λ i not_reset.
       handed_same joined.at_client client.happened i is.client_kept.handed
-      ∙ (whole_at_client client_values server_values made client server i is.joint quiet not_reset
-      ∙ accepted_same joined.at_server server i is.server_kept);
+      ∙ (parts_whole_at_client client_values server_values made client server i is.joint quiet
+      not_reset ∙ accepted_same joined.at_server server i is.server_kept);
 }
 
 -- The headline holds of every two joined ends.
@@ -75,5 +75,6 @@ has_headline client_values server_values joined made client server is = record {
   in_order = in_order client_values server_values joined made client server is;
   client_without_fault = client_no_fault client_values server_values made client server is.joint;
   server_without_fault = server_no_fault client_values server_values made client server is.joint;
+  keep_windows = keep_throughout client_values server_values made client server is.joint;
   whole = are_whole client_values server_values joined made client server is;
 }

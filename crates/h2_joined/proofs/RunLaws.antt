@@ -1,11 +1,19 @@
 -- The laws of two joined ends.
-use Rattle.std.proofs.Common.{◌≡◌, ℕ, List, None, Some}
-use Rattle.h2_block.specs.Grouping.{Item}
+use Rattle.std.proofs.Common.{◌≡◌, ℕ, List, [], ◌∷◌, ◌++◌, subst}
+use Rattle.h2_log.specs.declared.role.Role.TheVariants.{Client, Server}
 use Rattle.h2_log.specs.Acts.{Values}
+use Rattle.h2_end_laws.specs.WithinWindows.{KeepsWindows}
+use Rattle.h2_end_laws.proofs.WithinWindows.{keeps_windows}
 use Rattle.h2_pair.specs.Tokens.{IsPrefixOfTokens}
+use Rattle.h2_joined.proofs.Unparsed.{none_unparsed}
+use Rattle.h2_pair.proofs.BothWays.{to_server, to_client, ends_to_server, ends_to_client}
+use Rattle.h2_pair.proofs.CarriedOctets.{carried}
+use Rattle.h2_pair.proofs.PairLogs.{both_logs}
 use Rattle.h2_ends.specs.Ends.{tokens_handed, tokens_said}
 use Rattle.h2_joined.specs.declared.act.Side.TheVariants as sides
-use Rattle.h2_joined.specs.Joints.{JointEnd, Made, IsJoint, MemorySufficed}
+use Rattle.h2_joined.specs.Joints.{JointEnd, Made, IsJoint, begins, continues, MemorySufficed}
+use Rattle.h2_joined.specs.Joints.{half_of}
+use Rattle.h2_joined.specs.Runs.{KeepWindowsThroughout, ActsLeadTo, leads_nowhere, leads_on}
 use Rattle.h2_joined.specs.Headline.{AreQuiet, WasResetIn, ReportsNoFault}
 use Rattle.h2_joined.proofs.JointActs.{joint_holds}
 use Rattle.h2_joined.proofs.JointLaws.{client_faultless, server_faultless}
@@ -42,6 +50,75 @@ server_no_fault client_values server_values made client server joint had =
     server_faultless client_values server_values made client server
     (joint_holds client_values server_values made client server joint)
     (had_memory client_values server_values made client server joint had)
+
+-- No DATA of either end passes its windows.
+client_keeps : (client_values server_values : Values) (made : List Made)
+    (client server : JointEnd) → IsJoint client_values server_values made client server
+    → KeepsWindows client.happened.log
+client_keeps client_values server_values made client server joint =
+    let holds = joint_holds client_values server_values made client server joint in
+    keeps_windows Client client_values client.happened.log
+    (both_logs client_values server_values _ _ holds.pair).client_log
+
+server_keeps : (client_values server_values : Values) (made : List Made)
+    (client server : JointEnd) → IsJoint client_values server_values made client server
+    → KeepsWindows server.happened.log
+server_keeps client_values server_values made client server joint =
+    let holds = joint_holds client_values server_values made client server joint in
+    keeps_windows Server server_values server.happened.log
+    (both_logs client_values server_values _ _ holds.pair).server_log
+
+-- Both did so after each act.
+keep_at : (client_values server_values : Values) (made : List Made) (client server : JointEnd)
+    → IsJoint client_values server_values made client server → (later before : List Made)
+    → made ≡ later ++ before
+    → (then_client then_server : JointEnd) × ActsLeadTo then_client then_server later client server
+    × KeepsWindows then_client.happened.log × KeepsWindows then_server.happened.log
+keep_at client_values server_values made client server joint [] before split = (
+  client,
+  server,
+  leads_nowhere,
+  client_keeps client_values server_values made client server joint,
+  server_keeps client_values server_values made client server joint,
+)
+keep_at client_values server_values _ client server (begins client_range server_range)
+    (one ∷ later) before split = absurd (cc)
+keep_at client_values server_values _ client server
+    (continues {history = history} joint act next) (one ∷ later) before split =
+    let same : act ≡ one = cc in
+    let others : history ≡ later ++ before = cc in
+    let (then_client, then_server, leads, client_kept, server_kept) =
+    keep_at client_values server_values history _ _ joint later before others in (
+      then_client,
+      then_server,
+      subst (λ (it : Made). ActsLeadTo then_client then_server (it ∷ later) client server) same
+          (leads_on leads act next),
+      client_kept,
+      server_kept,
+    )
+
+pub keep_throughout : (client_values server_values : Values) (made : List Made)
+    (client server : JointEnd) → IsJoint client_values server_values made client server
+    → KeepWindowsThroughout made client server
+keep_throughout client_values server_values made client server joint =
+    keep_at client_values server_values made client server joint
+
+-- Two quiet ends hold no octets of a frame that isn't complete.
+pub hold_nothing : (client_values server_values : Values) (made : List Made)
+    (client server : JointEnd) → IsJoint client_values server_values made client server
+    → AreQuiet client server
+    → (client.happened.log.unparsed ≡ []) × (server.happened.log.unparsed ≡ [])
+hold_nothing client_values server_values made client server joint quiet =
+    let holds = joint_holds client_values server_values made client server joint in
+    let one = half_of client holds.client_lost in
+    let other = half_of server holds.server_lost in (
+      none_unparsed other one (ends_to_client client_values server_values one other holds.pair)
+          (carried other one (to_client holds.pair)) quiet.quiet_client.up quiet.to_client
+          quiet.quiet_server.given,
+      none_unparsed one other (ends_to_server client_values server_values one other holds.pair)
+          (carried one other (to_server holds.pair)) quiet.quiet_server.up quiet.to_server
+          quiet.quiet_client.given,
+    )
 
 -- Two quiet ends are up, so that memory was not refused to their connections.
 quiet_had_memory : (client server : JointEnd) → AreQuiet client server

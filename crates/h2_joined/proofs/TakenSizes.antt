@@ -28,7 +28,7 @@ use Rattle.h2_log.specs.Verdicts.{Verdict, ConnectionFault, StreamFault, NoEvent
 use Rattle.h2_log.specs.Verdicts.{block_verdict, data_verdict, opening_verdict}
 use Rattle.h2_log.specs.ItemRules.{Decoded, FrameStep, fails_with, begins_block, completes}
 use Rattle.h2_log.specs.ItemRules.{frame_step, verdict_by_rules, verdict_of}
-use Rattle.h2_log.specs.ItemEffects.{events_of, fields_of}
+use Rattle.h2_log.specs.ItemEffects.{events_of, decoded_fields}
 use Rattle.h2_log.specs.LogSteps.{used, read, with_sent, with_reported}
 use Rattle.h2_log.specs.LogSteps.{with_unreturned, with_failure, with_verdict, with_step}
 use Rattle.h2_log.specs.LogSteps.{with_frame, took_frame}
@@ -47,8 +47,9 @@ use Rattle.h2_end_laws.proofs.TakeAnswers.{reported_is, sent_reported, unreturne
 use Rattle.h2_ends.specs.declared.end.End.{End}
 use Rattle.h2_ends.specs.Ends.{EndLog, Handed, Passed, EndAnswer, EndTook}
 use Rattle.h2_ends.specs.Ends.{part_of_event, handed_at, handed_as, reads_on, parts_on}
-use Rattle.h2_ends.specs.EndTakes.{EndMayTake, AnswersRefused, fails, hands_nothing, passes as hands_on}
-use Rattle.h2_ends.specs.EndTakes.{hands_out, refuses, runs_out_of_memory}
+use Rattle.h2_ends.specs.EndTakes.{EndMayTake, fails, hands_nothing}
+use Rattle.h2_ends.specs.EndTakes.{passes as hands_on}
+use Rattle.h2_ends.specs.EndTakes.{hands_out, refuses, refusal_fails, runs_out_of_memory}
 use Rattle.h2_ends.specs.Represents.{EndRepresents}
 use Rattle.h2_joined.specs.Stored.{Fits}
 
@@ -60,7 +61,7 @@ FitsEvent event = Unit {0}
 
 -- and in an item.
 abbrev FitsItem : Option Decoded → Item → Type 0
-FitsItem decoded (block stream end octets) = list_size (fields_of decoded) ≤ 65536
+FitsItem decoded (block stream end octets) = list_size (decoded_fields decoded) ≤ 65536
 FitsItem decoded (alone (Data stream end octets pad)) = length octets ≤ 65536
 FitsItem decoded (alone frame) = Unit {0}
 
@@ -282,17 +283,6 @@ passed_fits : (event : Event) → Fits (Passed event)
 unfolding Fits
 passed_fits event = tt
 
-refusal_fits : (end after : EndLog) (log : Log) (count id used : ℕ) (answer : EndAnswer)
-    (handed : Handed) (failed : Option Code) → AnswersRefused end log count id answer after failed
-    → answer ≡ EndTook used (Some handed) → Fits handed
-unfolding AnswersRefused
-refusal_fits end after log count id used answer handed None answers is =
-    let one = answers.0 in
-    let same : handed ≡ Passed (ResetEvent id 1 true) = cc in
-    subst Fits (sym same) (passed_fits (ResetEvent id 1 true))
-refusal_fits end after log count id used answer handed (Some code) answers is =
-    let one = answers.0 in absurd (cc)
-
 answer_fits : (role : Role) (values : Values) (end after : EndLog) (piece : List ℕ)
     (answer : EndAnswer) (used : ℕ) (handed : Handed) → IsLog role values end.log
     → EndMayTake end piece answer after → answer ≡ EndTook used (Some handed) → Fits handed
@@ -310,8 +300,12 @@ answer_fits role values end after piece answer used handed came
     (part_fits event id part of
     (event_fits role values end.log log piece (Took count (Some event)) count event came may refl)))
 answer_fits role values end after piece answer used handed came
-    (refuses count event log may id part of broken refused answers leads) is =
-    refusal_fits end after _ count id used answer handed _ leads is
+    (refuses count event log may id part of broken refused answers_it up answers same) is =
+    let one : handed ≡ Passed (ResetEvent id 1 true) = cc in
+    subst Fits (sym one) (passed_fits (ResetEvent id 1 true))
+answer_fits role values end after piece answer used handed came
+    (refusal_fails count event log may id part of broken refused answers_it code down answers
+    same) is = absurd (cc)
 answer_fits role values end after piece answer used handed came
     (runs_out_of_memory count id list ends log may role_is first readable refused answers_it answers
     same) is = absurd (cc)

@@ -17,13 +17,13 @@ use Rattle.h2_joined.specs.declared.store.Store.{Store}
 use Rattle.h2_joined.specs.declared.joined.Joined.{Joined}
 use Rattle.h2_joined.specs.declared.pipe.Pipe.{Pipe}
 use Rattle.h2_joined.specs.Joints.{Delivery, Whole, Fails, Stops, IsDelivered}
-use Rattle.h2_joined.specs.Stored.{HasRoom, KeepsItems}
+use Rattle.h2_joined.specs.Stored.{HasRoomForEvent, KeepsItems}
 use Rattle.h2_joined.specs.Kept.{KeepsHanded, end_at, kept_of, other_side}
 
 -- what a call of `take` answered, where this was handed out
-abbrev pub taken_answer : Taking → Option Handed → EndAnswer
-taken_answer (takings.Took used hands) handed = EndTook used handed
-taken_answer (takings.Failed code) handed = EndFailed code
+abbrev pub end_answer : Taking → Option Handed → EndAnswer
+end_answer (takings.Took used hands) handed = EndTook used handed
+end_answer (takings.Failed code) handed = EndFailed code
 
 -- It says whether something was handed out.
 abbrev pub SaysHanded : Taking → Option Handed → Type 0
@@ -42,10 +42,11 @@ pub record IsTaken (values : Values) (end : EndLog) (store : Store) (piece : Lis
     (taking : Taking) (new : End) (new_store : Store) : Type 0 where
   pub after : EndLog
   pub handed : Option Handed
-  pub may : EndMayTake end piece (taken_answer taking handed) after
+  pub may : EndMayTake end piece (end_answer taking handed) after
   pub says : SaysHanded taking handed
   pub represents : EndRepresents values new after
-  pub kept : HasRoom store → KeepsHanded store end.handed → KeepsHanded new_store after.handed
+  pub kept : HasRoomForEvent store → KeepsHanded store end.handed
+      → KeepsHanded new_store after.handed
 
 -- Whatever has happened at the end.
 abbrev pub TakesOnce : End → Store → List ℕ → Taking → End → Store → Type 0
@@ -71,7 +72,7 @@ pub record TookAt (side : Side) (old : Joined) (piece : List ℕ) (taking : Taki
 
 -- Room was made for whatever a call at an end may hand out, or memory was refused.
 pub record MakesRoom (side : Side) (old : Joined) (made : Bool) (new : Joined) : Type 0 where
-  pub room : made ≡ true → HasRoom (kept_of side new).handed
+  pub room : made ≡ true → HasRoomForEvent (kept_of side new).handed
   pub items : KeepsItems (kept_of side old).handed (kept_of side new).handed
   pub one_end : end_at side new ≡ end_at side old
   pub only : ChangesOnly side old new
@@ -137,7 +138,7 @@ pub record TakesOctetsOf (values : Values) (side : Side) (end : EndLog) (octets 
   pub kept : IsKeptAt values side new after
 
 -- Octets were delivered to an end, whatever had happened at it.
-pub record TakesOctets (side : Side) (old : Joined) (octets : List ℕ) (end_of_it : Delivered)
+pub record TakesDelivery (side : Side) (old : Joined) (octets : List ℕ) (end_of_it : Delivered)
     (new : Joined) : Type 0 where
   pub within : EndsWithin end_of_it (length octets)
   pub only : ChangesOnly side old new

@@ -10,8 +10,8 @@ use Rattle.h2_joined.specs.declared.act.Side.{Side}
 use Rattle.h2_joined.specs.declared.act.Acted.TheVariants.{Done}
 use Rattle.h2_joined.specs.Joints.{Calls, JointEnd, Made}
 
--- Both ends are quiet, both pipes are empty, and the last delivery to either end has not stopped: so
--- what an end has to hand out it has handed out.
+-- Both ends are quiet, both pipes are empty, and the last delivery to either end has not stopped:
+-- so what an end has to hand out it has handed out.
 -- rule: joined (own) Two joined ends are quiet where both are, and both pipes are empty
 pub record AreQuiet (client server : JointEnd) : Type 0 where
   pub quiet_client : IsQuietEnd client.happened

@@ -18,7 +18,7 @@ use Rattle.h2_ends.specs.declared.refusal.EndRefusal.TheVariants.{Conn}
 use Rattle.h2_ends.specs.Ends.{EndLog, Handed, EndTook, EndFailed}
 use Rattle.h2_ends.specs.EndTakes.{EndMayTake, end_with_log}
 use Rattle.h2_ends.specs.EndCalls.{MayRequest, MayRespond, MayPump, MayReleaseAll}
-use Rattle.h2_ends.specs.Represents.{new_end, SendsInOrder, HandsInOrder}
+use Rattle.h2_ends.specs.Represents.{new_end_log}
 use Rattle.h2_joined.specs.declared.act.Side.{Side}
 use Rattle.h2_joined.specs.declared.act.Side.TheVariants as sides
 use Rattle.h2_joined.specs.declared.act.Acted.{Acted}
@@ -51,7 +51,7 @@ pub record JointEnd : Type 0 where
 -- a new end, to which no octets lead yet
 abbrev pub new_joint_end : Role → Values → JointEnd
 new_joint_end role values =
-    record { happened = new_end role values; incoming = []; unfinished = false }
+    record { happened = new_end_log role values; incoming = []; unfinished = false }
 
 -- the end once this has happened at it
 abbrev pub with_happened : JointEnd → EndLog → JointEnd
@@ -84,12 +84,12 @@ acted_as OutOfMemory = acted.Done
 acted_as (Refused refusal) = acted.Refused (Conn refusal)
 
 -- The call is one of `reset`, `ping`, `go_away` and `change_settings`.
-abbrev pub IsCall : Act → Type 0
-IsCall (ResetStream id code) = Unit {0}
-IsCall (SendPing octets) = Unit {0}
-IsCall SendGoAway = Unit {0}
-IsCall (ChangeSettings values) = Unit {0}
-IsCall act = ⊥
+abbrev pub IsControlCall : Act → Type 0
+IsControlCall (ResetStream id code) = Unit {0}
+IsControlCall (SendPing octets) = Unit {0}
+IsControlCall SendGoAway = Unit {0}
+IsControlCall (ChangeSettings values) = Unit {0}
+IsControlCall act = ⊥
 
 -- how it ends that octets are delivered
 pub data Delivery : Type 0 where
@@ -149,7 +149,7 @@ pub data MayDo (one other : JointEnd) : Doing → Acted → (new_one new_other :
         → MayReleaseAll one.happened result after
         → MayDo one other ReleasesAll (acted_by (λ done. acted.Done) result)
         (with_happened one after) other
-    calls : (act : Act) (answer : Answer) → IsCall act → IsTypedAct act
+    calls : (act : Act) (answer : Answer) → IsControlCall act → IsTypedAct act
         → MayAnswer one.happened.log act answer
         → MayDo one other (Calls act) (acted_as answer) (with_answer one act answer) other
     moves : (count : ℕ) (answer : Answer) → IsTypedAct (PutOut count)
@@ -183,11 +183,6 @@ pub data MayDo (one other : JointEnd) : Doing → Acted → (new_one new_other :
     no_copy_of_a_response : (id : ℕ) (message : SentMessage)
         → MayDo one other (Responds id message) acted.Memory one other
 
--- What was sent and handed out at an end on each stream keeps the order.
-pub record KeepsOrder (end : EndLog) : Type 0 where
-  pub sends : (i : ℕ) → SendsInOrder end i
-  pub hands : (i : ℕ) → HandsInOrder end i
-
 -- an act: what was done with which end, and what was answered
 pub record Made : Type 0 where
   pub side : Side
@@ -199,11 +194,11 @@ pub record Made : Type 0 where
 pub data IsNextAct (client server : JointEnd) : Made → (new_client new_server : JointEnd) → Type 0
   where
     at_client : {new_client new_server : JointEnd} → (doing : Doing) (answer : Acted)
-        → MayDo client server doing answer new_client new_server → KeepsOrder new_client.happened
+        → MayDo client server doing answer new_client new_server
         → IsNextAct client server
         (record { side = sides.Client; doing = doing; acted = answer }) new_client new_server
     at_server : {new_client new_server : JointEnd} → (doing : Doing) (answer : Acted)
-        → MayDo server client doing answer new_server new_client → KeepsOrder new_server.happened
+        → MayDo server client doing answer new_server new_client
         → IsNextAct client server
         (record { side = sides.Server; doing = doing; acted = answer }) new_client new_server
 

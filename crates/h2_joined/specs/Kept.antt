@@ -1,5 +1,5 @@
 -- What is kept of the two ends, and what it represents.
-use Rattle.std.specs.Prelude.{map as each, ◌≡◌, ℕ, List, ◌∷◌, ◌++◌, length, reverse}
+use Rattle.std.specs.Prelude.{map as each, ◌≡◌, ◌≤◌, ℕ, List, ◌∷◌, ◌++◌, length, reverse}
 use Rattle.h2_config.specs.ConfigValues.{values_of}
 use Rattle.h2_log.specs.Acts as log
 use Rattle.h2_log.specs.Acts.{Values}
@@ -20,7 +20,7 @@ use Rattle.h2_joined.specs.declared.store.Store.{Store}
 use Rattle.h2_joined.specs.declared.joined.Joined.{Joined}
 use Rattle.h2_joined.specs.Joints.{Doing, Requests, Responds, Pumps, ReleasesAll, Calls, Moves}
 use Rattle.h2_joined.specs.Joints.{Delivers, JointEnd, Made, IsJoint, IsNextAct}
-use Rattle.h2_joined.specs.Stored.{events_of, AreStored}
+use Rattle.h2_joined.specs.Stored.{events_kept, AreStored}
 
 -- a message that was accepted, with its stream
 abbrev pub accepted_value : Accepted → ℕ × SentMessage
@@ -61,17 +61,18 @@ made side doing acted = record { side = side; doing = doing; acted = acted }
 abbrev pub made_of : JointAct → Acted → Made
 made_of act acted = made (side_of act) (doing_of act) acted
 
--- The pipe holds these octets, after those that were delivered.
+-- The pipe holds these octets, after those that were delivered, which are no more than these.
 -- rule: joined (own) The first octets of a pipe are given to its end
 pub record HoldsOctets (pipe : Pipe) (octets : List ℕ) : Type 0 where
   pub delivered : List ℕ
   pub items : pipe.octets.items ≡ delivered ++ octets
   pub count : pipe.used ≡ length delivered
+  pub half : length delivered ≤ length octets
 
 -- What was handed out is kept, in order, all of it; and what is kept lies within the store.
 -- rule: joined (own) Accepted messages, what was handed out, octets on a pipe are kept
 pub record KeepsHanded (store : Store) (handed : List Handed) : Type 0 where
-  pub same : handed ≡ reverse (events_of store)
+  pub same : handed ≡ reverse (events_kept store)
   pub stored : AreStored store
 
 -- What is kept of an end is what has happened at it, and the pipe to it.

@@ -1,11 +1,12 @@
 -- The headline: what holds of two joined ends after any list of acts.
-use Rattle.std.specs.Prelude.{map as each, ◌≡◌, ◌≢◌, ℕ, List, reverse}
+use Rattle.std.specs.Prelude.{map as each, ◌≡◌, ◌≢◌, ℕ, List, [], ◌∷◌, ◌++◌, reverse}
 use Rattle.std.specs.List.{AllByRecursion}
 use Rattle.h2_log.specs.declared.refusal.Refusal.TheVariants.{Memory}
 use Rattle.h2_log.specs.Acts.{Values}
+use Rattle.h2_end_laws.specs.WithinWindows.{KeepsWindows}
 use Rattle.h2_ends.specs.declared.refusal.EndRefusal.TheVariants.{Conn}
-use Rattle.h2_ends.specs.Ends.{message_for, parts_on, tokens_given, tokens_of_parts}
-use Rattle.h2_pair.specs.Tokens.{Token, IsPrefixOfTokens}
+use Rattle.h2_ends.specs.Ends.{message_for}
+use Rattle.h2_ends.specs.MessageTokens.{MessageToken, parts_heard, parts_said, IsPrefixOfParts}
 use Rattle.h2_joined.specs.declared.act.Side.{Side}
 use Rattle.h2_joined.specs.declared.act.Side.TheVariants as sides
 use Rattle.h2_joined.specs.declared.act.Acted.{Acted}
@@ -13,37 +14,57 @@ use Rattle.h2_joined.specs.declared.act.Acted.TheVariants as acted
 use Rattle.h2_joined.specs.declared.act.JointAct.{JointAct}
 use Rattle.h2_joined.specs.declared.kept.Kept.{Kept}
 use Rattle.h2_joined.specs.declared.joined.Joined.{Joined}
-use Rattle.h2_joined.specs.Joints.{Doing, JointEnd, Made, MemorySufficed}
+use Rattle.h2_joined.specs.Joints.{Doing, JointEnd, Made, IsNextAct, MemorySufficed}
 use Rattle.h2_joined.specs.Headline.{AreQuiet, WasResetIn, ReportsNoFault}
 use Rattle.h2_joined.specs.Kept.{accepted_value, side_of, doing_of, JoinedRepresents}
-use Rattle.h2_joined.specs.Stored.{events_of}
+use Rattle.h2_joined.specs.Stored.{events_kept}
 
--- what is kept of what an end has handed out on a stream, token by token
-abbrev pub tokens_recorded : Kept → ℕ → List Token
-tokens_recorded kept i = tokens_of_parts (parts_on i (reverse (events_of kept.handed)))
+-- what is kept of what an end has handed out on a stream, part by part: interim heads, the head,
+-- octets of the body, trailers and the end are told apart
+abbrev pub parts_recorded : Kept → ℕ → List MessageToken
+parts_recorded kept i = parts_heard i (reverse (events_kept kept.handed))
 
--- the tokens of the message that is kept as accepted for a stream, or none
-abbrev pub tokens_accepted : Kept → ℕ → List Token
-tokens_accepted kept i =
-    tokens_given (message_for i (reverse (each accepted_value kept.accepted.items)))
+-- the parts of the message that is kept as accepted for a stream, or none
+abbrev pub parts_accepted : Kept → ℕ → List MessageToken
+parts_accepted kept i =
+    parts_said (message_for i (reverse (each accepted_value kept.accepted.items)))
 
 -- What an end has handed out on each stream is a prefix of what the other has accepted for it.
 pub record AreInOrder (joined : Joined) : Type 0 where
   pub at_server_in_order : (i : ℕ)
-      → IsPrefixOfTokens (tokens_recorded joined.at_server i) (tokens_accepted joined.at_client i)
+      → IsPrefixOfParts (parts_recorded joined.at_server i) (parts_accepted joined.at_client i)
   pub at_client_in_order : (i : ℕ)
-      → IsPrefixOfTokens (tokens_recorded joined.at_client i) (tokens_accepted joined.at_server i)
+      → IsPrefixOfParts (parts_recorded joined.at_client i) (parts_accepted joined.at_server i)
 
 -- It is all of it, unless the stream was reset.
 pub record AreWhole (joined : Joined) (made : List Made) (client : JointEnd) : Type 0 where
   pub at_server_whole : (i : ℕ) → (WasResetIn made client i → ⊥)
-      → tokens_recorded joined.at_server i ≡ tokens_accepted joined.at_client i
+      → parts_recorded joined.at_server i ≡ parts_accepted joined.at_client i
   pub at_client_whole : (i : ℕ) → (WasResetIn made client i → ⊥)
-      → tokens_recorded joined.at_client i ≡ tokens_accepted joined.at_server i
+      → parts_recorded joined.at_client i ≡ parts_accepted joined.at_server i
+
+-- From two ends these acts, the newest first, lead to two ends.
+pub data ActsLeadTo (first_client first_server : JointEnd) : (acts : List Made)
+    → (client server : JointEnd) → Type 0 where
+  leads_nowhere : ActsLeadTo first_client first_server [] first_client first_server
+  leads_on : {acts : List Made} → {client server new_client new_server : JointEnd}
+      → ActsLeadTo first_client first_server acts client server → (act : Made)
+      → IsNextAct client server act new_client new_server
+      → ActsLeadTo first_client first_server (act ∷ acts) new_client new_server
+
+-- After each of the acts that were made, the ends that there were then, from which the later acts
+-- have led to these, had let no DATA pass its windows.
+-- rule: 6.9.1 DATA is sent within both windows
+abbrev pub KeepWindowsThroughout : List Made → (client server : JointEnd) → Type 0
+KeepWindowsThroughout made client server =
+    (later before : List Made) → made ≡ later ++ before
+    → (then_client then_server : JointEnd) × ActsLeadTo then_client then_server later client server
+    × KeepsWindows then_client.happened.log × KeepsWindows then_server.happened.log
 
 -- The headline. What each end has handed out on every stream is a prefix of what the other has
--- accepted for it. Where memory was not refused to a connection, neither end reports a fault. Once
--- both are quiet, it is all of it, on every stream that was not reset.
+-- accepted for it. Where memory was not refused to a connection, neither end reports a fault. No
+-- DATA of either has passed its windows, after whichever act. Once both are quiet, it is all of it,
+-- on every stream that was not reset.
 -- rule: joined (own) What one end has handed out is a prefix of what the other accepted
 pub record HasHeadline (joined : Joined) (made : List Made) (client server : JointEnd) : Type 0
   where
@@ -52,19 +73,50 @@ pub record HasHeadline (joined : Joined) (made : List Made) (client server : Joi
         → ReportsNoFault made client.happened sides.Server
     pub server_without_fault : MemorySufficed client server
         → ReportsNoFault made server.happened sides.Client
+    pub keep_windows : KeepWindowsThroughout made client server
     pub whole : AreQuiet client server → AreWhole joined made client
 
 -- an act without its answer
 abbrev pub act_made : Made → Side × Doing
 act_made made = (made.side, made.doing)
 
-abbrev pub act_value : JointAct → Side × Doing
-act_value act = (side_of act, doing_of act)
+abbrev pub joint_act_value : JointAct → Side × Doing
+joint_act_value act = (side_of act, doing_of act)
 
 -- The act answered neither `Memory` nor a refusal with C12.
 pub record GotMemory (answer : Acted) : Type 0 where
   pub act : answer ≢ acted.Memory
   pub call : answer ≢ acted.Refused (Conn Memory)
+
+-- More acts were made, in order, and this has happened at the two ends then: each has an answer,
+-- and goes on after a refused one.
+-- rule: joined (own) An act is the call of its name at its end
+pub record MoreActs (client_values server_values : Values) (joined : Joined) (before : List Made)
+    (acts : List JointAct) : Type 0 where
+  pub news : List Made
+  pub client : JointEnd
+  pub server : JointEnd
+  pub represents : JoinedRepresents client_values server_values joined (news
+      ++ before) client server
+  pub acts_are : each act_made news ≡ reverse (each joint_act_value acts)
+
+-- All acts of a list were made, and each got its memory.
+abbrev pub MakesAll : (old : Joined) → (acts : List JointAct) → (new : Joined) → Type 0
+MakesAll old acts new =
+    (client_values server_values : Values) (before : List Made) (client server : JointEnd)
+    → JoinedRepresents client_values server_values old before client server
+    → (more : MoreActs client_values server_values new before acts)
+    × AllByRecursion (λ act. GotMemory act.acted) more.news
+
+-- The first acts of a list were made, and just the last of these has not got its memory.
+abbrev pub StopsAtAct : (old : Joined) → (acts : List JointAct) → (new : Joined) → Type 0
+StopsAtAct old acts new =
+    (first later : List JointAct) × (acts ≡ first ++ later)
+    × ((client_values server_values : Values) (before : List Made) (client server : JointEnd)
+    → JoinedRepresents client_values server_values old before client server
+    → (more : MoreActs client_values server_values new before first)
+    × (last : Made) × (others : List Made) × (more.news ≡ last ∷ others)
+    × (GotMemory last.acted → ⊥) × AllByRecursion (λ act. GotMemory act.acted) others)
 
 -- The acts were made, in order, on a new client and a new server with these values, and none
 -- answered `Memory`, or was refused with C12.
@@ -74,7 +126,7 @@ pub record RunsActs (client_values server_values : Values) (acts : List JointAct
   pub client : JointEnd
   pub server : JointEnd
   pub represents : JoinedRepresents client_values server_values joined made client server
-  pub acts_are : each act_made made ≡ reverse (each act_value acts)
+  pub acts_are : each act_made made ≡ reverse (each joint_act_value acts)
   pub memory : AllByRecursion (λ act. GotMemory act.acted) made
 
 -- The acts were made, and the headline holds of the two ends.

@@ -22,37 +22,37 @@ abbrev pub part_of : {A : Type 0} → List A → Span → List A
 part_of items span = take (span.end - span.start) (drop span.start items)
 
 -- the field at a place
-unfoldable pub field_of : List ℕ → FieldPlace → Field
-field_of octets place = record {
+unfoldable pub stored_field : List ℕ → FieldPlace → Field
+stored_field octets place = record {
   name = part_of octets place.name;
   value = part_of octets place.value;
   sensitive = place.sensitive;
 }
 
 -- the fields at places, in order
-abbrev pub fields_of : List ℕ → List FieldPlace → List Field
-fields_of octets places = map (field_of octets) places
+abbrev pub stored_fields : List ℕ → List FieldPlace → List Field
+stored_fields octets places = map (stored_field octets) places
 
 -- the event at a place
 -- rule: joined (own) Accepted messages, what was handed out, octets on a pipe are kept
-unfoldable pub event_of : List ℕ → List FieldPlace → EventPlace → Handed
-event_of octets fields (places.Interim id list) =
-    InterimHanded id (fields_of octets (part_of fields list))
-event_of octets fields (places.Head id list end) =
-    HeadHanded id (fields_of octets (part_of fields list)) end
-event_of octets fields (places.Body id part end) = BodyHanded id (part_of octets part) end
-event_of octets fields (places.Trailers id list) =
-    TrailersHanded id (fields_of octets (part_of fields list))
-event_of octets fields (places.Reset id code ours) = Passed (events.ResetEvent id code ours)
-event_of octets fields (places.Unprocessed id) = Passed (events.UnprocessedEvent id)
-event_of octets fields (places.GoAway last code) = Passed (events.GoAwayEvent last code)
-event_of octets fields places.Acked = Passed events.AckedEvent
-event_of octets fields (places.Pong pong) = Passed (events.PongEvent pong)
+unfoldable pub event_kept : List ℕ → List FieldPlace → EventPlace → Handed
+event_kept octets fields (places.Interim id list) =
+    InterimHanded id (stored_fields octets (part_of fields list))
+event_kept octets fields (places.Head id list end) =
+    HeadHanded id (stored_fields octets (part_of fields list)) end
+event_kept octets fields (places.Body id part end) = BodyHanded id (part_of octets part) end
+event_kept octets fields (places.Trailers id list) =
+    TrailersHanded id (stored_fields octets (part_of fields list))
+event_kept octets fields (places.Reset id code ours) = Passed (events.ResetEvent id code ours)
+event_kept octets fields (places.Unprocessed id) = Passed (events.UnprocessedEvent id)
+event_kept octets fields (places.GoAway last code) = Passed (events.GoAwayEvent last code)
+event_kept octets fields places.Acked = Passed events.AckedEvent
+event_kept octets fields (places.Pong pong) = Passed (events.PongEvent pong)
 
 -- the events that are kept, the first one first
 -- rule: joined (own) Accepted messages, what was handed out, octets on a pipe are kept
-abbrev pub events_of : Store → List Handed
-events_of store = map (event_of store.octets.items store.fields.items) store.events.items
+abbrev pub events_kept : Store → List Handed
+events_kept store = map (event_kept store.octets.items store.fields.items) store.events.items
 
 -- The span is among so many items.
 pub record IsSpan (count : ℕ) (span : Span) : Type 0 where
@@ -84,25 +84,25 @@ pub record AreStored (store : Store) : Type 0 where
 
 -- the fields of a list that is lent
 abbrev pub fields_kept : KeptFields → List Field
-fields_kept list = fields_of list.octets.now list.places.now
+fields_kept list = stored_fields list.octets.now list.places.now
 
 -- an event that is lent
 -- rule: joined (own) Accepted messages, what was handed out, octets on a pipe are kept
-abbrev pub event_value : JointEvent → Handed
-event_value (kept.Interim id list) = InterimHanded id (fields_kept list)
-event_value (kept.Head id list end) = HeadHanded id (fields_kept list) end
-event_value (kept.Body id octets end) = BodyHanded id octets.now end
-event_value (kept.Trailers id list) = TrailersHanded id (fields_kept list)
-event_value (kept.Reset id code ours) = Passed (events.ResetEvent id code ours)
-event_value (kept.Unprocessed id) = Passed (events.UnprocessedEvent id)
-event_value (kept.GoAway last code) = Passed (events.GoAwayEvent last code)
-event_value kept.Acked = Passed events.AckedEvent
-event_value (kept.Pong octets) = Passed (events.PongEvent octets)
+abbrev pub joint_event_value : JointEvent → Handed
+joint_event_value (kept.Interim id list) = InterimHanded id (fields_kept list)
+joint_event_value (kept.Head id list end) = HeadHanded id (fields_kept list) end
+joint_event_value (kept.Body id octets end) = BodyHanded id octets.now end
+joint_event_value (kept.Trailers id list) = TrailersHanded id (fields_kept list)
+joint_event_value (kept.Reset id code ours) = Passed (events.ResetEvent id code ours)
+joint_event_value (kept.Unprocessed id) = Passed (events.UnprocessedEvent id)
+joint_event_value (kept.GoAway last code) = Passed (events.GoAwayEvent last code)
+joint_event_value kept.Acked = Passed events.AckedEvent
+joint_event_value (kept.Pong octets) = Passed (events.PongEvent octets)
 
 -- the greatest number of octets, and of fields, that one event has: the size of a list, in which
 -- each field counts 32 octets more than it has, is 65,536 at most
-abbrev pub most_octets : ℕ
-most_octets = 65536
+abbrev pub most_event_octets : ℕ
+most_event_octets = 65536
 
 -- see `most_octets`: 65,536 octets, by 32 for each field
 abbrev pub most_fields : ℕ
@@ -110,17 +110,17 @@ most_fields = 2048
 
 -- There is room for whatever a call may hand out.
 -- rule: joined (own) A delivery without memory stops before a call and loses nothing
-pub record HasRoom (store : Store) : Type 0 where
+pub record HasRoomForEvent (store : Store) : Type 0 where
   pub events : vec_len store.events + 1 ≤ vec_capacity store.events
   pub fields : vec_len store.fields + most_fields ≤ vec_capacity store.fields
-  pub octets : vec_len store.octets + most_octets ≤ vec_capacity store.octets
+  pub octets : vec_len store.octets + most_event_octets ≤ vec_capacity store.octets
 
 -- Such room is enough for what was handed out.
 unfoldable pub Fits : Handed → Type 0
-Fits (InterimHanded id list) = list_size list ≤ most_octets
-Fits (HeadHanded id list end) = list_size list ≤ most_octets
-Fits (BodyHanded id octets end) = length octets ≤ most_octets
-Fits (TrailersHanded id list) = list_size list ≤ most_octets
+Fits (InterimHanded id list) = list_size list ≤ most_event_octets
+Fits (HeadHanded id list end) = list_size list ≤ most_event_octets
+Fits (BodyHanded id octets end) = length octets ≤ most_event_octets
+Fits (TrailersHanded id list) = list_size list ≤ most_event_octets
 Fits (Passed event) = Unit {0}
 
 -- The same is kept, with other room.
@@ -131,11 +131,11 @@ pub record KeepsItems (old new : Store) : Type 0 where
 
 -- This is kept after what was kept before.
 pub record KeepsMore (old : Store) (handed : Handed) (new : Store) : Type 0 where
-  pub more : events_of new ≡ events_of old ++ handed ∷ []
+  pub more : events_kept new ≡ events_kept old ++ handed ∷ []
   pub stored : AreStored new
 
 -- Octets are kept, at this span, where there is room.
-pub record KeepsOctets (old : Store) (octets : List ℕ) (span : Span) (new : Store) : Type 0 where
+pub record StoresOctets (old : Store) (octets : List ℕ) (span : Span) (new : Store) : Type 0 where
   pub events : new.events ≡ old.events
   pub fields : new.fields ≡ old.fields
   pub capacity : vec_capacity old.octets ≤ vec_capacity new.octets
@@ -148,7 +148,7 @@ pub record IsFieldKept (old : Store) (field : Field) (new : Store) : Type 0 wher
   pub place : FieldPlace
   pub octets : new.octets.items ≡ old.octets.items ++ (field.name ++ field.value)
   pub fields : new.fields.items ≡ old.fields.items ++ place ∷ []
-  pub same : field_of new.octets.items place ≡ field
+  pub same : stored_field new.octets.items place ≡ field
   pub within : IsFieldPlace (length new.octets.items) place
 
 -- What keeping a field makes of a store: with room for its octets and its place, it is kept.
@@ -166,7 +166,7 @@ pub record AreFieldsKept (old : Store) (list : List Field) (new : Store) : Type 
   pub places : List FieldPlace
   pub octets_are : new.octets.items ≡ old.octets.items ++ octets
   pub fields_are : new.fields.items ≡ old.fields.items ++ places
-  pub same : fields_of new.octets.items places ≡ list
+  pub same : stored_fields new.octets.items places ≡ list
   pub within : AllByRecursion (IsFieldPlace (length new.octets.items)) places
 
 -- A list is kept, at this span, where there is room and it is not too large.
@@ -174,7 +174,7 @@ pub record KeepsList (old : Store) (list : List Field) (span : Span) (new : Stor
   pub events : new.events ≡ old.events
   pub start : span.start ≡ length old.fields.items
   pub end : span.end ≡ length new.fields.items
-  pub kept : HasRoom old → list_size list ≤ most_octets → AreFieldsKept old list new
+  pub kept : HasRoomForEvent old → list_size list ≤ most_event_octets → AreFieldsKept old list new
 
 -- What an event has is kept, and this is its place.
 pub record IsPlaced (old : Store) (handed : Handed) (place : EventPlace) (new : Store) : Type 0
@@ -183,7 +183,7 @@ pub record IsPlaced (old : Store) (handed : Handed) (place : EventPlace) (new : 
     pub fields : List FieldPlace
     pub octets_are : new.octets.items ≡ old.octets.items ++ octets
     pub fields_are : new.fields.items ≡ old.fields.items ++ fields
-    pub same : event_of new.octets.items new.fields.items place ≡ handed
+    pub same : event_kept new.octets.items new.fields.items place ≡ handed
     pub fields_within : AllByRecursion (IsFieldPlace (length new.octets.items)) fields
     pub within : IsEventPlace (length new.octets.items) (length new.fields.items) place
 
@@ -192,4 +192,4 @@ pub record IsPlaced (old : Store) (handed : Handed) (place : EventPlace) (new : 
 pub record PlacesEvent (old : Store) (handed : Handed) (place : EventPlace) (new : Store) : Type 0
   where
     pub events : new.events ≡ old.events
-    pub placed : HasRoom old → Fits handed → IsPlaced old handed place new
+    pub placed : HasRoomForEvent old → Fits handed → IsPlaced old handed place new

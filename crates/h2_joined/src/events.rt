@@ -1,7 +1,8 @@
 //! What an end has handed out, lent.
 
 ghost use Rattle.std.specs.Prelude.{◌≡◌, ◌==◌, ◌≤◌, length, slice_get, Some, MatchOption};
-ghost use Rattle.h2_joined.specs.Stored.{event_of, event_value, events_of, fields_kept, part_of};
+ghost use Rattle.h2_joined.specs.Stored.{event_kept, joint_event_value, events_kept, fields_kept};
+ghost use Rattle.h2_joined.specs.Stored.{part_of};
 
 use crate::store::{EventPlace, FieldPlace, Span, Store, fields_at, octets_at};
 use h2_ends::FieldRef;
@@ -137,14 +138,14 @@ pub struct HandedEvents<'a> {
 impl<'a> HandedEvents<'a> {
     /// How many events there are.
     pub fn len(&self) -> usize
-        ensures { result ≡ length (events_of self.now.store.now) }
+        ensures { result ≡ length (events_kept self.now.store.now) }
     {
         self.store.events.len()
     }
 
     /// Whether there is no event.
     pub fn is_empty(&self) -> bool
-        ensures { result ≡ (length (events_of self.now.store.now) == 0) }
+        ensures { result ≡ (length (events_kept self.now.store.now) == 0) }
     {
         self.store.events.is_empty()
     }
@@ -153,8 +154,9 @@ impl<'a> HandedEvents<'a> {
     // rule: joined (own) Accepted messages, what was handed out, octets on a pipe are kept
     /// An event, by its place: 0 is the first.
     pub fn get(&self, place: usize) -> Option<JointEvent<'a>>
-        ensures { MatchOption result (length (events_of self.now.store.now) ≤ place)
-            (λ event. slice_get (events_of self.now.store.now) place ≡ Some (event_value event)) }
+        ensures { MatchOption result (length (events_kept self.now.store.now) ≤ place)
+            (λ event. slice_get (events_kept self.now.store.now) place
+            ≡ Some (joint_event_value event)) }
     {
         if place >= self.store.events.len() {
             return None;
@@ -178,7 +180,8 @@ impl fmt::Debug for HandedEvents<'_> {
 // rule: joined (own) Accepted messages, what was handed out, octets on a pipe are kept
 /// The event at a place of a store.
 fn lend(store: &Store, place: EventPlace) -> JointEvent<'_>
-    ensures { event_value result ≡ event_of store.now.octets.items store.now.fields.items place }
+    ensures { joint_event_value result
+        ≡ event_kept store.now.octets.items store.now.fields.items place }
 {
     match place {
         EventPlace::Interim { id, list } => JointEvent::Interim {

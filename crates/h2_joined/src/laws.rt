@@ -1,16 +1,16 @@
 //! Laws of two joined ends, over whatever acts were made. Each is the contract of a function that
 //! does nothing.
 
-ghost use Rattle.std.specs.Prelude.{◌≡◌, ℕ, List, None};
+ghost use Rattle.std.specs.Prelude.{◌≡◌, ℕ, List, [], None};
 ghost use Rattle.h2_block.specs.Grouping.{Item};
 ghost use Rattle.h2_log.specs.Acts.{Values};
 ghost use Rattle.h2_pair.specs.Pairs.{IsPair};
 ghost use Rattle.h2_pair.specs.Directions.{AreUnderWay, BoundsStreams, ConservesConnection};
 ghost use Rattle.h2_pair.specs.Directions.{ConservesStream, IsCarried};
 ghost use Rattle.h2_pair.specs.HeaderTables.{HeaderTablesInStep};
-ghost use Rattle.h2_pair.specs.Tokens.{IsPrefixOfTokens};
 ghost use Rattle.h2_pair.specs.Undisturbed.{IsUndisturbed};
-ghost use Rattle.h2_ends.specs.Ends.{tokens_handed, tokens_said};
+ghost use Rattle.h2_ends.specs.Ends.{message_for};
+ghost use Rattle.h2_ends.specs.MessageTokens.{parts_heard, parts_said, IsPrefixOfParts};
 ghost use Rattle.h2_joined.specs.declared.act.Side.TheVariants.{Client, Server};
 ghost use Rattle.h2_joined.specs.Joints.{JointEnd, Made, IsJoint, MemorySufficed, half_of};
 ghost use Rattle.h2_joined.specs.Headline.{AreQuiet, WasResetIn, ReportsNoFault};
@@ -28,16 +28,19 @@ pub fn joined_ends_are_a_pair()
 {}
 
 /// What an end has handed out on a stream is a prefix of the message that the other has accepted
-/// for it, token by token: always, after faults, refusals and resets too.
+/// for it, part by part, where the head, interim heads and trailers are told apart: always, after
+/// faults, refusals and resets too.
 pub fn handed_out_is_a_prefix()
     ensures at_server { (client_values server_values : Values) (made : List Made)
         (client server : JointEnd) (i : ℕ)
         → IsJoint client_values server_values made client server
-        → IsPrefixOfTokens (tokens_handed server.happened i) (tokens_said client.happened i) }
+        → IsPrefixOfParts (parts_heard i server.happened.handed)
+        (parts_said (message_for i client.happened.accepted)) }
     ensures at_client { (client_values server_values : Values) (made : List Made)
         (client server : JointEnd) (i : ℕ)
         → IsJoint client_values server_values made client server
-        → IsPrefixOfTokens (tokens_handed client.happened i) (tokens_said server.happened i) }
+        → IsPrefixOfParts (parts_heard i client.happened.handed)
+        (parts_said (message_for i server.happened.accepted)) }
 {}
 
 /// Where memory was not refused, neither end reports a fault: its connection has not failed, it has
@@ -58,12 +61,23 @@ pub fn quiet_ends_have_all()
         (client server : JointEnd) (i : ℕ)
         → IsJoint client_values server_values made client server
         → AreQuiet client server → (WasResetIn made client i → ⊥)
-        → tokens_handed server.happened i ≡ tokens_said client.happened i }
+        → parts_heard i server.happened.handed
+        ≡ parts_said (message_for i client.happened.accepted) }
     ensures at_client { (client_values server_values : Values) (made : List Made)
         (client server : JointEnd) (i : ℕ)
         → IsJoint client_values server_values made client server
         → AreQuiet client server → (WasResetIn made client i → ⊥)
-        → tokens_handed client.happened i ≡ tokens_said server.happened i }
+        → parts_heard i client.happened.handed
+        ≡ parts_said (message_for i server.happened.accepted) }
+{}
+
+// contract: joined (own) Two joined ends are quiet where both are, and both pipes are empty
+/// Two quiet ends hold no octets of a frame that isn't complete.
+pub fn quiet_ends_hold_nothing()
+    ensures { (client_values server_values : Values) (made : List Made)
+        (client server : JointEnd) → IsJoint client_values server_values made client server
+        → AreQuiet client server
+        → (client.happened.log.unparsed ≡ []) × (server.happened.log.unparsed ≡ []) }
 {}
 
 // contract: joined (own) The header tables of joined ends agree, no window is lost

@@ -6,7 +6,7 @@ ghost use Rattle.h2_conn.specs.Conn.{answer_by};
 ghost use Rattle.h2_joined.specs.Joints.{Moves, Delivers, acted_as};
 ghost use Rattle.h2_joined.specs.Kept.{MakesAct, made};
 ghost use Rattle.h2_joined.specs.Delivering.{UsesWithin, TakesOnce, TookAt, TakesNext};
-ghost use Rattle.h2_joined.specs.Delivering.{TakesOctets, TakesPipe, PutsPipe, MakesRoom};
+ghost use Rattle.h2_joined.specs.Delivering.{TakesDelivery, TakesPipe, PutsPipe, MakesRoom};
 
 use crate::act::{Acted, Side};
 use crate::joined::Joined;
@@ -122,7 +122,7 @@ impl Joined {
     /// Hands octets to `take` until they are used and nothing is handed out, or the connection has
     /// failed, or memory was refused.
     fn take_all(&mut self, to: Side, octets: &[u8]) -> Delivered
-        ensures { TakesOctets to self.old octets.now result self.new }
+        ensures { TakesDelivery to self.old octets.now result self.new }
     {
         let mut taken = 0usize;
         for _round in 0..u64::MAX {

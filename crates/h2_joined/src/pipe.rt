@@ -1,6 +1,6 @@
 //! A pipe: octets that one end gave out and that the other has not taken yet.
 
-ghost use Rattle.std.specs.Prelude.{◌≡◌, ℕ, List, [], take, drop, length};
+ghost use Rattle.std.specs.Prelude.{◌≡◌, ◌≤◌, ◌*◌, ℕ, List, [], take, drop, length};
 ghost use Rattle.h2_joined.specs.Kept.{HoldsOctets};
 
 use std::alloc::Global;
@@ -44,10 +44,11 @@ impl Pipe {
 
     // rule: joined (own) The first octets of a pipe are given to its end
     /// Takes the first of them away. Those that were delivered are dropped once they are half of
-    /// all.
+    /// all: so it never holds more than twice the octets that were not delivered.
     pub(crate) fn deliver(&mut self, count: usize)
-        ensures { (octets : List ℕ) → HoldsOctets self.old octets
+        ensures holds { (octets : List ℕ) → HoldsOctets self.old octets
             → HoldsOctets self.new (drop count octets) }
+        ensures half { 2 * self.new.used ≤ length self.new.octets.items }
     {
         let used = self.used.saturating_add(count).min(self.octets.len());
         if used < self.octets.len() / 2 {

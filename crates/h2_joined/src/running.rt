@@ -1,12 +1,12 @@
 //! Lists of acts.
 
-ghost use Rattle.std.specs.Prelude.{◌≡◌, ◌↔◌, false, List, IfOk};
+ghost use Rattle.std.specs.Prelude.{◌≡◌, ◌↔◌, false, List, IfOk, OnOk, OnErr};
 ghost use Rattle.h2_config.specs.ConfigValues.{values_of};
 ghost use Rattle.h2_log.specs.Acts.{Values};
 ghost use Rattle.h2_joined.specs.declared.joined.Joined as types;
 ghost use Rattle.h2_joined.specs.Joints.{JointEnd, Made};
 ghost use Rattle.h2_joined.specs.Kept.{JoinedRepresents};
-ghost use Rattle.h2_joined.specs.Runs.{Runs, HasHeadline, GotMemory};
+ghost use Rattle.h2_joined.specs.Runs.{Runs, HasHeadline, GotMemory, MakesAll, StopsAtAct};
 
 use crate::act::{Acted, JointAct};
 use crate::joined::Joined;
@@ -14,11 +14,15 @@ use h2_ends::{Config, EndRefusal, Refusal};
 use std::alloc::{AllocError, Global};
 
 // contract: joined (own) What one end has handed out is a prefix of what the other accepted
-/// The headline of this library, but for windows and for other peers, of which other laws and
-/// contracts speak. What each of two joined ends has handed out on every stream is a prefix of what
-/// the other has accepted for it, whatever acts were made. Where memory was not refused to a
-/// connection, neither end reports a fault. Once both are quiet, all of it was handed out, on every
-/// stream that was not reset.
+/// The headline of this library. What each of two joined ends has handed out on every stream is a
+/// prefix of what the other has accepted for it, whatever acts were made. Where memory was not
+/// refused to a connection, neither end reports a fault. After whichever act, no DATA of either has
+/// passed its windows, as `h2_end_laws::no_data_passes_windows` says of one end. Once both are
+/// quiet, all that was accepted was handed out, on every stream that was not reset.
+///
+/// For any other peer, [`Conn::take`](h2_ends::Conn::take),
+/// [`Client::take`](h2_ends::Client::take) and [`Server::take`](h2_ends::Server::take) say in their
+/// contracts what its octets give.
 pub fn headline()
     ensures { (client_values server_values : Values) (joined : types.Joined) (made : List Made)
         (client server : JointEnd)
@@ -29,9 +33,9 @@ pub fn headline()
 // contract: joined (own) What one end has handed out is a prefix of what the other accepted
 // rule: joined (own) What one end has handed out is a prefix of what the other accepted
 /// Makes the acts, in order, on a new client and a new server. An act that is refused is an act
-/// like any other, unless it is with `Memory` (C12). The headline, as far as [`headline`] says it,
-/// holds of the two ends then. That a connection has failed with INTERNAL_ERROR, since memory was
-/// refused as it took octets, is no error here: [`Conn::failed`](h2_ends::Conn::failed) says so.
+/// like any other, unless it is with `Memory` (C12). The [`headline`] holds of the two ends then.
+/// That a connection has failed with INTERNAL_ERROR, since memory was refused as it took octets, is
+/// no error here: [`Conn::failed`](h2_ends::Conn::failed) says so.
 ///
 /// # Errors
 ///
@@ -46,12 +50,30 @@ pub fn run(
     ensures { IfOk result (λ joined. Runs (values_of client) (values_of server) acts.now joined) }
 {
     let mut joined = Joined::new(alloc, client, server)?;
-    for act in acts {
-        if was_refused_memory(joined.act(act)) {
-            return Err(AllocError);
-        }
-    }
+    joined.act_all(acts)?;
     Ok(joined)
+}
+
+impl Joined {
+    // contract: joined (own) An act is the call of its name at its end
+    /// Makes the acts, in order. An act that is refused is an act like any other, and the next one
+    /// is made after it, unless it is refused with `Memory` (C12).
+    ///
+    /// # Errors
+    ///
+    /// [`AllocError`] where an act answered [`Acted::Memory`], or was refused with `Memory` (C12):
+    /// the acts up to that one were made, and no other.
+    pub fn act_all(&mut self, acts: &[JointAct]) -> Result<(), AllocError>
+        ensures ok { OnOk result (MakesAll self.old acts.now self.new) }
+        ensures err { OnErr result (StopsAtAct self.old acts.now self.new) }
+    {
+        for act in acts {
+            if was_refused_memory(self.act(act)) {
+                return Err(AllocError);
+            }
+        }
+        Ok(())
+    }
 }
 
 /// Whether an act answered that memory was refused.

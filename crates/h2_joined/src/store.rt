@@ -2,9 +2,9 @@
 
 ghost use Rattle.std.specs.Prelude.{◌≡◌, true, length, []};
 ghost use Rattle.h2_ends.specs.Loans.{event_handed};
-ghost use Rattle.h2_joined.specs.Stored.{AreStored, Fits, HasRoom, KeepsItems, KeepsMore};
-ghost use Rattle.h2_joined.specs.Stored.{KeepsField, KeepsList, KeepsOctets, PlacesEvent};
-ghost use Rattle.h2_joined.specs.Stored.{events_of, part_of};
+ghost use Rattle.h2_joined.specs.Stored.{AreStored, Fits, HasRoomForEvent, KeepsItems, KeepsMore};
+ghost use Rattle.h2_joined.specs.Stored.{KeepsField, KeepsList, StoresOctets, PlacesEvent};
+ghost use Rattle.h2_joined.specs.Stored.{events_kept, part_of};
 
 use h2_ends::{EndEvent, FieldList, FieldRef};
 use std::alloc::Global;
@@ -59,7 +59,7 @@ pub(crate) struct Store {
 impl Store {
     /// An empty store.
     pub(crate) fn new(alloc: Global) -> Store
-        ensures none { events_of result ≡ [] }
+        ensures none { events_kept result ≡ [] }
         ensures stored { AreStored result }
     {
         Store {
@@ -74,7 +74,7 @@ impl Store {
     /// for it.
     pub(crate) fn make_room(&mut self) -> bool
         ensures items { KeepsItems self.old self.new }
-        ensures room { result ≡ true → HasRoom self.new }
+        ensures room { result ≡ true → HasRoomForEvent self.new }
     {
         if self.events.reserve(1).is_err() {
             return false;
@@ -88,7 +88,7 @@ impl Store {
     // rule: joined (own) Accepted messages, what was handed out, octets on a pipe are kept
     /// Keeps an event, for which there is room: so nothing of it is refused.
     pub(crate) fn keep(&mut self, event: EndEvent<'_>)
-        ensures { HasRoom self.old → Fits (event_handed event.entry) → AreStored self.old
+        ensures { HasRoomForEvent self.old → Fits (event_handed event.entry) → AreStored self.old
             → KeepsMore self.old (event_handed event.entry) self.new }
     {
         let place = self.place_of(event);
@@ -164,7 +164,7 @@ impl Store {
 
     /// Keeps octets, and answers where they are.
     fn keep_octets(&mut self, octets: &[u8]) -> Span
-        ensures { KeepsOctets self.old octets.now result self.new }
+        ensures { StoresOctets self.old octets.now result self.new }
     {
         let start = self.octets.len();
         let _kept = self.octets.extend_from_slice(octets);

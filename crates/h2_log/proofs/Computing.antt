@@ -1,5 +1,5 @@
 -- All definitions that compute, opened at once.
-use Rattle.hpack_text.specs.Bits.{bits_of, number_of, octets_of}
+use Rattle.hpack_text.specs.Bits.{bits_of, number_of_bits, octets_of_bits}
 use Rattle.hpack_text.specs.Huffman.{groups, code_in, code, huffman_bits}
 use Rattle.hpack_text.specs.Integers.{continuation_of, integer}
 use Rattle.hpack_text.specs.Strings.{string}
@@ -22,7 +22,7 @@ use Rattle.h2_log.specs.Log.{max_payload_sent_by, max_streams, newest_ping, next
 use Rattle.h2_log.specs.Log.{next_number, next_unprocessed, output, owed, released, unreleased}
 use Rattle.h2_log.specs.Log.{waiting}
 use Rattle.h2_log.specs.States.{any_block, count_below, is_above, is_active, is_closed_by_us}
-use Rattle.h2_log.specs.States.{is_over, is_used, least_block}
+use Rattle.h2_log.specs.States.{is_over, is_used, least_block, lesser_number}
 use Rattle.h2_log.specs.WrittenFrames.{before, takes, takes_block}
 use Rattle.h2_log.specs.LogCalls.{before_put_out, opened, refused_with, with_call, with_items}
 use Rattle.h2_log.specs.Verdicts.{block_verdict, connection_update_verdict, data_verdict}
@@ -43,8 +43,8 @@ use Rattle.h2_log.specs.ItemRules.{over_limits, replies_to, settings_fault, verd
 use Rattle.h2_log.specs.ItemRules.{verdict_of}
 use Rattle.h2_log.specs.Windows.{given_on, given_on_connection, granted_on, granted_on_connection}
 use Rattle.h2_log.specs.Settings.{greatest_from, one_ack, one_settings, payload_limit}
-use Rattle.h2_log.specs.Settings.{settings_count}
-use Rattle.h2_log.specs.Settings.{up_to_settings, value_after, value_fault, value_read}
+use Rattle.h2_log.specs.Settings.{settings_count, settings_of}
+use Rattle.h2_log.specs.Settings.{value_after, value_after_all, value_fault, value_read}
 use Rattle.h2_log.specs.LogView.{overflows}
 use Rattle.h2_log.specs.LogSteps.{owed_at_close, used, with_frame, with_reported, with_sent}
 use Rattle.h2_log.specs.LogSteps.{with_step, with_unreturned, with_verdict}
@@ -52,7 +52,8 @@ use Rattle.h2_log.proofs.examples.Octets.{octets_after}
 
 -- opens all that computes
 unfoldable pub computing : Unit {0}
-unfolding bits_of number_of octets_of groups code_in code huffman_bits continuation_of integer
+unfolding bits_of number_of_bits octets_of_bits groups code_in code huffman_bits continuation_of
+    integer
     string
     fit static_entries entry least_index choice encoding_of_fields after_fields size_updates
     block_of after_block kind_of head_of fits_stream fits_length form_fault head_fault pairs_in
@@ -63,16 +64,20 @@ unfolding bits_of number_of octets_of groups code_in code huffman_bits continuat
     data_frames data_items data_of data_on data_verdict discarded_flow encoder_after_call
     encoder_after_settings encoding_of_item encoding_of_items ends events_of first_of
     flow_on frame_step given_on given_on_connection granted_on granted_on_connection
-    greatest_block greatest_from greatest_processed grouped grouping_step increment_on is_above is_active
+    greatest_block greatest_from greatest_processed grouped grouping_step increment_on is_above
+    is_active
     is_block_on is_closed_by_us is_goaway is_goaway_below is_over is_used items_of
-    last_processed least_block least_goaway max_payload_sent_by max_streams may_be_first
-    may_fail_for_memory may_lack_memory newest_ping next_active next_number next_unprocessed
+    last_processed least_block lesser_number least_goaway max_payload_sent_by max_streams
+    may_be_first may_fail_for_memory may_lack_memory newest_ping next_active next_number
+    next_unprocessed
     one_ack one_acked
     one_answer one_ping one_pong one_reset one_settings opened opened_by opening_pairs
     opening_verdict opens_from output over_limits overflows owed owed_at_close payload_limit
     processed_by refuse_fault refused_with released replies_to reported_total
-    reports_unprocessed reset_verdict resets settings_count settings_fault stream_of_act
-    stream_of_item takes takes_block total unreleased up_to_settings update_verdict used
-    value_after value_fault value_read verdict_by_rules verdict_of waiting with_call with_frame
-    with_items with_max_frame with_reported with_sent with_step with_unreturned with_verdict octets_after
+    reports_unprocessed reset_verdict resets settings_count settings_fault settings_of stream_of_act
+    stream_of_item takes takes_block total unreleased update_verdict used
+    value_after value_after_all value_fault value_read verdict_by_rules verdict_of waiting
+    with_call with_frame with_items with_max_frame with_reported with_sent with_step
+    with_unreturned with_verdict
+    octets_after
 computing = tt

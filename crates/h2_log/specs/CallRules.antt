@@ -72,6 +72,27 @@ is_too_large fields = nat_lt max_list (list_size fields)
 abbrev pub is_not_owed : View → ℕ → ℕ → Bool
 is_not_owed view id count = count == 0 || nat_lt (owed_on (view.stream id)) count
 
+-- each condition with its refusal
+abbrev pub if_closed : View → Bool × Refusal
+if_closed view = (has_failed view, Closed)
+
+abbrev pub if_no_stream : View → ℕ → Bool × Refusal
+if_no_stream view id = (is_no_stream view id, NoSuchStream)
+
+abbrev pub if_ended : View → ℕ → Bool × Refusal
+if_ended view id = (ended_out (view.stream id), Ended)
+
+abbrev pub if_full : View → Bool × Refusal
+if_full view = (is_full view, OutputFull)
+
+abbrev pub if_too_large : List Field → Bool × Refusal
+if_too_large fields = (is_too_large fields, ListTooLarge)
+
+-- With INTERNAL_ERROR the layer above has run out of memory, whatever the stream.
+abbrev pub if_none_to_refuse : View → ℕ → ℕ → Bool × Refusal
+if_none_to_refuse view id code =
+    (not (code == code_number InternalError) && is_no_stream view id, NoSuchStream)
+
 -- the conditions of each call, in order
 -- rule: 5.1.1 When the numbers of 31 bits are used up no stream is opened
 -- rule: 5.1.2 A client has at most as many active streams as the server allows
@@ -84,44 +105,27 @@ is_not_owed view id count = count == 0 || nat_lt (owed_on (view.stream id)) coun
 -- rule: calls (own) A call does what it says, or is refused for its first condition
 unfoldable pub conditions : View → Act → List (Bool × Refusal)
 conditions view (Open fields end) =
-    (has_failed view, Closed) ∷ (has_all_streams view, TooManyStreams) ∷
-    (has_no_number view, StreamsExhausted)
-    ∷ (view.goaway_sent || is_some view.goaway_received, GoingAway) ∷ (is_full view, OutputFull)
-    ∷ (is_too_large fields, ListTooLarge) ∷ []
+    if_closed view ∷ (has_all_streams view, TooManyStreams) ∷ (has_no_number view, StreamsExhausted)
+    ∷ (view.goaway_sent || is_some view.goaway_received, GoingAway) ∷ if_full view
+    ∷ if_too_large fields ∷ []
 conditions view (SendFields id fields end) =
-    (has_failed view, Closed) ∷ (is_no_stream view id, NoSuchStream) ∷ (
-      ended_out
-          (view.stream id),
-      Ended,
-    )
-    ∷ (is_full view, OutputFull) ∷ (is_too_large fields, ListTooLarge) ∷ []
+    if_closed view ∷ if_no_stream view id ∷ if_ended view id ∷ if_full view ∷ if_too_large fields
+    ∷ []
 conditions view (SendData id octets end) =
-    (has_failed view, Closed) ∷ (is_no_stream view id, NoSuchStream) ∷ (
-      ended_out
-          (view.stream id),
-      Ended,
-    )
-    ∷ (is_full view, OutputFull) ∷ []
+    if_closed view ∷ if_no_stream view id ∷ if_ended view id ∷ if_full view ∷ []
 conditions view (Release id count) =
-    (has_failed view, Closed) ∷ (is_no_stream view id, NoSuchStream) ∷ (is_full view, OutputFull)
-    ∷ (is_not_owed view id count, NotOwed) ∷ []
+    if_closed view ∷ if_no_stream view id ∷ if_full view ∷ (is_not_owed view id count, NotOwed) ∷ []
 conditions view (ResetStream id code) =
-    (has_failed view, Closed) ∷ (is_no_stream view id, NoSuchStream) ∷ (is_full view, OutputFull)
-    ∷ (has_all_resets view, TooManyResets) ∷ []
--- with INTERNAL_ERROR the layer above has run out of memory, whatever the stream
+    if_closed view ∷ if_no_stream view id ∷ if_full view ∷ (has_all_resets view, TooManyResets) ∷ []
 conditions view (Refuse id code) =
-    (has_failed view, Closed) ∷ (
-      not (code == code_number InternalError)
-          && is_no_stream view id,
-      NoSuchStream,
-    ) ∷ []
+    if_closed view ∷ if_none_to_refuse view id code ∷ []
 conditions view (SendPing octets) =
-    (has_failed view, Closed) ∷ (is_full view, OutputFull) ∷ (is_some view.ping, PingWaits) ∷ []
+    if_closed view ∷ if_full view ∷ (is_some view.ping, PingWaits) ∷ []
 conditions view SendGoAway =
-    (has_failed view, Closed) ∷ (view.goaway_sent, GoingAway) ∷ (is_full view, OutputFull) ∷ []
+    if_closed view ∷ (view.goaway_sent, GoingAway) ∷ if_full view ∷ []
 conditions view (PutOut count) = []
 conditions view (ChangeSettings values) =
-    (has_failed view, Closed) ∷ (is_full view, OutputFull) ∷ (view.settings_wait, SettingsWait) ∷ []
+    if_closed view ∷ if_full view ∷ (view.settings_wait, SettingsWait) ∷ []
 
 -- the refusal of a call, being out of memory put aside
 -- rule: 5.1.1 When the numbers of 31 bits are used up no stream is opened

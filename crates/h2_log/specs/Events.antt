@@ -1,6 +1,8 @@
 -- What an end reports whoever uses it.
 use Rattle.std.specs.Prelude.{ℕ, ◌+◌, ◌==◌, ◌&&◌, max, Bool, false, if◌then◌else◌, List, [], ◌∷◌}
 use Rattle.hpack.specs.declared.types.field.Field.{Field}
+use Rattle.h2_frame.specs.declared.code.Code.TheVariants.{EnhanceYourCalm}
+use Rattle.h2_frame.specs.Codes.{code_number}
 
 pub data Event : Type 0 where
   -- a field block of a stream, and whether it has END_STREAM
@@ -45,11 +47,12 @@ reported_total f [] = 0
 reported_total f (event ∷ events) = f event + reported_total f events
 
 -- The number of a peer's stream that the event shows to be taken: its fields have come, or were too
--- large (ENHANCE_YOUR_CALM is 11), which closed it. Otherwise 0. A stream that was refused is
+-- large, which closed it with ENHANCE_YOUR_CALM. Otherwise 0. A stream that was refused is
 -- reported closed with another code.
 unfoldable pub processed_by : Event → ℕ
 processed_by (FieldsEvent id list end) = id
-processed_by (ResetEvent id code ours) = if ours && code == 11 then id else 0
+processed_by (ResetEvent id code ours) =
+    if ours && code == code_number EnhanceYourCalm then id else 0
 processed_by _ = 0
 
 -- the greatest of these numbers, or 0

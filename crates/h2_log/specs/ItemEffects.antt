@@ -17,9 +17,9 @@ use Rattle.h2_log.specs.Verdicts.{Verdict, ConnectionFault, StreamFault, NoEvent
 use Rattle.h2_log.specs.ItemRules.{Decoded}
 
 -- the fields of a block that decodes
-abbrev pub fields_of : Option Decoded → List Field
-fields_of None = []
-fields_of (Some decoded) = decoded.fields
+abbrev pub decoded_fields : Option Decoded → List Field
+decoded_fields None = []
+decoded_fields (Some decoded) = decoded.fields
 
 -- the least of a last stream and the one that was received before (RFC 9113, section 6.8: it
 -- doesn't grow)
@@ -38,7 +38,7 @@ events_of view decoded (StreamFault code) item = ResetEvent (stream_of_item item
     (code_number code) true ∷ []
 events_of view decoded NoEvent item = []
 events_of view decoded Reported (block stream end octets) = FieldsEvent stream
-    (fields_of decoded) end ∷ []
+    (decoded_fields decoded) end ∷ []
 events_of view decoded Reported (alone (Data stream end octets pad)) =
     DataEvent stream octets (length (payload_of (Data stream end octets pad))) end ∷ []
 events_of view decoded Reported (alone (Reset stream code)) = ResetEvent stream code false ∷ []

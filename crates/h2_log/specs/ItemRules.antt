@@ -172,9 +172,9 @@ over_limits resets waiting size verdict =
 -- rule: 10.5 (own) Replies above 262,144 waiting octets are ENHANCE_YOUR_CALM
 unfoldable pub verdict_of : View → Option Decoded → Item → Verdict
 verdict_of view decoded item =
-    over_limits view.resets view.waiting (length (encoding_of_items max_frame_size_sent
-    (replies_to (verdict_by_rules view decoded item) item)))
-    (verdict_by_rules view decoded item)
+    let verdict = verdict_by_rules view decoded item in
+    let replies = encoding_of_items max_frame_size_sent (replies_to verdict item) in
+    over_limits view.resets view.waiting (length replies) verdict
 
 abbrev pub is_idle : State → Bool
 is_idle Idle = true

@@ -16,7 +16,8 @@ use Rattle.h2_log.specs.Events.{Event, flow_on, one_acked, one_pong, reported_to
 use Rattle.h2_log.specs.Events.{greatest_processed}
 use Rattle.h2_log.specs.Acts.{Act, Answer, Turn, Release, Done}
 use Rattle.h2_log.specs.Settings.{is_server, value_read, settings_count, own_value}
-use Rattle.h2_log.specs.States.{greatest_number, State, is_active, state_of, openings, count_below}
+use Rattle.h2_log.specs.States.{greatest_number, State, is_active, stream_state, openings}
+use Rattle.h2_log.specs.States.{count_below}
 use Rattle.h2_log.specs.States.{least_block}
 use Rattle.h2_log.specs.Limits.{max_frame_size_sent}
 use Rattle.h2_log.specs.Windows.{send_window_of, connection_send_window, recv_window_of, given_on}
@@ -65,7 +66,7 @@ acked log = reported_total one_acked log.reported
 
 -- the state of a stream
 abbrev pub state : Log → ℕ → State
-state log i = state_of log.role i log.received log.sent log.reported
+state log i = stream_state log.role i log.received log.sent log.reported
 
 -- Whether a stream is active. That doesn't end with the connection.
 abbrev pub active : Log → ℕ → Bool

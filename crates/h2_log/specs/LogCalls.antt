@@ -35,9 +35,8 @@ called log act answer =
 -- the log with what a call writes, and what it makes due where it closes a stream
 unfoldable pub with_items : Log → Act → Answer → Log
 with_items log act answer =
-    with_unreturned (owed_at_close log (with_sent (called log act answer) (items_of
-    (log_view log) act answer)) (stream_of_act act)) (with_sent (called log act answer) (items_of
-    (log_view log) act answer))
+    let written = with_sent (called log act answer) (items_of (log_view log) act answer) in
+    with_unreturned (owed_at_close log written (stream_of_act act)) written
 
 -- the log in which the layer above refused a stream
 unfoldable pub refused_with : Log → Act → Answer → Option Code → Log
@@ -103,8 +102,8 @@ before_opening role =
 -- the log of a new end: its one turn is the output of its opening
 unfoldable pub opened : Role → Values → Log
 opened role values =
-    record (with_sent (before_opening role) (alone (Settings false
-    (opening_pairs role values)) ∷ [])) {
-      turns = Out (expected_preface (not (is_server role)) ++ encoding_of_items
-          (max_payload_sent_by []) (alone (Settings false (opening_pairs role values)) ∷ [])) ∷ [];
+    let settings = alone (Settings false (opening_pairs role values)) ∷ [] in
+    record (with_sent (before_opening role) settings) {
+      turns = Out (expected_preface (not (is_server role))
+          ++ encoding_of_items (max_payload_sent_by []) settings) ∷ [];
     }

@@ -85,11 +85,10 @@ unfoldable pub with_verdict : Log → Option Decoded → Item → Verdict → Lo
 with_verdict log decoded item (ConnectionFault code) = with_failure code (max (last_processed log)
     (opened_by (log_view log) decoded item)) log
 with_verdict log decoded item verdict =
-    with_reported (with_unreturned (discarded_flow verdict item + owed_at_close log (with_reported
-    (with_sent (read log decoded item) (replies_to verdict item)) (events_of
-    (log_view log) decoded verdict item)) (stream_of_item item))
-    (with_sent (read log decoded item) (replies_to verdict item))) (events_of
-    (log_view log) decoded verdict item)
+    let events = events_of (log_view log) decoded verdict item in
+    let replied = with_sent (read log decoded item) (replies_to verdict item) in
+    let closed = owed_at_close log (with_reported replied events) (stream_of_item item) in
+    with_reported (with_unreturned (discarded_flow verdict item + closed) replied) events
 
 -- the log after an item that comes next
 abbrev pub with_item : Log → Option Decoded → Item → Log
@@ -148,6 +147,6 @@ took_out_of_memory log octets = with_failure InternalError (last_processed log) 
 -- rule: 6.8 Own streams above GOAWAY's last are reported as unprocessed
 abbrev pub took_none : Log → Log
 took_none log =
-    with_reported (with_unreturned (owed_at_close log (with_reported log (UnprocessedEvent
-    (next_unprocessed log) ∷ [])) (next_unprocessed log)) log) (UnprocessedEvent
-    (next_unprocessed log) ∷ [])
+    let events = UnprocessedEvent (next_unprocessed log) ∷ [] in
+    let closed = owed_at_close log (with_reported log events) (next_unprocessed log) in
+    with_reported (with_unreturned closed log) events

@@ -2,7 +2,7 @@
 -- have the newest first.
 use Rattle.std.specs.Prelude.{ℕ, zero, suc, ◌+◌, ◌-◌, ◌^◌, ◌==◌, nat_lt, nat_le, ◌||◌, ◌&&◌, max}
 use Rattle.std.specs.Prelude.{Bool, true}
-use Rattle.std.specs.Prelude.{false, if◌then◌else◌, List, [], ◌∷◌, Option, Some, None}
+use Rattle.std.specs.Prelude.{false, if◌then◌else◌, List, [], ◌∷◌, ◌++◌, take, Option, Some, None}
 use Rattle.h2_frame.specs.declared.code.Code.{Code}
 use Rattle.h2_frame.specs.declared.code.Code.TheVariants.{ProtocolError, FlowControlError}
 use Rattle.h2_frame.specs.Frames.{Settings}
@@ -67,20 +67,25 @@ unfoldable pub settings_count : List Item → ℕ
 settings_count [] = 0
 settings_count (item ∷ items) = one_settings item + settings_count items
 
--- The items up to the last of the first `count` SETTINGS that are no acknowledgments, or none.
-unfoldable pub up_to_settings : ℕ → List Item → List Item
-up_to_settings count [] = []
-up_to_settings count (item ∷ items) =
-    if one_settings item == 1 && nat_le (settings_count
-    (item ∷ items)) count then item ∷ items else up_to_settings count items
+-- the pairs of each SETTINGS among the items that is no acknowledgment, the oldest first
+unfoldable pub settings_of : List Item → List (List (ℕ × ℕ))
+settings_of [] = []
+settings_of (alone (Settings false pairs) ∷ items) = settings_of items ++ pairs ∷ []
+settings_of (_ ∷ items) = settings_of items
 
--- The own value of an identifier, `count` of the own SETTINGS having been acknowledged: that of the
--- last of these, and the first value before any. The k-th acknowledgment is of the k-th own
--- SETTINGS (section 6.5.3).
+-- the value of an identifier after these SETTINGS, in order, where it was `first` before them
+unfoldable pub value_after_all : ℕ → ℕ → List (List (ℕ × ℕ)) → ℕ
+value_after_all id first [] = first
+value_after_all id first (pairs ∷ settings) =
+    value_after_all id (value_after id first pairs) settings
+
+-- The own value of an identifier, `count` of the own SETTINGS having been acknowledged: the value
+-- after the first `count` of them. The k-th acknowledgment is of the k-th own SETTINGS (section
+-- 6.5.3).
 -- rule: 6.5.3 Own SETTINGS hold once they are acknowledged, and not before
 -- rule: 6.9.3 Until a lower own window is acknowledged the one before it holds
 abbrev pub own_value : ℕ → ℕ → ℕ → List Item → ℕ
-own_value id first count sent = value_read id first (up_to_settings count sent)
+own_value id first count sent = value_after_all id first (take count (settings_of sent))
 
 -- the greatest of the values of the numbers from `first` to `first + more`
 unfoldable pub greatest_from : (ℕ → ℕ) → (first more : ℕ) → ℕ
@@ -88,9 +93,9 @@ greatest_from value first zero = value first
 greatest_from value first (suc more) = max (value first) (greatest_from value (suc first) more)
 
 -- The most octets of a payload that may be read, `count` of the own SETTINGS having been
--- acknowledged: the greatest of the own frame sizes from the one that is in force on to the one that
--- was written last, since the peer may have applied these already (section 6.5.3). At first it is
--- 16,384.
+-- acknowledged: the greatest of the own frame sizes from the one that is in force on to the one
+-- that was written last, since the peer may have applied these already (section 6.5.3). At first it
+-- is 16,384.
 -- rule: 4.2 The limit of an end is its greatest MAX_FRAME_SIZE of those in force
 unfoldable pub payload_limit : ℕ → List Item → ℕ
 payload_limit count sent =

@@ -1,7 +1,7 @@
 -- The state of a stream, by what was read and written, and by what was reported (RFC 9113, section
 -- 5.1).
-use Rattle.std.specs.Prelude.{ℕ, zero, suc, ◌+◌, ◌-◌, ◌^◌, ◌%◌, ◌==◌, nat_lt, not, ◌||◌, ◌&&◌, Bool}
-use Rattle.std.specs.Prelude.{true, false, if◌then◌else◌, List, [], ◌∷◌, Option, Some, None}
+use Rattle.std.specs.Prelude.{ℕ, zero, suc, min, ◌+◌, ◌-◌, ◌^◌, ◌%◌, ◌==◌, nat_lt, not, ◌||◌, ◌&&◌}
+use Rattle.std.specs.Prelude.{Bool, true, false, if◌then◌else◌, List, [], ◌∷◌, Option, Some, None}
 use Rattle.std.specs.List.{list_any}
 use Rattle.h2_block.specs.Grouping.{Item, alone, block}
 use Rattle.h2_log.specs.declared.role.Role.{Role}
@@ -78,8 +78,8 @@ state_by used active closed_by_us = if not used then Idle else if active then Ac
 
 -- the state of a stream
 -- rule: 5.1 A stream has one state, by what was received and sent
-abbrev pub state_of : Role → ℕ → List Item → List Item → List Event → State
-state_of role i received sent reported = state_by (is_used role i received sent)
+abbrev pub stream_state : Role → ℕ → List Item → List Item → List Event → State
+stream_state role i received sent reported = state_by (is_used role i received sent)
     (is_active role i received sent reported) (is_closed_by_us role i sent)
 
 -- how many of the numbers below a bound pass
@@ -87,12 +87,16 @@ unfoldable pub count_below : ℕ → (ℕ → Bool) → ℕ
 count_below zero test = 0
 count_below (suc n) test = (if test n then 1 else 0) + count_below n test
 
+-- the lesser of two numbers of streams, of which 0 is none
+unfoldable pub lesser_number : ℕ → ℕ → ℕ
+lesser_number i zero = i
+lesser_number i (suc j) = min i (suc j)
+
 -- the least number that passes, among those of the items' blocks, or 0
 unfoldable pub least_block : (ℕ → Bool) → List Item → ℕ
 least_block test [] = 0
 least_block test (block stream end octets ∷ items) =
-    if test stream && (least_block test items == 0 || nat_lt stream
-    (least_block test items)) then stream else least_block test items
+    if test stream then lesser_number stream (least_block test items) else least_block test items
 least_block test (alone frame ∷ items) = least_block test items
 
 -- Whether a number that passes is among those of the items' blocks.

@@ -11,7 +11,7 @@ use Rattle.h2_log.specs.declared.role.Role.TheVariants.{Client, Server}
 use Rattle.h2_log.specs.Items.{ends, opens_from, greatest_block}
 use Rattle.h2_log.specs.Events.{Event}
 use Rattle.h2_log.specs.Settings.{is_server, settings_count, value_read, own_value}
-use Rattle.h2_log.specs.States.{State, Idle, is_used, is_active, state_of, count_below}
+use Rattle.h2_log.specs.States.{State, Idle, is_used, is_active, stream_state, count_below}
 use Rattle.h2_log.specs.Log.{Log, acked, state, goaway_written, max_streams, active_count}
 use Rattle.h2_log.specs.Log.{allowed_by}
 use Rattle.h2_log.specs.Verdicts.{is_fault, block_verdict, opening_verdict}
@@ -39,7 +39,7 @@ unopened i (block stream end octets ∷ items) above =
 
 -- a stream above all that its client has opened is idle at the server
 opens_idle : (i : ℕ) (received sent : List Item) (reported : List Event)
-    → greatest_block received < i → state_of Server i received sent reported ≡ Idle
+    → greatest_block received < i → stream_state Server i received sent reported ≡ Idle
 unfolding is_used
 opens_idle i received sent reported above = rw (and_right (i % 2 == 1) (list_any
     (opens_from i) received) (unopened i received above)) refl

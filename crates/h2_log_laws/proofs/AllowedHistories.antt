@@ -9,15 +9,14 @@ use Rattle.h2_log.specs.declared.role.Role.{Role}
 use Rattle.h2_log.specs.declared.role.Role.TheVariants.{Client, Server}
 use Rattle.h2_log.specs.Acts.{Values, AreInRange}
 use Rattle.h2_log.specs.Items.{total, data_on, increment_on}
-use Rattle.h2_log.specs.Settings.{value_read, value_after, settings_count, up_to_settings}
-use Rattle.h2_log.specs.Settings.{own_value}
+use Rattle.h2_log.specs.Settings.{value_read, value_after, settings_count, own_value}
 use Rattle.h2_log.specs.Windows.{first_window, greatest_window}
 use Rattle.h2_log.specs.Limits.{max_list}
 use Rattle.h2_log.specs.CallRules.{opening_pairs, changed_pairs}
 use Rattle.h2_log.specs.Allowed.{Allowed, AllowedHistory, starts, reads, writes, Origin, IsOpening}
 use Rattle.h2_log_laws.proofs.SettingsLists.{settings_or, value_kept, value_changed, value_named}
-use Rattle.h2_log_laws.proofs.SettingsLists.{settings_one, count_next, count_none, up_to_next}
-use Rattle.h2_log_laws.proofs.SettingsLists.{up_to_here}
+use Rattle.h2_log_laws.proofs.SettingsLists.{settings_one, count_next, count_none, own_next}
+use Rattle.h2_log_laws.proofs.SettingsLists.{own_of_all}
 
 -- an item of an opening is the opening
 opening_first : (role : Role) (values : Values) → AreInRange values
@@ -230,24 +229,22 @@ streams_named first other _ sent
 streams_named first other received _ (writes {sent = sent} item with_sent allowed) =
     allowed_streams item sent first other (streams_named first other received sent with_sent)
 
--- the first of SETTINGS alone is all of them
-up_to_first : (pairs : List (ℕ × ℕ)) → up_to_settings 1 (alone (Settings false pairs) ∷ [])
-    ≡ alone (Settings false pairs) ∷ []
-up_to_first pairs =
-    up_to_here 1 (alone (Settings false pairs)) [] (settings_one pairs)
-    (omega (arith, count_none, count_next (alone (Settings false pairs)) [], settings_one pairs))
-
 -- A server's first SETTINGS name 100 streams or more.
 pub first_streams : (received sent : List Item) → AllowedHistory Server received sent
     → 100 ≤ own_value 3 100 1 sent
 first_streams _ _ (starts values ok) =
     rw (
-      up_to_first (opening_pairs Server values),
+      own_of_all 3 100 1 (alone (Settings false (opening_pairs Server values)) ∷ []) (omega (
+        arith,
+        count_none,
+        count_next (alone (Settings false (opening_pairs Server values))) [],
+        settings_one (opening_pairs Server values),
+      )),
       value_changed 3 100 (opening_pairs Server values) [],
       opening_streams values (value_read 3 100 []),
     ) ok.least_streams
 first_streams _ sent
     (reads {received = received} item with_sent) = first_streams received sent with_sent
 first_streams received _ (writes {sent = sent} item with_sent allowed) =
-    rw (up_to_next 1 item sent (λ one. omega
+    rw (own_next 3 100 1 item sent (λ one. omega
     (arith, wrote_settings Server received sent with_sent))) (first_streams received sent with_sent)

@@ -24,7 +24,7 @@ use Rattle.h2_log.specs.Verdicts.{update_verdict, block_verdict, opening_verdict
 use Rattle.h2_log.specs.ItemRules.{Decoded, replies_to, opened_by, peer_opens, settings_fault}
 use Rattle.h2_log.specs.ItemRules.{verdict_of_fault, verdict_by_rules, verdict_of, over_limits}
 use Rattle.h2_log.specs.ItemRules.{FrameStep, fails_with, begins_block, completes, frame_step}
-use Rattle.h2_log.specs.ItemEffects.{fields_of, events_of, discarded_flow}
+use Rattle.h2_log.specs.ItemEffects.{decoded_fields, events_of, discarded_flow}
 use Rattle.h2_log.specs.LogView.{log_view}
 use Rattle.h2_log.specs.LogSteps.{read, with_verdict, with_step, with_frame}
 use Rattle.h2_log.specs.Allowed.{AllowedHistory, MayReset}
@@ -224,7 +224,7 @@ unfolding replies_to discarded_flow events_of stream_of_item stream_of one_setti
     one_acked one_ack one_pong one_answer reports_unprocessed flow_on
 reported_moves log decoded (block stream end octets) with_sent with_reported =
     one_reported (history_of log) stream (block stream end octets) (FieldsEvent stream
-    (fields_of decoded) end) with_sent refl refl (omega arith) (omega arith)
+    (decoded_fields decoded) end) with_sent refl refl (omega arith) (omega arith)
     (λ j. refl) (λ j. refl)
 reported_moves log decoded (alone
     (Data stream end octets pad)) with_sent with_reported = data_reported

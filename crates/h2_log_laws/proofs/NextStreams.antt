@@ -1,13 +1,12 @@
 -- The least number of a block that passes a test.
-use Rattle.std.proofs.Common.{◌≡◌, ◌≢◌, ℕ, ◌≤◌, ◌<◌, ◌==◌, nat_lt, ◌&&◌, ◌||◌, Bool, true, false}
-use Rattle.std.proofs.Common.{if◌then◌else◌, List, [], ◌∷◌, refl, arith, inl, inr}
+use Rattle.std.proofs.Common.{◌≡◌, ◌≢◌, ◌⊎◌, ℕ, zero, suc, ◌≤◌, ◌<◌, ◌==◌, nat_lt, ◌&&◌, Bool, true}
+use Rattle.std.proofs.Common.{false, if◌then◌else◌, List, [], ◌∷◌, refl, arith, inl, inr}
 use Rattle.std.specs.List.{list_any}
 use Rattle.std.proofs.lemmas.Bool.{both_ways, eqb-true, ltb-true, lt-ltb, and_parts, and_from}
-use Rattle.std.proofs.lemmas.Bool.{or_cases}
-use Rattle.std.proofs.lemmas.Bool.Decides.{nat_tests}
+use Rattle.std.proofs.lemmas.Bool.{or_cases, cases_lt}
 use Rattle.h2_block.specs.Grouping.{Item, alone, block}
 use Rattle.h2_log.specs.Items.{is_block_on, greatest_block}
-use Rattle.h2_log.specs.States.{least_block, openings}
+use Rattle.h2_log.specs.States.{least_block, lesser_number, openings}
 use Rattle.h2_log.specs.Log.{Log, active, next_active}
 use Rattle.h2_log.specs.Log.{next_unprocessed}
 use Rattle.h2_log.specs.Log.{least_goaway}
@@ -15,11 +14,31 @@ use Rattle.h2_log.specs.Settings.{is_server}
 use Rattle.h2_log_laws.proofs.StreamNumbers.{block_below}
 use Rattle.h2_log_laws.proofs.ReaderStates.{active_parts}
 
+-- The lesser of two numbers of streams is no greater than the first one.
+pub lesser_low : (stream least : ℕ) → lesser_number stream least ≤ stream
+unfolding lesser_number
+lesser_low stream zero = omega arith
+lesser_low stream (suc least) = omega arith
+
+-- It is one of them.
+lesser_is : (stream least : ℕ) → (lesser_number stream least ≡ stream)
+    ⊎ ((least ≢ 0) × (lesser_number stream least ≡ least))
+unfolding lesser_number
+lesser_is stream zero = inl refl
+lesser_is stream (suc least) = elim (cases_lt (suc least) stream) [
+  | inr le ↦ inl (omega (arith, le))
+  | inl lt ↦ inr (λ none. absurd (omega arith), omega (arith, lt))
+]
+
 -- Of a number and the least of others, by the test of the number: what is chosen passes.
 chosen_passes : (test : ℕ → Bool) (stream least : ℕ) (b : Bool) → (b ≡ true → test stream ≡ true)
     → (least ≢ 0 → test least ≡ true)
-    → (if b then stream else least) ≢ 0 → test (if b then stream else least) ≡ true
-chosen_passes test stream least true here after some = here refl
+    → (if b then lesser_number stream least else least) ≢ 0
+    → test (if b then lesser_number stream least else least) ≡ true
+chosen_passes test stream least true here after some = elim (lesser_is stream least) [
+  | inl first ↦ rw first (here refl)
+  | inr (second, is) ↦ rw is (after second)
+]
 chosen_passes test stream least false here after some = after some
 
 -- The least number that passes, passes.
@@ -29,26 +48,31 @@ unfolding least_block
 least_passes test [] some = absurd (some refl)
 least_passes test (alone frame ∷ items) some = least_passes test items some
 least_passes test (block stream end octets ∷ items) some =
-    chosen_passes test stream (least_block test items) (test stream &&
-    (least_block test items == 0 || nat_lt stream (least_block test items)))
-    (λ both. (and_parts _ _ both).0) (least_passes test items) some
+    chosen_passes test stream (least_block test items) (test stream) (λ here. here)
+    (least_passes test items) some
+
+-- Where neither is 0 the lesser one is not 0, and no greater than the second one.
+lesser_second : (stream least : ℕ) → stream ≢ 0 → least ≢ 0 → (lesser_number stream least ≢ 0)
+    × (lesser_number stream least ≤ least)
+unfolding lesser_number
+lesser_second stream zero some other = absurd (other refl)
+lesser_second stream (suc least) some other = (omega (arith, some), omega arith)
 
 -- A number that passes is chosen, or a lesser one is.
-passing_chosen : (stream least : ℕ) → stream ≢ 0
-    → ((if true && (least == 0 || nat_lt stream least) then stream else least) ≢ 0)
-    × ((if true && (least == 0 || nat_lt stream least) then stream else least) ≤ stream)
-passing_chosen stream least some = (grind (arith, nat_tests), grind (arith, nat_tests))
+passing_chosen : (stream least : ℕ) → stream ≢ 0 → (lesser_number stream least ≢ 0)
+    × (lesser_number stream least ≤ stream)
+passing_chosen stream least some = elim (lesser_is stream least) [
+  | inl first ↦ (rw first some, lesser_low stream least)
+  | inr (second, is) ↦ (rw is second, lesser_low stream least)
+]
 
 -- What is chosen is no greater than the least of others.
 lesser_chosen : (stream least bound : ℕ) (passes : Bool) → (passes ≡ true → stream ≢ 0)
     → least ≢ 0 → least ≤ bound
-    → ((if passes && (least == 0 || nat_lt stream least) then stream else least) ≢ 0)
-    × ((if passes && (least == 0 || nat_lt stream least) then stream else least) ≤ bound)
-lesser_chosen stream least bound true nonzero some le = let here = nonzero refl in (
-  grind
-      (arith, nat_tests),
-  grind (arith, nat_tests),
-)
+    → ((if passes then lesser_number stream least else least) ≢ 0)
+    × ((if passes then lesser_number stream least else least) ≤ bound)
+lesser_chosen stream least bound true nonzero some le =
+    let both = lesser_second stream least (nonzero refl) some in (both.0, omega (arith, both.1, le))
 lesser_chosen stream least bound false nonzero some le = (some, le)
 
 -- A number of a block that passes is found, or a lesser one is.

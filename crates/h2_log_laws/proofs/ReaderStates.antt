@@ -12,7 +12,7 @@ use Rattle.h2_log.specs.Items.{is_block_on, opens_from, ends, resets, is_goaway_
 use Rattle.h2_log.specs.Settings.{peer_of}
 use Rattle.h2_log.specs.Events.{Event, reports_unprocessed}
 use Rattle.h2_log.specs.States.{Idle, Active, ClosedByUs, openings, is_used, is_above, is_over}
-use Rattle.h2_log.specs.States.{is_active, is_closed_by_us, state_by, state_of}
+use Rattle.h2_log.specs.States.{is_active, is_closed_by_us, state_by, stream_state}
 use Rattle.h2_log.specs.Allowed.{MayContinue}
 use Rattle.h2_log_laws.proofs.ItemLists.{any_after, none_after}
 
@@ -169,8 +169,8 @@ pub goes_on_state : (role : Role) (i : ℕ) (received sent unread : List Item)
     (reported : List Event) → MayContinue role i received sent
     → (list_any (reports_unprocessed i) reported ≡ true → (peer_of role ≡ Client)
     × (list_any (is_goaway_below i) sent ≡ true))
-    → (state_of (peer_of role) i sent (unread ++ received) reported
-    ≡ Active) ⊎ (state_of (peer_of role) i sent (unread ++ received) reported ≡ ClosedByUs)
+    → (stream_state (peer_of role) i sent (unread ++ received) reported
+    ≡ Active) ⊎ (stream_state (peer_of role) i sent (unread ++ received) reported ≡ ClosedByUs)
 unfolding is_closed_by_us
 goes_on_state role i received sent unread reported goes named =
     let parts = active_parts role i received sent [] goes.active in

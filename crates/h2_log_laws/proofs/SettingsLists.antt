@@ -1,12 +1,13 @@
 -- Settings that were read, and own ones that are in force.
-use Rattle.std.proofs.Common.{◌≡◌, ◌⊎◌, ℕ, ◌+◌, ◌≤◌, ◌<◌, ◌==◌, nat_le, ◌&&◌, not, Bool, true}
-use Rattle.std.proofs.Common.{false, if◌then◌else◌, List, [], ◌∷◌, ◌++◌, refl, ap, sym, ◌∙◌, inl}
-use Rattle.std.proofs.Common.{inr, arith}
-use Rattle.std.proofs.lemmas.Bool.{cases_eq, eq-eqb, ne_eqb, le-leb, lt-leb, and_left, and_right}
+use Rattle.std.proofs.Common.{◌≡◌, ◌⊎◌, ℕ, ◌+◌, ◌≤◌, ◌==◌, ◌&&◌, not, Bool, true}
+use Rattle.std.proofs.Common.{false, if◌then◌else◌, List, [], ◌∷◌, ◌++◌, length, take, refl, ap}
+use Rattle.std.proofs.Common.{sym, ◌∙◌, inl, inr, arith, length-append}
+use Rattle.std.proofs.lemmas.Bool.{cases_eq, eq-eqb, ne_eqb}
+use Rattle.std.proofs.lemmas.List.{take_all, take-append-le}
 use Rattle.h2_frame.specs.Frames.{Settings}
 use Rattle.h2_block.specs.Grouping.{Item, alone, block}
 use Rattle.h2_log.specs.Settings.{value_read, value_after, one_settings, settings_count}
-use Rattle.h2_log.specs.Settings.{up_to_settings, own_value, one_ack}
+use Rattle.h2_log.specs.Settings.{settings_of, value_after_all, own_value, one_ack}
 use Rattle.h2_log.specs.Items.{total}
 use Rattle.h2_log.specs.Log.{Log, acked}
 use Rattle.h2_log.specs.Allowed.{HasAcknowledged, IsReader}
@@ -103,34 +104,6 @@ pub settings_one : (pairs : List (ℕ × ℕ)) → one_settings (alone (Settings
 unfolding one_settings
 settings_one pairs = refl
 
--- the test of an item that isn't the one that is sought
-passed_over : (one count most : ℕ) → (one ≡ 1 → most < count) → (one == 1 && nat_le count most)
-    ≡ false
-passed_over one count most above = elim (cases_eq one 1) [
-  | inl is ↦ and_right (one == 1) (nat_le count most) (lt-leb count most (above is))
-  | inr other ↦ and_left (one == 1) (nat_le count most) (ne_eqb one 1 other)
-]
-
--- An item that isn't the one that is sought is passed over.
-pub up_to_next : (count : ℕ) (item : Item) (items : List Item) → (one_settings item ≡ 1
-    → count < one_settings item + settings_count items)
-    → up_to_settings count (item ∷ items) ≡ up_to_settings count items
-unfolding up_to_settings settings_count
-up_to_next count item items above = rw (passed_over (one_settings item)
-    (one_settings item + settings_count items) count above) refl
-
--- The item that is sought is found.
-pub up_to_here : (count : ℕ) (item : Item) (items : List Item) → one_settings item ≡ 1
-    → one_settings item + settings_count items ≤ count
-    → up_to_settings count (item ∷ items) ≡ item ∷ items
-unfolding up_to_settings settings_count
-up_to_here count item items one within =
-    rw (
-      eq-eqb (one_settings item) 1 one,
-      le-leb
-          (one_settings item + settings_count items) count within,
-    ) refl
-
 -- The count of a list with one item more.
 pub count_next : (item : Item) (items : List Item) → settings_count (item ∷ items)
     ≡ one_settings item + settings_count items
@@ -142,30 +115,95 @@ pub count_none : settings_count [] ≡ 0
 unfolding settings_count
 count_none = refl
 
--- Items after all those that count change nothing.
-up_to_after : (count : ℕ) (more items : List Item) → count ≡ settings_count items
-    → up_to_settings count (more ++ items) ≡ up_to_settings count items
-up_to_after count [] items all = refl
-up_to_after count (item ∷ more) items all =
-    up_to_next count item (more ++ items) (λ one. omega (arith, settings_after more items))
-    ∙ up_to_after count more items all
+-- The pairs of one SETTINGS more stand after the others.
+settings_next : (pairs : List (ℕ × ℕ)) (items : List Item)
+    → settings_of (alone (Settings false pairs) ∷ items) ≡ settings_of items ++ pairs ∷ []
+unfolding settings_of
+settings_next pairs items = refl
 
--- All SETTINGS of a list give the value that was read.
-value_of_all : (id first count : ℕ) (items : List Item) → count ≡ settings_count items
-    → value_read id first (up_to_settings count items) ≡ value_read id first items
-unfolding up_to_settings
-value_of_all id first count [] all = refl
-value_of_all id first count (item ∷ items) all = elim (settings_or item) [
+-- What counts as no SETTINGS adds none.
+settings_kept : (item : Item) (items : List Item) → one_settings item ≡ 0
+    → settings_of (item ∷ items) ≡ settings_of items
+unfolding one_settings settings_of
+settings_kept (block stream end octets) items none = refl
+settings_kept (alone (Settings false pairs)) items none = absurd (omega arith)
+settings_kept (alone frame) items none = refl
+
+-- There are as many as are counted.
+settings_counted : (items : List Item) → length (settings_of items) ≡ settings_count items
+unfolding settings_of
+settings_counted [] = sym count_none
+settings_counted (item ∷ items) =
+    let older = settings_counted items in
+    let counted = count_next item items in
+    elim (settings_or item) [
+      | inl (pairs, is) ↦
+          let one : one_settings item ≡ 1 = rw is (settings_one pairs) in
+          ap (λ (item : Item). length (settings_of (item ∷ items))) is
+          ∙ ap length (settings_next pairs items) ∙ length-append (settings_of items) (pairs ∷ [])
+          ∙ omega (arith, older, one, counted)
+      | inr none ↦ ap length (settings_kept item items none) ∙ omega (arith, older, none, counted)
+    ]
+
+-- The value after one SETTINGS more.
+after_one_more : (id first : ℕ) (settings : List (List (ℕ × ℕ))) (pairs : List (ℕ × ℕ))
+    → value_after_all id first (settings ++ pairs ∷ [])
+    ≡ value_after id (value_after_all id first settings) pairs
+unfolding value_after_all
+after_one_more id first [] pairs = refl
+after_one_more id first (one ∷ settings) pairs =
+    after_one_more id (value_after id first one) settings pairs
+
+-- The value after all SETTINGS of a list is the one that was read.
+after_all : (id first : ℕ) (items : List Item)
+    → value_after_all id first (settings_of items) ≡ value_read id first items
+unfolding settings_of value_after_all value_read
+after_all id first [] = refl
+after_all id first (item ∷ items) = elim (settings_or item) [
+  | inl (pairs, is) ↦
+      rw (
+        is,
+        settings_next pairs items,
+        after_one_more id first (settings_of items) pairs,
+        after_all id first items,
+        value_changed id first pairs items,
+      ) refl
+  | inr none ↦
+      rw (settings_kept item items none, value_kept id first item items none)
+      (after_all id first items)
+]
+
+-- Where all SETTINGS of a list are acknowledged, an own value is the one that was written last.
+pub own_of_all : (id first count : ℕ) (items : List Item) → settings_count items ≤ count
+    → own_value id first count items ≡ value_read id first items
+own_of_all id first count items all =
+    rw (take_all count (settings_of items) (omega (arith, settings_counted items, all)))
+    (after_all id first items)
+
+-- What isn't SETTINGS that are acknowledged leaves an own value.
+pub own_next : (id first count : ℕ) (item : Item) (items : List Item)
+    → (one_settings item ≡ 1 → count ≤ settings_count items)
+    → own_value id first count (item ∷ items) ≡ own_value id first count items
+own_next id first count item items above = elim (settings_or item) [
   | inl (pairs, is) ↦
       let one : one_settings item ≡ 1 = rw is (settings_one pairs) in
-      ap (λ (line : List Item). value_read id first line) (up_to_here count item items one (omega
-      (arith, count_next item items)))
-  | inr none ↦
-      ap (λ (line : List Item). value_read id first line) (up_to_next count item items
-      (λ one. absurd (omega arith)))
-      ∙ value_of_all id first count items (omega (arith, count_next item items))
-      ∙ sym (value_kept id first item items none)
+      rw (
+        is,
+        settings_next pairs items,
+        take-append-le count (settings_of items) (pairs ∷ [])
+            (omega (arith, settings_counted items, above one)),
+      ) refl
+  | inr none ↦ rw (settings_kept item items none) refl
 ]
+
+-- So do more items, where no more SETTINGS are acknowledged than were written before them.
+pub own_older : (id first count : ℕ) (newer older : List Item) → count ≤ settings_count older
+    → own_value id first count (newer ++ older) ≡ own_value id first count older
+own_older id first count [] older within = refl
+own_older id first count (item ∷ newer) older within =
+    own_next id first count item (newer ++ older)
+    (λ one. omega (arith, within, settings_after newer older))
+    ∙ own_older id first count newer older within
 
 -- What the reader knows to be acknowledged is all that the writer has read.
 pub acked_all : (role : Role) (received sent unread : List Item) (log : Log)
@@ -181,6 +219,5 @@ pub limits_lem : (id first : ℕ) (role : Role) (received sent unread : List Ite
 limits_lem id first role received sent unread log returned reader =
     let all = acked_all role received sent unread log returned reader in
     ap (λ (items : List Item). own_value id first (acked log) items) reader.written
-    ∙ ap (λ (items : List Item). value_read id first items) (up_to_after
-    (acked log) unread received all)
-    ∙ value_of_all id first (acked log) received all
+    ∙ own_older id first (acked log) unread received (omega (arith, all))
+    ∙ own_of_all id first (acked log) received (omega (arith, all))

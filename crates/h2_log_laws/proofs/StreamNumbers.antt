@@ -174,8 +174,7 @@ unfolding least_block greatest_block
 least_none test [] none = refl
 least_none test (alone frame ∷ items) none = least_none test items none
 least_none test (block stream end octets ∷ items) none =
-    rw (and_left (test stream) (least_block test items == 0 || nat_lt stream
-    (least_block test items)) (none stream (omega arith)))
+    rw (none stream (omega arith))
     (least_none test items (λ j below. none j (omega arith)))
 
 -- a server names no stream

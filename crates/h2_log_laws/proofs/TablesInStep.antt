@@ -8,7 +8,8 @@ use Rattle.hpack.specs.Written.{IsValidEncoder}
 use Rattle.hpack.specs.Limits.{after_limit}
 use Rattle.hpack.proofs.LimitLemmas.{fold_limits, limit_preserves}
 use Rattle.hpack.proofs.WrittenBlocks.{block_encodes, block_goes_on}
-use Rattle.h2_log_laws.specs.Tables.{Sending, encoder_before, octets_sent, encoder_after, AreWithin}
+use Rattle.h2_log_laws.specs.Tables.{SentBlock, encoder_before, octets_sent, encoder_after}
+use Rattle.h2_log_laws.specs.Tables.{AreWithinLimits}
 use Rattle.h2_log_laws.specs.Tables.{AreRead}
 
 -- Setting limits leaves what must be true of an encoder.
@@ -26,8 +27,8 @@ same_table encoder limits = ap (λ (state : EncoderState). state.table) (fold_li
 
 -- What an encoder writes, block by block, its reader decodes block by block, with the same table
 -- after each.
-pub in_step : (encoder : EncoderState) (sendings : List Sending) → IsValidEncoder encoder
-    → AreWithin encoder sendings
+pub in_step : (encoder : EncoderState) (sendings : List SentBlock) → IsValidEncoder encoder
+    → AreWithinLimits encoder sendings
     → AreRead encoder.table (octets_sent encoder sendings) sendings
     (encoder_after encoder sendings).table
 in_step encoder [] writing within = refl

@@ -5,7 +5,7 @@ ghost use Rattle.h2_block.specs.Grouping.{Item};
 ghost use Rattle.h2_log.specs.declared.role.Role.{Role};
 ghost use Rattle.h2_log.specs.Items.{greatest_block};
 ghost use Rattle.h2_log.specs.Events.{Event};
-ghost use Rattle.h2_log.specs.States.{Idle, Active, openings, is_used, is_active, state_of};
+ghost use Rattle.h2_log.specs.States.{Idle, Active, openings, is_used, is_active, stream_state};
 ghost use Rattle.h2_log.specs.Log.{Log, active, next_active};
 
 // contract: 5.1 A stream has one state, by what was received and sent
@@ -14,14 +14,15 @@ ghost use Rattle.h2_log.specs.Log.{Log, active, next_active};
 /// (RFC 9113, section 5.1).
 pub fn states_of_streams()
     ensures idle { (role : Role) (i : ℕ) (received sent : List Item) (reported : List Event)
-        → is_used role i received sent ≡ false → state_of role i received sent reported ≡ Idle }
+        → is_used role i received sent ≡ false → stream_state role i received sent reported ≡ Idle }
     ensures used { (role : Role) (i : ℕ) (received sent : List Item) (reported : List Event)
-        → is_used role i received sent ≡ true → state_of role i received sent reported ≢ Idle }
+        → is_used role i received sent ≡ true → stream_state role i received sent reported ≢ Idle }
     ensures active { (role : Role) (i : ℕ) (received sent : List Item) (reported : List Event)
-        → is_active role i received sent reported ≡ true → state_of role i received sent reported
+        → is_active role i received sent reported ≡ true
+        → stream_state role i received sent reported
         ≡ Active }
     ensures active_by_items { (role : Role) (i : ℕ) (received sent : List Item)
-        (reported : List Event) → state_of role i received sent reported ≡ Active
+        (reported : List Event) → stream_state role i received sent reported ≡ Active
         → is_active role i received sent reported ≡ true }
 {}
 

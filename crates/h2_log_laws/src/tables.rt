@@ -13,14 +13,15 @@ ghost use Rattle.h2_log.specs.Log.{Log, acked};
 ghost use Rattle.h2_log.specs.Settings.{value_read, own_value};
 ghost use Rattle.h2_log.specs.Limits.{max_list};
 ghost use Rattle.h2_log.specs.Allowed.{HasAcknowledged, IsReader};
-ghost use Rattle.h2_log_laws.specs.Tables.{Sending, octets_sent, encoder_after, AreWithin, AreRead};
+ghost use Rattle.h2_log_laws.specs.Tables.{SentBlock, octets_sent, encoder_after, AreWithinLimits};
+ghost use Rattle.h2_log_laws.specs.Tables.{AreRead};
 
 /// What an encoder writes, block by block, with limits that change between blocks, its reader
 /// decodes block by block, with the same table after each, where the reader's limit is never below
 /// the encoder's.
 pub fn tables_in_step()
-    ensures { (encoder : EncoderState) (sendings : List Sending) → IsValidEncoder encoder
-        → AreWithin encoder sendings
+    ensures { (encoder : EncoderState) (sendings : List SentBlock) → IsValidEncoder encoder
+        → AreWithinLimits encoder sendings
         → AreRead encoder.table (octets_sent encoder sendings) sendings
         (encoder_after encoder sendings).table }
 {}

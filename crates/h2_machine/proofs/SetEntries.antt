@@ -3,7 +3,7 @@ use Rattle.std.proofs.Common.{◌≡◌, ◌≢◌, ℕ, ◌==◌, Bool, true, f
 use Rattle.std.proofs.Common.{ap, ◌∙◌, eq-eqb, ne_eqb}
 use Rattle.std.specs.Cmp.{nat_cmp_total, unsigned_tied}
 use Rattle.std.specs.FinMap as map
-use Rattle.h2_machine.specs.End.{Entry, StreamMap}
+use Rattle.h2_machine.specs.End.{StreamEntry, StreamMap}
 
 -- A number is itself.
 same_number : (k : ℕ) → (k == k) ≡ true
@@ -14,7 +14,7 @@ other_number : (q k : ℕ) → q ≢ k → (q == k) ≡ false
 other_number q k apart = ne_eqb q k apart
 
 -- what is kept after an entry that is set
-pub get_set : (m : StreamMap) (k : ℕ) (v : Entry) (q : ℕ)
+pub get_set : (m : StreamMap) (k : ℕ) (v : StreamEntry) (q : ℕ)
     → map.get (map.insert m k v) q ≡ (if q == k then Some v else map.get m q)
 get_set m k v q =
     map.get-insert nat_cmp_total m k v q
@@ -28,12 +28,12 @@ get_removed m k q =
     ∙ ap (λ (b : Bool). if b then None else map.get m q) (unsigned_tied q k)
 
 -- At the number itself, the entry is the one that was set.
-pub get_set_same : (m : StreamMap) (k : ℕ) (v : Entry) → map.get (map.insert m k v) k ≡ Some v
+pub get_set_same : (m : StreamMap) (k : ℕ) (v : StreamEntry) → map.get (map.insert m k v) k ≡ Some v
 get_set_same m k v =
     get_set m k v k ∙ ap (λ (b : Bool). if b then Some v else map.get m k) (same_number k)
 
 -- At another number the entry is what it was.
-pub get_set_other : (m : StreamMap) (k : ℕ) (v : Entry) (q : ℕ) → q ≢ k
+pub get_set_other : (m : StreamMap) (k : ℕ) (v : StreamEntry) (q : ℕ) → q ≢ k
     → map.get (map.insert m k v) q ≡ map.get m q
 get_set_other m k v q apart =
     get_set m k v q ∙ ap (λ (b : Bool). if b then Some v else map.get m q) (other_number q k apart)

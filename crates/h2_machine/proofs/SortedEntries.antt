@@ -9,7 +9,7 @@ use Rattle.std.specs.Ordering.{nat_cmp, is_lt, is_eq}
 use Rattle.std.specs.Cmp.{nat_cmp_total, ranked, unsigned_tied}
 use Rattle.std.proofs.lemmas.Bool.{and_parts, or_cases, or_left, or_right, both_ways}
 use Rattle.std.proofs.lemmas.Bool.{ltb-true, lt-ltb, eq-eqb}
-use Rattle.h2_machine.specs.End.{Entry, any_above, above_by_shift}
+use Rattle.h2_machine.specs.End.{StreamEntry, any_above, above_by_shift}
 use Rattle.h2_machine.specs.Machine.{first_active, is_active_entry}
 
 -- The first part of a test that holds, holds.
@@ -29,7 +29,8 @@ less Equal p = absurd p
 less Greater p = absurd p
 
 -- A number below one that is below all others is not found among these.
-pub not_found : (q x : ℕ) (es : List (ℕ × Entry)) → nat_cmp q x ≡ Less → T (below_all nat_cmp x es)
+pub not_found : (q x : ℕ) (es : List (ℕ × StreamEntry)) → nat_cmp q x ≡ Less
+    → T (below_all nat_cmp x es)
     → map.find nat_cmp q es ≡ None
 not_found q x [] p h = refl
 not_found q x (e ∷ es) p h =
@@ -40,7 +41,7 @@ not_found q x (e ∷ es) p h =
     ∙ not_found q x es p (second (is_lt (nat_cmp x e.0)) (below_all nat_cmp x es) h)
 
 -- A number that is below all others is not found among these.
-pub not_itself : (x : ℕ) (es : List (ℕ × Entry)) → T (below_all nat_cmp x es)
+pub not_itself : (x : ℕ) (es : List (ℕ × StreamEntry)) → T (below_all nat_cmp x es)
     → map.find nat_cmp x es ≡ None
 not_itself x [] h = refl
 not_itself x (e ∷ es) h =
@@ -50,7 +51,8 @@ not_itself x (e ∷ es) h =
     ∙ not_itself x es (second (is_lt (nat_cmp x e.0)) (below_all nat_cmp x es) h)
 
 -- What is found after an entry is found with it, by how its number compares.
-found_by : (i : ℕ) (e : ℕ × Entry) (es : List (ℕ × Entry)) (x : Entry) (r : Ordering)
+found_by : (i : ℕ) (e : ℕ × StreamEntry) (es : List (ℕ
+    × StreamEntry)) (x : StreamEntry) (r : Ordering)
     → nat_cmp i e.0 ≡ r → T (below_all nat_cmp e.0 es)
     → map.find nat_cmp i es ≡ Some x → cond (is_eq r) (Some e.1) (map.find nat_cmp i es) ≡ Some x
 found_by i e es x Less is h found = found
@@ -61,25 +63,26 @@ found_by i e es x Equal is h found =
     cc
 
 -- What is found after an entry is found with it.
-pub found_after : (i : ℕ) (e : ℕ × Entry) (es : List (ℕ × Entry)) (x : Entry)
+pub found_after : (i : ℕ) (e : ℕ × StreamEntry) (es : List (ℕ × StreamEntry)) (x : StreamEntry)
     → T (below_all nat_cmp e.0 es)
     → map.find nat_cmp i es ≡ Some x → map.find nat_cmp i (e ∷ es) ≡ Some x
 found_after i e es x h found = found_by i e es x (nat_cmp i e.0) refl h found
 
 -- The first entry is found.
-pub found_first : (e : ℕ × Entry) (es : List (ℕ × Entry)) → map.find nat_cmp e.0 (e ∷ es) ≡ Some e.1
+pub found_first : (e : ℕ × StreamEntry) (es : List (ℕ × StreamEntry))
+    → map.find nat_cmp e.0 (e ∷ es) ≡ Some e.1
 found_first e es = ap (λ (b : Bool). cond b (Some e.1) (map.find nat_cmp e.0 es))
     (unsigned_tied e.0 e.0 ∙ eq-eqb e.0 e.0 refl)
 
 -- A number that is found, is active, and is above another.
-pub record Found (above n : ℕ) (es : List (ℕ × Entry)) : Type 0 where
-  pub x : Entry
+pub record Found (above n : ℕ) (es : List (ℕ × StreamEntry)) : Type 0 where
+  pub x : StreamEntry
   pub found : map.find nat_cmp n es ≡ Some x
   pub active : is_active_entry x ≡ true
   pub higher : nat_lt above n ≡ true
 
 -- The first active number is found, by the test of the first entry.
-first_by : (above : ℕ) (e : ℕ × Entry) (es : List (ℕ × Entry)) (b : Bool)
+first_by : (above : ℕ) (e : ℕ × StreamEntry) (es : List (ℕ × StreamEntry)) (b : Bool)
     → (is_active_entry e.1 && nat_lt above e.0) ≡ b → T (below_all nat_cmp e.0 es)
     → (first_active above es ≢ 0 → Found above (first_active above es) es)
     → (if b then e.0 else first_active above es) ≢ 0
@@ -97,7 +100,7 @@ first_by above e es false is h after some =
     }
 
 -- The first active number is found.
-pub first_found : (above : ℕ) (es : List (ℕ × Entry)) → T (map.is_sorted nat_cmp es)
+pub first_found : (above : ℕ) (es : List (ℕ × StreamEntry)) → T (map.is_sorted nat_cmp es)
     → first_active above es ≢ 0 → Found above (first_active above es) es
 unfolding first_active
 first_found above [] h some = absurd (some refl)
@@ -107,7 +110,7 @@ first_found above (e ∷ es) h some =
     (first_found above es (second (below_all nat_cmp e.0 es) (map.is_sorted nat_cmp es) h)) some
 
 -- A number after the first entry: the first active one is there, or no greater.
-least_by : (above i : ℕ) (e : ℕ × Entry) (es : List (ℕ × Entry)) (b : Bool)
+least_by : (above i : ℕ) (e : ℕ × StreamEntry) (es : List (ℕ × StreamEntry)) (b : Bool)
     → (is_active_entry e.1 && nat_lt above e.0) ≡ b → e.0 < i
     → (first_active above es ≢ 0) × (first_active above es ≤ i)
     → ((if b then e.0 else first_active above es) ≢ 0) × ((if b then e.0 else first_active above es)
@@ -119,7 +122,8 @@ least_by above i e es false is below later = later
 
 -- An active number above another: the first active one is there and no greater, by how it compares
 -- with the first entry.
-least_at : (above i : ℕ) (e : ℕ × Entry) (es : List (ℕ × Entry)) (x : Entry) (r : Ordering)
+least_at : (above i : ℕ) (e : ℕ × StreamEntry) (es : List (ℕ
+    × StreamEntry)) (x : StreamEntry) (r : Ordering)
     → nat_cmp i e.0 ≡ r → T (below_all nat_cmp e.0 es)
     → (map.find nat_cmp i es ≡ Some x → (first_active above es ≢ 0) × (first_active above es ≤ i))
     → cond (is_eq r) (Some e.1) (map.find nat_cmp i es) ≡ Some x → is_active_entry x ≡ true
@@ -138,7 +142,8 @@ least_at above i e es x Equal is h after found alive higher =
     rw (same, alive, lt-ltb above e.0 here) (omega (arith, here), omega (arith, at))
 
 -- An active number above another: the first active one is there and no greater.
-pub first_least : (above i : ℕ) (es : List (ℕ × Entry)) (x : Entry) → T (map.is_sorted nat_cmp es)
+pub first_least : (above i : ℕ) (es : List (ℕ × StreamEntry)) (x : StreamEntry)
+    → T (map.is_sorted nat_cmp es)
     → map.find nat_cmp i es ≡ Some x → is_active_entry x ≡ true → above < i
     → (first_active above es ≢ 0) × (first_active above es ≤ i)
 unfolding first_active
@@ -167,14 +172,14 @@ both_same false true there back = back refl
 both_same false false there back = refl
 
 -- An entry that is brought above the greatest window.
-pub record Above (old new : ℕ) (es : List (ℕ × Entry)) : Type 0 where
+pub record Above (old new : ℕ) (es : List (ℕ × StreamEntry)) : Type 0 where
   pub i : ℕ
-  pub x : Entry
+  pub x : StreamEntry
   pub found : map.find nat_cmp i es ≡ Some x
   pub above : above_by_shift old new x ≡ true
 
 -- Where some entry is brought above the greatest window, it is found.
-pub above_found : (old new : ℕ) (es : List (ℕ × Entry)) → T (map.is_sorted nat_cmp es)
+pub above_found : (old new : ℕ) (es : List (ℕ × StreamEntry)) → T (map.is_sorted nat_cmp es)
     → any_above old new es ≡ true → Above old new es
 unfolding any_above
 above_found old new [] h some = absurd (both_ways false refl some)
@@ -194,7 +199,8 @@ above_found old new (e ∷ es) h some = elim (or_cases (above_by_shift old new e
     ]
 
 -- An entry that is found is brought above the greatest window, by how its number compares.
-any_found_by : (old new i : ℕ) (e : ℕ × Entry) (es : List (ℕ × Entry)) (x : Entry) (r : Ordering)
+any_found_by : (old new i : ℕ) (e : ℕ × StreamEntry) (es : List (ℕ
+    × StreamEntry)) (x : StreamEntry) (r : Ordering)
     → (map.find nat_cmp i es ≡ Some x → any_above old new es ≡ true)
     → cond (is_eq r) (Some e.1) (map.find nat_cmp i es) ≡ Some x → above_by_shift old new x ≡ true
     → (above_by_shift old new e.1 || any_above old new es) ≡ true
@@ -207,7 +213,7 @@ any_found_by old new i e es x Equal after found above =
     (rw same above)
 
 -- An entry that is found is brought above the greatest window.
-pub any_found : (old new i : ℕ) (es : List (ℕ × Entry)) (x : Entry)
+pub any_found : (old new i : ℕ) (es : List (ℕ × StreamEntry)) (x : StreamEntry)
     → map.find nat_cmp i es ≡ Some x → above_by_shift old new x ≡ true
     → any_above old new es ≡ true
 unfolding any_above

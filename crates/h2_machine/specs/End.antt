@@ -17,15 +17,15 @@ use Rattle.h2_log.specs.Limits.{max_frame_size_sent}
 use Rattle.h2_log.specs.View.{StreamView, View}
 
 -- what is kept of a stream number: an active stream, or that this end has reset it
-pub data Entry : Type 0 where
-  active_entry : (stream : StreamView) → Entry
-  reset_entry : Entry
+pub data StreamEntry : Type 0 where
+  active_entry : (stream : StreamView) → StreamEntry
+  reset_entry : StreamEntry
 
 -- One look-up tells the state of a number.
 -- rule: 5.1 (own) What is kept of a stream is found by its number
 -- rule: 5.1 (own) A change of a stream changes that stream alone
 abbrev pub StreamMap : Type 0
-StreamMap = map.FinMap nat_cmp Entry
+StreamMap = map.FinMap nat_cmp StreamEntry
 
 pub record Streams : Type 0 where
   pub entries : StreamMap
@@ -66,7 +66,7 @@ pub record GoAways : Type 0 where
 
 -- what was read so far: whether the first frame has come, the field block that has begun, and the
 -- peer's table
-pub record Reading : Type 0 where
+pub record ReadSoFar : Type 0 where
   pub started : Bool
   pub begun : Option Begun
   pub table : Entries
@@ -80,7 +80,7 @@ pub record End : Type 0 where
   pub role : Role
   -- the code with which the connection failed
   pub failed : Option Code
-  pub reading : Reading
+  pub reading : ReadSoFar
   pub streams : Streams
   pub windows : ConnectionWindows
   pub peer : PeerSettings
@@ -91,7 +91,7 @@ pub record End : Type 0 where
   pub output : Output
 
 -- the stream of an entry, if it is active
-abbrev pub stream_in : Option Entry → Option StreamView
+abbrev pub stream_in : Option StreamEntry → Option StreamView
 stream_in None = None
 stream_in (Some reset_entry) = None
 stream_in (Some (active_entry stream)) = Some stream
@@ -101,12 +101,12 @@ abbrev pub stream_at : End → ℕ → Option StreamView
 stream_at e i = stream_in (map.get e.streams.entries i)
 
 -- what is owed on an entry, and on all of a list of entries
-abbrev pub owed_entry : Option Entry → ℕ
+abbrev pub owed_entry : Option StreamEntry → ℕ
 owed_entry None = 0
 owed_entry (Some reset_entry) = 0
 owed_entry (Some (active_entry stream)) = stream.owed
 
-unfoldable pub owed_sum : List (ℕ × Entry) → ℕ
+unfoldable pub owed_sum : List (ℕ × StreamEntry) → ℕ
 owed_sum [] = 0
 owed_sum (entry ∷ entries) = owed_entry (Some entry.1) + owed_sum entries
 
@@ -120,26 +120,26 @@ is_beyond i None = false
 is_beyond i (Some last) = nat_lt last i
 
 -- Whether a number of the peer's is above the last stream of this end's GOAWAY.
-abbrev pub is_above : End → ℕ → Bool
-is_above e i = is_server e.role && is_beyond i e.goaway.sent
+abbrev pub is_above_goaway : End → ℕ → Bool
+is_above_goaway e i = is_server e.role && is_beyond i e.goaway.sent
 
 -- the state of a number, by its entry
-abbrev pub state_by_entry : Option Entry → (idle above : Bool) → State
+abbrev pub state_by_entry : Option StreamEntry → (idle above : Bool) → State
 state_by_entry (Some (active_entry stream)) idle above = Active
 state_by_entry (Some reset_entry) idle above = ClosedByUs
 state_by_entry None idle above = if idle then Idle else if above then ClosedByUs else Closed
 
 abbrev pub state_at : End → ℕ → State
 state_at e i = state_by_entry (map.get e.streams.entries i) (i % 2 == 0 || nat_lt e.streams.highest
-    i) (is_above e i)
+    i) (is_above_goaway e i)
 
 -- Whether another initial window brings a stream's send window above the greatest (section 6.9.2).
-abbrev pub above_by_shift : (old new : ℕ) → Entry → Bool
+abbrev pub above_by_shift : (old new : ℕ) → StreamEntry → Bool
 above_by_shift old new reset_entry = false
 above_by_shift old new (active_entry stream) = int_lt (pos (greatest_window + old))
     (stream.send_window +ℤ pos new)
 
-unfoldable pub any_above : (old new : ℕ) → List (ℕ × Entry) → Bool
+unfoldable pub any_above : (old new : ℕ) → List (ℕ × StreamEntry) → Bool
 any_above old new [] = false
 any_above old new (entry ∷ entries) = above_by_shift old new entry.1 || any_above old new entries
 
@@ -151,8 +151,8 @@ number_after highest = if highest == 0 then 1 else highest + 2
 abbrev pub values_written : OwnSettings → Values
 values_written own = values_or own.in_force own.awaited
 
--- the most octets of a payload that may be read: the greatest of what is in force and of what awaits
--- its acknowledgment, since the peer may have applied that already (section 6.5.3)
+-- the most octets of a payload that may be read: the greatest of what is in force and of what
+-- awaits its acknowledgment, since the peer may have applied that already (section 6.5.3)
 -- rule: 4.2 The limit of an end is its greatest MAX_FRAME_SIZE of those in force
 abbrev pub payload_limit_of : OwnSettings → ℕ
 payload_limit_of own = max own.in_force.max_frame (values_written own).max_frame

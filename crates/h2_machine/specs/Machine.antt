@@ -6,6 +6,7 @@ use Rattle.std.specs.Prelude.{drop, Option, Some, None, is_some, map as each}
 use Rattle.std.specs.FinMap as map
 use Rattle.hpack.specs.Lists.{EncoderState, empty_table}
 use Rattle.h2_frame.specs.declared.code.Code.{Code}
+use Rattle.h2_frame.specs.declared.code.Code.TheVariants.{EnhanceYourCalm}
 use Rattle.h2_frame.specs.Frames.{Frame, Data, Reset, Settings, Ping, GoAway, WindowUpdate}
 use Rattle.h2_frame.specs.Encoding.{payload_of}
 use Rattle.h2_wire.specs.Streams.{expected_preface}
@@ -26,7 +27,7 @@ use Rattle.h2_log.specs.ItemEffects.{least_last, table_after, encoder_after_item
 use Rattle.h2_log.specs.CallRules.{returns_credit, returns_before_put_out, data_count, data_items}
 use Rattle.h2_log.specs.CallRules.{refuse_fault, items_of, answer_of, encoder_after_call}
 use Rattle.h2_log.specs.CallRules.{opening_pairs}
-use Rattle.h2_machine.specs.End.{Entry, active_entry, reset_entry, StreamMap, End, stream_at}
+use Rattle.h2_machine.specs.End.{StreamEntry, active_entry, reset_entry, StreamMap, End, stream_at}
 use Rattle.h2_machine.specs.End.{owed_entry, end_view}
 
 -- Small steps.
@@ -189,17 +190,17 @@ mark_used e i used processed =
     }
 
 -- windows of streams are shifted to another initial window
-abbrev pub shifted_entry : (old new : ℕ) → Entry → Entry
+abbrev pub shifted_entry : (old new : ℕ) → StreamEntry → StreamEntry
 shifted_entry old new reset_entry = reset_entry
 shifted_entry old new (active_entry stream) =
     active_entry (record stream { send_window = (stream.send_window +ℤ pos new) -ℤ pos old })
 
-abbrev pub recv_shifted_entry : (old new : ℕ) → Entry → Entry
+abbrev pub recv_shifted_entry : (old new : ℕ) → StreamEntry → StreamEntry
 recv_shifted_entry old new reset_entry = reset_entry
 recv_shifted_entry old new (active_entry stream) =
     active_entry (record stream { recv_window = (stream.recv_window +ℤ pos new) -ℤ pos old })
 
-abbrev pub each_entry : (Entry → Entry) → StreamMap → StreamMap
+abbrev pub each_entry : (StreamEntry → StreamEntry) → StreamMap → StreamMap
 each_entry change streams = map.from_sorted (each (λ entry. (entry.0, change entry.1))
     (map.entries streams))
 
@@ -286,7 +287,7 @@ after_ignored e decoded (alone frame) = e
 -- Whether the code is ENHANCE_YOUR_CALM: of the faults of a new stream the one with which it is
 -- processed all the same.
 abbrev pub is_calm : Code → Bool
-is_calm code = code_number code == 11
+is_calm code = code_number code == code_number EnhanceYourCalm
 
 -- An item that resets its stream: RST_STREAM joins the output, a block's table stands, and a new
 -- number is used, and processed
@@ -332,13 +333,13 @@ after_frame e decoded frame = after_step e decoded (frame_step (end_view e) fram
 
 -- Streams that the peer doesn't process.
 
-abbrev pub is_active_entry : Entry → Bool
+abbrev pub is_active_entry : StreamEntry → Bool
 is_active_entry (active_entry stream) = true
 is_active_entry reset_entry = false
 
 -- the least active number above another, or 0
 -- rule: 5.1 (own) The next active stream is the least above a number
-unfoldable pub first_active : ℕ → List (ℕ × Entry) → ℕ
+unfoldable pub first_active : ℕ → List (ℕ × StreamEntry) → ℕ
 first_active above [] = 0
 first_active above (entry ∷ entries) =
     if is_active_entry entry.1 && nat_lt above entry.0 then entry.0 else first_active above entries

@@ -19,12 +19,12 @@ use Rattle.h2_log.specs.View.{StreamView}
 use Rattle.h2_log.specs.Log.{Log, acked, allowed_by, least_goaway, newest_ping, ping_waits}
 use Rattle.h2_log.specs.Log.{released}
 use Rattle.h2_log.specs.Histories.{IsLog}
-use Rattle.h2_machine.specs.End.{Entry, active_entry, reset_entry, StreamMap, Streams}
-use Rattle.h2_machine.specs.End.{ConnectionWindows, PeerSettings, OwnSettings, GoAways, Reading}
+use Rattle.h2_machine.specs.End.{StreamEntry, active_entry, reset_entry, StreamMap, Streams}
+use Rattle.h2_machine.specs.End.{ConnectionWindows, PeerSettings, OwnSettings, GoAways, ReadSoFar}
 use Rattle.h2_machine.specs.End.{End, owed_total}
 
 -- what is kept of a number that is active, or that this end has reset, or of any other
-abbrev pub entry_by : (active was_reset : Bool) → StreamView → Option Entry
+abbrev pub entry_by : (active was_reset : Bool) → StreamView → Option StreamEntry
 entry_by true was_reset stream = Some (active_entry stream)
 entry_by false true stream = Some reset_entry
 entry_by false false stream = None
@@ -68,7 +68,7 @@ stream_by_items received sent reported calls i =
 -- so that a step leaves it as it is where it leaves those.
 
 -- the block that has begun, and the peer's table
-pub record RepresentsReading (reading : Reading) (log_begun : Option Begun) (log_table : Entries)
+pub record RepresentsReading (reading : ReadSoFar) (log_begun : Option Begun) (log_table : Entries)
     : Type 0 where
   pub begun : reading.begun ≡ log_begun
   pub table : reading.table ≡ log_table

@@ -21,7 +21,8 @@ use Rattle.h2_machine.specs.End.{End, end_view}
 use Rattle.h2_machine.specs.Machine.{close_unprocessed, new_end, unprocessed_of_end}
 use Rattle.h2_machine.specs.Represents.{Represents}
 use Rattle.h2_machine_laws.specs.Bounds.{IsBounded, goaway_size, max_active}
-use Rattle.h2_machine_laws.specs.Machines.{Step, uses_part, ends_frame, meets_fault, end_after}
+use Rattle.h2_machine_laws.specs.Machines.{MachineStep, uses_part, ends_frame, meets_fault}
+use Rattle.h2_machine_laws.specs.Machines.{end_after}
 use Rattle.h2_machine_laws.specs.Machines.{runs_out_of_memory, reports_unprocessed, is_called}
 use Rattle.h2_machine_laws.specs.Machines.{MayStep, log_after, machine_after}
 use Rattle.h2_machine_laws.proofs.BoundsOfSteps.{call_bounded, new_bounded}
@@ -82,7 +83,8 @@ abbrev BoundedMachine : Values → Log → Type 0
 BoundedMachine values log = (e : End) × Represents values e log × IsBounded e
 
 -- A step keeps a machine bounded.
-step_bounded : (values : Values) (e : End) (log : Log) (step : Step) → Represents values e log
+step_bounded : (values : Values) (e : End) (log : Log) (step : MachineStep)
+    → Represents values e log
     → MayStep log step → IsBounded e → IsBounded (machine_after e step)
 unfolding MayStep machine_after
 step_bounded values e log (uses_part octets unparsed) s may bounded = bounded
@@ -102,7 +104,7 @@ step_bounded values e log (is_called act answer) s (typed, may) bounded =
     asked_bounded values e log act answer s typed may bounded
 
 -- One more step.
-stepped : (role : Role) (values : Values) (log : Log) (step : Step) → IsLog role values log
+stepped : (role : Role) (values : Values) (log : Log) (step : MachineStep) → IsLog role values log
     → (log.role ≡ role → MayStep log step) → BoundedMachine values log
     → BoundedMachine values (log_after log step)
 stepped role values log step came may (e, s, bounded) =

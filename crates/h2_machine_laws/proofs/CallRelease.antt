@@ -19,7 +19,7 @@ use Rattle.h2_log.specs.Acts.{Act, Answer, Release, Done}
 use Rattle.h2_log.specs.LogSteps.{with_sent, with_unreturned, owed_at_close}
 use Rattle.h2_log.specs.LogCalls.{called, with_items, with_call}
 use Rattle.h2_log.specs.CallRules.{items_of, stream_of_act, encoder_after_call}
-use Rattle.h2_machine.specs.End.{End, Entry, StreamMap, active_entry}
+use Rattle.h2_machine.specs.End.{End, StreamEntry, StreamMap, active_entry}
 use Rattle.h2_log.specs.View.{StreamView, View, ended_in}
 use Rattle.h2_machine.specs.Machine.{queue_output, after_release, after_call}
 use Rattle.h2_log.specs.Events.{Event}
@@ -41,19 +41,19 @@ use Rattle.h2_log_laws.proofs.LogViewLemmas.{stream_there}
 use Rattle.h2_log_laws.proofs.AllowedHistories.{increment_here}
 
 -- A number of a stream that is set twice, at each number.
-twice_at : (v w x : Option Entry) (b : Bool)
+twice_at : (v w x : Option StreamEntry) (b : Bool)
     → (if b then w else (if b then v else x)) ≡ (if b then w else x)
 twice_at v w x true = refl
 twice_at v w x false = refl
 
 -- A stream that is set twice is set once.
-set_twice : (m : StreamMap) (k : ℕ) (v w : Entry)
+set_twice : (m : StreamMap) (k : ℕ) (v w : StreamEntry)
     → map.insert (map.insert m k v) k w ≡ map.insert m k w
 set_twice m k v w =
     map.same_map nat_cmp_total map.nat_cmp-IsAntisymmetric (map.insert (map.insert m k v) k w)
     (map.insert m k w)
     (λ q. get_set (map.insert m k v) k w q
-    ∙ ap (λ (x : Option Entry). if q == k then Some w else x) (get_set m k v q)
+    ∙ ap (λ (x : Option StreamEntry). if q == k then Some w else x) (get_set m k v q)
     ∙ twice_at (Some v) (Some w) (map.get m q) (q == k) ∙ sym (get_set m k w q))
 
 -- octets that are released count where their stream is

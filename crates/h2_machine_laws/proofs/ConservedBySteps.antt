@@ -11,7 +11,7 @@ use Rattle.h2_log.specs.Settings.{value_after}
 use Rattle.h2_log.specs.View.{StreamView}
 use Rattle.h2_log.specs.Windows.{first_window}
 use Rattle.h2_log.specs.declared.role.Role.{Role}
-use Rattle.h2_machine.specs.End.{End, Entry, StreamMap, active_entry, reset_entry, end_view}
+use Rattle.h2_machine.specs.End.{End, StreamEntry, StreamMap, active_entry, reset_entry, end_view}
 use Rattle.h2_machine.specs.End.{stream_in, owed_entry, owed_total}
 use Rattle.h2_machine.specs.Machine.{close_stream, shifted_entry, recv_shifted_entry, each_entry}
 use Rattle.h2_machine.specs.Machine.{new_stream, after_frame, after_call, new_end}
@@ -53,14 +53,14 @@ lacks_none recv_window unreturned used streams h =
     record { sum = omega (arith, h.sum); clear = h.clear }
 
 -- Nothing is kept above a number, once an entry is set that isn't above it.
-pub clear_after : (m : StreamMap) (i used later : ℕ) (x : Entry) → used ≤ later → i ≤ later
+pub clear_after : (m : StreamMap) (i used later : ℕ) (x : StreamEntry) → used ≤ later → i ≤ later
     → ((j : ℕ) → used < j → map.get m j ≡ None)
     → (j : ℕ) → later < j → map.get (map.insert m i x) j ≡ None
 clear_after m i used later x most within clear j above =
     let apart : j ≢ i = omega arith in get_set_other m i x j apart ∙ clear j (omega arith)
 
 -- An entry is set, with what it owes moved from what was there, or to it.
-entry_set : (recv unreturned after used later : ℕ) (m : StreamMap) (i : ℕ) (x : Entry)
+entry_set : (recv unreturned after used later : ℕ) (m : StreamMap) (i : ℕ) (x : StreamEntry)
     → owed_entry (Some x) + after ≡ owed_entry (map.get m i) + unreturned → used ≤ later
     → i ≤ later → Sums recv unreturned used m → Sums recv after later (map.insert m i x)
 entry_set recv unreturned after used later m i x moved most within h =
@@ -80,8 +80,8 @@ entry_removed recv unreturned more used m i h =
     }
 
 -- All streams are changed, with as much owed.
-all_changed : (recv unreturned used : ℕ) (m : StreamMap) (change : Entry → Entry)
-    → ((x : Entry) → owed_entry (Some (change x)) ≡ owed_entry (Some x))
+all_changed : (recv unreturned used : ℕ) (m : StreamMap) (change : StreamEntry → StreamEntry)
+    → ((x : StreamEntry) → owed_entry (Some (change x)) ≡ owed_entry (Some x))
     → Sums recv unreturned used m → Sums recv unreturned used (each_entry change m)
 all_changed recv unreturned used m change keeps h =
     record {
@@ -90,20 +90,20 @@ all_changed recv unreturned used m change keeps h =
     }
 
 -- What is owed is what an active stream owes.
-stream_owes : (x : Option Entry) (stream : StreamView) → stream_in x ≡ Some stream
+stream_owes : (x : Option StreamEntry) (stream : StreamView) → stream_in x ≡ Some stream
     → owed_entry x ≡ stream.owed
 stream_owes None stream is = cc
 stream_owes (Some reset_entry) stream is = cc
 stream_owes (Some (active_entry other)) stream is = cc
 
 -- Where no stream is active, nothing is owed.
-nothing_owed : (x : Option Entry) → stream_in x ≡ None → owed_entry x ≡ 0
+nothing_owed : (x : Option StreamEntry) → stream_in x ≡ None → owed_entry x ≡ 0
 nothing_owed None is = refl
 nothing_owed (Some reset_entry) is = refl
 nothing_owed (Some (active_entry other)) is = cc
 
 -- A stream owes as much once its send window is shifted, or its receive window.
-shifts_keep : (old new : ℕ) (x : Entry)
+shifts_keep : (old new : ℕ) (x : StreamEntry)
     → (owed_entry (Some (shifted_entry old new x)) ≡ owed_entry (Some x))
     × (owed_entry (Some (recv_shifted_entry old new x)) ≡ owed_entry (Some x))
 shifts_keep old new reset_entry = (refl, refl)

@@ -11,7 +11,7 @@ use Rattle.h2_log.specs.ItemRules.{Decoded}
 use Rattle.h2_log.specs.Settings.{value_after}
 use Rattle.h2_log.specs.View.{StreamView}
 use Rattle.h2_log.specs.declared.role.Role.{Role}
-use Rattle.h2_machine.specs.End.{End, Entry, StreamMap, active_entry, reset_entry, end_view}
+use Rattle.h2_machine.specs.End.{End, StreamEntry, StreamMap, active_entry, reset_entry, end_view}
 use Rattle.h2_machine.specs.End.{stream_in, stream_at, owed_entry}
 use Rattle.h2_machine.specs.Machine.{close_stream, shifted_entry, recv_shifted_entry, each_entry}
 use Rattle.h2_machine.specs.Machine.{is_one, after_frame, after_call, new_end}
@@ -58,7 +58,7 @@ is_counted e h =
     }
 
 -- An entry counts as active where a stream is.
-active_by : (y : Option Entry) (x : Option StreamView) → stream_in y ≡ x
+active_by : (y : Option StreamEntry) (x : Option StreamView) → stream_in y ≡ x
     → one_active y ≡ is_one (is_some x)
 active_by None x is = ap (λ (z : Option StreamView). is_one (is_some z)) is
 active_by (Some reset_entry) x is = ap (λ (z : Option StreamView). is_one (is_some z)) is
@@ -66,7 +66,7 @@ active_by (Some (active_entry stream)) x is = ap (λ (z : Option StreamView). is
 
 -- An entry is set.
 entry_set : (active resets used active_then resets_then later : ℕ) (m : StreamMap) (i : ℕ)
-    (x : Entry) → active_then ≡ (active + one_active (Some x)) - one_active (map.get m i)
+    (x : StreamEntry) → active_then ≡ (active + one_active (Some x)) - one_active (map.get m i)
     → resets + one_reset (Some x) ≤ resets_then → used ≤ later → i ≤ later
     → Counts active resets used m → Counts active_then resets_then later (map.insert m i x)
 entry_set active resets used active_then resets_then later m i x same few most within h =
@@ -93,8 +93,8 @@ entry_removed e i stream active h =
     }
 
 -- All streams are changed, active ones to active ones.
-all_changed : (active resets used : ℕ) (m : StreamMap) (change : Entry → Entry)
-    → ((x : Entry) → (one_active (Some (change x)) ≡ one_active (Some x))
+all_changed : (active resets used : ℕ) (m : StreamMap) (change : StreamEntry → StreamEntry)
+    → ((x : StreamEntry) → (one_active (Some (change x)) ≡ one_active (Some x))
     × (one_reset (Some (change x)) ≡ one_reset (Some x)))
     → Counts active resets used m → Counts active resets used (each_entry change m)
 all_changed active resets used m change keeps h =
@@ -105,7 +105,7 @@ all_changed active resets used m change keeps h =
     }
 
 -- A stream counts as it did once its send window is shifted, or its receive window.
-shifts_count : (old new : ℕ) (x : Entry)
+shifts_count : (old new : ℕ) (x : StreamEntry)
     → ((one_active (Some (shifted_entry old new x)) ≡ one_active (Some x))
     × (one_reset (Some (shifted_entry old new x)) ≡ one_reset (Some x)))
     × ((one_active (Some (recv_shifted_entry old new x)) ≡ one_active (Some x))

@@ -4,7 +4,7 @@ use Rattle.std.specs.FinMap as map
 use Rattle.h2_log.specs.declared.role.Role.{Role}
 use Rattle.h2_log.specs.declared.role.Role.TheVariants.{Client, Server}
 use Rattle.h2_log.specs.View.{StreamView}
-use Rattle.h2_machine.specs.End.{End, Entry, StreamMap, active_entry, reset_entry, stream_in}
+use Rattle.h2_machine.specs.End.{End, StreamEntry, StreamMap, active_entry, reset_entry, stream_in}
 use Rattle.h2_machine.specs.End.{stream_at}
 use Rattle.h2_machine.specs.Machine.{close_unprocessed, first_active, is_active_entry}
 use Rattle.h2_machine.specs.Machine.{unprocessed_of_end}
@@ -13,7 +13,7 @@ use Rattle.h2_machine_laws.proofs.CountedBySteps.{counted, is_counted, counts_en
 use Rattle.h2_machine.proofs.SortedEntries.{first_found}
 
 -- An active entry has a stream.
-stream_of_entry : (y : Option Entry) (x : Entry) → y ≡ Some x → is_active_entry x ≡ true
+stream_of_entry : (y : Option StreamEntry) (x : StreamEntry) → y ≡ Some x → is_active_entry x ≡ true
     → (stream : StreamView) × (stream_in y ≡ Some stream)
 stream_of_entry None x is active = absurd (cc)
 stream_of_entry (Some (active_entry stream)) x is active = (stream, refl)

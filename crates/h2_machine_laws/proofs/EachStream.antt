@@ -3,16 +3,17 @@ use Rattle.std.proofs.Common.{◌≡◌, ℕ, ◌+◌, Bool, true, false, pos, �
 use Rattle.std.proofs.Common.{Some, refl, ap, arith}
 use Rattle.std.proofs.lemmas.Int.{ints}
 use Rattle.h2_log.specs.View.{StreamView}
-use Rattle.h2_machine.specs.End.{Entry, active_entry, reset_entry}
+use Rattle.h2_machine.specs.End.{StreamEntry, active_entry, reset_entry}
 use Rattle.h2_machine.specs.Represents.{entry_by}
 use Rattle.h2_machine.proofs.ChangedEntries.{changed_entry}
 
 -- What is kept of a number, changed, by whether it is active and was reset.
-pub each_by : (change : Entry → Entry) (active was : Bool) (s t : StreamView) → change reset_entry
+pub each_by : (change : StreamEntry → StreamEntry) (active was : Bool) (s t : StreamView)
+    → change reset_entry
     ≡ reset_entry → change (active_entry s) ≡ active_entry t
     → changed_entry change (entry_by active was s) ≡ entry_by active was t
-each_by change true was s t kept moved = ap (λ (x : Entry). Some x) moved
-each_by change false true s t kept moved = ap (λ (x : Entry). Some x) kept
+each_by change true was s t kept moved = ap (λ (x : StreamEntry). Some x) moved
+each_by change false true s t kept moved = ap (λ (x : StreamEntry). Some x) kept
 each_by change false false s t kept moved = refl
 
 -- A receive window that is shifted from one initial window to another, by signed numbers.

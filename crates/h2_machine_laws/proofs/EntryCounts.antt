@@ -6,7 +6,7 @@ use Rattle.std.specs.Ordering.{nat_cmp, is_eq}
 use Rattle.std.specs.Cmp.{nat_cmp_total}
 use Rattle.std.specs.FinMap as map
 use Rattle.std.specs.FinMap.Entries.{below_all, by_order}
-use Rattle.h2_machine.specs.End.{Entry, active_entry, reset_entry, StreamMap}
+use Rattle.h2_machine.specs.End.{StreamEntry, active_entry, reset_entry, StreamMap}
 use Rattle.h2_machine.specs.Machine.{each_entry}
 use Rattle.h2_machine_laws.specs.Ranges.{count_active, count_reset}
 use Rattle.h2_machine.proofs.SortedEntries.{first, second, not_found}
@@ -15,29 +15,29 @@ use Rattle.h2_machine_laws.proofs.OwedSums.{inserted_again, gone}
 use Rattle.h2_machine.proofs.ChangedEntries.{changed, entries_changed}
 
 -- one for an active entry
-abbrev pub one_active : Option Entry → ℕ
+abbrev pub one_active : Option StreamEntry → ℕ
 one_active None = 0
 one_active (Some reset_entry) = 0
 one_active (Some (active_entry stream)) = 1
 
 -- one for an entry of a stream that was reset
-abbrev pub one_reset : Option Entry → ℕ
+abbrev pub one_reset : Option StreamEntry → ℕ
 one_reset None = 0
 one_reset (Some reset_entry) = 1
 one_reset (Some (active_entry stream)) = 0
 
 -- the sum of what each entry counts
-unfoldable pub count_of : (Option Entry → ℕ) → List (ℕ × Entry) → ℕ
+unfoldable pub count_of : (Option StreamEntry → ℕ) → List (ℕ × StreamEntry) → ℕ
 count_of counts [] = 0
 count_of counts (entry ∷ entries) = counts (Some entry.1) + count_of counts entries
 
 -- the sum over what is kept
-abbrev pub count_in : (Option Entry → ℕ) → StreamMap → ℕ
+abbrev pub count_in : (Option StreamEntry → ℕ) → StreamMap → ℕ
 count_in counts m = count_of counts (map.entries m)
 
 -- the sum after an entry that is set, by how its key compares with the first
-count_inserted_by : (counts : Option Entry → ℕ) → counts None ≡ 0 → (k : ℕ) (v : Entry)
-    (e : ℕ × Entry) (es : List (ℕ × Entry)) (r : Ordering)
+count_inserted_by : (counts : Option StreamEntry → ℕ) → counts None ≡ 0 → (k : ℕ) (v : StreamEntry)
+    (e : ℕ × StreamEntry) (es : List (ℕ × StreamEntry)) (r : Ordering)
     → nat_cmp k e.0 ≡ r → T (below_all nat_cmp e.0 es)
     → count_of counts (map.put nat_cmp k v es) + counts (map.find nat_cmp k es)
     ≡ count_of counts es + counts (Some v)
@@ -52,8 +52,8 @@ count_inserted_by counts empty k v e es Equal p h following = omega arith
 count_inserted_by counts empty k v e es Greater p h following = omega (arith, following)
 
 -- the sum after an entry that is set, over a list in order
-count_inserted : (counts : Option Entry → ℕ) → counts None ≡ 0 → (k : ℕ) (v : Entry)
-    (es : List (ℕ × Entry)) → T (map.is_sorted nat_cmp es)
+count_inserted : (counts : Option StreamEntry → ℕ) → counts None ≡ 0 → (k : ℕ) (v : StreamEntry)
+    (es : List (ℕ × StreamEntry)) → T (map.is_sorted nat_cmp es)
     → count_of counts (map.put nat_cmp k v es) + counts (map.find nat_cmp k es)
     ≡ count_of counts es + counts (Some v)
 unfolding count_of
@@ -65,8 +65,8 @@ count_inserted counts empty k v (e ∷ es) h =
     (second (below_all nat_cmp e.0 es) (map.is_sorted nat_cmp es) h))
 
 -- the sum after an entry that is set
-pub count-insert : (counts : Option Entry → ℕ) → counts None ≡ 0 → (m : StreamMap) (k : ℕ)
-    (v : Entry)
+pub count-insert : (counts : Option StreamEntry → ℕ) → counts None ≡ 0 → (m : StreamMap) (k : ℕ)
+    (v : StreamEntry)
     → count_in counts (map.insert m k v) + counts (map.get m k)
     ≡ count_in counts m + counts (Some v)
 count-insert counts empty m k v =
@@ -76,8 +76,8 @@ count-insert counts empty m k v =
     rw (inserted, found) (count_inserted counts empty k v (map.entries m) (map.entries_sorted m))
 
 -- the sum after an entry that is removed, by the entry
-count_removed_by : (counts : Option Entry → ℕ) → counts None ≡ 0 → (m : StreamMap) (k : ℕ)
-    (x : Option Entry) → map.get m k ≡ x
+count_removed_by : (counts : Option StreamEntry → ℕ) → counts None ≡ 0 → (m : StreamMap) (k : ℕ)
+    (x : Option StreamEntry) → map.get m k ≡ x
     → count_in counts (map.remove m k) + counts x ≡ count_in counts m
 count_removed_by counts empty m k None is =
     let same : count_in counts (map.remove m k) ≡ count_in counts m =
@@ -95,26 +95,27 @@ count_removed_by counts empty m k (Some v) is =
     omega (arith, set, back, none)
 
 -- the sum after an entry that is removed
-pub count-remove : (counts : Option Entry → ℕ) → counts None ≡ 0 → (m : StreamMap) (k : ℕ)
+pub count-remove : (counts : Option StreamEntry → ℕ) → counts None ≡ 0 → (m : StreamMap) (k : ℕ)
     → count_in counts (map.remove m k) + counts (map.get m k) ≡ count_in counts m
 count-remove counts empty m k = count_removed_by counts empty m k (map.get m k) refl
 
 -- A list without entries counts none.
-count_of_none : (counts : Option Entry → ℕ) (es : List (ℕ × Entry)) → length es ≡ 0
+count_of_none : (counts : Option StreamEntry → ℕ) (es : List (ℕ × StreamEntry)) → length es ≡ 0
     → count_of counts es ≡ 0
 unfolding count_of
 count_of_none counts [] none = refl
 count_of_none counts (e ∷ es) none = absurd (omega (arith, none))
 
 -- Nothing is counted where no stream is kept.
-pub count-empty : (counts : Option Entry → ℕ) → count_in counts map.empty ≡ 0
+pub count-empty : (counts : Option StreamEntry → ℕ) → count_in counts map.empty ≡ 0
 count-empty counts =
     count_of_none counts (map.entries map.empty)
-    (sym (map.len-entries map.empty) ∙ map.len-empty nat_cmp Entry)
+    (sym (map.len-entries map.empty) ∙ map.len-empty nat_cmp StreamEntry)
 
 -- Changes that keep what each entry counts keep the sum.
-count_changed : (counts : Option Entry → ℕ) (change : Entry → Entry) (es : List (ℕ × Entry))
-    → ((x : Entry) → counts (Some (change x)) ≡ counts (Some x))
+count_changed : (counts : Option StreamEntry → ℕ) (change : StreamEntry
+    → StreamEntry) (es : List (ℕ × StreamEntry))
+    → ((x : StreamEntry) → counts (Some (change x)) ≡ counts (Some x))
     → count_of counts (changed change es) ≡ count_of counts es
 unfolding count_of
 count_changed counts change [] keeps = refl
@@ -122,29 +123,30 @@ count_changed counts change (e ∷ es) keeps =
     omega (arith, keeps e.1, count_changed counts change es keeps)
 
 -- Changes of all streams that keep what each entry counts keep the sum.
-pub count-each : (counts : Option Entry → ℕ) (change : Entry → Entry) (m : StreamMap)
-    → ((x : Entry) → counts (Some (change x)) ≡ counts (Some x))
+pub count-each : (counts : Option StreamEntry → ℕ) (change : StreamEntry
+    → StreamEntry) (m : StreamMap)
+    → ((x : StreamEntry) → counts (Some (change x)) ≡ counts (Some x))
     → count_in counts (each_entry change m) ≡ count_in counts m
 count-each counts change m keeps =
     ap (count_of counts) (entries_changed change m)
     ∙ count_changed counts change (map.entries m) keeps
 
 -- How many entries are active is their sum.
-pub active_counted : (es : List (ℕ × Entry)) → count_active es ≡ count_of one_active es
+pub active_counted : (es : List (ℕ × StreamEntry)) → count_active es ≡ count_of one_active es
 unfolding count_of count_active
 active_counted [] = refl
 active_counted ((i, active_entry stream) ∷ es) = omega (arith, active_counted es)
 active_counted ((i, reset_entry) ∷ es) = omega (arith, active_counted es)
 
 -- How many are of streams that were reset is theirs.
-pub reset_counted : (es : List (ℕ × Entry)) → count_reset es ≡ count_of one_reset es
+pub reset_counted : (es : List (ℕ × StreamEntry)) → count_reset es ≡ count_of one_reset es
 unfolding count_of count_reset
 reset_counted [] = refl
 reset_counted ((i, active_entry stream) ∷ es) = omega (arith, reset_counted es)
 reset_counted ((i, reset_entry) ∷ es) = omega (arith, reset_counted es)
 
 -- Each entry is active or of a stream that was reset.
-pub all_counted : (es : List (ℕ × Entry))
+pub all_counted : (es : List (ℕ × StreamEntry))
     → length es ≡ count_of one_active es + count_of one_reset es
 unfolding count_of
 all_counted [] = refl

@@ -13,7 +13,7 @@ use Rattle.h2_machine.specs.End.{End}
 use Rattle.h2_machine.specs.Machine.{new_end, after_frame, close_unprocessed}
 use Rattle.h2_machine.specs.Represents.{Represents}
 use Rattle.h2_log_laws.proofs.InvariantLogs.{log_represents}
-use Rattle.h2_machine_laws.specs.Machines.{Step, uses_part, ends_frame, meets_fault}
+use Rattle.h2_machine_laws.specs.Machines.{MachineStep, uses_part, ends_frame, meets_fault}
 use Rattle.h2_machine_laws.specs.Machines.{runs_out_of_memory, reports_unprocessed, is_called}
 use Rattle.h2_machine_laws.specs.Machines.{MayStep, log_after, machine_after}
 use Rattle.h2_machine_laws.proofs.FreshNumbers.{calls_represent}
@@ -35,7 +35,7 @@ frames_represent values e log octets frame decoded s takes read sees =
     s takes read sees
 
 -- After every step a machine represents the log with it.
-pub steps_represent : (values : Values) (e : End) (log : Log) (step : Step)
+pub steps_represent : (values : Values) (e : End) (log : Log) (step : MachineStep)
     → Represents values e log → MayStep log step
     → Represents values (machine_after e step) (log_after log step)
 unfolding MayStep log_after machine_after
@@ -58,7 +58,7 @@ abbrev HasMachine : Values → Log → Type 0
 HasMachine values log = (e : End) × Represents values e log
 
 -- A step leads from a machine that represents a log to one.
-stepped : (role : Role) (values : Values) (log : Log) (step : Step) → IsLog role values log
+stepped : (role : Role) (values : Values) (log : Log) (step : MachineStep) → IsLog role values log
     → (log.role ≡ role → MayStep log step) → HasMachine values log
     → HasMachine values (log_after log step)
 stepped role values log step came may (e, s) = (

@@ -15,7 +15,7 @@ use Rattle.h2_log.specs.States.{openings, is_active, when}
 use Rattle.h2_log.specs.Log.{Log, released, newest_ping}
 use Rattle.h2_log.specs.View.{StreamView}
 use Rattle.h2_machine.specs.End.{StreamMap, Streams, ConnectionWindows, PeerSettings, OwnSettings}
-use Rattle.h2_machine.specs.End.{GoAways, Reading, End}
+use Rattle.h2_machine.specs.End.{GoAways, ReadSoFar, End}
 use Rattle.h2_machine.specs.Represents.{RepresentsReading, RepresentsStreams, RepresentsWindows}
 use Rattle.h2_machine.specs.Represents.{RepresentsPeer, RepresentsOwn, RepresentsGoAways}
 use Rattle.h2_machine.specs.Represents.{RepresentsWhileUp, StreamsRepresent, stream_by_items}
@@ -69,7 +69,7 @@ processed c = if is_server c.role then greatest_processed c.reported else 0
 
 -- what an end keeps that hasn't failed, but for the output that waits
 pub record CoreFacts : Type 0 where
-  pub reading : Reading
+  pub reading : ReadSoFar
   pub streams : Streams
   pub windows : ConnectionWindows
   pub peer : PeerSettings

@@ -12,7 +12,7 @@ use Rattle.h2_log.specs.Items.{one_ping, one_reset, total, greatest_block}
 use Rattle.h2_log.specs.Events.{one_acked, one_pong, reported_total, greatest_processed}
 use Rattle.h2_log.specs.Acts.{Values, AreInRange}
 use Rattle.h2_log.specs.Settings.{is_server, value_after, value_read, one_settings, settings_count}
-use Rattle.h2_log.specs.Settings.{up_to_settings}
+use Rattle.h2_log.specs.Settings.{settings_of, value_after_all}
 use Rattle.h2_log.specs.States.{openings, is_active, count_below}
 use Rattle.h2_log.specs.Windows.{first_window, given_on_connection, granted_on_connection}
 use Rattle.h2_log.specs.Log.{active, active_count, last_processed, max_streams, allowed_by, output}
@@ -36,8 +36,9 @@ use Rattle.h2_machine_laws.proofs.LogCore.{core, StreamsOf}
 unfoldable pub computing : Unit {0}
 unfolding data_on data_of increment_on is_block_on ends resets is_goaway one_ping one_reset total
     greatest_block one_acked one_pong reported_total greatest_processed value_read one_settings
-    settings_count up_to_settings is_active count_below given_on_connection granted_on_connection
-    active_count last_processed max_streams allowed_by output with_sent opening_pairs opened new_end
+    settings_count settings_of value_after_all is_active count_below given_on_connection
+    granted_on_connection active_count last_processed max_streams allowed_by output with_sent
+    opening_pairs opened new_end
     owed_sum goaway_sent_last
 computing = tt
 

@@ -13,7 +13,7 @@ use Rattle.h2_log.specs.Items.{resets, is_goaway}
 use Rattle.h2_log.specs.Settings.{is_server}
 use Rattle.h2_log.specs.States.{openings, least_block, when}
 use Rattle.h2_log.specs.Allowed.{AllowedHistory}
-use Rattle.h2_machine.specs.End.{End, Entry, active_entry, reset_entry, Streams}
+use Rattle.h2_machine.specs.End.{End, StreamEntry, active_entry, reset_entry, Streams}
 use Rattle.h2_log.specs.View.{StreamView}
 use Rattle.h2_machine.specs.Machine.{first_active, is_active_entry, unprocessed_of_end}
 use Rattle.h2_machine.specs.Represents.{Represents, entry_by}
@@ -27,7 +27,8 @@ use Rattle.h2_log_laws.proofs.StreamNumbers.{client_low, last_none, least_none}
 use Rattle.h2_log_laws.proofs.InvariantLogs.{written_is_allowed}
 
 -- what is kept and living is an active stream
-living_is_active : (active was : Bool) (s : StreamView) (x : Entry) → entry_by active was s ≡ Some x
+living_is_active : (active was : Bool) (s : StreamView) (x : StreamEntry)
+    → entry_by active was s ≡ Some x
     → is_active_entry x ≡ true → active ≡ true
 living_is_active true was s x is alive = refl
 living_is_active false true s x is alive = let same : reset_entry ≡ x = cc in

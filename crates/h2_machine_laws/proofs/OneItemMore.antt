@@ -4,7 +4,7 @@ use Rattle.std.specs.List.{list_any}
 use Rattle.h2_block.specs.Grouping.{Item}
 use Rattle.h2_log.specs.Items.{total}
 use Rattle.h2_log.specs.Settings.{value_read, one_settings, settings_count, own_value}
-use Rattle.h2_log_laws.proofs.SettingsLists.{up_to_next}
+use Rattle.h2_log_laws.proofs.SettingsLists.{own_next}
 
 -- A sum with an item that counts nothing.
 pub total_quiet : (f : Item → ℕ) (item : Item) (items : List Item) → f item ≡ 0
@@ -21,7 +21,7 @@ any_quiet p item items none = rw none refl
 pub own_quiet : (id first count : ℕ) (item : Item) (items : List Item) → one_settings item ≡ 0
     → own_value id first count (item ∷ items) ≡ own_value id first count items
 own_quiet id first count item items none =
-    ap (value_read id first) (up_to_next count item items (λ one. absurd (omega arith)))
+    own_next id first count item items (λ one. absurd (omega arith))
 
 -- the count of SETTINGS with an item that isn't SETTINGS
 pub settings_quiet : (item : Item) (items : List Item) → one_settings item ≡ 0

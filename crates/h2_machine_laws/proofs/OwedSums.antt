@@ -10,7 +10,7 @@ use Rattle.std.proofs.lemmas.Bool.{eqb-false}
 use Rattle.std.specs.FinMap as map
 use Rattle.std.specs.FinMap.Entries.{below_all, by_order}
 use Rattle.h2_log_laws.specs.Sums.{sum_below}
-use Rattle.h2_machine.specs.End.{Entry, StreamMap, owed_entry, owed_sum, owed_total}
+use Rattle.h2_machine.specs.End.{StreamEntry, StreamMap, owed_entry, owed_sum, owed_total}
 use Rattle.h2_machine.specs.Machine.{each_entry}
 use Rattle.h2_machine.proofs.ChangedEntries.{changed, entries_changed}
 use Rattle.h2_machine.proofs.SetEntries.{get_set, get_removed, get_removed_same}
@@ -18,7 +18,8 @@ use Rattle.h2_machine.proofs.SetEntries.{get_removed_other}
 use Rattle.h2_machine.proofs.SortedEntries.{first, second, not_found}
 
 -- the sum after an entry that is set, by how its key compares with the first
-sum_inserted_by : (k : ℕ) (v : Entry) (e : ℕ × Entry) (es : List (ℕ × Entry)) (r : Ordering)
+sum_inserted_by : (k : ℕ) (v : StreamEntry) (e : ℕ × StreamEntry) (es : List (ℕ
+    × StreamEntry)) (r : Ordering)
     → nat_cmp k e.0 ≡ r → T (below_all nat_cmp e.0 es)
     → owed_sum (map.put nat_cmp k v es) + owed_entry (map.find nat_cmp k es)
     ≡ owed_sum es + owed_entry (Some v)
@@ -33,7 +34,8 @@ sum_inserted_by k v e es Equal p h following = omega arith
 sum_inserted_by k v e es Greater p h following = omega (arith, following)
 
 -- the sum after an entry that is set, over a list in order
-sum_inserted : (k : ℕ) (v : Entry) (es : List (ℕ × Entry)) → T (map.is_sorted nat_cmp es)
+sum_inserted : (k : ℕ) (v : StreamEntry) (es : List (ℕ × StreamEntry))
+    → T (map.is_sorted nat_cmp es)
     → owed_sum (map.put nat_cmp k v es) + owed_entry (map.find nat_cmp k es)
     ≡ owed_sum es + owed_entry (Some v)
 unfolding owed_sum
@@ -44,7 +46,7 @@ sum_inserted k v (e ∷ es) h =
     (sum_inserted k v es (second (below_all nat_cmp e.0 es) (map.is_sorted nat_cmp es) h))
 
 -- What is owed on all streams, after an entry that is set.
-pub total-insert : (m : StreamMap) (k : ℕ) (v : Entry)
+pub total-insert : (m : StreamMap) (k : ℕ) (v : StreamEntry)
     → owed_total (map.insert m k v) + owed_entry (map.get m k) ≡ owed_total m + owed_entry (Some v)
 total-insert m k v =
     let inserted : map.entries (map.insert m k v) ≡ map.put nat_cmp k v (map.entries m) =
@@ -53,7 +55,8 @@ total-insert m k v =
     rw (inserted, found) (sum_inserted k v (map.entries m) (map.entries_sorted m))
 
 -- An entry that is removed and inserted again, at each number.
-inserted_again_at : (m : StreamMap) (k : ℕ) (v : Entry) (q : ℕ) → map.get m k ≡ Some v → (b : Bool)
+inserted_again_at : (m : StreamMap) (k : ℕ) (v : StreamEntry) (q : ℕ) → map.get m k ≡ Some v
+    → (b : Bool)
     → (q == k) ≡ b
     → (if b then Some v else (if b then None else map.get m q)) ≡ map.get m q
 inserted_again_at m k v q kept true same =
@@ -61,12 +64,12 @@ inserted_again_at m k v q kept true same =
 inserted_again_at m k v q kept false same = refl
 
 -- An entry that is removed and inserted again changes nothing.
-pub inserted_again : (m : StreamMap) (k : ℕ) (v : Entry) → map.get m k ≡ Some v
+pub inserted_again : (m : StreamMap) (k : ℕ) (v : StreamEntry) → map.get m k ≡ Some v
     → map.insert (map.remove m k) k v ≡ m
 inserted_again m k v kept =
     map.same_map nat_cmp_total map.nat_cmp-IsAntisymmetric (map.insert (map.remove m k) k v) m
     (λ q. get_set (map.remove m k) k v q
-    ∙ ap (λ (x : Option Entry). if q == k then Some v else x) (get_removed m k q)
+    ∙ ap (λ (x : Option StreamEntry). if q == k then Some v else x) (get_removed m k q)
     ∙ inserted_again_at m k v q kept (q == k) refl)
 
 -- What is removed where nothing is kept, at each number.
@@ -82,7 +85,7 @@ gone m k none =
     (λ q. get_removed m k q ∙ gone_at m k q none (q == k) refl)
 
 -- What is owed on all streams after an entry that is removed, by the entry.
-total_removed_by : (m : StreamMap) (k : ℕ) (x : Option Entry) → map.get m k ≡ x
+total_removed_by : (m : StreamMap) (k : ℕ) (x : Option StreamEntry) → map.get m k ≡ x
     → owed_total (map.remove m k) + owed_entry x ≡ owed_total m
 total_removed_by m k None is =
     let same : owed_total (map.remove m k) ≡ owed_total m = ap owed_total (gone m k is) in
@@ -102,7 +105,7 @@ pub total-remove : (m : StreamMap) (k : ℕ)
 total-remove m k = total_removed_by m k (map.get m k) refl
 
 -- A list without entries owes nothing.
-sum_of_none : (es : List (ℕ × Entry)) → length es ≡ 0 → owed_sum es ≡ 0
+sum_of_none : (es : List (ℕ × StreamEntry)) → length es ≡ 0 → owed_sum es ≡ 0
 unfolding owed_sum
 sum_of_none [] none = refl
 sum_of_none (e ∷ es) none = absurd (omega (arith, none))
@@ -111,7 +114,7 @@ sum_of_none (e ∷ es) none = absurd (omega (arith, none))
 pub total-empty : owed_total map.empty ≡ 0
 total-empty =
     sum_of_none (map.entries map.empty)
-    (sym (map.len-entries map.empty) ∙ map.len-empty nat_cmp Entry)
+    (sym (map.len-entries map.empty) ∙ map.len-empty nat_cmp StreamEntry)
 
 -- Nothing is owed where nothing is kept of any number.
 total_of_none : (m : StreamMap) → ((i : ℕ) → map.get m i ≡ None) → owed_total m ≡ 0
@@ -120,29 +123,29 @@ total_of_none m none =
     (λ q. none q ∙ sym (map.get-empty nat_cmp q))) ∙ total-empty
 
 -- Changes that keep what is owed on each keep the sum.
-sum_changed : (change : Entry → Entry) (es : List (ℕ × Entry))
-    → ((x : Entry) → owed_entry (Some (change x)) ≡ owed_entry (Some x))
+sum_changed : (change : StreamEntry → StreamEntry) (es : List (ℕ × StreamEntry))
+    → ((x : StreamEntry) → owed_entry (Some (change x)) ≡ owed_entry (Some x))
     → owed_sum (changed change es) ≡ owed_sum es
 unfolding owed_sum
 sum_changed change [] keeps = refl
 sum_changed change (e ∷ es) keeps = omega (arith, keeps e.1, sum_changed change es keeps)
 
 -- Changes of all streams that keep what is owed on each keep what is owed on all.
-pub total-each : (change : Entry → Entry) (m : StreamMap)
-    → ((x : Entry) → owed_entry (Some (change x)) ≡ owed_entry (Some x))
+pub total-each : (change : StreamEntry → StreamEntry) (m : StreamMap)
+    → ((x : StreamEntry) → owed_entry (Some (change x)) ≡ owed_entry (Some x))
     → owed_total (each_entry change m) ≡ owed_total m
 total-each change m keeps =
     ap owed_sum (entries_changed change m) ∙ sum_changed change (map.entries m) keeps
 
 -- What isn't found at an entry, nor after it, isn't found once it is changed, by the test whether
 -- it is the one.
-not_found_by : (b : Bool) (v w : Entry) (x y : Option Entry) → (x ≡ None → y ≡ None)
+not_found_by : (b : Bool) (v w : StreamEntry) (x y : Option StreamEntry) → (x ≡ None → y ≡ None)
     → cond b (Some v) x ≡ None → cond b (Some w) y ≡ None
 not_found_by true v w x y after is = cc
 not_found_by false v w x y after is = after is
 
 -- What isn't found isn't found among entries that are changed.
-find_changed : (change : Entry → Entry) (q : ℕ) (es : List (ℕ × Entry))
+find_changed : (change : StreamEntry → StreamEntry) (q : ℕ) (es : List (ℕ × StreamEntry))
     → map.find nat_cmp q es ≡ None → map.find nat_cmp q (changed change es) ≡ None
 find_changed change q [] none = refl
 find_changed change q (e ∷ es) none =
@@ -151,7 +154,8 @@ find_changed change q (e ∷ es) none =
     (find_changed change q es) none
 
 -- Where nothing is kept, nothing is kept once all streams were changed.
-pub get_each_none : (change : Entry → Entry) (m : StreamMap) (q : ℕ) → map.get m q ≡ None
+pub get_each_none : (change : StreamEntry → StreamEntry) (m : StreamMap) (q : ℕ)
+    → map.get m q ≡ None
     → map.get (each_entry change m) q ≡ None
 get_each_none change m q none =
     map.get-entries (each_entry change m) q ∙ ap (map.find nat_cmp q) (entries_changed change m)

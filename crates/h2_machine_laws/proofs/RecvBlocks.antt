@@ -23,7 +23,7 @@ use Rattle.h2_log.specs.Verdicts.{NoEvent, Reported}
 use Rattle.h2_log.specs.ItemRules.{Decoded, replies_to}
 use Rattle.h2_log.specs.LogSteps.{read, with_sent, with_reported, with_unreturned, owed_at_close}
 use Rattle.h2_log.specs.LogSteps.{with_verdict}
-use Rattle.h2_log.specs.ItemEffects.{events_of, discarded_flow, fields_of, table_after}
+use Rattle.h2_log.specs.ItemEffects.{events_of, discarded_flow, decoded_fields, table_after}
 use Rattle.h2_log.specs.View.{StreamView}
 use Rattle.h2_machine.specs.End.{End, StreamMap, Streams, active_entry, owed_entry}
 use Rattle.h2_machine.specs.Machine.{with_table_after, set_stream, close_stream, after_reported}
@@ -228,23 +228,23 @@ later_by : (e : End) (log : Log) (decoded : Option Decoded) (i : ℕ) (end : Boo
     }))
     (with_reported (with_unreturned (0 + owed_at_close log
     (with_reported (read log decoded (block i end octets))
-    (FieldsEvent i (fields_of decoded) end ∷ [])) i)
-    (read log decoded (block i end octets))) (FieldsEvent i (fields_of decoded) end ∷ []))
+    (FieldsEvent i (decoded_fields decoded) end ∷ [])) i)
+    (read log decoded (block i end octets))) (FieldsEvent i (decoded_fields decoded) end ∷ []))
 unfolding with_reported unreleased
 later_by e log decoded i end octets true over alive low taken w g =
     let c : Core = core log in
     let item : Item = block i end octets in
-    let event : Event = FieldsEvent i (fields_of decoded) end in
-    let q = fields_harmless i (fields_of decoded) end in
+    let event : Event = FieldsEvent i (decoded_fields decoded) end in
+    let q = fields_harmless i (decoded_fields decoded) end in
     let d : Core = with_block c i end octets event in
     let s : StreamView = record (said c i) { ended_in = (said c i).ended_in || end } in
     let is : s ≡ said d i = block_said c i end octets event q.acks
-    (fields_flow i (fields_of decoded) end i) in
+    (fields_flow i (decoded_fields decoded) end i) in
     let dead : active_by_items d i ≡ false = block_dead c i end octets event over in
     let owing = owes_all log (with_reported (read log decoded item) (event ∷ [])) i alive dead in
     let streams : StreamMap = map.remove (map.insert e.streams.entries i (active_entry s)) i in
     let same : (j : ℕ) → j ≢ i → SameAt j c d = λ j other. block_same c i end octets event j q
-    (fields_flow i (fields_of decoded) end j) other in
+    (fields_flow i (decoded_fields decoded) end j) other in
     returned (record (with_table_after e decoded item) {
       streams = record e.streams {
         entries = streams;
@@ -263,18 +263,18 @@ later_by e log decoded i end octets true over alive low taken w g =
     (lasts_parts i c.received c.sent (active_parts c.role i c.received c.sent c.reported
     alive).lasts).kept) (block_used c.role i end octets c.received c.sent low)
     (taken_low (is_server c.role) event c.reported
-    (λ server. omega (arith, taken server, fields_shows i (fields_of decoded) end)))
+    (λ server. omega (arith, taken server, fields_shows i (decoded_fields decoded) end)))
     g.streams.resets g.streams) g)
 later_by e log decoded i end octets false goes alive low taken w g =
     let c : Core = core log in
     let item : Item = block i end octets in
-    let event : Event = FieldsEvent i (fields_of decoded) end in
-    let q = fields_harmless i (fields_of decoded) end in
+    let event : Event = FieldsEvent i (decoded_fields decoded) end in
+    let q = fields_harmless i (decoded_fields decoded) end in
     let d : Core = with_block c i end octets event in
     let s : StreamView = record (said c i) { ended_in = (said c i).ended_in || end } in
     let still : active_by_items d i ≡ true = block_is_active c i end octets event q alive goes in
     let same : (j : ℕ) → j ≢ i → SameAt j c d = λ j other. block_same c i end octets event j q
-    (fields_flow i (fields_of decoded) end j) other in
+    (fields_flow i (decoded_fields decoded) end j) other in
     unsettled (set_stream (with_table_after e decoded item) i s) (read log decoded item)
     (event ∷ []) _
     (omega (
@@ -286,10 +286,10 @@ later_by e log decoded i end octets false goes alive low taken w g =
     g.windows.unreturned
     (block_advances (core_facts e) c i end octets event decoded _ q
     (streams_set e.streams i s c d same alive still
-    (block_said c i end octets event q.acks (fields_flow i (fields_of decoded) end i))
+    (block_said c i end octets event q.acks (fields_flow i (decoded_fields decoded) end i))
     (block_used c.role i end octets c.received c.sent low)
     (taken_low (is_server c.role) event c.reported
-    (λ server. omega (arith, taken server, fields_shows i (fields_of decoded) end)))
+    (λ server. omega (arith, taken server, fields_shows i (decoded_fields decoded) end)))
     refl g.streams) g)
 
 -- What a block on an active stream makes of an end.

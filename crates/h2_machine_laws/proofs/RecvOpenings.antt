@@ -19,7 +19,7 @@ use Rattle.h2_log.specs.Log.{Log}
 use Rattle.h2_log.specs.Verdicts.{Reported}
 use Rattle.h2_log.specs.ItemRules.{Decoded, replies_to}
 use Rattle.h2_log.specs.LogSteps.{read, with_sent, with_reported, with_verdict}
-use Rattle.h2_log.specs.ItemEffects.{events_of, discarded_flow, fields_of}
+use Rattle.h2_log.specs.ItemEffects.{events_of, discarded_flow, decoded_fields}
 use Rattle.h2_log.specs.View.{StreamView}
 use Rattle.h2_machine.specs.End.{End, Streams, active_entry}
 use Rattle.h2_machine.specs.Machine.{with_table_after, after_reported}
@@ -170,9 +170,9 @@ unfolding with_verdict after_reported replies_to events_of discarded_flow stream
 opening_reported e log decoded i end octets may w g =
     let c : Core = core log in
     let item : Item = block i end octets in
-    let event : Event = FieldsEvent i (fields_of decoded) end in
-    let q = fields_harmless i (fields_of decoded) end in
-    let flow = fields_flow i (fields_of decoded) end in
+    let event : Event = FieldsEvent i (decoded_fields decoded) end in
+    let q = fields_harmless i (decoded_fields decoded) end in
+    let flow = fields_flow i (decoded_fields decoded) end in
     let dead = none_above c i may.rises in
     let streams : Streams = record e.streams {
       entries = map.insert e.streams.entries i (active_entry (opened_stream (core_facts e) end));
@@ -190,4 +190,4 @@ opening_reported e log decoded i end octets may w g =
     w g.windows.unreturned
     (block_advances (core_facts e) c i end octets event decoded streams q
     (new_streams (core_facts e) c i end octets event q flow
-    (fields_here i (fields_of decoded) end) may g) g))
+    (fields_here i (decoded_fields decoded) end) may g) g))

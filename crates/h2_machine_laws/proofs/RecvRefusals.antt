@@ -21,7 +21,8 @@ use Rattle.h2_log.specs.Verdicts.{StreamFault}
 use Rattle.h2_log.specs.ItemRules.{Decoded, replies_to}
 use Rattle.h2_log.specs.LogSteps.{read, with_sent, with_reported, with_verdict}
 use Rattle.h2_log.specs.ItemEffects.{events_of, discarded_flow}
-use Rattle.h2_machine.specs.End.{End, Streams, Entry, end_view, reset_entry, stream_in, stream_at}
+use Rattle.h2_machine.specs.End.{End, Streams, StreamEntry, end_view, reset_entry, stream_in}
+use Rattle.h2_machine.specs.End.{stream_at}
 use Rattle.h2_machine.specs.End.{owed_entry}
 use Rattle.h2_machine.specs.Machine.{with_table_after, queue_output}
 use Rattle.h2_machine.specs.Machine.{after_stream_fault, is_fresh, is_one}
@@ -131,7 +132,7 @@ new_fault e log decoded i end octets code may w g =
     let n : ℕ = code_number code in
     let none = fresh_none e c i may g in
     let count : is_one (is_some (stream_at e i)) ≡ 0 =
-    ap (λ (x : Option Entry). is_one (is_some (stream_in x))) none in
+    ap (λ (x : Option StreamEntry). is_one (is_some (stream_in x))) none in
     let streams : Streams = record e.streams {
       entries = map.insert e.streams.entries i reset_entry;
       active_count = e.streams.active_count - is_one (is_some (stream_at e i));

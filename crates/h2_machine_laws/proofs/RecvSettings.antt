@@ -19,7 +19,7 @@ use Rattle.h2_log.specs.ItemRules.{Decoded, replies_to}
 use Rattle.h2_log.specs.LogSteps.{read, with_sent, with_reported, with_verdict}
 use Rattle.h2_log.specs.ItemEffects.{events_of, discarded_flow, encoder_after_settings}
 use Rattle.h2_log.specs.ItemEffects.{encoder_after_item}
-use Rattle.h2_machine.specs.End.{End, Entry, active_entry, end_view}
+use Rattle.h2_machine.specs.End.{End, StreamEntry, active_entry, end_view}
 use Rattle.h2_machine.specs.Machine.{each_entry, shifted_entry, first_allowed, apply_settings}
 use Rattle.h2_machine.specs.Machine.{queue_output, with_encoder, after_ignored}
 use Rattle.h2_machine.specs.Represents.{entry_by}
@@ -174,7 +174,7 @@ settings_streams h c pairs g =
     record {
       entries = λ i.
           get_each change h.streams.entries i
-          ∙ ap (λ (x : Option Entry). changed_entry change x) (g.streams.entries i)
+          ∙ ap (λ (x : Option StreamEntry). changed_entry change x) (g.streams.entries i)
           ∙ each_by change (active_by_items c i) (list_any (resets i) c.sent) (said c i)
           (said (settled c pairs) i) refl
           (ap (λ (s : StreamView). active_entry s) (settings_said c pairs i old new

@@ -18,7 +18,7 @@ use Rattle.h2_log.specs.Verdicts.{Reported}
 use Rattle.h2_log.specs.ItemRules.{Decoded, replies_to}
 use Rattle.h2_log.specs.LogSteps.{read, with_sent, with_reported, with_verdict}
 use Rattle.h2_log.specs.ItemEffects.{events_of, discarded_flow}
-use Rattle.h2_machine.specs.End.{End, Entry, active_entry}
+use Rattle.h2_machine.specs.End.{End, StreamEntry, active_entry}
 use Rattle.h2_log.specs.View.{StreamView}
 use Rattle.h2_machine.specs.Machine.{each_entry, recv_shifted_entry, apply_own_settings}
 use Rattle.h2_machine.specs.Machine.{after_reported}
@@ -109,7 +109,7 @@ ack_advances h c values waits most g =
       streams = record {
         entries = λ i.
             get_each change h.streams.entries i
-            ∙ ap (λ (x : Option Entry). changed_entry change x) (g.streams.entries i)
+            ∙ ap (λ (x : Option StreamEntry). changed_entry change x) (g.streams.entries i)
             ∙ each_by change (active_by_items c i) (list_any (resets i) c.sent) (said c i)
             (said (report c AckedEvent) i) refl
             (ap (λ (s : StreamView). active_entry s) (ack_said c i h.own.in_force.initial_window

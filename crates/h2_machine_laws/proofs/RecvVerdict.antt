@@ -13,7 +13,8 @@ use Rattle.h2_log.specs.Items.{is_goaway, total}
 use Rattle.h2_log.specs.Events.{flow_on, one_pong, reported_total, greatest_processed}
 use Rattle.h2_log.specs.Events.{reports_unprocessed}
 use Rattle.h2_log.specs.Settings.{is_server, settings_count}
-use Rattle.h2_log.specs.States.{openings, is_used, is_above, is_closed_by_us, state_by, state_of}
+use Rattle.h2_log.specs.States.{openings, is_used, is_above, is_closed_by_us, state_by}
+use Rattle.h2_log.specs.States.{stream_state}
 use Rattle.h2_log.specs.States.{when}
 use Rattle.h2_log.specs.Windows.{given_on_connection, granted_on_connection, connection_send_window}
 use Rattle.h2_log.specs.Windows.{connection_recv_window}
@@ -116,7 +117,7 @@ idle_by i n = grind (arith, nat_tests)
 
 -- The state of a number is the same at an end as at its log.
 pub state_same : (e : End) (c : Core) (i : ℕ) → e.role ≡ c.role → Sound c → Going e c
-    → state_at e i ≡ state_of c.role i c.received c.sent c.reported
+    → state_at e i ≡ stream_state c.role i c.received c.sent c.reported
 unfolding is_closed_by_us
 state_same e c i role sound g =
     rw (g.streams.entries i, g.streams.highest, g.goaway.last_sent, role, ← (sound.above i))

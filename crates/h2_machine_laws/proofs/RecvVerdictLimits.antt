@@ -12,7 +12,7 @@ use Rattle.h2_frame.specs.Frames.{Data, Reset, Settings, Ping}
 use Rattle.h2_frame.specs.Frames.{WindowUpdate}
 use Rattle.h2_frame.specs.Encoding.{payload_of}
 use Rattle.h2_block.specs.Grouping.{Item, alone, block}
-use Rattle.h2_machine.specs.End.{end_view, End, stream_at, state_at, Entry, active_entry}
+use Rattle.h2_machine.specs.End.{end_view, End, stream_at, state_at, StreamEntry, active_entry}
 use Rattle.h2_machine.specs.End.{reset_entry, any_above, above_by_shift}
 use Rattle.h2_log.specs.LogView.{log_view, overflows}
 use Rattle.h2_log.specs.Items.{data_on, increment_on, is_block_on, resets, total}
@@ -83,7 +83,7 @@ said_above c i new =
     (total (data_on i) c.sent)
 
 -- what is kept and above the greatest window is an active stream's
-kept_is_active : (active was : Bool) (s : StreamView) (x : Entry) (old new : ℕ)
+kept_is_active : (active was : Bool) (s : StreamView) (x : StreamEntry) (old new : ℕ)
     → entry_by active was s ≡ Some x → above_by_shift old new x ≡ true
     → (active ≡ true) × (x ≡ active_entry s)
 kept_is_active true was s x old new is above = (refl, cc)
@@ -108,7 +108,7 @@ above_same e log new g =
     let above : is_above_greatest (new + total (increment_on from.i) log.received)
     (total (data_on from.i) log.sent) ≡ true =
     sym (said_above (core log) from.i new)
-    ∙ sym (ap₂ (λ (o : ℕ) (y : Entry). above_by_shift o new y) g.peer.initial_window
+    ∙ sym (ap₂ (λ (o : ℕ) (y : StreamEntry). above_by_shift o new y) g.peer.initial_window
     active_by_items.1) ∙ from.above in
     passing_block _ from.i (openings log.role log.received log.sent) (active_parts log.role from.i
     log.received log.sent log.reported active_by_items.0).opened

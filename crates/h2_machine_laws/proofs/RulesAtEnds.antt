@@ -24,8 +24,8 @@ use Rattle.h2_log.specs.Verdicts.{Verdict, StreamFault, NoEvent}
 use Rattle.h2_log.specs.Verdicts.{connection_update_verdict, update_verdict}
 use Rattle.h2_log.specs.View.{StreamView}
 use Rattle.h2_log.specs.Windows.{greatest_window}
-use Rattle.h2_machine.specs.End.{end_view, End, Entry, active_entry, reset_entry, stream_in}
-use Rattle.h2_machine.specs.End.{stream_at, state_by_entry, state_at, is_above, number_after}
+use Rattle.h2_machine.specs.End.{end_view, End, StreamEntry, active_entry, reset_entry, stream_in}
+use Rattle.h2_machine.specs.End.{stream_at, state_by_entry, state_at, is_above_goaway, number_after}
 use Rattle.h2_machine.specs.Machine.{is_fresh}
 use Rattle.h2_machine.specs.Represents.{NoneAboveHighest}
 use Rattle.h2_log_laws.proofs.ItemSizes.{size_of}
@@ -75,7 +75,8 @@ pub verdict_within_limits : (e : End) (decoded : Option Decoded) (item : Item) (
 verdict_within_limits e decoded item u is continues = (verdict_says e decoded item u is continues).0
 
 -- An active number has a stream, by its entry.
-active_stream_by : (x : Option Entry) (idle above : Bool) → state_by_entry x idle above ≡ Active
+active_stream_by : (x : Option StreamEntry) (idle above : Bool)
+    → state_by_entry x idle above ≡ Active
     → (stream : StreamView) × (stream_in x ≡ Some stream)
 active_stream_by (Some (active_entry stream)) idle above active = (stream, refl)
 active_stream_by (Some reset_entry) idle above active = absurd (cc)
@@ -88,7 +89,7 @@ pub active_stream : (e : End) (i : ℕ) → state_at e i ≡ Active
     → (stream : StreamView) × (stream_at e i ≡ Some stream)
 active_stream e i active =
     active_stream_by (map.get e.streams.entries i) (i % 2 == 0 || nat_lt e.streams.highest i)
-    (is_above e i) active
+    (is_above_goaway e i) active
 
 -- An active stream's number was used, by the test.
 active_used_by : (e : End) (i : ℕ) (stream : StreamView) → stream_at e i ≡ Some stream
@@ -156,7 +157,7 @@ frame_used e decoded frame code is clear = cc
 
 -- An increment that is no fault leaves an active stream's window at most the greatest, by the
 -- entry.
-update_by : (x : Option Entry) (idle above : Bool) (increment : ℕ)
+update_by : (x : Option StreamEntry) (idle above : Bool) (increment : ℕ)
     → update_verdict (state_by_entry x idle above) increment
     (overflows_stream increment (stream_in x)) ≡ NoEvent
     → overflows_stream increment (stream_in x) ≡ false

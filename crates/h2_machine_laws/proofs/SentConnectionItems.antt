@@ -22,7 +22,7 @@ use Rattle.h2_log.specs.LogSteps.{with_sent, with_failure}
 use Rattle.h2_log.specs.CallRules.{changed_pairs}
 use Rattle.h2_machine.specs.End.{Streams, OwnSettings}
 use Rattle.h2_machine.specs.Represents.{RepresentsOwn, goaway_sent_last}
-use Rattle.h2_log_laws.proofs.SettingsLists.{up_to_next, up_to_here, settings_one, value_changed}
+use Rattle.h2_log_laws.proofs.SettingsLists.{own_next, own_of_all, settings_one, value_changed}
 use Rattle.h2_log_laws.proofs.SettingsLists.{value_named, changed_frame}
 use Rattle.h2_log_laws.proofs.AllowedHistories.{changed_window}
 use Rattle.h2_log_laws.proofs.ReaderStates.{active_parts}
@@ -140,10 +140,8 @@ changed_value : (id first : ℕ) (pairs : List (ℕ × ℕ)) (items : List Item)
     → own_value id first (settings_count (alone (Settings false pairs) ∷ items))
     (alone (Settings false pairs) ∷ items)
     ≡ value_after id (value_read id first items) pairs
-unfolding settings_count
 changed_value id first pairs items =
-    ap (value_read id first) (up_to_here _ (alone (Settings false pairs)) items (settings_one pairs)
-    (omega arith))
+    own_of_all id first _ (alone (Settings false pairs) ∷ items) (omega arith)
     ∙ value_changed id first pairs items
 
 -- a value that is in force stays so where SETTINGS are written
@@ -152,8 +150,7 @@ value_stays : (id first count : ℕ) (pairs : List (ℕ × ℕ)) (items : List I
     → own_value id first count (alone (Settings false pairs) ∷ items) ≡ own_value id first count
     items
 value_stays id first count pairs items enough =
-    ap (value_read id first) (up_to_next count (alone (Settings false pairs)) items
-    (λ one. omega (arith, enough)))
+    own_next id first count (alone (Settings false pairs)) items (λ one. enough)
 
 -- The values, where SETTINGS are sent, all before being acknowledged.
 own_changed : (own : OwnSettings) (role : Role) (count : ℕ) (sent : List Item) (values : Values)

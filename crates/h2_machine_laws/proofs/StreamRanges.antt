@@ -12,7 +12,7 @@ use Rattle.h2_log.specs.CallRules.{at_least_none}
 use Rattle.h2_log.specs.ItemRules.{exceeds, overflows_by}
 use Rattle.h2_log.specs.View.{StreamView}
 use Rattle.h2_log.specs.Windows.{greatest_window}
-use Rattle.h2_machine.specs.End.{Entry, active_entry, reset_entry, StreamMap, stream_in}
+use Rattle.h2_machine.specs.End.{StreamEntry, active_entry, reset_entry, StreamMap, stream_in}
 use Rattle.h2_machine.specs.End.{above_by_shift, any_above}
 use Rattle.h2_machine.specs.Machine.{shifted_entry, recv_shifted_entry, each_entry}
 use Rattle.h2_log_laws.proofs.CallConditions.{neither_one, neither_other}
@@ -32,7 +32,8 @@ StreamsFit peer own m = (i : ℕ) (stream : StreamView) → stream_in (map.get m
     → (i ≢ 0) × WindowsFit peer own stream
 
 -- An entry is set whose stream is in range, by the test whether a number is its own.
-set_by : (peer own : ℕ) (m : StreamMap) (k : ℕ) (v : Entry) (q : ℕ) (s : StreamView) (b : Bool)
+set_by : (peer own : ℕ) (m : StreamMap) (k : ℕ) (v : StreamEntry) (q : ℕ) (s : StreamView)
+    (b : Bool)
     → (q == k) ≡ b
     → ((t : StreamView) → stream_in (Some v) ≡ Some t → (k ≢ 0) × WindowsFit peer own t)
     → StreamsFit peer own m → stream_in (if b then Some v else map.get m q) ≡ Some s
@@ -42,7 +43,7 @@ set_by peer own m k v q s true same one all is =
 set_by peer own m k v q s false same one all is = all q s is
 
 -- An entry is set whose stream is in range.
-entry_fits : (peer own : ℕ) (m : StreamMap) (k : ℕ) (v : Entry)
+entry_fits : (peer own : ℕ) (m : StreamMap) (k : ℕ) (v : StreamEntry)
     → ((t : StreamView) → stream_in (Some v) ≡ Some t → (k ≢ 0) × WindowsFit peer own t)
     → StreamsFit peer own m → StreamsFit peer own (map.insert m k v)
 entry_fits peer own m k v one all q s is =
@@ -103,7 +104,7 @@ NoneAbove old new m = (i : ℕ) (stream : StreamView) → stream_in (map.get m i
     → int_lt (pos (greatest_window + old)) (stream.send_window +ℤ pos new) ≡ false
 
 -- An entry that is found isn't above by a shift where none is, by the test whether it is the first.
-not_above_by : (old new : ℕ) (first x : Entry) (found : Option Entry) (any b : Bool)
+not_above_by : (old new : ℕ) (first x : StreamEntry) (found : Option StreamEntry) (any b : Bool)
     → (above_by_shift old new first || any) ≡ false → cond b (Some first) found ≡ Some x
     → (found ≡ Some x → any ≡ false → above_by_shift old new x ≡ false)
     → above_by_shift old new x ≡ false
@@ -115,7 +116,8 @@ not_above_by old new first x found any false none is following =
     following is (neither_other (above_by_shift old new first) any none)
 
 -- An entry that is found isn't above by a shift where none is.
-not_above : (old new q : ℕ) (x : Entry) (es : List (ℕ × Entry)) → any_above old new es ≡ false
+not_above : (old new q : ℕ) (x : StreamEntry) (es : List (ℕ × StreamEntry))
+    → any_above old new es ≡ false
     → map.find nat_cmp q es ≡ Some x → above_by_shift old new x ≡ false
 unfolding any_above
 not_above old new q x [] none is = absurd (cc)
@@ -125,7 +127,7 @@ not_above old new q x (e ∷ es) none is =
     (λ found any. not_above old new q x es any found)
 
 -- The entry of an active stream.
-entry_of : (x : Option Entry) (stream : StreamView) → stream_in x ≡ Some stream
+entry_of : (x : Option StreamEntry) (stream : StreamView) → stream_in x ≡ Some stream
     → x ≡ Some (active_entry stream)
 entry_of None stream is = cc
 entry_of (Some reset_entry) stream is = cc
@@ -150,7 +152,7 @@ none_above_same old own m all i stream is =
     above_same greatest old w is = false_from_ne_true _ (λ less. omega (arith, ints))
 
 -- Send windows are shifted, by the entry.
-send_by : (old new own q : ℕ) (x : Option Entry) (s : StreamView)
+send_by : (old new own q : ℕ) (x : Option StreamEntry) (s : StreamView)
     → ((t : StreamView) → stream_in x ≡ Some t → (q ≢ 0) × WindowsFit old own t)
     → ((t : StreamView) → stream_in x ≡ Some t
     → int_lt (pos (greatest_window + old)) (t.send_window +ℤ pos new) ≡ false)
@@ -179,7 +181,7 @@ send_shifted_fits old new own m none all q s is =
     (sym (ap stream_in (get_each (shifted_entry old new) m q)) ∙ is)
 
 -- Receive windows are shifted, by the entry.
-recv_by : (peer old new q : ℕ) (x : Option Entry) (s : StreamView)
+recv_by : (peer old new q : ℕ) (x : Option StreamEntry) (s : StreamView)
     → ((t : StreamView) → stream_in x ≡ Some t → (q ≢ 0) × WindowsFit peer old t)
     → stream_in (changed_entry (recv_shifted_entry old new) x) ≡ Some s
     → (q ≢ 0) × WindowsFit peer new s

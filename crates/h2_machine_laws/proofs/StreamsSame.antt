@@ -8,7 +8,7 @@ use Rattle.std.proofs.lemmas.Bool.{cases_eq, eqb-true}
 use Rattle.h2_log.specs.Items.{resets, one_reset, total}
 use Rattle.h2_log.specs.States.{openings, count_below}
 use Rattle.h2_log.specs.View.{StreamView}
-use Rattle.h2_machine.specs.End.{StreamMap, Streams, Entry, active_entry, reset_entry}
+use Rattle.h2_machine.specs.End.{StreamMap, Streams, StreamEntry, active_entry, reset_entry}
 use Rattle.h2_machine.specs.Represents.{entry_by}
 use Rattle.h2_log_laws.proofs.ReaderStates.{active_parts}
 use Rattle.h2_log_laws.proofs.StreamNumbers.{block_below}
@@ -142,7 +142,7 @@ said_reset streams i c d are same dead was j = elim (cases_eq j i) [
 
 -- A stream is set and removed at once: it isn't active and wasn't reset, and others are as they
 -- were.
-pub said_over : (streams : StreamMap) (i : ℕ) (x : Entry) (c d : Core) → AreSaid streams c
+pub said_over : (streams : StreamMap) (i : ℕ) (x : StreamEntry) (c d : Core) → AreSaid streams c
     → ((j : ℕ) → j ≢ i → SameAt j c d)
     → active_by_items d i ≡ false → list_any (resets i) d.sent ≡ false
     → AreSaid (map.remove (map.insert streams i x) i) d

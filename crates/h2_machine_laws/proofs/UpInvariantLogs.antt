@@ -15,7 +15,7 @@ use Rattle.h2_log.specs.Events.{Event, UnprocessedEvent, one_acked, one_pong, re
 use Rattle.h2_log.specs.Events.{greatest_processed, processed_by, reports_unprocessed}
 use Rattle.h2_log.specs.Acts.{Values}
 use Rattle.h2_log.specs.Settings.{is_server, settings_count}
-use Rattle.h2_log.specs.States.{least_block}
+use Rattle.h2_log.specs.States.{least_block, lesser_number}
 use Rattle.h2_log.specs.Log.{Log, next_unprocessed}
 use Rattle.h2_log.specs.Verdicts.{Verdict, ConnectionFault, StreamFault}
 use Rattle.h2_log.specs.ItemRules.{Decoded}
@@ -30,6 +30,7 @@ use Rattle.h2_log.specs.declared.role.Role.{Role}
 use Rattle.h2_log.specs.declared.role.Role.TheVariants.{Client, Server}
 use Rattle.h2_log.specs.CallRules.{answer_of}
 use Rattle.h2_log.specs.CallRules.{items_of}
+use Rattle.h2_log_laws.proofs.NextStreams.{lesser_low}
 use Rattle.h2_log_laws.proofs.ReaderStates.{active_parts}
 use Rattle.h2_log_laws.proofs.LogInvariant.{active_before}
 use Rattle.h2_log_laws.proofs.LogGrowth.{grows_wrote}
@@ -81,12 +82,12 @@ unfolding least_block greatest_block
 least_low test [] = omega arith
 least_low test (alone frame ∷ items) = least_low test items
 least_low test (block stream end octets ∷ items) =
-    by (test stream && (least_block test items == 0 || nat_lt stream (least_block test items)))
-    (least_low test items)
+    by (test stream) (least_low test items)
   where
     by : (b : Bool) → least_block test items ≤ greatest_block items
-        → (if b then stream else least_block test items) ≤ max stream (greatest_block items)
-    by true low = omega arith
+        → (if b then lesser_number stream (least_block test items) else least_block test items)
+        ≤ max stream (greatest_block items)
+    by true low = omega (arith, lesser_low stream (least_block test items))
     by false low = omega arith
 
 -- A stream that is reported as unprocessed was used, at a client.

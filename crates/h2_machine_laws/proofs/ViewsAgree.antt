@@ -11,8 +11,7 @@ use Rattle.h2_log.specs.declared.role.Role.TheVariants.{Client, Server}
 use Rattle.h2_log.specs.Items.{resets, data_of, total, greatest_block}
 use Rattle.h2_log.specs.Acts.{Values}
 use Rattle.h2_log.specs.Limits.{max_frame_size_sent}
-use Rattle.h2_log.specs.Settings.{is_server, value_read, one_settings, settings_count}
-use Rattle.h2_log.specs.Settings.{up_to_settings, own_value}
+use Rattle.h2_log.specs.Settings.{is_server, value_read, settings_count}
 use Rattle.h2_log.specs.States.{openings, when}
 use Rattle.h2_log.specs.Windows.{window, given_on_connection, granted_on_connection}
 use Rattle.h2_log.specs.Log.{Log, acked, active, waiting, next_number, max_streams, goaway_written}
@@ -24,8 +23,7 @@ use Rattle.h2_machine.specs.End.{PeerSettings, OwnSettings, values_written}
 use Rattle.h2_machine.specs.Represents.{RepresentsWhileUp, RepresentsPeer, RepresentsOwn, entry_by}
 use Rattle.std.specs.FinMap as map
 use Rattle.h2_log_laws.proofs.LogViewLemmas.{when_some}
-use Rattle.h2_log_laws.proofs.SettingsLists.{settings_or, settings_one, value_kept, up_to_here}
-use Rattle.h2_log_laws.proofs.SettingsLists.{up_to_next, count_next}
+use Rattle.h2_log_laws.proofs.SettingsLists.{own_of_all}
 use Rattle.h2_machine_laws.proofs.LogCore.{Core, active_by_items, said, core, StreamsOf}
 
 -- An entry has a stream where it is active.
@@ -78,25 +76,6 @@ pub payload_agrees : (peer : PeerSettings) (received : List Item) → Represents
 unfolding max_payload_sent_by
 payload_agrees peer received is = rw is.max_frame refl
 
--- Where no more SETTINGS were sent than so many, a value is the one that was written last.
-newest_value : (id first count : ℕ) (items : List Item) → settings_count items ≤ count
-    → own_value id first count items ≡ value_read id first items
-unfolding up_to_settings
-newest_value id first count [] all = refl
-newest_value id first count (item ∷ items) all = elim (settings_or item) [
-  | inl (pairs, is) ↦
-      let one : one_settings item ≡ 1 = rw is (settings_one pairs) in
-      ap (value_read id first) (up_to_here count item items one (omega (
-        arith,
-        count_next item items,
-        all,
-      )))
-  | inr none ↦
-      ap (value_read id first) (up_to_next count item items (λ one. absurd (omega arith)))
-      ∙ newest_value id first count items (omega (arith, count_next item items, all))
-      ∙ sym (value_kept id first item items none)
-]
-
 -- The greatest frame that was written last is the log's, whether it awaits its acknowledgment or
 -- not.
 written_agrees : (own : OwnSettings) (awaited : Option Values) (role : Role) (count : ℕ)
@@ -104,10 +83,10 @@ written_agrees : (own : OwnSettings) (awaited : Option Values) (role : Role) (co
     → (values_written own).max_frame ≡ value_read 5 16384 sent
 written_agrees own None role count sent is own_is =
     let all = ltb-false count (settings_count sent) (sym own_is.awaits ∙ ap is_some is) in
-    rw is (own_is.in_force.max_frame ∙ newest_value 5 16384 count sent all)
+    rw is (own_is.in_force.max_frame ∙ own_of_all 5 16384 count sent all)
 written_agrees own (Some values) role count sent is own_is =
     rw is (sym (own_is.awaited values is).max_frame
-    ∙ newest_value 5 16384 (settings_count sent) sent (omega arith))
+    ∙ own_of_all 5 16384 (settings_count sent) sent (omega arith))
 
 -- The log's view, with the end's own looks at states and at windows that would overflow.
 abbrev pub view_beside : End → Log → View

@@ -25,21 +25,21 @@ end_after e act (Count count) = after_call e act
 end_after e act Done = after_call e act
 
 -- A step of a log, and what it makes of a machine that represents the log.
-pub data Step : Type 0 where
+pub data MachineStep : Type 0 where
   -- octets were used, and no frame ended with them; these are left
-  uses_part : (octets unparsed : List ℕ) → Step
+  uses_part : (octets unparsed : List ℕ) → MachineStep
   -- octets were used, with whose last a frame ended
-  ends_frame : (octets : List ℕ) (frame : Frame) (decoded : Option Decoded) → Step
+  ends_frame : (octets : List ℕ) (frame : Frame) (decoded : Option Decoded) → MachineStep
   -- octets were used, whose last makes a fault of the stream
-  meets_fault : (octets : List ℕ) (fault : WireFault) → Step
+  meets_fault : (octets : List ℕ) (fault : WireFault) → MachineStep
   -- octets were used, and memory was refused
-  runs_out_of_memory : (octets : List ℕ) → Step
+  runs_out_of_memory : (octets : List ℕ) → MachineStep
   -- a stream was reported that the peer doesn't process
-  reports_unprocessed : Step
-  is_called : (act : Act) (answer : Answer) → Step
+  reports_unprocessed : MachineStep
+  is_called : (act : Act) (answer : Answer) → MachineStep
 
 -- The step may be the next one of the log.
-unfoldable pub MayStep : Log → Step → Type 0
+unfoldable pub MayStep : Log → MachineStep → Type 0
 MayStep log (uses_part octets unparsed) = TakesOctets log × TakesPart log.role log octets unparsed
 MayStep log (ends_frame octets frame decoded) =
     TakesOctets log × TakesFrame log.role log octets frame × IsDecodedFor log decoded frame
@@ -50,7 +50,7 @@ MayStep log reports_unprocessed = (log.failed ≡ None) × (next_unprocessed log
 MayStep log (is_called act answer) = IsTypedAct act × MayAnswer log act answer
 
 -- the log after the step
-unfoldable pub log_after : Log → Step → Log
+unfoldable pub log_after : Log → MachineStep → Log
 log_after log (uses_part octets unparsed) = took_part log octets unparsed
 log_after log (ends_frame octets frame decoded) = took_frame log octets decoded frame
 log_after log (meets_fault octets fault) = took_fault log octets fault
@@ -59,7 +59,7 @@ log_after log reports_unprocessed = took_none log
 log_after log (is_called act answer) = with_call log act answer
 
 -- the machine after the step; which stream is unprocessed it says itself
-unfoldable pub machine_after : End → Step → End
+unfoldable pub machine_after : End → MachineStep → End
 machine_after e (uses_part octets unparsed) = e
 machine_after e (ends_frame octets frame decoded) = after_frame e decoded frame
 machine_after e (meets_fault octets fault) = fail (wire_fault_code fault)

@@ -14,7 +14,7 @@ use Rattle.h2_log.specs.View.{StreamView}
 use Rattle.h2_log.specs.Windows.{greatest_window}
 use Rattle.h2_log.specs.ItemRules.{Decoded, completes, frame_step}
 use Rattle.h2_machine.specs.Represents.{NoneAboveHighest}
-use Rattle.h2_machine.specs.End.{Entry, active_entry, reset_entry, End, end_view, stream_at}
+use Rattle.h2_machine.specs.End.{StreamEntry, active_entry, reset_entry, End, end_view, stream_at}
 
 -- A stream's send window is at most the greatest window, and no further below the peer's initial
 -- window than that. Its receive window, with what is owed, is at most the own initial window, and
@@ -55,12 +55,12 @@ IsDecodedAt e decoded frame = (stream : ℕ) (end : Bool) (octets : List ℕ) (o
     → Block e.reading.table e.own.in_force.table_limit octets one.fields one.after
 
 -- how many entries are active, and how many are of streams that were reset
-unfoldable pub count_active : List (ℕ × Entry) → ℕ
+unfoldable pub count_active : List (ℕ × StreamEntry) → ℕ
 count_active [] = 0
 count_active ((i, active_entry stream) ∷ entries) = 1 + count_active entries
 count_active ((i, reset_entry) ∷ entries) = count_active entries
 
-unfoldable pub count_reset : List (ℕ × Entry) → ℕ
+unfoldable pub count_reset : List (ℕ × StreamEntry) → ℕ
 count_reset [] = 0
 count_reset ((i, active_entry stream) ∷ entries) = count_reset entries
 count_reset ((i, reset_entry) ∷ entries) = 1 + count_reset entries

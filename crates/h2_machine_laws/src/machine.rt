@@ -20,7 +20,7 @@ ghost use Rattle.h2_machine.specs.Machine.{new_end, after_frame, fail, close_unp
 ghost use Rattle.h2_machine.specs.Machine.{unprocessed_of_end};
 ghost use Rattle.h2_machine.specs.Represents.{Represents};
 ghost use Rattle.h2_log.specs.declared.role.Role.{Role};
-ghost use Rattle.h2_machine_laws.specs.Machines.{end_after, Step, MayStep, log_after};
+ghost use Rattle.h2_machine_laws.specs.Machines.{end_after, MachineStep, MayStep, log_after};
 ghost use Rattle.h2_machine_laws.specs.Machines.{machine_after};
 
 /// A new machine represents the log of a new end.
@@ -77,7 +77,8 @@ pub fn frames_preserve_representation()
 /// After every step that a log may take a machine that represents it represents the log after it.
 /// So of each log that comes about there is a machine that represents it.
 pub fn steps_preserve_representation()
-    ensures step { (values : Values) (e : End) (log : Log) (step : Step) → Represents values e log
+    ensures step { (values : Values) (e : End) (log : Log) (step : MachineStep)
+        → Represents values e log
         → MayStep log step → Represents values (machine_after e step) (log_after log step) }
     ensures every { (role : Role) (values : Values) (log : Log) → IsLog role values log
         → (e : End) × Represents values e log }

@@ -8,7 +8,7 @@ use Rattle.std.proofs.lemmas.Bool.{lt-leb, lt-ltb, le-leb}
 use Rattle.std.proofs.lemmas.List.{drop_more}
 use Rattle.std.specs.Char.{is_ascii_digit}
 use Rattle.std.specs.Str.{all_ascii_digits, byte}
-use Rattle.h2_message.specs.Octets.{is_bad_length, number_of}
+use Rattle.h2_message.specs.Octets.{is_bad_length, number_written}
 
 -- the number that digits write after those of n
 abbrev pub number_from : ℕ → List ℕ → ℕ
@@ -64,13 +64,13 @@ is_number value some few digits =
 
 -- what is answered where there is no number, and where there is one
 pub no_length : (value : List ℕ) → is_bad_length value ≡ true
-    → None ≡ (if is_bad_length value then None else Some (number_of value))
+    → None ≡ (if is_bad_length value then None else Some (number_written value))
 no_length value bad =
-    sym (ap (λ (b : Bool). if b then None else Some (number_of value)) bad)
+    sym (ap (λ (b : Bool). if b then None else Some (number_written value)) bad)
 
 pub some_length : (value : List ℕ) → is_bad_length value ≡ false → (n : ℕ)
-    → n ≡ number_of value
-    → Some n ≡ (if is_bad_length value then None else Some (number_of value))
+    → n ≡ number_written value
+    → Some n ≡ (if is_bad_length value then None else Some (number_written value))
 some_length value good n is =
     ap (λ m. Some m) is
-    ∙ sym (ap (λ (b : Bool). if b then None else Some (number_of value)) good)
+    ∙ sym (ap (λ (b : Bool). if b then None else Some (number_written value)) good)

@@ -11,7 +11,7 @@ use Rattle.h2_message.specs.Messages.{first_broken, interim_rules, trailer_rules
 use Rattle.h2_message.specs.Reading.{Part, FieldsPart, OctetsPart, final_rules, compared_length}
 use Rattle.h2_message.specs.Phases.{is_short, phase_in_body, phase_after_final, phase_after_head}
 use Rattle.h2_message.specs.Phases.{phase_after_data, phase_after, phase_after_all}
-use Rattle.h2_message.specs.Phases.{asks_head_first, ends}
+use Rattle.h2_message.specs.Phases.{asks_head_first, ends_message}
 use Rattle.h2_message.proofs.PhaseSteps.{after_none}
 use Rattle.h2_message.proofs.ReadingSteps.{passes, ends_body, trailers_tests}
 
@@ -71,8 +71,8 @@ part_ends reads AtEnd part end next taken = cc
 -- The message was read whole where the last part ended it.
 ends_after : (reads : Reads) (phase next : Phase) (parts : List (Part × Bool))
     → is_end phase ≡ false → phase_after_all reads (Some phase) parts ≡ Some next
-    → ends parts ≡ is_end next
-unfolding ends phase_after_all phase_after
+    → ends_message parts ≡ is_end next
+unfolding ends_message phase_after_all phase_after
 ends_after reads phase next [] before taken =
     let same : phase ≡ next = cc in rw (← same) (sym before)
 ends_after reads phase next ((part, end) ∷ []) before taken =
@@ -87,7 +87,7 @@ ends_after reads phase next ((part, end) ∷ []) before taken =
 ends_after reads phase next (part ∷ (more ∷ parts)) before taken =
     elim (phase_after reads phase part) as (λ (after : Option Phase).
     phase_after_all reads after (more ∷ parts) ≡ Some next
-    → ends (more ∷ parts) ≡ is_end next) [
+    → ends_message (more ∷ parts) ≡ is_end next) [
       | None ↦ λ none. cc
       | Some AtEnd ↦ λ others. let nothing = after_none reads parts in cc
       | Some AtHead ↦ λ others. ends_after reads AtHead next (more ∷ parts) refl others
@@ -96,7 +96,7 @@ ends_after reads phase next (part ∷ (more ∷ parts)) before taken =
     ] taken
 
 pub over_where_ended : (reads : Reads) (parts : List (Part × Bool)) (phase : Phase)
-    → phase_after_all reads (Some AtHead) parts ≡ Some phase → is_end phase ≡ ends parts
+    → phase_after_all reads (Some AtHead) parts ≡ Some phase → is_end phase ≡ ends_message parts
 over_where_ended reads parts phase taken = sym (ends_after reads AtHead phase parts refl taken)
 
 -- Whether a head comes next.

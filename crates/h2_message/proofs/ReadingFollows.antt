@@ -1,7 +1,7 @@
 -- What a reading is after one part more.
 use Rattle.std.proofs.Common.{◌≡◌, ℕ, Bool, true, false, List, [], ◌∷◌, ◌++◌, length}
 use Rattle.std.proofs.Common.{Option, None, Some, refl, sym, ap, ◌∙◌}
-use Rattle.std.specs.Prelude.{IsNone, IfSome}
+use Rattle.std.specs.Prelude.{◌≢◌, IsNone, IfSome}
 use Rattle.hpack.specs.declared.types.field.Field.{Field}
 use Rattle.h2_message.specs.declared.reading.Reads.{Reads}
 use Rattle.h2_message.specs.declared.reading.Reads.TheVariants.{Requests}
@@ -44,9 +44,10 @@ taken_part : (reads : Reads) (parts : List (Part × Bool)) (part : Part × Bool)
     → Follows reads parts old → phase_after reads old.phase part ≡ Some new.phase
     → new.reads ≡ old.reads
     → (reads ≡ Requests → new.asks_head ≡ asks_head_first (parts ++ part ∷ []))
+    → (reads ≢ Requests → new.asks_head ≡ old.asks_head)
     → Follows reads (parts ++ part ∷ []) new
 unfolding phase_after_all
-taken_part reads parts part old new follows taken same asks =
+taken_part reads parts part old new follows taken same asks stays =
     let phase : phase_after_all reads (Some AtHead) (parts ++ part ∷ []) ≡ Some new.phase =
     phase_of_both reads parts part old follows
     ∙ after_one reads old.phase new.phase part [] (Some new.phase) taken refl in
@@ -55,6 +56,7 @@ taken_part reads parts part old new follows taken same asks =
       phase = phase;
       readable = readable reads (parts ++ part ∷ []) new.phase phase;
       asks_head = asks;
+      asks_none = λ others. stays others ∙ follows.asks_none others;
     }
 
 -- What asks with HEAD still does after the head.
@@ -79,13 +81,15 @@ pub head_follows : (reads : Reads) (parts : List (Part × Bool)) (list : List Fi
     → (IsNone result → new ≡ old)
     → IfSome result (λ place. place ≡ place_at_head old.reads list) → new.reads ≡ old.reads
     → (old.reads ≡ Requests → IfSome result (λ place. new.asks_head ≡ asks_head list))
+    → (old.reads ≢ Requests → new.asks_head ≡ old.asks_head)
     → FollowsFields reads parts list end result old new
 unfolding FollowsFields phase_after place_in
-head_follows reads parts list end None old new follows due phase none place same asks =
+head_follows reads parts list end None old new follows due phase none place same asks stays =
     let is : phase_after reads old.phase (FieldsPart list, end) ≡ None =
     rw (due, ← follows.reads_is) phase in
     (refused reads parts (FieldsPart list, end) old follows is, none refl)
-head_follows reads parts list end (Some found) old new follows due phase none place same asks =
+head_follows reads parts list end
+    (Some found) old new follows due phase none place same asks stays =
     let is : phase_after reads old.phase (FieldsPart list, end) ≡ Some new.phase =
     rw (due, ← follows.reads_is) phase in (
       taken_part reads parts (FieldsPart list, end) old new follows is same
@@ -93,7 +97,8 @@ head_follows reads parts list end (Some found) old new follows due phase none pl
           λ requests. asks_first parts list end new.asks_head
           (no_parts parts (rw (requests, due) at follows.phase))
           (asks (follows.reads_is ∙ requests))
-          ),
+          )
+          (λ others. stays (λ requests. others (sym follows.reads_is ∙ requests))),
       rw (follows.phase, due, ← follows.reads_is) place,
     )
 
@@ -109,7 +114,8 @@ trailers_follow reads parts list end left old new follows due phase same asks = 
       (
       asks_still reads parts (FieldsPart list, end) old new follows
       (λ (head : old.phase ≡ AtHead). cc) asks
-      ),
+      )
+      (λ others. asks),
   rw (follows.phase, due),
 )
 
@@ -135,6 +141,7 @@ data_follows reads parts octets end left old new follows due phase same asks =
     asks_still reads parts (OctetsPart octets, end) old new follows
     (λ (head : old.phase ≡ AtHead). cc) asks
     )
+    (λ others. asks)
 
 pub data_refused : (reads : Reads) (parts : List (Part × Bool)) (octets : List ℕ) (end : Bool)
     (phase : Phase) (old new : Reading) → Follows reads parts old → old.phase ≡ phase

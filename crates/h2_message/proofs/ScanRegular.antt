@@ -12,7 +12,7 @@ use Rattle.std.proofs.lemmas.Slice.Eq.{bytes_eq-Decides}
 use Rattle.std.proofs.lemmas.List.Elements.{filter-append}
 use Rattle.hpack.specs.declared.types.field.Field.{Field}
 use Rattle.h2_message.specs.declared.scan.Scan.{Scan}
-use Rattle.h2_message.specs.Octets.{is_bad_length, number_of}
+use Rattle.h2_message.specs.Octets.{is_bad_length, number_written}
 use Rattle.h2_message.specs.Fields.{is_named, lengths_of, differ, has_bad_length, first_number}
 use Rattle.h2_message.specs.Fields.{declared_length, is_connection_field, connection_names}
 use Rattle.h2_message.specs.Fields.{has_connection_field, is_colon_first}
@@ -45,7 +45,7 @@ lengths-other fields field is =
 
 -- Whether lengths are wrong.
 abbrev pub bad_lengths : List (List ℕ) → Bool
-bad_lengths values = list_any is_bad_length values || differ (map number_of values)
+bad_lengths values = list_any is_bad_length values || differ (map number_written values)
 
 -- Whether a number is another than the first one.
 abbrev pub is_other : Option ℕ → ℕ → Bool
@@ -53,28 +53,29 @@ is_other None number = false
 is_other (Some first) number = not (number == first)
 
 differ-push : (values : List (List ℕ)) (value : List ℕ)
-    → differ (map number_of (values ++ value ∷ []))
-    ≡ (differ (map number_of values) || is_other (first_number values) (number_of value))
+    → differ (map number_written (values ++ value ∷ []))
+    ≡ (differ (map number_written values) || is_other (first_number values) (number_written value))
 unfolding differ first_number
 differ-push [] value = refl
 differ-push (first ∷ values) value =
-    ap (list_any (λ other. not (other == number_of first)))
-    (map-append number_of values (value ∷ []))
-    ∙ any-push (λ other. not (other == number_of first)) (map number_of values) (number_of value)
+    ap (list_any (λ other. not (other == number_written first)))
+    (map-append number_written values (value ∷ []))
+    ∙ any-push (λ other. not (other == number_written first)) (map number_written values)
+    (number_written value)
 
 -- Lengths are wrong with one more.
 lengths-push : (values : List (List ℕ)) (value : List ℕ)
     → bad_lengths (values ++ value ∷ [])
     ≡ (bad_lengths values || (is_bad_length value
-    || is_other (first_number values) (number_of value)))
+    || is_other (first_number values) (number_written value)))
 lengths-push values value =
     ap₂ (λ (a b : Bool). a || b) (any-push is_bad_length values value) (differ-push values value)
     ∙ or-swap (list_any is_bad_length values) (is_bad_length value)
-    (differ (map number_of values)) (is_other (first_number values) (number_of value))
+    (differ (map number_written values)) (is_other (first_number values) (number_written value))
 
 first-push : (values : List (List ℕ)) (value : List ℕ)
     → first_number (values ++ value ∷ [])
-    ≡ option_or (first_number values) (Some (number_of value))
+    ≡ option_or (first_number values) (Some (number_written value))
 unfolding first_number
 first-push [] value = refl
 first-push (first ∷ values) value = refl
@@ -100,7 +101,8 @@ none-if false number result is was = absurd cc
 
 -- A `content-length` was added that is none.
 pub bad-length-added : (fields : List Field) (value : List ℕ) (sensitive : Bool) (old : Scan)
-    (result : Option ℕ) → result ≡ (if is_bad_length value then None else Some (number_of value))
+    (result : Option ℕ)
+    → result ≡ (if is_bad_length value then None else Some (number_written value))
     → result ≡ None → HasSeenLength fields old
     → HasSeenLength (with_field fields (codes "content-length") value sensitive) (record old {
       bad_length = true;
@@ -116,15 +118,15 @@ bad-length-added fields value sensitive old result read none seen =
     ap bad_lengths (lengths-named fields field refl)
     ∙ (lengths-push (lengths_of fields) value
     ∙ (ap (λ (b : Bool). bad_lengths (lengths_of fields)
-    || (b || is_other (first_number (lengths_of fields)) (number_of value)))
-    (none-if (is_bad_length value) (number_of value) result read none)
+    || (b || is_other (first_number (lengths_of fields)) (number_written value)))
+    (none-if (is_bad_length value) (number_written value) result read none)
     ∙ or-true (bad_lengths (lengths_of fields)))) in
     record { bad_length = sym bad; length = λ good. absurd (false≢true (sym good ∙ bad)) }
 
 -- A `content-length` was added that is one.
 pub length-added : (fields : List Field) (value : List ℕ) (sensitive : Bool) (old new : Scan)
     (result : Option ℕ) (number : ℕ)
-    → result ≡ (if is_bad_length value then None else Some (number_of value))
+    → result ≡ (if is_bad_length value then None else Some (number_written value))
     → result ≡ Some number → new.bad_length ≡ (old.bad_length || is_other old.length number)
     → new.length ≡ option_or old.length (Some number) → HasSeenLength fields old
     → HasSeenLength (with_field fields (codes "content-length") value sensitive) new
@@ -135,7 +137,7 @@ length-added fields value sensitive old new result number read some bad kept see
       value = value;
       sensitive = sensitive;
     } in
-    let is = number-if (is_bad_length value) (number_of value) result number read some in
+    let is = number-if (is_bad_length value) (number_written value) result number read some in
     let lengths = lengths_of fields in
     let pushed : has_bad_length (fields ++ field ∷ [])
     ≡ (has_bad_length fields || is_other (first_number lengths) number) =

@@ -10,7 +10,7 @@ use Rattle.hpack.specs.declared.types.field.Field.{Field}
 use Rattle.h2_message.specs.declared.kind.Kind.{Kind}
 use Rattle.h2_message.specs.declared.kind.Kind.TheVariants.{Request, Response}
 use Rattle.h2_message.specs.Octets.{is_bad_name, is_bad_value, is_bad_method, is_bad_path}
-use Rattle.h2_message.specs.Octets.{is_bad_status, is_interim_status, is_bad_length, number_of}
+use Rattle.h2_message.specs.Octets.{is_bad_status, is_interim_status, is_bad_length, number_written}
 
 -- Whether a field is a pseudo-field: "pseudo-header fields .. have a name that starts with a single
 -- colon" (section 8.2.1).
@@ -138,8 +138,8 @@ is_interim fields = is_interim_status (status_of fields)
 -- M10: "An endpoint MUST NOT generate an HTTP/2 message containing connection-specific header
 -- fields"; "The only exception to this is the TE header field, which MAY be present in an HTTP/2
 -- request; when it is, it MUST NOT contain any value other than "trailers"" (section 8.2.2), in
--- whatever letter case (RFC 9110, section 10.1.4). That it is taken in responses and trailers too is
--- an own choice.
+-- whatever letter case (RFC 9110, section 10.1.4). That it is taken in responses and trailers too
+-- is an own choice.
 -- rule: 8.2.2 A connection-specific field breaks M10
 unfoldable pub connection_names : List (List ℕ)
 connection_names =
@@ -170,17 +170,17 @@ unfoldable pub differ : List ℕ → Bool
 differ [] = false
 differ (number ∷ numbers) = list_any (λ other. not (other == number)) numbers
 
--- M11, of the texts: a `content-length` is no number, or several aren't equal numbers (RFC 9110, section
--- 8.6).
+-- M11, of the texts: a `content-length` is no number, or several aren't equal numbers (RFC 9110,
+-- section 8.6).
 -- rule: 8.1.1 A content-length that is no number, or several, breaks M11
 unfoldable pub has_bad_length : List Field → Bool
 has_bad_length fields =
-    list_any is_bad_length (lengths_of fields) || differ (map number_of (lengths_of fields))
+    list_any is_bad_length (lengths_of fields) || differ (map number_written (lengths_of fields))
 
 -- the number of the first text
 unfoldable pub first_number : List (List ℕ) → Option ℕ
 first_number [] = None
-first_number (value ∷ values) = Some (number_of value)
+first_number (value ∷ values) = Some (number_written value)
 
 -- how long a body is said to be
 -- rule: 8.1.1 A body to be sent that content-length denies breaks M11

@@ -73,8 +73,8 @@ is_token_octet octet =
 unfoldable pub is_token : List ℕ → Bool
 is_token octets = nat_lt 0 (length octets) && list_all is_token_octet octets
 
--- Whether the value is not the method of a request: it is no token, or it is CONNECT, which is left out
--- (own).
+-- Whether the value is not the method of a request: it is no token, or it is CONNECT, which is left
+-- out (own).
 -- rule: 8.3.1 A method that is no token, or is CONNECT (own), breaks M7
 unfoldable pub is_bad_method : List ℕ → Bool
 is_bad_method value = not (is_token value) || bytes_eq value (codes "CONNECT")
@@ -85,8 +85,8 @@ unfoldable pub begins_with_slash : List ℕ → Bool
 begins_with_slash [] = false
 begins_with_slash (first ∷ octets) = first == byte "/"
 
--- Whether the value is not the path of a request with this method: a path begins with a slash; "*" is
--- one of OPTIONS (section 8.3.1).
+-- Whether the value is not the path of a request with this method: a path begins with a slash; "*"
+-- is one of OPTIONS (section 8.3.1).
 -- rule: 8.3.1 A path without / at its begin, but * with OPTIONS, breaks M8
 unfoldable pub is_bad_path : (method path : List ℕ) → Bool
 is_bad_path method path =
@@ -130,5 +130,5 @@ is_bad_length value =
 
 -- the number that digits write
 -- rule: 8.1.1 A content-length that is no number, or several, breaks M11
-unfoldable pub number_of : List ℕ → ℕ
-number_of digits = fold (λ number digit. number * 10 + (digit - byte "0")) 0 digits
+unfoldable pub number_written : List ℕ → ℕ
+number_written digits = fold (λ number digit. number * 10 + (digit - byte "0")) 0 digits

@@ -1,7 +1,7 @@
 -- What a reading is after the parts that it has taken.
 -- contract: h2_message::Reading::fields
-use Rattle.std.specs.Prelude.{◌≡◌, ◌==◌, ◌-◌, nat_lt, ℕ, Bool, true, false, if◌then◌else◌, List}
-use Rattle.std.specs.Prelude.{[], ◌∷◌, ◌++◌, length, Option, Some, None, is_some, ◌||◌, not}
+use Rattle.std.specs.Prelude.{◌≡◌, ◌≢◌, ◌==◌, ◌-◌, nat_lt, ℕ, Bool, true, false, if◌then◌else◌}
+use Rattle.std.specs.Prelude.{List, [], ◌∷◌, ◌++◌, length, Option, Some, None, is_some, ◌||◌, not}
 use Rattle.hpack.specs.declared.types.field.Field.{Field}
 use Rattle.h2_message.specs.declared.reading.Reads.{Reads}
 use Rattle.h2_message.specs.declared.reading.Reads.TheVariants.{Requests, Responses}
@@ -77,10 +77,10 @@ asks_head_first _ = false
 
 -- Whether the last part has END_STREAM.
 -- rule: 8.1 END_STREAM ends the message, and any further part breaks M12
-unfoldable pub ends : List (Part × Bool) → Bool
-ends [] = false
-ends ((part, end) ∷ []) = end
-ends (part ∷ (next ∷ parts)) = ends (next ∷ parts)
+unfoldable pub ends_message : List (Part × Bool) → Bool
+ends_message [] = false
+ends_message ((part, end) ∷ []) = end
+ends_message (part ∷ (next ∷ parts)) = ends_message (next ∷ parts)
 
 -- The reading has taken these parts, the first one first: they begin a message that breaks no rule.
 -- rule: 8.1 (own) A part is read where the parts so far begin a well-formed message
@@ -89,6 +89,7 @@ pub record Follows (reads : Reads) (parts : List (Part × Bool)) (reading : Read
   pub phase : phase_after_all reads (Some AtHead) parts ≡ Some reading.phase
   pub readable : IsReadable reads parts
   pub asks_head : reads ≡ Requests → reading.asks_head ≡ asks_head_first parts
+  pub asks_none : reads ≢ Requests → reading.asks_head ≡ false
 
 -- Whether a list is the head of an interim response, where a head is due.
 -- rule: 8.1 Interim responses come before the final head, without END_STREAM
@@ -114,7 +115,8 @@ unfoldable pub FollowsFields : Reads → List (Part × Bool) → List Field → 
 FollowsFields reads parts list end None old new =
     (IsReadable reads (parts ++ (FieldsPart list, end) ∷ []) → ⊥) × (new ≡ old)
 FollowsFields reads parts list end (Some place) old new =
-    Follows reads (parts ++ (FieldsPart list, end) ∷ []) new × (place ≡ place_after reads parts list)
+    Follows reads (parts ++ (FieldsPart list, end) ∷ []) new
+    × (place ≡ place_after reads parts list)
 
 -- The same of octets of a body.
 -- rule: 8.1 (own) A part is read where the parts so far begin a well-formed message

@@ -3,7 +3,7 @@
 ghost use Rattle.std.specs.Prelude.{◌≡◌, if◌then◌else◌, Some, None};
 ghost use Rattle.std.specs.List.{list_all};
 ghost use Rattle.h2_message.specs.Octets.{begins_with_slash, is_bad_length, is_interim_status};
-ghost use Rattle.h2_message.specs.Octets.{is_status_code, is_token, is_token_octet, number_of};
+ghost use Rattle.h2_message.specs.Octets.{is_status_code, is_token, is_token_octet, number_written};
 ghost use Rattle.h2_message.specs.Classes.{method_class, path_class, status_class};
 
 /// What a method says of its request (RFC 9110, section 9.1).
@@ -131,7 +131,7 @@ fn is_interim_status(value: &[u8]) -> bool
 // rule: 8.1.1 A content-length that is no number, or several, breaks M11
 /// The number of a `content-length`: 1 to 19 digits.
 pub(crate) fn length_number(value: &[u8]) -> Option<u64>
-    ensures { result ≡ (if is_bad_length value.now then None else Some (number_of value.now)) }
+    ensures { result ≡ (if is_bad_length value.now then None else Some (number_written value.now)) }
 {
     if value.is_empty() || value.len() > 19 {
         return None;

@@ -1,13 +1,8 @@
 //! The octets of names and values (RFC 9113, section 8.2.1).
 
 ghost use Rattle.std.specs.Prelude.{◌≡◌, reverse};
-ghost use Rattle.h2_message.specs.Octets.{
-  begins_blank,
-  is_bad_name,
-  is_bad_value,
-  is_blank,
-  names_user,
-};
+ghost use Rattle.h2_message.specs.Octets.{begins_blank, is_bad_name, is_bad_value, is_blank};
+ghost use Rattle.h2_message.specs.Octets.{names_user};
 
 use crate::lanes::{has_bad_after_first, has_bad_in_value, is_bad_in_name};
 
@@ -71,8 +66,8 @@ fn is_blank(octet: u8) -> bool
 // contract: 8.3.1 An :authority with an @ in it names a user, and a call says so
 /// Whether an authority, as the value of `:authority` is one, names a user, as `user@example.com`
 /// does. "`:authority` MUST NOT include the deprecated userinfo subcomponent for `http` or `https`
-/// schemed URIs" (section 8.3.1). No check refuses it, so a server that minds asks here, and answers
-/// with status 400.
+/// schemed URIs" (section 8.3.1). No check refuses it, so a server that minds asks here, and
+/// answers with status 400.
 #[tactic(auto, unfolding(crate::specs::Octets::names_user))]
 pub fn names_user(authority: &[u8]) -> bool
     ensures { result ≡ names_user authority.now }

@@ -1,6 +1,6 @@
 //! A message that is read part by part.
 
-ghost use Rattle.std.specs.Prelude.{◌≡◌, ℕ, Bool, List, [], length, false, IsNone, IfSome};
+ghost use Rattle.std.specs.Prelude.{◌≡◌, ◌≢◌, ℕ, Bool, List, [], length, false, IsNone, IfSome};
 ghost use Rattle.hpack.specs.declared.types.field.Field.{Field};
 ghost use Rattle.h2_message.specs.declared.reading.Reads.TheVariants.{Requests, Responses};
 ghost use Rattle.h2_message.specs.declared.reading.Phase.TheVariants.{AtHead};
@@ -11,7 +11,7 @@ ghost use Rattle.h2_message.specs.Scans.{IsScan};
 ghost use Rattle.h2_message.specs.Reading.{Part, compared_length};
 ghost use Rattle.h2_message.specs.Phases.{phase_in_body, phase_after_head, phase_if_taken};
 ghost use Rattle.h2_message.specs.Phases.{place_at_head};
-ghost use Rattle.h2_message.specs.Phases.{Follows, FollowsFields, FollowsData, ends};
+ghost use Rattle.h2_message.specs.Phases.{Follows, FollowsFields, FollowsData, ends_message};
 
 use crate::kind::Kind;
 use crate::scan::{Scan, scan_list};
@@ -135,6 +135,7 @@ impl Reading {
         ensures reads { self.new.reads ≡ self.old.reads }
         ensures asks_head { self.old.reads ≡ Requests → IfSome result (λ place.
             self.new.asks_head ≡ asks_head list.now) }
+        ensures asks_none { self.old.reads ≢ Requests → self.new.asks_head ≡ self.old.asks_head }
     {
         match self.reads {
             Reads::Requests => {
@@ -208,7 +209,7 @@ impl Reading {
     /// Whether the message was read whole.
     pub fn is_over(&self) -> bool
         ensures { (reads : Reads) (parts : List (Part × Bool)) → Follows reads parts self.now
-            → result ≡ ends parts }
+            → result ≡ ends_message parts }
     {
         matches!(self.phase, Phase::AtEnd)
     }

@@ -201,6 +201,10 @@ impl Output {
             ≤ vec_capacity out.old → IsOk result }
         ensures ended { self.new.ended ≡ self.old.ended }
         ensures spare { self.old.spare ≤ self.new.spare }
+
+        // Once nothing waits, all that waited is room again.
+        ensures whole { self.old.ended ≡ false → self.new.waiting ≡ []
+            → self.old.spare + length self.old.waiting ≤ self.new.spare }
     {
         let given = count.min(self.len());
         out.reserve(given)?;
@@ -231,11 +235,16 @@ fn put_out_queued(queue: &mut BytesMut<Global>, count: usize, out: &mut Vec<u8>)
     ensures given { out.new.items ≡ out.old.items ++ take count queue.old.items }
     ensures waiting { queue.new.items ≡ drop count queue.old.items }
     ensures spare { queue.old.spare ≤ queue.new.spare }
+
+    // Once it is empty, all that it held is room again.
+    ensures whole { queue.new.items ≡ []
+        → queue.old.spare + length queue.old.items ≤ queue.new.spare }
     ensures capacity { vec_capacity out.old ≤ vec_capacity out.new }
 {
     out.extend_from_slice(&queue.as_slice()[..count]).unwrap();
-    queue.advance(count);
-    if queue.is_empty() {
+    if count == queue.len() {
         queue.clear();
+    } else {
+        queue.advance(count);
     }
 }

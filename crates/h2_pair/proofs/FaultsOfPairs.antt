@@ -25,7 +25,8 @@ use Rattle.h2_log_laws.proofs.InvariantLogs.{written_is_allowed}
 use Rattle.h2_end_laws.specs.Sendings.{lists_accepted}
 use Rattle.h2_end_laws.proofs.SendableCalls.{written_sendable}
 use Rattle.h2_machine_laws.specs.Machines.{uses_part, ends_frame, meets_fault, runs_out_of_memory}
-use Rattle.h2_machine_laws.specs.Machines.{reports_unprocessed, is_called, Step, MayStep, log_after}
+use Rattle.h2_machine_laws.specs.Machines.{reports_unprocessed, is_called, MachineStep, MayStep}
+use Rattle.h2_machine_laws.specs.Machines.{log_after}
 use Rattle.h2_pair.specs.Pairs.{Half, HalfStep, calls, takes, loses, IsPair, begins, client_steps}
 use Rattle.h2_pair.specs.Pairs.{server_steps, octets_used}
 use Rattle.h2_pair.specs.Undisturbed.{IsUndisturbedStep, IsUndisturbed, IsFaultless}
@@ -107,7 +108,8 @@ joined_next writer reader is up octets rest came =
     writer.log.given (carries.none_lost up) came carries.carried
 
 -- A step of the reader that takes octets, or reports a stream.
-takes_clean : (writer reader : Half) → IsDirection writer reader → (step : Step) (rest : List ℕ)
+takes_clean : (writer reader : Half) → IsDirection writer reader
+    → (step : MachineStep) (rest : List ℕ)
     → MayStep reader.log step → IsNoCall step → reader.incoming ≡ octets_used step ++ rest
     → ((octets : List ℕ) → step ≢ runs_out_of_memory octets) → LogIsClean reader.log
     → LogIsClean (log_after reader.log step)

@@ -5,7 +5,7 @@ use Rattle.std.proofs.Common.{◌&&◌, Bool, true, false, if◌then◌else◌, 
 use Rattle.std.proofs.Common.{length, Option, None, refl, sym, ap, ◌∙◌, subst, arith, append_assoc}
 use Rattle.std.proofs.Common.{length-append}
 use Rattle.std.specs.List.{AllByRecursion}
-use Rattle.std.proofs.lemmas.Bool.{cases_eq}
+use Rattle.std.proofs.lemmas.Bool.{cases_eq, cases_lt}
 use Rattle.h2_frame.specs.Encoding.{payload_of}
 use Rattle.h2_frame.specs.Frames.{Frame, Settings}
 use Rattle.h2_block.specs.Grouping.{Item, alone, block, Begun, Groups}
@@ -18,7 +18,7 @@ use Rattle.h2_log.specs.Items.{total}
 use Rattle.h2_log.specs.Limits.{max_frame_size_sent}
 use Rattle.h2_log.specs.Log.{acked, max_payload_sent_by}
 use Rattle.h2_log.specs.Settings.{value_read, one_settings, one_ack, settings_count}
-use Rattle.h2_log.specs.Settings.{up_to_settings, own_value, greatest_from, payload_limit}
+use Rattle.h2_log.specs.Settings.{own_value, greatest_from, payload_limit}
 use Rattle.h2_log_laws.specs.Sending.{IsSendable, AreSendable, frames_of_item, frames_by}
 use Rattle.h2_log_laws.specs.Sending.{oldest_first}
 use Rattle.h2_log_laws.proofs.InvariantLogs.{written_is_allowed}
@@ -26,9 +26,9 @@ use Rattle.h2_log_laws.proofs.LogHistory.{settings_append}
 use Rattle.h2_log_laws.proofs.OutputRead.{IsShort, items_grouped_by}
 use Rattle.h2_log_laws.proofs.PayloadOrigins.{PayloadOrigin, payload_origin}
 use Rattle.h2_log_laws.proofs.PayloadsOfLogs.{written_by_payloads}
-use Rattle.h2_log_laws.proofs.SettingsLists.{settings_or, settings_one, value_kept, value_changed}
-use Rattle.h2_log_laws.proofs.SettingsLists.{up_to_next, up_to_here, count_next, opening_frame}
-use Rattle.h2_log_laws.proofs.SettingsLists.{changed_frame}
+use Rattle.h2_log_laws.proofs.SettingsLists.{settings_or, value_kept, value_changed, own_next}
+use Rattle.h2_log_laws.proofs.SettingsLists.{own_of_all, own_older, count_next, count_none}
+use Rattle.h2_log_laws.proofs.SettingsLists.{opening_frame, changed_frame}
 use Rattle.h2_log_laws.proofs.WindowsOfTwoEnds.{total-append}
 use Rattle.h2_end_laws.proofs.Grouped.{items_grouped, groups_now}
 use Rattle.h2_end_laws.proofs.GroupedPrefixes.{prefix_grouped}
@@ -60,22 +60,9 @@ greatest_above value first (suc more) number above within = elim (cases_eq numbe
 -- The value of so many own SETTINGS as older items have is the one that these wrote last.
 value_of_older : (id first count : ℕ) (newer older : List Item) → count ≡ settings_count older
     → own_value id first count (newer ++ older) ≡ value_read id first older
-unfolding up_to_settings
-value_of_older id first count [] [] all = refl
-value_of_older id first count [] (item ∷ older) all = elim (settings_or item) [
-  | inl (pairs, is) ↦
-      let one : one_settings item ≡ 1 = rw is (settings_one pairs) in
-      ap (value_read id first) (up_to_here count item older one
-      (omega (arith, all, count_next item older)))
-  | inr none ↦
-      ap (value_read id first) (up_to_next count item older (λ one. absurd (omega arith)))
-      ∙ value_of_older id first count [] older (omega (arith, all, count_next item older))
-      ∙ sym (value_kept id first item older none)
-]
-value_of_older id first count (item ∷ newer) older all =
-    ap (value_read id first) (up_to_next count item (newer ++ older)
-    (λ one. omega (arith, all, settings_append newer older)))
-    ∙ value_of_older id first count newer older all
+value_of_older id first count newer older all =
+    own_older id first count newer older (omega (arith, all))
+    ∙ own_of_all id first count older (omega (arith, all))
 
 -- What the peer has read of an end's frame sizes is within the end's limit, where no more of its
 -- SETTINGS were acknowledged than the peer has read.
@@ -92,13 +79,6 @@ limit_covers count newer read within =
           (settings_count (newer ++ read) - count) all within (omega (arith, counted)),
     )
 
--- A value of items, by which of them are chosen.
-least_by : (test : Bool) (one other : List Item) → 16384 ≤ value_read 5 16384 one
-    → 16384 ≤ value_read 5 16384 other
-    → 16384 ≤ value_read 5 16384 (if test then one else other)
-least_by true one other this that = this
-least_by false one other this that = that
-
 -- The frame size that was written last is 16,384 at least, and so is each one that is in force.
 abbrev AreEnough : List Item → Type 0
 AreEnough sent = (16384 ≤ value_read 5 16384 sent)
@@ -107,17 +87,23 @@ AreEnough sent = (16384 ≤ value_read 5 16384 sent)
 -- With one item more.
 enough_more : (item : Item) (sent : List Item) → 16384 ≤ value_read 5 16384 (item ∷ sent)
     → AreEnough sent → AreEnough (item ∷ sent)
-unfolding up_to_settings
 enough_more item sent now before = (
   now,
-  λ count. least_by (one_settings item == 1 && nat_le (settings_count (item ∷ sent)) count)
-      (item ∷ sent) (up_to_settings count sent) now (before.1 count),
+  λ count. elim (cases_lt count (settings_count (item ∷ sent))) [
+    | inl fewer ↦
+        rw (own_next 5 16384 count item sent (λ one. omega (arith, fewer, count_next item sent)))
+        (before.1 count)
+    | inr all ↦ rw (own_of_all 5 16384 count (item ∷ sent) all) now
+  ],
 )
 
 -- With none.
 enough_none : AreEnough []
-unfolding value_read up_to_settings
-enough_none = (omega arith, λ count. omega arith)
+unfolding value_read
+enough_none = (
+  omega arith,
+  λ count. rw (own_of_all 5 16384 count [] (omega (arith, count_none))) (omega arith),
+)
 
 -- What may be written keeps it.
 write_enough : (role : Role) (received sent : List Item) (item : Item)

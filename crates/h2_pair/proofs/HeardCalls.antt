@@ -5,13 +5,13 @@ use Rattle.h2_log.specs.Acts.{Act, Answer, Open, SendFields, Number, Done}
 use Rattle.h2_log.specs.Log.{Log}
 use Rattle.h2_log_laws.proofs.LogInduction.{WritesNone, refused, no_memory, fails_instead, puts_out}
 use Rattle.h2_end_laws.specs.Sendings.{lists_accepted}
-use Rattle.h2_machine_laws.specs.Machines.{Step, log_after}
+use Rattle.h2_machine_laws.specs.Machines.{MachineStep, log_after}
 use Rattle.h2_pair.proofs.StepsOfLogs.{IsNoCall, step_holds}
 use Rattle.h2_log_laws.proofs.PartsStay.{SameCalls, calls_read}
 pub use Rattle.h2_log_laws.proofs.PartsStay.{call_calls, sent_calls}
 
 -- A step that is no call adds none.
-pub step_calls : (log : Log) (step : Step) → IsNoCall step
+pub step_calls : (log : Log) (step : MachineStep) → IsNoCall step
     → (log_after log step).calls ≡ log.calls
 step_calls = step_holds SameCalls calls_read
 

@@ -19,8 +19,8 @@ use Rattle.h2_log_laws.proofs.ReaderStates.{active_parts}
 use Rattle.h2_pair.specs.HeaderTables.{block_count}
 use Rattle.h2_message.specs.Messages.{SentMessage}
 use Rattle.h2_pair.specs.Tokens.{Token, FieldsToken, OctetToken, EndToken, end_tokens}
-use Rattle.h2_pair.specs.Tokens.{is_head_alone, trailers_tokens, message_tokens}
-use Rattle.h2_pair.proofs.HeardTokens.{item_tokens, frame_tokens, tokens_of_items}
+use Rattle.h2_pair.specs.Tokens.{tokens_written, is_head_alone, trailers_tokens, message_tokens}
+use Rattle.h2_pair.proofs.HeardTokens.{item_tokens, frame_tokens, alone_adds}
 use Rattle.h2_pair.proofs.HeardGoAways.{speaks}
 use Rattle.h2_end_laws.proofs.ActivityStays.{opened_after}
 
@@ -103,12 +103,13 @@ item_silent i (alone (Data stream end octets pad)) list none = rw none refl
 item_silent i (alone frame) list none = refl
 
 pub silent_tokens : (i : ℕ) (items : List Item) (lists : List (List Field))
-    → list_any (speaks i) items ≡ false → tokens_of_items i items lists ≡ []
-unfolding tokens_of_items
+    → list_any (speaks i) items ≡ false → tokens_written i items lists ≡ []
+unfolding tokens_written item_tokens
 silent_tokens i [] lists none = refl
 silent_tokens i (alone frame ∷ items) lists none =
     let parts = or_parts (speaks i (alone frame)) (list_any (speaks i) items) none in
-    ap (λ (line : List Token). line ++ item_tokens i (alone frame) [])
+    alone_adds i frame items lists
+    ∙ ap (λ (line : List Token). line ++ item_tokens i (alone frame) [])
     (silent_tokens i items lists parts.1) ∙ item_silent i (alone frame) [] parts.0
 silent_tokens i (block stream end octets ∷ items) [] none =
     silent_tokens i items []
@@ -142,22 +143,23 @@ in_front one other here = list_any-append is_end one other ∙ or_left _ _ here
 
 pub ended_tokens : (i : ℕ) (items : List Item) (lists : List (List Field))
     → length lists ≡ block_count items → list_any (ends i) items ≡ true
-    → list_any is_end (tokens_of_items i items lists) ≡ true
-unfolding tokens_of_items block_count
+    → list_any is_end (tokens_written i items lists) ≡ true
+unfolding tokens_written item_tokens block_count
 ended_tokens i [] lists many here = absurd (both_ways false refl here)
 ended_tokens i (alone frame ∷ items) lists many here =
-    elim (or_cases (ends i (alone frame)) (list_any (ends i) items) here) [
-      | inl now ↦ any_after is_end (tokens_of_items i items lists) _
+    rw (alone_adds i frame items lists)
+    (elim (or_cases (ends i (alone frame)) (list_any (ends i) items) here) [
+      | inl now ↦ any_after is_end (tokens_written i items lists) _
           (item_ending i (alone frame) [] now)
-      | inr before ↦ in_front (tokens_of_items i items lists) _
+      | inr before ↦ in_front (tokens_written i items lists) _
           (ended_tokens i items lists many before)
-    ]
+    ])
 ended_tokens i (block stream end octets ∷ items) [] many here = absurd (omega (arith, many))
 ended_tokens i (block stream end octets ∷ items) (list ∷ lists) many here =
     elim (or_cases (ends i (block stream end octets)) (list_any (ends i) items) here) [
-      | inl now ↦ any_after is_end (tokens_of_items i items lists) _
+      | inl now ↦ any_after is_end (tokens_written i items lists) _
           (item_ending i (block stream end octets) list now)
-      | inr before ↦ in_front (tokens_of_items i items lists) _
+      | inr before ↦ in_front (tokens_written i items lists) _
           (ended_tokens i items lists (omega (arith, many)) before)
     ]
 

@@ -20,16 +20,18 @@ use Rattle.h2_end_laws.proofs.ReadingCalls.{log_read}
 use Rattle.h2_end_laws.proofs.Sendings.{log_sent}
 use Rattle.h2_end_laws.proofs.Unread.{reads_fails, reads_unprocessed}
 use Rattle.h2_machine_laws.specs.Machines.{uses_part, ends_frame, meets_fault, runs_out_of_memory}
-use Rattle.h2_machine_laws.specs.Machines.{reports_unprocessed, is_called, Step, MayStep, log_after}
+use Rattle.h2_machine_laws.specs.Machines.{reports_unprocessed, is_called, MachineStep, MayStep}
+use Rattle.h2_machine_laws.specs.Machines.{log_after}
 use Rattle.h2_pair.specs.Pairs.{Half, HalfStep, calls, takes, loses, IsPair}
 use Rattle.h2_pair.specs.Directions.{AreUnderWay}
 use Rattle.h2_pair.specs.HeaderTables.{block_count}
-use Rattle.h2_pair.specs.Tokens.{Token, tokens_sent, tokens_heard, IsPrefixOfTokens}
+use Rattle.h2_pair.specs.Tokens.{Token, tokens_sent, tokens_written, tokens_heard}
+use Rattle.h2_pair.specs.Tokens.{IsPrefixOfTokens}
 use Rattle.h2_pair.proofs.StepsOfLogs.{IsNoCall}
 use Rattle.h2_pair.proofs.BothWays.{IsDirection, to_server, to_client, ends_of, IsKept, each_way}
 use Rattle.h2_pair.proofs.CarriedItems.{way_of}
 use Rattle.h2_pair.proofs.TablesOfPairs.{tables_of}
-use Rattle.h2_pair.proofs.HeardTokens.{tokens_of_items, tokens_split, prefix_more}
+use Rattle.h2_pair.proofs.HeardTokens.{tokens_split, prefix_more}
 use Rattle.h2_pair.proofs.HeardSent.{tokens_carried}
 use Rattle.h2_pair.proofs.HeardReads.{LogHeard, heard_prefix, lists_after}
 use Rattle.h2_pair.proofs.HeardSteps.{heard_grows, heard_failure, heard_unprocessed, no_item}
@@ -131,7 +133,8 @@ failed_read writer reader octets code last is =
     (λ i. heard_failure i code last (used reader.log octets []) now.lists (now.heard i))
 
 -- After any step that is no call.
-step_read : (writer reader : Half) (step : Step) (way : List Item) → IsDirection writer reader
+step_read : (writer reader : Half) (step : MachineStep) (way : List Item)
+    → IsDirection writer reader
     → IsNoCall step → MayStep reader.log step
     → AreUnderWay writer.log (log_after reader.log step) way → IsHeardBy writer.log reader.log
     → IsHeardBy writer.log (log_after reader.log step)
@@ -197,7 +200,7 @@ pub given_in_order : (i : ℕ) (role : Role) (values : Values) (writer reader : 
     (way : List Item) → IsLog role values writer → AreUnderWay writer reader way
     → (is : IsHeardBy writer reader)
     → tokens_sent i writer.calls
-    ≡ tokens_of_items i reader.received is.lists ++ tokens_of_items i way is.later
+    ≡ tokens_written i reader.received is.lists ++ tokens_written i way is.later
 given_in_order i role values writer reader way log under_way is =
     let blocks : length (lists_accepted writer.calls) ≡ block_count writer.sent =
     blocks_of_lists writer.sent (settings_received writer.received) (lists_accepted writer.calls)
@@ -213,8 +216,8 @@ given_in_order i role values writer reader way log under_way is =
       blocks_joined way reader.received,
     ) in
     tokens_carried i role values writer log
-    ∙ ap (λ (items : List Item). tokens_of_items i items (lists_accepted writer.calls)) under_way
-    ∙ ap (λ (lists : List (List Field)). tokens_of_items i (way ++ reader.received) lists)
+    ∙ ap (λ (items : List Item). tokens_written i items (lists_accepted writer.calls)) under_way
+    ∙ ap (λ (lists : List (List Field)). tokens_written i (way ++ reader.received) lists)
     is.accepted
     ∙ tokens_split i way reader.received is.later is.lists later
 
@@ -227,7 +230,7 @@ hears writer reader i is =
     rw (given_in_order i _ _ writer.log reader.log way.0 (ends_of writer reader is).writer_log
     way.1 heard)
     (prefix_more (tokens_heard i reader.log.reported)
-    (tokens_of_items i reader.log.received heard.lists) (tokens_of_items i way.0 heard.later)
+    (tokens_written i reader.log.received heard.lists) (tokens_written i way.0 heard.later)
     (heard_prefix reader.log.role i reader.log.received reader.log.sent reader.log.reported
     heard.lists (heard.heard i)))
 

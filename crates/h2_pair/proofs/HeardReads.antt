@@ -18,15 +18,16 @@ use Rattle.h2_log.specs.LogView.{log_view}
 use Rattle.h2_log.specs.View.{View}
 use Rattle.h2_log.specs.Verdicts.{Verdict, ConnectionFault, StreamFault, NoEvent, Reported}
 use Rattle.h2_log.specs.ItemRules.{Decoded, replies_to, verdict_by_rules, peer_opens}
-use Rattle.h2_log.specs.ItemEffects.{events_of, fields_of}
+use Rattle.h2_log.specs.ItemEffects.{events_of, decoded_fields}
 use Rattle.h2_log_laws.proofs.ReaderStates.{not_idle, state_is_active}
 use Rattle.h2_log_laws.proofs.ReplyInvariant.{used_more, used_here}
 use Rattle.h2_end_laws.proofs.OverReads.{OfMessage, says_block}
 use Rattle.h2_end_laws.proofs.ReadVerdicts.{Says, says_data, says_any}
 use Rattle.h2_end_laws.proofs.ReadingRules.{IsFaulty, IsUnreported, IsSaid}
 use Rattle.h2_end_laws.proofs.ReceiveWindows.{active_unclosed}
-use Rattle.h2_pair.specs.Tokens.{Token, tokens_of_event, tokens_heard, IsPrefixOfTokens}
-use Rattle.h2_pair.proofs.HeardTokens.{frame_tokens, item_tokens, tokens_of_items, prefix_same}
+use Rattle.h2_pair.specs.Tokens.{Token, tokens_written, tokens_of_event, tokens_heard}
+use Rattle.h2_pair.specs.Tokens.{IsPrefixOfTokens}
+use Rattle.h2_pair.proofs.HeardTokens.{frame_tokens, item_tokens, alone_adds, prefix_same}
 use Rattle.h2_log_laws.proofs.LogViewLemmas.{closed_used}
 use Rattle.h2_end_laws.proofs.ActivityFrames.{closed_more}
 use Rattle.h2_end_laws.proofs.ReceiveWindowSteps.{reset_closed}
@@ -48,31 +49,31 @@ gone_more role i news items received sent gone =
 -- All that the items carry was heard, or the stream is gone and a prefix was.
 pub data AreHeard (role : Role) (i : ℕ) (received sent : List Item) (reported : List Event)
     (lists : List (List Field)) : Type 0 where
-  all_heard : tokens_heard i reported ≡ tokens_of_items i received lists
+  all_heard : tokens_heard i reported ≡ tokens_written i received lists
       → AreHeard role i received sent reported lists
   some_heard : IsGone role i received sent
-      → IsPrefixOfTokens (tokens_heard i reported) (tokens_of_items i received lists)
+      → IsPrefixOfTokens (tokens_heard i reported) (tokens_written i received lists)
       → AreHeard role i received sent reported lists
 
 -- the lists after an item
 abbrev pub lists_after : Option Decoded → Item → List (List Field) → List (List Field)
 lists_after decoded (alone frame) lists = lists
-lists_after decoded (block stream end octets) lists = fields_of decoded ∷ lists
+lists_after decoded (block stream end octets) lists = decoded_fields decoded ∷ lists
 
 -- An item adds its tokens.
 item_carries : (i : ℕ) (decoded : Option Decoded) (item : Item) (received : List Item)
     (lists : List (List Field))
-    → tokens_of_items i (item ∷ received) (lists_after decoded item lists)
-    ≡ tokens_of_items i received lists ++ item_tokens i item (fields_of decoded)
-unfolding tokens_of_items item_tokens
-item_carries i decoded (alone frame) received lists = refl
+    → tokens_written i (item ∷ received) (lists_after decoded item lists)
+    ≡ tokens_written i received lists ++ item_tokens i item (decoded_fields decoded)
+unfolding tokens_written item_tokens
+item_carries i decoded (alone frame) received lists = alone_adds i frame received lists
 item_carries i decoded (block stream end octets) received lists = refl
 
 -- What is reported of it adds the same.
 reported_carries : (i : ℕ) (view : View) (decoded : Option Decoded) (item : Item)
     (reported : List Event)
     → tokens_heard i (events_of view decoded Reported item ++ reported)
-    ≡ tokens_heard i reported ++ item_tokens i item (fields_of decoded)
+    ≡ tokens_heard i reported ++ item_tokens i item (decoded_fields decoded)
 unfolding events_of tokens_heard tokens_of_event item_tokens frame_tokens
 reported_carries i view decoded (block stream end octets) reported = refl
 reported_carries i view decoded (alone (Data stream end octets pad)) reported = refl
@@ -188,7 +189,7 @@ prefix_by tokens heard whole all more same is (rest, before) = (
 -- What was heard is a prefix.
 pub heard_prefix : (role : Role) (i : ℕ) (received sent : List Item) (reported : List Event)
     (lists : List (List Field)) → AreHeard role i received sent reported lists
-    → IsPrefixOfTokens (tokens_heard i reported) (tokens_of_items i received lists)
+    → IsPrefixOfTokens (tokens_heard i reported) (tokens_written i received lists)
 heard_prefix role i received sent reported lists (all_heard same) = prefix_same _ _ same
 heard_prefix role i received sent reported lists (some_heard gone prefix) = prefix
 
@@ -198,7 +199,7 @@ heard_silent : (role : Role) (i : ℕ) (received sent after : List Item)
     (lists : List (List Field)) (decoded : Option Decoded) (item : Item)
     → tokens_heard i events ≡ tokens_heard i reported
     → (IsGone role i received sent → IsGone role i (item ∷ received) after)
-    → (item_tokens i item (fields_of decoded) ≡ []) ⊎ IsGone role i (item ∷ received) after
+    → (item_tokens i item (decoded_fields decoded) ≡ []) ⊎ IsGone role i (item ∷ received) after
     → AreHeard role i received sent reported lists
     → AreHeard role i (item ∷ received) after events (lists_after decoded item lists)
 heard_silent role i received sent after reported events lists decoded item same goes (inr gone)
@@ -207,8 +208,8 @@ heard_silent role i received sent after reported events lists decoded item same 
     (heard_prefix role i received sent reported lists before))
 heard_silent role i received sent after reported events lists decoded item same goes (inl none)
     (all_heard is) =
-    all_heard (same ∙ is ∙ sym (append-nil (tokens_of_items i received lists))
-    ∙ ap (λ (line : List Token). tokens_of_items i received lists ++ line) (sym none)
+    all_heard (same ∙ is ∙ sym (append-nil (tokens_written i received lists))
+    ∙ ap (λ (line : List Token). tokens_written i received lists ++ line) (sym none)
     ∙ sym (item_carries i decoded item received lists))
 heard_silent role i received sent after reported events lists decoded item same goes (inl none)
     (some_heard gone prefix) =
@@ -220,14 +221,14 @@ heard_reported : (role : Role) (i : ℕ) (received sent after : List Item)
     (reported : List Event) (lists : List (List Field)) (view : View) (decoded : Option Decoded)
     (item : Item)
     → (IsGone role i received sent → IsGone role i (item ∷ received) after)
-    → (item_tokens i item (fields_of decoded) ≡ []) ⊎ (IsGone role i received sent → ⊥)
+    → (item_tokens i item (decoded_fields decoded) ≡ []) ⊎ (IsGone role i received sent → ⊥)
     → AreHeard role i received sent reported lists
     → AreHeard role i (item ∷ received) after (events_of view decoded Reported item ++ reported)
     (lists_after decoded item lists)
 heard_reported role i received sent after reported lists view decoded item goes stays
     (all_heard is) =
     all_heard (reported_carries i view decoded item reported
-    ∙ ap (λ (line : List Token). line ++ item_tokens i item (fields_of decoded)) is
+    ∙ ap (λ (line : List Token). line ++ item_tokens i item (decoded_fields decoded)) is
     ∙ sym (item_carries i decoded item received lists))
 heard_reported role i received sent after reported lists view decoded item goes (inr stays)
     (some_heard gone prefix) = absurd (stays gone)
@@ -294,16 +295,16 @@ heard_item i log decoded item (StreamFault code) due lists none ruled before =
     decoded item (fault_carries i (log_view log) decoded code item log.reported)
     (λ gone. gone_more log.role i (item ∷ []) due log.received (reset ∷ log.sent)
     (gone_more log.role i [] (reset ∷ []) log.received log.sent gone))
-    (fault_goes log i item (code_number code) due (fields_of decoded) ruled.0) before
+    (fault_goes log i item (code_number code) due (decoded_fields decoded) ruled.0) before
 heard_item i log decoded item NoEvent due lists none ruled before =
     let replies = replies_to NoEvent item in
     rw (← append_assoc due replies log.sent)
     (heard_silent log.role i log.received log.sent ((due ++ replies) ++ log.sent) log.reported
     log.reported lists decoded item refl
     (λ gone. gone_more log.role i (item ∷ []) (due ++ replies) log.received log.sent gone)
-    (silent_goes log i item (due ++ replies) (fields_of decoded) ruled.0 ruled.1) before)
+    (silent_goes log i item (due ++ replies) (decoded_fields decoded) ruled.0 ruled.1) before)
 heard_item i log decoded item Reported due lists none ruled before =
     heard_reported log.role i log.received log.sent (due ++ log.sent) log.reported lists
     (log_view log) decoded item
     (λ gone. gone_more log.role i (item ∷ []) due log.received log.sent gone)
-    (nothing_or (Stays log) i item (fields_of decoded) ruled.1) before
+    (nothing_or (Stays log) i item (decoded_fields decoded) ruled.1) before

@@ -27,12 +27,12 @@ use Rattle.h2_log_laws.proofs.LogInduction.{IsLogInvariant, kept_by_logs, Writes
 use Rattle.h2_log_laws.proofs.LogInduction.{no_memory, fails_instead, puts_out}
 use Rattle.h2_end_laws.specs.Sendings.{lists_accepted}
 use Rattle.h2_pair.specs.Tokens.{Token, OctetToken, end_tokens, tokens_of_call, tokens_sent}
+use Rattle.h2_pair.specs.Tokens.{tokens_written}
 use Rattle.h2_pair.proofs.HeardCalls.{silent_lists}
-use Rattle.h2_pair.proofs.HeardTokens.{frame_tokens, item_tokens, tokens_of_items}
 
 -- Items and calls carry the same on the stream.
 abbrev AreTold : ℕ → Log → Type 0
-AreTold i log = tokens_sent i log.calls ≡ tokens_of_items i log.sent (lists_accepted log.calls)
+AreTold i log = tokens_sent i log.calls ≡ tokens_written i log.sent (lists_accepted log.calls)
 
 -- Whether an item carries anything of a message.
 unfoldable carries : Item → Bool
@@ -43,17 +43,17 @@ carries (alone _) = false
 -- An item that carries nothing has no tokens.
 one_untold : (i : ℕ) (item : Item) (sent : List Item) (lists : List (List Field))
     → carries item ≡ false
-    → tokens_of_items i (item ∷ sent) lists ≡ tokens_of_items i sent lists
-unfolding tokens_of_items item_tokens frame_tokens carries
+    → tokens_written i (item ∷ sent) lists ≡ tokens_written i sent lists
+unfolding tokens_written carries
 one_untold i (block stream end octets) sent lists none = absurd (both_ways true none refl)
 one_untold i (alone (Data stream end octets pad)) sent lists none =
     absurd (both_ways true none refl)
-one_untold i (alone frame) sent lists none = append-nil (tokens_of_items i sent lists)
+one_untold i (alone frame) sent lists none = refl
 
 -- Nor have such items.
 more_untold : (i : ℕ) (items sent : List Item) (lists : List (List Field))
     → list_any carries items ≡ false
-    → tokens_of_items i (items ++ sent) lists ≡ tokens_of_items i sent lists
+    → tokens_written i (items ++ sent) lists ≡ tokens_written i sent lists
 more_untold i [] sent lists none = refl
 more_untold i (item ∷ items) sent lists none =
     let parts = or_parts (carries item) (list_any carries items) none in
@@ -97,25 +97,25 @@ body_joined false front back octets end joined = refl
 -- One DATA.
 one_data : (i id : ℕ) (octets : List ℕ) (end : Bool) (sent : List Item)
     (lists : List (List Field))
-    → tokens_of_items i (alone (Data id end octets None) ∷ sent) lists
-    ≡ tokens_of_items i sent lists ++ body_tokens (id == i) octets end
-unfolding tokens_of_items item_tokens frame_tokens
+    → tokens_written i (alone (Data id end octets None) ∷ sent) lists
+    ≡ tokens_written i sent lists ++ body_tokens (id == i) octets end
+unfolding tokens_written
 one_data i id octets end sent lists = refl
 
 -- The last DATA, or one and those after it, by the test.
 frames_by : (i most id : ℕ) (octets : List ℕ) (end b : Bool) (after sent : List Item)
     (lists : List (List Field))
-    → (b ≡ false → tokens_of_items i (after ++ alone (Data id false (take most octets) None) ∷ sent)
-    lists ≡ tokens_of_items i (alone (Data id false (take most octets) None) ∷ sent) lists
+    → (b ≡ false → tokens_written i (after ++ alone (Data id false (take most octets) None) ∷ sent)
+    lists ≡ tokens_written i (alone (Data id false (take most octets) None) ∷ sent) lists
     ++ body_tokens (id == i) (drop most octets) end)
-    → tokens_of_items i ((if b then alone (Data id end octets None) ∷ []
+    → tokens_written i ((if b then alone (Data id end octets None) ∷ []
     else after ++ alone (Data id false (take most octets) None) ∷ []) ++ sent) lists
-    ≡ tokens_of_items i sent lists ++ body_tokens (id == i) octets end
+    ≡ tokens_written i sent lists ++ body_tokens (id == i) octets end
 frames_by i most id octets end true after sent lists before = one_data i id octets end sent lists
 frames_by i most id octets end false after sent lists before =
     let first = alone (Data id false (take most octets) None) in
-    let tokens = tokens_of_items i sent lists in
-    ap (λ (items : List Item). tokens_of_items i items lists)
+    let tokens = tokens_written i sent lists in
+    ap (λ (items : List Item). tokens_written i items lists)
     (append_assoc after (first ∷ []) sent)
     ∙ before refl
     ∙ ap (λ (line : List Token). line ++ body_tokens (id == i) (drop most octets) end)
@@ -128,8 +128,8 @@ frames_by i most id octets end false after sent lists before =
 -- The DATA of octets.
 frames_told : (i count most id : ℕ) (octets : List ℕ) (end : Bool) (sent : List Item)
     (lists : List (List Field)) → 0 < most → length octets < count
-    → tokens_of_items i (data_frames count most id octets end ++ sent) lists
-    ≡ tokens_of_items i sent lists ++ body_tokens (id == i) octets end
+    → tokens_written i (data_frames count most id octets end ++ sent) lists
+    ≡ tokens_written i sent lists ++ body_tokens (id == i) octets end
 unfolding data_frames
 frames_told i zero most id octets end sent lists some enough = absurd (omega arith)
 frames_told i (suc count) most id octets end sent lists some enough =
@@ -162,19 +162,19 @@ none_body b count size octets end none =
 -- The octets of a call, by the test whether there are any.
 items_by : (i : ℕ) (items sent : List Item) (lists : List (List Field)) (tokens : List Token)
     (b : Bool) → (b ≡ true → tokens ≡ [])
-    → tokens_of_items i (items ++ sent) lists ≡ tokens_of_items i sent lists ++ tokens
-    → tokens_of_items i ((if b then [] else items) ++ sent) lists
-    ≡ tokens_of_items i sent lists ++ tokens
+    → tokens_written i (items ++ sent) lists ≡ tokens_written i sent lists ++ tokens
+    → tokens_written i ((if b then [] else items) ++ sent) lists
+    ≡ tokens_written i sent lists ++ tokens
 items_by i items sent lists tokens true none is =
-    sym (append-nil (tokens_of_items i sent lists))
-    ∙ ap (λ (line : List Token). tokens_of_items i sent lists ++ line) (sym (none refl))
+    sym (append-nil (tokens_written i sent lists))
+    ∙ ap (λ (line : List Token). tokens_written i sent lists ++ line) (sym (none refl))
 items_by i items sent lists tokens false none is = is
 
 -- What a call that sends octets writes.
 items_told : (i most id : ℕ) (octets : List ℕ) (end : Bool) (count : ℕ) (sent : List Item)
     (lists : List (List Field)) → 0 < most
-    → tokens_of_items i (data_items most id octets end count ++ sent) lists
-    ≡ tokens_of_items i sent lists
+    → tokens_written i (data_items most id octets end count ++ sent) lists
+    ≡ tokens_written i sent lists
     ++ body_tokens (id == i) (take count octets) (end && count == length octets)
 unfolding data_items
 items_told i most id octets end count sent lists some =
@@ -199,7 +199,7 @@ unfolding tokens_sent
 called_told i log act answer none lists is =
     ap (λ (line : List Token). tokens_sent i log.calls ++ line) none
     ∙ append-nil (tokens_sent i log.calls) ∙ is
-    ∙ ap (λ (line : List (List Field)). tokens_of_items i log.sent line) (sym lists)
+    ∙ ap (λ (line : List (List Field)). tokens_written i log.sent line) (sym lists)
 
 quiet_told : (i : ℕ) (log : Log) (act : Act) (answer : Answer)
     → list_any carries (items_of (log_view log) act answer) ≡ false
@@ -211,8 +211,8 @@ quiet_told i log act answer untold none lists is =
 
 -- Where what a call writes carries the call's tokens.
 wrote_call : (i : ℕ) (log : Log) (act : Act) (answer : Answer) (items : List Item)
-    → tokens_of_items i (items ++ log.sent) (lists_accepted ((act, answer) ∷ log.calls))
-    ≡ tokens_of_items i log.sent (lists_accepted log.calls) ++ tokens_of_call i act answer
+    → tokens_written i (items ++ log.sent) (lists_accepted ((act, answer) ∷ log.calls))
+    ≡ tokens_written i log.sent (lists_accepted log.calls) ++ tokens_of_call i act answer
     → AreTold i log → AreTold i (with_sent (called log act answer) items)
 unfolding with_sent tokens_sent
 wrote_call i log act answer [] same is =
@@ -231,7 +231,7 @@ updates_untold id count false = refl
 accepted_told : (i : ℕ) (log : Log) (act : Act) → AreTold i log
     → AreTold i (with_sent (called log act (answer_of (log_view log) act))
     (items_of (log_view log) act (answer_of (log_view log) act)))
-unfolding items_of lists_accepted tokens_of_call carries tokens_of_items item_tokens
+unfolding items_of lists_accepted tokens_of_call carries tokens_written
 accepted_told i log (Open fields end) is =
     wrote_call i log (Open fields end) (answer_of (log_view log) (Open fields end)) _ refl is
 accepted_told i log (SendFields id fields end) is =
@@ -262,8 +262,7 @@ silent_tokens i _ _ (puts_out count given) = refl
 
 -- What a log sends carries what it was given.
 sends_told : (i : ℕ) (role : Role) (values : Values) → IsLogInvariant role values (AreTold i)
-unfolding opened with_sent lists_accepted tokens_sent tokens_of_items item_tokens frame_tokens
-    carries
+unfolding opened with_sent lists_accepted tokens_sent tokens_written carries
 sends_told i role values =
     record {
       opening = λ in_range. refl;
@@ -286,6 +285,6 @@ sends_told i role values =
 
 -- Every log.
 pub tokens_carried : (i : ℕ) (role : Role) (values : Values) (log : Log) → IsLog role values log
-    → tokens_sent i log.calls ≡ tokens_of_items i log.sent (lists_accepted log.calls)
+    → tokens_sent i log.calls ≡ tokens_written i log.sent (lists_accepted log.calls)
 tokens_carried i role values log is =
     kept_by_logs role values (AreTold i) (sends_told i role values) log is

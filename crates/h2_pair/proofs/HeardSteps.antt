@@ -21,9 +21,8 @@ use Rattle.h2_log.specs.LogCalls.{opened}
 use Rattle.h2_log_laws.proofs.LogGrowth.{Grows, grows_wrote, grows_with_unreturned}
 use Rattle.h2_end_laws.proofs.ReadVerdicts.{says_of}
 use Rattle.h2_end_laws.proofs.ReadingRules.{LogIsLow, rules_say}
-use Rattle.h2_pair.specs.Tokens.{Token, tokens_of_event, tokens_heard}
+use Rattle.h2_pair.specs.Tokens.{Token, tokens_written, tokens_of_event, tokens_heard}
 use Rattle.h2_pair.proofs.FrameSteps.{with_item, has_item, kept_by_step}
-use Rattle.h2_pair.proofs.HeardTokens.{tokens_of_items}
 use Rattle.h2_pair.proofs.HeardReads.{AreHeard, all_heard, some_heard, LogHeard, lists_after}
 use Rattle.h2_pair.proofs.HeardReads.{IsRuled, heard_item, rules_used, says_both, gone_more}
 
@@ -140,5 +139,5 @@ heard_used i log octets unparsed lists is = is
 
 -- A new end has heard nothing.
 pub opened_heard : (i : ℕ) (role : Role) (values : Values) → LogHeard i (opened role values) []
-unfolding opened with_sent tokens_heard tokens_of_items
+unfolding opened with_sent tokens_heard tokens_written
 opened_heard i role values = all_heard refl

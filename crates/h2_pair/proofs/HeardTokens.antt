@@ -1,11 +1,12 @@
 -- The tokens of items, with one list for each field block.
 use Rattle.std.proofs.Common.{map as each, ◌≡◌, ℕ, ◌==◌, if◌then◌else◌, List, [], ◌∷◌, ◌++◌, length}
-use Rattle.std.proofs.Common.{sym, ap, ◌∙◌, append_assoc, append-nil, arith}
+use Rattle.std.proofs.Common.{refl, sym, ap, ◌∙◌, append_assoc, append-nil, arith}
 use Rattle.hpack.specs.declared.types.field.Field.{Field}
 use Rattle.h2_frame.specs.Frames.{Frame, Data}
 use Rattle.h2_block.specs.Grouping.{Item, alone, block}
 use Rattle.h2_pair.specs.HeaderTables.{block_count}
-use Rattle.h2_pair.specs.Tokens.{Token, FieldsToken, OctetToken, end_tokens, IsPrefixOfTokens}
+use Rattle.h2_pair.specs.Tokens.{Token, FieldsToken, OctetToken, end_tokens, tokens_written}
+use Rattle.h2_pair.specs.Tokens.{IsPrefixOfTokens}
 
 -- what a frame that is no part of a field block carries on the stream
 unfoldable pub frame_tokens : ℕ → Frame → List Token
@@ -19,35 +20,36 @@ item_tokens i (block stream end octets) list =
     if stream == i then FieldsToken list end ∷ end_tokens end else []
 item_tokens i (alone frame) list = frame_tokens i frame
 
--- what items carry on the stream, the first token first; the newest item stands first, and so does
--- the list of the newest field block
-unfoldable pub tokens_of_items : ℕ → List Item → List (List Field) → List Token
-tokens_of_items i [] lists = []
-tokens_of_items i (alone frame ∷ items) lists =
-    tokens_of_items i items lists ++ item_tokens i (alone frame) []
-tokens_of_items i (block stream end octets ∷ items) [] = tokens_of_items i items []
-tokens_of_items i (block stream end octets ∷ items) (list ∷ lists) =
-    tokens_of_items i items lists ++ item_tokens i (block stream end octets) list
+-- An item that is no field block adds what its frame carries.
+pub alone_adds : (i : ℕ) (frame : Frame) (items : List Item) (lists : List (List Field))
+    → tokens_written i (alone frame ∷ items) lists
+    ≡ tokens_written i items lists ++ item_tokens i (alone frame) []
+unfolding tokens_written item_tokens frame_tokens
+alone_adds i (Data stream end octets pad) items lists = refl
+alone_adds i frame items lists = sym (append-nil (tokens_written i items lists))
 
 -- Where the newer items have as many lists as blocks, their tokens follow those of the others.
 pub tokens_split : (i : ℕ) (newer older : List Item) (lists others : List (List Field))
     → length lists ≡ block_count newer
-    → tokens_of_items i (newer ++ older) (lists ++ others)
-    ≡ tokens_of_items i older others ++ tokens_of_items i newer lists
-unfolding tokens_of_items block_count
-tokens_split i [] older [] others many = sym (append-nil (tokens_of_items i older others))
+    → tokens_written i (newer ++ older) (lists ++ others)
+    ≡ tokens_written i older others ++ tokens_written i newer lists
+unfolding tokens_written item_tokens block_count
+tokens_split i [] older [] others many = sym (append-nil (tokens_written i older others))
 tokens_split i [] older (list ∷ lists) others many = absurd (omega (arith, many))
 tokens_split i (alone frame ∷ newer) older lists others many =
-    ap (λ (tokens : List Token). tokens ++ item_tokens i (alone frame) [])
+    alone_adds i frame (newer ++ older) (lists ++ others)
+    ∙ ap (λ (tokens : List Token). tokens ++ item_tokens i (alone frame) [])
     (tokens_split i newer older lists others many)
-    ∙ append_assoc (tokens_of_items i older others) (tokens_of_items i newer lists)
+    ∙ append_assoc (tokens_written i older others) (tokens_written i newer lists)
     (item_tokens i (alone frame) [])
+    ∙ ap (λ (tokens : List Token). tokens_written i older others ++ tokens)
+    (sym (alone_adds i frame newer lists))
 tokens_split i (block stream end octets ∷ newer) older [] others many =
     absurd (omega (arith, many))
 tokens_split i (block stream end octets ∷ newer) older (list ∷ lists) others many =
     ap (λ (tokens : List Token). tokens ++ item_tokens i (block stream end octets) list)
     (tokens_split i newer older lists others (omega (arith, many)))
-    ∙ append_assoc (tokens_of_items i older others) (tokens_of_items i newer lists)
+    ∙ append_assoc (tokens_written i older others) (tokens_written i newer lists)
     (item_tokens i (block stream end octets) list)
 
 -- A list is a prefix of itself.

@@ -21,7 +21,8 @@ use Rattle.h2_log_laws.proofs.ReaderStates.{active_from, lasts_from}
 use Rattle.h2_pair.specs.Pairs.{Half, IsPair}
 use Rattle.h2_pair.specs.Undisturbed.{IsUndisturbed, WasAsked}
 use Rattle.h2_pair.specs.Quiet.{IsQuiet, WasReset}
-use Rattle.h2_pair.specs.Tokens.{Token, tokens_sent, tokens_heard, IsPrefixOfTokens}
+use Rattle.h2_pair.specs.Tokens.{Token, tokens_sent, tokens_written, tokens_heard}
+use Rattle.h2_pair.specs.Tokens.{IsPrefixOfTokens}
 use Rattle.h2_pair.proofs.PairLogs.{both_logs}
 use Rattle.h2_pair.proofs.BothWays.{IsDirection, to_server, to_client, ends_of}
 use Rattle.h2_pair.proofs.CarriedOctets.{carried}
@@ -31,7 +32,6 @@ use Rattle.h2_pair.proofs.NamedUnprocessed.{none_above}
 use Rattle.h2_pair.proofs.HeardMessages.{silent_tokens, spoken_opened}
 use Rattle.h2_pair.proofs.FaultsInvariant.{IsAsked, LogIsClean}
 use Rattle.h2_pair.proofs.FaultsOfPairs.{pair_clean}
-use Rattle.h2_pair.proofs.HeardTokens.{tokens_of_items}
 use Rattle.h2_pair.proofs.HeardReads.{AreHeard, all_heard, some_heard}
 use Rattle.h2_pair.proofs.HeardPairs.{is_heard, given_in_order}
 use Rattle.h2_pair.proofs.HeardGoAways.{IsBelow, spoken_below, speaks}
@@ -56,7 +56,7 @@ named_event i event here = absurd (both_ways false refl here)
 -- Where a client has sent no block of a stream, it has sent nothing on it.
 nothing_sent : (i : ℕ) (received sent : List Item) (lists : List (List Field))
     → AllowedHistory Client received sent → list_any (is_block_on i) sent ≡ false
-    → tokens_of_items i sent lists ≡ []
+    → tokens_written i sent lists ≡ []
 nothing_sent i received sent lists history none =
     silent_tokens i sent lists (false_from_ne_true _ (λ spoken.
     both_ways _ none (spoken_opened Client i received sent history spoken).opened))
@@ -172,7 +172,7 @@ none_heard (token ∷ tokens) whole none (rest, is) = absurd (nothing_more (sym 
 server_all : (client server : Log) (i : ℕ) (lists : List (List Field))
     → IsQuietStream client server i
     → AreHeard server.role i server.received server.sent server.reported lists
-    → tokens_heard i server.reported ≡ tokens_of_items i server.received lists
+    → tokens_heard i server.reported ≡ tokens_written i server.received lists
 server_all client server i lists settled (all_heard is) = is
 server_all client server i lists settled (some_heard gone prefix) =
     elim (closed_how server.role i server.sent gone.closed) [
@@ -181,7 +181,7 @@ server_all client server i lists settled (some_heard gone prefix) =
         | inl opened ↦ absurd (cut_off client server i settled
             (used_odd server.role i server.received server.sent gone.used) opened
             (above_server server.role i server.sent settled.server_role above))
-        | inr unopened ↦ none_heard _ _ (ap (λ (items : List Item). tokens_of_items i items lists)
+        | inr unopened ↦ none_heard _ _ (ap (λ (items : List Item). tokens_written i items lists)
             settled.to_server
             ∙ nothing_sent i client.received client.sent lists settled.allowed unopened) prefix
       ]
@@ -191,7 +191,7 @@ server_all client server i lists settled (some_heard gone prefix) =
 client_all : (client server : Log) (i : ℕ) (lists : List (List Field))
     → IsQuietStream client server i
     → AreHeard client.role i client.received client.sent client.reported lists
-    → tokens_heard i client.reported ≡ tokens_of_items i client.received lists
+    → tokens_heard i client.reported ≡ tokens_written i client.received lists
 client_all client server i lists settled (all_heard is) = is
 client_all client server i lists settled (some_heard gone prefix) =
     elim (closed_how client.role i client.sent gone.closed) [
@@ -230,14 +230,14 @@ hears_all : (writer reader : Half) (i : ℕ) → IsDirection writer reader
     → reader.log.received ≡ writer.log.sent
     → ((lists : List (List Field))
     → AreHeard reader.log.role i reader.log.received reader.log.sent reader.log.reported lists
-    → tokens_heard i reader.log.reported ≡ tokens_of_items i reader.log.received lists)
+    → tokens_heard i reader.log.reported ≡ tokens_written i reader.log.received lists)
     → tokens_heard i reader.log.reported ≡ tokens_sent i writer.log.calls
-unfolding tokens_of_items
+unfolding tokens_written
 hears_all writer reader i is all whole =
     let heard = is_heard writer reader is in
     whole heard.lists (heard.heard i)
     ∙ sym (given_in_order i _ _ writer.log reader.log [] (ends_of writer reader is).writer_log
-    (sym all) heard ∙ append-nil (tokens_of_items i reader.log.received heard.lists))
+    (sym all) heard ∙ append-nil (tokens_written i reader.log.received heard.lists))
 
 -- All is heard, at the server and at the client.
 pub server_hears_all : (client_values server_values : Values) (client server : Half) (i : ℕ)

@@ -21,7 +21,7 @@ use Rattle.h2_log.specs.Histories.{IsLog}
 use Rattle.h2_end_laws.proofs.Grouped.{items_grouped, groups_now}
 use Rattle.h2_end_laws.proofs.OutputPrefixes.{output_begins}
 use Rattle.h2_end_laws.proofs.Unread.{reads_fails, reads_unprocessed}
-use Rattle.h2_machine_laws.specs.Machines.{Step, uses_part, ends_frame, meets_fault}
+use Rattle.h2_machine_laws.specs.Machines.{MachineStep, uses_part, ends_frame, meets_fault}
 use Rattle.h2_machine_laws.specs.Machines.{runs_out_of_memory, reports_unprocessed, is_called}
 use Rattle.h2_machine_laws.specs.Machines.{log_after}
 use Rattle.h2_pair.specs.Pairs.{Half}
@@ -102,7 +102,7 @@ frame_step_same_or_up log decoded step up =
     })
 
 -- After a step that is no call.
-pub step_same_or_up : (log : Log) (step : Step) → IsNoCall step → log.failed ≡ None
+pub step_same_or_up : (log : Log) (step : MachineStep) → IsNoCall step → log.failed ≡ None
     → SameOrUp log (log_after log step)
 unfolding log_after used with_frame
 step_same_or_up log (uses_part octets unparsed) none up = inl refl

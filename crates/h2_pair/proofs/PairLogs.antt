@@ -8,14 +8,14 @@ use Rattle.h2_log.specs.Histories.{IsLog, begins as log_begins, took_some, took_
 use Rattle.h2_log.specs.Histories.{ran_out_of_memory, reported_one, called_one, TakesPart}
 use Rattle.h2_log.specs.Histories.{TakesFrame, TakesFault, MayRunOutOfMemory}
 use Rattle.h2_log.proofs.StreamLemmas.{stream_of_log}
-use Rattle.h2_machine_laws.specs.Machines.{Step, uses_part, ends_frame, meets_fault}
+use Rattle.h2_machine_laws.specs.Machines.{MachineStep, uses_part, ends_frame, meets_fault}
 use Rattle.h2_machine_laws.specs.Machines.{runs_out_of_memory, reports_unprocessed, is_called}
 use Rattle.h2_machine_laws.specs.Machines.{MayStep, log_after}
 use Rattle.h2_pair.specs.Pairs.{Half, HalfStep, calls, takes, loses, IsPair, begins, client_steps}
 use Rattle.h2_pair.specs.Pairs.{server_steps}
 
 -- A log comes about by a step that may be the next one, by the role that it has.
-step_of : (role : Role) (values : Values) (log : Log) (step : Step) → log.role ≡ role
+step_of : (role : Role) (values : Values) (log : Log) (step : MachineStep) → log.role ≡ role
     → IsLog role values log → MayStep log step → IsLog role values (log_after log step)
 unfolding MayStep log_after
 step_of role values log (uses_part octets unparsed) own is (up, part) =
@@ -34,7 +34,7 @@ step_of role values log (is_called act answer) own is (typed, may) =
     called_one is act answer typed may
 
 -- A log comes about by a step that may be the next one.
-pub step_comes_about : (role : Role) (values : Values) (log : Log) (step : Step)
+pub step_comes_about : (role : Role) (values : Values) (log : Log) (step : MachineStep)
     → IsLog role values log → MayStep log step → IsLog role values (log_after log step)
 step_comes_about role values log step is may =
     step_of role values log step (stream_of_log role values log is).role is may

@@ -7,7 +7,7 @@ use Rattle.h2_end_laws.specs.Takes.{TakeAnswer, Took, Failed, MayTake, has_faile
 use Rattle.h2_end_laws.specs.Takes.{reports_unprocessed, ends_no_frame, ends_frame, meets_fault}
 use Rattle.h2_end_laws.specs.Takes.{runs_out_of_memory, AnswersFrame}
 use Rattle.h2_machine_laws.specs.Machines as machine
-use Rattle.h2_machine_laws.specs.Machines.{Step, MayStep, log_after}
+use Rattle.h2_machine_laws.specs.Machines.{MachineStep, MayStep, log_after}
 use Rattle.h2_pair.specs.Pairs.{Half, takes, octets_used}
 use Rattle.h2_pair.specs.Steps.{HalfSteps, no_step, then_step, AreUndisturbed, UsesOctets}
 use Rattle.h2_pair.specs.Steps.{TakesInPair}
@@ -43,7 +43,8 @@ uses_none one other piece later answer came used =
     )
 
 -- One step.
-one_step : (one other : Half) (piece later unused : List ℕ) (answer : TakeAnswer) (step : Step)
+one_step : (one other : Half) (piece later unused : List ℕ) (answer : TakeAnswer)
+    (step : MachineStep)
     → one.incoming ≡ piece ++ later → piece ≡ octets_used step ++ unused
     → UsesOctets answer (length (octets_used step)) → MayStep one.log step → IsNoCall step
     → (answer ≢ Failed InternalError → (octets : List ℕ) → step ≢ machine.runs_out_of_memory octets)

@@ -8,7 +8,7 @@ use Rattle.h2_log.specs.Histories.{IsLog}
 use Rattle.h2_log.proofs.StreamLemmas.{Keeps-frame, Keeps-none}
 use Rattle.h2_log_laws.proofs.GrowthBySteps.{HoldsOfReads, holds_used, holds_frame, holds_failure}
 use Rattle.h2_log_laws.proofs.GrowthBySteps.{holds_none}
-use Rattle.h2_machine_laws.specs.Machines.{Step, uses_part, ends_frame, meets_fault}
+use Rattle.h2_machine_laws.specs.Machines.{MachineStep, uses_part, ends_frame, meets_fault}
 use Rattle.h2_machine_laws.specs.Machines.{runs_out_of_memory, reports_unprocessed, is_called}
 use Rattle.h2_machine_laws.specs.Machines.{MayStep, log_after}
 use Rattle.h2_machine_laws.proofs.EveryStep.{every_log_has_machine}
@@ -16,11 +16,12 @@ use Rattle.h2_pair.specs.Pairs.{octets_used}
 use Rattle.h2_pair.proofs.LogOutput.{Adds, adds_reads}
 
 -- The step is no call.
-abbrev pub IsNoCall : Step → Type 0
+abbrev pub IsNoCall : MachineStep → Type 0
 IsNoCall step = (act : Act) (answer : Answer) → step ≢ is_called act answer
 
 -- An end makes such a step as long as it hasn't failed.
-pub step_up : (log : Log) (step : Step) → IsNoCall step → MayStep log step → log.failed ≡ None
+pub step_up : (log : Log) (step : MachineStep) → IsNoCall step → MayStep log step
+    → log.failed ≡ None
 unfolding MayStep
 step_up log (uses_part octets unparsed) none (takes, part) = takes.up
 step_up log (ends_frame octets frame decoded) none (takes, read, sees) = takes.up
@@ -30,7 +31,7 @@ step_up log reports_unprocessed none (up, some) = up
 step_up log (is_called act answer) none may = absurd (none act answer refl)
 
 -- It adds the octets that it uses to the input.
-pub step_input : (log : Log) (step : Step) → IsNoCall step
+pub step_input : (log : Log) (step : MachineStep) → IsNoCall step
     → (log_after log step).input ≡ log.input ++ octets_used step
 unfolding log_after used with_sent
 step_input log (uses_part octets unparsed) none = refl
@@ -42,7 +43,7 @@ step_input log reports_unprocessed none = (Keeps-none log).input ∙ sym (append
 step_input log (is_called act answer) none = absurd (none act answer refl)
 
 -- A relation that holds of each small change holds of the log before it and the log after it.
-pub step_holds : (R : Log → Log → Type 0) → HoldsOfReads R → (log : Log) (step : Step)
+pub step_holds : (R : Log → Log → Type 0) → HoldsOfReads R → (log : Log) (step : MachineStep)
     → IsNoCall step → R log (log_after log step)
 unfolding log_after
 step_holds R holds log (uses_part octets unparsed) none = holds_used R holds log octets unparsed
@@ -59,7 +60,7 @@ step_holds R holds log reports_unprocessed none = holds_none R holds log
 step_holds R holds log (is_called act answer) none = absurd (none act answer refl)
 
 -- It adds octets to the output, and gives none out.
-pub step_adds : (log : Log) (step : Step) → IsNoCall step → Adds log (log_after log step)
+pub step_adds : (log : Log) (step : MachineStep) → IsNoCall step → Adds log (log_after log step)
 step_adds = step_holds Adds adds_reads
 
 -- No more is given out than was written.

@@ -8,11 +8,11 @@ use Rattle.hpack.specs.Blocks.{Block}
 use Rattle.hpack.proofs.BlockLemmas.{one_block_lem}
 use Rattle.h2_block.specs.Grouping.{Item, alone, block}
 use Rattle.h2_log.specs.Items.{total}
-use Rattle.h2_log.specs.Settings.{value_read, own_value, one_ack, settings_count}
+use Rattle.h2_log.specs.Settings.{own_value, one_ack, settings_count}
 use Rattle.h2_log_laws.proofs.ItemLists.{total_one}
+use Rattle.h2_log_laws.proofs.SettingsLists.{own_older}
 use Rattle.h2_log_laws.proofs.WindowsOfTwoEnds.{total-append}
 use Rattle.h2_pair.specs.HeaderTables.{block_count, DecodeInOrder}
-use Rattle.h2_pair.proofs.TablesValues.{up_to_older}
 
 -- There are as many lists as blocks.
 pub lists_counted : (sent : List Item) (count : ℕ) (first : Entries) (items : List Item)
@@ -131,6 +131,6 @@ decode_more newer sent count first (block stream end octets ∷ items) lists las
       decode.3,
       decode_more newer sent count first items decode.1 decode.2 few decode.4,
       subst (λ (limit : ℕ). Block decode.2 limit octets decode.0 last)
-          (ap (value_read 1 4096) (sym (up_to_older (count + total one_ack items) newer sent few)))
+          (sym (own_older 1 4096 (count + total one_ack items) newer sent few))
           decode.5,
     )

@@ -33,7 +33,7 @@ use Rattle.h2_log_laws.proofs.GrowthBySteps.{holds_failure}
 use Rattle.h2_log_laws.proofs.LogHistory.{reported_append}
 use Rattle.h2_end_laws.proofs.ReadVerdicts.{Says, says_of}
 use Rattle.h2_end_laws.proofs.ReadingRules.{IsSeen, rules_see}
-use Rattle.h2_machine_laws.specs.Machines.{Step, uses_part, ends_frame, meets_fault}
+use Rattle.h2_machine_laws.specs.Machines.{MachineStep, uses_part, ends_frame, meets_fault}
 use Rattle.h2_machine_laws.specs.Machines.{runs_out_of_memory, reports_unprocessed, is_called}
 use Rattle.h2_machine_laws.specs.Machines.{MayStep, log_after}
 use Rattle.h2_pair.specs.HeaderTables.{DecodeInOrder}
@@ -244,7 +244,8 @@ unprocessed_in_step log id is =
     record { awaited = omega (arith, is.awaited); read = is.read; decode = is.decode }
 
 -- After a step that is no call.
-pub log_in_step : (log : Log) (step : Step) → IsNoCall step → MayStep log step → HasAwaited log
+pub log_in_step : (log : Log) (step : MachineStep) → IsNoCall step → MayStep log step
+    → HasAwaited log
     → total one_ack (log_after log step).received ≤ settings_count log.sent → LogInStep log
     → LogInStep (log_after log step)
 unfolding MayStep log_after used with_frame frame_step

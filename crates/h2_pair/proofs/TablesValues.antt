@@ -5,10 +5,9 @@ use Rattle.std.proofs.Common.{◌∙◌, inl, inr, arith, length-append}
 use Rattle.h2_frame.specs.Frames.{Settings}
 use Rattle.h2_block.specs.Grouping.{Item, alone, block}
 use Rattle.h2_log.specs.Settings.{value_read, value_after, one_settings, settings_count}
-use Rattle.h2_log.specs.Settings.{up_to_settings, own_value}
+use Rattle.h2_log.specs.Settings.{settings_of, value_after_all, own_value}
 use Rattle.h2_log_laws.proofs.SettingsLists.{settings_or, value_kept, value_changed, settings_one}
-use Rattle.h2_log_laws.proofs.SettingsLists.{up_to_next, up_to_here, count_next, count_none}
-use Rattle.h2_log_laws.proofs.LogHistory.{settings_append}
+use Rattle.h2_log_laws.proofs.SettingsLists.{own_next, own_of_all, count_next, count_none}
 use Rattle.h2_end_laws.specs.Sendings.{settings_received}
 
 -- the table limit after SETTINGS with these pairs, the newest first; 4,096 before any
@@ -77,14 +76,6 @@ limit_read (item ∷ items) = elim (settings_or item) [
   | inr none ↦ rw (value_kept 1 4096 item items none, pairs_kept item items none) (limit_read items)
 ]
 
--- More SETTINGS than were acknowledged change nothing.
-pub up_to_older : (count : ℕ) (newer older : List Item) → count ≤ settings_count older
-    → up_to_settings count (newer ++ older) ≡ up_to_settings count older
-up_to_older count [] older within = refl
-up_to_older count (item ∷ newer) older within =
-    up_to_next count item (newer ++ older) (λ one. omega (arith, settings_append newer older))
-    ∙ up_to_older count newer older within
-
 -- Where the oldest so many of SETTINGS were acknowledged, the limit in force is that after these:
 -- the newest ones may be among them, or not.
 limit_at_settings : (pairs : List (ℕ × ℕ)) (items : List Item) (newer older : List (List (ℕ × ℕ)))
@@ -96,26 +87,20 @@ limit_at_settings pairs items [] older is before =
     let newest = alone (Settings false pairs) in
     let counted = pairs_counted (newest ∷ items) in
     let same = ap length is in
-    ap (value_read 1 4096) (up_to_here (length older) newest items (settings_one pairs)
-    (omega (arith, counted, same, count_next newest items)))
+    own_of_all 1 4096 (length older) (newest ∷ items) (omega (arith, counted, same))
     ∙ limit_read (newest ∷ items) ∙ ap limit_after is
 limit_at_settings pairs items (first ∷ newer) older is before =
     let newest = alone (Settings false pairs) in
     let next = pairs_next pairs items in
     let others : settings_received items ≡ newer ++ older = cc in
     let same = ap length others in
-    ap (value_read 1 4096) (up_to_next (length older) newest items (λ one. omega (
-      arith,
-      same,
-      pairs_counted items,
-      length-append newer older,
-      one,
-    )))
+    own_next 1 4096 (length older) newest items
+    (λ one. omega (arith, same, pairs_counted items, length-append newer older))
     ∙ before newer others
 
 -- Before any the limit is 4,096.
 at_first : own_value 1 4096 0 [] ≡ 4096
-unfolding up_to_settings value_read
+unfolding settings_of value_after_all
 at_first = refl
 
 -- Where the oldest so many of SETTINGS were acknowledged, the limit in force is that after these.
@@ -130,6 +115,6 @@ limit_in_force (item ∷ items) newer older is = elim (settings_or item) [
       rw same (limit_at_settings pairs items newer older (rw same at is)
       (λ newer others. limit_in_force items newer older others))
   | inr none ↦
-      ap (value_read 1 4096) (up_to_next (length older) item items (λ one. absurd (omega arith)))
+      own_next 1 4096 (length older) item items (λ one. absurd (omega arith))
       ∙ limit_in_force items newer older (sym (pairs_kept item items none) ∙ is)
 ]

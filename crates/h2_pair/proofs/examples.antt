@@ -4,6 +4,7 @@
 pub mod Steps
 pub mod SmallPair
 pub mod SmallPairComes
+pub mod WrittenTokens
 pub mod WrittenBlocks
 pub mod TableLimitZero
 pub mod Moves

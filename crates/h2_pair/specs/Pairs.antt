@@ -5,7 +5,7 @@ use Rattle.h2_log.specs.Acts.{Values, AreInRange, Act, Answer, IsTypedAct}
 use Rattle.h2_log.specs.Log.{Log}
 use Rattle.h2_log.specs.LogCalls.{MayAnswer, with_call, opened}
 use Rattle.h2_log.specs.declared.role.Role.TheVariants.{Client, Server}
-use Rattle.h2_machine_laws.specs.Machines.{Step, uses_part, ends_frame, meets_fault}
+use Rattle.h2_machine_laws.specs.Machines.{MachineStep, uses_part, ends_frame, meets_fault}
 use Rattle.h2_machine_laws.specs.Machines.{runs_out_of_memory, reports_unprocessed, is_called}
 use Rattle.h2_machine_laws.specs.Machines.{MayStep, log_after}
 
@@ -26,7 +26,7 @@ abbrev pub given_since : Log → Log → List ℕ
 given_since before after = drop before.given (given_out after)
 
 -- the octets that a step uses
-abbrev pub octets_used : Step → List ℕ
+abbrev pub octets_used : MachineStep → List ℕ
 octets_used (uses_part octets unparsed) = octets
 octets_used (ends_frame octets frame decoded) = octets
 octets_used (meets_fault octets fault) = octets
@@ -43,7 +43,7 @@ pub data HalfStep (one other : Half) : Half → Half → Type 0 where
         incoming = other.incoming ++ given_since one.log (with_call one.log act answer);
       })
   -- Octets were delivered that this end used, or a stream was reported as unprocessed.
-  takes : (step : Step) (rest : List ℕ) → MayStep one.log step
+  takes : (step : MachineStep) (rest : List ℕ) → MayStep one.log step
       → ((act : Act) (answer : Answer) → step ≢ is_called act answer)
       → one.incoming ≡ octets_used step ++ rest
       → HalfStep one other (record one { log = log_after one.log step; incoming = rest }) other

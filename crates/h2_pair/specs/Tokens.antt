@@ -3,6 +3,8 @@ use Rattle.std.specs.Prelude.{map as each, ◌≡◌, ◌≢◌, ◌⊎◌, ℕ,
 use Rattle.std.specs.Prelude.{if◌then◌else◌, List, [], ◌∷◌, ◌++◌, length, take, Option, Some, None}
 use Rattle.std.specs.Prelude.{is_none}
 use Rattle.hpack.specs.declared.types.field.Field.{Field}
+use Rattle.h2_frame.specs.Frames.{Data}
+use Rattle.h2_block.specs.Grouping.{Item, alone, block}
 use Rattle.h2_message.specs.Messages.{SentMessage}
 use Rattle.h2_log.specs.Events.{Event, FieldsEvent, DataEvent}
 use Rattle.h2_log.specs.Acts.{Act, Answer, Open, SendFields, SendData, Number, Count, Done}
@@ -38,6 +40,21 @@ tokens_of_call i act answer = []
 unfoldable pub tokens_sent : ℕ → List (Act × Answer) → List Token
 tokens_sent i [] = []
 tokens_sent i ((act, answer) ∷ calls) = tokens_sent i calls ++ tokens_of_call i act answer
+
+-- What items that were written say of a stream, the first token first: the lists that its field
+-- blocks encode, the octets of its DATA, and the end. `lists`: those that all blocks among the
+-- items encode, of whatever stream; both have the newest first.
+-- rule: 8.1 What was sent on a stream is a prefix of its message
+unfoldable pub tokens_written : ℕ → List Item → (lists : List (List Field)) → List Token
+tokens_written i [] lists = []
+tokens_written i (block stream end octets ∷ items) [] = tokens_written i items []
+tokens_written i (block stream end octets ∷ items) (list ∷ lists) =
+    tokens_written i items lists
+    ++ (if stream == i then FieldsToken list end ∷ end_tokens end else [])
+tokens_written i (alone (Data stream end octets pad) ∷ items) lists =
+    tokens_written i items lists
+    ++ (if stream == i then each OctetToken octets ++ end_tokens end else [])
+tokens_written i (alone frame ∷ items) lists = tokens_written i items lists
 
 -- what an event reports of the stream
 unfoldable pub tokens_of_event : ℕ → Event → List Token

@@ -7,7 +7,7 @@ use Rattle.h2_log.specs.Events.{ResetEvent}
 use Rattle.h2_log.specs.Log.{Log}
 use Rattle.h2_log.specs.LogView.{log_view}
 use Rattle.h2_log.specs.CallRules.{refusal_of, refuse_fault}
-use Rattle.h2_machine_laws.specs.Machines.{Step, runs_out_of_memory}
+use Rattle.h2_machine_laws.specs.Machines.{MachineStep, runs_out_of_memory}
 use Rattle.h2_pair.specs.Pairs.{Half, HalfStep, calls, takes, loses, IsPair, begins, client_steps}
 use Rattle.h2_pair.specs.Pairs.{server_steps}
 

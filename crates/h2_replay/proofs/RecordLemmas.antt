@@ -22,7 +22,7 @@ use Rattle.h2_replay.specs.declared.turns.Answer as answered
 use Rattle.h2_replay.specs.declared.turns.Answer.TheVariants as answers
 use Rattle.h2_replay.specs.Values.{act_value, acts_made, turn_value, answer_turn, call_turn}
 use Rattle.h2_replay.specs.Replay.{each_octet, by_octets, all_by_octets, kept_by_octets}
-use Rattle.h2_replay.specs.Taking.{TakesOctets, IsTakeAnswer, fault_of}
+use Rattle.h2_replay.specs.Taking.{ReplayTakesOctets, IsTakeAnswer, fault_of_answer}
 use Rattle.h2_replay.specs.Calls.{IsCall, call_of, MakesCall, MakesCallOf, answer_value}
 use Rattle.h2_replay.specs.Recording.{Records}
 use Rattle.h2_replay.proofs.StepOutput.{all_joined, writes_call, given_by}
@@ -30,7 +30,7 @@ use Rattle.h2_replay.proofs.TakingLemmas.{kept_more, kept_joined, joined_since}
 
 -- How octets that were taken are answered.
 answered_alike : (answer : answered.Answer) → IsTakeAnswer answer
-    → by_octets (answer_turn answer) ≡ by_octets (TakeAnswered (fault_of answer))
+    → by_octets (answer_turn answer) ≡ by_octets (TakeAnswered (fault_of_answer answer))
 answered_alike answers.Done is = refl
 answered_alike (answers.Fault code) is = refl
 answered_alike (answers.Id id) is = absurd is
@@ -51,7 +51,7 @@ pub take_records : (role : Role) (values : Values) (acts : List ReplayAct) (octe
     (answer : answered.Answer) (old one two three news : List kept.Turn) (conn new : Conn)
     (call last : kept.Turn) → by_octets (turn_value call) ≡ TakeCalled octets ∷ []
     → turn_value last ≡ answer_turn answer → one ≡ old ++ call ∷ [] → two ≡ one ++ news
-    → three ≡ two ++ last ∷ [] → TakesOctets conn octets [] answer news new
+    → three ≡ two ++ last ∷ [] → ReplayTakesOctets conn octets [] answer news new
     → Records role values acts conn old → Records role values (Take octets ∷ acts) new three
 unfolding kept_by_octets
 take_records role values acts octets answer old one two three news conn new call last calls_it
@@ -69,7 +69,7 @@ take_records role values acts octets answer old one two three news conn new call
     all.keeps.same in
     let third : kept_by_octets three
     ≡ ((all_by_octets before.turns ++ TakeCalled octets ∷ []) ++ all_by_octets all.keeps.news)
-    ++ by_octets (TakeAnswered (fault_of answer)) =
+    ++ by_octets (TakeAnswered (fault_of_answer answer)) =
     ap kept_by_octets three_is ∙ kept_more two last
     ∙ ap (λ (t : List Turn). t ++ by_octets (turn_value last)) second
     ∙ ap (λ (t : Turn). ((all_by_octets before.turns ++ TakeCalled octets ∷ [])
@@ -78,15 +78,15 @@ take_records role values acts octets answer old one two three news conn new call
     ++ all_by_octets all.keeps.news) ++ t) (answered_alike answer made.answers) in
     record {
       log = all.after;
-      turns = TakeAnswered (fault_of answer) ∷ all.keeps.news ++ TakeCalled octets
+      turns = TakeAnswered (fault_of_answer answer) ∷ all.keeps.news ++ TakeCalled octets
           ∷ before.turns;
       keeps = record {
-        replay = takes before.keeps.replay octets (fault_of answer) all.all all.keeps.news
+        replay = takes before.keeps.replay octets (fault_of_answer answer) all.all all.keeps.news
             all.keeps.turns;
         same = third
             ∙ append_assoc (all_by_octets before.turns ++ TakeCalled octets ∷ [])
-            (all_by_octets all.keeps.news) (by_octets (TakeAnswered (fault_of answer)))
-            ∙ sym (take_turns octets (fault_of answer) all.keeps.news before.turns);
+            (all_by_octets all.keeps.news) (by_octets (TakeAnswered (fault_of_answer answer)))
+            ∙ sym (take_turns octets (fault_of_answer answer) all.keeps.news before.turns);
       };
       represents = all.represents;
     }

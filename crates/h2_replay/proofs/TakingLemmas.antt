@@ -18,10 +18,10 @@ use Rattle.h2_replay.specs.declared.taking.Taking.{Taking}
 use Rattle.h2_replay.specs.declared.taking.Next.TheVariants as nexts
 use Rattle.h2_replay.specs.declared.turns.Turn.{Turn}
 use Rattle.h2_replay.specs.declared.events.ReplayEvent.{ReplayEvent}
-use Rattle.h2_replay.specs.Values.{event_value, turn_value}
+use Rattle.h2_replay.specs.Values.{replay_event_value, turn_value}
 use Rattle.h2_replay.specs.Replay.{each_octet, by_octets, all_by_octets, kept_by_octets}
 use Rattle.h2_replay.specs.Taking.{answered_by, taken_answer, taken_events, next_by, next_of}
-use Rattle.h2_replay.specs.Taking.{KeepsNews, GoesOn, IsWithin}
+use Rattle.h2_replay.specs.Taking.{KeepsNews, GoesOn, IsWithinPiece}
 use Rattle.h2_replay.proofs.StepTakes.{AddsTake, events_of_answer}
 
 -- One more turn is kept.
@@ -60,7 +60,7 @@ goes_by : (log after : Log) (piece : List ℕ) (used : ℕ) (event : Option Repl
     → used ≤ length piece → GoesOn log piece (next_by fault event used (length piece)) after
 goes_by log after piece used event (Some code) may within = may
 goes_by log after piece used (Some event) None may within =
-    (Some (event_value event), may, within, inr (λ none. cc))
+    (Some (replay_event_value event), may, within, inr (λ none. cc))
 goes_by log after piece used None None may within =
     by_test (nat_lt used (length piece)) refl
   where
@@ -80,17 +80,17 @@ goes_on_of log after piece taking may within =
 
 -- It goes on within the piece.
 within_by : (used size : ℕ) (event : Option ReplayEvent) (fault : Option Code) → used ≤ size
-    → IsWithin (next_by fault event used size) size
+    → IsWithinPiece (next_by fault event used size) size
 within_by used size event (Some code) within = tt
 within_by used size (Some event) None within = within
 within_by used size None None within = by_test (nat_lt used size)
   where
-    by_test : (test : Bool) → IsWithin (if test then nexts.Again used else nexts.Done) size
+    by_test : (test : Bool) → IsWithinPiece (if test then nexts.Again used else nexts.Done) size
     by_test true = within
     by_test false = tt
 
 pub is_within : (taking : Taking) (size : ℕ) → taking.used ≤ size
-    → IsWithin (next_of taking size) size
+    → IsWithinPiece (next_of taking size) size
 is_within taking size within = within_by taking.used size taking.event taking.fault within
 
 -- The events of an answer.

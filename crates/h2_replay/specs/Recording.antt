@@ -19,7 +19,7 @@ pub record Records (role : Role) (values : Values) (acts : List ReplayAct) (conn
   pub represents : ConnRepresents values conn log
 
 -- Whatever replay it was: it is that replay with the act.
-abbrev pub MakesAct : Conn → List Turn → ReplayAct → Conn → List Turn → Type 0
-MakesAct old turns act new kept =
+abbrev pub ReplaysAct : Conn → List Turn → ReplayAct → Conn → List Turn → Type 0
+ReplaysAct old turns act new kept =
     (role : Role) (values : Values) (acts : List ReplayAct) → Records role values acts old turns
     → Records role values (act ∷ acts) new kept

@@ -18,12 +18,12 @@ use Rattle.h2_replay.specs.declared.taking.Next.TheVariants as nexts
 use Rattle.h2_replay.specs.declared.turns.Answer.{Answer}
 use Rattle.h2_replay.specs.declared.turns.Answer.TheVariants as answers
 use Rattle.h2_replay.specs.declared.turns.Turn.{Turn}
-use Rattle.h2_replay.specs.Values.{event_value}
+use Rattle.h2_replay.specs.Values.{replay_event_value}
 use Rattle.h2_replay.specs.Replay.{kept_by_octets, all_by_octets}
 
 -- what a call of `take` answered, by the code with which the connection has failed
 abbrev pub answered_by : Option Code → ℕ → Option ReplayEvent → TakeAnswer
-answered_by None used event = Took used (option_map event_value event)
+answered_by None used event = Took used (option_map replay_event_value event)
 answered_by (Some code) used event = Failed code
 
 abbrev pub taken_answer : Taking → TakeAnswer
@@ -31,7 +31,7 @@ taken_answer taking = answered_by taking.fault taking.used taking.event
 
 -- what it reported
 abbrev pub reported_by : Option Code → Option ReplayEvent → List Event
-reported_by None event = events_answered (option_map event_value event)
+reported_by None event = events_answered (option_map replay_event_value event)
 reported_by (Some code) event = []
 
 abbrev pub taken_events : Taking → List Event
@@ -47,10 +47,10 @@ abbrev pub next_of : Taking → ℕ → Next
 next_of taking size = next_by taking.fault taking.event taking.used size
 
 -- It goes on within a piece of so many octets.
-abbrev pub IsWithin : Next → ℕ → Type 0
-IsWithin (nexts.Again used) size = used ≤ size
-IsWithin nexts.Done size = Unit {0}
-IsWithin (nexts.Failed code) size = Unit {0}
+abbrev pub IsWithinPiece : Next → ℕ → Type 0
+IsWithinPiece (nexts.Again used) size = used ≤ size
+IsWithinPiece nexts.Done size = Unit {0}
+IsWithinPiece (nexts.Failed code) size = Unit {0}
 
 -- Whatever log it represented: the call of `take` may have this answer, has used these octets, and
 -- the connection represents the log with it.
@@ -61,8 +61,8 @@ pub record TakesFrom (values : Values) (log : Log) (piece : List ℕ) (taking : 
   pub input : after.input ≡ log.input ++ take taking.used piece
   pub represents : ConnRepresents values new after
 
-abbrev pub Takes : Conn → List ℕ → Taking → Conn → Type 0
-Takes old piece taking new =
+abbrev pub TakesCall : Conn → List ℕ → Taking → Conn → Type 0
+TakesCall old piece taking new =
     (values : Values) (log : Log) → ConnRepresents values old log
     → TakesFrom values log piece taking new
 
@@ -94,15 +94,15 @@ TakesPiece old piece turns next kept new =
 
 -- the fault of an answer
 -- rule: replay (own) A replay keeps each act, its answer, its octets and its events
-abbrev pub fault_of : Answer → Option Code
-fault_of (answers.Fault code) = Some code
-fault_of answer = None
+abbrev pub fault_of_answer : Answer → Option Code
+fault_of_answer (answers.Fault code) = Some code
+fault_of_answer answer = None
 
 -- Octets are handed to `take` until they are used and nothing is reported, or the connection fails.
 pub record TakesAllOf (values : Values) (log : Log) (octets : List ℕ) (old : List Turn)
     (answer : Answer) (turns : List Turn) (new : Conn) : Type 0 where
   pub after : Log
-  pub all : TakesAll log octets (fault_of answer) after
+  pub all : TakesAll log octets (fault_of_answer answer) after
   pub keeps : KeepsNews log after old turns
   pub represents : ConnRepresents values new after
 
@@ -114,7 +114,7 @@ IsTakeAnswer (answers.Id id) = ⊥
 IsTakeAnswer (answers.Count count) = ⊥
 IsTakeAnswer (answers.Refused refusal) = ⊥
 
-pub record TakesOctets (old : Conn) (octets : List ℕ) (turns : List Turn) (answer : Answer)
+pub record ReplayTakesOctets (old : Conn) (octets : List ℕ) (turns : List Turn) (answer : Answer)
     (kept : List Turn) (new : Conn) : Type 0 where
   pub answers : IsTakeAnswer answer
   pub takes : (values : Values) (log : Log) → ConnRepresents values old log

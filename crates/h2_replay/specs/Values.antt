@@ -33,14 +33,14 @@ acts_made [] = []
 acts_made (act ∷ acts) = acts_made acts ++ act_value act ∷ []
 
 -- an event
-abbrev pub event_value : ReplayEvent → log.Event
-event_value (events.Fields id list end) = log.FieldsEvent id list.items end
-event_value (events.Data id octets flow end) = log.DataEvent id octets.items flow end
-event_value (events.Reset id code ours) = log.ResetEvent id code ours
-event_value (events.GoAway last code) = log.GoAwayEvent last code
-event_value (events.Unprocessed id) = log.UnprocessedEvent id
-event_value events.Acked = log.AckedEvent
-event_value (events.Pong octets) = log.PongEvent octets
+abbrev pub replay_event_value : ReplayEvent → log.Event
+replay_event_value (events.Fields id list end) = log.FieldsEvent id list.items end
+replay_event_value (events.Data id octets flow end) = log.DataEvent id octets.items flow end
+replay_event_value (events.Reset id code ours) = log.ResetEvent id code ours
+replay_event_value (events.GoAway last code) = log.GoAwayEvent last code
+replay_event_value (events.Unprocessed id) = log.UnprocessedEvent id
+replay_event_value events.Acked = log.AckedEvent
+replay_event_value (events.Pong octets) = log.PongEvent octets
 
 -- the turn in which an act begins
 abbrev pub call_turn : ReplayAct → logs.Turn
@@ -61,4 +61,4 @@ turn_value (turns.In octets) = logs.In octets.items
 turn_value (turns.Out octets) = logs.Out octets.items
 turn_value (turns.Call act) = call_turn (act_value act)
 turn_value (turns.Answer answer) = answer_turn answer
-turn_value (turns.Event event) = logs.Happened (event_value event)
+turn_value (turns.Event event) = logs.Happened (replay_event_value event)

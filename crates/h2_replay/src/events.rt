@@ -2,7 +2,7 @@
 
 ghost use Rattle.std.specs.Prelude.{◌≡◌, IfOk};
 ghost use Rattle.h2_conn.specs.Events as conn;
-ghost use Rattle.h2_replay.specs.Values.{event_value};
+ghost use Rattle.h2_replay.specs.Values.{replay_event_value};
 
 use h2_conn::Event;
 use hpack::{Field, FieldList};
@@ -68,7 +68,7 @@ impl ReplayEvent {
     ///
     /// [`AllocError`] where an allocation was refused.
     pub(crate) fn copy_of(alloc: Global, event: Event<'_>) -> Result<ReplayEvent, AllocError>
-        ensures { IfOk result (λ copy. event_value copy ≡ conn.event_value event.entry) }
+        ensures { IfOk result (λ copy. replay_event_value copy ≡ conn.event_value event.entry) }
     {
         Ok(match event {
             Event::Fields { id, list, end } => ReplayEvent::Fields {

@@ -6,7 +6,7 @@ ghost use Rattle.h2_log.specs.LogCalls.{opened};
 ghost use Rattle.h2_conn.specs.Conn.{ConnRepresents};
 ghost use Rattle.h2_replay.specs.Calls.{IsCall};
 ghost use Rattle.h2_replay.specs.Replay.{Replays};
-ghost use Rattle.h2_replay.specs.Recording.{Records, MakesAct};
+ghost use Rattle.h2_replay.specs.Recording.{Records, ReplaysAct};
 ghost use Rattle.h2_replay.specs.Values.{act_value};
 ghost use Rattle.h2_replay.specs.declared.acts.Act.TheVariants as acts;
 
@@ -62,7 +62,7 @@ fn make_act(
     act: Act,
     turns: &mut Vec<Turn>,
 ) -> Result<(), AllocError>
-    ensures { OnOk result (MakesAct conn.old turns.old.items (act_value act) conn.new
+    ensures { OnOk result (ReplaysAct conn.old turns.old.items (act_value act) conn.new
         turns.new.items) }
 {
     match act {
@@ -78,7 +78,7 @@ fn keep_take(
     octets: Vec<u8>,
     turns: &mut Vec<Turn>,
 ) -> Result<(), AllocError>
-    ensures { OnOk result (MakesAct conn.old turns.old.items (act_value (acts.Take octets))
+    ensures { OnOk result (ReplaysAct conn.old turns.old.items (act_value (acts.Take octets))
         conn.new turns.new.items) }
 {
     let mut news = Vec::new(alloc);
@@ -97,7 +97,7 @@ fn keep_call(
     turns: &mut Vec<Turn>,
 ) -> Result<(), AllocError>
     requires { IsCall act }
-    ensures { OnOk result (MakesAct conn.old turns.old.items (act_value act) conn.new
+    ensures { OnOk result (ReplaysAct conn.old turns.old.items (act_value act) conn.new
         turns.new.items) }
 {
     let waited = conn.waiting();

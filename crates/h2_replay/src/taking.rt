@@ -3,8 +3,9 @@
 ghost use Rattle.std.specs.Prelude.{map as each, ◌≡◌, ◌<◌, ◌≤◌, ◌++◌, length, take, IfOk, vec_len};
 ghost use Rattle.h2_log.specs.Acts.{In, Out, Happened};
 ghost use Rattle.h2_replay.specs.Replay.{each_octet, all_by_octets, kept_by_octets};
-ghost use Rattle.h2_replay.specs.Taking.{Takes, TakesPiece, TakesOctets, taken_events, next_of};
-ghost use Rattle.h2_replay.specs.Taking.{IsWithin};
+ghost use Rattle.h2_replay.specs.Taking.{TakesCall, TakesPiece, ReplayTakesOctets, taken_events};
+ghost use Rattle.h2_replay.specs.Taking.{next_of};
+ghost use Rattle.h2_replay.specs.Taking.{IsWithinPiece};
 
 use crate::events::ReplayEvent;
 use crate::turns::{Answer, Turn};
@@ -32,7 +33,7 @@ pub(crate) struct Taking {
 /// memory holds.
 fn take_once(alloc: Global, conn: &mut Conn, piece: &[u8]) -> Result<Taking, AllocError>
     ensures used { IfOk result (λ taking. taking.used ≤ length piece.now) }
-    ensures takes { IfOk result (λ taking. Takes conn.old piece.now taking conn.new) }
+    ensures takes { IfOk result (λ taking. TakesCall conn.old piece.now taking conn.new) }
 {
     let before = conn.place();
     let code = match conn.take(piece) {
@@ -109,7 +110,7 @@ fn take_piece(
     piece: &[u8],
     turns: &mut Vec<Turn>,
 ) -> Result<Next, AllocError>
-    ensures within { IfOk result (λ next. IsWithin next (length piece.now)) }
+    ensures within { IfOk result (λ next. IsWithinPiece next (length piece.now)) }
     ensures longer { IfOk result (λ next. vec_len turns.old < vec_len turns.new) }
     ensures takes { IfOk result (λ next. TakesPiece conn.old piece.now turns.old.items next
         turns.new.items conn.new) }
@@ -135,7 +136,7 @@ pub(crate) fn take_all(
     octets: &[u8],
     turns: &mut Vec<Turn>,
 ) -> Result<Answer, AllocError>
-    ensures { IfOk result (λ answer. TakesOctets conn.old octets.now turns.old.items answer
+    ensures { IfOk result (λ answer. ReplayTakesOctets conn.old octets.now turns.old.items answer
         turns.new.items conn.new) }
 {
     let mut rest = octets;

@@ -8,13 +8,13 @@ use Rattle.h2_show.specs.declared.hexadecimal.HexError.TheVariants.{BadHex, Memo
 
 -- a space, a tab, a line feed or a carriage return
 -- rule: show (own) Hexadecimal is read without its blanks; other text is refused
-abbrev pub is_blank : ℕ → Bool
-is_blank octet = octet == 0x20 || octet == 0x09 || octet == 0x0a || octet == 0x0d
+abbrev pub is_skipped_blank : ℕ → Bool
+is_skipped_blank octet = octet == 0x20 || octet == 0x09 || octet == 0x0a || octet == 0x0d
 
 -- the text without its blanks
 -- rule: show (own) Hexadecimal is read without its blanks; other text is refused
 abbrev pub without_blanks : List ℕ → List ℕ
-without_blanks text = filter (λ octet. not (is_blank octet)) text
+without_blanks text = filter (λ octet. not (is_skipped_blank octet)) text
 
 -- The text is no hexadecimal.
 -- rule: show (own) Hexadecimal is read without its blanks; other text is refused

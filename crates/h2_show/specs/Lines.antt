@@ -59,8 +59,8 @@ list_lines fields =
     else codes "  list too large\n"
 
 -- a lent field, without where its octets lie
-abbrev pub field_of : FieldRef → Field
-field_of field =
+abbrev pub field_lent : FieldRef → Field
+field_lent field =
     record { name = field.name.now; value = field.value.now; sensitive = field.sensitive }
 
 -- the lines of a list, as a decoder answers it

@@ -2,7 +2,8 @@
 
 ghost use Rattle.std.specs.Prelude.{◌≡◌, IfOk, MatchResult, Ok};
 ghost use Rattle.hex.specs.Hex.{decode_of};
-ghost use Rattle.h2_show.specs.Hexadecimal.{is_blank as blank, without_blanks, HexErrorReports};
+ghost use Rattle.h2_show.specs.Hexadecimal.{is_skipped_blank as blank, without_blanks};
+ghost use Rattle.h2_show.specs.Hexadecimal.{HexErrorReports};
 
 use hex::FromHexError;
 use std::alloc::{AllocError, Global};

@@ -1,6 +1,8 @@
 //! Reading an input, in pieces or as hexadecimal text.
 
-ghost use Rattle.std.specs.Prelude.{◌≡◌, ◌<◌, ◌≤◌, length, take, vec_len, Ok, Err, IfOk, IfSome};
+ghost use Rattle.std.specs.Prelude.{◌≡◌, ◌<◌, ◌≤◌, [], length, take, vec_len, Ok, Err, IfOk};
+ghost use Rattle.std.specs.Prelude.{IfSome};
+ghost use Rattle.std.specs.Io.Buffered.{writer_buffer};
 ghost use Rattle.std.specs.Io.KnownBytes.{Consumes, IsAtEnd};
 ghost use Rattle.hex.specs.Hex.{decode_of};
 ghost use Rattle.h2_show.specs.Hexadecimal.{IsBadHex, without_blanks};
@@ -8,7 +10,7 @@ ghost use Rattle.h2_show.specs.Hexadecimal.{IsBadHex, without_blanks};
 use crate::failure::Failure;
 use crate::hexadecimal::from_hex;
 use std::alloc::{AllocError, Global};
-use std::io::{self, ErrorKind, Read};
+use std::io::{self, BufWriter, ErrorKind, Read, Write};
 
 /// How many octets are read at once, and buffered before they are written.
 pub const PIECE: usize = 65_536;
@@ -44,6 +46,30 @@ pub fn read_some<R: Read>(input: &mut R, buffer: &mut [u8]) -> io::Result<usize>
         }
     }
     Err(io::Error::from(ErrorKind::Interrupted))
+}
+
+// contract: show (own) Lines are written before the next read and before the end
+// rule: show (own) Lines are written before the next read and before the end
+/// The same where lines are printed of what was read: all of them have been written. So nothing is
+/// held back while a read waits.
+///
+/// # Errors
+///
+/// Those of the reader.
+pub fn read_next<R: Read, W: Write + Drop>(
+    input: &mut R,
+    buffer: &mut [u8],
+    lines: &BufWriter<W>,
+) -> io::Result<usize>
+    requires written { writer_buffer lines.now ≡ [] }
+    ensures bound { IfOk result (λ count. count ≤ length buffer.new) }
+    ensures octets { IfOk result (λ count.
+        Consumes (R.remaining input.old) (R.remaining input.new) (take count buffer.new)) }
+    ensures end { IfOk result (λ count.
+        count ≡ 0 → 0 < length buffer.old → IsAtEnd (R.remaining input.new)) }
+{
+    prove!(lines.buffer().is_empty());
+    read_some(input, buffer)
 }
 
 // rule: show (own) Hexadecimal is read without its blanks; other text is refused

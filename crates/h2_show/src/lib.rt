@@ -3,7 +3,7 @@
 //!
 //! [`show_input`] reads from any reader and prints to any writer, so tests run it in memory. What
 //! another command that reads an input and prints lines needs stands here too: [`Status`],
-//! [`Failure`], [`Hint`], [`read_some`], [`read_hex`] and [`write_field`].
+//! [`Failure`], [`Hint`], [`read_some`], [`read_next`], [`read_hex`] and [`write_field`].
 #![tactic(auto)]
 
 mod blocks;
@@ -20,7 +20,7 @@ mod viewer;
 pub use failure::Failure;
 pub use hexadecimal::{HexError, from_hex};
 pub use hint::Hint;
-pub use input::{PIECE, new_buffer, read_hex, read_some};
+pub use input::{PIECE, new_buffer, read_hex, read_next, read_some};
 pub use lines::write_field;
 pub use options::{ShowOptions, Side};
 pub use show::{Shown, show_input};

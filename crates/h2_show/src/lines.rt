@@ -10,7 +10,7 @@ ghost use Rattle.h2_frame.specs.Pairs.{lent_pairs};
 ghost use Rattle.h2_show.specs.Lines.{frame_line, frame_words, flag_word, pad_word, pad_octets};
 ghost use Rattle.h2_show.specs.Lines.{hex_octet};
 ghost use Rattle.h2_show.specs.Lines.{hex_digit, is_plain as plain, shown_octet, shown_octets};
-ghost use Rattle.h2_show.specs.Lines.{field_line, field_of, answered_lines};
+ghost use Rattle.h2_show.specs.Lines.{field_line, field_lent, answered_lines};
 
 use h2_frame::{FrameRef, Pairs};
 use hpack::{FieldRef, List};
@@ -269,7 +269,7 @@ pub(crate) fn write_list<W: Write>(list: &List, out: &mut W) -> io::Result<()>
 /// Those of the writer.
 pub fn write_field<W: Write>(field: FieldRef<'_>, out: &mut W) -> io::Result<()>
     ensures { OnOk result (Appends (W.contents out.old) (W.contents out.new)
-        (field_line (field_of field.entry))) }
+        (field_line (field_lent field.entry))) }
 {
     out.write_all(if field.sensitive { b"  !" } else { b"  " })?;
     write_text(field.name, out)?;

@@ -1,7 +1,7 @@
 //! An input, shown to its end.
 
-ghost use Rattle.std.specs.Prelude.{◌≡◌, ◌<◌, ℕ, List, length, [], true, Err};
-ghost use Rattle.std.specs.Prelude.{◌∷◌, option_map, IsOk, IfOk, OnOk, IfErr, IfSome};
+ghost use Rattle.std.specs.Prelude.{◌≡◌, ◌≢◌, ◌<◌, ℕ, List, length, [], true, Err};
+ghost use Rattle.std.specs.Prelude.{◌∷◌, option_map, IfOk, OnOk, IfErr, IfSome};
 ghost use Rattle.std.specs.Io.Buffered.{writer_buffer, writer_contents};
 ghost use Rattle.std.specs.Io.KnownBytes.{Appends};
 ghost use Rattle.h2_show.specs.Hexadecimal.{IsBadHex};
@@ -13,7 +13,7 @@ ghost use Rattle.h2_show.specs.Viewer.{IsStreamFault};
 
 use crate::failure::Failure;
 use crate::hint::Hint;
-use crate::input::{PIECE, new_buffer, read_hex, read_some};
+use crate::input::{PIECE, new_buffer, read_hex, read_next};
 use crate::options::ShowOptions;
 use crate::status::Status;
 use crate::viewer::{ShowError, Viewer};
@@ -71,7 +71,8 @@ impl<W: Write> Write for Lent<'_, W> {
 ///
 /// [`Failure::Device`] where a read or a write failed, [`Failure::Memory`] when out of memory, and
 /// [`Failure::BadHex`] where the input isn't the hexadecimal text that was announced. What was
-/// printed by then is written in any case, unless the writer itself fails.
+/// printed by then is written in any case, unless the writer itself fails: where it does so at the
+/// end, that is [`Failure::Device`], whatever its error.
 pub fn show_input<R: Read, W: Write>(
     alloc: Global,
     options: ShowOptions,
@@ -105,11 +106,14 @@ fn show_lines<R: Read, W: Write + Drop>(
     input: &mut R,
     lines: &mut BufWriter<W>,
 ) -> Result<Shown, Failure>
+    requires { writer_buffer lines.old ≡ [] }
     ensures reports { IfOk result (λ shown. IfSome (R.remaining input.old)
         (λ given. StatusReportsInput options given shown.status)) }
     ensures bad_hex { result ≡ Err Failure.BadHex
         → (options.hex ≡ true) × IfSome (R.remaining input.old) IsBadHex }
-    ensures written { IsOk result → writer_buffer lines.new ≡ [] }
+
+    // Whatever else it ends with, what was printed is written.
+    ensures written { result ≢ Err Failure.Device → writer_buffer lines.new ≡ [] }
     ensures shows { IfOk result (λ shown. IfSome (R.remaining input.old) (λ given.
         (printed : List ℕ) × ShowsInput options given shown.status printed
         × Appends (writer_contents W.contents lines.old) (writer_contents W.contents lines.new)
@@ -119,7 +123,9 @@ fn show_lines<R: Read, W: Write + Drop>(
     if let Err(Failure::Device) = shown {
         return shown;
     }
-    lines.flush()?;
+    if lines.flush().is_err() {
+        return Err(Failure::Device);
+    }
     shown
 }
 
@@ -131,6 +137,7 @@ fn show_given<R: Read, W: Write + Drop>(
     input: &mut R,
     lines: &mut BufWriter<W>,
 ) -> Result<Shown, Failure>
+    requires { writer_buffer lines.old ≡ [] }
     ensures reports { IfOk result (λ shown. IfSome (R.remaining input.old)
         (λ given. StatusReportsInput options given shown.status)) }
     ensures bad_hex { result ≡ Err Failure.BadHex
@@ -157,6 +164,7 @@ fn show_octets<R: Read, W: Write + Drop>(
     input: &mut R,
     lines: &mut BufWriter<W>,
 ) -> io::Result<Shown>
+    requires { writer_buffer lines.old ≡ [] }
     ensures reports { IfOk result (λ shown. IfSome (R.remaining input.old)
         (λ octets. StatusReportsOctets options octets shown.status)) }
     ensures shows { IfOk result (λ shown. IfSome (R.remaining input.old) (λ octets.
@@ -178,7 +186,9 @@ fn show_pieces<R: Read, W: Write + Drop>(
     buffer: &mut [u8],
     lines: &mut BufWriter<W>,
 ) -> io::Result<Shown>
-    requires { 0 < length buffer.old }
+    requires room { 0 < length buffer.old }
+    requires written { writer_buffer lines.old ≡ [] }
+
     // Of a reader whose octets are known, the status reports all of them, whatever pieces it gave.
     ensures reports { IfOk result (λ shown. IfSome (R.remaining input.old)
         (λ octets. StatusReportsAfter viewer.old.cutter viewer.old.blocks octets shown.status)) }
@@ -189,7 +199,7 @@ fn show_pieces<R: Read, W: Write + Drop>(
         printed)) }
 {
     for _ in 0..u64::MAX {
-        let count = read_some(input, buffer)?;
+        let count = read_next(input, buffer, lines)?;
         if count == 0 {
             let status = viewer.show_end(lines)?;
             return Ok(Shown { status, hint: None });

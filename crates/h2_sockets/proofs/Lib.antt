@@ -1,1 +1,6 @@
 pub mod Printing
+mod HeldLemmas
+mod PostedRequest
+mod PostingLemmas
+mod ReadingLemmas
+mod ServingLemmas

@@ -1,7 +1,6 @@
 -- How a location is fetched.
-use Rattle.std.specs.Prelude.{◌≡◌, ◌⊎◌, ℕ, false, List, [], ◌∷◌, codes, string_bytes, None}
+use Rattle.std.specs.Prelude.{◌≡◌, ◌⊎◌, [], ◌∷◌, codes, string_bytes, None}
 use Rattle.std.specs.Prelude.{Result, Err}
-use Rattle.hpack.specs.declared.types.field.Field.{Field}
 use Rattle.h2_log.specs.Acts.{Values}
 use Rattle.h2_message.specs.Messages.{SentMessage}
 use Rattle.h2_link.specs.declared.error.LinkError.{LinkError}

@@ -2,3 +2,4 @@ pub mod Endings
 pub mod Fetching
 pub mod Loopback
 pub mod Printing
+pub mod Serving

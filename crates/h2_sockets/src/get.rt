@@ -1,7 +1,8 @@
 //! Fetching the response to a GET.
 
 ghost use Rattle.std.specs.Prelude.{◌≡◌, ◌<◌, ◌-◌, ◌^◌, IfOk, OnOk, option_map, nat_lt};
-ghost use Rattle.std.specs.Prelude.{◌&&◌, None, if◌then◌else◌, IfErr, List, Option, ℕ};
+ghost use Rattle.std.specs.Prelude.{◌&&◌, ◌⊎◌, None, [], if◌then◌else◌, IfErr, List, Option, ℕ};
+ghost use Rattle.std.specs.Prelude.{string_bytes};
 ghost use Rattle.std.specs.Io.KnownBytes.{Appends};
 ghost use Rattle.std.specs.declared.io.ErrorKind.{ErrorKind};
 ghost use Rattle.http.specs.StatusCode.{reason_phrase};
@@ -36,7 +37,7 @@ pub fn get_location<N: Net>(net: &N, alloc: Global, location: &Location) -> Resu
     ensures gets { GetsLocation location.now (without_hint result) }
     ensures hint { IfErr result HasClientHint }
 {
-    let stream = match TcpStream::connect(net, (location.host.as_str(), location.port)) {
+    let stream = match TcpStream::connect(net, address_of(location)) {
         Ok(stream) => stream,
         Err(fault) => {
             return Err(Ending {
@@ -51,6 +52,15 @@ pub fn get_location<N: Net>(net: &N, alloc: Global, location: &Location) -> Resu
     }
 }
 
+// rule: engines (own) A URL is asked for with GET
+/// The host and the port of a location.
+fn address_of(location: &Location) -> (&str, u16)
+    ensures host { result.0.now ≡ string_bytes location.now.host }
+    ensures port { result.1 ≡ location.now.port }
+{
+    (location.host.as_str(), location.port)
+}
+
 /// Asks over a link, as [`get_over`] does, and sends all that is held for it. Where the fetch fails
 /// the hint says what is likely the cause.
 fn get_with_hint<S: Read + Write + OpenStream>(
@@ -60,6 +70,7 @@ fn get_with_hint<S: Read + Write + OpenStream>(
 ) -> Result<Fetched, Ending>
     requires { link.old.failures ≡ 0 }
     ensures gets { GetsLocation location.now (without_hint result) }
+    ensures sent { (link.new.held.items ≡ []) ⊎ (link.old.failures < link.new.failures) }
     ensures hint { IfErr result (λ ending. (last_error : Option ErrorKind)
         × IsClientHint ending.error link.new.first.items last_error ending.hint) }
 {

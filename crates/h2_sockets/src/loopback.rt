@@ -1,9 +1,13 @@
 //! Both ends in one process, over one connection.
 
-ghost use Rattle.std.specs.Prelude.{◌≡◌, ◌≤◌, ◌<◌, ◌-◌, ◌^◌, length, IfErr, IfOk, OnOk};
+ghost use Rattle.std.specs.Prelude.{◌≡◌, ◌≢◌, ◌≤◌, ◌<◌, ◌-◌, ◌^◌, ℕ, [], length, IfErr, IfOk, OnOk};
+ghost use Rattle.std.specs.Prelude.{Ok};
 ghost use Rattle.std.specs.Io.KnownBytes.{Appends};
 ghost use Rattle.h2_engines.specs.Failures.{failures_at_end};
-ghost use Rattle.h2_sockets.specs.Loopback.{NoneHasFailed};
+ghost use Rattle.h2_engines.specs.WithoutLink.{ClientPutsOut, ServerPutsOut};
+ghost use Rattle.h2_message.specs.Values.{message_value};
+ghost use Rattle.h2_sockets.specs.Loopback.{ExchangesPost, IsPosting, IsSilent, NoneHasFailed};
+ghost use Rattle.h2_sockets.specs.Loopback.{PostsOn, post_request};
 ghost use Rattle.h2_sockets.specs.Printing.{exchange_line};
 
 use crate::get::status_value;
@@ -29,11 +33,13 @@ struct Ends<S> {
     server_link: StreamLink<S>,
 }
 
-/// What is carried in a turn.
+/// What is carried in a round.
 #[derive(Drop)]
 struct Carried {
-    /// What an end writes.
-    written: Vec<u8>,
+    /// What the client writes in its turn.
+    from_client: Vec<u8>,
+    /// What the server writes in its turn.
+    from_server: Vec<u8>,
     /// Room for what the other reads: [`TURN`] octets.
     read: Vec<u8>,
 }
@@ -46,11 +52,15 @@ struct Carried {
 /// # Errors
 ///
 /// N1 where the connection failed or can't be made; N3 where an allocation was refused; N4 where
-/// the response isn't whole at the end. N2, N5, N6 and N7 would be faults of the ends.
-pub fn exchange<N: Net>(net: &N, alloc: Global, count: u32) -> Result<Fetched, LinkError> {
+/// the response isn't whole at the end; N5 also after 2^64 - 1 rounds. N2, N6, N7 and each other N5
+/// would be faults of the ends.
+pub fn exchange<N: Net>(net: &N, alloc: Global, count: u32) -> Result<Fetched, LinkError>
+    ensures { ExchangesPost count result }
+{
     let mut ends = new_ends(net, alloc, count)?;
     let mut carried = Carried {
-        written: Vec::new(alloc),
+        from_client: Vec::new(alloc),
+        from_server: Vec::new(alloc),
         read: room_for_turn(alloc)?,
     };
     if carry_all(&mut ends, &mut carried)? {
@@ -63,7 +73,9 @@ pub fn exchange<N: Net>(net: &N, alloc: Global, count: u32) -> Result<Fetched, L
 // rule: engines (own) h2 loop posts octets, and its line says how many came
 /// Two ends, of which the client is to post so many octets, and their connection.
 fn new_ends<N: Net>(net: &N, alloc: Global, count: u32) -> Result<Ends<N::Stream>, LinkError>
-    ensures { IfOk result NoneHasFailed }
+    ensures failures { IfOk result NoneHasFailed }
+    ensures posts { IfOk result (λ ends. IsPosting count ends.client) }
+    ensures err { IfErr result (λ error. error ≢ LinkError.Refused) }
 {
     let Ok(message) = post_of(alloc, count) else {
         return Err(LinkError::Memory);
@@ -78,23 +90,27 @@ fn new_ends<N: Net>(net: &N, alloc: Global, count: u32) -> Result<Ends<N::Stream
 }
 
 // rule: engines (own) h2 loop posts octets, and its line says how many came
-/// Lets both ends write in turns, until neither does. Answers whether the response is whole.
+/// Lets both ends write in turns, until a round in which neither does. Answers whether the response
+/// is whole.
 fn carry_all<S: Read + Write + OpenStream>(
     ends: &mut Ends<S>,
     carried: &mut Carried,
 ) -> Result<bool, LinkError>
     requires { NoneHasFailed ends.old }
+    ensures posts { (count : ℕ) → IsPosting count ends.old.client
+        → PostsOn count result ends.new.client }
+    ensures silent { OnOk result (IsSilent carried.new) }
 {
     let mut is_whole = false;
     for _ in 0..u64::MAX {
-        let sent = client_turn(ends, carried)?;
-        let (returned, has_ended) = server_turn(ends, carried)?;
+        client_turn(ends, carried)?;
+        let has_ended = server_turn(ends, carried)?;
         is_whole = is_whole || has_ended;
-        if sent == 0 && returned == 0 {
-            break;
+        if carried.from_client.is_empty() && carried.from_server.is_empty() {
+            return Ok(is_whole);
         }
     }
-    Ok(is_whole)
+    Err(LinkError::NoProgress)
 }
 
 // rule: engines (own) h2 loop posts octets, and its line says how many came
@@ -126,17 +142,14 @@ fn write_exchange<W: Write>(count: u32, fetched: &Fetched, out: &mut W) -> io::R
 }
 
 /// The request that posts so many octets.
-fn post_of(alloc: Global, count: u32) -> Result<Message, AllocError> {
-    let fields: [(&[u8], &[u8]); 4] = [
-        (b":method", b"POST"),
-        (b":scheme", b"http"),
-        (b":path", b"/"),
-        (b":authority", b"127.0.0.1"),
-    ];
+fn post_of(alloc: Global, count: u32) -> Result<Message, AllocError>
+    ensures { IfOk result (λ message. message_value message ≡ post_request count) }
+{
     let mut head = Vec::new(alloc);
-    for (name, value) in fields {
-        head.push(Field::copy_of(alloc, name, value, false)?)?;
-    }
+    head.push(Field::copy_of(alloc, b":method", b"POST", false)?)?;
+    head.push(Field::copy_of(alloc, b":scheme", b"http", false)?)?;
+    head.push(Field::copy_of(alloc, b":path", b"/", false)?)?;
+    head.push(Field::copy_of(alloc, b":authority", b"127.0.0.1", false)?)?;
     let mut body = Vec::new(alloc);
     for place in 0..count {
         body.push((place % PERIOD) as u8)?;
@@ -149,7 +162,9 @@ fn post_of(alloc: Global, count: u32) -> Result<Message, AllocError> {
 }
 
 /// Room for what is read in a turn.
-fn room_for_turn(alloc: Global) -> Result<Vec<u8>, LinkError> {
+fn room_for_turn(alloc: Global) -> Result<Vec<u8>, LinkError>
+    ensures { IfErr result (λ error. error ≡ LinkError.Memory) }
+{
     match vec![in alloc; 0u8; TURN] {
         Ok(room) => Ok(room),
         Err(_) => Err(LinkError::Memory),
@@ -161,7 +176,8 @@ fn joined<N: Net>(
     net: &N,
     alloc: Global,
 ) -> Result<(StreamLink<N::Stream>, StreamLink<N::Stream>), LinkError>
-    ensures { IfOk result (λ links. (links.0.failures ≡ 0) × (links.1.failures ≡ 0)) }
+    ensures failures { IfOk result (λ links. (links.0.failures ≡ 0) × (links.1.failures ≡ 0)) }
+    ensures err { IfErr result (λ error. error ≢ LinkError.Refused) }
 {
     let Ok(listener) = TcpListener::bind(net, SocketAddr::from((Ipv4Addr::LOCALHOST, 0))) else {
         return Err(LinkError::Device);
@@ -181,53 +197,67 @@ fn joined<N: Net>(
     ))
 }
 
-/// The client writes, and the server takes that. Answers how many octets it was.
+/// The client writes, and the server takes that.
 fn client_turn<S: Read + Write + OpenStream>(
     ends: &mut Ends<S>,
     carried: &mut Carried,
-) -> Result<usize, LinkError>
+) -> Result<(), LinkError>
     requires { NoneHasFailed ends.old }
-    ensures { OnOk result (NoneHasFailed ends.new) }
+    ensures failures { OnOk result (NoneHasFailed ends.new) }
+    ensures posts { (count : ℕ) → IsPosting count ends.old.client
+        → PostsOn count result ends.new.client }
+    ensures puts { OnOk result ((count : ℕ) × ClientPutsOut ends.old.client ends.new.client TURN
+        [] carried.new.from_client.items (Ok count)) }
 {
-    carried.written.clear();
-    ends.client.put_out(TURN, &mut carried.written)?;
-    let count = carry(&mut ends.client_link, &mut ends.server_link, carried)?;
+    carried.from_client.clear();
+    ends.client.put_out(TURN, &mut carried.from_client)?;
+    let (from, to) = (&mut ends.client_link, &mut ends.server_link);
+    let count = carry(from, to, &carried.from_client, &mut carried.read)?;
     ends.server.take_in(&carried.read[..count])?;
-    Ok(count)
+    Ok(())
 }
 
-/// The server writes, and the client takes that. Answers how many octets it was, and whether the
-/// response has become whole.
+/// The server writes, and the client takes that. Answers whether the response has become whole.
 fn server_turn<S: Read + Write + OpenStream>(
     ends: &mut Ends<S>,
     carried: &mut Carried,
-) -> Result<(usize, bool), LinkError>
+) -> Result<bool, LinkError>
     requires { NoneHasFailed ends.old }
-    ensures { OnOk result (NoneHasFailed ends.new) }
+    ensures failures { OnOk result (NoneHasFailed ends.new) }
+    ensures posts { (count : ℕ) → IsPosting count ends.old.client
+        → PostsOn count result ends.new.client }
+    ensures puts { OnOk result ((count : ℕ) × ServerPutsOut ends.old.server ends.new.server TURN
+        [] carried.new.from_server.items (Ok count)) }
+    ensures kept { carried.new.from_client ≡ carried.old.from_client }
 {
-    carried.written.clear();
-    ends.server.put_out(TURN, &mut carried.written)?;
-    let count = carry(&mut ends.server_link, &mut ends.client_link, carried)?;
+    carried.from_server.clear();
+    ends.server.put_out(TURN, &mut carried.from_server)?;
+    let (from, to) = (&mut ends.server_link, &mut ends.client_link);
+    let count = carry(from, to, &carried.from_server, &mut carried.read)?;
     let is_whole = ends.client.take_in(&carried.read[..count])?;
-    Ok((count, is_whole))
+    Ok(is_whole)
 }
 
-/// Writes octets at one side of a connection, and reads as many at the other. Answers how many.
+/// Writes octets at one side of a connection, as many as there is room for, and reads as many at
+/// the other. Answers how many.
 fn carry<S: Read + Write + OpenStream>(
     from: &mut StreamLink<S>,
     to: &mut StreamLink<S>,
-    carried: &mut Carried,
+    octets: &[u8],
+    room: &mut [u8],
 ) -> Result<usize, LinkError>
     requires { (from.old.failures ≡ 0) × (to.old.failures ≡ 0) }
     ensures failures { OnOk result ((from.new.failures ≡ 0) × (to.new.failures ≡ 0)) }
-    ensures within { IfOk result (λ count. count ≤ length carried.new.read.items) }
+    ensures length { length room.new ≡ length room.old }
+    ensures within { IfOk result (λ count. count ≤ length room.new) }
+    ensures err { IfErr result (λ error. error ≢ LinkError.Refused) }
 {
-    let count = carried.written.len().min(carried.read.len());
-    write_all(from, &carried.written[..count])?;
+    let count = octets.len().min(room.len());
+    write_all(from, &octets[..count])?;
     let Ok(()) = from.flush() else {
         return Err(LinkError::Device);
     };
-    read_all(to, &mut carried.read[..count])?;
+    read_all(to, &mut room[..count])?;
     Ok(count)
 }
 
@@ -235,13 +265,12 @@ fn carry<S: Read + Write + OpenStream>(
 fn read_all<L: Link>(link: &mut L, room: &mut [u8]) -> Result<(), LinkError>
     requires { L.faults link.old < 2 ^ 64 - 1 }
     ensures length { length room.new ≡ length room.old }
+    ensures filled { OnOk result (Appends (L.given link.old) (L.given link.new) room.new) }
     ensures failures { L.faults link.new ≡ failures_at_end (L.faults link.old) result }
+    ensures err { IfErr result (λ error. error ≢ LinkError.Refused) }
 {
-    let mut filled = 0usize;
-    for _ in 0..room.len() {
-        if filled == room.len() {
-            break;
-        }
+    let mut filled = 0;
+    while filled < room.len() {
         match link.read(&mut room[filled..]) {
             Ok(0) => return Err(LinkError::CutOff),
             Ok(count) => filled += count,

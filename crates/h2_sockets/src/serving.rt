@@ -5,8 +5,10 @@ ghost use Rattle.h2_link.specs.declared.error.LinkError.{LinkError as Reason};
 ghost use Rattle.h2_engines.specs.Failures.{EndsServing};
 ghost use Rattle.h2_engines.specs.Linked.{traffic};
 ghost use Rattle.h2_engines.specs.Serves.{Serves};
-ghost use Rattle.h2_sockets.specs.Endings.{EndsStream, IsServerHint, IsServingStatus};
+ghost use Rattle.h2_sockets.specs.Endings.{DrainsAfter, EndsStream, FailsByLink, IsServerHint};
+ghost use Rattle.h2_sockets.specs.Endings.{IsServingStatus, without_hint};
 ghost use Rattle.h2_sockets.specs.Fetching.{default_values};
+ghost use Rattle.h2_sockets.specs.Serving.{ServesConnection, ServesConnections, ServesPort};
 
 use crate::ending::{Ending, report, server_hint};
 use h2_engines::{Config, LinkError, serve_link};
@@ -17,7 +19,7 @@ use std::alloc::Global;
 use std::io::{Read, Write};
 use std::net::{Ipv4Addr, Net, OpenListener, OpenStream, SocketAddr, TcpListener};
 
-// rule (tested): engines (own) h2 serve serves so many connections, one after another
+// rule: engines (own) h2 serve serves so many connections, one after another
 /// Serves so many connections to a port of 127.0.0.1, one after another, as [`serve_link`] does
 /// with the default [`Config`], and answers the status of the first that ended early, or
 /// [`Status::Good`].
@@ -31,7 +33,8 @@ pub fn serve_port<N: Net, E: Write>(
     count: u16,
     err: &mut E,
 ) -> Status
-    ensures { IsServingStatus result }
+    ensures status { IsServingStatus result }
+    ensures serves { ServesPort count result }
 {
     match TcpListener::bind(net, SocketAddr::from((Ipv4Addr::LOCALHOST, port))) {
         Ok(listener) => serve_connections(alloc, &listener, count, err),
@@ -43,7 +46,7 @@ pub fn serve_port<N: Net, E: Write>(
     }
 }
 
-// rule (tested): engines (own) h2 serve serves so many connections, one after another
+// rule: engines (own) h2 serve serves so many connections, one after another
 /// Serves so many connections that a listener accepts, as [`serve_port`] does. One that can't be
 /// accepted counts as one that ended with N1.
 pub fn serve_connections<L: OpenListener, E: Write>(
@@ -54,10 +57,11 @@ pub fn serve_connections<L: OpenListener, E: Write>(
 ) -> Status
 where
     L::Stream: Read + Write + OpenStream,
-    ensures { IsServingStatus result }
+    ensures status { IsServingStatus result }
+    ensures serves { ServesConnections count result }
 {
     let mut status = Status::Good;
-    for _ in 0..count {
+    for _place in 0..count {
         if let Err(ending) = serve_next(alloc, listener) {
             let of_error = report(ending, err);
             if status == Status::Good {
@@ -72,7 +76,8 @@ where
 fn serve_next<L: OpenListener>(alloc: Global, listener: &L) -> Result<(), Ending>
 where
     L::Stream: Read + Write + OpenStream,
-    ensures { IfErr result (λ ending. EndsServing ending.error) }
+    ensures err { IfErr result (λ ending. EndsServing ending.error) }
+    ensures serves { ServesConnection (without_hint result) }
 {
     let stream = match listener.accept() {
         Ok((stream, _)) => stream,
@@ -89,14 +94,19 @@ where
     }
 }
 
-/// Serves one connection, as [`serve_stream`] does. Where it ends early the hint says what is likely
-/// the cause.
+/// Serves one connection, as [`serve_stream`] does. Where it ends early the hint says what is
+/// likely the cause.
 fn serve_with_hint<S: Read + Write + OpenStream>(
     alloc: Global,
     link: &mut StreamLink<S>,
 ) -> Result<(), Ending>
     requires { link.old.failures ≡ 0 }
+    ensures serves { (served : Outcome ℕ Reason) × EndsStream served (without_hint result)
+        × Serves default_values (traffic None None link.old.stalled)
+        (traffic None None link.new.stalled) served }
     ensures ended { OnOk result (link.new.ended ≡ true) }
+    ensures failures { FailsByLink link.old.failures link.new.failures (without_hint result) }
+    ensures drained { DrainsAfter (without_hint result) link.new.drained }
     ensures err { IfErr result (λ ending. EndsServing ending.error) }
     ensures hint { IfErr result (λ ending. IsServerHint ending.error link.new.first.items
         link.new.last_error ending.hint) }
@@ -110,7 +120,8 @@ fn serve_with_hint<S: Read + Write + OpenStream>(
     }
 }
 
-// rule (tested): engines (own) After N2 and N3 input is dropped up to 16 MiB
+// contract: engines (own) After N2 and N3 input is dropped up to 16 MiB
+// rule: engines (own) After N2 and N3 input is dropped up to 16 MiB
 /// Serves one connection, and sends all that is held for it. After N2 and N3 the peer has the time
 /// to read the GOAWAY.
 fn serve_stream<S: Read + Write + OpenStream>(
@@ -122,6 +133,8 @@ fn serve_stream<S: Read + Write + OpenStream>(
         × Serves default_values (traffic None None link.old.stalled)
         (traffic None None link.new.stalled) served }
     ensures ended { OnOk result (link.new.ended ≡ true) }
+    ensures failures { FailsByLink link.old.failures link.new.failures result }
+    ensures drained { DrainsAfter result link.new.drained }
     ensures err { IfErr result EndsServing }
 {
     let served = serve_link(alloc, link, Config::default());

@@ -7,8 +7,8 @@ use Rattle.h2_stream_link.specs.declared.stream_link.StreamLink.{StreamLink}
 
 -- the octets that a link has taken: what its stream holds, where that is known, and what is held
 -- rule: engines (own) A link over TCP holds 65,536 octets at most, then sends them
-abbrev pub octets_taken : {S : Type 0} → (S → Option (List ℕ)) → StreamLink S → Option (List ℕ)
-octets_taken contents link = append_known (contents link.stream) link.held.items
+abbrev pub octets_passed : {S : Type 0} → (S → Option (List ℕ)) → StreamLink S → Option (List ℕ)
+octets_passed contents link = append_known (contents link.stream) link.held.items
 
 -- Some first octets of those held were sent, or none or all, and the others are held.
 -- rule: engines (own) A link over TCP sends octets in order and once
@@ -21,10 +21,10 @@ pub record SendsFirst (before after : Option (List ℕ)) (held held_now : List �
 -- All octets held were sent; or sending has failed, and some octets are still held.
 -- rule: engines (own) A link over TCP holds 65,536 octets at most, then sends them
 -- rule: engines (own) A link over TCP sends octets in order and once
-abbrev pub Sends : (before after : Option (List ℕ)) → Result (Unit {0}) LinkFault
+abbrev pub SendsThrough : (before after : Option (List ℕ)) → Result (Unit {0}) LinkFault
     → (held held_now : List ℕ) → Type 0
-Sends before after (Ok done) held held_now = Appends before after held × (held_now ≡ [])
-Sends before after (Err fault) held held_now =
+SendsThrough before after (Ok done) held held_now = Appends before after held × (held_now ≡ [])
+SendsThrough before after (Err fault) held held_now =
     SendsFirst before after held held_now × (0 < length held_now)
 
 -- All octets held were sent, and the next ones of the stream were then read to the front of the
@@ -39,11 +39,12 @@ pub record ReadsNext {S : Type 0} (contents remaining : S → Option (List ℕ))
 
 -- A read sent all octets held before it; one that failed sent some first ones, or none or all.
 -- rule: engines (own) A link over TCP holds 65,536 octets at most, then sends them
-abbrev pub Reads : {S : Type 0} → (contents remaining : S → Option (List ℕ)) → (before after : S)
+abbrev pub ReadsThrough : {S : Type 0} → (contents remaining : S → Option (List ℕ))
+    → (before after : S)
     → Result ℕ LinkFault → (held held_now buffer : List ℕ) → Type 0
-Reads contents remaining before after (Ok count) held held_now buffer =
+ReadsThrough contents remaining before after (Ok count) held held_now buffer =
     ReadsNext contents remaining before after held count buffer × (held_now ≡ [])
-Reads {S = S} contents remaining before after (Err fault) held held_now buffer =
+ReadsThrough {S = S} contents remaining before after (Err fault) held held_now buffer =
     (between : S) × SendsFirst (contents before) (contents between) held held_now
 
 -- Of the first octets that are kept, with those of a piece: as many as are missing to 24; or none,

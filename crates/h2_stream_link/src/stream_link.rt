@@ -1,10 +1,11 @@
 //! A link over a TCP stream.
 
-ghost use Rattle.std.specs.Prelude.{◌≡◌, ◌⊎◌, ◌<◌, ◌≤◌, ◌-◌, ◌^◌, None, [], length, IfOk, IfErr, OnOk};
-ghost use Rattle.std.specs.Prelude.{false};
+ghost use Rattle.std.specs.Prelude.{◌≡◌, ◌⊎◌, ◌<◌, ◌≤◌, ◌-◌, ◌^◌, None, [], length, IfOk, IfErr};
+ghost use Rattle.std.specs.Prelude.{OnOk};
+ghost use Rattle.std.specs.Prelude.{true, false};
 ghost use Rattle.std.specs.Io.KnownBytes.{Appends};
 ghost use Rattle.h2_link.specs.Links.{failures_after, ended_after, stalled_after, Gives, Takes};
-ghost use Rattle.h2_stream_link.specs.StreamLinks.{octets_taken, Sends, Reads};
+ghost use Rattle.h2_stream_link.specs.StreamLinks.{octets_passed, SendsThrough, ReadsThrough};
 ghost use Rattle.h2_stream_link.specs.StreamLinks.{KeepsRead};
 
 use crate::sending::{MOST_FIRST, keep_first, remove_first, send};
@@ -38,6 +39,7 @@ pub struct StreamLink<S> {
     failures: u64,
     first: Vec<u8>,
     last_error: Option<ErrorKind>,
+    drained: bool,
 }
 
 impl<S: Read + Write + OpenStream> StreamLink<S> {
@@ -59,6 +61,7 @@ impl<S: Read + Write + OpenStream> StreamLink<S> {
         ensures failures { IfOk result (λ link. link.failures ≡ 0) }
         ensures ended { IfOk result (λ link. link.ended ≡ false) }
         ensures stalled { IfOk result (λ link. link.stalled ≡ false) }
+        ensures drained { IfOk result (λ link. link.drained ≡ false) }
         ensures err { IfErr result (λ error. (error ≡ LinkError.Device)
             ⊎ (error ≡ LinkError.Memory)) }
     {
@@ -79,6 +82,7 @@ impl<S: Read + Write + OpenStream> StreamLink<S> {
             failures: 0,
             first,
             last_error: None,
+            drained: false,
         })
     }
 
@@ -104,6 +108,13 @@ impl<S: Read + Write + OpenStream> StreamLink<S> {
         self.last_error
     }
 
+    /// Whether [`StreamLink::drain`] was called.
+    pub fn is_drained(&self) -> bool
+        ensures { result ≡ self.now.drained }
+    {
+        self.drained
+    }
+
     // rule: engines (own) A link over TCP holds 65,536 octets at most, then sends them
     // rule: engines (own) A link over TCP sends octets in order and once
     // rule: engines (own) A link over TCP counts the calls that have failed
@@ -116,7 +127,8 @@ impl<S: Read + Write + OpenStream> StreamLink<S> {
     /// the others, one at least, stay held.
     pub fn flush(&mut self) -> Result<(), LinkFault>
         requires { self.old.failures < 2 ^ 64 - 1 }
-        ensures sends { Sends (S.contents self.old.stream) (S.contents self.new.stream) result
+        ensures sends { SendsThrough (S.contents self.old.stream)
+            (S.contents self.new.stream) result
             self.old.held.items self.new.held.items }
         ensures failures { self.new.failures ≡ failures_after self.old.failures result }
         ensures ended { self.new.ended ≡ self.old.ended }
@@ -134,11 +146,14 @@ impl<S: Read + Write + OpenStream> StreamLink<S> {
         Err(LinkFault)
     }
 
-    // rule (tested): engines (own) After N2 and N3 input is dropped up to 16 MiB
+    // rule: engines (own) After N2 and N3 input is dropped up to 16 MiB
     /// Ends what is written, and reads and drops what comes until the peer ends too, at most 16
     /// MiB. A stream that is closed while octets are unread resets the connection, and then the
     /// peer may lose what was sent last. What is held isn't sent.
-    pub fn drain(&mut self) {
+    pub fn drain(&mut self)
+        ensures { self.new ≡ record self.old { stream = self.new.stream; drained = true } }
+    {
+        self.drained = true;
         if self.stream.shutdown(Shutdown::Write).is_err() {
             return;
         }
@@ -177,7 +192,7 @@ impl<S: Read + Write + OpenStream> Link for StreamLink<S> {
             ≡ ended_after self.old.ended (length buffer.old) result }
         ensures stalled { self.new.stalled ≡ self.old.stalled }
         ensures failures { self.new.failures ≡ failures_after self.old.failures result }
-        ensures reads { Reads S.contents S.remaining self.old.stream self.new.stream result
+        ensures reads { ReadsThrough S.contents S.remaining self.old.stream self.new.stream result
             self.old.held.items self.new.held.items buffer.new }
         ensures first { KeepsRead self.old.first.items result buffer.new self.new.first.items }
         ensures last_error { OnOk result (self.new.last_error ≡ self.old.last_error) }
@@ -207,7 +222,8 @@ impl<S: Read + Write + OpenStream> Link for StreamLink<S> {
         ensures stalled { self.new.stalled
             ≡ stalled_after self.old.stalled (length octets.now) result }
         ensures failures { self.new.failures ≡ failures_after self.old.failures result }
-        ensures holds { Takes (octets_taken S.contents self.old) (octets_taken S.contents self.new)
+        ensures holds { Takes (octets_passed S.contents self.old)
+            (octets_passed S.contents self.new)
             result octets.now }
         ensures bounded { length self.old.held.items ≤ 65536
             → length self.new.held.items ≤ 65536 }

@@ -10,16 +10,16 @@ use Rattle.std.specs.BTreeMap.Range.{IsRangeOf}
 use Rattle.std.specs.declared.ops.Bound.TheVariants.{Excluded, Unbounded}
 use Rattle.std.specs.Option.{is_some}
 use Rattle.std.proofs.lemmas.Bool.{both_ways, ltb-true}
-use Rattle.h2_machine.specs.End.{Entry, active_entry, reset_entry, StreamMap}
+use Rattle.h2_machine.specs.End.{StreamEntry, active_entry, reset_entry, StreamMap}
 use Rattle.h2_machine.specs.Machine.{first_active, is_active_entry}
-use Rattle.h2_streams.specs.Table.{view_of_kept, kept_at, is_reset, IsKeptWell}
+use Rattle.h2_streams.specs.Table.{view_of_kept, active_at, is_reset, IsKeptWell}
 use Rattle.h2_streams.specs.declared.table.Kept.{Kept}
 use Rattle.h2_streams.proofs.KeptEntries.{entry_at, get_kept}
 use Rattle.h2_machine.proofs.SortedEntries.{first_found, first_least, two_least}
 use Rattle.h2_streams.proofs.TableSteps.{streams}
 
 -- What is found and active is an active stream.
-kept_by : (send recv : ℕ) (b : Bool) (kept : Option Kept) (x : Entry)
+kept_by : (send recv : ℕ) (b : Bool) (kept : Option Kept) (x : StreamEntry)
     → entry_at send recv b kept ≡ Some x → is_active_entry x ≡ true → IsSome kept
 kept_by send recv true kept x is alive =
     let same : reset_entry ≡ x = cc in absurd (both_ways false refl (rw (← same) at alive))
@@ -29,14 +29,14 @@ kept_by send recv false (Some kept) x is alive = refl
 -- The first active number of a table is among its active streams.
 first_kept : (send recv above : ℕ) (entries : List (ℕ × Kept)) (numbers : List ℕ)
     → first_active above (map.entries (streams send recv entries numbers)) ≢ 0
-    → IsSome (kept_at (first_active above (map.entries (streams send recv entries numbers)))
+    → IsSome (active_at (first_active above (map.entries (streams send recv entries numbers)))
     entries)
     × (above < first_active above (map.entries (streams send recv entries numbers)))
 first_kept send recv above entries numbers some =
     let m : StreamMap = streams send recv entries numbers in
     let n : ℕ = first_active above (map.entries m) in
     let f = first_found above (map.entries m) (map.entries_sorted m) some in (
-      kept_by send recv (is_reset n numbers) (kept_at n entries) f.x
+      kept_by send recv (is_reset n numbers) (active_at n entries) f.x
           (sym (get_kept send recv n entries numbers) ∙ map.get-entries m n ∙ f.found) f.active,
       ltb-true above n f.higher,
     )
@@ -44,7 +44,7 @@ first_kept send recv above entries numbers some =
 -- An active stream is found.
 found_by : (send recv : ℕ) (b : Bool) (kept : Option Kept) → (IsSome kept → b ≡ false)
     → IsSome kept
-    → (x : Entry) × (entry_at send recv b kept ≡ Some x) × (is_active_entry x ≡ true)
+    → (x : StreamEntry) × (entry_at send recv b kept ≡ Some x) × (is_active_entry x ≡ true)
 found_by send recv true kept apart some = absurd (both_ways true (apart some) refl)
 found_by send recv false None apart some = absurd (both_ways false refl some)
 found_by send recv false (Some kept) apart some =
@@ -52,12 +52,12 @@ found_by send recv false (Some kept) apart some =
 
 -- The least number of the active streams above another is the first active one.
 pub least_is_first : (send recv above n : ℕ) (entries : List (ℕ × Kept)) (numbers : List ℕ)
-    → IsKeptWell entries numbers → above < n → IsSome (kept_at n entries)
-    → ((q : ℕ) → above < q → IsSome (kept_at q entries) → n ≤ q)
+    → IsKeptWell entries numbers → above < n → IsSome (active_at n entries)
+    → ((q : ℕ) → above < q → IsSome (active_at q entries) → n ≤ q)
     → n ≡ first_active above (map.entries (streams send recv entries numbers))
 least_is_first send recv above n entries numbers well higher some least =
     let m : StreamMap = streams send recv entries numbers in
-    let f = found_by send recv (is_reset n numbers) (kept_at n entries) (well.apart n) some in
+    let f = found_by send recv (is_reset n numbers) (active_at n entries) (well.apart n) some in
     two_least n (first_active above (map.entries m))
     (λ _. first_least above n (map.entries m) f.0 (map.entries_sorted m)
     (sym (map.get-entries m n) ∙ get_kept send recv n entries numbers ∙ f.1) f.2 higher)
@@ -69,7 +69,7 @@ least_is_first send recv above n entries numbers well higher some least =
 
 -- Where no stream above a number is active, there is no first one.
 pub none_is_first : (send recv above : ℕ) (entries : List (ℕ × Kept)) (numbers : List ℕ)
-    → ((q : ℕ) → above < q → kept_at q entries ≡ None)
+    → ((q : ℕ) → above < q → active_at q entries ≡ None)
     → 0 ≡ first_active above (map.entries (streams send recv entries numbers))
 none_is_first send recv above entries numbers none =
     let m : StreamMap = streams send recv entries numbers in

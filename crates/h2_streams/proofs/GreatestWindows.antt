@@ -12,10 +12,10 @@ use Rattle.std.specs.FinMap as map
 use Rattle.std.proofs.lemmas.Int.{ints}
 use Rattle.std.proofs.lemmas.Bool.{both_ways, ltb-true, ltb-false}
 use Rattle.std.proofs.lemmas.Map.Entries.{place_from_lookup, btree_map_get_place}
-use Rattle.h2_machine.specs.End.{Entry, active_entry, reset_entry, StreamMap, any_above}
+use Rattle.h2_machine.specs.End.{StreamEntry, active_entry, reset_entry, StreamMap, any_above}
 use Rattle.h2_machine.specs.End.{above_by_shift}
 use Rattle.h2_streams.specs.Streams.{is_above_by_shift}
-use Rattle.h2_streams.specs.Table.{view_of_kept, kept_at, is_reset, IsKeptWell, greater_of}
+use Rattle.h2_streams.specs.Table.{view_of_kept, active_at, is_reset, IsKeptWell, greater_of}
 use Rattle.h2_streams.specs.Table.{IsGreatestOffset}
 use Rattle.h2_streams.specs.declared.table.Kept.{Kept}
 use Rattle.h2_streams.proofs.KeptEntries.{entry_at, get_kept}
@@ -134,7 +134,7 @@ greatest_of_all tree n (Some offset) ordered all before =
     let last = entry_from (slice_get tree.entries before.place) before.kept
     (sym (value_at tree.entries before.place) ∙ before.found) in
     record {
-      most = λ q. if_found (λ kept. kept.send_offset ≤ℤ offset) (kept_at q tree.entries)
+      most = λ q. if_found (λ kept. kept.send_offset ≤ℤ offset) (active_at q tree.entries)
           (λ kept is.
           let place = place_from_lookup (is_at (nat_cmp q)) tree.entries kept is in
           let at : slice_get (values_of tree.entries) place.0 ≡ Some kept =
@@ -154,7 +154,7 @@ above_kept : (send recv new : ℕ) (kept : Kept)
 above_kept send recv new kept = refl
 
 -- An entry that is brought above the greatest window is an active stream's.
-above_by : (send recv new : ℕ) (b : Bool) (kept : Option Kept) (x : Entry)
+above_by : (send recv new : ℕ) (b : Bool) (kept : Option Kept) (x : StreamEntry)
     → entry_at send recv b kept ≡ Some x → above_by_shift send new x ≡ true
     → (k : Kept) × (kept ≡ Some k)
     × (is_above_by_shift send new (Some (k.send_offset +ℤ pos send)) ≡ true)
@@ -192,9 +192,9 @@ above_same send recv new entries numbers None well none =
     both_same (any_above send new (map.entries m)) false
     (λ some.
     let f = above_found send new (map.entries m) (map.entries_sorted m) some in
-    let k = above_by send recv new (is_reset f.i numbers) (kept_at f.i entries) f.x
+    let k = above_by send recv new (is_reset f.i numbers) (active_at f.i entries) f.x
     (sym (get_kept send recv f.i entries numbers) ∙ map.get-entries m f.i ∙ f.found) f.above in
-    let nothing : kept_at f.i entries ≡ None = ap (kept_at f.i) none in
+    let nothing : active_at f.i entries ≡ None = ap (active_at f.i) none in
     let two : None ≡ Some k.0 = sym nothing ∙ k.1 in
     absurd (cc))
     (λ some. absurd (both_ways false refl some))
@@ -204,9 +204,9 @@ above_same send recv new entries numbers (Some offset) well is =
     (is_above_by_shift send new (Some (offset +ℤ pos send)))
     (λ some.
     let f = above_found send new (map.entries m) (map.entries_sorted m) some in
-    let k = above_by send recv new (is_reset f.i numbers) (kept_at f.i entries) f.x
+    let k = above_by send recv new (is_reset f.i numbers) (active_at f.i entries) f.x
     (sym (get_kept send recv f.i entries numbers) ∙ map.get-entries m f.i ∙ f.found) f.above in
-    greater_above send new k.0.send_offset offset (found_low offset (kept_at f.i entries) k.0 k.1
+    greater_above send new k.0.send_offset offset (found_low offset (active_at f.i entries) k.0 k.1
     (is.most f.i)) k.2)
     (λ high.
     let apart = well.apart is.number (ap is_some is.found) in

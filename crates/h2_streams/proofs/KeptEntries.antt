@@ -8,21 +8,21 @@ use Rattle.std.specs.FinMap as map
 use Rattle.std.specs.Option.{option_map}
 use Rattle.std.proofs.lemmas.Bool.{both_ways}
 use Rattle.std.proofs.lemmas.Int.{ints}
-use Rattle.h2_machine.specs.End.{Entry, active_entry, reset_entry, StreamMap, stream_in}
+use Rattle.h2_machine.specs.End.{StreamEntry, active_entry, reset_entry, StreamMap, stream_in}
 use Rattle.h2_streams.specs.Streams.{stream_view}
-use Rattle.h2_streams.specs.Table.{view_of_kept, active_map, with_resets, kept_at, is_reset}
+use Rattle.h2_streams.specs.Table.{view_of_kept, active_map, with_resets, active_at, is_reset}
 use Rattle.h2_streams.specs.Table.{IsKeptWell}
 use Rattle.h2_streams.specs.declared.entry.Stream.{Stream}
 use Rattle.h2_streams.specs.declared.table.Kept.{Kept}
 
 -- what the table answers of a number, by whether it was reset, and what is kept of it
-abbrev pub entry_at : (send recv : ℕ) → Bool → Option Kept → Option Entry
+abbrev pub entry_at : (send recv : ℕ) → Bool → Option Kept → Option StreamEntry
 entry_at send recv true kept = Some reset_entry
 entry_at send recv false None = None
 entry_at send recv false (Some kept) = Some (active_entry (view_of_kept send recv kept))
 
 -- an entry as it is kept
-abbrev entries_of : (send recv : ℕ) → List (ℕ × Kept) → List (ℕ × Entry)
+abbrev entries_of : (send recv : ℕ) → List (ℕ × Kept) → List (ℕ × StreamEntry)
 entries_of send recv entries = each (λ entry. (
   entry.0,
   active_entry (view_of_kept send recv
@@ -30,7 +30,7 @@ entries_of send recv entries = each (λ entry. (
 )) entries
 
 -- What is found among entries, by the test whether it is the first.
-found_by : (send recv : ℕ) (b : Bool) (kept : Kept) (x : Option Entry) (y : Option Kept)
+found_by : (send recv : ℕ) (b : Bool) (kept : Kept) (x : Option StreamEntry) (y : Option Kept)
     → x ≡ entry_at send recv false y
     → cond b (Some (active_entry (view_of_kept send recv kept))) x
     ≡ entry_at send recv false (cond b (Some kept) y)
@@ -40,22 +40,22 @@ found_by send recv false kept x y same = same
 -- What is found among entries.
 found : (send recv q : ℕ) (entries : List (ℕ × Kept))
     → map.find nat_cmp q (entries_of send recv entries)
-    ≡ entry_at send recv false (kept_at q entries)
+    ≡ entry_at send recv false (active_at q entries)
 found send recv q [] = refl
 found send recv q (e ∷ es) =
     found_by send recv (is_eq (nat_cmp q e.0)) e.1
-    (map.find nat_cmp q (entries_of send recv es)) (kept_at q es) (found send recv q es)
+    (map.find nat_cmp q (entries_of send recv es)) (active_at q es) (found send recv q es)
 
 -- What is found among the active streams.
 get_active : (send recv q : ℕ) (entries : List (ℕ × Kept))
-    → map.get (active_map send recv entries) q ≡ entry_at send recv false (kept_at q entries)
+    → map.get (active_map send recv entries) q ≡ entry_at send recv false (active_at q entries)
 unfolding active_map
 get_active send recv q entries =
     map.get-from_entries nat_cmp_total (entries_of send recv entries) q
     ∙ found send recv q entries
 
 -- A number that is reset, by the test whether it is the first of those.
-reset_by : (send recv : ℕ) (b c : Bool) (x : Option Entry) (y : Option Kept)
+reset_by : (send recv : ℕ) (b c : Bool) (x : Option StreamEntry) (y : Option Kept)
     → x ≡ entry_at send recv c y
     → cond b (Some reset_entry) x ≡ entry_at send recv (b || c) y
 reset_by send recv true c x y same = refl
@@ -64,14 +64,14 @@ reset_by send recv false c x y same = same
 -- What the table answers of a number.
 pub get_kept : (send recv q : ℕ) (entries : List (ℕ × Kept)) (numbers : List ℕ)
     → map.get (with_resets (active_map send recv entries) numbers) q
-    ≡ entry_at send recv (is_reset q numbers) (kept_at q entries)
+    ≡ entry_at send recv (is_reset q numbers) (active_at q entries)
 unfolding with_resets
 get_kept send recv q entries [] = get_active send recv q entries
 get_kept send recv q entries (number ∷ numbers) =
     map.get-insert nat_cmp_total (with_resets (active_map send recv entries) numbers) number
     reset_entry q
     ∙ reset_by send recv (is_eq (nat_cmp q number)) (is_reset q numbers)
-    (map.get (with_resets (active_map send recv entries) numbers) q) (kept_at q entries)
+    (map.get (with_resets (active_map send recv entries) numbers) q) (active_at q entries)
     (get_kept send recv q entries numbers)
 
 -- Two tables that answer alike are the same.
@@ -90,10 +90,10 @@ stream_by send recv false (Some kept) apart = refl
 pub stream_kept : (send recv q : ℕ) (entries : List (ℕ × Kept)) (numbers : List ℕ)
     → IsKeptWell entries numbers
     → stream_in (map.get (with_resets (active_map send recv entries) numbers) q)
-    ≡ option_map (view_of_kept send recv) (kept_at q entries)
+    ≡ option_map (view_of_kept send recv) (active_at q entries)
 stream_kept send recv q entries numbers well =
     ap stream_in (get_kept send recv q entries numbers)
-    ∙ stream_by send recv (is_reset q numbers) (kept_at q entries) (well.apart q)
+    ∙ stream_by send recv (is_reset q numbers) (active_at q entries) (well.apart q)
 
 -- Nothing is kept of a number that is neither active nor reset.
 nothing_by : (send recv : ℕ) (b : Bool) (kept : Option Kept) → b ≡ false
@@ -109,7 +109,7 @@ pub nothing_kept : (send recv q : ℕ) (entries : List (ℕ × Kept)) (numbers :
     → map.get (with_resets (active_map send recv entries) numbers) q ≡ None
 nothing_kept send recv q entries numbers apart none =
     let is = get_kept send recv q entries numbers in
-    is ∙ nothing_by send recv (is_reset q numbers) (kept_at q entries) apart (rw (is) at none)
+    is ∙ nothing_by send recv (is_reset q numbers) (active_at q entries) apart (rw (is) at none)
 
 -- A window is its difference from an initial window, and that.
 window_back : (window : ℤ) (initial : ℕ) → (window -ℤ pos initial) +ℤ pos initial ≡ window

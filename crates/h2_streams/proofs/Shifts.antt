@@ -6,29 +6,30 @@ use Rattle.std.proofs.lemmas.Int.{ints}
 use Rattle.std.specs.Ordering.{nat_cmp, is_eq, is_lt}
 use Rattle.std.specs.FinMap as map
 use Rattle.std.specs.FinMap.Entries.{below_all}
-use Rattle.h2_machine.specs.End.{Entry, active_entry, reset_entry, StreamMap}
+use Rattle.h2_machine.specs.End.{StreamEntry, active_entry, reset_entry, StreamMap}
 use Rattle.h2_machine.specs.Machine.{each_entry, shifted_entry, recv_shifted_entry}
 use Rattle.h2_machine.proofs.ChangedEntries.{changed_entry, get_each}
-use Rattle.h2_streams.specs.Table.{view_of_kept, kept_at, is_reset}
+use Rattle.h2_streams.specs.Table.{view_of_kept, active_at, is_reset}
 use Rattle.h2_streams.specs.declared.table.Kept.{Kept}
 use Rattle.h2_streams.proofs.KeptEntries.{entry_at, get_kept, same_streams}
 use Rattle.h2_streams.proofs.TableSteps.{streams}
 
 -- Streams are changed alike where each that is kept is, and those that were reset stay.
-shifted_by : (send recv new_send new_recv : ℕ) (change : Entry → Entry)
+shifted_by : (send recv new_send new_recv : ℕ) (change : StreamEntry → StreamEntry)
     (b : Bool) (kept : Option Kept)
     → change reset_entry ≡ reset_entry
     → ((k : Kept) → active_entry (view_of_kept new_send new_recv k)
     ≡ change (active_entry (view_of_kept send recv k)))
     → entry_at new_send new_recv b kept ≡ changed_entry change (entry_at send recv b kept)
 shifted_by send recv new_send new_recv change true kept stays moves =
-    ap (λ (x : Entry). Some x) (sym stays)
+    ap (λ (x : StreamEntry). Some x) (sym stays)
 shifted_by send recv new_send new_recv change false None stays moves = refl
 shifted_by send recv new_send new_recv change false (Some kept) stays moves =
-    ap (λ (x : Entry). Some x) (moves kept)
+    ap (λ (x : StreamEntry). Some x) (moves kept)
 
 -- All streams are changed by another initial window in force.
-shifted : (send recv new_send new_recv : ℕ) (change : Entry → Entry) (entries : List (ℕ × Kept))
+shifted : (send recv new_send new_recv : ℕ) (change : StreamEntry
+    → StreamEntry) (entries : List (ℕ × Kept))
     (numbers : List ℕ)
     → change reset_entry ≡ reset_entry
     → ((k : Kept) → active_entry (view_of_kept new_send new_recv k)
@@ -39,7 +40,7 @@ shifted send recv new_send new_recv change entries numbers stays moves =
     same_streams (streams new_send new_recv entries numbers)
     (each_entry change (streams send recv entries numbers))
     (λ q. get_kept new_send new_recv q entries numbers
-    ∙ shifted_by send recv new_send new_recv change (is_reset q numbers) (kept_at q entries) stays
+    ∙ shifted_by send recv new_send new_recv change (is_reset q numbers) (active_at q entries) stays
     moves
     ∙ sym (get_each change (streams send recv entries numbers) q
     ∙ ap (changed_entry change) (get_kept send recv q entries numbers)))

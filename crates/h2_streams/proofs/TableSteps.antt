@@ -8,7 +8,7 @@ use Rattle.std.specs.Cmp.{nat_cmp_total, unsigned_tied, eq_by_cmp_equiv}
 use Rattle.std.specs.FinMap as map
 use Rattle.h2_log.specs.View.{StreamView}
 use Rattle.h2_machine.specs.End.{active_entry, reset_entry, StreamMap, stream_in}
-use Rattle.h2_streams.specs.Table.{view_of_kept, active_map, with_resets, kept_at, is_reset}
+use Rattle.h2_streams.specs.Table.{view_of_kept, active_map, with_resets, active_at, is_reset}
 use Rattle.h2_streams.specs.Table.{TableState, IsKeptWell, IsNearKept}
 use Rattle.h2_streams.specs.declared.table.Kept.{Kept}
 use Rattle.h2_streams.proofs.KeptEntries.{entry_at, get_kept, same_streams}
@@ -19,7 +19,8 @@ streams send recv entries numbers = with_resets (active_map send recv entries) n
 
 -- other entries, with another one at a number
 abbrev pub ChangesAt : ℕ → Option Kept → List (ℕ × Kept) → List (ℕ × Kept) → Type 0
-ChangesAt id kept old new = (q : ℕ) → kept_at q new ≡ cond (is_eq (nat_cmp id q)) kept (kept_at q
+ChangesAt id kept old new = (q : ℕ)
+    → active_at q new ≡ cond (is_eq (nat_cmp id q)) kept (active_at q
     old)
 
 -- A number of which nothing is kept wasn't reset.
@@ -32,9 +33,9 @@ absent_by send recv false (Some kept) none = absurd (cc)
 -- A number of which nothing is kept is neither active nor reset.
 pub absent : (send recv id : ℕ) (entries : List (ℕ × Kept)) (numbers : List ℕ)
     → map.get (streams send recv entries numbers) id ≡ None
-    → (is_reset id numbers ≡ false) × (kept_at id entries ≡ None)
+    → (is_reset id numbers ≡ false) × (active_at id entries ≡ None)
 absent send recv id entries numbers none =
-    absent_by send recv (is_reset id numbers) (kept_at id entries)
+    absent_by send recv (is_reset id numbers) (active_at id entries)
     (sym (get_kept send recv id entries numbers) ∙ none)
 
 -- An active stream wasn't reset.
@@ -47,9 +48,9 @@ active_by send recv false (Some kept) some = (refl, refl)
 -- An active stream is among the entries, and wasn't reset.
 pub active : (send recv id : ℕ) (entries : List (ℕ × Kept)) (numbers : List ℕ)
     → IsSome (stream_in (map.get (streams send recv entries numbers) id))
-    → (is_reset id numbers ≡ false) × IsSome (kept_at id entries)
+    → (is_reset id numbers ≡ false) × IsSome (active_at id entries)
 active send recv id entries numbers some =
-    active_by send recv (is_reset id numbers) (kept_at id entries)
+    active_by send recv (is_reset id numbers) (active_at id entries)
     (rw (get_kept send recv id entries numbers) at some)
 
 -- How a test of two numbers reads.
@@ -87,10 +88,10 @@ streams_set send recv id kept stream old new numbers changes apart view =
     (map.insert (streams send recv old numbers) id (active_entry stream))
     (λ q. get_kept send recv q new numbers
     ∙ ap (entry_at send recv (is_reset q numbers)) (changes q)
-    ∙ set_by send recv id q (is_eq (nat_cmp id q)) (is_reset q numbers) kept (kept_at q old)
+    ∙ set_by send recv id q (is_eq (nat_cmp id q)) (is_reset q numbers) kept (active_at q old)
     (same_reset id q numbers apart)
     ∙ ap (λ (s : StreamView). cond (is_eq (nat_cmp id q)) (Some (active_entry s)) (entry_at send
-    recv (is_reset q numbers) (kept_at q old))) view
+    recv (is_reset q numbers) (active_at q old))) view
     ∙ sym (map.get-insert nat_cmp_total (streams send recv old numbers) id (active_entry stream) q
     ∙ ap (λ (b : Bool). cond b (Some (active_entry stream)) (map.get (streams send recv old numbers)
     q)) (turned id q)
@@ -112,7 +113,7 @@ streams_closed send recv id old new numbers changes apart =
     same_streams (streams send recv new numbers) (map.remove (streams send recv old numbers) id)
     (λ q. get_kept send recv q new numbers
     ∙ ap (entry_at send recv (is_reset q numbers)) (changes q)
-    ∙ closed_by send recv (is_eq (nat_cmp id q)) (is_reset q numbers) (kept_at q old)
+    ∙ closed_by send recv (is_eq (nat_cmp id q)) (is_reset q numbers) (active_at q old)
     (same_reset id q numbers apart)
     ∙ sym (map.get-remove nat_cmp_total (streams send recv old numbers) id q
     ∙ ap (λ (b : Bool). cond b None (map.get (streams send recv old numbers) q)) (turned id q)
@@ -134,9 +135,9 @@ streams_reset send recv id old new numbers more changes resets =
     same_streams (streams send recv new more)
     (map.insert (streams send recv old numbers) id reset_entry)
     (λ q. get_kept send recv q new more
-    ∙ ap (λ (b : Bool). entry_at send recv b (kept_at q new)) (resets q)
+    ∙ ap (λ (b : Bool). entry_at send recv b (active_at q new)) (resets q)
     ∙ ap (entry_at send recv (cond (is_eq (nat_cmp id q)) true (is_reset q numbers))) (changes q)
-    ∙ reset_by send recv (is_eq (nat_cmp id q)) (is_reset q numbers) (kept_at q old)
+    ∙ reset_by send recv (is_eq (nat_cmp id q)) (is_reset q numbers) (active_at q old)
     ∙ sym (map.get-insert nat_cmp_total (streams send recv old numbers) id reset_entry q
     ∙ ap (λ (b : Bool). cond b (Some reset_entry) (map.get (streams send recv old numbers) q))
     (turned id q)
@@ -160,9 +161,9 @@ pub well_set : (id : ℕ) (kept : Kept) (old new : List (ℕ × Kept)) (numbers 
     → IsNearKept kept → IsKeptWell new numbers
 well_set id kept old new numbers well changes apart near =
     record {
-      near = λ q. rw (changes q) (near_by (is_eq (nat_cmp id q)) kept (kept_at q old) near
+      near = λ q. rw (changes q) (near_by (is_eq (nat_cmp id q)) kept (active_at q old) near
           (well.near q));
-      apart = λ q some. apart_by (is_eq (nat_cmp id q)) (is_reset q numbers) kept (kept_at q old)
+      apart = λ q some. apart_by (is_eq (nat_cmp id q)) (is_reset q numbers) kept (active_at q old)
           (same_reset id q numbers apart) (well.apart q) (rw (changes q) at some);
     }
 
@@ -183,8 +184,8 @@ pub well_closed : (id : ℕ) (old new : List (ℕ × Kept)) (numbers : List ℕ)
     → IsKeptWell old numbers → ChangesAt id None old new → IsKeptWell new numbers
 well_closed id old new numbers well changes =
     record {
-      near = λ q. rw (changes q) (left_near (is_eq (nat_cmp id q)) (kept_at q old) (well.near q));
-      apart = λ q some. left_as_it_was (is_eq (nat_cmp id q)) (is_reset q numbers) (kept_at q old)
+      near = λ q. rw (changes q) (left_near (is_eq (nat_cmp id q)) (active_at q old) (well.near q));
+      apart = λ q some. left_as_it_was (is_eq (nat_cmp id q)) (is_reset q numbers) (active_at q old)
           (well.apart q) (rw (changes q) at some);
     }
 
@@ -202,8 +203,8 @@ pub new_streams : (send recv : ℕ) (entries : List (ℕ × Kept)) (numbers : Li
 new_streams send recv entries numbers no_entries no_numbers =
     same_streams (streams send recv entries numbers) map.empty
     (λ q. get_kept send recv q entries numbers
-    ∙ ap (λ (ks : List ℕ). entry_at send recv (is_reset q ks) (kept_at q entries)) no_numbers
-    ∙ ap (λ (es : List (ℕ × Kept)). entry_at send recv false (kept_at q es)) no_entries
+    ∙ ap (λ (ks : List ℕ). entry_at send recv (is_reset q ks) (active_at q entries)) no_numbers
+    ∙ ap (λ (es : List (ℕ × Kept)). entry_at send recv false (active_at q es)) no_entries
     ∙ sym (map.get-empty nat_cmp q))
 
 -- What is found without a number that isn't among the active ones is what was found.
@@ -220,8 +221,8 @@ none_kept c (Some kept) reset apart = absurd (both_ways c (apart refl) reset)
 pub gone_already : (id : ℕ) (entries : List (ℕ × Kept)) (numbers : List ℕ)
     → IsKeptWell entries numbers → is_reset id numbers ≡ true → ChangesAt id None entries entries
 gone_already id entries numbers well reset = λ q.
-    let none : kept_at id entries ≡ None =
-    none_kept (is_reset id numbers) (kept_at id entries) reset (well.apart id) in
-    gone_by (is_eq (nat_cmp id q)) (kept_at q entries)
-    (λ same. ap (λ (i : ℕ). kept_at i entries) (sym (eqb-true id q (test_from id q true same)))
+    let none : active_at id entries ≡ None =
+    none_kept (is_reset id numbers) (active_at id entries) reset (well.apart id) in
+    gone_by (is_eq (nat_cmp id q)) (active_at q entries)
+    (λ same. ap (λ (i : ℕ). active_at i entries) (sym (eqb-true id q (test_from id q true same)))
     ∙ none)

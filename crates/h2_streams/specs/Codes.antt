@@ -2,14 +2,14 @@
 use Rattle.std.specs.Prelude.{◌≡◌, ℕ, Bool, ℤ, Option, Some, None, refl}
 use Rattle.std.specs.Coded.{Coded, code_by, coded×, coded_ℕ, coded_ℤ, coded_bool, coded_option}
 use Rattle.std.specs.FinMap as map
-use Rattle.h2_machine.specs.End.{Entry, active_entry, reset_entry, StreamMap}
+use Rattle.h2_machine.specs.End.{StreamEntry, active_entry, reset_entry, StreamMap}
 use Rattle.h2_streams.specs.Table.{TableState}
 
 -- the parts of a stream, or none of a number that was reset
 abbrev pub Parts : Type 0
 Parts = Option ((ℤ × ℤ) × (ℕ × (Bool × Bool)))
 
-abbrev pub parts_of : Entry → Parts
+abbrev pub parts_of : StreamEntry → Parts
 parts_of reset_entry = None
 parts_of (active_entry stream) = Some (
   (stream.send_window, stream.recv_window),
@@ -19,7 +19,7 @@ parts_of (active_entry stream) = Some (
   ),
 )
 
-abbrev pub entry_of_parts : Parts → Entry
+abbrev pub entry_of_parts : Parts → StreamEntry
 entry_of_parts None = reset_entry
 entry_of_parts (Some parts) = active_entry (record {
   send_window = parts.0.0;
@@ -29,11 +29,11 @@ entry_of_parts (Some parts) = active_entry (record {
   ended_out = parts.1.1.1;
 })
 
-pub entry_kept : (entry : Entry) → entry_of_parts (parts_of entry) ≡ entry
+pub entry_kept : (entry : StreamEntry) → entry_of_parts (parts_of entry) ≡ entry
 entry_kept reset_entry = refl
 entry_kept (active_entry stream) = refl
 
-abbrev pub entry_code : Coded Entry
+abbrev pub entry_code : Coded StreamEntry
 entry_code = code_by Parts (coded_option (coded× (coded× coded_ℤ coded_ℤ) (coded× coded_ℕ
     (coded× coded_bool coded_bool)))) parts_of entry_of_parts entry_kept
 

@@ -42,8 +42,8 @@ with_resets streams (number ∷ numbers) = map.insert (with_resets streams numbe
     reset_entry
 
 -- what is kept of an active number
-abbrev pub kept_at : ℕ → List (ℕ × Kept) → Option Kept
-kept_at number entries = lookup (is_at (nat_cmp number)) entries
+abbrev pub active_at : ℕ → List (ℕ × Kept) → Option Kept
+active_at number entries = lookup (is_at (nat_cmp number)) entries
 
 -- Whether a number is among those that were reset.
 abbrev pub is_reset : ℕ → List ℕ → Bool
@@ -60,8 +60,8 @@ IsNearKept kept = (is_far_offset kept.send_offset ≡ false)
 -- what the table keeps true: differences of windows are near zero, and no number is both active and
 -- reset
 pub record IsKeptWell (entries : List (ℕ × Kept)) (numbers : List ℕ) : Type 0 where
-  pub near : (number : ℕ) → IfSome (kept_at number entries) IsNearKept
-  pub apart : (number : ℕ) → IsSome (kept_at number entries) → is_reset number numbers ≡ false
+  pub near : (number : ℕ) → IfSome (active_at number entries) IsNearKept
+  pub apart : (number : ℕ) → IsSome (active_at number entries) → is_reset number numbers ≡ false
 
 -- the greater of two differences, of which there may be but one
 abbrev pub greater_of : Option ℤ → ℤ → ℤ
@@ -70,10 +70,10 @@ greater_of (Some other) offset = int_max other offset
 
 -- the greatest difference of the send windows among what is kept, if anything is
 pub record IsGreatestOf (entries : List (ℕ × Kept)) (offset : ℤ) : Type 0 where
-  pub most : (number : ℕ) → IfSome (kept_at number entries) (λ kept. kept.send_offset ≤ℤ offset)
+  pub most : (number : ℕ) → IfSome (active_at number entries) (λ kept. kept.send_offset ≤ℤ offset)
   pub number : ℕ
   pub kept : Kept
-  pub found : kept_at number entries ≡ Some kept
+  pub found : active_at number entries ≡ Some kept
   pub same : kept.send_offset ≡ offset
 
 abbrev pub IsGreatestOffset : List (ℕ × Kept) → Option ℤ → Type 0

@@ -1,3 +1,4 @@
 pub mod WordLemmas
 pub mod InputLemmas
+pub mod ProgramLemmas
 pub mod SocketLemmas

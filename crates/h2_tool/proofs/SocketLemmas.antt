@@ -1,36 +1,44 @@
--- How `get` and `loop` end.
-use Rattle.std.proofs.Common.{◌≡◌, inl, inr, ℕ, List, Option, Some, None, Result, Ok, Err, refl, sym}
-use Rattle.std.proofs.Common.{IfErr, OnOk, MatchResult, subst}
+-- How `serve`, `get` and `loop` end.
+use Rattle.std.proofs.Common.{◌≡◌, inl, inr, ℕ, List, Option, Result, Ok, Err}
+use Rattle.std.proofs.Common.{refl}
+use Rattle.std.proofs.Common.{sym, IfErr, OnOk, MatchResult, subst}
 use Rattle.std.specs.Io.KnownBytes.{Appends}
 use Rattle.h2_show.specs.declared.status.Status.{Status}
 use Rattle.h2_show.specs.declared.status.Status.TheVariants.{Good, Fault, Usage, Device, Memory}
 use Rattle.h2_link.specs.declared.error.LinkError.{LinkError}
 use Rattle.h2_link.specs.declared.error.LinkError.TheVariants as errors
 use Rattle.h2_engines.specs.declared.fetcher.Fetched.{Fetched}
-use Rattle.h2_location.specs.declared.location.Location.{Location}
 use Rattle.h2_location.specs.declared.location.TargetFault.{TargetFault}
 use Rattle.h2_location.specs.declared.location.TargetFault.TheVariants as faults
-use Rattle.h2_location.specs.Locations.{IsRefusedUrl, Names}
+use Rattle.h2_location.specs.Locations.{IsRefusedUrl}
 use Rattle.h2_sockets.specs.Endings.{status_with}
-use Rattle.h2_sockets.specs.Fetching.{GetsLocation}
+use Rattle.h2_sockets.specs.Loopback.{ExchangesPost}
 use Rattle.h2_sockets.specs.Printing.{PrintsResponse, exchange_line}
-use Rattle.h2_args.specs.Words.{octets_of, url_of}
-use Rattle.h2_tool.specs.Commands.{EndsGet, EndsLoop, Gets, RefusesUrl, RefusesGet}
+use Rattle.h2_tool.specs.Commands.{EndsWithFetch, GetsSo, GetsUrl, IsRefusedUrlOf, PostsSo}
+use Rattle.h2_tool.specs.Commands.{RefusesUrl}
 
 -- A fault other than of memory is not for lack of memory.
-refused_so : (words : List (List ℕ)) (url : List ℕ) (fault : TargetFault)
-    → url_of words ≡ Some url → IsRefusedUrl url fault → RefusesUrl fault Usage → RefusesGet words
-refused_so words url faults.Memory asked refused so = absurd (cc)
-refused_so words url faults.Unread asked refused so =
-    RefusesGet.refused_url url faults.Unread asked refused (λ is. absurd (cc))
-refused_so words url faults.OtherScheme asked refused so =
-    RefusesGet.refused_url url faults.OtherScheme asked refused (λ is. absurd (cc))
-refused_so words url faults.NoHost asked refused so =
-    RefusesGet.refused_url url faults.NoHost asked refused (λ is. absurd (cc))
-refused_so words url faults.NoPort asked refused so =
-    RefusesGet.refused_url url faults.NoPort asked refused (λ is. absurd (cc))
-refused_so words url faults.UserInfo asked refused so =
-    RefusesGet.refused_url url faults.UserInfo asked refused (λ is. absurd (cc))
+refused_so : (url : List ℕ) (before : Option (List ℕ)) (fault : TargetFault)
+    → IsRefusedUrl url fault → RefusesUrl fault Usage → IsRefusedUrlOf url before before
+refused_so url before faults.Memory refused so = absurd (cc)
+refused_so url before fault refused so =
+    record { fault = fault; refused = refused; other = λ is. cc; unwritten = refl }
+
+refused_unsaid : (url : List ℕ) (before : Option (List ℕ)) (fault : TargetFault)
+    → IsRefusedUrl url fault → RefusesUrl fault Device → IsRefusedUrlOf url before before
+refused_unsaid url before faults.Memory refused so = absurd (cc)
+refused_unsaid url before fault refused so =
+    record { fault = fault; refused = refused; other = λ is. cc; unwritten = refl }
+
+-- Only for lack of memory a URL is refused so.
+lacks_memory : (url : List ℕ) (fault : TargetFault) → IsRefusedUrl url fault
+    → RefusesUrl fault Memory → IsRefusedUrl url faults.Memory
+lacks_memory url faults.Memory refused so = refused
+lacks_memory url faults.Unread refused so = absurd so
+lacks_memory url faults.OtherScheme refused so = absurd so
+lacks_memory url faults.NoHost refused so = absurd so
+lacks_memory url faults.NoPort refused so = absurd so
+lacks_memory url faults.UserInfo refused so = absurd so
 
 -- A URL that is refused ends neither well nor with a fault.
 not_good : (fault : TargetFault) → RefusesUrl fault Good → ⊥
@@ -50,56 +58,94 @@ not_fault faults.NoPort so = so
 not_fault faults.UserInfo so = so
 
 -- The URL was refused.
-pub get_refuses : (words : List (List ℕ)) (url : List ℕ) (before after : Option (List ℕ))
-    (fault : TargetFault) (status : Status) → url_of words ≡ Some url → IsRefusedUrl url fault
-    → RefusesUrl fault status → EndsGet words before after status
-get_refuses words url before after fault Good asked refused so = absurd (not_good fault so)
-get_refuses words url before after fault Fault asked refused so = absurd (not_fault fault so)
-get_refuses words url before after fault Usage asked refused so =
-    refused_so words url fault asked refused so
-get_refuses words url before after fault Device asked refused so = tt
-get_refuses words url before after fault Memory asked refused so = tt
+pub get_refuses : (url : List ℕ) (before : Option (List ℕ)) (fault : TargetFault)
+    (status : Status) → IsRefusedUrl url fault → RefusesUrl fault status
+    → GetsSo url before before status
+get_refuses url before fault Good refused so = absurd (not_good fault so)
+get_refuses url before fault Fault refused so = absurd (not_fault fault so)
+get_refuses url before fault Usage refused so = inl (refused_so url before fault refused so)
+get_refuses url before fault Device refused so = inl (refused_unsaid url before fault refused so)
+get_refuses url before fault Memory refused so =
+    inr (lacks_memory url fault refused so, refl)
 
 -- The fetch has ended early.
-pub get_ends_early : (words : List (List ℕ)) (before after : Option (List ℕ)) (error : LinkError)
-    → Gets words (Err error) → EndsGet words before after (status_with error)
-get_ends_early words before after errors.Device gets = tt
-get_ends_early words before after (errors.Stream code) gets =
-    record { error = errors.Stream code; got = gets; status_is = refl }
-get_ends_early words before after errors.Memory gets = tt
-get_ends_early words before after errors.CutOff gets =
-    record { error = errors.CutOff; got = gets; status_is = refl }
-get_ends_early words before after errors.NoProgress gets = tt
-get_ends_early words before after (errors.Reset code) gets =
-    record { error = errors.Reset code; got = gets; status_is = refl }
-get_ends_early words before after errors.Refused gets =
-    RefusesGet.refused_request (record { error = errors.Refused; got = gets; status_is = refl })
+get_ends_early : (url : List ℕ) (before : Option (List ℕ)) (error : LinkError)
+    → GetsUrl url (Err error) → GetsSo url before before (status_with error)
+get_ends_early url before errors.Device gets = inr (inl (record {
+  error = errors.Device;
+  got = gets;
+  status_is = refl;
+  unwritten = refl;
+}))
+get_ends_early url before (errors.Stream code) gets =
+    record { error = errors.Stream code; got = gets; status_is = refl; unwritten = refl }
+get_ends_early url before errors.Memory gets =
+    inl (record { error = errors.Memory; got = gets; status_is = refl; unwritten = refl })
+get_ends_early url before errors.CutOff gets =
+    record { error = errors.CutOff; got = gets; status_is = refl; unwritten = refl }
+get_ends_early url before errors.NoProgress gets = inr (inl (record {
+  error = errors.NoProgress;
+  got = gets;
+  status_is = refl;
+  unwritten = refl;
+}))
+get_ends_early url before (errors.Reset code) gets =
+    record { error = errors.Reset code; got = gets; status_is = refl; unwritten = refl }
+get_ends_early url before errors.Refused gets =
+    inr (record { error = errors.Refused; got = gets; status_is = refl; unwritten = refl })
 
--- The response was fetched, and printed or not.
-pub get_prints : (words : List (List ℕ)) (before after : Option (List ℕ)) (fetched : Fetched)
-    (printed : Result (Unit {0}) LinkError) (status : Status) → Gets words (Ok fetched)
+-- The response is printed, or not.
+pub fetch_prints : (before after : Option (List ℕ)) (fetched : Fetched)
+    (printed : Result (Unit {0}) LinkError) (status : Status)
     → OnOk printed (PrintsResponse before after fetched)
     → IfErr printed (λ error. error ≡ errors.Device)
     → MatchResult printed (λ done. status ≡ Good) (λ error. status ≡ status_with error)
-    → EndsGet words before after status
-get_prints words before after fetched (Ok done) status gets prints device so =
-    subst (EndsGet words before after) (sym so)
-    (inl (record { fetched = fetched; got = gets; printed = prints }))
-get_prints words before after fetched (Err error) status gets prints device so =
+    → EndsWithFetch (Ok fetched) before after status
+fetch_prints before after fetched (Ok done) status prints device so =
+    subst (EndsWithFetch (Ok fetched) before after) (sym so) prints
+fetch_prints before after fetched (Err error) status prints device so =
     let is : status ≡ Device = rw device at so in
-    subst (EndsGet words before after) (sym is) tt
+    subst (EndsWithFetch (Ok fetched) before after) (sym is) refl
+
+-- So `get` ends with what came of its fetch.
+pub gets_so : (url : List ℕ) (before after : Option (List ℕ)) (got : Result Fetched LinkError)
+    (status : Status) → GetsUrl url got → EndsWithFetch got before after status
+    → GetsSo url before after status
+gets_so url before after (Ok fetched) Good gets prints = (fetched, gets, prints)
+gets_so url before after (Ok fetched) Fault gets so = absurd (cc)
+gets_so url before after (Ok fetched) Usage gets so = absurd (cc)
+gets_so url before after (Ok fetched) Device gets so = inr (inr (fetched, gets))
+gets_so url before after (Ok fetched) Memory gets so = absurd (cc)
+gets_so url before after (Err error) status gets so =
+    rw (so.0, so.1) (get_ends_early url before error gets)
+
+-- The exchange has ended early.
+pub loop_ends_early : (count : ℕ) (before : Option (List ℕ)) (error : LinkError)
+    → ExchangesPost count (Err error) → PostsSo count before before (status_with error)
+loop_ends_early count before errors.Device got =
+    inl (record { error = errors.Device; got = got; status_is = refl; unwritten = refl })
+loop_ends_early count before (errors.Stream code) got =
+    record { error = errors.Stream code; got = got; status_is = refl; unwritten = refl }
+loop_ends_early count before errors.Memory got =
+    record { error = errors.Memory; got = got; status_is = refl; unwritten = refl }
+loop_ends_early count before errors.CutOff got =
+    record { error = errors.CutOff; got = got; status_is = refl; unwritten = refl }
+loop_ends_early count before errors.NoProgress got =
+    inl (record { error = errors.NoProgress; got = got; status_is = refl; unwritten = refl })
+loop_ends_early count before (errors.Reset code) got =
+    record { error = errors.Reset code; got = got; status_is = refl; unwritten = refl }
+loop_ends_early count before errors.Refused got = got refl
 
 -- What was posted, and what came back, was printed or not.
-pub loop_prints : (words : List (List ℕ)) (before after : Option (List ℕ)) (count : ℕ)
-    (fetched : Fetched) (printed : Result (Unit {0}) LinkError) (status : Status)
-    → octets_of words ≡ Some count
+pub loop_prints : (count : ℕ) (before after : Option (List ℕ)) (fetched : Fetched)
+    (printed : Result (Unit {0}) LinkError) (status : Status)
+    → ExchangesPost count (Ok fetched)
     → OnOk printed (Appends before after (exchange_line count fetched))
     → IfErr printed (λ error. error ≡ errors.Device)
     → MatchResult printed (λ done. status ≡ Good) (λ error. status ≡ status_with error)
-    → EndsLoop words before after status
-loop_prints words before after count fetched (Ok done) status asked prints device so =
-    subst (EndsLoop words before after) (sym so)
-    (inl (record { count = count; asked = asked; fetched = fetched; printed = prints }))
-loop_prints words before after count fetched (Err error) status asked prints device so =
+    → PostsSo count before after status
+loop_prints count before after fetched (Ok done) status got prints device so =
+    subst (PostsSo count before after) (sym so) (fetched, got, prints)
+loop_prints count before after fetched (Err error) status got prints device so =
     let is : status ≡ Device = rw device at so in
-    subst (EndsLoop words before after) (sym is) tt
+    subst (PostsSo count before after) (sym is) (inr (fetched, got))

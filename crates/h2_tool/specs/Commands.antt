@@ -1,6 +1,6 @@
 -- What the commands of `h2` do, by the words that follow their names and the status with which they
 -- end.
-use Rattle.std.specs.Prelude.{◌≡◌, ◌≢◌, ◌⊎◌, ℕ, Bool, true, List, [], ◌∷◌, Option, Some, None}
+use Rattle.std.specs.Prelude.{◌≡◌, ◌≢◌, ◌⊎◌, ℕ, true, List, [], ◌∷◌, Option, Some}
 use Rattle.std.specs.Prelude.{Result, Ok, Err, IfSome, codes}
 use Rattle.std.specs.Io.KnownBytes.{Appends}
 use Rattle.clap.specs.Words.{IsAmong, Kinds}
@@ -15,7 +15,7 @@ use Rattle.h2_events.specs.declared.options.ReplayOptions.{ReplayOptions}
 use Rattle.h2_events.specs.Report.{ReplayReportsInput}
 use Rattle.h2_args.specs.Commands.{AreSides, SideNames}
 use Rattle.h2_args.specs.Words.{ShowWordsGive, show_faults, ReplayWordsGive, replay_faults}
-use Rattle.h2_args.specs.Words.{serve_options_of, serve_faults, url_of, get_faults, octets_of}
+use Rattle.h2_args.specs.Words.{serve_options_of, serve_faults, url_of, get_faults, octets_asked}
 use Rattle.h2_args.specs.Words.{loop_faults, program_faults}
 use Rattle.h2_args.specs.declared.sockets.ServeOptions.{ServeOptions}
 use Rattle.h2_link.specs.declared.error.LinkError.{LinkError}
@@ -24,20 +24,33 @@ use Rattle.h2_location.specs.declared.location.Location.{Location}
 use Rattle.h2_location.specs.declared.location.TargetFault.{TargetFault}
 use Rattle.h2_location.specs.declared.location.TargetFault.TheVariants as faults
 use Rattle.h2_location.specs.Locations.{Names, IsRefusedUrl}
-use Rattle.h2_sockets.specs.Endings.{status_with}
+use Rattle.h2_sockets.specs.Endings.{IsServingStatus, status_with}
 use Rattle.h2_sockets.specs.Fetching.{GetsLocation}
+use Rattle.h2_sockets.specs.Loopback.{ExchangesPost}
 use Rattle.h2_sockets.specs.Printing.{PrintsResponse, exchange_line}
+use Rattle.h2_sockets.specs.Serving.{ServesPort}
 
--- How words that give no options end, by the kind of clap's error: help and the version are printed,
--- and memory that ran out is no fault of the words.
--- rule: show (own) The words choose the end and hexadecimal
-abbrev pub AnswersWords : ErrorKind → Status → Type 0
-AnswersWords kind Good = (kind ≡ kinds.DisplayHelp) ⊎ (kind ≡ kinds.DisplayVersion)
-AnswersWords kind Fault = ⊥
-AnswersWords kind Usage = (kind ≢ kinds.OutOfMemory) × ((kind ≢ kinds.DisplayHelp)
+-- A kind of clap's error that asks for help, or for the version.
+abbrev pub IsOfHelp : ErrorKind → Type 0
+IsOfHelp kind = (kind ≡ kinds.DisplayHelp) ⊎ (kind ≡ kinds.DisplayVersion)
+
+-- A kind of a word that is wrong, or is missing.
+abbrev pub IsOfWrongWords : ErrorKind → Type 0
+IsOfWrongWords kind = (kind ≢ kinds.OutOfMemory) × ((kind ≢ kinds.DisplayHelp)
     × (kind ≢ kinds.DisplayVersion))
-AnswersWords kind Device = Unit {0}
-AnswersWords kind Memory = kind ≡ kinds.OutOfMemory
+
+-- How words that give no options end, by the kind of clap's error. Where they ask for help or the
+-- version, nothing is said of what is printed; else nothing is printed on standard output, whose
+-- contents are known before and after; and memory that ran out is no fault of the words. What can't
+-- be printed is `Device`.
+-- rule: show (own) The words choose the end and hexadecimal
+abbrev pub AnswersWords : ErrorKind → (before after : Option (List ℕ)) → Status → Type 0
+AnswersWords kind before after Good = IsOfHelp kind
+AnswersWords kind before after Fault = ⊥
+AnswersWords kind before after Usage = IsOfWrongWords kind × (after ≡ before)
+AnswersWords kind before after Device =
+    IsOfHelp kind ⊎ (IsOfWrongWords kind × (after ≡ before))
+AnswersWords kind before after Memory = (kind ≡ kinds.OutOfMemory) × (after ≡ before)
 
 -- Of the kinds of error that the words may have, one is that help is asked for, or the version.
 abbrev pub AsksHelp : Kinds → Type 0
@@ -45,8 +58,20 @@ AsksHelp faults = IsAmong kinds.DisplayHelp faults ⊎ IsAmong kinds.DisplayVers
 
 -- One of them is that a word is wrong, or is missing.
 abbrev pub HasWrongWords : Kinds → Type 0
-HasWrongWords faults = (kind : ErrorKind) × IsAmong kind faults
-    × (kind ≢ kinds.DisplayHelp) × (kind ≢ kinds.DisplayVersion)
+HasWrongWords faults = (kind : ErrorKind) × IsAmong kind faults × IsOfWrongWords kind
+
+-- How a command ends whose words give it nothing to do, by the kinds of error that they may have:
+-- they ask for help or the version; or a word is wrong, or memory ran out, and nothing is printed
+-- on standard output.
+-- rule: show (own) The words choose the end and hexadecimal
+-- rule: engines (own) serve, get and loop have their words
+abbrev pub EndsByWords : (faults : Kinds) → (before after : Option (List ℕ)) → Status → Type 0
+EndsByWords faults before after Good = AsksHelp faults
+EndsByWords faults before after Fault = ⊥
+EndsByWords faults before after Usage = HasWrongWords faults × (after ≡ before)
+EndsByWords faults before after Device =
+    AsksHelp faults ⊎ (HasWrongWords faults × (after ≡ before))
+EndsByWords faults before after Memory = after ≡ before
 
 -- These are the kinds of error that the words after `show` may have.
 abbrev pub ShowFaults : (words : List (List ℕ)) → Kinds → Type 0
@@ -62,121 +87,109 @@ abbrev pub ProgramFaults : (words : List (List ℕ)) → Kinds → Type 0
 ProgramFaults words faults = (shown replayed : SideNames) × AreSides shown × AreSides replayed
     × (program_faults shown replayed words ≡ faults)
 
--- The input was read, and what was appended to the output is its lines, under the options that the
--- words give.
+-- What was appended to the output is the lines of an input under these options.
+abbrev pub PrintsLines : ShowOptions → (given : List ℕ) → (before after : Option (List ℕ)) → Status
+    → Type 0
+PrintsLines options given before after status =
+    (lines : List ℕ) × ShowsInput options given status lines × Appends before after lines
+
+-- How showing an input ends under these options: of a reader whose octets are known, and a writer
+-- whose contents are, before and after. `Usage` comes only where the input was to be hexadecimal,
+-- and isn't.
 -- rule: show (own) The words choose the end and hexadecimal
-pub record ShowsLines (words : List (List ℕ)) (given : List ℕ) (before after : Option (List ℕ))
+abbrev pub ShowsSo : ShowOptions → (remaining before after : Option (List ℕ)) → Status → Type 0
+ShowsSo options remaining before after Good =
+    IfSome remaining (λ given. PrintsLines options given before after Good)
+ShowsSo options remaining before after Fault =
+    IfSome remaining (λ given. PrintsLines options given before after Fault)
+ShowsSo options remaining before after Usage =
+    IfSome remaining (λ given. (options.hex ≡ true) × IsBadHex given)
+ShowsSo options remaining before after Device = Unit {0}
+ShowsSo options remaining before after Memory = Unit {0}
+
+-- The words after `show` give options, and it ends so under these.
+pub record ShowsAsAsked (words : List (List ℕ)) (remaining before after : Option (List ℕ))
     (status : Status) : Type 0 where
   pub options : ShowOptions
   pub asked : ShowWordsGive words options
-  pub lines : List ℕ
-  pub shown : ShowsInput options given status lines
-  pub printed : Appends before after lines
-
--- The words after `show` ask for help, and nothing was read.
-pub record ShowsHelp (words : List (List ℕ)) (remaining left : Option (List ℕ)) : Type 0 where
-  pub faults : Kinds
-  pub words_have : ShowFaults words faults
-  pub asked : AsksHelp faults
-  pub unread : left ≡ remaining
-
--- The words after `show` are wrong, and nothing was read or printed; or they say that the input is
--- hexadecimal, and it isn't.
--- rule: show (own) The words choose the end and hexadecimal
-pub data RefusesShow (words : List (List ℕ)) (remaining left before after : Option (List ℕ)) : Type 0
-  where
-    wrong_words : (faults : Kinds) → ShowFaults words faults → HasWrongWords faults
-        → left ≡ remaining → after ≡ before → RefusesShow words remaining left before after
-    bad_hex : (options : ShowOptions) → ShowWordsGive words options → options.hex ≡ true
-        → IfSome remaining IsBadHex → RefusesShow words remaining left before after
+  pub so : ShowsSo options remaining before after status
 
 -- How `h2 show` ends: of a reader whose octets are known, `remaining` of which `left` are not read,
--- and a writer whose contents are, before and after.
+-- and a writer whose contents are, before and after. Words that give no options read nothing.
 -- rule: show (own) The words choose the end and hexadecimal
 abbrev pub EndsShow : (words : List (List ℕ)) → (remaining left : Option (List ℕ))
     → (before after : Option (List ℕ)) → Status → Type 0
-EndsShow words remaining left before after Good =
-    IfSome remaining (λ given. ShowsLines words given before after Good
-    ⊎ ShowsHelp words remaining left)
-EndsShow words remaining left before after Fault =
-    IfSome remaining (λ given. ShowsLines words given before after Fault)
-EndsShow words remaining left before after Usage =
-    IfSome remaining (λ given. RefusesShow words remaining left before after)
-EndsShow words remaining left before after Device = Unit {0}
-EndsShow words remaining left before after Memory = Unit {0}
+EndsShow words remaining left before after status =
+    ShowsAsAsked words remaining before after status
+    ⊎ ((faults : Kinds) × ShowFaults words faults × (left ≡ remaining)
+    × EndsByWords faults before after status)
 
--- An end has taken the input, as the words say, and the status reports it.
+-- How an end that takes an input ends under these options, of a reader whose octets are known.
 -- rule: replay (own) The words of replay choose the end and hexadecimal
-pub record Replays (words : List (List ℕ)) (given : List ℕ) (status : Status) : Type 0 where
-  pub options : ReplayOptions
-  pub asked : ReplayWordsGive words options
-  pub reported : ReplayReportsInput options given status
+abbrev pub ReplaysSo : ReplayOptions → (remaining : Option (List ℕ)) → Status → Type 0
+ReplaysSo options remaining Good =
+    IfSome remaining (λ given. ReplayReportsInput options given Good)
+ReplaysSo options remaining Fault =
+    IfSome remaining (λ given. ReplayReportsInput options given Fault)
+ReplaysSo options remaining Usage =
+    IfSome remaining (λ given. (options.hex ≡ true) × IsBadHex given)
+ReplaysSo options remaining Device = Unit {0}
+ReplaysSo options remaining Memory = Unit {0}
 
--- The words after `replay` ask for help, and nothing was read.
-pub record ReplaysHelp (words : List (List ℕ)) (remaining left : Option (List ℕ)) : Type 0 where
-  pub faults : Kinds
-  pub words_have : ReplayFaults words faults
-  pub asked : AsksHelp faults
-  pub unread : left ≡ remaining
+-- The words after `replay` give options, and it ends so under these.
+pub record ReplaysAsAsked (words : List (List ℕ)) (remaining : Option (List ℕ))
+    (status : Status) : Type 0
+  where
+    pub options : ReplayOptions
+    pub asked : ReplayWordsGive words options
+    pub so : ReplaysSo options remaining status
 
--- The words after `replay` are wrong, and nothing was read; or they say that the input is
--- hexadecimal, and it isn't.
+-- How `h2 replay` ends. Words that give no options read nothing.
 -- rule: replay (own) The words of replay choose the end and hexadecimal
-pub data RefusesReplay (words : List (List ℕ)) (remaining left : Option (List ℕ)) : Type 0 where
-  wrong_words : (faults : Kinds) → ReplayFaults words faults → HasWrongWords faults
-      → left ≡ remaining → RefusesReplay words remaining left
-  bad_hex : (options : ReplayOptions) → ReplayWordsGive words options → options.hex ≡ true
-      → IfSome remaining IsBadHex → RefusesReplay words remaining left
+abbrev pub EndsReplay : (words : List (List ℕ)) → (remaining left : Option (List ℕ))
+    → (before after : Option (List ℕ)) → Status → Type 0
+EndsReplay words remaining left before after status =
+    ReplaysAsAsked words remaining status
+    ⊎ ((faults : Kinds) × ReplayFaults words faults × (left ≡ remaining)
+    × EndsByWords faults before after status)
 
--- How `h2 replay` ends.
--- rule: replay (own) The words of replay choose the end and hexadecimal
-abbrev pub EndsReplay : (words : List (List ℕ)) → (remaining left : Option (List ℕ)) → Status
-    → Type 0
-EndsReplay words remaining left Good =
-    IfSome remaining (λ given. Replays words given Good ⊎ ReplaysHelp words remaining left)
-EndsReplay words remaining left Fault = IfSome remaining (λ given. Replays words given Fault)
-EndsReplay words remaining left Usage =
-    IfSome remaining (λ given. RefusesReplay words remaining left)
-EndsReplay words remaining left Device = Unit {0}
-EndsReplay words remaining left Memory = Unit {0}
+-- The words after `serve` give a port and a count: so many connections were served, or the port
+-- can't be had. Nothing is printed on standard output.
+-- rule: engines (own) serve, get and loop have their words
+pub record ServesCount (words : List (List ℕ)) (before after : Option (List ℕ))
+    (status : Status) : Type 0 where
+  pub options : ServeOptions
+  pub asked : serve_options_of words ≡ Some options
+  pub may : IsServingStatus status
+  pub so : ServesPort options.count status
+  pub unwritten : after ≡ before
 
 -- How `h2 serve` ends.
 -- rule: engines (own) serve, get and loop have their words
-abbrev pub EndsServe : (words : List (List ℕ)) → Status → Type 0
-EndsServe words Good =
-    ((options : ServeOptions) × (serve_options_of words ≡ Some options))
-    ⊎ AsksHelp (serve_faults words)
-EndsServe words Fault = (options : ServeOptions) × (serve_options_of words ≡ Some options)
-EndsServe words Usage = HasWrongWords (serve_faults words)
-EndsServe words Device = Unit {0}
-EndsServe words Memory = Unit {0}
+abbrev pub EndsServe : (words : List (List ℕ)) → (before after : Option (List ℕ)) → Status → Type 0
+EndsServe words before after status =
+    ServesCount words before after status ⊎ EndsByWords (serve_faults words) before after status
 
--- The location of the URL that the words after `get` give was fetched, with this result.
-pub record Gets (words : List (List ℕ)) (result : Result Fetched LinkError) : Type 0 where
-  pub url : List ℕ
-  pub asked : url_of words ≡ Some url
+-- The location of a URL was fetched, with this result.
+pub record GetsUrl (url : List ℕ) (result : Result Fetched LinkError) : Type 0 where
   pub location : Location
   pub names : Names url location
   pub gets : GetsLocation location result
 
--- The response was fetched, and printed.
-pub record PrintsGot (words : List (List ℕ)) (before after : Option (List ℕ)) : Type 0 where
-  pub fetched : Fetched
-  pub got : Gets words (Ok fetched)
-  pub printed : PrintsResponse before after fetched
+-- The fetch has ended early, with an error of this status, and nothing was printed.
+pub record FailsToGet (url : List ℕ) (before after : Option (List ℕ)) (status : Status) : Type 0
+  where
+    pub error : LinkError
+    pub got : GetsUrl url (Err error)
+    pub status_is : status_with error ≡ status
+    pub unwritten : after ≡ before
 
--- The fetch has ended early, with an error of this status.
-pub record FailsToGet (words : List (List ℕ)) (status : Status) : Type 0 where
-  pub error : LinkError
-  pub got : Gets words (Err error)
-  pub status_is : status_with error ≡ status
-
--- The words after `get` are wrong, the URL can't be fetched, or its request was refused.
-pub data RefusesGet (words : List (List ℕ)) : Type 0 where
-  wrong_words : HasWrongWords (get_faults words) → RefusesGet words
-  refused_url : (url : List ℕ) (fault : TargetFault) → url_of words ≡ Some url
-      → IsRefusedUrl url fault → fault ≢ faults.Memory → RefusesGet words
-  refused_request : FailsToGet words Usage → RefusesGet words
+-- The URL can't be fetched, for another fault than of memory, and nothing was printed.
+pub record IsRefusedUrlOf (url : List ℕ) (before after : Option (List ℕ)) : Type 0 where
+  pub fault : TargetFault
+  pub refused : IsRefusedUrl url fault
+  pub other : fault ≢ faults.Memory
+  pub unwritten : after ≡ before
 
 -- How the program ends where a URL can't be fetched.
 abbrev pub RefusesUrl : TargetFault → Status → Type 0
@@ -187,31 +200,65 @@ RefusesUrl fault Usage = Unit {0}
 RefusesUrl fault Device = Unit {0}
 RefusesUrl fault Memory = ⊥
 
--- How `h2 get` ends, with a writer whose contents are known.
+-- How the program ends where a fetch has come to this: the response is printed, or can't be; or the
+-- fetch has ended early, with its own status, and nothing is printed.
+-- rule: engines (own) N1 to N7 end a command with their statuses
+abbrev pub EndsWithFetch : Result Fetched LinkError → (before after : Option (List ℕ)) → Status
+    → Type 0
+EndsWithFetch (Ok fetched) before after Good = PrintsResponse before after fetched
+EndsWithFetch (Ok fetched) before after status = status ≡ Device
+EndsWithFetch (Err error) before after status = (status ≡ status_with error) × (after ≡ before)
+
+-- How the fetch of a URL ends, with a writer whose contents are known. `Usage` comes only where the
+-- URL can't be fetched or its request was refused (N7); `Device` for N1 and N5, and where a line
+-- about the URL or the response could not be printed.
+-- rule: engines (own) serve, get and loop have their words
+abbrev pub GetsSo : (url : List ℕ) → (before after : Option (List ℕ)) → Status → Type 0
+GetsSo url before after Good =
+    (fetched : Fetched) × GetsUrl url (Ok fetched) × PrintsResponse before after fetched
+GetsSo url before after Fault = FailsToGet url before after Fault
+GetsSo url before after Usage =
+    IsRefusedUrlOf url before after ⊎ FailsToGet url before after Usage
+GetsSo url before after Device =
+    IsRefusedUrlOf url before after ⊎ (FailsToGet url before after Device
+    ⊎ ((fetched : Fetched) × GetsUrl url (Ok fetched)))
+GetsSo url before after Memory =
+    FailsToGet url before after Memory ⊎ (IsRefusedUrl url faults.Memory × (after ≡ before))
+
+-- How `h2 get` ends.
 -- rule: engines (own) serve, get and loop have their words
 abbrev pub EndsGet : (words : List (List ℕ)) → (before after : Option (List ℕ)) → Status → Type 0
-EndsGet words before after Good = PrintsGot words before after ⊎ AsksHelp (get_faults words)
-EndsGet words before after Fault = FailsToGet words Fault
-EndsGet words before after Usage = RefusesGet words
-EndsGet words before after Device = Unit {0}
-EndsGet words before after Memory = Unit {0}
+EndsGet words before after status =
+    ((url : List ℕ) × (url_of words ≡ Some url) × GetsSo url before after status)
+    ⊎ EndsByWords (get_faults words) before after status
 
--- What was posted, as the words after `loop` say, and what came back were printed.
-pub record PrintsPosted (words : List (List ℕ)) (before after : Option (List ℕ)) : Type 0 where
-  pub count : ℕ
-  pub asked : octets_of words ≡ Some count
-  pub fetched : Fetched
-  pub printed : Appends before after (exchange_line count fetched)
+-- The exchange has ended early, with an error of this status, and nothing was printed.
+pub record FailsToPost (count : ℕ) (before after : Option (List ℕ)) (status : Status) : Type 0 where
+  pub error : LinkError
+  pub got : ExchangesPost count (Err error)
+  pub status_is : status_with error ≡ status
+  pub unwritten : after ≡ before
 
--- How `h2 loop` ends, with a writer whose contents are known.
+-- How the posting of so many octets ends, with a writer whose contents are known: never with
+-- `Usage`, and with `Device` for N1 and N5, and where the line could not be printed.
+-- rule: engines (own) serve, get and loop have their words
+abbrev pub PostsSo : (count : ℕ) → (before after : Option (List ℕ)) → Status → Type 0
+PostsSo count before after Good =
+    (fetched : Fetched) × ExchangesPost count (Ok fetched)
+    × Appends before after (exchange_line count fetched)
+PostsSo count before after Fault = FailsToPost count before after Fault
+PostsSo count before after Usage = ⊥
+PostsSo count before after Device =
+    FailsToPost count before after Device
+    ⊎ ((fetched : Fetched) × ExchangesPost count (Ok fetched))
+PostsSo count before after Memory = FailsToPost count before after Memory
+
+-- How `h2 loop` ends.
 -- rule: engines (own) serve, get and loop have their words
 abbrev pub EndsLoop : (words : List (List ℕ)) → (before after : Option (List ℕ)) → Status → Type 0
-EndsLoop words before after Good = PrintsPosted words before after ⊎ AsksHelp (loop_faults words)
-EndsLoop words before after Fault = (count : ℕ) × (octets_of words ≡ Some count)
-EndsLoop words before after Usage =
-    HasWrongWords (loop_faults words) ⊎ ((count : ℕ) × (octets_of words ≡ Some count))
-EndsLoop words before after Device = Unit {0}
-EndsLoop words before after Memory = Unit {0}
+EndsLoop words before after status =
+    ((count : ℕ) × (octets_asked words ≡ Some count) × PostsSo count before after status)
+    ⊎ EndsByWords (loop_faults words) before after status
 
 -- The first of the words, if there is one, is no command's name.
 abbrev pub NamesNoCommand : (words : List (List ℕ)) → Type 0
@@ -220,12 +267,16 @@ NamesNoCommand (name ∷ others) =
     (name ≢ codes "show") × ((name ≢ codes "replay") × ((name ≢ codes "serve")
     × ((name ≢ codes "get") × (name ≢ codes "loop"))))
 
--- How the program ends with such words: well only where they ask for help or the version.
+-- The first of the words, if there is one, names no command that reads standard input.
 -- rule: show (own) The words choose the end and hexadecimal
-abbrev pub EndsProgram : (words : List (List ℕ)) → Status → Type 0
-EndsProgram words Good = (faults : Kinds) × ProgramFaults words faults × AsksHelp faults
-EndsProgram words Fault = ⊥
-EndsProgram words Usage = (faults : Kinds) × ProgramFaults words faults
-    × (HasWrongWords faults ⊎ (faults ≡ []))
-EndsProgram words Device = Unit {0}
-EndsProgram words Memory = Unit {0}
+abbrev pub NamesNoReader : (words : List (List ℕ)) → Type 0
+NamesNoReader [] = Unit {0}
+NamesNoReader (name ∷ others) = (name ≢ codes "show") × (name ≢ codes "replay")
+
+-- How the program ends with words that name no command: they ask for help or the version, or are
+-- wrong.
+-- rule: show (own) The words choose the end and hexadecimal
+abbrev pub EndsProgram : (words : List (List ℕ)) → (before after : Option (List ℕ)) → Status
+    → Type 0
+EndsProgram words before after status =
+    (faults : Kinds) × ProgramFaults words faults × EndsByWords faults before after status

@@ -1,10 +1,10 @@
 //! The program as a whole.
 
-ghost use Rattle.std.specs.Prelude.{◌≡◌, ◌≢◌, List, ℕ, ◌∷◌, codes, map, string_bytes};
+ghost use Rattle.std.specs.Prelude.{◌≡◌, ◌≢◌, List, ℕ, ◌∷◌, MatchResult, codes, map, string_bytes};
 ghost use Rattle.clap.specs.Words.{kind_of};
 ghost use Rattle.h2_show.specs.Status.{failure_status};
 ghost use Rattle.h2_tool.specs.Commands.{AnswersWords, EndsShow, EndsReplay, EndsServe, EndsGet};
-ghost use Rattle.h2_tool.specs.Commands.{EndsLoop, EndsProgram, NamesNoCommand};
+ghost use Rattle.h2_tool.specs.Commands.{EndsLoop, EndsProgram, NamesNoCommand, NamesNoReader};
 
 use crate::replay::cmd_replay;
 use crate::show::cmd_show;
@@ -13,7 +13,7 @@ use clap::Error;
 use clap::error::ErrorKind;
 use h2_args::no_command;
 use h2_hints::write_hint;
-use h2_show::{Failure, Hint, Status};
+use h2_show::{Failure, Hint, Shown, Status};
 use std::alloc::Global;
 use std::io::{self, Read, Write};
 use std::net::Net;
@@ -36,15 +36,19 @@ pub fn run<N: Net, R: Read, W: Write, E: Write>(
         → EndsShow others (R.remaining input.old) (R.remaining input.new) (W.contents out.old)
         (W.contents out.new) result }
     ensures replay { (others : List (List ℕ)) → map string_bytes words.now ≡ codes "replay" ∷ others
-        → EndsReplay others (R.remaining input.old) (R.remaining input.new) result }
+        → EndsReplay others (R.remaining input.old) (R.remaining input.new) (W.contents out.old)
+        (W.contents out.new) result }
     ensures serve { (others : List (List ℕ)) → map string_bytes words.now ≡ codes "serve" ∷ others
-        → EndsServe others result }
+        → EndsServe others (W.contents out.old) (W.contents out.new) result }
     ensures get { (others : List (List ℕ)) → map string_bytes words.now ≡ codes "get" ∷ others
         → EndsGet others (W.contents out.old) (W.contents out.new) result }
     ensures post { (others : List (List ℕ)) → map string_bytes words.now ≡ codes "loop" ∷ others
         → EndsLoop others (W.contents out.old) (W.contents out.new) result }
     ensures none { NamesNoCommand (map string_bytes words.now)
-        → EndsProgram (map string_bytes words.now) result }
+        → EndsProgram (map string_bytes words.now) (W.contents out.old) (W.contents out.new)
+        result }
+    ensures unread { NamesNoReader (map string_bytes words.now)
+        → R.remaining input.new ≡ R.remaining input.old }
 {
     if let Some((name, others)) = words.split_first() {
         match name.as_str() {
@@ -79,8 +83,7 @@ pub fn no_words<E: Write>(error: &io::Error, err: &mut E) -> Status
 /// Answers words that give no options: prints the help or the version that they ask for, or what is
 /// wrong with them.
 pub(crate) fn answer<W: Write, E: Write>(error: &Error, out: &mut W, err: &mut E) -> Status
-    ensures kind { AnswersWords (kind_of error.now) result }
-    ensures unwritten { result ≡ Status.Usage → W.contents out.new ≡ W.contents out.old }
+    ensures { AnswersWords (kind_of error.now) (W.contents out.old) (W.contents out.new) result }
 {
     if let ErrorKind::OutOfMemory = error.kind() {
         return give_up(Failure::Memory, err);
@@ -107,10 +110,31 @@ pub(crate) fn give_up<E: Write>(failure: Failure, err: &mut E) -> Status
     failure.status()
 }
 
+// rule: show (own) The status is 0 only where the input is good to its end
+// rule: replay (own) The status is 0 only where an end took the whole input
+/// Ends a command that reads an input, by what came of that: prints the hint, if there is one, or
+/// why the command fails. `from_server` is the option for octets of a server.
+pub(crate) fn end_input<E: Write>(
+    shown: Result<Shown, Failure>,
+    from_server: &str,
+    err: &mut E,
+) -> Status
+    ensures { MatchResult shown (λ shown. result ≡ shown.status)
+        (λ failure. result ≡ failure_status failure) }
+{
+    match shown {
+        Ok(shown) => {
+            give_hint(shown.hint, from_server, err);
+            shown.status
+        }
+        Err(failure) => give_up(failure, err),
+    }
+}
+
 // rule (tested): show (own) A hint names a capture, or the option that is likely missing
-/// Prints on standard error what is likely wrong with the input or the options; `from_server` is the
-/// option for octets of a server.
-pub(crate) fn give_hint<E: Write>(hint: Option<Hint>, from_server: &str, err: &mut E) {
+/// Prints on standard error what is likely wrong with the input or the options; `from_server` is
+/// the option for octets of a server.
+fn give_hint<E: Write>(hint: Option<Hint>, from_server: &str, err: &mut E) {
     // The status is that of the stream, whether or not these writes fail.
     let _ = match hint {
         None => Ok(()),

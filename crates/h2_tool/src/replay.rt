@@ -3,7 +3,7 @@
 ghost use Rattle.std.specs.Prelude.{map, string_bytes};
 ghost use Rattle.h2_tool.specs.Commands.{EndsReplay};
 
-use crate::program::{answer, give_hint, give_up};
+use crate::program::{answer, end_input};
 use h2_args::replay_args;
 use h2_events::replay_input;
 use h2_show::Status;
@@ -32,17 +32,12 @@ pub fn cmd_replay<R: Read, W: Write, E: Write>(
     err: &mut E,
 ) -> Status
     ensures { EndsReplay (map string_bytes words.now) (R.remaining input.old)
-        (R.remaining input.new) result }
+        (R.remaining input.new) (W.contents out.old) (W.contents out.new) result }
 {
     let options = match replay_args(alloc, words) {
         Ok(options) => options,
         Err(error) => return answer(&error, out, err),
     };
-    match replay_input(alloc, options, input, out) {
-        Ok(shown) => {
-            give_hint(shown.hint, "--as client", err);
-            shown.status
-        }
-        Err(failure) => give_up(failure, err),
-    }
+    let shown = replay_input(alloc, options, input, out);
+    end_input(shown, "--as client", err)
 }

@@ -3,7 +3,7 @@
 ghost use Rattle.std.specs.Prelude.{map, string_bytes};
 ghost use Rattle.h2_tool.specs.Commands.{EndsShow};
 
-use crate::program::{answer, give_hint, give_up};
+use crate::program::{answer, end_input};
 use h2_args::show_args;
 use h2_show::{Status, show_input};
 use std::alloc::Global;
@@ -37,11 +37,6 @@ pub fn cmd_show<R: Read, W: Write, E: Write>(
         Ok(options) => options,
         Err(error) => return answer(&error, out, err),
     };
-    match show_input(alloc, options, input, out) {
-        Ok(shown) => {
-            give_hint(shown.hint, "--from server", err);
-            shown.status
-        }
-        Err(failure) => give_up(failure, err),
-    }
+    let shown = show_input(alloc, options, input, out);
+    end_input(shown, "--from server", err)
 }

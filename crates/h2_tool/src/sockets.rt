@@ -3,15 +3,16 @@
 ghost use Rattle.std.specs.Prelude.{◌≡◌, Ok, Err, MatchResult, map, string_bytes};
 ghost use Rattle.h2_location.specs.declared.location.TargetFault.TheVariants.{Memory};
 ghost use Rattle.h2_show.specs.declared.status.Status.TheVariants.{Good};
-ghost use Rattle.h2_sockets.specs.Endings.{status_with};
-ghost use Rattle.h2_tool.specs.Commands.{EndsServe, EndsGet, EndsLoop, RefusesUrl};
+ghost use Rattle.h2_sockets.specs.Endings.{status_with, without_hint};
+ghost use Rattle.h2_tool.specs.Commands.{EndsServe, EndsWithFetch, EndsGet, EndsLoop, RefusesUrl};
 
 use crate::program::{answer, give_up};
 use h2_args::{get_args, loop_args, serve_args};
 use h2_location::{TargetFault, target};
 use h2_show::{Failure, Status};
 use h2_sockets::{
-    Ending, LinkError, exchange, get_location, print_exchange, print_response, report, serve_port,
+    Ending, Fetched, LinkError, exchange, get_location, print_exchange, print_response, report,
+    serve_port,
 };
 use std::alloc::Global;
 use std::io::Write;
@@ -20,7 +21,8 @@ use std::net::Net;
 // rule: engines (own) serve, get and loop have their words
 /// Runs `h2 serve` with the words after `serve`: serves so many connections to a port of 127.0.0.1,
 /// one after another, and answers each request with what it asked. A connection that ends early has
-/// a line on standard error, and a hint where the cause is known. Only help is printed on standard output.
+/// a line on standard error, and a hint where the cause is known. Only help is printed on standard
+/// output.
 ///
 /// The status is that of [`serve_port`]; for help it is [`Status::Good`], and for wrong words
 /// [`Status::Usage`].
@@ -31,7 +33,8 @@ pub fn cmd_serve<N: Net, W: Write, E: Write>(
     out: &mut W,
     err: &mut E,
 ) -> Status
-    ensures { EndsServe (map string_bytes words.now) result }
+    ensures { EndsServe (map string_bytes words.now) (W.contents out.old) (W.contents out.new)
+        result }
 {
     match serve_args(alloc, words) {
         Ok(options) => serve_port(net, alloc, options.port, options.count, err),
@@ -64,10 +67,8 @@ pub fn cmd_get<N: Net, W: Write, E: Write>(
         Ok(target) => target,
         Err(fault) => return refuse_url(fault, err),
     };
-    match get_location(net, alloc, &target) {
-        Ok(fetched) => status_of_end(print_response(&fetched, out), err),
-        Err(ending) => report(ending, err),
-    }
+    let got = get_location(net, alloc, &target);
+    end_get(got, out, err)
 }
 
 /// Runs `h2 loop` with the words after `loop`: posts octets from a client to a server, both in this
@@ -92,6 +93,17 @@ pub fn cmd_loop<N: Net, W: Write, E: Write>(
     match exchange(net, alloc, count) {
         Ok(fetched) => status_of_end(print_exchange(count, &fetched, out), err),
         Err(error) => report(Ending { error, hint: None }, err),
+    }
+}
+
+// rule: engines (own) N1 to N7 end a command with their statuses
+// Prints the response that was fetched; or how the fetch has ended early, on standard error.
+fn end_get<W: Write, E: Write>(got: Result<Fetched, Ending>, out: &mut W, err: &mut E) -> Status
+    ensures { EndsWithFetch (without_hint got) (W.contents out.old) (W.contents out.new) result }
+{
+    match got {
+        Ok(fetched) => status_of_end(print_response(&fetched, out), err),
+        Err(ending) => report(ending, err),
     }
 }
 

@@ -1,7 +1,7 @@
 -- The encoder's definitions, computed on the examples of RFC 7541, appendix C, and on examples of
 -- limits and large fields.
 use Rattle.std.specs.Prelude.{◌≡◌, ℕ, List, [], ◌∷◌, true, false, refl, codes}
-use Rattle.hpack_text.specs.Bits.{bits_of, number_of, octets_of}
+use Rattle.hpack_text.specs.Bits.{bits_of, number_of_bits, octets_of_bits}
 use Rattle.hpack_text.specs.Huffman.{groups, code_in, code, huffman_bits}
 use Rattle.hpack_text.specs.Integers.{continuation_of, integer}
 use Rattle.hpack_text.specs.Strings.{string}
@@ -15,7 +15,8 @@ use Rattle.hpack.specs.Choice.{block_of, after_block}
 
 -- opens all that computes
 unfoldable pub computing : Unit {0}
-unfolding bits_of number_of octets_of groups code_in code huffman_bits continuation_of integer
+unfolding bits_of number_of_bits octets_of_bits groups code_in code huffman_bits continuation_of
+    integer
     string fit static_entries entry least_index choice encoding_of_fields after_fields size_updates
     block_of after_block
 computing = tt

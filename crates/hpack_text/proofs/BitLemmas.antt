@@ -10,7 +10,7 @@ use Rattle.std.proofs.lemmas.Nat.{shr_split, shr_high}
 use Rattle.std.proofs.Math.Nat.{div-div-eq-div-mul, pow-succ'}
 use Rattle.std.proofs.lemmas.Bool.Decides.{nat_tests}
 use Rattle.std.specs.List.{AllByRecursion}
-use Rattle.hpack_text.specs.Bits.{IsOctet, is_odd, bits_of, bits, number_of, octets_of}
+use Rattle.hpack_text.specs.Bits.{IsOctet, is_odd, bits_of, bits, number_of_bits, octets_of_bits}
 
 -- how many bits
 pub length-bits_of : (n value : ℕ) → length (bits_of n value) ≡ n
@@ -71,8 +71,8 @@ bits_of-ones (suc n) =
 
 -- the number of some bits and one more
 number_of-push : (xs : List Bool) (bit : Bool)
-    → number_of (xs ++ bit ∷ []) ≡ 2 * number_of xs + (if bit then 1 else 0)
-unfolding number_of
+    → number_of_bits (xs ++ bit ∷ []) ≡ 2 * number_of_bits xs + (if bit then 1 else 0)
+unfolding number_of_bits
 number_of-push [] bit = omega arith
 number_of-push (true ∷ xs) bit =
     let one_more : length (xs ++ bit ∷ []) ≡ suc (length xs) = simp length-append (omega arith) in
@@ -84,11 +84,11 @@ number_of_is_odd : (value : ℕ) → (if is_odd value then 1 else 0) ≡ value %
 number_of_is_odd value = grind (arith, nat_tests)
 
 -- the number of the bits of a number
-pub number_of-bits_of : (n value : ℕ) → value < 2 ^ n → number_of (bits_of n value) ≡ value
-unfolding bits_of number_of
+pub number_of-bits_of : (n value : ℕ) → value < 2 ^ n → number_of_bits (bits_of n value) ≡ value
+unfolding bits_of number_of_bits
 number_of-bits_of zero value lt = omega arith
 number_of-bits_of (suc n) value lt =
-    let shorter : number_of (bits_of n (value / 2)) ≡ value / 2 =
+    let shorter : number_of_bits (bits_of n (value / 2)) ≡ value / 2 =
     number_of-bits_of n (value / 2) (omega (arith, pow-succ' 2 n)) in
     omega (
       arith,
@@ -101,29 +101,29 @@ number_of-bits_of (suc n) value lt =
 pub same_from_bits : (n value other : ℕ) → value < 2 ^ n → other < 2 ^ n
     → bits_of n value ≡ bits_of n other → value ≡ other
 same_from_bits n value other lt lt' e = sym (number_of-bits_of n value lt)
-    ∙ (ap number_of e ∙ number_of-bits_of n other lt')
+    ∙ (ap number_of_bits e ∙ number_of-bits_of n other lt')
 
 -- n bits are a number below 2 ^ n
-pub number_of-lt : (xs : List Bool) → number_of xs < 2 ^ length xs
-unfolding number_of
+pub number_of-lt : (xs : List Bool) → number_of_bits xs < 2 ^ length xs
+unfolding number_of_bits
 number_of-lt [] = omega arith
 number_of-lt (true ∷ xs) = omega (arith, number_of-lt xs, pow-succ' 2 (length xs))
 number_of-lt (false ∷ xs) = omega (arith, number_of-lt xs, pow-succ' 2 (length xs))
 
 -- Any bits are those of their number.
-pub bits_of-number_of : (xs : List Bool) → bits_of (length xs) (number_of xs) ≡ xs
-unfolding bits_of number_of
+pub bits_of-number_of : (xs : List Bool) → bits_of (length xs) (number_of_bits xs) ≡ xs
+unfolding bits_of number_of_bits
 bits_of-number_of [] = refl
 bits_of-number_of (true ∷ xs) =
-    let first : bits_of (1 + length xs) (1 * 2 ^ length xs + number_of xs)
-    ≡ true ∷ bits_of (length xs) (number_of xs) =
-    bits_of-joined 1 (length xs) 1 (number_of xs) (number_of-lt xs) in
+    let first : bits_of (1 + length xs) (1 * 2 ^ length xs + number_of_bits xs)
+    ≡ true ∷ bits_of (length xs) (number_of_bits xs) =
+    bits_of-joined 1 (length xs) 1 (number_of_bits xs) (number_of-lt xs) in
     ap₂ bits_of (sym (one-add (length xs))) (omega arith)
     ∙ (first ∙ ap (λ (ys : List Bool). true ∷ ys) (bits_of-number_of xs))
 bits_of-number_of (false ∷ xs) =
-    let first : bits_of (1 + length xs) (0 * 2 ^ length xs + number_of xs)
-    ≡ false ∷ bits_of (length xs) (number_of xs) =
-    bits_of-joined 1 (length xs) 0 (number_of xs) (number_of-lt xs) in
+    let first : bits_of (1 + length xs) (0 * 2 ^ length xs + number_of_bits xs)
+    ≡ false ∷ bits_of (length xs) (number_of_bits xs) =
+    bits_of-joined 1 (length xs) 0 (number_of_bits xs) (number_of-lt xs) in
     ap₂ bits_of (sym (one-add (length xs))) (omega arith)
     ∙ (first ∙ ap (λ (ys : List Bool). false ∷ ys) (bits_of-number_of xs))
 
@@ -135,14 +135,15 @@ length-bits (octet ∷ octets) =
 
 -- Octets are read back from their bits, whatever stands after the first eight.
 pub octets_of-octet : (octet : ℕ) (more : List Bool) → octet < 256
-    → octets_of (bits_of 8 octet ++ more) ≡ octet ∷ octets_of more
-unfolding bits_of octets_of
-octets_of-octet octet more lt = ap (λ (x : ℕ). x ∷ octets_of more) (number_of-bits_of 8 octet lt)
+    → octets_of_bits (bits_of 8 octet ++ more) ≡ octet ∷ octets_of_bits more
+unfolding bits_of octets_of_bits
+octets_of-octet octet more lt = ap (λ (x : ℕ). x ∷ octets_of_bits more)
+    (number_of-bits_of 8 octet lt)
 
 -- Octets are read back from their bits.
 pub octets_of-bits : (octets : List ℕ) → AllByRecursion IsOctet octets
-    → octets_of (bits octets) ≡ octets
-unfolding octets_of
+    → octets_of_bits (bits octets) ≡ octets
+unfolding octets_of_bits
 octets_of-bits [] all = refl
 octets_of-bits (octet ∷ octets) all =
     octets_of-octet octet (bits octets) all.0
@@ -154,21 +155,21 @@ first_octet : (xs : List Bool) → 8 ≤ length xs
 first_octet xs long =
     let eight_bits = take 8 xs in
     let eight : length eight_bits ≡ 8 = length-take-le 8 xs long in (
-      number_of eight_bits,
+      number_of_bits eight_bits,
       drop 8 xs,
-      subst (λ (n : ℕ). number_of eight_bits < 2 ^ n) eight (number_of-lt eight_bits),
+      subst (λ (n : ℕ). number_of_bits eight_bits < 2 ^ n) eight (number_of-lt eight_bits),
       sym (take-append-drop 8 xs)
           ∙ ap (λ (ys : List Bool). ys ++ drop 8 xs)
           (sym (bits_of-number_of eight_bits)
-          ∙ ap (λ (n : ℕ). bits_of n (number_of eight_bits)) eight),
+          ∙ ap (λ (n : ℕ). bits_of n (number_of_bits eight_bits)) eight),
     )
 
 -- Bits that fill octets are the bits of octets, and of no others than those that are read from
 -- them.
 pub record AreOctets (xs : List Bool) (count : ℕ) : Type 0 where
-  pub octets : AllByRecursion IsOctet (octets_of xs)
-  pub back : bits (octets_of xs) ≡ xs
-  pub counted : length (octets_of xs) ≡ count
+  pub octets : AllByRecursion IsOctet (octets_of_bits xs)
+  pub back : bits (octets_of_bits xs) ≡ xs
+  pub counted : length (octets_of_bits xs) ≡ count
 
 -- One octet more before them.
 are_octets-more : (octet count : ℕ) (more : List Bool) → octet < 256 → AreOctets more count
@@ -183,7 +184,7 @@ are_octets-more octet count more small following =
 
 -- Bits whose number is a multiple of eight are those of the octets that are read from them.
 pub are_octets : (count : ℕ) (xs : List Bool) → length xs ≡ 8 * count → AreOctets xs count
-unfolding octets_of
+unfolding octets_of_bits
 are_octets zero xs e =
     subst (λ ys. AreOctets ys 0) (sym (nil_from_length xs e))
     (record { octets = tt; back = refl; counted = refl })

@@ -8,7 +8,7 @@ use Rattle.std.proofs.lemmas.List.{length-replicate, replicate-append-replicate,
 use Rattle.std.specs.List.{AllByRecursion}
 use Rattle.hpack_text.specs.declared.fault.TextFault.{TextFault}
 use Rattle.hpack_text.specs.declared.fault.TextFault.TheVariants as faults
-use Rattle.hpack_text.specs.Bits.{IsOctet, bits, octets_of}
+use Rattle.hpack_text.specs.Bits.{IsOctet, bits, octets_of_bits}
 use Rattle.hpack_text.specs.Huffman.{code, codes, Huff, IsLongest, HasEndSymbol, HasBadPadding}
 use Rattle.hpack_text.specs.Huffman.{HuffFault, padding_of, huffman_bits, huffman_length}
 use Rattle.hpack_text.specs.Tree.{tree}
@@ -219,7 +219,7 @@ is_huffman_bits text octets padding all short encoded =
     ∙ ap (λ n. length (codes text) + n) (length-replicate padding true))) in
     let same : padding ≡ padding_of (length (codes text)) = omega arith in
     sym (octets_of-bits octets all)
-    ∙ ap octets_of (encoded ∙ ap (λ (n : ℕ). codes text ++ replicate n true) same)
+    ∙ ap octets_of_bits (encoded ∙ ap (λ (n : ℕ). codes text ++ replicate n true) same)
 
 -- A text has one encoding.
 pub only_huffman_bits : (text octets : List ℕ) → Huff text octets → octets ≡ huffman_bits text

@@ -8,7 +8,7 @@ use Rattle.std.proofs.lemmas.List.{take_more, take-append-drop}
 use Rattle.std.specs.List.{AllByRecursion}
 use Rattle.hpack_text.specs.Bits.{IsOctet, bits_of, bits}
 use Rattle.hpack_text.specs.Huffman.{code, codes, HasEndSymbol}
-use Rattle.hpack_text.specs.States.{prefix_of, stepped, BeginsWithEnd, Reads, ReadsEnd}
+use Rattle.hpack_text.specs.States.{prefix_of, stepped, BeginsWithEnd, ReadsBits, ReadsEnd}
 use Rattle.hpack_text.proofs.BitLemmas.{length-bits_of, bits_of-split}
 use Rattle.hpack_text.proofs.CodeLemmas.{end_symbol_fault}
 use Rattle.hpack_text.proofs.StateLemmas.{first_state, five_bits}
@@ -16,7 +16,7 @@ use Rattle.hpack_text.proofs.WriteLemmas.{all_octets-append}
 
 -- what is read where no code ends
 pub reads_within : (old : List ℕ) (state half next : ℕ) → stepped state half ≡ prefix_of next
-    → Reads old old state (bits_of 4 half) next
+    → ReadsBits old old state (bits_of 4 half) next
 reads_within old state half next e = record {
   added = [];
   joined = sym (append-nil old);
@@ -27,7 +27,7 @@ reads_within old state half next e = record {
 -- what is read where the code of an octet ends
 pub reads_symbol : (old new : List ℕ) (state half symbol next : ℕ) → new ≡ old ++ symbol ∷ []
     → symbol < 256 → stepped state half ≡ code symbol ++ prefix_of next
-    → Reads old new state (bits_of 4 half) next
+    → ReadsBits old new state (bits_of 4 half) next
 reads_symbol old new state half symbol next pushed small e = record {
   added = symbol ∷ [];
   joined = pushed;
@@ -67,8 +67,8 @@ octet_halves octet = bits_of-split 4 4 octet
 
 -- What is read in two steps is read.
 pub reads_both : (old mid new : List ℕ) (state between next : ℕ) (first second : List Bool)
-    → Reads old mid state first between → Reads mid new between second next
-    → Reads old new state (first ++ second) next
+    → ReadsBits old mid state first between → ReadsBits mid new between second next
+    → ReadsBits old new state (first ++ second) next
 reads_both old mid new state between next first second a b = record {
   added = a.added ++ b.added;
   joined = b.joined
@@ -84,7 +84,7 @@ reads_both old mid new state between next first second a b = record {
 
 -- EOS in the second step is EOS.
 pub reads_then_end : (old mid new : List ℕ) (state between : ℕ) (first second : List Bool)
-    → Reads old mid state first between → ReadsEnd mid new between second
+    → ReadsBits old mid state first between → ReadsEnd mid new between second
     → ReadsEnd old new state (first ++ second)
 reads_then_end old mid new state between first second a b =
     let end = code 256 ++ b.more in
@@ -125,23 +125,23 @@ end_in_first_half old new state octet a =
 
 -- What the second half of an octet leads to is what the octet leads to.
 pub read_second_half : (result : Option ℕ) (old mid new : List ℕ) (state between octet : ℕ)
-    → Reads old mid state (bits_of 4 (octet / 16)) between
+    → ReadsBits old mid state (bits_of 4 (octet / 16)) between
     → MatchOption result (ReadsEnd mid new between (bits_of 4 (octet % 16)))
-    (Reads mid new between (bits_of 4 (octet % 16)))
+    (ReadsBits mid new between (bits_of 4 (octet % 16)))
     → MatchOption result (ReadsEnd old new state (bits_of 8 octet))
-    (Reads old new state (bits_of 8 octet))
+    (ReadsBits old new state (bits_of 8 octet))
 read_second_half None old mid new state between octet first second =
     subst (ReadsEnd old new state) (sym (octet_halves octet))
     (reads_then_end old mid new state between (bits_of 4 (octet / 16)) (bits_of 4 (octet % 16))
     first second)
 read_second_half (Some next) old mid new state between octet first second =
-    subst (λ xs. Reads old new state xs next) (sym (octet_halves octet))
+    subst (λ xs. ReadsBits old new state xs next) (sym (octet_halves octet))
     (reads_both old mid new state between next (bits_of 4 (octet / 16)) (bits_of 4 (octet % 16))
     first second)
 
 -- how long what was appended is at most
 pub reads_length : (old new : List ℕ) (state next : ℕ) (bit_list : List Bool)
-    → Reads old new state bit_list next
+    → ReadsBits old new state bit_list next
     → 5 * length new + length (prefix_of next)
     ≤ 5 * length old + length (prefix_of state) + length bit_list
 reads_length old new state next bit_list a =
@@ -174,7 +174,7 @@ bits-split octets i lt =
     ∙ ap (λ (xs : List Bool). xs ++ bits (drop (i + 1) octets)) (bits-take-more octets i lt))
 
 -- Before any octet nothing was read.
-pub reads_none : (old octets : List ℕ) → Reads old old 0 (bits (take 0 octets)) 0
+pub reads_none : (old octets : List ℕ) → ReadsBits old old 0 (bits (take 0 octets)) 0
 reads_none old octets = record {
   added = [];
   joined = sym (append-nil old);
@@ -184,22 +184,22 @@ reads_none old octets = record {
 
 -- One octet more was read.
 pub reads_octet : (old mid new octets : List ℕ) (state next i : ℕ) → i < length octets
-    → Reads old mid 0 (bits (take i octets)) state
-    → Reads mid new state (bits_of 8 (get_or octets i 0)) next
-    → Reads old new 0 (bits (take (i + 1) octets)) next
+    → ReadsBits old mid 0 (bits (take i octets)) state
+    → ReadsBits mid new state (bits_of 8 (get_or octets i 0)) next
+    → ReadsBits old new 0 (bits (take (i + 1) octets)) next
 reads_octet old mid new octets state next i lt a b =
-    subst (λ xs. Reads old new 0 xs next) (sym (bits-take-more octets i lt))
+    subst (λ xs. ReadsBits old new 0 xs next) (sym (bits-take-more octets i lt))
     (reads_both old mid new 0 state next (bits (take i octets)) (bits_of 8 (get_or octets i 0)) a b)
 
 -- The bits that were read from the first state are the codes and the bits of the state after them.
 pub read_bits : (old new : List ℕ) (bit_list : List Bool) (next : ℕ)
-    → (read : Reads old new 0 bit_list next) → bit_list ≡ codes read.added ++ prefix_of next
+    → (read : ReadsBits old new 0 bit_list next) → bit_list ≡ codes read.added ++ prefix_of next
 read_bits old new bit_list next read =
     ap (λ (xs : List Bool). xs ++ bit_list) (sym first_state) ∙ sym read.encoded
 
 -- EOS in the next octet is the fault of all octets.
 pub octet_fault : (old mid new octets : List ℕ) (state i : ℕ) → i < length octets
-    → Reads old mid 0 (bits (take i octets)) state
+    → ReadsBits old mid 0 (bits (take i octets)) state
     → ReadsEnd mid new state (bits_of 8 (get_or octets i 0)) → HasEndSymbol octets
 octet_fault old mid new octets state i lt a b =
     let next = bits_of 8 (get_or octets i 0) in

@@ -2,14 +2,15 @@
 -- as they should.
 use Rattle.std.proofs.Common.{◌≡◌, ℕ, ◌+◌, ◌-◌, ◌*◌, ◌^◌, ◌==◌, ◌&&◌, nat_lt, Bool, true, List, []}
 use Rattle.std.proofs.Common.{◌∷◌, length, refl}
-use Rattle.hpack_text.specs.Bits.{bits_of, number_of, octets_of}
+use Rattle.hpack_text.specs.Bits.{bits_of, number_of_bits, octets_of_bits}
 use Rattle.hpack_text.specs.Huffman.{Group, groups, code_in, code, huffman_bits}
 use Rattle.hpack_text.specs.Integers.{continuation_of, integer}
 use Rattle.hpack_text.specs.Strings.{string}
 
 -- opens all that computes
 unfoldable pub computing : Unit {0}
-unfolding bits_of number_of octets_of groups code_in code huffman_bits continuation_of integer
+unfolding bits_of number_of_bits octets_of_bits groups code_in code huffman_bits continuation_of
+    integer
     string
 computing = tt
 

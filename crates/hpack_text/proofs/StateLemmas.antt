@@ -12,7 +12,7 @@ use Rattle.hpack_text.specs.Bits.{IsOctet, bits_of}
 use Rattle.hpack_text.specs.Huffman.{code, codes}
 use Rattle.hpack_text.specs.Tree.{tree}
 use Rattle.hpack_text.specs.States.{paths_from, states, prefix_of, stepped, code_if_some}
-use Rattle.hpack_text.specs.States.{BeginsWithEnd, IsStep}
+use Rattle.hpack_text.specs.States.{BeginsWithEnd, IsHalfStep}
 use Rattle.hpack_text.proofs.TreeLemmas.{computing_tree, same_bits, same_bits-true, first_symbol}
 use Rattle.hpack_text.proofs.TreeLemmas.{first_symbol-code, same_symbol}
 use Rattle.hpack_text.proofs.CodeLemmas.{IsOpen}
@@ -112,7 +112,7 @@ chosen_false false x y h e = h
 
 -- A step that holds of the bits of a state and of four more is a step from that state.
 step_is : (state half step : ℕ) → step_holds step (stepped state half) ≡ true
-    → IsStep state half step
+    → IsHalfStep state half step
 unfolding step_holds
 step_is state half step h =
     let bit_list = stepped state half in
@@ -140,10 +140,10 @@ step_is state half step h =
 
 -- The table's step from a state by a half octet is one of them.
 pub table_step : (state half : ℕ) → state < 256 → half < 16
-    → IsStep state half (get_or STEPS (state * 16 + half) 0)
+    → IsHalfStep state half (get_or STEPS (state * 16 + half) 0)
 table_step state half lt few =
     let place : 16 * state + half ≡ state * 16 + half = omega arith in
-    subst (λ m. IsStep state half (get_or STEPS m 0)) place
+    subst (λ m. IsHalfStep state half (get_or STEPS m 0)) place
     (step_is state half (get_or STEPS (16 * state + half) 0)
     (rows_hold-at STEPS states all_steps_hold state half (omega (arith, states_counted)) few))
 

@@ -20,12 +20,12 @@ abbrev pub bits : List ℕ → List Bool
 bits octets = flat_map (bits_of 8) octets
 
 -- the number that these bits are
-unfoldable pub number_of : List Bool → ℕ
-number_of [] = 0
-number_of (bit ∷ more) = (if bit then 2 ^ length more else 0) + number_of more
+unfoldable pub number_of_bits : List Bool → ℕ
+number_of_bits [] = 0
+number_of_bits (bit ∷ more) = (if bit then 2 ^ length more else 0) + number_of_bits more
 
 -- the octets that these bits are, eight bits each
-unfoldable pub octets_of : List Bool → List ℕ
-octets_of (a ∷ b ∷ c ∷ d ∷ e ∷ f ∷ g ∷ h ∷ more) =
-    number_of (a ∷ b ∷ c ∷ d ∷ e ∷ f ∷ g ∷ h ∷ []) ∷ octets_of more
-octets_of _ = []
+unfoldable pub octets_of_bits : List Bool → List ℕ
+octets_of_bits (a ∷ b ∷ c ∷ d ∷ e ∷ f ∷ g ∷ h ∷ more) =
+    number_of_bits (a ∷ b ∷ c ∷ d ∷ e ∷ f ∷ g ∷ h ∷ []) ∷ octets_of_bits more
+octets_of_bits _ = []

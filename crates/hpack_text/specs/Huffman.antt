@@ -5,7 +5,7 @@ use Rattle.std.specs.Option.{option_map_or}
 use Rattle.std.specs.List.{flat_map, AllByRecursion}
 use Rattle.hpack_text.specs.declared.fault.TextFault.{TextFault}
 use Rattle.hpack_text.specs.declared.fault.TextFault.TheVariants as faults
-use Rattle.hpack_text.specs.Bits.{IsOctet, bits_of, bits, octets_of}
+use Rattle.hpack_text.specs.Bits.{IsOctet, bits_of, bits, octets_of_bits}
 
 -- The symbols whose codes have one length. In the order given, their codes rise by one from the
 -- first.
@@ -184,7 +184,7 @@ padding_of count = (8 - count % 8) % 8
 -- the octets that encode a text
 -- rule: HPACK 5.2 A Huffman-encoded string is written with the codes
 unfoldable pub huffman_bits : List ℕ → List ℕ
-huffman_bits text = octets_of (codes text ++ replicate (padding_of (length (codes text))) true)
+huffman_bits text = octets_of_bits (codes text ++ replicate (padding_of (length (codes text))) true)
 
 -- how many octets encode a text
 -- rule: HPACK 5.2 A Huffman-encoded string is written with the codes

@@ -42,14 +42,14 @@ BeginsWithEnd bit_list = (more : List Bool) × (bit_list ≡ code end_symbol ++ 
 -- A step as it is packed: the next state, 256 times the symbol, and 65536 where there is a symbol;
 -- or 131072 where the bits begin with the code of EOS.
 -- rule: HPACK B The code is read by half octets, from state to state
-pub record IsStep (state half step : ℕ) : Type 0 where
+pub record IsHalfStep (state half step : ℕ) : Type 0 where
   pub ended : 131072 ≤ step → BeginsWithEnd (stepped state half)
   pub symbol : 65536 ≤ step → step < 131072
       → stepped state half ≡ code (step / 256 % 256) ++ prefix_of (step % 256)
   pub within : step < 65536 → stepped state half ≡ prefix_of (step % 256)
 
 -- From a state these bits were read: the octets that were appended, and the state after them.
-pub record Reads (old new : List ℕ) (state : ℕ) (bit_list : List Bool) (next : ℕ) : Type 0 where
+pub record ReadsBits (old new : List ℕ) (state : ℕ) (bit_list : List Bool) (next : ℕ) : Type 0 where
   pub added : List ℕ
   pub joined : new ≡ old ++ added
   pub octets : AllByRecursion IsOctet added

@@ -3,7 +3,7 @@ use Rattle.std.proofs.Common.{◌≡◌, [], ◌∷◌, codes, refl, Some}
 use Rattle.clap.proofs.OnLiterals.{clap_on_literals}
 use Rattle.clap.specs.declared.error.kind.ErrorKind.TheVariants.{MissingRequiredArgument}
 use Rattle.clap.specs.declared.error.kind.ErrorKind.TheVariants.{UnknownArgument, ValueValidation}
-use Rattle.h2_args.specs.Words.{get_faults, loop_faults, octets_of, serve_faults}
+use Rattle.h2_args.specs.Words.{get_faults, loop_faults, octets_asked, serve_faults}
 use Rattle.h2_args.specs.Words.{serve_options_of, url_of}
 
 -- rule: engines (own) serve, get and loop have their words
@@ -41,11 +41,11 @@ no_url : get_faults [] ≡ MissingRequiredArgument ∷ []
 unfolding clap_on_literals
 no_url = refl
 
-no_octets : octets_of (codes "0" ∷ []) ≡ Some 0
+no_octets : octets_asked (codes "0" ∷ []) ≡ Some 0
 unfolding clap_on_literals
 no_octets = refl
 
-most_octets : octets_of (codes "1048576" ∷ []) ≡ Some 1048576
+most_octets : octets_asked (codes "1048576" ∷ []) ≡ Some 1048576
 unfolding clap_on_literals
 most_octets = refl
 
@@ -53,6 +53,6 @@ above_the_most : loop_faults (codes "1048577" ∷ []) ≡ ValueValidation ∷ []
 unfolding clap_on_literals
 above_the_most = refl
 
-negative_after_dashes : octets_of (codes "--" ∷ codes "-0" ∷ []) ≡ Some 0
+negative_after_dashes : octets_asked (codes "--" ∷ codes "-0" ∷ []) ≡ Some 0
 unfolding clap_on_literals
 negative_after_dashes = refl

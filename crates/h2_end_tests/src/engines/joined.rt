@@ -4,8 +4,8 @@ use super::acts::acts;
 use h2_joined::{
     Acted, Code, Config, EndRefusal, HandedEvents, Joined, JointAct, JointEvent, Refusal, Side,
     connection_windows_are_conserved, handed_out_is_a_prefix, header_tables_are_in_step, headline,
-    joined_ends_are_a_pair, no_fault_is_reported, quiet_ends_have_all, run,
-    stream_windows_are_conserved,
+    joined_ends_are_a_pair, no_fault_is_reported, quiet_ends_have_all, quiet_ends_hold_nothing,
+    run, stream_windows_are_conserved,
 };
 use std::alloc::{AllocError, Global};
 
@@ -180,5 +180,6 @@ fn laws_are_called() {
     joined_ends_are_a_pair();
     no_fault_is_reported();
     quiet_ends_have_all();
+    quiet_ends_hold_nothing();
     stream_windows_are_conserved();
 }

@@ -110,6 +110,7 @@ fn laws_of_h2_end_laws_first() {
     h2_end_laws::events_are_of_streams_in_use();
     h2_end_laws::events_are_of_the_items();
     h2_end_laws::items_are_frames_grouped();
+    h2_end_laws::no_data_passes_windows();
     h2_end_laws::nothing_follows_a_failure();
     h2_end_laws::opened_numbers_are_new();
     h2_end_laws::over_streams_stay_over();
@@ -182,6 +183,7 @@ fn laws_of_h2_pair_second() {
     h2_pair::takes_are_steps();
     h2_pair::unprocessed_streams_are_reported();
     h2_pair::waiting_of_a_pair();
+    h2_pair::what_is_sent_is_written();
 }
 
 #[test]

@@ -45,40 +45,58 @@ fn refused_allocations_have_their_code(rt: HostRuntime) {
 }
 
 #[test]
-fn faults_of_payloads_have_their_text(rt: HostRuntime) {
+fn faults_of_payloads_have_their_texts(rt: HostRuntime) {
     let error = PayloadError::Code(Code::ProtocolError);
     assert!(rt; is_printed(rt.alloc(), &error, "fault of a payload: PROTOCOL_ERROR"));
+    let text = "F1 TooLong: the payload has more than 16777215 octets";
+    assert!(rt; is_printed(rt.alloc(), &Unwritable::TooLong, text));
 }
 
-// Refusals, and how their texts begin.
+// Refusals and their texts: cases print their names alone.
 const REFUSALS: &[(Refusal, &str)] = &[
-    (Refusal::Closed, "C1 "),
-    (Refusal::NoSuchStream, "C2 "),
-    (Refusal::Ended, "C3 "),
-    (Refusal::TooManyStreams, "C4 "),
-    (Refusal::StreamsExhausted, "C5 "),
-    (Refusal::GoingAway, "C6 "),
-    (Refusal::OutputFull, "C7 "),
-    (Refusal::PingWaits, "C8 "),
-    (Refusal::TooManyResets, "C9 "),
-    (Refusal::ListTooLarge, "C10 "),
-    (Refusal::NotOwed, "C11 "),
-    (Refusal::Memory, "C12 "),
-    (Refusal::SettingsWait, "C13 "),
+    (Refusal::Closed, "C1 Closed: the connection has failed"),
+    (
+        Refusal::NoSuchStream,
+        "C2 NoSuchStream: the stream isn't active",
+    ),
+    (Refusal::Ended, "C3 Ended: this end has ended the stream"),
+    (
+        Refusal::TooManyStreams,
+        "C4 TooManyStreams: as many streams are active as the peer allows",
+    ),
+    (
+        Refusal::StreamsExhausted,
+        "C5 StreamsExhausted: no number is left for a stream",
+    ),
+    (
+        Refusal::GoingAway,
+        "C6 GoingAway: the connection takes no new streams",
+    ),
+    (Refusal::OutputFull, "C7 OutputFull: too much output waits"),
+    (Refusal::PingWaits, "C8 PingWaits: a ping awaits its answer"),
+    (
+        Refusal::TooManyResets,
+        "C9 TooManyResets: too many streams were reset",
+    ),
+    (
+        Refusal::ListTooLarge,
+        "C10 ListTooLarge: the field list is too large",
+    ),
+    (
+        Refusal::NotOwed,
+        "C11 NotOwed: so much isn't owed on the stream",
+    ),
+    (Refusal::Memory, "C12 Memory: out of memory"),
+    (
+        Refusal::SettingsWait,
+        "C13 SettingsWait: settings await their acknowledgment",
+    ),
 ];
 
-// Whether a refusal's text begins so.
-fn begins(alloc: Global, refusal: Refusal, number: &str) -> bool {
-    match format!(in alloc; "{refusal}") {
-        Ok(text) => text.as_str().starts_with(number),
-        Err(_) => false,
-    }
-}
-
-// The place of the first refusal whose text begins otherwise.
+// The place of the first refusal whose text is another.
 fn first_wrong(alloc: Global) -> Option<usize> {
-    for (place, (refusal, number)) in REFUSALS.iter().enumerate() {
-        if !begins(alloc, *refusal, number) {
+    for (place, (refusal, text)) in REFUSALS.iter().enumerate() {
+        if !is_printed(alloc, refusal, text) {
             return Some(place);
         }
     }
@@ -86,7 +104,7 @@ fn first_wrong(alloc: Global) -> Option<usize> {
 }
 
 #[test]
-fn refusals_have_their_numbers(rt: HostRuntime) {
+fn refusals_have_their_texts(rt: HostRuntime) {
     assert_eq!(rt; first_wrong(rt.alloc()), None);
 }
 

@@ -8,7 +8,7 @@ use Rattle.h2_log.specs.Log.{Log, next_unprocessed, state}
 use Rattle.h2_log.specs.LogCalls.{with_call}
 use Rattle.h2_log.specs.LogSteps.{took_none}
 use Rattle.h2_log.specs.LogView.{log_view}
-use Rattle.h2_log.specs.States.{Active, Closed, ClosedByUs, Idle}
+use Rattle.h2_log.specs.States.{Active, Closed, ClosedByUs, Idle, lesser_number}
 use Rattle.h2_log.specs.WrittenFrames.{takes, takes_block}
 use Rattle.h2_log.specs.declared.refusal.Refusal.TheVariants.{GoingAway}
 use Rattle.h2_log.proofs.Computing.{computing}
@@ -81,6 +81,11 @@ goaway_of_all :
     (GoAwayEvent 0 11 ∷ UnprocessedEvent 1 ∷ UnprocessedEvent 3 ∷ []) two_asked_output None)
 unfolding computing
 goaway_of_all = (refl, refl, refl)
+
+-- Of two numbers of streams the lesser one comes first, and 0 is none.
+lesser_numbers : map (lesser_number 3) (0 ∷ 1 ∷ 3 ∷ 5 ∷ []) ≡ 3 ∷ 1 ∷ 3 ∷ 3 ∷ []
+unfolding computing
+lesser_numbers = refl
 
 -- Streams of a server's peer aren't named by the peer's GOAWAY.
 goaway_at_a_server :

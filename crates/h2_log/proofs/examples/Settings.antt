@@ -17,7 +17,8 @@ use Rattle.std.specs.Prelude.{
 }
 use Rattle.hpack.specs.Lists.{EncoderState, empty_table}
 use Rattle.hpack.specs.declared.types.field.Field.{Field}
-use Rattle.h2_frame.specs.Frames.{Settings}
+use Rattle.h2_frame.specs.Frames.{Ping, Settings}
+use Rattle.h2_block.specs.Grouping.{Item, alone}
 use Rattle.h2_frame.specs.declared.code.Code.TheVariants.{FlowControlError, ProtocolError}
 use Rattle.h2_log.specs.Acts.{ChangeSettings, Done, Refused, SendFields, Values}
 use Rattle.h2_log.specs.Events.{AckedEvent, FieldsEvent}
@@ -26,6 +27,7 @@ use Rattle.h2_log.specs.ItemRules.{settings_fault}
 use Rattle.h2_log.specs.Log.{Log, max_streams, output, recv_window}
 use Rattle.h2_log.specs.LogCalls.{opened, with_call}
 use Rattle.h2_log.specs.LogView.{log_view}
+use Rattle.h2_log.specs.Settings.{own_value, settings_of}
 use Rattle.h2_log.specs.WrittenFrames.{takes, takes_block}
 use Rattle.h2_log.specs.declared.refusal.Refusal.TheVariants.{SettingsWait}
 use Rattle.h2_log.specs.declared.role.Role.TheVariants.{Server}
@@ -220,9 +222,35 @@ changes_its_settings :
 unfolding computing
 changes_its_settings = (refl, refl, refl, refl, refl, refl)
 
+-- two SETTINGS among other items, the newest first, of which one acknowledges the peer's
+abbrev pub two_settings : List Item
+two_settings =
+    alone (Settings false ((4, 20) ∷ (1, 0) ∷ (4, 30) ∷ [])) ∷ alone (Settings true [])
+    ∷ alone (Ping false (0 ∷ 0 ∷ 0 ∷ 0 ∷ 0 ∷ 0 ∷ 0 ∷ 0 ∷ []))
+    ∷ alone (Settings false ((4, 10) ∷ [])) ∷ []
+
+-- The SETTINGS among items have the oldest first, and acknowledgments are none of them.
+settings_among_items :
+    settings_of two_settings ≡ ((4, 10) ∷ []) ∷ ((4, 20) ∷ (1, 0) ∷ (4, 30) ∷ []) ∷ []
+unfolding computing
+settings_among_items = refl
+
+-- An own value with none, one and both of them acknowledged (section 6.5.3).
+own_values :
+    (map (λ count. own_value 4 65535 count two_settings) (0 ∷ 1 ∷ 2 ∷ []) ≡ 65535 ∷ 10 ∷ 30 ∷ [])
+    × (map (λ count. own_value 1 4096 count two_settings) (0 ∷ 1 ∷ 2 ∷ []) ≡ 4096 ∷ 4096 ∷ 0 ∷ [])
+unfolding computing
+own_values = (refl, refl)
+
 -- a client without a table
 abbrev pub tableless_values : Values
-tableless_values = record { table_limit = 0; initial_window = 65535; max_streams = 100; max_frame = 16384 }
+tableless_values = record {
+  table_limit = 0;
+  initial_window = 65535;
+  max_streams = 100;
+  max_frame =
+      16384;
+}
 
 -- a client whose SETTINGS are acknowledged changes them
 abbrev pub changed_client : Log
@@ -239,7 +267,13 @@ client_changes_its_settings = refl
 
 -- a server that allows 200 streams
 abbrev pub many_values : Values
-many_values = record { table_limit = 4096; initial_window = 65535; max_streams = 200; max_frame = 16384 }
+many_values = record {
+  table_limit = 4096;
+  initial_window = 65535;
+  max_streams = 200;
+  max_frame =
+      16384;
+}
 
 abbrev pub server_of_many : Log
 server_of_many = takes (opened Server many_values) (Settings false [])
@@ -269,7 +303,8 @@ streams_of_a_client :
 unfolding computing
 streams_of_a_client = refl
 
--- An end sends as many octets in a payload as its peer reads, and at most 65,536 (own; section 4.2).
+-- An end sends as many octets in a payload as its peer reads, and at most 65,536 (own; section
+-- 4.2).
 payloads :
     map (λ log. (log_view log).max_payload)
     (new_client ∷ takes new_client (Settings false ((5, 65536) ∷ [])) ∷ []) ≡ 16384 ∷ 65536 ∷ []

@@ -2,7 +2,7 @@
 use Rattle.std.specs.Prelude.{[], ◌∷◌, map, replicate, codes, true, false, ◌≡◌, refl}
 use Rattle.h2_message.specs.Octets.{is_bad_in_name, is_bad_name, is_bad_value, is_bad_method}
 use Rattle.h2_message.specs.Octets.{is_bad_path, is_bad_status, is_interim_status, is_bad_length}
-use Rattle.h2_message.specs.Octets.{number_of, is_token_octet}
+use Rattle.h2_message.specs.Octets.{number_written, is_token_octet}
 use Rattle.h2_message.proofs.examples.Words.{computing}
 
 -- The ends of the ranges that no name has, and their neighbours (RFC 9113, section 8.2.1).
@@ -103,9 +103,9 @@ lengths :
     [] ∷ codes "00000000000000000005" ∷ codes "+5" ∷ codes "-5" ∷ codes " 5" ∷ codes "5 "
     ∷ codes "5,5" ∷ codes "5.0" ∷ codes "/" ∷ codes ":" ∷ codes "x" ∷ [])
     ≡ replicate 11 true)
-    × (map number_of (
+    × (map number_written (
     codes "0" ∷ codes "5" ∷ codes "05" ∷ codes "10" ∷ codes "123" ∷ codes "90210" ∷ [])
     ≡ 0 ∷ 5 ∷ 5 ∷ 10 ∷ 123 ∷ 90210 ∷ [])
-    × (number_of (codes "9999999999999999999") ≡ 9999999999999999999)
+    × (number_written (codes "9999999999999999999") ≡ 9999999999999999999)
 unfolding computing
 lengths = (refl, refl, refl, refl)

@@ -8,7 +8,7 @@ use Rattle.h2_message.specs.declared.reading.Phase.{Phase}
 use Rattle.h2_message.specs.declared.reading.Phase.TheVariants.{AtHead, InBody, AtEnd}
 use Rattle.h2_message.specs.declared.reading.Place.TheVariants as places
 use Rattle.h2_message.specs.Reading.{Part, FieldsPart, OctetsPart}
-use Rattle.h2_message.specs.Phases.{phase_after_all, place_after, asks_head_first, ends}
+use Rattle.h2_message.specs.Phases.{phase_after_all, place_after, asks_head_first, ends_message}
 use Rattle.h2_message.proofs.examples.Words.{computing, field, r, asking, answering, body_of}
 
 -- a field block and DATA of so many octets, with END_STREAM or not
@@ -137,7 +137,7 @@ heads_and_ends :
     [] ∷ (block (asking "GET" "/") true ∷ []) ∷ (block (asking "head" "/") true ∷ [])
     ∷ (block (asking "GET" "/") false ∷ block (asking "HEAD" "/") true ∷ []) ∷ [])
     ≡ replicate 4 false)
-    × (map ends (
+    × (map ends_message (
     [] ∷ (block r false ∷ []) ∷ (block r true ∷ []) ∷ (block r false ∷ data_of 1 true ∷ [])
     ∷ (block r false ∷ data_of 1 false ∷ []) ∷ [])
     ≡ false ∷ false ∷ true ∷ true ∷ false ∷ [])

@@ -7,7 +7,7 @@ use Rattle.h2_message.specs.Octets.{is_bad_in_name, is_bad_after_first, is_bad_n
 use Rattle.h2_message.specs.Octets.{is_bad_in_value, is_blank, begins_blank, is_bad_value}
 use Rattle.h2_message.specs.Octets.{is_token_octet, is_token, is_bad_method, begins_with_slash}
 use Rattle.h2_message.specs.Octets.{is_bad_path, is_status_code, is_bad_status}
-use Rattle.h2_message.specs.Octets.{is_interim_status, is_bad_length, number_of}
+use Rattle.h2_message.specs.Octets.{is_interim_status, is_bad_length, number_written}
 use Rattle.h2_message.specs.Fields.{is_colon_first, is_pseudo, is_regular, is_named, value_of}
 use Rattle.h2_message.specs.Fields.{pseudo_names, required_names, has_bad_name, has_bad_value}
 use Rattle.h2_message.specs.Fields.{has_late_pseudo, has_pseudo, is_unknown_pseudo}
@@ -26,13 +26,13 @@ use Rattle.h2_message.specs.Reading.{ended, message_parts, IsDeclared, AreSoundT
 use Rattle.h2_message.specs.Reading.{AreSoundInterims}
 use Rattle.h2_message.specs.Phases.{is_short, phase_in_body, phase_after_final, phase_after_head}
 use Rattle.h2_message.specs.Phases.{phase_after_data, phase_after, phase_after_all}
-use Rattle.h2_message.specs.Phases.{asks_head_first, ends, place_at_head, place_in}
+use Rattle.h2_message.specs.Phases.{asks_head_first, ends_message, place_at_head, place_in}
 
 -- opens all that computes
 unfoldable pub computing : Unit {0}
 unfolding is_bad_in_name is_bad_after_first is_bad_name is_bad_in_value is_blank begins_blank
     is_bad_value is_token_octet is_token is_bad_method begins_with_slash is_bad_path
-    is_status_code is_bad_status is_interim_status is_bad_length number_of is_colon_first
+    is_status_code is_bad_status is_interim_status is_bad_length number_written is_colon_first
     is_pseudo is_regular is_named value_of pseudo_names required_names has_bad_name
     has_bad_value has_late_pseudo has_pseudo is_unknown_pseudo has_unknown_pseudo
     has_pseudo_twice lacks_pseudo or_nothing value_or_nothing has_bad_method has_bad_path
@@ -42,7 +42,7 @@ unfolding is_bad_in_name is_bad_after_first is_bad_name is_bad_in_value is_blank
     interim_rules trailer_rules has_wrong_body request_rules response_rules final_rules
     compared_length trailers_parts final_parts ended message_parts IsDeclared AreSoundTrailers
     AreSoundInterims is_short phase_in_body phase_after_final phase_after_head phase_after_data
-    phase_after phase_after_all asks_head_first ends place_at_head place_in
+    phase_after phase_after_all asks_head_first ends_message place_at_head place_in
 computing = tt
 
 -- a field of two texts

@@ -184,7 +184,7 @@ fn left_of(alloc: Global, stream: Recorder) -> Option<usize> {
     let mut link = new_link(alloc, stream)?;
     link.drain();
     let stream = link.get_ref();
-    if stream.is_shut.get() {
+    if stream.is_shut.get() && link.is_drained() {
         Some(stream.unread)
     } else {
         None

@@ -6,7 +6,7 @@ ghost use Rattle.std.specs.Vec.{vec_capacity};
 ghost use Rattle.hpack_text.specs.Appended.{IsExtended};
 ghost use Rattle.hpack_text.specs.Bits.{bits_of};
 ghost use Rattle.hpack_text.specs.Huffman.{Huff, HuffFault};
-ghost use Rattle.hpack_text.specs.States.{Reads, ReadsEnd, prefix_of};
+ghost use Rattle.hpack_text.specs.States.{ReadsBits, ReadsEnd, prefix_of};
 ghost use Rattle.hpack_text.specs.Strings.{most_text};
 
 use crate::fault::TextFault;
@@ -79,7 +79,7 @@ fn read_octet(state: u8, octet: u8, out: &mut Vec<u8>) -> Option<u8>
         ≤ 5 * vec_capacity out.old }
     ensures answer { MatchOption result
         (ReadsEnd out.old.items out.new.items state (bits_of 8 octet))
-        (Reads out.old.items out.new.items state (bits_of 8 octet)) }
+        (ReadsBits out.old.items out.new.items state (bits_of 8 octet)) }
     ensures capacity { vec_capacity out.new ≡ vec_capacity out.old }
 {
     let between = read_half(state, octet / 16, out)?;
@@ -96,7 +96,7 @@ fn read_half(state: u8, half: u8, out: &mut Vec<u8>) -> Option<u8>
     requires room { 5 * vec_len out.old + length (prefix_of state) ≤ 5 * vec_capacity out.old }
     ensures answer { MatchOption result
         (ReadsEnd out.old.items out.new.items state (bits_of 4 half))
-        (Reads out.old.items out.new.items state (bits_of 4 half)) }
+        (ReadsBits out.old.items out.new.items state (bits_of 4 half)) }
     ensures capacity { vec_capacity out.new ≡ vec_capacity out.old }
 {
     let (next, symbol) = huff_step(state, half)?;

@@ -1,7 +1,7 @@
 //! The table of steps by half octets.
 
 ghost use Rattle.std.specs.Prelude.{◌≡◌, ◌/◌, ◌%◌, ◌<◌};
-ghost use Rattle.hpack_text.specs.States.{IsStep};
+ghost use Rattle.hpack_text.specs.States.{IsHalfStep};
 
 /// Where the code of a symbol ends, this is part of the step.
 pub const HAS_SYMBOL: u32 = 0x1_0000;
@@ -15,7 +15,7 @@ pub const END: u32 = 0x2_0000;
 #[inline]
 pub fn step_at(state: u8, half: u8) -> u32
     requires { half < 16 }
-    ensures { IsStep state half result }
+    ensures { IsHalfStep state half result }
 {
     STEPS[usize::from(state) * 16 + usize::from(half)]
 }

@@ -3,7 +3,7 @@ use Rattle.std.proofs.Common.{Some, None}
 use Rattle.std.specs.Str.Parse.{ExplainsUnsignedError, HasUnsignedDigitsIfOk, ParsesUnsigned}
 use Rattle.clap.specs.Words.{found_of, rows_of}
 use Rattle.h2_args.specs.Commands.{loop_app}
-use Rattle.h2_args.specs.Words.{number_of}
+use Rattle.h2_args.specs.Words.{number_given}
 use Rattle.h2_args.proofs.CommandLemmas.{loop_is_alone, loop_wants_number}
 use Rattle.h2_args.proofs.GivenLemmas.{given_by-Ok}
 use Rattle.h2_args.proofs.RequiredLemmas.{GivesNumber, required_number}
@@ -30,7 +30,7 @@ pub returns-clause-ok : goal.returns-clause-ok
 returns-clause-ok c =
     let n = number (goal.at.returns-clause-ok c).After-get_one in
     let same : c.in-Some.count ≡ n.number = cc in
-    given_by-Ok loop_app (number_of (codes "N")) _ c.in_ok-command.command
+    given_by-Ok loop_app (number_given (codes "N")) _ c.in_ok-command.command
     c.in_ok-matches.matches c.in_ok-command.ensures refl refl c.in_ok-matches.ensures.matches
     c.in_ok-matches.ensures.kinds ∙ ap Some (sym (same ∙ n.read))
 

@@ -29,7 +29,7 @@ unfolding ErrsFetching
 returns-in-Err-note-clause-hears c =
     heard_error c.args.client.now.end c.take.follows.lender-at-none.end c.args.stream
     c.args.coming.now c.note.new.self c.args.piece.now c.in-Ok.taken c.in-Some.event _ c.in-Some.is
-    (inl refl)
+    (inl (refl, c.in-Err-note.ensures.err))
     (rw c.in-Ok.is at c.take.follows.holds-at-none)
 
 pub returns-then-used-piece-clause-hears : goal.returns-then-used-piece-clause-hears
@@ -49,14 +49,14 @@ pub returns-in-Ok-true-clause-hears : goal.returns-in-Ok-true-clause-hears
 returns-in-Ok-true-clause-hears c =
     heard_part c.args.client.now.end c.take.follows.lender-at-none.end c.args.stream
     c.args.coming.now c.note.new.self c.args.piece.now c.in-Ok.taken c.in-Some.event true
-    goes.Whole c.in-Some.is refl (rw c.in-Ok-true.field-0-test at c.in-Ok-true.ensures)
+    goes.Whole c.in-Some.is refl (rw c.in-Ok-true.field-0-test at c.in-Ok-true.ensures.notes)
     (rw c.in-Ok.is at c.take.follows.holds-at-none)
 
 pub returns-in-Ok-false-clause-hears : goal.returns-in-Ok-false-clause-hears
 returns-in-Ok-false-clause-hears c =
     heard_part c.args.client.now.end c.take.follows.lender-at-none.end c.args.stream
     c.args.coming.now c.note.new.self c.args.piece.now c.in-Ok.taken c.in-Some.event false
-    goes.Again c.in-Some.is refl (rw c.in-Ok-false.field-0-test at c.in-Ok-false.ensures)
+    goes.Again c.in-Some.is refl (rw c.in-Ok-false.field-0-test at c.in-Ok-false.ensures.notes)
     (rw c.in-Ok.is at c.take.follows.holds-at-none)
 
 pub returns-in-Err-clause-hears : goal.returns-in-Err-clause-hears

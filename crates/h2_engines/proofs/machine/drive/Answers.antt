@@ -2,34 +2,58 @@
 use Rattle.h2_engines.proofs.Names.{refl, sym, ◌∙◌, take, drop, length, arith}
 use Rattle.h2_engines.proofs.Names.{err_from_is_err_and}
 use Rattle.std.specs.List.{length_refill}
-use Rattle.h2_engines.proofs.MachineDrives.{drives_first, going_ends, no_round, sent_on, sent_last}
-use Rattle.h2_engines.proofs.MachineDrives.{read_on, read_ends, read_fails, taken_on, taken_whole}
-use Rattle.h2_engines.proofs.MachineDrives.{taken_last, waiting_on, waiting_last, gives_none}
-use Rattle.h2_engines.proofs.MachineDrives.{gives_piece, meets_end, pumped_on, pumped_last}
+use Rattle.h2_engines.proofs.MachineDrives.{drives_first, going_ends, no_round, waiting_on}
+use Rattle.h2_engines.proofs.MachineDrives.{waiting_last, written_on, sent_on, sent_last, read_on}
+use Rattle.h2_engines.proofs.MachineDrives.{read_ends, read_fails, taken_on, taken_whole}
+use Rattle.h2_engines.proofs.MachineDrives.{taken_last, gives_none, gives_piece, meets_end}
 use Rattle.h2_engines.proofs.machine.drive.Goals as goal
 
 pub returns-in_err-input-clause-drives : goal.returns-in_err-input-clause-drives
-returns-in_err-input-clause-drives g c course end is =
+returns-in_err-input-clause-drives g c course end is sent =
     let answer = err_from_is_err_and c.from_residual.result c.from_residual.ensures.1 in
     let old = g.M.Machine.held c.args.machine.now in
     rw (answer.1, answer.2)
-    (going_ends _ old _ c.in_err-input.ensures.err (drives_first _ old course end is))
+    (going_ends _ old _ c.in_err-input.ensures.err (drives_first _ old course end is sent).going)
 
 pub returns-in_err-write_out-clause-drives : goal.returns-in_err-write_out-clause-drives
-returns-in_err-write_out-clause-drives g c course end is =
+returns-in_err-write_out-clause-drives g c course end is sent =
     let answer = err_from_is_err_and c.from_residual-in_err-write_out.result
     c.from_residual-in_err-write_out.ensures.1 in
     rw (answer.1, answer.2) (sent_last _ (g.M.Machine.held c.write_out.new.machine)
-    c.in_err-write_out.field-0.0 (c.loop.invariant.drives course end is)
+    c.in_err-write_out.field-0.0 (c.loop.invariant.drives course end is sent)
     c.in_err-write_out.ensures.kept c.in_err-write_out.ensures.writes
     c.in_err-write_out.ensures.err)
 
+pub returns-in_err-send_waiting-clause-drives : goal.returns-in_err-send_waiting-clause-drives
+returns-in_err-send_waiting-clause-drives g c course end is sent =
+    let answer = err_from_is_err_and c.from_residual-in_err-send_waiting.result
+    c.from_residual-in_err-send_waiting.ensures.1 in
+    let go = written_on (g.M.Machine.held c.write_out.new.machine)
+    (c.loop.invariant.drives course end is sent) c.in_ok-write_out.ensures.kept
+    c.in_ok-write_out.ensures.writes in
+    rw (answer.1, answer.2) (waiting_last _ (g.M.Machine.held c.send_waiting.new.machine)
+    c.in_err-send_waiting.field-0.0 go c.in_err-send_waiting.ensures.kept
+    c.in_err-send_waiting.ensures.sends)
+
+pub loop-preserved-then-is_full : goal.loop-preserved-then-is_full
+loop-preserved-then-is_full g c =
+    record {
+      failures = c.in_ok-write_out.ensures.failures ∙ c.loop.invariant.failures;
+      room = c.loop.invariant.room;
+      drives = λ course end is sent. waiting_on (g.M.Machine.held c.send_waiting.new.machine)
+          (written_on (g.M.Machine.held c.write_out.new.machine)
+          (c.loop.invariant.drives course end is sent) c.in_ok-write_out.ensures.kept
+          c.in_ok-write_out.ensures.writes) c.in_ok-send_waiting.ensures.kept
+          c.in_ok-send_waiting.ensures.sends;
+    }
+
 pub returns-in-Ok-eq0-clause-drives : goal.returns-in-Ok-eq0-clause-drives
-returns-in-Ok-eq0-clause-drives g c course end is =
+returns-in-Ok-eq0-clause-drives g c course end is sent =
     let self = g.M.Machine.held c.write_out.new.machine in
-    let sent = sent_on self (c.loop.invariant.drives course end is)
+    let all = sent_on self (rw c.conn.ensures at c.waiting-is_full.ensures.count)
+    c.if-is_full.false (c.loop.invariant.drives course end is sent)
     c.in_ok-write_out.ensures.kept c.in_ok-write_out.ensures.writes in
-    read_ends _ self sent (gives_none _ _ c.read.new.buffer c.in-Ok-eq0.field-0
+    read_ends _ self all (gives_none _ _ c.read.new.buffer c.in-Ok-eq0.field-0
     c.in-Ok-eq0.field-0-test c.in-Ok-eq0.ensures.gives.1) c.in-Ok-eq0.ensures.takes_none
 
 pub returns-in-Ok-eq0-clause-ended : goal.returns-in-Ok-eq0-clause-ended
@@ -39,57 +63,57 @@ returns-in-Ok-eq0-clause-ended g c =
     (c.deref_mut.ensures.len ∙ c.loop.input.ok.0 ∙ c.loop.invariant.room)
 
 pub returns-in-Err-clause-drives : goal.returns-in-Err-clause-drives
-returns-in-Err-clause-drives g c course end is =
+returns-in-Err-clause-drives g c course end is sent =
     let self = g.M.Machine.held c.write_out.new.machine in
-    let sent = sent_on self (c.loop.invariant.drives course end is)
+    let go = written_on self (c.loop.invariant.drives course end is sent)
     c.in_ok-write_out.ensures.kept c.in_ok-write_out.ensures.writes in
-    read_fails _ self sent c.in-Err.ensures.gives c.in-Err.ensures.takes_none
+    read_fails _ self go c.in-Err.ensures.gives c.in-Err.ensures.takes_none
 
 pub returns-in_err-is_whole-in-Ok-clause-drives : goal.returns-in_err-is_whole-in-Ok-clause-drives
-returns-in_err-is_whole-in-Ok-clause-drives g c course end is =
+returns-in_err-is_whole-in-Ok-clause-drives g c course end is sent =
     let answer = err_from_is_err_and c.from_residual-in_err-is_whole-in-Ok.result
     c.from_residual-in_err-is_whole-in-Ok.ensures.1 in
-    let sent = sent_on (g.M.Machine.held c.write_out.new.machine)
-    (c.loop.invariant.drives course end is) c.in_ok-write_out.ensures.kept
+    let go = written_on (g.M.Machine.held c.write_out.new.machine)
+    (c.loop.invariant.drives course end is sent) c.in_ok-write_out.ensures.kept
     c.in_ok-write_out.ensures.writes in
     rw (answer.1, answer.2) (taken_last _ (g.M.Machine.held c.take_all.new.machine)
-    (take c.in-Ok.count c.deref.result.now) c.in_err-is_whole-in-Ok.field-0.0 (read_on _ sent
+    (take c.in-Ok.count c.deref.result.now) c.in_err-is_whole-in-Ok.field-0.0 (read_on _ go
     (gives_piece _ _ c.in-Ok.count c.loop.input.len c.read.new.buffer
     (drop (length c.read.new.buffer) c.loop.input.items) c.deref.result.now
     c.deref.ensures.value (c.in-Ok.ensures.length ∙ c.deref_mut.ensures.len)
     c.in-Ok.ensures.gives.1) c.in-Ok.ensures.takes_none) c.in_err-is_whole-in-Ok.ensures.takes)
 
 pub returns-then-is_whole-clause-drives : goal.returns-then-is_whole-clause-drives
-returns-then-is_whole-clause-drives g c course end is =
-    let sent = sent_on (g.M.Machine.held c.write_out.new.machine)
-    (c.loop.invariant.drives course end is) c.in_ok-write_out.ensures.kept
+returns-then-is_whole-clause-drives g c course end is sent =
+    let go = written_on (g.M.Machine.held c.write_out.new.machine)
+    (c.loop.invariant.drives course end is sent) c.in_ok-write_out.ensures.kept
     c.in_ok-write_out.ensures.writes in
     taken_whole _ (g.M.Machine.held c.take_all.new.machine)
-    (take c.in-Ok.count c.deref.result.now) c.if-is_whole.true (read_on _ sent (gives_piece _ _
+    (take c.in-Ok.count c.deref.result.now) c.if-is_whole.true (read_on _ go (gives_piece _ _
     c.in-Ok.count c.loop.input.len c.read.new.buffer (drop (length c.read.new.buffer)
     c.loop.input.items) c.deref.result.now c.deref.ensures.value
     (c.in-Ok.ensures.length ∙ c.deref_mut.ensures.len) c.in-Ok.ensures.gives.1)
     c.in-Ok.ensures.takes_none) c.in_ok-is_whole-in-Ok.ensures.takes
 
-pub returns-in_err-send_waiting-clause-drives : goal.returns-in_err-send_waiting-clause-drives
-returns-in_err-send_waiting-clause-drives g c course end is =
-    let answer = err_from_is_err_and c.from_residual-in_err-send_waiting.result
-    c.from_residual-in_err-send_waiting.ensures.1 in
-    let sent = sent_on (g.M.Machine.held c.write_out.new.machine)
-    (c.loop.invariant.drives course end is) c.in_ok-write_out.ensures.kept
+pub returns-in_err-send_waiting-2-clause-drives : goal.returns-in_err-send_waiting-2-clause-drives
+returns-in_err-send_waiting-2-clause-drives g c course end is sent =
+    let answer = err_from_is_err_and c.from_residual-in_err-send_waiting-2.result
+    c.from_residual-in_err-send_waiting-2.ensures.1 in
+    let go = written_on (g.M.Machine.held c.write_out.new.machine)
+    (c.loop.invariant.drives course end is sent) c.in_ok-write_out.ensures.kept
     c.in_ok-write_out.ensures.writes in
-    rw (answer.1, answer.2) (waiting_last _ (g.M.Machine.held c.send_waiting.new.machine)
-    c.in_err-send_waiting.field-0.0 (taken_on c.if-is_whole.false (read_on _ sent (gives_piece _ _
+    rw (answer.1, answer.2) (waiting_last _ (g.M.Machine.held c.send_waiting-in-loop.new.machine)
+    c.in_err-send_waiting-2.field-0.0 (taken_on c.if-is_whole.false (read_on _ go (gives_piece _ _
     c.in-Ok.count c.loop.input.len c.read.new.buffer (drop (length c.read.new.buffer)
     c.loop.input.items) c.deref.result.now c.deref.ensures.value
     (c.in-Ok.ensures.length ∙ c.deref_mut.ensures.len) c.in-Ok.ensures.gives.1)
     c.in-Ok.ensures.takes_none) c.in_ok-is_whole-in-Ok.ensures.takes)
-    c.in_err-send_waiting.ensures.kept c.in_err-send_waiting.ensures.sends)
+    c.in_err-send_waiting-2.ensures.kept c.in_err-send_waiting-2.ensures.sends)
 
 pub returns-clause-drives : goal.returns-clause-drives
-returns-clause-drives g c course end is =
+returns-clause-drives g c course end is sent =
     no_round _ (g.M.Machine.held c.loop.machine) (omega arith)
-    (c.loop.invariant.drives course end is)
+    (c.loop.invariant.drives course end is sent).going
 
 pub loop-init : goal.loop-init
 loop-init g c =
@@ -107,35 +131,15 @@ loop-preserved g c =
       room = sym
           (length_refill c.loop.input.len c.loop.input.items c.read.new.buffer c.loop.input.ok.0)
           ∙ c.loop.input.ok.0 ∙ c.loop.invariant.room;
-      drives = λ course end is.
-          let sent = sent_on (g.M.Machine.held c.write_out.new.machine)
-          (c.loop.invariant.drives course end is) c.in_ok-write_out.ensures.kept
+      drives = λ course end is sent.
+          let go = written_on (g.M.Machine.held c.write_out.new.machine)
+          (c.loop.invariant.drives course end is sent) c.in_ok-write_out.ensures.kept
           c.in_ok-write_out.ensures.writes in
-          waiting_on (g.M.Machine.held c.send_waiting.new.machine) _ (taken_on
-          c.if-is_whole.false (read_on _ sent (gives_piece _ _ c.in-Ok.count c.loop.input.len
+          waiting_on (g.M.Machine.held c.send_waiting-in-loop.new.machine) (taken_on
+          c.if-is_whole.false (read_on _ go (gives_piece _ _ c.in-Ok.count c.loop.input.len
           c.read.new.buffer (drop (length c.read.new.buffer) c.loop.input.items)
           c.deref.result.now c.deref.ensures.value (c.in-Ok.ensures.length
           ∙ c.deref_mut.ensures.len) c.in-Ok.ensures.gives.1) c.in-Ok.ensures.takes_none)
-          c.in_ok-is_whole-in-Ok.ensures.takes) c.in_ok-send_waiting.ensures.kept
-          c.in_ok-send_waiting.ensures.sends;
-    }
-
-pub returns-in_err-pump-clause-drives : goal.returns-in_err-pump-clause-drives
-returns-in_err-pump-clause-drives g c course end is =
-    let answer = err_from_is_err_and c.from_residual-in_err-pump.result
-    c.from_residual-in_err-pump.ensures.1 in
-    rw (answer.1, answer.2) (pumped_last _ (g.M.Machine.held c.pump.new.machine)
-    c.in_err-pump.field-0.0 (sent_on (g.M.Machine.held c.write_out.new.machine)
-    (c.loop.invariant.drives course end is) c.in_ok-write_out.ensures.kept
-    c.in_ok-write_out.ensures.writes) c.in_err-pump.ensures.kept c.in_err-pump.ensures.pumps)
-
-pub loop-preserved-then-is_full : goal.loop-preserved-then-is_full
-loop-preserved-then-is_full g c =
-    record {
-      failures = c.in_ok-write_out.ensures.failures ∙ c.loop.invariant.failures;
-      room = c.loop.invariant.room;
-      drives = λ course end is. pumped_on (g.M.Machine.held c.pump.new.machine) _ (sent_on
-          (g.M.Machine.held c.write_out.new.machine) (c.loop.invariant.drives course end is)
-          c.in_ok-write_out.ensures.kept c.in_ok-write_out.ensures.writes)
-          c.in_ok-pump.ensures.kept c.in_ok-pump.ensures.pumps;
+          c.in_ok-is_whole-in-Ok.ensures.takes) c.in_ok-send_waiting-2.ensures.kept
+          c.in_ok-send_waiting-2.ensures.sends;
     }

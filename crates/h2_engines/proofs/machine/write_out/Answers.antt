@@ -5,6 +5,7 @@ use Rattle.h2_link.specs.Links.{WritesAll}
 use Rattle.h2_engines.specs.Machines.{Happens}
 use Rattle.h2_engines.proofs.MachineLaws.{puts_at}
 use Rattle.h2_engines.proofs.ResponderFaults.{written_some, written_failures, written_ends}
+use Rattle.h2_engines.proofs.ResponderFaults.{written_known}
 use Rattle.h2_engines.proofs.ResponderWrites.{writes_more, writes_first, writes_all, writes_refused}
 use Rattle.h2_engines.proofs.ResponderWrites.{writes_no_more, writes_nothing}
 use Rattle.h2_engines.proofs.machine.write_out.Goals as goal
@@ -36,10 +37,11 @@ returns-in_err-write_all-in-Ok-clause-writes g c course end unused is was linked
     let answer = err_from_is_err_and c.from_residual.result c.from_residual.ensures.1 in
     let written = rw c.deref.ensures.value at c.in_err-write_all-in-Ok.ensures.writes in
     let some = written_some _ _ _ _ _ _ written in
+    let known = written_known _ _ _ _ _ _ written in
     let gives = rw c.new-output.ensures.items at c.in-Ok.ensures.ok in
     rw (answer.1, answer.2) (writes_first (Happens course kept) (puts_at course kept) _ new
     18446744073709551615 c.in-Ok.field-0 c.give_out.new.out.items some.0 _ (omega arith)
-    c.in-Ok.ensures.answers gives c.in_err-write_all-in-Ok.ensures.gives_none some.1.took
+    c.in-Ok.ensures.answers gives c.in_err-write_all-in-Ok.ensures.gives_none some.1.took known
     c.in_err-write_all-in-Ok.ensures.stalled
     (c.loop.invariant.writes course end unused is was linked))
 

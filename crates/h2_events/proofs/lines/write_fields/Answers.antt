@@ -3,7 +3,7 @@ use Rattle.std.proofs.Common.{◌≡◌, ◌<◌, ◌≤◌, length, Some, arith
 use Rattle.std.specs.List.{slice_get}
 use Rattle.std.proofs.lemmas.Option.{slice_get_within, get_or_from_slice_get}
 use Rattle.hpack.specs.declared.types.field.Field.{Field}
-use Rattle.h2_show.specs.Lines.{field_line, field_of}
+use Rattle.h2_show.specs.Lines.{field_line, field_lent}
 use Rattle.h2_events.proofs.LineLemmas.{next_written}
 use Rattle.h2_events.proofs.lines.write_fields.Goals as goal
 use Rattle.h2_events.proofs.lines.write_fields.Goals.{in-Some+in_ok-write_field, in_default}
@@ -14,7 +14,7 @@ loop-place-preserved g c =
     let place = c.loop-place.place in
     elim c.match-get.branch [
       | in-Some+in_ok-write_field w ↦
-          let next : Field = field_of w.in-Some.field in
+          let next : Field = field_lent w.in-Some.field in
           let there : slice_get list place ≡ Some next = w.in-Some.ensures in
           rw w.out-is (
           next_written field_line list place next next _ _ _

@@ -1,25 +1,25 @@
 -- An event, by where it lies.
 use Rattle.std.proofs.Common.{refl}
-use Rattle.h2_joined.specs.Stored.{event_of}
+use Rattle.h2_joined.specs.Stored.{event_kept}
 use Rattle.h2_joined.proofs.events.lend.Goals as goal
 
 pub returns-in-Interim : goal.returns-in-Interim
-unfolding event_of
+unfolding event_kept
 returns-in-Interim c =
     rw (c.in-Interim.is, c.lend_fields.ensures.octets, c.lend_fields.ensures.places) refl
 
 pub returns-in-Head : goal.returns-in-Head
-unfolding event_of
+unfolding event_kept
 returns-in-Head c =
     rw (c.in-Head.is, c.lend_fields-in-Head.ensures.octets, c.lend_fields-in-Head.ensures.places)
     refl
 
 pub returns-in-Body : goal.returns-in-Body
-unfolding event_of
+unfolding event_kept
 returns-in-Body c = rw (c.in-Body.is, c.octets_at.ensures, c.deref.ensures.value) refl
 
 pub returns-in-Trailers : goal.returns-in-Trailers
-unfolding event_of
+unfolding event_kept
 returns-in-Trailers c =
     rw (
       c.in-Trailers.is,
@@ -28,21 +28,21 @@ returns-in-Trailers c =
     ) refl
 
 pub returns-in-Reset : goal.returns-in-Reset
-unfolding event_of
+unfolding event_kept
 returns-in-Reset c = rw c.in-Reset.is refl
 
 pub returns-in-Unprocessed : goal.returns-in-Unprocessed
-unfolding event_of
+unfolding event_kept
 returns-in-Unprocessed c = rw c.in-Unprocessed.is refl
 
 pub returns-in-GoAway : goal.returns-in-GoAway
-unfolding event_of
+unfolding event_kept
 returns-in-GoAway c = rw c.in-GoAway.is refl
 
 pub returns-in-Acked : goal.returns-in-Acked
-unfolding event_of
+unfolding event_kept
 returns-in-Acked c = rw c.in-Acked.is refl
 
 pub returns-in-Pong : goal.returns-in-Pong
-unfolding event_of
+unfolding event_kept
 returns-in-Pong c = rw c.in-Pong.is refl

@@ -1,7 +1,7 @@
 use Rattle.std.proofs.Common.{refl, sym, ap, ◌∙◌, get_or, arith}
 use Rattle.std.proofs.lemmas.List.{drop_all}
 use Rattle.std.specs.Str.{all_ascii_digits}
-use Rattle.h2_message.specs.Octets.{number_of}
+use Rattle.h2_message.specs.Octets.{number_written}
 use Rattle.h2_message.proofs.ClassLemmas.{digit_fits, none_empty, none_long, none_other}
 use Rattle.h2_message.proofs.ClassLemmas.{is_number, no_length, some_length, number_from}
 use Rattle.h2_message.proofs.classes.length_number.Goals as goal
@@ -21,7 +21,7 @@ returns-then-is_empty c =
     ]
 
 pub loop-digit-init : goal.loop-digit-init
-unfolding number_of
+unfolding number_written
 loop-digit-init c = (omega arith, refl, refl)
 
 pub returns-then-not-is_ascii_digit : goal.returns-then-not-is_ascii_digit

@@ -5,7 +5,7 @@ use Rattle.h2_log.specs.Events.{Event}
 use Rattle.h2_frame.specs.declared.code.Code.{Code}
 use Rattle.h2_replay.specs.declared.events.ReplayEvent.{ReplayEvent}
 use Rattle.h2_replay.specs.Replay.{each_octet, all_by_octets}
-use Rattle.h2_replay.specs.Values.{event_value}
+use Rattle.h2_replay.specs.Values.{replay_event_value}
 use Rattle.h2_replay.specs.Taking.{reported_by, taken_events}
 use Rattle.h2_replay.proofs.TakingLemmas.{kept_twice, kept_without, kept_with, one_event}
 use Rattle.h2_replay.proofs.taking.keep_taking.Goals as goal
@@ -39,7 +39,7 @@ returns-clause-kept c =
     c.in_ok-push.ensures.items c.in_ok-push-2.ensures.items
     (ap (each_octet In) c.in_ok-from_slice.ensures.items) refl)
     c.in_ok-push-3.ensures.items
-    (one_event (event_value c.in-Some-event.event)
+    (one_event (replay_event_value c.in-Some-event.event)
     ∙ ap (λ (e : List Event). all_by_octets (map Happened e))
     (sym (ap (λ (f : Option Code). reported_by f c.args.taking.event) c.in_default.is
     ∙ ap (λ (e : Option ReplayEvent). reported_by None e) c.in-Some-event.is)))

@@ -4,7 +4,7 @@ use Rattle.std.specs.Option.{option_map}
 use Rattle.h2_log.specs.Events.{Event}
 use Rattle.h2_end_laws.specs.Takes.{Took, MayTake}
 use Rattle.h2_conn.specs.Events as conn
-use Rattle.h2_replay.specs.Values.{event_value}
+use Rattle.h2_replay.specs.Values.{replay_event_value}
 use Rattle.h2_replay.proofs.TakingLemmas.{took_input, failed_input}
 use Rattle.h2_replay.proofs.taking.take_once.Goals as goal
 use Rattle.h2_replay.proofs.taking.take_once.Goals.{in-Some+in_ok-copy_of-in-Some, in-None}
@@ -15,7 +15,7 @@ returns-in-Ok-clause-takes c values log represents =
     let piece = c.args.piece.now in
     let used = c.in-Ok.taken.used in
     let same : option_map conn.event_value c.in-Ok.taken.event
-    ≡ option_map event_value c.match-taken.event =
+    ≡ option_map replay_event_value c.match-taken.event =
     elim c.match-taken.branch [
       | in-Some+in_ok-copy_of-in-Some w ↦
           rw (w.event-is, w.in-Some.is)

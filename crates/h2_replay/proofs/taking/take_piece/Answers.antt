@@ -1,7 +1,7 @@
 -- By the lemmas on what a call of `take` makes of what is kept.
 use Rattle.std.proofs.Common.{sym, subst, take, length}
 use Rattle.h2_replay.specs.declared.taking.Next.{Next}
-use Rattle.h2_replay.specs.Taking.{GoesOn, IsWithin, taken_answer, taken_events}
+use Rattle.h2_replay.specs.Taking.{GoesOn, IsWithinPiece, taken_answer, taken_events}
 use Rattle.h2_replay.proofs.StepTakes.{take_adds}
 use Rattle.h2_replay.proofs.TakingLemmas.{goes_on_of, is_within, take_keeps, used_are, joined_are}
 use Rattle.h2_replay.proofs.TakingLemmas.{same_events}
@@ -9,7 +9,7 @@ use Rattle.h2_replay.proofs.taking.take_piece.Goals as goal
 
 pub returns-clause-within : goal.returns-clause-within
 returns-clause-within c =
-    subst (λ (n : Next). IsWithin n (length c.args.piece.now)) (sym c.in_ok-next.ensures.next)
+    subst (λ (n : Next). IsWithinPiece n (length c.args.piece.now)) (sym c.in_ok-next.ensures.next)
     (is_within c.in_ok-taking.taking (length c.args.piece.now) c.in_ok-taking.ensures.used)
 
 pub returns-clause-takes : goal.returns-clause-takes

@@ -1,5 +1,6 @@
 -- What the buffer took is in the writer.
 use Rattle.std.proofs.Common.{rules, refl, sym}
+use Rattle.std.proofs.lemmas.Bool.{false≢true}
 use Rattle.h2_show.specs.Shown.{ShowsInput}
 use Rattle.h2_show.proofs.InputLemmas.{lent_shown}
 use Rattle.h2_show.proofs.show.show_input.Goals as goal
@@ -10,4 +11,5 @@ returns-clause-shows g c =
     c.show_lines-shown.new.lines _ c.into_parts-lent.result.0 c.args.out.now _
     c.show_lines-shown.result c.show_lines-shown.ensures.shows c.in_ok-lines.ensures.inner
     c.in_ok-lines.ensures.empty refl (sym c.into_parts-lent.ensures.inner)
-    c.show_lines-shown.ensures.written (λ same. search rules)
+    (λ good. c.show_lines-shown.ensures.written (λ device. false≢true (rw device at good)))
+    (λ same. search rules)

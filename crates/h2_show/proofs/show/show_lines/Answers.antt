@@ -7,4 +7,4 @@ pub returns-clause-shows : goal.returns-clause-shows
 returns-clause-shows g c =
     kept_shown (ShowsInput c.args.options) _ _ _ _ c.show_given-shown.result
     c.show_given-shown.ensures.shows
-    c.in_ok-flush.ensures.bytes
+    c.flush.ensures.bytes

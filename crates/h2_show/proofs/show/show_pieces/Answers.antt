@@ -8,12 +8,17 @@ use Rattle.h2_show.proofs.ReportLemmas.{end_reports_all, error_reports_all}
 use Rattle.h2_show.proofs.show.show_pieces.Goals as goal
 
 pub loop-init : goal.loop-init
-loop-init g c =
-    ([], search rules, continues_nothing _ _, ([], Appends-nil _, prints_none _ _ _))
+loop-init g c = (
+  [],
+  search rules,
+  continues_nothing _ _,
+  ([], Appends-nil _, prints_none _ _ _),
+  c.requires.written,
+)
 
 pub returns-then-count-eq0-clause-reports : goal.returns-then-count-eq0-clause-reports
 returns-then-count-eq0-clause-reports g c =
-    let (octets, read, shown, text) = c.loop.invariant in
+    let (octets, read, shown, text, empty) = c.loop.invariant in
     end_reports_all _ c.loop.viewer.cutter _ c.loop.viewer.blocks _ _ _ octets _
     c.in_ok-count.count c.in_ok-status.status read c.in_ok-count.ensures.octets
     c.if-count-eq0.true (c.in_ok-count.ensures.end c.if-count-eq0.true (search rules)) shown
@@ -21,7 +26,7 @@ returns-then-count-eq0-clause-reports g c =
 
 pub returns-then-count-eq0-clause-shows : goal.returns-then-count-eq0-clause-shows
 returns-then-count-eq0-clause-shows g c =
-    let (octets, read, shown, text) = c.loop.invariant in
+    let (octets, read, shown, text, empty) = c.loop.invariant in
     let (printed, written, prints) = text in
     end_shows_all _ c.loop.viewer.cutter _ c.loop.viewer.blocks _ _ _ _ _ _ _ _ octets _ printed
     c.in_ok-count.count c.in_ok-status.status read c.in_ok-count.ensures.octets
@@ -30,7 +35,7 @@ returns-then-count-eq0-clause-shows g c =
 
 pub returns-in-Err-clause-reports : goal.returns-in-Err-clause-reports
 returns-in-Err-clause-reports g c =
-    let (octets, read, shown, text) = c.loop.invariant in
+    let (octets, read, shown, text, empty) = c.loop.invariant in
     error_reports_all _ c.loop.viewer.cutter c.write_piece.new.viewer.cutter _
     c.loop.viewer.blocks _ _ octets _ c.in-Err.error c.in_ok-status-in-Err.status
     (Consumes-trans _ _ _ _ _ read c.in_ok-count.ensures.octets) shown c.in-Err.ensures.err
@@ -38,7 +43,7 @@ returns-in-Err-clause-reports g c =
 
 pub returns-in-Err-clause-shows : goal.returns-in-Err-clause-shows
 returns-in-Err-clause-shows g c =
-    let (octets, read, shown, text) = c.loop.invariant in
+    let (octets, read, shown, text, empty) = c.loop.invariant in
     let (one, written, prints) = text in
     let known = c.in_ok-status-in-Err.ensures.status in
     let (two, more, fails) = c.in-Err.ensures.fault known.1 in
@@ -49,7 +54,7 @@ returns-in-Err-clause-shows g c =
 
 pub loop-preserved : goal.loop-preserved
 loop-preserved g c =
-    let (octets, read, shown, text) = c.loop.invariant in
+    let (octets, read, shown, text, empty) = c.loop.invariant in
     let (one, written, prints) = text in
     let (two, more, follows) = c.in-Ok.ensures.shown in (
       _,
@@ -62,4 +67,5 @@ loop-preserved g c =
         prints_append _ c.loop.viewer.cutter _ _ c.loop.viewer.blocks _ _ _ _ _ _ one two prints
             follows,
       ),
+      c.in-Ok.ensures.written,
     )

@@ -1,6 +1,6 @@
--- The octets that were read have been shown.
-use Rattle.std.proofs.Common.{ℕ, List}
-use Rattle.std.specs.Io.Buffered.{writer_contents}
+-- The octets that were read have been shown, and their lines written.
+use Rattle.std.proofs.Common.{◌≡◌, ℕ, List, []}
+use Rattle.std.specs.Io.Buffered.{writer_buffer, writer_contents}
 use Rattle.std.specs.Io.KnownBytes.{Appends, Consumes}
 use Rattle.h2_show.specs.Printed.{ViewerPrints}
 use Rattle.h2_show.specs.Viewer.{ViewerContinues}
@@ -17,3 +17,4 @@ invariant-loop g l =
     (writer_contents g.W.Write.contents l.lines) printed
     × ViewerPrints l.initial.viewer.cutter l.initial.viewer.blocks l.initial.viewer.preface.is_due
     octets l.viewer.cutter l.viewer.blocks l.viewer.preface.is_due printed)
+    × (writer_buffer l.lines ≡ [])

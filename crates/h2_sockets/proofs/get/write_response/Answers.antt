@@ -1,5 +1,4 @@
 -- The line of the status is printed, and then the body.
-use Rattle.std.proofs.KnownBytes.{Appends-trans}
 use Rattle.h2_sockets.proofs.Printing.{printed, always_good}
 use Rattle.h2_sockets.proofs.get.write_response.Goals as goal
 

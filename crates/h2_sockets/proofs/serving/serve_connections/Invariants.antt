@@ -1,6 +1,11 @@
--- The status so far is one with which serving may end.
+-- So many connections were served, and the status is that of the first that has ended early.
 use Rattle.h2_sockets.specs.Endings.{IsServingStatus}
+use Rattle.h2_sockets.specs.Serving.{ServesConnections}
 use Rattle.h2_sockets.proofs.serving.serve_connections.Given as goal
 
-abbrev pub invariant-loop : goal.invariant-loop
-invariant-loop g l = IsServingStatus l.status
+abbrev pub invariant-loop-place : goal.invariant-loop-place
+invariant-loop-place g l =
+    record {
+      may : IsServingStatus l.status;
+      serves : ServesConnections l._place l.status;
+    }

@@ -1,8 +1,15 @@
--- Words that begin with `loop` are that command's; words without a command have a fault.
+-- Words that begin with `get` or `loop` are that command's; words without a command have a fault.
 use Rattle.std.proofs.Common.{◌≡◌, ℕ, List, map, string_bytes, subst, rules}
-use Rattle.h2_tool.specs.Commands.{EndsLoop}
+use Rattle.h2_tool.specs.Commands.{EndsGet, EndsLoop}
+use Rattle.h2_tool.proofs.ProgramLemmas.{never_pass}
 use Rattle.h2_tool.proofs.WordLemmas.{program_fails}
 use Rattle.h2_tool.proofs.program.run.Goals as goal
+
+pub returns-in-get-clause-get : goal.returns-in-get-clause-get
+returns-in-get-clause-get g c = λ others same.
+    let following : map string_bytes c.in-Some.others.now ≡ others = search rules in
+    subst (λ (words : List (List ℕ)). EndsGet words (g.W.Write.contents c.args.out.now)
+    (g.W.Write.contents c.cmd_get.new.out) c.cmd_get.result) following c.cmd_get.ensures
 
 pub returns-in-loop-clause-post : goal.returns-in-loop-clause-post
 returns-in-loop-clause-post g c = λ others same.
@@ -12,4 +19,7 @@ returns-in-loop-clause-post g c = λ others same.
 
 pub returns-in-Err-clause-none : goal.returns-in-Err-clause-none
 returns-in-Err-clause-none g c = λ none.
-    program_fails _ c.in-Err.error c.answer.result c.in-Err.ensures.err c.answer.ensures.kind
+    program_fails _ _ _ c.in-Err.error c.answer.result c.in-Err.ensures.err c.answer.ensures
+
+pub returns-in-Ok-clause-none : goal.returns-in-Ok-clause-none
+returns-in-Ok-clause-none g c = λ none. absurd (never_pass _ none c.in-Ok.ensures.ok)

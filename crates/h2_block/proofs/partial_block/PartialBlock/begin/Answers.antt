@@ -3,7 +3,7 @@ use Rattle.std.proofs.Common.{◌∷◌, [], refl}
 use Rattle.h2_frame.specs.Frames.{Headers}
 use Rattle.h2_block.specs.Grouping.{block}
 use Rattle.h2_block.specs.declared.fault.BlockFault.TheVariants as faults
-use Rattle.h2_block.specs.PartialBlock.{state_of}
+use Rattle.h2_block.specs.PartialBlock.{gather_state_of}
 use Rattle.h2_block.proofs.PartialBlockLemmas.{continues, fails_with, headers_too_long}
 use Rattle.h2_block.proofs.PartialBlockLemmas.{headers_sound}
 use Rattle.h2_block.proofs.partial_block.PartialBlock.begin.Goals as goal
@@ -23,7 +23,7 @@ returns-then-fragment-gt-MAX_BLOCK_OCTETS-clause-takes c = λ pad priority.
 
 pub returns-then-whole-clause-takes : goal.returns-then-whole-clause-takes
 returns-then-whole-clause-takes c = λ pad priority.
-    let old = state_of c.args.self.now in
+    let old = gather_state_of c.args.self.now in
     let opening = c.args.opening in
     let fragment = c.args.fragment.now in
     continues old old (Headers opening.stream opening.end c.args.whole fragment pad priority)

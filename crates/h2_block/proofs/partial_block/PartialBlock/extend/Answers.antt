@@ -3,7 +3,7 @@ use Rattle.std.proofs.Common.{◌+◌, ◌<◌, ◌≤◌, ◌∷◌, [], length
 use Rattle.h2_frame.specs.Frames.{Continuation}
 use Rattle.h2_block.specs.Grouping.{block, Begun}
 use Rattle.h2_block.specs.declared.fault.BlockFault.TheVariants as faults
-use Rattle.h2_block.specs.PartialBlock.{state_of}
+use Rattle.h2_block.specs.PartialBlock.{gather_state_of}
 use Rattle.h2_block.proofs.PartialBlockLemmas.{continues, fails_with, continuation_too_long}
 use Rattle.h2_block.proofs.PartialBlockLemmas.{continuation_sound}
 use Rattle.h2_block.proofs.partial_block.PartialBlock.extend.Goals as goal
@@ -42,7 +42,7 @@ returns-then-not-whole-clause-takes c =
       old.octets.ok.0,
       c.requires.invariant.bounded,
     ) in
-    continues (state_of old) (state_of c.append.new.self)
+    continues (gather_state_of old) (gather_state_of c.append.new.self)
     (Continuation opening.stream c.args.whole c.args.fragment.now) []
     (rw c.in_ok-append.ensures.same c.requires.sound)
     (rw c.requires.inside (continuation_sound begun c.args.whole c.args.fragment.now within))
@@ -71,7 +71,7 @@ returns-clause-takes c =
       old.octets.ok.0,
       c.requires.invariant.bounded,
     ) in
-    continues (state_of old) (state_of c.end.new.self)
+    continues (gather_state_of old) (gather_state_of c.end.new.self)
     (Continuation opening.stream c.args.whole c.args.fragment.now)
     (block opening.stream opening.end c.end.result.items ∷ [])
     (rw (c.end.ensures.after, c.in_ok-append.ensures.same) c.requires.sound)

@@ -3,7 +3,7 @@ use Rattle.std.proofs.Common.{◌≡◌, Some, refl}
 use Rattle.h2_frame.specs.Frames.{frame_of}
 use Rattle.h2_block.specs.declared.fault.BlockFault.TheVariants as faults
 use Rattle.h2_block.specs.Grouping.{Begun, next_fault}
-use Rattle.h2_block.specs.PartialBlock.{state_of}
+use Rattle.h2_block.specs.PartialBlock.{gather_state_of}
 use Rattle.h2_block.proofs.PartialBlockLemmas.{fails_with, continuation_reported, one_fault_of}
 use Rattle.h2_block.proofs.PartialBlockLemmas.{other_interrupts, other_stream_interrupts}
 use Rattle.h2_block.proofs.partial_block.PartialBlock.take_inside.Goals as goal
@@ -28,7 +28,8 @@ returns-in-Continuation-clause-reported c = λ fault faulty.
     rw reported.0 (c.extend.ensures.reported (rw old.octets.ok.0 reported.1))
 
 interrupts : (c : goal.After-fail)
-    → next_fault (state_of c.args.self.now).begun (frame_of c.args.frame) ≡ Some faults.Interrupted
+    → next_fault (gather_state_of c.args.self.now).begun (frame_of c.args.frame)
+    ≡ Some faults.Interrupted
 interrupts c =
     let old = c.args.self.now in
     let opening = c.args.opening in

@@ -4,7 +4,7 @@ use Rattle.std.proofs.lemmas.Bool.{false≢true}
 use Rattle.h2_frame.specs.Frames.{frame_of}
 use Rattle.h2_block.specs.declared.fault.BlockFault.TheVariants as faults
 use Rattle.h2_block.specs.Grouping.{alone, is_standalone}
-use Rattle.h2_block.specs.PartialBlock.{state_of}
+use Rattle.h2_block.specs.PartialBlock.{gather_state_of}
 use Rattle.h2_block.proofs.PartialBlockLemmas.{continues, fails_with, headers_reported}
 use Rattle.h2_block.proofs.PartialBlockLemmas.{continuation_stray, one_fault_of, no_fault_of}
 use Rattle.h2_block.proofs.PartialBlockLemmas.{other_passes}
@@ -37,7 +37,7 @@ returns-in-Continuation-clause-takes c =
 
 pub returns-in_default : goal.returns-in_default
 returns-in_default c =
-    let old = state_of c.args.self.now in
+    let old = gather_state_of c.args.self.now in
     let frame = frame_of c.args.frame in
     let passes = other_passes c.args.frame c.in_default.not-Headers c.in_default.not-Continuation in
     record {

@@ -4,7 +4,7 @@ use Rattle.std.proofs.Common.{[], ◌∷◌}
 use Rattle.h2_log.specs.Events.{DataEvent}
 use Rattle.h2_log.specs.ItemEffects.{events_of}
 use Rattle.h2_streams.specs.Streams.{stream_view}
-use Rattle.h2_core.specs.DataFrames.{data_of}
+use Rattle.h2_core.specs.DataFrames.{frame_of_data}
 use Rattle.h2_core.specs.Endpoint.{end_of}
 use Rattle.h2_core.proofs.SoundFacts.{counted, owed_fits, send_near, recv_near}
 use Rattle.std.proofs.lemmas.Result.{err_from_is_err_and}
@@ -86,10 +86,11 @@ returns-in_err-reserve_if_over c =
     let p = err_from_is_err_and c.from_residual.result c.from_residual.ensures.1 in
     let (over, due) = c.in_err-reserve_if_over.ensures.err in
     λ (pad : Option ℕ) (flow : HasFlow c.args.frame pad).
-    let needed : needs_memory (end_view e) Reported (alone (data_of c.args.frame pad)) ≡ true =
+    let needed : needs_memory (end_view e) Reported (alone (frame_of_data c.args.frame pad))
+    ≡ true =
     rw c.requires.active (and_from (c.args.frame.end && c.args.stream.state.ended_out) _ over
     (rw (← flow) due)) in
-    rw (p.1, p.2) (lacks_memory e (data_of c.args.frame pad) c.args.self.now.list Reported _
+    rw (p.1, p.2) (lacks_memory e (frame_of_data c.args.frame pad) c.args.self.now.list Reported _
     (reported_data e c.args.frame pad (stream_view c.args.stream) flow c.requires.active
     c.requires.open c.requires.connection c.requires.within) needed
     (ap (with_waiting e) c.reserve_if_over.ensures.waiting))
@@ -101,7 +102,7 @@ returns c =
     let id = c.args.frame.stream in
     let stream = stream_view c.args.stream in
     λ (pad : Option ℕ) (flow : HasFlow c.args.frame pad).
-    report_taken e (data_of c.args.frame pad) c.update_stream.new.self.list _ _
+    report_taken e (frame_of_data c.args.frame pad) c.update_stream.new.self.list _ _
     (reported_data e c.args.frame pad stream flow c.requires.active c.requires.open
     c.requires.connection c.requires.within)
     (c.update_stream.ensures.after

@@ -10,7 +10,7 @@ use Rattle.h2_block.specs.declared.gathered.Gathered.TheVariants.{Pass, More, Bl
 use Rattle.h2_log.specs.ItemRules.{grouped, completes}
 use Rattle.h2_machine.specs.End.{End}
 use Rattle.h2_machine.specs.Machine.{with_begun}
-use Rattle.h2_core.specs.Endpoint.{end_of, IsSound}
+use Rattle.h2_core.specs.Endpoint.{end_of, IsSoundEnd}
 use Rattle.h2_core.specs.Items.{TakesItem}
 use Rattle.h2_core.specs.Blocks.{TakesBlock}
 use Rattle.h2_core.proofs.FrameGroups.{gathered_step, gathers, gathers_at, more_step, one_step}
@@ -69,7 +69,7 @@ take_alone-requires-clause-sound c =
     (c.in-Ok.ensures.reported (c.args.self.now.gathers c.requires.up)) c.in-Ok.ensures.takes in
     let h = one_step (grouped begun frame) (alone (frame_of c.in-Pass.frame)) c.take.new.self.begun
     (gathered_step c.args.self.now.gather c.take.new.self frame (Pass c.in-Pass.frame) g) in
-    subst (λ (b : Option Begun). IsSound (with_begun e b)) (sym h.1)
+    subst (λ (b : Option Begun). IsSoundEnd (with_begun e b)) (sym h.1)
     (begun_sound e c.requires.sound)
 
 pub take_alone-requires-clause-alone : goal.take_alone-requires-clause-alone
@@ -105,7 +105,7 @@ fail_by-requires-clause-sound c =
     let kept : mid ≡ with_begun e c.take.new.self.begun =
     stopped_same (with_begun e c.take.new.self.begun) mid None (alone (frame_of c.in-Pass.frame))
     c.take_alone.new.self.list c.in-Err-take_alone.stop c.in-Err-take_alone.ensures in
-    subst (λ (x : End). IsSound x) (sym (kept ∙ ap (with_begun e) h.1))
+    subst (λ (x : End). IsSoundEnd x) (sym (kept ∙ ap (with_begun e) h.1))
     (begun_sound e c.requires.sound)
 
 pub fail_by-requires-clause-opened : goal.fail_by-requires-clause-opened
@@ -127,7 +127,7 @@ take_block-requires-clause-sound c =
     (block c.in-Block.stream c.in-Block.end c.in-Block.octets.items) c.take.new.self.begun
     (gathered_step c.args.self.now.gather c.take.new.self frame
     (Block c.in-Block.stream c.in-Block.end c.in-Block.octets) g) in
-    subst (λ (b : Option Begun). IsSound (with_begun e b)) (sym h.1)
+    subst (λ (b : Option Begun). IsSoundEnd (with_begun e b)) (sym h.1)
     (begun_sound e c.requires.sound)
 
 pub take_block-requires-clause-number : goal.take_block-requires-clause-number

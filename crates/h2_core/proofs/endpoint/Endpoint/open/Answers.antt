@@ -6,7 +6,7 @@ use Rattle.h2_streams.specs.Streams.{stream_view}
 use Rattle.h2_streams.specs.Table.{TableState}
 use Rattle.h2_machine.specs.End.{End, end_view, active_entry}
 use Rattle.h2_machine.specs.Machine.{new_stream}
-use Rattle.h2_core.specs.Endpoint.{end_of, IsSound}
+use Rattle.h2_core.specs.Endpoint.{end_of, IsSoundEnd}
 use Rattle.h2_core.proofs.CallConditions.{lacks_memory, if_err}
 use Rattle.hpack.proofs.ResultLemmas.{on_ok as unless_err}
 use Rattle.h2_machine.proofs.SetEntries.{get_set_same}
@@ -20,7 +20,7 @@ next_number-id-requires c =
     let free = sym (c.refusal_of_open.ensures c.args.fields.now c.args.end
     c.list_size-size.ensures.size) ∙ c.in_default.is in
     let up = (may_open (end_of c.args.self.now) c.args.fields.now c.args.end free).up in
-    let sound : IsSound (end_of c.args.self.now) = c.requires.sound up in
+    let sound : IsSoundEnd (end_of c.args.self.now) = c.requires.sound up in
     search rules
 
 pub open-requires-clause-absent : goal.open-requires-clause-absent
@@ -39,7 +39,7 @@ open-requires-clause-recv c =
     let free = sym (c.refusal_of_open.ensures c.args.fields.now c.args.end
     c.list_size-size.ensures.size) ∙ c.in_default.is in
     let up = (may_open (end_of c.args.self.now) c.args.fields.now c.args.end free).up in
-    let sound : IsSound (end_of c.args.self.now) = c.requires.sound up in
+    let sound : IsSoundEnd (end_of c.args.self.now) = c.requires.sound up in
     search rules
 
 pub overflow_add-self : goal.overflow_add-self
@@ -47,7 +47,7 @@ overflow_add-self c =
     let free = sym (c.refusal_of_open.ensures c.args.fields.now c.args.end
     c.list_size-size.ensures.size) ∙ c.in_default.is in
     let up = (may_open (end_of c.args.self.now) c.args.fields.now c.args.end free).up in
-    let sound : IsSound (end_of c.args.self.now) = c.requires.sound up in
+    let sound : IsSoundEnd (end_of c.args.self.now) = c.requires.sound up in
     search rules
 
 pub write_block-requires-clause-up : goal.write_block-requires-clause-up

@@ -3,17 +3,17 @@ use Rattle.std.specs.Option.{option_map}
 use Rattle.h2_streams.specs.Streams.{stream_view}
 use Rattle.h2_streams.specs.declared.entry.Stream.{Stream}
 use Rattle.h2_machine.specs.End.{End, stream_at}
-use Rattle.h2_core.specs.Endpoint.{end_of, IsSound}
+use Rattle.h2_core.specs.Endpoint.{end_of, IsSoundEnd}
 use Rattle.h2_core.specs.Streams.{owed_by}
 use Rattle.h2_core.proofs.SoundFacts.{counted, owed_fits, connection_fits}
 use Rattle.h2_core.proofs.endpoint.Endpoint.reset_for_fault.Goals as goal
 
-counted_for : (e : End) (id : ℕ) (stream : Option Stream) → IsSound e
+counted_for : (e : End) (id : ℕ) (stream : Option Stream) → IsSoundEnd e
     → stream_at e id ≡ option_map stream_view stream → stream ≢ None → 1 ≤ e.streams.active_count
 counted_for e id None sound active some = absurd (some refl)
 counted_for e id (Some stream) sound active some = counted e id (stream_view stream) sound active
 
-window_for : (e : End) (id : ℕ) (stream : Option Stream) → IsSound e
+window_for : (e : End) (id : ℕ) (stream : Option Stream) → IsSoundEnd e
     → stream_at e id ≡ option_map stream_view stream
     → e.windows.recv + (e.windows.unreturned + (0 + owed_by stream)) < 2 ^ 31
 window_for e id None sound active = omega (arith, connection_fits e sound)

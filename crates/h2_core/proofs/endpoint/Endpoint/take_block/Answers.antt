@@ -6,7 +6,7 @@ use Rattle.h2_frame.specs.Frames.{GoAway}
 use Rattle.h2_block.specs.Grouping.{block}
 use Rattle.h2_log.specs.ItemRules.{Decoded}
 use Rattle.h2_machine.specs.End.{End}
-use Rattle.h2_core.specs.Endpoint.{end_of, IsSound}
+use Rattle.h2_core.specs.Endpoint.{end_of, IsSoundEnd}
 use Rattle.h2_core.specs.Items.{TakesItem}
 use Rattle.h2_core.proofs.FrameFailures.{table_sound, block_taken, block_stopped, undecoded_fails}
 use Rattle.h2_core.proofs.FrameFailures.{alike, at_table, from_table, stopped_same}
@@ -29,7 +29,7 @@ pub take_decoded-requires-clause-sound : goal.take_decoded-requires-clause-sound
 take_decoded-requires-clause-sound c =
     let e : End = end_of c.args.self.now in
     let d = c.in-Ok.ensures.ok.1 in
-    from_table e c.decode_into.new.self d.after IsSound d.state
+    from_table e c.decode_into.new.self d.after IsSoundEnd d.state
     (table_sound e c.args.octets.now d.fields d.after c.requires.sound d.block)
 
 pub fail_by-requires-clause-sound : goal.fail_by-requires-clause-sound
@@ -42,15 +42,15 @@ fail_by-requires-clause-sound c =
     (h.size ∙ sym c.eq-too_large.ensures)
     (λ small. h.same (sym c.eq-too_large.ensures ∙ small)) in
     let mid : End = end_of c.take_decoded.new.self in
-    let before : IsSound (with_decoder e c.decode_into.new.self) =
-    from_table e c.decode_into.new.self d.after IsSound d.state
+    let before : IsSoundEnd (with_decoder e c.decode_into.new.self) =
+    from_table e c.decode_into.new.self d.after IsSoundEnd d.state
     (table_sound e c.args.octets.now d.fields d.after c.requires.sound d.block) in
     let same : mid ≡ with_decoder e c.decode_into.new.self =
     stopped_same (with_decoder e c.decode_into.new.self) mid
     (Some (record { fields = d.fields; after = d.after }))
     (block c.args.id c.args.end c.args.octets.now) c.take_decoded.new.self.list
     c.in-Err-take_decoded.stop stopped in
-    subst (λ (x : End). IsSound x) (sym same) before
+    subst (λ (x : End). IsSoundEnd x) (sym same) before
 
 pub fail_by-requires-clause-up : goal.fail_by-requires-clause-up
 fail_by-requires-clause-up c =

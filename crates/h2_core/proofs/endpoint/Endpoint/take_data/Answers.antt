@@ -10,7 +10,7 @@ use Rattle.h2_log.specs.Items.{stream_of_item}
 use Rattle.h2_streams.specs.Streams.{stream_view}
 use Rattle.h2_machine.specs.Machine.{after_stream_fault}
 use Rattle.h2_machine.specs.End.{state_at, stream_at}
-use Rattle.h2_core.specs.DataFrames.{data_of}
+use Rattle.h2_core.specs.DataFrames.{frame_of_data}
 use Rattle.h2_core.specs.Endpoint.{end_of}
 use Rattle.h2_streams.specs.declared.entry.Stream.{Stream}
 use Rattle.h2_core.proofs.SoundFacts.{recv_near}
@@ -25,14 +25,14 @@ pub returns-in-Idle : goal.returns-in-Idle
 returns-in-Idle c =
     let e = end_of c.args.self.now in
     λ (pad : Option ℕ) (flow : HasFlow c.args.frame pad).
-    fault_taken e (data_of c.args.frame pad) ProtocolError c.args.self.now.list c.fault.result
+    fault_taken e (frame_of_data c.args.frame pad) ProtocolError c.args.self.now.list c.fault.result
     c.fault.ensures (idle_data e c.args.frame pad flow c.in-Idle.ensures.state)
 
 pub returns-in-Closed : goal.returns-in-Closed
 returns-in-Closed c =
     let e = end_of c.args.self.now in
     λ (pad : Option ℕ) (flow : HasFlow c.args.frame pad).
-    fault_taken e (data_of c.args.frame pad) StreamClosed c.args.self.now.list
+    fault_taken e (frame_of_data c.args.frame pad) StreamClosed c.args.self.now.list
     c.fault-in-Closed.result c.fault-in-Closed.ensures
     (past_data e c.args.frame pad flow c.in-Closed.ensures.state)
 
@@ -46,7 +46,7 @@ returns-then-frame-self c =
       | in-Active w ↦ inr (sym w.in-Active.ensures.state)
     ] in
     λ (pad : Option ℕ) (flow : HasFlow c.args.frame pad).
-    fault_taken e (data_of c.args.frame pad) FlowControlError c.args.self.now.list
+    fault_taken e (frame_of_data c.args.frame pad) FlowControlError c.args.self.now.list
     c.fault-then-frame-self.result c.fault-then-frame-self.ensures
     (beyond_connection e c.args.frame pad flow kind c.if-frame-self.true)
 
@@ -80,7 +80,7 @@ returns-then-exceeds c =
     ap (exceeds c.args.frame.flow) (sym (kept_is c.in-Some.stream.recv_window near))
     ∙ sym c.exceeds.ensures ∙ c.if-exceeds.true in
     λ (pad : Option ℕ) (flow : HasFlow c.args.frame pad).
-    fault_taken e (data_of c.args.frame pad) FlowControlError c.args.self.now.list
+    fault_taken e (frame_of_data c.args.frame pad) FlowControlError c.args.self.now.list
     c.fault-then-exceeds.result c.fault-then-exceeds.ensures
     (beyond_stream e c.args.frame pad stream flow active c.if-stream.false c.if-frame-self.false
     much)
@@ -100,7 +100,8 @@ returns-then-stream c =
           sym w.in-Active.ensures.stream ∙ ap (λ (one : Stream). Some (stream_view one)) same)
     ] in
     λ (pad : Option ℕ) (flow : HasFlow c.args.frame pad).
-    fault_item c.args.self.now c.reset_for_fault.new.self (data_of c.args.frame pad) StreamClosed
+    fault_item c.args.self.now c.reset_for_fault.new.self
+    (frame_of_data c.args.frame pad) StreamClosed
     c.args.frame.flow c.reset_for_fault.result
     (late_data e c.args.frame pad stream flow active c.if-stream.true c.if-frame-self.false)
     (rw flow refl) c.reset_for_fault.ensures

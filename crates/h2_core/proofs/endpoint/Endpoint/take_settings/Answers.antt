@@ -4,7 +4,7 @@ use Rattle.std.proofs.lemmas.Result.{err_from_is_err_and}
 use Rattle.h2_frame.specs.Pairs.{lent_pairs}
 use Rattle.h2_log.specs.Settings.{value_after}
 use Rattle.h2_machine.specs.Machine.{first_allowed}
-use Rattle.h2_core.specs.Endpoint.{end_of, streams_allowed}
+use Rattle.h2_core.specs.Endpoint.{end_of, streams_allowed_by}
 use Rattle.h2_core.specs.Settings.{with_values}
 use Rattle.h2_core.proofs.OwnItems.{settings_stop, settings_over, settings_taken, window_after}
 use Rattle.h2_core.proofs.OwnItems.{frame_after, streams_after, settings_lacks}
@@ -34,9 +34,9 @@ returns c =
     let window : value_after 4 one.streams.send_initial pairs ≡ settings.initial_window_size =
     rw (← one.initial, values) (window_after one.peer pairs) in
     let allowed : min 1000 (value_after 3
-    (first_allowed one.started (streams_allowed one.started one.peer.max_concurrent_streams))
+    (first_allowed one.started (streams_allowed_by one.started one.peer.max_concurrent_streams))
     pairs)
-    ≡ streams_allowed true settings.max_concurrent_streams =
+    ≡ streams_allowed_by true settings.max_concurrent_streams =
     rw values (streams_after one.peer one.started pairs one.unsaid) in
     let frame : value_after 5 one.peer.max_frame_size pairs ≡ settings.max_frame_size =
     rw values (frame_after one.peer pairs) in

@@ -7,7 +7,7 @@ use Rattle.h2_message.specs.Values.{message_value}
 use Rattle.h2_ends.specs.declared.outgoing.Outgoing.TheVariants as outgoings
 use Rattle.h2_ends.specs.EndTakes.{end_with_log}
 use Rattle.h2_ends.proofs.InSteps.{called_as}
-use Rattle.h2_ends.proofs.RequestRefusals.{refused_fields_send_none}
+use Rattle.h2_ends.proofs.EndTokens.{refused_tokens}
 use Rattle.h2_ends.proofs.RequestSends.{unchanged_by, is_client, is_server_by}
 use Rattle.h2_ends.proofs.RequestSteps.{refused_fields_keep}
 use Rattle.h2_ends.proofs.RespondHeads.{nothing_asked, client_asked, active_stream, asked_stream}
@@ -117,6 +117,6 @@ returns-in-Err-send_head c = λ values end is.
           asked.1 given (rw c.asks_head.ensures at c.in_default-check_response.ensures.ok)
           sends.2 (unchanged_by end act refusal sends.3 tt sends.4),
       called_as values c.args.self.now _ end act (Refused refusal) is sends.4 sends.5 refl refl
-          refl (λ i. refused_fields_send_none i c.args.id sends.0 sends.1 refusal)
+          refl (λ i. refused_tokens i (SendFields c.args.id sends.0 sends.1) refusal)
           (λ i wrong. cc) (λ i. refused_fields_keep i c.args.id sends.0 sends.1 refusal),
     )

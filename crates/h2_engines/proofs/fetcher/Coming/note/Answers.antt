@@ -8,8 +8,8 @@ use Rattle.h2_engines.specs.ClientSteps.{notes_nothing}
 use Rattle.h2_engines.proofs.NoteResponses.{other_stream, other_event}
 use Rattle.h2_engines.proofs.fetcher.Coming.note.Goals as goal
 
-pub returns-in_ok-push-in-Interim : goal.returns-in_ok-push-in-Interim
-returns-in_ok-push-in-Interim c =
+pub returns-in_ok-push-in-Interim-clause-notes : goal.returns-in_ok-push-in-Interim-clause-notes
+returns-in_ok-push-in-Interim-clause-notes c =
     rw (c.in-Interim.is, c.if-id-stream.true) (notes_interim c.in-Interim.list.now
     (ap (each (λ (one : Vec Field Global). one.items)) c.in_ok-push-in-Interim.ensures.items
     ∙ map_push (λ (one : Vec Field Global). one.items) c.args.self.now.interims.items
@@ -17,47 +17,49 @@ returns-in_ok-push-in-Interim c =
     each (λ (one : Vec Field Global). one.items) c.args.self.now.interims.items ++ list ∷ [])
     c.in_ok-list-in-Interim.ensures) refl refl refl)
 
-pub returns-in_ok-copy_list-in-Head : goal.returns-in_ok-copy_list-in-Head
-returns-in_ok-copy_list-in-Head c =
+pub returns-in_ok-copy_list-in-Head-clause-notes : goal.returns-in_ok-copy_list-in-Head-clause-notes
+returns-in_ok-copy_list-in-Head-clause-notes c =
     rw (c.in-Head.is, c.if-id-stream-2.true) (notes_head c.in-Head.list.now c.in-Head.end
     (ap Some c.in_ok-copy_list-in-Head.ensures) refl c.clear.ensures.items refl)
 
-pub returns-in_ok-extend_from_slice-in-Body : goal.returns-in_ok-extend_from_slice-in-Body
-returns-in_ok-extend_from_slice-in-Body c =
+pub returns-in_ok-extend_from_slice-in-Body-clause-notes :
+    goal.returns-in_ok-extend_from_slice-in-Body-clause-notes
+returns-in_ok-extend_from_slice-in-Body-clause-notes c =
     rw (c.in-Body.is, c.if-id-stream-3.true) (notes_body c.in-Body.bytes.now c.in-Body.end
     c.in_ok-extend_from_slice-in-Body.ensures.items refl refl refl)
 
-pub returns-in_ok-copy_list-in-Trailers : goal.returns-in_ok-copy_list-in-Trailers
-returns-in_ok-copy_list-in-Trailers c =
+pub returns-in_ok-copy_list-in-Trailers-clause-notes :
+    goal.returns-in_ok-copy_list-in-Trailers-clause-notes
+returns-in_ok-copy_list-in-Trailers-clause-notes c =
     rw (c.in-Trailers.is, c.if-id-stream-4.true) (notes_trailers c.in-Trailers.list.now
     (ap Some c.in_ok-copy_list-in-Trailers.ensures) refl refl refl)
 
-pub returns-in_default : goal.returns-in_default
+pub returns-in_default-clause-notes : goal.returns-in_default-clause-notes
 unfolding part_on
-returns-in_default c =
+returns-in_default-clause-notes c =
     rw c.in-Interim.is (notes_nothing _ (other_stream c.in-Interim.id c.args.stream _
     c.if-id-stream.false) refl)
 
-pub returns-in_default-2 : goal.returns-in_default-2
+pub returns-in_default-2-clause-notes : goal.returns-in_default-2-clause-notes
 unfolding part_on
-returns-in_default-2 c =
+returns-in_default-2-clause-notes c =
     rw c.in-Head.is (notes_nothing _ (other_stream c.in-Head.id c.args.stream _
     c.if-id-stream-2.false) refl)
 
-pub returns-in_default-3 : goal.returns-in_default-3
+pub returns-in_default-3-clause-notes : goal.returns-in_default-3-clause-notes
 unfolding part_on
-returns-in_default-3 c =
+returns-in_default-3-clause-notes c =
     rw c.in-Body.is (notes_nothing _ (other_stream c.in-Body.id c.args.stream _
     c.if-id-stream-3.false) refl)
 
-pub returns-in_default-4 : goal.returns-in_default-4
+pub returns-in_default-4-clause-notes : goal.returns-in_default-4-clause-notes
 unfolding part_on
-returns-in_default-4 c =
+returns-in_default-4-clause-notes c =
     rw c.in-Trailers.is (notes_nothing _ (other_stream c.in-Trailers.id c.args.stream _
     c.if-id-stream-4.false) refl)
 
-pub returns-in_default-5 : goal.returns-in_default-5
-returns-in_default-5 c =
+pub returns-in_default-5-clause-notes : goal.returns-in_default-5-clause-notes
+returns-in_default-5-clause-notes c =
     other_event c.args.stream c.args.self.now c.args.event (λ stream list is. search rules)
     (λ stream list last is. search rules) (λ stream bytes last is. search rules)
     (λ stream list is. search rules)

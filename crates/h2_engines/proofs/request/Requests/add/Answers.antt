@@ -4,7 +4,7 @@ use Rattle.std.specs.Option.{is_some}
 use Rattle.std.specs.BTreeMap.{BTreeMap}
 use Rattle.h2_engines.specs.declared.request.Request.{Request}
 use Rattle.h2_engines.specs.declared.request.Requests.{Requests}
-use Rattle.h2_engines.specs.PartialMessages.{AddsOctets, EndsRequest, room_of}
+use Rattle.h2_engines.specs.PartialMessages.{AddsOctets, EndsRequest, body_room}
 use Rattle.h2_engines.proofs.RequestTable.{adds_last, changes_one, changes_none, changes_twice}
 use Rattle.h2_engines.proofs.request.Requests.add.Goals as goal
 
@@ -24,7 +24,7 @@ returns-then-bytes-saturating_sub c =
     let request = c.in-Some.request.now in
     let found = sym c.in-Some.ensures.value in
     let before : Requests = record c.args.self.now { kept = c.get_mut.follows.lender request } in
-    let room : c.saturating_sub.result ≡ room_of request = omega (arith, request.text.ok.0) in
+    let room : c.saturating_sub.result ≡ body_room request = omega (arith, request.text.ok.0) in
     rw found (inl (
       omega (arith, room),
       refl,
@@ -40,7 +40,7 @@ returns-then-end c =
     let found = sym c.in-Some.ensures.value in
     let longer : Request = record request { text = c.extend_from_slice.new.self } in
     let next : Requests = record c.args.self.now { kept = c.get_mut.follows.lender longer } in
-    let room : c.saturating_sub.result ≡ room_of request = omega (arith, request.text.ok.0) in
+    let room : c.saturating_sub.result ≡ body_room request = omega (arith, request.text.ok.0) in
     rw c.if-end.true (adds_last _ c.args.bytes.now request c.end.result found (omega (arith, room))
     (record { text = c.in_ok-extend_from_slice.ensures.items; start = refl; to_head = refl })
     (changes_one c.args.self.now next c.args.id (Some longer)
@@ -53,7 +53,7 @@ returns c =
     let found = sym c.in-Some.ensures.value in
     let longer : Request = record request { text = c.extend_from_slice.new.self } in
     let next : Requests = record c.args.self.now { kept = c.get_mut.follows.lender longer } in
-    let room : c.saturating_sub.result ≡ room_of request = omega (arith, request.text.ok.0) in
+    let room : c.saturating_sub.result ≡ body_room request = omega (arith, request.text.ok.0) in
     rw (c.if-end.false, found) (inr (
       omega (arith, room),
       (

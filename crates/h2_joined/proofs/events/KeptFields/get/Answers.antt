@@ -1,13 +1,13 @@
 -- A field of a list, by its place.
 use Rattle.std.proofs.Common.{arith}
-use Rattle.h2_joined.specs.Stored.{field_of}
+use Rattle.h2_joined.specs.Stored.{stored_field}
 use Rattle.h2_joined.proofs.KeptPlaces.{made_at}
 use Rattle.h2_joined.proofs.events.KeptFields.get.Goals as goal
 
 pub returns : goal.returns
-unfolding field_of
+unfolding stored_field
 returns c =
     let list = c.args.self.now in
     rw (c.octets_at.ensures, c.octets_at-2.ensures)
-    (made_at (field_of list.octets.now) list.places.now c.args.place _
+    (made_at (stored_field list.octets.now) list.places.now c.args.place _
     (omega (arith, c.if-place-self.false)))

@@ -56,7 +56,7 @@ returns c =
       takes = c.take_all.ensures;
       rest = subst (λ (n : ℕ). (all : List ℕ) → HoldsOctets c.take_pipe-pipe.result all
           → HoldsOctets c.deliver.new.self (drop n all)) (ap (λ (p : ℕ × Acted × Bool). p.0) is)
-          c.deliver.ensures;
+          c.deliver.ensures.holds;
       back = subst (λ (b : Bool). PutsPipe c.args.to c.take_all.new.self c.deliver.new.self b
           c.put_pipe.new.self) (ap (λ (p : ℕ × Acted × Bool). p.2) is) c.put_pipe.ensures;
     }))

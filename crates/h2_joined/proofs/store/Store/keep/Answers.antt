@@ -1,14 +1,14 @@
 -- By the lemma on an event whose place was made.
 use Rattle.std.proofs.Common.{◌++◌, ◌∷◌, [], refl, ap, ◌∙◌, arith}
 use Rattle.h2_ends.specs.Loans.{event_handed}
-use Rattle.h2_joined.proofs.KeptStore.{event_kept, is_pushed}
+use Rattle.h2_joined.proofs.KeptStore.{placed_kept, is_pushed}
 use Rattle.h2_joined.proofs.store.Store.keep.Goals as goal
 
 pub returns : goal.returns
 returns c room fit stored =
     let place = c.place_of-place.result in
     let same = c.place_of-place.ensures.events in
-    event_kept c.args.self.now c.place_of-place.new.self _ (event_handed c.args.event) place
+    placed_kept c.args.self.now c.place_of-place.new.self _ (event_handed c.args.event) place
     (c.place_of-place.ensures.placed room fit) refl refl
     (is_pushed _ _ _ _ c.push-pushed.ensures.items
     (c.push-pushed.ensures.succeeds (rw same (omega (arith, room.events))))

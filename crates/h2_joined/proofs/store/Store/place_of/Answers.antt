@@ -3,12 +3,12 @@ use Rattle.std.proofs.Common.{List, refl, ap}
 use Rattle.hpack.specs.declared.types.field.Field.{Field}
 use Rattle.h2_ends.specs.Ends.{InterimHanded, HeadHanded, TrailersHanded}
 use Rattle.h2_joined.specs.declared.store.EventPlace.TheVariants as places
-use Rattle.h2_joined.specs.Stored.{event_of, Fits, IsEventPlace}
+use Rattle.h2_joined.specs.Stored.{event_kept, Fits, IsEventPlace}
 use Rattle.h2_joined.proofs.KeptStore.{list_event, body_event, bare_event}
 use Rattle.h2_joined.proofs.store.Store.place_of.Goals as goal
 
 pub returns-in-Interim : goal.returns-in-Interim
-unfolding event_of Fits IsEventPlace
+unfolding event_kept Fits IsEventPlace
 returns-in-Interim c =
     let handed = λ (l : List Field). InterimHanded c.in-Interim.id l in
     rw c.in-Interim.is (list_event c.args.self.now c.keep_list.new.self c.in-Interim.list.now
@@ -17,7 +17,7 @@ returns-in-Interim c =
     c.keep_list.ensures (λ fit. fit) (λ same. ap handed same) (λ within. within))
 
 pub returns-in-Head : goal.returns-in-Head
-unfolding event_of Fits IsEventPlace
+unfolding event_kept Fits IsEventPlace
 returns-in-Head c =
     let handed = λ (l : List Field). HeadHanded c.in-Head.id l c.in-Head.end in
     rw c.in-Head.is (list_event c.args.self.now c.keep_list-in-Head.new.self
@@ -26,7 +26,7 @@ returns-in-Head c =
     c.keep_list-in-Head.ensures (λ fit. fit) (λ same. ap handed same) (λ within. within))
 
 pub returns-in-Trailers : goal.returns-in-Trailers
-unfolding event_of Fits IsEventPlace
+unfolding event_kept Fits IsEventPlace
 returns-in-Trailers c =
     let handed = λ (l : List Field). TrailersHanded c.in-Trailers.id l in
     rw c.in-Trailers.is (list_event c.args.self.now c.keep_list-in-Trailers.new.self
@@ -41,21 +41,21 @@ returns-in-Body c =
     c.keep_octets.result c.in-Body.id c.in-Body.end c.keep_octets.ensures)
 
 pub returns-in-Reset : goal.returns-in-Reset
-unfolding event_of IsEventPlace
+unfolding event_kept IsEventPlace
 returns-in-Reset c = rw c.in-Reset.is (bare_event c.args.self.now _ _ refl tt)
 
 pub returns-in-Unprocessed : goal.returns-in-Unprocessed
-unfolding event_of IsEventPlace
+unfolding event_kept IsEventPlace
 returns-in-Unprocessed c = rw c.in-Unprocessed.is (bare_event c.args.self.now _ _ refl tt)
 
 pub returns-in-GoAway : goal.returns-in-GoAway
-unfolding event_of IsEventPlace
+unfolding event_kept IsEventPlace
 returns-in-GoAway c = rw c.in-GoAway.is (bare_event c.args.self.now _ _ refl tt)
 
 pub returns-in-Acked : goal.returns-in-Acked
-unfolding event_of IsEventPlace
+unfolding event_kept IsEventPlace
 returns-in-Acked c = rw c.in-Acked.is (bare_event c.args.self.now _ _ refl tt)
 
 pub returns-in-Pong : goal.returns-in-Pong
-unfolding event_of IsEventPlace
+unfolding event_kept IsEventPlace
 returns-in-Pong c = rw c.in-Pong.is (bare_event c.args.self.now _ _ refl tt)

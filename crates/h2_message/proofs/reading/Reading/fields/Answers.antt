@@ -18,7 +18,7 @@ returns-in-AtHead c reads parts follows =
     let kept = c.head.ensures in
     head_follows reads parts c.args.list.now c.args.end c.head.result c.args.self.now
     c.head.new.self follows c.in-AtHead.is kept.phase kept.none kept.place kept.reads
-    kept.asks_head
+    kept.asks_head kept.asks_none
 
 pub returns-then-not-end : goal.returns-then-not-end
 returns-then-not-end c reads parts follows =

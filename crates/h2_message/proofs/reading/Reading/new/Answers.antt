@@ -11,4 +11,5 @@ returns c = record {
   phase = refl;
   readable = readable c.args.reads [] AtHead refl;
   asks_head = λ requests. refl;
+  asks_none = λ others. refl;
 }

@@ -1,11 +1,11 @@
 use Rattle.std.proofs.Common.{◌≡◌, ◌<◌, take, vec_capacity}
 use Rattle.hpack_text.specs.Bits.{bits}
-use Rattle.hpack_text.specs.States.{Reads}
+use Rattle.hpack_text.specs.States.{ReadsBits}
 use Rattle.hpack_text.proofs.huffman.reader.read_text.Given as goal
 
 abbrev pub invariant-loop-octet : goal.invariant-loop-octet
 invariant-loop-octet l = record {
-  read : Reads l.initial.out.items l.out.items 0 (bits (take l.octet-index l.octets)) l.state;
+  read : ReadsBits l.initial.out.items l.out.items 0 (bits (take l.octet-index l.octets)) l.state;
   small : l.state < 256;
   capacity : vec_capacity l.out ≡ vec_capacity l.initial.out;
 }

@@ -1,6 +1,6 @@
 use Rattle.std.proofs.Common.{◌≡◌, ℕ, ◌+◌, ◌*◌, ap₂, get_or, subst, sym, arith}
 use Rattle.hpack_text.specs.declared.huffman.steps.TheConstants.{STEPS}
-use Rattle.hpack_text.specs.States.{IsStep}
+use Rattle.hpack_text.specs.States.{IsHalfStep}
 use Rattle.hpack_text.proofs.StateLemmas.{table_step}
 use Rattle.hpack_text.proofs.huffman.steps.step_at.Goals as goal
 
@@ -8,5 +8,5 @@ pub returns : goal.returns
 returns c =
     let place : c.args.state * 16 + c.args.half ≡ c.from.result * 16 + c.from-2.result =
     ap₂ (λ (s : ℕ) (h : ℕ). s * 16 + h) (sym c.from.ensures) (sym c.from-2.ensures) in
-    subst (λ m. IsStep c.args.state c.args.half (get_or STEPS m 0)) place
+    subst (λ m. IsHalfStep c.args.state c.args.half (get_or STEPS m 0)) place
     (table_step c.args.state c.args.half (omega arith) c.requires)

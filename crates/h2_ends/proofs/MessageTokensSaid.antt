@@ -1,0 +1,156 @@
+-- Where the tokens that have come are a prefix of a message's, so are its parts: what each part is
+-- follows from the tokens, since the first list is the head and a later one the trailers.
+use Rattle.std.proofs.Common.{map as each, ◌≡◌, ℕ, Bool, true, false, List, [], ◌∷◌, ◌++◌, Option}
+use Rattle.std.proofs.Common.{None, Some, refl, sym, ap, ◌∙◌, subst}
+use Rattle.std.proofs.lemmas.List.{map-append}
+use Rattle.hpack.specs.declared.types.field.Field.{Field}
+use Rattle.h2_message.specs.declared.reading.Place.TheVariants as places
+use Rattle.h2_message.specs.Messages.{SentMessage, first_broken, interim_rules, broken_by_response}
+use Rattle.h2_message.specs.Reading.{Part, FieldsPart, OctetsPart, final_rules}
+use Rattle.h2_message.proofs.LawSent.{sent_response}
+use Rattle.h2_message.proofs.ReadingRules.{some_not_none, not_both}
+use Rattle.h2_message.proofs.ReadingWhole.{one_sum}
+use Rattle.h2_pair.specs.Tokens.{Token, FieldsToken, OctetToken, EndToken, end_tokens}
+use Rattle.h2_pair.specs.Tokens.{trailers_tokens, message_tokens, IsPrefixOfTokens}
+use Rattle.h2_ends.specs.Ends.{tokens_of_part, tokens_of_parts, tokens_given}
+use Rattle.h2_ends.specs.MessageTokens.{MessageToken, ListToken, BodyToken, LastToken, last_tokens}
+use Rattle.h2_ends.specs.MessageTokens.{trailers_listed, parts_of_message, parts_said}
+use Rattle.h2_ends.specs.MessageTokens.{IsPrefixOfParts}
+use Rattle.h2_ends.proofs.MessageTokensPlaced.{place_where, parts_placed}
+
+-- what a token is after a final head
+abbrev pub token_in_body : Token → MessageToken
+token_in_body (FieldsToken list end) = ListToken places.Trailers list
+token_in_body (OctetToken octet) = BodyToken octet
+token_in_body EndToken = LastToken
+
+-- what the tokens of a message are, from its final head on
+abbrev pub tokens_placed : List Token → List MessageToken
+tokens_placed [] = []
+tokens_placed (FieldsToken list end ∷ tokens) =
+    ListToken places.Head list ∷ each token_in_body tokens
+tokens_placed (OctetToken octet ∷ tokens) = BodyToken octet ∷ each token_in_body tokens
+tokens_placed (EndToken ∷ tokens) = LastToken ∷ each token_in_body tokens
+
+-- The first of the tokens, if there are any, is a final head where one is due.
+abbrev pub HeadFirst : (server : Bool) → List Token → Type 0
+HeadFirst server [] = Unit {0}
+HeadFirst server (FieldsToken list end ∷ tokens) = place_where false server list ≡ places.Head
+HeadFirst server (OctetToken octet ∷ tokens) = ⊥
+HeadFirst server (EndToken ∷ tokens) = ⊥
+
+-- The end of a part is the end there,
+end_placed : (end : Bool) → each token_in_body (end_tokens end) ≡ last_tokens end
+unfolding end_tokens last_tokens
+end_placed true = refl
+end_placed false = refl
+
+-- and octets of a body are those.
+octets_placed : (octets : List ℕ)
+    → each token_in_body (each OctetToken octets) ≡ each BodyToken octets
+octets_placed [] = refl
+octets_placed (octet ∷ octets) =
+    ap (λ (tokens : List MessageToken). BodyToken octet ∷ tokens) (octets_placed octets)
+
+-- After a final head parts are what their tokens are there.
+placed_in_body : (server : Bool) (parts : List (Part × Bool))
+    → parts_placed true server parts ≡ each token_in_body (tokens_of_parts parts)
+unfolding parts_placed tokens_of_parts tokens_of_part
+placed_in_body server [] = refl
+placed_in_body server ((FieldsPart list, end) ∷ parts) =
+    rw (map-append, end_placed end, placed_in_body server parts) refl
+placed_in_body server ((OctetsPart octets, end) ∷ parts) =
+    rw (map-append, map-append, octets_placed octets, end_placed end, placed_in_body server parts)
+    refl
+
+-- So it is with all parts of a message, where the first token is its final head.
+parts_by_tokens : (server : Bool) (parts : List (Part × Bool))
+    → HeadFirst server (tokens_of_parts parts)
+    → parts_placed false server parts ≡ tokens_placed (tokens_of_parts parts)
+unfolding parts_placed tokens_of_parts tokens_of_part end_tokens last_tokens
+parts_by_tokens server [] first = refl
+parts_by_tokens server ((FieldsPart list, true) ∷ parts) first =
+    rw (first, placed_in_body server parts) refl
+parts_by_tokens server ((FieldsPart list, false) ∷ parts) first =
+    rw (first, placed_in_body server parts) refl
+parts_by_tokens server ((OctetsPart (octet ∷ octets), end) ∷ parts) first = absurd first
+parts_by_tokens server ((OctetsPart [], true) ∷ parts) first = absurd first
+parts_by_tokens server ((OctetsPart [], false) ∷ parts) first = parts_by_tokens server parts first
+
+-- Trailers are listed as their token is.
+trailers_placed : (trailers : Option (List Field))
+    → each token_in_body (trailers_tokens trailers) ≡ trailers_listed trailers
+unfolding trailers_tokens trailers_listed
+trailers_placed None = refl
+trailers_placed (Some list) = refl
+
+-- So a message has the parts that its tokens are,
+message_placed : (message : SentMessage)
+    → parts_of_message message ≡ tokens_placed (message_tokens message)
+unfolding parts_of_message message_tokens
+message_placed message =
+    rw (map-append, octets_placed message.body, map-append, trailers_placed message.trailers) refl
+
+-- whether one was given or none.
+said_placed : (given : Option SentMessage) → parts_said given ≡ tokens_placed (tokens_given given)
+unfolding parts_said tokens_given
+said_placed None = refl
+said_placed (Some message) = message_placed message
+
+-- The first token of a message is its head.
+head_first : (server : Bool) (given : Option SentMessage)
+    → ((message : SentMessage) → given ≡ Some message
+    → place_where false server message.head ≡ places.Head) → HeadFirst server (tokens_given given)
+unfolding tokens_given message_tokens
+head_first server None final = tt
+head_first server (Some message) final = final message refl
+
+-- So is the first token of what begins it.
+first_begins : (server : Bool) (tokens rest : List Token) → HeadFirst server (tokens ++ rest)
+    → HeadFirst server tokens
+first_begins server [] rest first = tt
+first_begins server (FieldsToken list end ∷ tokens) rest first = first
+first_begins server (OctetToken octet ∷ tokens) rest first = first
+first_begins server (EndToken ∷ tokens) rest first = first
+
+-- What begins the tokens begins what they are.
+placed_begins : (tokens rest : List Token)
+    → IsPrefixOfParts (tokens_placed tokens) (tokens_placed (tokens ++ rest))
+placed_begins [] rest = (tokens_placed rest, refl)
+placed_begins (FieldsToken list end ∷ tokens) rest =
+    (each token_in_body rest, rw (map-append token_in_body tokens rest) refl)
+placed_begins (OctetToken octet ∷ tokens) rest =
+    (each token_in_body rest, rw (map-append token_in_body tokens rest) refl)
+placed_begins (EndToken ∷ tokens) rest =
+    (each token_in_body rest, rw (map-append token_in_body tokens rest) refl)
+
+-- Where the tokens that have come are a prefix of a message's, the parts are one of its parts,
+pub parts_prefix : (server : Bool) (parts : List (Part × Bool)) (given : Option SentMessage)
+    → ((message : SentMessage) → given ≡ Some message
+    → place_where false server message.head ≡ places.Head)
+    → IsPrefixOfTokens (tokens_of_parts parts) (tokens_given given)
+    → IsPrefixOfParts (parts_placed false server parts) (parts_said given)
+parts_prefix server parts given final (rest, is) =
+    let tokens = tokens_of_parts parts in
+    let first = subst (HeadFirst server) is (head_first server given final) in
+    rw (parts_by_tokens server parts (first_begins server tokens rest first), said_placed given, is)
+    (placed_begins tokens rest)
+
+-- and where they are the message's, the parts are its parts.
+pub parts_whole : (server : Bool) (parts : List (Part × Bool)) (given : Option SentMessage)
+    → ((message : SentMessage) → given ≡ Some message
+    → place_where false server message.head ≡ places.Head)
+    → tokens_of_parts parts ≡ tokens_given given
+    → parts_placed false server parts ≡ parts_said given
+parts_whole server parts given final is =
+    let first : HeadFirst server (tokens_of_parts parts) = rw is (head_first server given final) in
+    parts_by_tokens server parts first ∙ ap tokens_placed is ∙ sym (said_placed given)
+
+-- The head of a response that may be sent is a final one.
+pub response_final : (to_head : Bool) (message : SentMessage)
+    → broken_by_response to_head message ≡ None
+    → place_where false false message.head ≡ places.Head
+unfolding final_rules
+response_final to_head message well =
+    rw (some_not_none (first_broken (interim_rules message.head)) (not_both message.head
+    (sent_response to_head message (message.body ∷ []) well (one_sum message.body)).head)) refl

@@ -1,0 +1,320 @@
+-- Whatever acts were made, what was handed out at each of two joined ends is what its place says,
+-- and each message that the server has accepted has a final head.
+use Rattle.std.proofs.Common.{◌≡◌, ◌⊎◌, inl, inr, ℕ, ◌==◌, Bool, true, false, if◌then◌else◌, List}
+use Rattle.std.proofs.Common.{[], ◌∷◌, ◌++◌, suc, drop, Some, None, Result, Ok, Err}
+use Rattle.std.proofs.Common.{refl, sym, ap, ◌∙◌, subst, append-nil}
+use Rattle.std.proofs.lemmas.Bool.{cases_eq, cases_Bool}
+use Rattle.h2_log.specs.declared.role.Role.{Role}
+use Rattle.h2_log.specs.declared.role.Role.TheVariants as roles
+use Rattle.h2_log.specs.Acts.{Values, Refuse, PutOut}
+use Rattle.h2_log.specs.Events.{Event, FieldsEvent, ResetEvent}
+use Rattle.h2_log.specs.Log.{Log}
+use Rattle.h2_log.specs.LogCalls.{with_call, opened}
+use Rattle.h2_log.specs.LogSteps.{with_sent}
+use Rattle.h2_log.specs.Settings.{is_server}
+use Rattle.h2_log_laws.proofs.LogGrowth.{grows_call}
+use Rattle.h2_end_laws.specs.Takes.{Took, Failed}
+use Rattle.h2_end_laws.proofs.OverNumbers.{open_answer}
+use Rattle.h2_message.specs.declared.reading.Phase.TheVariants.{AtHead}
+use Rattle.h2_message.specs.declared.reading.Place.TheVariants as places
+use Rattle.h2_message.specs.declared.reading.Reads.TheVariants.{Requests, Responses}
+use Rattle.h2_message.specs.Messages.{SentMessage}
+use Rattle.h2_message.specs.Phases.{asks_head_first, phase_after_all}
+use Rattle.h2_message.specs.Reading.{Part}
+use Rattle.h2_message.proofs.PhaseWhole.{not_readable}
+use Rattle.h2_pair.specs.Tokens.{is_head_alone}
+use Rattle.h2_pair.proofs.StepUnprocessed.{role_by_take as take_role}
+use Rattle.h2_ends.specs.declared.refusal.EndRefusal.{EndRefusal}
+use Rattle.h2_ends.specs.Ends.{EndLog, Handed, Passed, EndAnswer, message_for, part_on, parts_on}
+use Rattle.h2_ends.specs.Ends.{reads_on, asked_head, handed_as}
+use Rattle.h2_ends.specs.EndCalls.{MayRequest, MayRespond}
+use Rattle.h2_ends.specs.EndTakes.{EndMayTake, IsReadableWith, end_with_log}
+use Rattle.h2_ends.specs.EndTakes.{end_with_handed, fails, hands_nothing, passes, hands_out}
+use Rattle.h2_ends.specs.EndTakes.{refuses, refusal_fails, runs_out_of_memory}
+use Rattle.h2_ends.specs.MessageTokens.{MessageToken, parts_heard_in, parts_heard}
+use Rattle.h2_ends.specs.Represents.{new_end_log}
+use Rattle.h2_ends.proofs.EndParts.{handed_elsewhere, has_phase, readable_here}
+use Rattle.h2_ends.proofs.MessageTokensPlaced.{place_where, begun_after, placed_part, parts_placed}
+use Rattle.h2_ends.proofs.MessageTokensPlaced.{placed_more, reads_requests, heard_here}
+use Rattle.h2_ends.proofs.MessageTokensPlaced.{heard_elsewhere}
+use Rattle.h2_ends.proofs.MessageTokensSaid.{response_final}
+use Rattle.h2_joined.specs.declared.act.Acted.{Acted}
+use Rattle.h2_joined.specs.Joints as joints
+use Rattle.h2_joined.specs.Joints.{Doing, JointEnd, Made, Delivery, Whole, Fails, Stops, MayDo}
+use Rattle.h2_joined.specs.Joints.{IsDelivered, IsJoint, IsNextAct}
+use Rattle.h2_joined.proofs.JointChains.{KeptByCalls, holds_by_pump, holds_by_release}
+use Rattle.h2_joined.proofs.JointChains.{holds_by_refused_request, holds_by_refused_response}
+
+-- What was handed out at an end on each stream is what its place says, and where it is a server
+-- each message that it has accepted has a final head.
+pub record KeepsPlaces (role : Role) (end : EndLog) : Type 0 where
+  pub role_is : end.log.role ≡ role
+  pub placed : (i : ℕ) → parts_heard i end.handed
+      ≡ parts_placed false (is_server role) (parts_on i end.handed)
+  pub final : role ≡ roles.Server → (i : ℕ) (message : SentMessage)
+      → message_for i end.accepted ≡ Some message
+      → place_where false false message.head ≡ places.Head
+
+-- Of the stream either nothing is handed out, or a part that is what its place says.
+abbrev IsPlaced : (server : Bool) → (before : List Handed) → ℕ → Handed → Type 0
+IsPlaced server before i handed =
+    ((part_on i handed ≡ []) × (parts_heard_in i handed ≡ []))
+    ⊎ ((part : Part × Bool) × (part_on i handed ≡ part ∷ [])
+    × (parts_heard_in i handed
+    ≡ placed_part (begun_after false server (parts_on i before)) server part))
+
+-- So all parts are, with what is handed out.
+placed_with : (server : Bool) (before : List Handed) (i : ℕ) (handed : Handed)
+    → IsPlaced server before i handed
+    → parts_heard i before ≡ parts_placed false server (parts_on i before)
+    → parts_heard i (handed ∷ before) ≡ parts_placed false server (parts_on i (handed ∷ before))
+unfolding parts_heard parts_on
+placed_with server before i handed (inl none) is =
+    rw (none.0, none.1) (append-nil (parts_heard i before) ∙ is
+    ∙ ap (parts_placed false server) (sym (append-nil (parts_on i before))))
+placed_with server before i handed (inr one) is =
+    rw (one.1, one.2) (ap (λ (tokens : List MessageToken). tokens
+    ++ placed_part (begun_after false server (parts_on i before)) server one.0) is
+    ∙ sym (placed_more false server (parts_on i before) one.0))
+
+-- Where the connection goes on, and nothing is handed out, it stays so,
+places_with_log : (role : Role) (end : EndLog) (log : Log) → log.role ≡ end.log.role
+    → KeepsPlaces role end → KeepsPlaces role (end_with_log end log)
+places_with_log role end log same keeps =
+    record { role_is = same ∙ keeps.role_is; placed = keeps.placed; final = keeps.final }
+
+-- and where something is.
+places_with : (role : Role) (end : EndLog) (log : Log) (handed : Handed)
+    → log.role ≡ end.log.role → ((i : ℕ) → IsPlaced (is_server role) end.handed i handed)
+    → KeepsPlaces role end → KeepsPlaces role (end_with_handed end log handed)
+places_with role end log handed same is keeps =
+    record {
+      role_is = same ∙ keeps.role_is;
+      placed = λ i. placed_with (is_server role) end.handed i handed (is i) (keeps.placed i);
+      final = keeps.final;
+    }
+
+-- What is passed on is no part of a message.
+passed_placed : (server : Bool) (before : List Handed) (event : Event) (i : ℕ)
+    → IsPlaced server before i (Passed event)
+unfolding part_on parts_heard_in
+passed_placed server before event i = inl (refl, refl)
+
+-- A server reads requests, and a client none.
+requests_by : (server to_head : Bool)
+    → reads_requests (if server then Requests else Responses to_head) ≡ server
+requests_by true to_head = refl
+requests_by false to_head = refl
+
+requests_read : (role : Role) (end : EndLog) (i : ℕ) → end.log.role ≡ role
+    → reads_requests (reads_on end i) ≡ is_server role
+unfolding reads_on
+requests_read role end i same =
+    requests_by (is_server end.log.role) (asked_head (message_for i end.accepted))
+    ∙ ap is_server same
+
+-- A part that can be read is handed out on its stream, as what its place says.
+part_placed : (role : Role) (end : EndLog) (id : ℕ) (part : Part × Bool)
+    → end.log.role ≡ role → IsReadableWith end id part → (i : ℕ)
+    → IsPlaced (is_server role) end.handed i
+    (handed_as (reads_on end id) (parts_on id end.handed) id part)
+part_placed role end id part same readable i =
+    let reads = reads_on end id in
+    let parts = parts_on id end.handed in
+    let taken = has_phase (phase_after_all reads (Some AtHead) (parts ++ part ∷ []))
+    (λ none. not_readable reads (parts ++ part ∷ []) none readable) in
+    let here = readable_here reads parts id part readable in
+    elim (cases_eq i id) [
+      | inl is ↦ rw is (inr (
+        part,
+        here,
+        subst (λ (server : Bool). parts_heard_in id (handed_as reads parts id part)
+            ≡ placed_part (begun_after false server parts) server part)
+            (requests_read role end id same) (heard_here reads parts id part taken.0 taken.1 here),
+      ))
+      | inr other ↦ inl (
+        handed_elsewhere reads parts i id part other,
+        heard_elsewhere reads parts i id part other,
+      )
+    ]
+
+-- A call leaves the role.
+call_places : (role : Role) → KeptByCalls (KeepsPlaces role)
+call_places role end act answer keeps ordinary typed may next =
+    places_with_log role end (with_call end.log act answer) (grows_call end.log act answer).role
+    keeps
+
+-- So does any call of `take`.
+take_places : (role : Role) (end after : EndLog) (piece : List ℕ) (answer : EndAnswer)
+    → EndMayTake end piece answer after → KeepsPlaces role end → KeepsPlaces role after
+take_places role end after piece answer (fails code log may answers same) keeps =
+    subst (KeepsPlaces role) (sym same)
+    (places_with_log role end log (take_role end.log log piece (Failed code) may) keeps)
+take_places role end after piece answer (hands_nothing count log may answers same) keeps =
+    subst (KeepsPlaces role) (sym same)
+    (places_with_log role end log (take_role end.log log piece (Took count None) may) keeps)
+take_places role end after piece answer (passes count event log may unread answers same) keeps =
+    subst (KeepsPlaces role) (sym same) (places_with role end log (Passed event)
+    (take_role end.log log piece (Took count (Some event)) may)
+    (passed_placed (is_server role) end.handed event) keeps)
+take_places role end after piece answer
+    (hands_out count event log may id part of readable answers same) keeps =
+    subst (KeepsPlaces role) (sym same) (places_with role end log _
+    (take_role end.log log piece (Took count (Some event)) may)
+    (part_placed role end id part keeps.role_is readable) keeps)
+take_places role end after piece answer
+    (refuses count event log may id part of stops refused answers_it up answers same) keeps =
+    subst (KeepsPlaces role) (sym same)
+    (places_with role end (with_call log (Refuse id 1) refused) (Passed (ResetEvent id 1 true))
+    ((grows_call log (Refuse id 1) refused).role
+    ∙ take_role end.log log piece (Took count (Some event)) may)
+    (passed_placed (is_server role) end.handed (ResetEvent id 1 true)) keeps)
+take_places role end after piece answer
+    (refusal_fails count event log may id part of stops refused answers_it code down answers same)
+    keeps =
+    subst (KeepsPlaces role) (sym same)
+    (places_with_log role end (with_call log (Refuse id 1) refused)
+    ((grows_call log (Refuse id 1) refused).role
+    ∙ take_role end.log log piece (Took count (Some event)) may) keeps)
+take_places role end after piece answer
+    (runs_out_of_memory count id list ends log may server first readable refused answers_it
+    answers same) keeps =
+    subst (KeepsPlaces role) (sym same)
+    (places_with_log role end (with_call log (Refuse id 2) refused)
+    ((grows_call log (Refuse id 2) refused).role
+    ∙ take_role end.log log piece (Took count (Some (FieldsEvent id list ends))) may) keeps)
+
+-- So it stays so where octets are delivered.
+delivery_places : (role : Role) (calls : ℕ) (end after : EndLog) (octets : List ℕ)
+    (delivery : Delivery) → IsDelivered calls end octets delivery after → KeepsPlaces role end
+    → KeepsPlaces role after
+delivery_places role _ end after _ _ (joints.is_whole calls octets few may) keeps =
+    take_places role end after octets _ may keeps
+delivery_places role _ end after _ _
+    (joints.goes_on {between = between} calls octets count handed delivery few may more delivered)
+    keeps =
+    delivery_places role (suc calls) between after (drop count octets) delivery delivered
+    (take_places role end between octets _ may keeps)
+delivery_places role _ end after _ _ (joints.fails calls octets code few may) keeps =
+    take_places role end after octets _ may keeps
+delivery_places role _ end _ _ _ (joints.stops calls octets) keeps = keeps
+
+-- A request is accepted only at a client,
+no_server : (role : Role) → role ≡ roles.Client → role ≡ roles.Server → ⊥
+no_server role client server = cc
+
+request_places : (role : Role) (end after : EndLog) (message : SentMessage)
+    (result : Result ℕ EndRefusal) → MayRequest end message result after → KeepsPlaces role end
+    → KeepsPlaces role after
+unfolding MayRequest
+request_places role end after message (Ok id) (unbroken, fits, may, same) keeps =
+    subst (KeepsPlaces role) (sym same) (record {
+      role_is = (grows_call end.log _ _).role ∙ keeps.role_is;
+      placed = keeps.placed;
+      final = λ server i one is. absurd (no_server role
+          (sym keeps.role_is ∙ (open_answer end.log message.head (is_head_alone message) id may).0)
+          server);
+    })
+request_places role end after message (Err refusal) may keeps =
+    holds_by_refused_request (KeepsPlaces role) (call_places role) end after message refusal may
+    keeps
+
+-- and a response has a final head.
+final_with : (id : ℕ) (message : SentMessage) (accepted : List (ℕ × SentMessage))
+    → place_where false false message.head ≡ places.Head
+    → ((i : ℕ) (one : SentMessage) → message_for i accepted ≡ Some one
+    → place_where false false one.head ≡ places.Head)
+    → (i : ℕ) (one : SentMessage) → message_for i ((id, message) ∷ accepted) ≡ Some one
+    → place_where false false one.head ≡ places.Head
+unfolding message_for
+final_with id message accepted final all i one is = elim (cases_Bool (id == i)) [
+  | inl here ↦
+      let same : message ≡ one = let given = rw here at is in cc in
+      subst (λ (any : SentMessage). place_where false false any.head ≡ places.Head) same final
+  | inr other ↦ all i one (rw other at is)
+]
+
+respond_places : (role : Role) (end after : EndLog) (id : ℕ) (message : SentMessage)
+    (result : Result (Unit {0}) EndRefusal) → MayRespond end id message result after
+    → KeepsPlaces role end → KeepsPlaces role after
+unfolding MayRespond
+respond_places role end after id message (Ok done) (asked, none, well, fits, may, same) keeps =
+    subst (KeepsPlaces role) (sym same) (record {
+      role_is = (grows_call end.log _ _).role ∙ keeps.role_is;
+      placed = keeps.placed;
+      final = λ server. final_with id message end.accepted
+          (response_final (asks_head_first (parts_on id end.handed)) message well)
+          (keeps.final server);
+    })
+respond_places role end after id message (Err refusal) may keeps =
+    holds_by_refused_response (KeepsPlaces role) (call_places role) end after id message refusal
+    may keeps
+
+-- So it stays with each act, at both ends.
+act_places : (role peer : Role) (one other new_one new_other : JointEnd) (doing : Doing)
+    (answer : Acted) → MayDo one other doing answer new_one new_other
+    → KeepsPlaces role one.happened → KeepsPlaces peer other.happened
+    → KeepsPlaces role new_one.happened × KeepsPlaces peer new_other.happened
+act_places role peer one other _ _ _ _ (joints.requests message result after typed may) keeps
+    there = (request_places role one.happened after message result may keeps, there)
+act_places role peer one other _ _ _ _ (joints.responds id message result after small typed may)
+    keeps there = (respond_places role one.happened after id message result may keeps, there)
+act_places role peer one other _ _ _ _ (joints.pumps result after may) keeps there = (
+  holds_by_pump (KeepsPlaces role) (call_places role) one.happened after result may keeps,
+  there,
+)
+act_places role peer one other _ _ _ _ (joints.releases_all result after may) keeps there = (
+  holds_by_release (KeepsPlaces role) (call_places role) one.happened after result may keeps,
+  there,
+)
+act_places role peer one other _ _ _ _ (joints.calls act answer call typed may) keeps there = (
+  places_with_log role one.happened (with_call one.happened.log act answer)
+      (grows_call one.happened.log act answer).role keeps,
+  there,
+)
+act_places role peer one other _ _ _ _ (joints.moves count answer typed may) keeps there = (
+  places_with_log role one.happened (with_call one.happened.log (PutOut count) answer)
+      (grows_call one.happened.log (PutOut count) answer).role keeps,
+  there,
+)
+act_places role peer one other _ _ _ _ (joints.delivers count after up delivered) keeps there =
+    (delivery_places role 0 one.happened after _ Whole delivered keeps, there)
+act_places role peer one other _ _ _ _ (joints.delivery_fails count code after up delivered) keeps
+    there = (delivery_places role 0 one.happened after _ (Fails code) delivered keeps, there)
+act_places role peer one other _ _ _ _ (joints.has_failed count code failed) keeps there =
+    (keeps, there)
+act_places role peer one other _ _ _ _ (joints.delivery_stops count unused after up delivered)
+    keeps there =
+    (delivery_places role 0 one.happened after _ (Stops unused) delivered keeps, there)
+act_places role peer one other _ _ _ _ (joints.no_copy_of_a_request message) keeps there =
+    (keeps, there)
+act_places role peer one other _ _ _ _ (joints.no_copy_of_a_response id message) keeps there =
+    (keeps, there)
+
+-- At a new end nothing was handed out or accepted.
+new_places : (role : Role) (values : Values) → KeepsPlaces role (new_end_log role values)
+unfolding opened with_sent parts_heard parts_on parts_placed message_for
+new_places role values =
+    record { role_is = refl; placed = λ i. refl; final = λ server i message is. absurd (cc) }
+
+-- So it is at both ends, whatever acts were made.
+next_places : (client server new_client new_server : JointEnd) (act : Made)
+    → IsNextAct client server act new_client new_server
+    → KeepsPlaces roles.Client client.happened × KeepsPlaces roles.Server server.happened
+    → KeepsPlaces roles.Client new_client.happened × KeepsPlaces roles.Server new_server.happened
+next_places client server new_client new_server _ (joints.at_client doing answer may) both =
+    act_places roles.Client roles.Server client server new_client new_server doing answer may
+    both.0 both.1
+next_places client server new_client new_server _ (joints.at_server doing answer may) both =
+    let after = act_places roles.Server roles.Client server client new_server new_client doing
+    answer may both.1 both.0 in (after.1, after.0)
+
+pub joint_places : (client_values server_values : Values) (made : List Made)
+    (client server : JointEnd) → IsJoint client_values server_values made client server
+    → KeepsPlaces roles.Client client.happened × KeepsPlaces roles.Server server.happened
+joint_places client_values server_values _ _ _ (joints.begins client_range server_range) =
+    (new_places roles.Client client_values, new_places roles.Server server_values)
+joint_places client_values server_values _ new_client new_server
+    (joints.continues {history = made} {client = client} {server = server} is act next) =
+    next_places client server new_client new_server act next
+    (joint_places client_values server_values made client server is)
