@@ -28,20 +28,21 @@ FAULTS = {
     "hpack/specs/Lists.antt": "DecodeFault NoBlock",
     "h2_message/specs/Reading.antt": "IsDeclared AreSoundTrailers AreSoundInterims IsWellRead "
     "message_parts IsReadable",
-    "h2_log/specs/Allowed.antt": "Allowed",
+    "h2_spec_log/specs/Allowed.antt": "Allowed",
     "h2_show/specs/Blocks.antt": "IsMisgrouped IsUndecodable EndsWithBlockError",
-    "h2_show/specs/Hexadecimal.antt": "IsBadHex",
+    "h2_cli/specs/Hexadecimal.antt": "IsBadHex",
     "h2_show/specs/Report.antt": "EndsInsideFrame EndsInsideBlock HasWireFaultAt HasBlockErrorAt IsAtFault",
-    "h2_show/specs/Status.antt": "failure_status",
+    "h2_cli/specs/Status.antt": "failure_status",
 }
 FAULT_DEFINITIONS = {(file, name) for file, names in FAULTS.items() for name in names.split()}
 
-# Files whose definitions of faults say one of h2_log again: those of the machine, whose decisions are those of h2_log.
-EXEMPT = {"h2_machine/specs/End.antt", "h2_machine/specs/Machine.antt"}
+# Files whose definitions of faults say one of h2_spec_log again: those of the machine, whose decisions are those of
+# h2_spec_log.
+EXEMPT = {"h2_spec_machine/specs/End.antt", "h2_spec_machine/specs/Machine.antt"}
 
 # Crates of tests and cases, whose calls are no use of a function.
-TESTS = {"h2_cases", "h2_case", "h2_conn_cases", "h2_end_cases", "h2_end_tests", "h2_layer_tests",
-         "h2_scarce_tests", "h2_tool_tests"}
+TESTS = {"h2_cases", "h2_case", "h2_case_conn", "h2_case_ends", "h2_test_ends", "h2_test_layers",
+         "h2_test_scarce", "h2_test_tool"}
 TESTS |= {"h2_measure", "h2_uses"}
 
 # Functions that the language calls, or a macro of a library.
@@ -53,7 +54,7 @@ JOINED = "users join two ends, which no end does"
 LINK = "a link in memory is for users' tests"
 TEXTS = "hpack reads into a text that it has, with the function that appends"
 API = {
-    "h2_config::Config::with_max_frame": "a program with larger frames configures its ends so",
+    "h2_flow::Config::with_max_frame": "a program with larger frames configures its ends so",
     "h2_flow::StreamState::end_in": "an end sets the side with the rest of its stream",
     "h2_flow::StreamState::end_out": "an end sets the side with the rest of its stream",
     "h2_flow::Window::give": WINDOWS,

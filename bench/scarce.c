@@ -1,7 +1,7 @@
 /* Refuses one allocation of a program, or all between two marks: see bench/scarce. Loaded before
  * the C library (LD_PRELOAD), or linked with --wrap=malloc, calloc and realloc (-DWRAP).
  *
- * An allocation of one of the sizes below is a mark, and is never refused: h2_scarce_tests makes
+ * An allocation of one of the sizes below is a mark, and is never refused: h2_test_scarce makes
  * them (record.rt). With COUNT=all every allocation of the program counts, without marks. REFUSE=k
  * refuses the k-th that counts, once. Between ALL and END all are refused where REFUSE is set. A
  * line is appended to the file that REPORT names: how many counted, how many were refused, how

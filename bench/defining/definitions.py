@@ -1,7 +1,7 @@
 """The definitions, each as it stands, under its own name; beside it is the place where it stands.
 
 Lists of items, events and calls have the newest first. Of what the definitions rely on, states and windows
-(h2_log States, Windows, Log) are here too. A token is a number for an octet, a tuple for fields, and END.
+(h2_spec_log States, Windows, Log) are here too. A token is a number for an octet, a tuple for fields, and END.
 Where a comment says "is kept", the log has what the definition finds by going over a list."""
 from items import (AckedEvent, Block, BodyHanded, Count, Data, DataEvent, Done, HeadHanded, InterimHanded,
                    Number, Open, Refused, Release, SendData, SendFields, Settings, TrailersHanded, WindowUpdate)
@@ -14,11 +14,11 @@ END = "end"
 
 
 def total(number, items):
-    """h2_log/specs/Items.antt"""
+    """h2_spec_log/specs/Items.antt"""
     return sum(map(number, items))
 
 
-# h2_log/specs/Settings.antt
+# h2_spec_log/specs/Settings.antt
 
 
 def value_after(id, before, pairs):
@@ -75,7 +75,7 @@ def payload_limit(count, sent):
     return greatest_from(lambda number: own_value(5, 16384, number, sent), count, more)
 
 
-# h2_log/specs/States.antt and Log.antt
+# h2_spec_log/specs/States.antt and Log.antt
 
 
 def acked(log):
@@ -140,7 +140,7 @@ def waiting(log):
     return log.written - log.given
 
 
-# h2_log/specs/Windows.antt
+# h2_spec_log/specs/Windows.antt
 
 
 def data_on(i):
@@ -180,11 +180,11 @@ def connection_recv_window(log):
     return FIRST_WINDOW + total(increment_on(0), log.sent) - total(data_of, log.received)
 
 
-# h2_end_laws/specs/WithinWindows.antt
+# h2_laws_end/specs/WithinWindows.antt
 
 
 def has_acknowledged(settings_read, acks_sent):
-    """h2_log/specs/Allowed.antt, of the two numbers."""
+    """h2_spec_log/specs/Allowed.antt, of the two numbers."""
     return acks_sent == settings_read
 
 
@@ -226,7 +226,7 @@ def keeps_windows(log):
         total(data_on(i), log.sent) == octets_by_calls(i, log.calls) for i in numbers)
 
 
-# h2_end_laws/specs/Sendings.antt and h2_pair/specs/Tokens.antt
+# h2_laws_end/specs/Sendings.antt and h2_laws_pair/specs/Tokens.antt
 
 
 def lists_accepted(calls):
@@ -343,7 +343,7 @@ def is_prefix_of_parts(parts, whole):
     return whole[:len(parts)] == parts
 
 
-# h2_ends/specs/Ends.antt and EndCalls.antt, h2_pair/specs/Quiet.antt. An end has `log`, `accepted` (pairs of a
+# h2_ends/specs/Ends.antt and EndCalls.antt, h2_laws_pair/specs/Quiet.antt. An end has `log`, `accepted` (pairs of a
 # stream and a message) and `handed`.
 
 

@@ -1,4 +1,4 @@
-"""What a log is made of: items, events, calls and their answers (h2_block Grouping, h2_log Events and Acts),
+"""What a log is made of: items, events, calls and their answers (h2_block Grouping, h2_spec_log Events and Acts),
 and items read from octets. Lists of them have the newest first, as in the definitions.
 
 Frames of no use here are `Other`. It shares no code with bench/drives."""

@@ -49,7 +49,7 @@ class Items(list):
 
 
 class Log:
-    """What has happened at one end, as h2_log/specs/Log.antt has it, as far as the definitions look at it."""
+    """What has happened at one end, as h2_spec_log/specs/Log.antt has it, as far as the definitions look at it."""
 
     def __init__(self, role):
         self.role = role
@@ -84,7 +84,7 @@ class Log:
 
 
 def event_of(event):
-    """An event of bench/drives as one of h2_log."""
+    """An event of bench/drives as one of h2_spec_log."""
     match event.kind:
         case "fields":
             return FieldsEvent(event.stream, event.fields, event.end)
@@ -101,7 +101,7 @@ def event_of(event):
 
 
 def act_of(name, words):
-    """A call of bench/drives as one of h2_log."""
+    """A call of bench/drives as one of h2_spec_log."""
     match name:
         case "open":
             return Open(words[0], bool(words[1]))

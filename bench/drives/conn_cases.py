@@ -264,7 +264,7 @@ def shown_prefix(octets):
 
 
 def call_text(name, words):
-    """A call as crates/h2_conn_cases/src/conn.rt reads it."""
+    """A call as crates/h2_case_conn/src/conn.rt reads it."""
     match name:
         case "open":
             fields, ends = words

@@ -198,7 +198,7 @@ class Joined:
         return all(half.is_quiet() and not half.pipe for half in self.halves.values())
 
     def lines(self):
-        """What the command `ends` answers (crates/h2_end_cases/src/pair.rt): what has changed."""
+        """What the command `ends` answers (crates/h2_case_ends/src/pair.rt): what has changed."""
         lines, before = [], self.seen
         for side, half in self.halves.items():
             end = half.end

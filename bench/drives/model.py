@@ -202,7 +202,7 @@ class Model:
         return self.highest + 2 if self.highest else 1
 
     def numbers(self, held):
-        """The lines that the command `changes` has of all numbers (crates/h2_conn_cases/src/conn.rt)."""
+        """The lines that the command `changes` has of all numbers (crates/h2_case_conn/src/conn.rt)."""
         if self.failed is not None:
             return [f"waiting {self.waiting}", "held 0", "due 0", "room none", "live 0", "sum 0"]
         lines = [f"waiting {self.waiting}", f"held {held}", f"due {self.due}", f"room {self.send}"]

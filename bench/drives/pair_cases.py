@@ -178,7 +178,7 @@ class Play:
 
 
 def act_text(name, side, words):
-    """An act as crates/h2_end_cases/src/pair.rt reads it."""
+    """An act as crates/h2_case_ends/src/pair.rt reads it."""
     match name:
         case "request":
             return f"request {words[0].text()}"

@@ -10,7 +10,7 @@ use Rattle.clap.specs.declared.error.Error.{Error}
 use Rattle.h2_show.specs.declared.options.ShowOptions.{ShowOptions}
 use Rattle.h2_show.specs.declared.options.Side.TheVariants.{Client, Server}
 use Rattle.h2_events.specs.declared.options.ReplayOptions.{ReplayOptions}
-use Rattle.h2_log.specs.declared.role.Role.TheVariants as role
+use Rattle.h2_spec_log.specs.declared.role.Role.TheVariants as role
 use Rattle.h2_args.specs.Commands.{AreSides, SideNames, program_app, replay_app, show_app}
 use Rattle.h2_args.specs.Commands.{serve_app, get_app, loop_app}
 use Rattle.h2_args.specs.declared.sockets.ServeOptions.{ServeOptions}

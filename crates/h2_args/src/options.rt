@@ -71,6 +71,7 @@ pub(super) fn side_arg<'a>(alloc: Global, name: &'a str, default: &'a str, help:
         .long(name)
         .value_name("SIDE")
         .value_parser(["client", "server"].as_slice())
+        // The help says the default and the words, within 80 columns.
         .default_value(default)
         .hide_default_value(true)
         .hide_possible_values(true)

@@ -1,11 +1,10 @@
 -- What a call makes of a partial block, from what it did.
 use Rattle.std.proofs.Common.{◌≡◌, ℕ, ◌+◌, ◌<◌, ◌≤◌, Bool, List, [], ◌∷◌, ◌++◌, length, Option}
-use Rattle.std.proofs.Common.{None, Some, MatchOption, refl, ap, sym, ◌∙◌, inl, inr}
+use Rattle.std.proofs.Common.{None, Some, MatchOption, refl, ap, sym, ◌∙◌, inl, inr, Bor}
 use Rattle.std.proofs.lemmas.Bool.{lt-ltb, le-ltb, eq-eqb, ne_eqb, cases_lt}
 use Rattle.h2_frame.specs.Frames.{Frame, Headers, Continuation, frame_of}
 use Rattle.h2_frame.specs.declared.frame.FrameRef.{FrameRef}
 use Rattle.h2_frame.specs.declared.frame.FrameRef.TheVariants as lent
-use Rattle.std.proofs.Common.{Bor}
 use Rattle.h2_block.specs.declared.fault.BlockFault.{BlockFault}
 use Rattle.h2_block.specs.declared.fault.BlockFault.TheVariants as faults
 use Rattle.h2_block.specs.declared.partial_block.PartialBlock.{PartialBlock}

@@ -1,9 +1,7 @@
 -- How many octets the frames of a block have.
 use Rattle.std.proofs.Common.{◌≡◌, ℕ, zero, suc, ◌+◌, ◌-◌, ◌*◌, ◌/◌, ◌%◌, ◌<◌, ◌≤◌, Bool, true}
-use Rattle.std.proofs.Common.{false, List, [], ◌∷◌}
-use Rattle.std.proofs.Common.{length, take, drop, None, ap, sym, ◌∙◌, inl, inr, arith}
-use Rattle.std.proofs.Common.{length-append}
-use Rattle.std.proofs.Common.{length-take, length-drop}
+use Rattle.std.proofs.Common.{false, List, [], ◌∷◌, length, take, drop, None, ap, sym, ◌∙◌, inl}
+use Rattle.std.proofs.Common.{inr, arith, length-append, length-take, length-drop}
 use Rattle.std.proofs.lemmas.Bool.{cases_lt}
 use Rattle.std.proofs.lemmas.Nat.{div-add-mod', div-mul-add, div_below, mod_below}
 use Rattle.std.proofs.lemmas.List.Concat.{flat_map-cons}

@@ -4,10 +4,11 @@ ghost use Rattle.std.specs.Prelude.{◌≡◌};
 ghost use Rattle.h2_block.specs.Gather.{block_fault_code};
 
 use h2_frame::Code;
+use std::alloc::AllocError;
 use thiserror::Error;
 
 /// Why frames aren't grouped any further.
-#[derive(Clone, Copy, Debug, PartialEq, Eq, Error)]
+#[derive(Clone, Copy, Debug, PartialEq, Eq, Hash, Error)]
 pub enum BlockFault {
     /// Inside a block comes another frame than a CONTINUATION of its stream (RFC 9113, section
     /// 6.10).
@@ -22,6 +23,16 @@ pub enum BlockFault {
     /// An allocation was refused.
     #[error("B4 Memory: out of memory")]
     Memory,
+}
+
+impl From<AllocError> for BlockFault {
+    ghost use Rattle.h2_block.specs.declared.fault.BlockFault.TheVariants.{Memory};
+
+    ghost from_gives = { λ _ fault. fault ≡ Memory };
+
+    fn from(_error: AllocError) -> BlockFault {
+        BlockFault::Memory
+    }
 }
 
 impl BlockFault {

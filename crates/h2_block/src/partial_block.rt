@@ -11,11 +11,9 @@ ghost use Rattle.h2_block.specs.PartialBlock.{gather_state_of, PartialBlockInvar
 use crate::fault::BlockFault;
 use crate::gathered::Gathered;
 use h2_frame::FrameRef;
+use h2_frame::limits::MAX_BLOCK;
 use std::alloc::Global;
 use std::mem;
-
-/// The limit of a block's octets.
-const MAX_BLOCK_OCTETS: usize = 65_552;
 
 /// The HEADERS with which a block began.
 #[derive(Clone, Copy, Debug)]
@@ -155,7 +153,7 @@ impl PartialBlock {
         ensures ended { LeavesNone result (gather_state_of self.new) }
         ensures invariant { PartialBlockInvariant self.new }
     {
-        if fragment.len() > MAX_BLOCK_OCTETS {
+        if fragment.len() > MAX_BLOCK {
             return Err(self.fail(BlockFault::TooLong));
         }
         if whole {
@@ -191,7 +189,7 @@ impl PartialBlock {
         ensures ended { LeavesNone result (gather_state_of self.new) }
         ensures invariant { PartialBlockInvariant self.new }
     {
-        if fragment.len() > MAX_BLOCK_OCTETS - self.octets.len() {
+        if fragment.len() > MAX_BLOCK - self.octets.len() {
             return Err(self.fail(BlockFault::TooLong));
         }
         self.append(fragment)?;
@@ -210,7 +208,7 @@ impl PartialBlock {
         ensures ok { IfOk result (λ copied. copied.items ≡ octets.now) }
         ensures err { IfErr result (λ fault. fault ≡ BlockFault.Memory) }
     {
-        Vec::from_slice(self.alloc, octets).map_err(|_| BlockFault::Memory)
+        Ok(Vec::from_slice(self.alloc, octets)?)
     }
 
     // Appends these octets, or changes nothing.
@@ -220,9 +218,8 @@ impl PartialBlock {
             × (self.new.octets.items ≡ self.old.octets.items)) }
         ensures same { self.new ≡ record self.old { octets = self.new.octets } }
     {
-        self.octets
-            .extend_from_slice(octets)
-            .map_err(|_| BlockFault::Memory)
+        self.octets.extend_from_slice(octets)?;
+        Ok(())
     }
 
     // The block has ended; its octets are handed out.

@@ -8,13 +8,8 @@ ghost use Rattle.h2_frame.specs.Encoding.{encoding_of, refusal};
 ghost use Rattle.h2_block.specs.Spread.{spread_frames, encoding_of_frames};
 
 use crate::fault::BlockFault;
-use h2_frame::{FrameRef, write_ref};
-
-/// The most octets that a block can have, so that a greater payload makes no other frames.
-const MAX_BLOCK_OCTETS: usize = 65_552;
-
-/// The octets of a frame's head (RFC 9113, section 4.1).
-const HEAD: usize = 9;
+use h2_frame::limits::MAX_BLOCK;
+use h2_frame::{FrameRef, HEAD_LEN, write_ref};
 
 // contract: 4.3 A block is sent as contiguous HEADERS and CONTINUATION, each full but one
 // rule: 4.3 A block is sent as contiguous HEADERS and CONTINUATION, each full but one
@@ -53,7 +48,8 @@ pub fn spread(
         → IsOk result }
     ensures capacity { vec_capacity out.old ≤ vec_capacity out.new }
 {
-    let payload = most.min(MAX_BLOCK_OCTETS);
+    // No block has more octets, so a greater payload makes no other frames.
+    let payload = most.min(MAX_BLOCK);
     if out.reserve(encoded_len(payload, octets.len())).is_err() {
         return Err(BlockFault::Memory);
     }
@@ -68,7 +64,7 @@ fn encoded_len(most: usize, count: usize) -> usize
     requires length { count ≤ 65552 }
     ensures { result ≡ count + 9 * (1 + (count - 1) / most) }
 {
-    count + HEAD * (1 + count.saturating_sub(1) / most)
+    count + HEAD_LEN * (1 + count.saturating_sub(1) / most)
 }
 
 // rule: 4.3 (own) Room for all frames of a block is reserved before the first

@@ -3,8 +3,8 @@
 use crate::case::CaseError;
 use crate::text::Text;
 use crate::words::Words;
+use h2_cli::from_hex;
 use h2_frame::head;
-use h2_show::from_hex;
 use std::alloc::Global;
 
 /// The octets of the words that are left: hexadecimal digits, one word after another. `HEXxN` is

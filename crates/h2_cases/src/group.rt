@@ -4,8 +4,8 @@ use crate::{location, program};
 use h2_case::case::Case;
 use h2_case::driver::Answer;
 use h2_case::layers::{block, flow, frame, hpack_blocks, text, wire};
-use h2_conn_cases::{conn, message};
-use h2_end_cases::{end, engine, pair};
+use h2_case_conn::{conn, message};
+use h2_case_ends::{end, engine, pair};
 use std::alloc::Global;
 use std::net::Net;
 

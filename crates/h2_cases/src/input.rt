@@ -4,7 +4,7 @@ use h2_case::fields::read_text;
 use h2_case::octets::read_octets;
 use h2_case::text::Text;
 use h2_case::words::Words;
-use h2_conn_cases::answers::extend;
+use h2_case_conn::answers::extend;
 use std::alloc::Global;
 use std::io::{self, ErrorKind, Read};
 

@@ -8,7 +8,7 @@ use h2_case::driver::{Answer, Driver, answers};
 use h2_case::fields::read_text;
 use h2_case::text::Text;
 use h2_case::words::Words;
-use h2_location::target;
+use h2_net::target;
 use std::alloc::Global;
 
 /// What answers the commands of a case.

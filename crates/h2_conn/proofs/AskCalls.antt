@@ -2,26 +2,27 @@
 use Rattle.std.proofs.Common.{◌≡◌, ◌≤◌, ℕ, Bool, true, false, List, ◌∷◌, length, Some, None, Result}
 use Rattle.std.proofs.Common.{Ok, Err, inl, inr, IfOk, IfErr, OnOk, refl, sym, ap, subst, ◌∙◌}
 use Rattle.h2_wire.specs.Cutter.{CutterState, CutterLimited, saturated}
-use Rattle.h2_log.specs.declared.refusal.Refusal.{Refusal}
-use Rattle.h2_log.specs.declared.refusal.Refusal.TheVariants.{Memory}
-use Rattle.h2_log.specs.Acts.{Values, Act, Answer, Refused, IsTypedAct, Open, SendFields, SendData}
-use Rattle.h2_log.specs.Acts.{Release, ResetStream, Refuse, SendPing, SendGoAway, PutOut}
-use Rattle.h2_log.specs.Acts.{ChangeSettings, AreInRange, Done}
-use Rattle.h2_log.specs.Limits.{most_max_frame}
-use Rattle.h2_log.specs.Log.{Log}
-use Rattle.h2_log.specs.LogView.{log_view}
-use Rattle.h2_log.specs.LogCalls.{MayAnswer, accepts, refuses, lacks, with_call}
-use Rattle.h2_log.specs.CallRules.{refusal_of, answer_of, may_lack_memory, first_of, conditions}
-use Rattle.h2_log.specs.View.{View}
-use Rattle.h2_log.proofs.StreamLemmas.{Keeps, Keeps-call}
-use Rattle.h2_machine.specs.End.{End, end_view, payload_limit_of}
-use Rattle.h2_machine.specs.Machine.{after_call}
-use Rattle.h2_machine.specs.Represents.{Represents}
-use Rattle.h2_machine_laws.specs.Machines.{end_after}
-use Rattle.h2_machine_laws.proofs.AlikeAnswers.{answer_alike, views_alike}
-use Rattle.h2_machine_laws.proofs.CallRefusals.{refusal_same}
-use Rattle.h2_machine_laws.proofs.FreshNumbers.{calls_represent}
-use Rattle.h2_machine_laws.proofs.ReadLimits.{own_of_call}
+use Rattle.h2_spec_log.specs.declared.refusal.Refusal.{Refusal}
+use Rattle.h2_spec_log.specs.declared.refusal.Refusal.TheVariants.{Memory}
+use Rattle.h2_spec_log.specs.Acts.{Values, Act, Answer, Refused, IsTypedAct, Open, SendFields}
+use Rattle.h2_spec_log.specs.Acts.{SendData, Release, ResetStream, Refuse, SendPing, SendGoAway}
+use Rattle.h2_spec_log.specs.Acts.{PutOut, ChangeSettings, AreInRange, Done}
+use Rattle.h2_spec_log.specs.Limits.{most_max_frame}
+use Rattle.h2_spec_log.specs.Log.{Log}
+use Rattle.h2_spec_log.specs.LogView.{log_view}
+use Rattle.h2_spec_log.specs.LogCalls.{MayAnswer, accepts, refuses, lacks, with_call}
+use Rattle.h2_spec_log.specs.CallRules.{refusal_of, answer_of, may_lack_memory, first_of}
+use Rattle.h2_spec_log.specs.CallRules.{conditions}
+use Rattle.h2_spec_log.specs.View.{View}
+use Rattle.h2_spec_log.proofs.StreamLemmas.{Keeps, Keeps-call}
+use Rattle.h2_spec_machine.specs.End.{End, end_view, payload_limit_of}
+use Rattle.h2_spec_machine.specs.Machine.{after_call}
+use Rattle.h2_spec_machine.specs.Represents.{Represents}
+use Rattle.h2_laws_machine.specs.Machines.{end_after}
+use Rattle.h2_laws_machine.proofs.AlikeAnswers.{answer_alike, views_alike}
+use Rattle.h2_laws_machine.proofs.CallRefusals.{refusal_same}
+use Rattle.h2_laws_machine.proofs.FreshNumbers.{calls_represent}
+use Rattle.h2_laws_machine.proofs.ReadLimits.{own_of_call}
 use Rattle.h2_core.specs.Calls.{CallRefused, CallAccepted}
 use Rattle.h2_conn.specs.Conn.{answer_by}
 use Rattle.h2_conn.specs.Inner.{PartsRepresent}

@@ -4,15 +4,15 @@ use Rattle.std.proofs.Common.{◌≡◌, ℕ, nat_le, if◌then◌else◌, List,
 use Rattle.h2_frame.specs.Frames.{Frame}
 use Rattle.h2_wire.specs.Cutter.{CutterState, CutterRepresents, saturated}
 use Rattle.h2_wire.specs.Streams.{Limits}
-use Rattle.h2_log.specs.declared.role.Role.{Role}
-use Rattle.h2_log.specs.Acts.{Values}
-use Rattle.h2_log.specs.Settings.{is_server, payload_limit}
-use Rattle.h2_log.specs.Log.{Log, acked}
-use Rattle.h2_log.specs.LogSteps.{limits_from}
-use Rattle.h2_log.proofs.StreamLemmas.{Keeps}
-use Rattle.h2_machine.specs.End.{End, payload_limit_of}
-use Rattle.h2_machine.specs.Represents.{Represents}
-use Rattle.h2_machine_laws.proofs.ReadLimits.{limit_agrees}
+use Rattle.h2_spec_log.specs.declared.role.Role.{Role}
+use Rattle.h2_spec_log.specs.Acts.{Values}
+use Rattle.h2_spec_log.specs.Settings.{is_server, payload_limit}
+use Rattle.h2_spec_log.specs.Log.{Log, acked}
+use Rattle.h2_spec_log.specs.LogSteps.{limits_from}
+use Rattle.h2_spec_log.proofs.StreamLemmas.{Keeps}
+use Rattle.h2_spec_machine.specs.End.{End, payload_limit_of}
+use Rattle.h2_spec_machine.specs.Represents.{Represents}
+use Rattle.h2_laws_machine.proofs.ReadLimits.{limit_agrees}
 use Rattle.h2_conn.specs.Inner.{PartsRepresent}
 
 -- With the same own settings the same limit is in force.

@@ -3,16 +3,16 @@ use Rattle.std.proofs.Common.{◌≡◌, ◌≢◌, ◌∙◌, ◌+◌, ◌≤�
 use Rattle.std.proofs.Common.{Option, Some, None, is_some, IsSome, Result, Err, refl, ap, sym}
 use Rattle.std.proofs.Common.{arith}
 use Rattle.h2_frame.specs.declared.code.Code.{Code}
-use Rattle.h2_log.specs.declared.refusal.Refusal.{Refusal}
-use Rattle.h2_log.specs.declared.refusal.Refusal.TheVariants.{Memory, Closed}
-use Rattle.h2_log.specs.Acts.{Values}
-use Rattle.h2_log.specs.CallRules.{returns_before_put_out, sends_no_data}
-use Rattle.h2_log.specs.Log.{Log}
-use Rattle.h2_log.specs.LogView.{log_view}
-use Rattle.h2_log.specs.View.{View}
-use Rattle.h2_machine.specs.End.{End, end_view}
-use Rattle.h2_machine.specs.Represents.{Represents}
-use Rattle.h2_machine_laws.proofs.AlikeAnswers.{views_alike}
+use Rattle.h2_spec_log.specs.declared.refusal.Refusal.{Refusal}
+use Rattle.h2_spec_log.specs.declared.refusal.Refusal.TheVariants.{Memory, Closed}
+use Rattle.h2_spec_log.specs.Acts.{Values}
+use Rattle.h2_spec_log.specs.CallRules.{returns_before_put_out, sends_no_data}
+use Rattle.h2_spec_log.specs.Log.{Log}
+use Rattle.h2_spec_log.specs.LogView.{log_view}
+use Rattle.h2_spec_log.specs.View.{View}
+use Rattle.h2_spec_machine.specs.End.{End, end_view}
+use Rattle.h2_spec_machine.specs.Represents.{Represents}
+use Rattle.h2_laws_machine.proofs.AlikeAnswers.{views_alike}
 use Rattle.h2_wire.specs.Cutter.{CutterState}
 use Rattle.h2_conn.specs.Inner.{PartsRepresent}
 

@@ -2,15 +2,15 @@
 use Rattle.std.proofs.Common.{◌≡◌, ℕ, false, List, Some}
 use Rattle.std.proofs.Common.{is_some, ap, sym, ◌∙◌}
 use Rattle.h2_block.specs.Grouping.{Item}
-use Rattle.h2_log.specs.declared.role.Role.{Role}
-use Rattle.h2_log.specs.declared.role.Role.TheVariants.{Client, Server}
-use Rattle.h2_log.specs.Acts.{Values}
-use Rattle.h2_log.specs.Items.{greatest_block}
-use Rattle.h2_log.specs.Log.{Log, next_number}
-use Rattle.h2_log.specs.Settings.{is_server}
-use Rattle.h2_log.specs.States.{openings}
-use Rattle.h2_machine.specs.End.{End, number_after}
-use Rattle.h2_machine.specs.Represents.{Represents}
+use Rattle.h2_spec_log.specs.declared.role.Role.{Role}
+use Rattle.h2_spec_log.specs.declared.role.Role.TheVariants.{Client, Server}
+use Rattle.h2_spec_log.specs.Acts.{Values}
+use Rattle.h2_spec_log.specs.Items.{greatest_block}
+use Rattle.h2_spec_log.specs.Log.{Log, next_number}
+use Rattle.h2_spec_log.specs.Settings.{is_server}
+use Rattle.h2_spec_log.specs.States.{openings}
+use Rattle.h2_spec_machine.specs.End.{End, number_after}
+use Rattle.h2_spec_machine.specs.Represents.{Represents}
 use Rattle.h2_conn.specs.Conn.{reader_next_number}
 
 -- A client's greatest number is that of the blocks that it has sent.

@@ -7,24 +7,24 @@ use Rattle.std.proofs.lemmas.Bool.{both_ways, lt-ltb}
 use Rattle.std.proofs.lemmas.List.{drop-take}
 use Rattle.h2_frame.specs.declared.code.Code.{Code}
 use Rattle.h2_wire.specs.Cutter.{CutterState}
-use Rattle.h2_log.specs.declared.refusal.Refusal.{Refusal}
-use Rattle.h2_log.specs.declared.refusal.Refusal.TheVariants.{Memory}
-use Rattle.h2_log.specs.Acts.{Values, IsTypedAct, PutOut, Count}
-use Rattle.h2_log.specs.CallRules.{may_lack_memory, encoder_after_call, returns_before_put_out}
-use Rattle.h2_log.specs.Log.{Log, released}
-use Rattle.h2_log.specs.LogView.{log_view}
-use Rattle.h2_log.specs.LogCalls.{called, before_put_out, with_call}
-use Rattle.h2_machine.specs.End.{End, end_view}
-use Rattle.h2_machine.specs.Machine.{before_put_out_at}
-use Rattle.h2_machine.specs.Represents.{Represents}
-use Rattle.h2_machine_laws.proofs.AlikeAnswers.{put_out_alike, waiting_alike}
-use Rattle.h2_machine_laws.proofs.CallWithoutStream.{ready_given, ready_failed_at, ready_failed}
-use Rattle.h2_machine_laws.proofs.RepresentedSteps.{up_of, called_up, ready_up}
+use Rattle.h2_spec_log.specs.declared.refusal.Refusal.{Refusal}
+use Rattle.h2_spec_log.specs.declared.refusal.Refusal.TheVariants.{Memory}
+use Rattle.h2_spec_log.specs.Acts.{Values, IsTypedAct, PutOut, Count}
+use Rattle.h2_spec_log.specs.CallRules.{may_lack_memory, encoder_after_call, returns_before_put_out}
+use Rattle.h2_spec_log.specs.Log.{Log, released}
+use Rattle.h2_spec_log.specs.LogView.{log_view}
+use Rattle.h2_spec_log.specs.LogCalls.{called, before_put_out, with_call}
+use Rattle.h2_spec_machine.specs.End.{End, end_view}
+use Rattle.h2_spec_machine.specs.Machine.{before_put_out_at}
+use Rattle.h2_spec_machine.specs.Represents.{Represents}
+use Rattle.h2_laws_machine.proofs.AlikeAnswers.{put_out_alike, waiting_alike}
+use Rattle.h2_laws_machine.proofs.CallWithoutStream.{ready_given, ready_failed_at, ready_failed}
+use Rattle.h2_laws_machine.proofs.RepresentedSteps.{up_of, called_up, ready_up}
 use Rattle.h2_core.specs.Readers.{PutsOut}
 use Rattle.h2_conn.specs.Conn.{answer_by}
 use Rattle.h2_conn.proofs.AskCalls.{PartsAnswer, refused_at, accepted_with}
 use Rattle.h2_conn.proofs.AskMemory.{returns_alike}
-use Rattle.h2_machine_laws.proofs.CallWithoutStream.{never_refused}
+use Rattle.h2_laws_machine.proofs.CallWithoutStream.{never_refused}
 
 -- What waits once an end is ready to put output out is what its log has written by then, by whether
 -- it has failed.

@@ -4,19 +4,19 @@ use Rattle.std.proofs.Common.{sym, ap, subst, ◌∙◌}
 use Rattle.h2_frame.specs.declared.code.Code.{Code}
 use Rattle.h2_frame.specs.declared.code.Code.TheVariants.{InternalError}
 use Rattle.h2_wire.specs.Cutter.{CutterState}
-use Rattle.h2_log.specs.declared.refusal.Refusal.{Refusal}
-use Rattle.h2_log.specs.Acts.{Values, Act, Answer, IsTypedAct, Refuse, Done, OutOfMemory, Refused}
-use Rattle.h2_log.specs.Acts.{shown}
-use Rattle.h2_log.specs.CallRules.{refusal_of, refuse_fault, may_fail_for_memory}
-use Rattle.h2_log.specs.Log.{Log}
-use Rattle.h2_log.specs.LogView.{log_view}
-use Rattle.h2_log.specs.LogCalls.{MayAnswer, fails, with_call}
-use Rattle.h2_log.specs.View.{View}
-use Rattle.h2_machine.specs.End.{End, end_view}
-use Rattle.h2_machine.specs.Machine.{fail}
-use Rattle.h2_machine_laws.specs.Machines.{end_after}
-use Rattle.h2_machine_laws.proofs.AlikeAnswers.{views_alike}
-use Rattle.h2_machine_laws.proofs.CallRefusals.{refusal_same}
+use Rattle.h2_spec_log.specs.declared.refusal.Refusal.{Refusal}
+use Rattle.h2_spec_log.specs.Acts.{Values, Act, Answer, IsTypedAct, Refuse, Done, OutOfMemory}
+use Rattle.h2_spec_log.specs.Acts.{Refused, shown}
+use Rattle.h2_spec_log.specs.CallRules.{refusal_of, refuse_fault, may_fail_for_memory}
+use Rattle.h2_spec_log.specs.Log.{Log}
+use Rattle.h2_spec_log.specs.LogView.{log_view}
+use Rattle.h2_spec_log.specs.LogCalls.{MayAnswer, fails, with_call}
+use Rattle.h2_spec_log.specs.View.{View}
+use Rattle.h2_spec_machine.specs.End.{End, end_view}
+use Rattle.h2_spec_machine.specs.Machine.{fail}
+use Rattle.h2_laws_machine.specs.Machines.{end_after}
+use Rattle.h2_laws_machine.proofs.AlikeAnswers.{views_alike}
+use Rattle.h2_laws_machine.proofs.CallRefusals.{refusal_same}
 use Rattle.h2_core.specs.Calls.{CallRefuses}
 use Rattle.h2_conn.specs.Conn.{answer_by}
 use Rattle.h2_conn.specs.Inner.{PartsRepresent}

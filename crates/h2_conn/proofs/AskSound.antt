@@ -1,24 +1,24 @@
 -- A call leaves the values of an end sound.
 use Rattle.std.proofs.Common.{◌≡◌, ℕ, Bool, true, false, if◌then◌else◌, None, Result, Ok, Err, inl}
 use Rattle.std.proofs.Common.{inr, IfOk, IfErr, List, OnOk, refl, sym, ap, subst, ◌∙◌}
-use Rattle.h2_log.specs.declared.refusal.Refusal.{Refusal}
-use Rattle.h2_log.specs.declared.refusal.Refusal.TheVariants.{Memory}
-use Rattle.h2_log.specs.Acts.{Act, IsTypedAct, Refuse, PutOut}
-use Rattle.h2_log.specs.CallRules.{refusal_of, returns_before_put_out}
-use Rattle.h2_machine.specs.End.{End, end_view}
-use Rattle.h2_machine.specs.Machine.{after_call, before_put_out_at, return_credit}
-use Rattle.h2_machine_laws.proofs.BoundsOfSteps.{call_bounded}
-use Rattle.h2_machine_laws.proofs.ConservedBySteps.{call_holds}
-use Rattle.h2_machine_laws.proofs.ConservedBySteps.{holds, is_whole}
-use Rattle.h2_machine_laws.proofs.CountedBySteps.{call_counts}
-use Rattle.h2_machine_laws.proofs.CountedBySteps.{counted, is_counted}
-use Rattle.h2_machine_laws.proofs.RangesOfSteps.{call_fits}
-use Rattle.h2_machine_laws.proofs.RangesOfSteps.{fits, are_in_range}
+use Rattle.h2_spec_log.specs.declared.refusal.Refusal.{Refusal}
+use Rattle.h2_spec_log.specs.declared.refusal.Refusal.TheVariants.{Memory}
+use Rattle.h2_spec_log.specs.Acts.{Act, IsTypedAct, Refuse, PutOut}
+use Rattle.h2_spec_log.specs.CallRules.{refusal_of, returns_before_put_out}
+use Rattle.h2_spec_machine.specs.End.{End, end_view}
+use Rattle.h2_spec_machine.specs.Machine.{after_call, before_put_out_at, return_credit}
+use Rattle.h2_laws_machine.proofs.BoundsOfSteps.{call_bounded}
+use Rattle.h2_laws_machine.proofs.ConservedBySteps.{call_holds}
+use Rattle.h2_laws_machine.proofs.ConservedBySteps.{holds, is_whole}
+use Rattle.h2_laws_machine.proofs.CountedBySteps.{call_counts}
+use Rattle.h2_laws_machine.proofs.CountedBySteps.{counted, is_counted}
+use Rattle.h2_laws_machine.proofs.RangesOfSteps.{call_fits}
+use Rattle.h2_laws_machine.proofs.RangesOfSteps.{fits, are_in_range}
 use Rattle.h2_core.specs.Calls.{CallRefused, CallAccepted, CallRefuses}
 use Rattle.h2_core.specs.Endpoint.{IsSoundEnd}
 use Rattle.h2_core.specs.Readers.{PutsOut}
 use Rattle.h2_conn.proofs.AskCalls.{puts_out, up_if_free}
-use Rattle.h2_machine_laws.proofs.CallWithoutStream.{never_refused}
+use Rattle.h2_laws_machine.proofs.CallWithoutStream.{never_refused}
 
 -- A call that is accepted leaves an end sound.
 pub accepted_sound : (e : End) (act : Act) → refusal_of (end_view e) act ≡ None → IsTypedAct act

@@ -6,15 +6,15 @@ use Rattle.h2_wire.specs.Cutter.{CutterState, CutterRepresents, CutterLimited, H
 use Rattle.h2_wire.specs.Cutter.{octets_of}
 use Rattle.h2_wire.specs.Streams.{Limits}
 use Rattle.h2_wire.specs.declared.cut.Complete.{Complete}
-use Rattle.h2_log.specs.Acts.{Values}
-use Rattle.h2_log.specs.Limits.{most_max_frame}
-use Rattle.h2_log.specs.Settings.{is_server, payload_limit}
-use Rattle.h2_log.specs.Log.{Log, acked}
-use Rattle.h2_log.specs.LogSteps.{limits_from}
-use Rattle.h2_log.proofs.StreamLemmas.{Keeps}
-use Rattle.h2_machine.specs.End.{End, payload_limit_of}
-use Rattle.h2_machine.specs.Represents.{Represents}
-use Rattle.h2_machine_laws.proofs.ReadLimits.{limit_agrees}
+use Rattle.h2_spec_log.specs.Acts.{Values}
+use Rattle.h2_spec_log.specs.Limits.{most_max_frame}
+use Rattle.h2_spec_log.specs.Settings.{is_server, payload_limit}
+use Rattle.h2_spec_log.specs.Log.{Log, acked}
+use Rattle.h2_spec_log.specs.LogSteps.{limits_from}
+use Rattle.h2_spec_log.proofs.StreamLemmas.{Keeps}
+use Rattle.h2_spec_machine.specs.End.{End, payload_limit_of}
+use Rattle.h2_spec_machine.specs.Represents.{Represents}
+use Rattle.h2_laws_machine.proofs.ReadLimits.{limit_agrees}
 use Rattle.h2_conn.specs.Inner.{PartsRepresent}
 use Rattle.h2_conn.proofs.AskLimits.{cuts_same}
 
@@ -104,6 +104,7 @@ lies_limited cutter limited limit piece frame set has =
       bounded = has.bounded;
       form = has.form;
       sound = has.sound;
+      pad = has.pad;
     })
 
 -- Its octets are the same.

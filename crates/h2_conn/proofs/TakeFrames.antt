@@ -14,15 +14,15 @@ use Rattle.hpack.specs.declared.types.field.Field.{Field}
 use Rattle.h2_frame.specs.Frames.{Frame, Data, Headers, Priority, Reset, Settings, Ping, GoAway}
 use Rattle.h2_frame.specs.Frames.{WindowUpdate, Continuation, Unknown}
 use Rattle.h2_block.specs.Grouping.{alone, block}
-use Rattle.h2_log.specs.Events.{DataEvent}
-use Rattle.h2_log.specs.View.{View}
-use Rattle.h2_log.specs.Verdicts.{Verdict, ConnectionFault, StreamFault, NoEvent, Reported}
-use Rattle.h2_log.specs.ItemRules.{Decoded, FrameStep, fails_with, begins_block, completes}
-use Rattle.h2_log.specs.ItemRules.{frame_step, verdict_of}
-use Rattle.h2_log.specs.ItemEffects.{events_of}
-use Rattle.h2_machine.specs.End.{End, end_view}
-use Rattle.h2_machine.specs.Machine.{with_begun}
-use Rattle.h2_machine_laws.proofs.RecvFrames.{completes_frame}
+use Rattle.h2_spec_log.specs.Events.{DataEvent}
+use Rattle.h2_spec_log.specs.View.{View}
+use Rattle.h2_spec_log.specs.Verdicts.{Verdict, ConnectionFault, StreamFault, NoEvent, Reported}
+use Rattle.h2_spec_log.specs.ItemRules.{Decoded, FrameStep, fails_with, begins_block, completes}
+use Rattle.h2_spec_log.specs.ItemRules.{frame_step, verdict_of}
+use Rattle.h2_spec_log.specs.ItemEffects.{events_of}
+use Rattle.h2_spec_machine.specs.End.{End, end_view}
+use Rattle.h2_spec_machine.specs.Machine.{with_begun}
+use Rattle.h2_laws_machine.proofs.RecvFrames.{completes_frame}
 use Rattle.h2_core.specs.declared.reader.Reported.{Reported as Answer}
 use Rattle.h2_core.specs.declared.reader.Reported.TheVariants as reports
 use Rattle.h2_core.specs.Items.{events_reported}

@@ -10,22 +10,22 @@ use Rattle.h2_wire.specs.declared.fault.WireFault.{WireFault}
 use Rattle.h2_wire.specs.declared.fault.WireFault.TheVariants as faults
 use Rattle.h2_wire.specs.Streams.{GoesPastPreface}
 use Rattle.h2_wire.specs.Cutter.{CutterState, FaultsAtHead, BeginsWithFrame}
-use Rattle.h2_log.specs.Acts.{Values}
-use Rattle.h2_log.specs.ItemRules.{FrameStep, fails_with, begins_block, completes, frame_step}
-use Rattle.h2_log.specs.ItemRules.{verdict_of}
-use Rattle.h2_log.specs.Log.{Log, acked, waiting, output, unreleased}
-use Rattle.h2_log.specs.LogSteps.{limits_from}
-use Rattle.h2_log.specs.LogView.{log_view}
-use Rattle.h2_log.specs.Memory.{KeepsOctets, cutter_of, frame_needs_memory, needs_memory}
-use Rattle.h2_log.specs.Memory.{step_needs_memory}
-use Rattle.h2_log.specs.Settings.{payload_limit}
-use Rattle.h2_log.specs.Verdicts.{Verdict}
-use Rattle.h2_log.specs.View.{View}
-use Rattle.h2_machine.specs.End.{End, end_view}
-use Rattle.h2_machine.specs.Machine.{with_begun}
-use Rattle.h2_machine.specs.Represents.{Represents}
-use Rattle.h2_machine_laws.proofs.AlikeFrames.{step_alike, verdict_alike}
-use Rattle.h2_machine_laws.proofs.AlikeAnswers.{views_alike}
+use Rattle.h2_spec_log.specs.Acts.{Values}
+use Rattle.h2_spec_log.specs.ItemRules.{FrameStep, fails_with, begins_block, completes, frame_step}
+use Rattle.h2_spec_log.specs.ItemRules.{verdict_of}
+use Rattle.h2_spec_log.specs.Log.{Log, acked, waiting, output, unreleased}
+use Rattle.h2_spec_log.specs.LogSteps.{limits_from}
+use Rattle.h2_spec_log.specs.LogView.{log_view}
+use Rattle.h2_spec_log.specs.Memory.{KeepsOctets, cutter_of, frame_needs_memory, needs_memory}
+use Rattle.h2_spec_log.specs.Memory.{step_needs_memory}
+use Rattle.h2_spec_log.specs.Settings.{payload_limit}
+use Rattle.h2_spec_log.specs.Verdicts.{Verdict}
+use Rattle.h2_spec_log.specs.View.{View}
+use Rattle.h2_spec_machine.specs.End.{End, end_view}
+use Rattle.h2_spec_machine.specs.Machine.{with_begun}
+use Rattle.h2_spec_machine.specs.Represents.{Represents}
+use Rattle.h2_laws_machine.proofs.AlikeFrames.{step_alike, verdict_alike}
+use Rattle.h2_laws_machine.proofs.AlikeAnswers.{views_alike}
 use Rattle.h2_conn.specs.Inner.{PartsRepresent}
 
 -- What the cutter says where memory was refused to it.

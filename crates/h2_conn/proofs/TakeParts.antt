@@ -17,36 +17,36 @@ use Rattle.h2_wire.specs.Streams.{Limits, Frames}
 use Rattle.h2_wire.specs.Cutter.{CutterState, CutterRepresents, CutterContinues, CutterFaults}
 use Rattle.h2_wire.specs.Cutter.{CutterFails, CutterLimited, saturated}
 use Rattle.h2_wire.proofs.ReadingLemmas.{none_some}
-use Rattle.h2_log.specs.declared.role.Role.{Role}
-use Rattle.h2_log.specs.Acts.{Values}
-use Rattle.h2_log.specs.Limits.{most_max_frame}
-use Rattle.h2_log.specs.Events.{Event, UnprocessedEvent}
-use Rattle.h2_log.specs.ItemRules.{Decoded}
-use Rattle.h2_log.specs.Settings.{is_server}
-use Rattle.h2_log.specs.Log.{Log, next_unprocessed}
-use Rattle.h2_log.specs.LogSteps.{limits_from, used, took_part, took_frame, took_fault, took_none}
-use Rattle.h2_log.specs.LogSteps.{took_out_of_memory, with_sent}
-use Rattle.h2_log.specs.LogView.{log_view}
-use Rattle.h2_log.specs.Memory.{credit_needs_memory}
-use Rattle.h2_log.specs.View.{View}
-use Rattle.h2_log.specs.Histories.{IsLog, TakesOctets, TakesFrame}
-use Rattle.h2_log.specs.Histories.{IsDecodedFor, LacksMemory, to_report, to_keep, to_take}
-use Rattle.h2_log.proofs.StreamLemmas.{Keeps-frame, Keeps-none}
-use Rattle.h2_machine.specs.End.{End, end_view, payload_limit_of}
-use Rattle.h2_machine.specs.Machine.{after_frame, fail, close_unprocessed, unprocessed_of_end}
-use Rattle.h2_machine.specs.Represents.{Represents, RepresentsOutput, RepresentsStreams}
-use Rattle.h2_machine_laws.specs.Machines.{uses_part}
-use Rattle.h2_machine_laws.specs.Machines.{meets_fault as a_fault, runs_out_of_memory as no_memory}
-use Rattle.h2_machine_laws.specs.Machines.{reports_unprocessed as one_unprocessed, MayStep}
-use Rattle.h2_machine_laws.specs.Machines.{log_after, machine_after}
-use Rattle.h2_machine_laws.proofs.AlikeAnswers.{views_alike}
-use Rattle.h2_machine_laws.proofs.EveryStep.{steps_represent, frames_represent}
-use Rattle.h2_machine_laws.proofs.NextUnprocessed.{next_same}
-use Rattle.h2_machine_laws.proofs.ReadLimits.{own_of_unprocessed}
-use Rattle.h2_end_laws.specs.Takes.{TakeAnswer, Took, Failed, events_answered, MayTake}
-use Rattle.h2_end_laws.specs.Takes.{has_failed, reports_unprocessed, ends_no_frame, ends_frame}
-use Rattle.h2_end_laws.specs.Takes.{meets_fault, runs_out_of_memory}
-use Rattle.h2_end_laws.proofs.PieceLogs.{limits_used}
+use Rattle.h2_spec_log.specs.declared.role.Role.{Role}
+use Rattle.h2_spec_log.specs.Acts.{Values}
+use Rattle.h2_spec_log.specs.Limits.{most_max_frame}
+use Rattle.h2_spec_log.specs.Events.{Event, UnprocessedEvent}
+use Rattle.h2_spec_log.specs.ItemRules.{Decoded}
+use Rattle.h2_spec_log.specs.Settings.{is_server}
+use Rattle.h2_spec_log.specs.Log.{Log, next_unprocessed}
+use Rattle.h2_spec_log.specs.LogSteps.{limits_from, used, took_part, took_frame, took_fault}
+use Rattle.h2_spec_log.specs.LogSteps.{took_none, took_out_of_memory, with_sent}
+use Rattle.h2_spec_log.specs.LogView.{log_view}
+use Rattle.h2_spec_log.specs.Memory.{credit_needs_memory}
+use Rattle.h2_spec_log.specs.View.{View}
+use Rattle.h2_spec_log.specs.Histories.{IsLog, TakesOctets, TakesFrame}
+use Rattle.h2_spec_log.specs.Histories.{IsDecodedFor, LacksMemory, to_report, to_keep, to_take}
+use Rattle.h2_spec_log.proofs.StreamLemmas.{Keeps-frame, Keeps-none}
+use Rattle.h2_spec_machine.specs.End.{End, end_view, payload_limit_of}
+use Rattle.h2_spec_machine.specs.Machine.{after_frame, fail, close_unprocessed, unprocessed_of_end}
+use Rattle.h2_spec_machine.specs.Represents.{Represents, RepresentsOutput, RepresentsStreams}
+use Rattle.h2_laws_machine.specs.Machines.{uses_part}
+use Rattle.h2_laws_machine.specs.Machines.{meets_fault as a_fault, runs_out_of_memory as no_memory}
+use Rattle.h2_laws_machine.specs.Machines.{reports_unprocessed as one_unprocessed, MayStep}
+use Rattle.h2_laws_machine.specs.Machines.{log_after, machine_after}
+use Rattle.h2_laws_machine.proofs.AlikeAnswers.{views_alike}
+use Rattle.h2_laws_machine.proofs.EveryStep.{steps_represent, frames_represent}
+use Rattle.h2_laws_machine.proofs.NextUnprocessed.{next_same}
+use Rattle.h2_laws_machine.proofs.ReadLimits.{own_of_unprocessed}
+use Rattle.h2_laws_end.specs.Takes.{TakeAnswer, Took, Failed, events_answered, MayTake}
+use Rattle.h2_laws_end.specs.Takes.{has_failed, reports_unprocessed, ends_no_frame, ends_frame}
+use Rattle.h2_laws_end.specs.Takes.{meets_fault, runs_out_of_memory}
+use Rattle.h2_laws_end.proofs.PieceLogs.{limits_used}
 use Rattle.h2_core.specs.Failure.{FailsAlike}
 use Rattle.h2_core.specs.Frames.{FrameFails, FailsWithoutMemory, FrameLacksMemory}
 use Rattle.h2_conn.specs.declared.happened.Happened.{Happened}

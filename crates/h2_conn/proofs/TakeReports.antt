@@ -4,22 +4,22 @@ use Rattle.std.proofs.Common.{subst, ◌∙◌}
 use Rattle.h2_frame.specs.Frames.{Frame}
 use Rattle.h2_wire.proofs.ReadingLemmas.{none_some}
 use Rattle.h2_block.specs.Grouping.{Item, alone, block}
-use Rattle.h2_log.specs.Acts.{Values}
-use Rattle.h2_log.specs.Events.{Event}
-use Rattle.h2_log.specs.Verdicts.{Verdict, ConnectionFault, StreamFault, NoEvent, Reported}
-use Rattle.h2_log.specs.ItemRules.{Decoded, FrameStep, fails_with, begins_block, completes}
-use Rattle.h2_log.specs.ItemRules.{frame_step, verdict_of}
-use Rattle.h2_log.specs.ItemEffects.{events_of}
-use Rattle.h2_log.specs.Log.{Log}
-use Rattle.h2_log.specs.LogView.{log_view}
-use Rattle.h2_log.specs.LogSteps.{used, with_verdict, with_step, with_frame}
-use Rattle.h2_log.specs.LogSteps.{took_frame}
-use Rattle.h2_log.specs.Histories.{IsDecodedIn, IsDecodedFor}
-use Rattle.h2_machine.specs.End.{End, end_view}
-use Rattle.h2_machine.specs.Represents.{Represents}
-use Rattle.h2_machine_laws.proofs.AlikeFrames.{step_alike, events_used}
-use Rattle.h2_machine_laws.proofs.RecvFrames.{step_same}
-use Rattle.h2_end_laws.proofs.TakeAnswers.{reported_is, sent_reported, unreturned_reported}
+use Rattle.h2_spec_log.specs.Acts.{Values}
+use Rattle.h2_spec_log.specs.Events.{Event}
+use Rattle.h2_spec_log.specs.Verdicts.{Verdict, ConnectionFault, StreamFault, NoEvent, Reported}
+use Rattle.h2_spec_log.specs.ItemRules.{Decoded, FrameStep, fails_with, begins_block, completes}
+use Rattle.h2_spec_log.specs.ItemRules.{frame_step, verdict_of}
+use Rattle.h2_spec_log.specs.ItemEffects.{events_of}
+use Rattle.h2_spec_log.specs.Log.{Log}
+use Rattle.h2_spec_log.specs.LogView.{log_view}
+use Rattle.h2_spec_log.specs.LogSteps.{used, with_verdict, with_step, with_frame}
+use Rattle.h2_spec_log.specs.LogSteps.{took_frame}
+use Rattle.h2_spec_log.specs.Histories.{IsDecodedIn, IsDecodedFor}
+use Rattle.h2_spec_machine.specs.End.{End, end_view}
+use Rattle.h2_spec_machine.specs.Represents.{Represents}
+use Rattle.h2_laws_machine.proofs.AlikeFrames.{step_alike, events_used}
+use Rattle.h2_laws_machine.proofs.RecvFrames.{step_same}
+use Rattle.h2_laws_end.proofs.TakeAnswers.{reported_is, sent_reported, unreturned_reported}
 use Rattle.h2_core.specs.Frames.{IsDecodedBy, step_events, frame_events}
 
 -- Of an item the events are reported that its verdict has.

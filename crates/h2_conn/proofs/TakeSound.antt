@@ -9,21 +9,21 @@ use Rattle.hpack.specs.declared.types.field.Field.{Field}
 use Rattle.h2_frame.specs.Frames.{Frame}
 use Rattle.h2_frame.specs.Encoding.{refusal, stream_of}
 use Rattle.h2_block.specs.Grouping.{block}
-use Rattle.h2_log.specs.States.{greatest_number}
-use Rattle.h2_log.specs.ItemRules.{Decoded, FrameStep, completes, frame_step}
-use Rattle.h2_log.specs.Memory.{credit_needs_memory}
-use Rattle.h2_machine.specs.End.{End, end_view}
-use Rattle.h2_machine.specs.Machine.{after_frame, close_unprocessed, unprocessed_of_end}
-use Rattle.h2_machine_laws.specs.Ranges.{IsDecodedAt}
-use Rattle.h2_machine_laws.proofs.BoundsOfSteps.{frame_bounded}
-use Rattle.h2_machine_laws.proofs.BoundsOfSteps.{is_up, is_bounded, ended_up}
-use Rattle.h2_machine_laws.proofs.ConservedBySteps.{frame_holds}
-use Rattle.h2_machine_laws.proofs.ConservedBySteps.{holds, is_whole, ended, lacks_none}
-use Rattle.h2_machine_laws.proofs.CountedBySteps.{frame_counts}
-use Rattle.h2_machine_laws.proofs.CountedBySteps.{counted, is_counted}
-use Rattle.h2_machine_laws.proofs.CountedUnprocessed.{unprocessed_counts}
-use Rattle.h2_machine_laws.proofs.RangesOfSteps.{frame_in_range}
-use Rattle.h2_machine_laws.proofs.RangesOfSteps.{fits, are_in_range, closed_fits}
+use Rattle.h2_spec_log.specs.States.{greatest_number}
+use Rattle.h2_spec_log.specs.ItemRules.{Decoded, FrameStep, completes, frame_step}
+use Rattle.h2_spec_log.specs.Memory.{credit_needs_memory}
+use Rattle.h2_spec_machine.specs.End.{End, end_view}
+use Rattle.h2_spec_machine.specs.Machine.{after_frame, close_unprocessed, unprocessed_of_end}
+use Rattle.h2_laws_machine.specs.Ranges.{IsDecodedAt}
+use Rattle.h2_laws_machine.proofs.BoundsOfSteps.{frame_bounded}
+use Rattle.h2_laws_machine.proofs.BoundsOfSteps.{is_up, is_bounded, ended_up}
+use Rattle.h2_laws_machine.proofs.ConservedBySteps.{frame_holds}
+use Rattle.h2_laws_machine.proofs.ConservedBySteps.{holds, is_whole, ended, lacks_none}
+use Rattle.h2_laws_machine.proofs.CountedBySteps.{frame_counts}
+use Rattle.h2_laws_machine.proofs.CountedBySteps.{counted, is_counted}
+use Rattle.h2_laws_machine.proofs.CountedUnprocessed.{unprocessed_counts}
+use Rattle.h2_laws_machine.proofs.RangesOfSteps.{frame_in_range}
+use Rattle.h2_laws_machine.proofs.RangesOfSteps.{fits, are_in_range, closed_fits}
 use Rattle.h2_core.specs.Endpoint.{IsSoundEnd}
 use Rattle.h2_core.specs.Frames.{IsDecodedBy, FailsWithoutMemory}
 use Rattle.h2_core.proofs.FrameWritable.{writable}

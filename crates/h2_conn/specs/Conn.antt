@@ -1,12 +1,12 @@
 -- When a connection represents the log of an end, and what its calls make of it.
 use Rattle.std.specs.Prelude.{◌≡◌, ℕ, ◌+◌, ◌||◌, if◌then◌else◌, List, ◌++◌, take, drop}
 use Rattle.std.specs.Prelude.{Option, Some, None, is_some, Result, Ok, Err}
-use Rattle.h2_log.specs.declared.refusal.Refusal.{Refusal}
-use Rattle.h2_log.specs.Acts.{Values, Act, Answer, Refused, PutOut, Count, shown}
-use Rattle.h2_log.specs.Settings.{is_server}
-use Rattle.h2_log.specs.Log.{Log, next_number}
-use Rattle.h2_log.specs.LogCalls.{MayAnswer, with_call}
-use Rattle.h2_end_laws.specs.Takes.{MayTake}
+use Rattle.h2_spec_log.specs.declared.refusal.Refusal.{Refusal}
+use Rattle.h2_spec_log.specs.Acts.{Values, Act, Answer, Refused, PutOut, Count, shown}
+use Rattle.h2_spec_log.specs.Settings.{is_server}
+use Rattle.h2_spec_log.specs.Log.{Log, next_number}
+use Rattle.h2_spec_log.specs.LogCalls.{MayAnswer, with_call}
+use Rattle.h2_laws_end.specs.Takes.{MayTake}
 use Rattle.h2_core.specs.Endpoint.{end_of}
 use Rattle.h2_conn.specs.declared.conn.Conn.{Conn}
 use Rattle.h2_conn.specs.declared.event.Taken.{Taken}

@@ -3,8 +3,8 @@ use Rattle.std.specs.Prelude.{ℕ, List, Result, Ok, Err}
 use Rattle.std.specs.Option.{option_map}
 use Rattle.hpack.specs.declared.types.field.Field.{Field}
 use Rattle.h2_frame.specs.declared.code.Code.{Code}
-use Rattle.h2_log.specs.Events as log
-use Rattle.h2_end_laws.specs.Takes.{TakeAnswer, Took, Failed}
+use Rattle.h2_spec_log.specs.Events as log
+use Rattle.h2_laws_end.specs.Takes.{TakeAnswer, Took, Failed}
 use Rattle.h2_conn.specs.declared.event.Event.{Event}
 use Rattle.h2_conn.specs.declared.event.Event.TheVariants as events
 use Rattle.h2_conn.specs.declared.event.Taken.{Taken}

@@ -5,18 +5,18 @@ use Rattle.hpack.specs.declared.types.field.Field.{Field}
 use Rattle.h2_frame.specs.declared.code.Code.{Code}
 use Rattle.h2_frame.specs.Frames.{Frame}
 use Rattle.h2_wire.specs.Cutter.{CutterState, CutterRepresents, saturated}
-use Rattle.h2_log.specs.Acts.{Values}
-use Rattle.h2_log.specs.Events.{Event}
-use Rattle.h2_log.specs.Limits.{most_max_frame}
-use Rattle.h2_log.specs.Settings.{is_server}
-use Rattle.h2_log.specs.Log.{Log}
-use Rattle.h2_log.specs.LogSteps.{limits_from}
-use Rattle.h2_log.specs.ItemRules.{Decoded, frame_step}
-use Rattle.h2_machine.specs.End.{End, end_view}
-use Rattle.h2_machine.specs.Machine.{after_frame}
-use Rattle.h2_machine.specs.Represents.{Represents}
+use Rattle.h2_spec_log.specs.Acts.{Values}
+use Rattle.h2_spec_log.specs.Events.{Event}
+use Rattle.h2_spec_log.specs.Limits.{most_max_frame}
+use Rattle.h2_spec_log.specs.Settings.{is_server}
+use Rattle.h2_spec_log.specs.Log.{Log}
+use Rattle.h2_spec_log.specs.LogSteps.{limits_from}
+use Rattle.h2_spec_log.specs.ItemRules.{Decoded, frame_step}
+use Rattle.h2_spec_machine.specs.End.{End, end_view}
+use Rattle.h2_spec_machine.specs.Machine.{after_frame}
+use Rattle.h2_spec_machine.specs.Represents.{Represents}
 use Rattle.h2_core.specs.Frames.{IsDecodedBy, frame_events, FrameFails, FrameLacksMemory}
-use Rattle.h2_end_laws.specs.Takes.{MayTake}
+use Rattle.h2_laws_end.specs.Takes.{MayTake}
 use Rattle.h2_conn.specs.declared.happened.Happened.{Happened}
 use Rattle.h2_conn.specs.declared.happened.Progress.{Progress}
 use Rattle.h2_conn.specs.Events.{happened_value, answer_progress}

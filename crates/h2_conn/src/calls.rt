@@ -3,18 +3,18 @@
 ghost use Rattle.std.specs.Prelude.{◌≡◌, ◌≢◌, ◌≤◌, ◌+◌, min, length, true, false, vec_len, IfOk};
 ghost use Rattle.std.specs.Prelude.{IsOk, OnErr, Err};
 ghost use Rattle.std.specs.Vec.{vec_capacity};
-ghost use Rattle.h2_log.specs.Acts.{Open, SendFields, SendData, Release, ResetStream, Refuse};
-ghost use Rattle.h2_log.specs.Acts.{SendPing, SendGoAway, ChangeSettings, PutOut};
-ghost use Rattle.h2_log.specs.Acts.{Values, Number, Count, Done};
-ghost use Rattle.h2_log.specs.CallRules.{returns_before_put_out, sends_no_data};
-ghost use Rattle.h2_log.specs.Log.{Log, waiting};
-ghost use Rattle.h2_log.specs.LogView.{log_view};
-ghost use Rattle.h2_config.specs.ConfigValues.{values_of};
+ghost use Rattle.h2_spec_log.specs.Acts.{Open, SendFields, SendData, Release, ResetStream, Refuse};
+ghost use Rattle.h2_spec_log.specs.Acts.{SendPing, SendGoAway, ChangeSettings, PutOut};
+ghost use Rattle.h2_spec_log.specs.Acts.{Values, Number, Count, Done};
+ghost use Rattle.h2_spec_log.specs.CallRules.{returns_before_put_out, sends_no_data};
+ghost use Rattle.h2_spec_log.specs.Log.{Log, waiting};
+ghost use Rattle.h2_spec_log.specs.LogView.{log_view};
+ghost use Rattle.h2_flow.specs.ConfigValues.{values_of};
 ghost use Rattle.h2_conn.specs.Conn.{ConnAnswers, ConnRepresents, ConnShows, GivesOut, answer_by};
 
 use crate::conn::Conn;
-use h2_config::Config;
-use h2_log::Refusal;
+use h2_flow::Config;
+use h2_spec_log::Refusal;
 use hpack::Field;
 
 impl Conn {
@@ -142,8 +142,8 @@ impl Conn {
     /// Changes this end's settings (section 6.5): SETTINGS with the header table's limit, the
     /// initial window, at a server the number of streams, and the greatest frame where it differs
     /// from the one that was sent last, joins the output. The values hold from the peer's
-    /// acknowledgment on, which [`Event::Acked`] reports; a greater frame may be read at once, since
-    /// the peer may have applied it.
+    /// acknowledgment on, which [`Event::Acked`] reports; a greater frame may be read at once,
+    /// since the peer may have applied it.
     ///
     /// # Errors
     ///

@@ -2,7 +2,7 @@
 
 ghost use Rattle.std.specs.Prelude.{◌≡◌, None};
 ghost use Rattle.h2_wire.specs.Cutter.{CutterLimited};
-ghost use Rattle.h2_machine.specs.End.{payload_limit_of};
+ghost use Rattle.h2_spec_machine.specs.End.{payload_limit_of};
 ghost use Rattle.h2_core.specs.Endpoint.{end_of, IsSoundEnd};
 
 use h2_core::Endpoint;

@@ -16,6 +16,6 @@ mod waiting;
 
 pub use conn::Conn;
 pub use event::{ConnFault, Event, Taken};
-pub use h2_config::{BadConfig, Config};
-pub use h2_log::{Refusal, Role};
+pub use h2_flow::{BadConfig, Config};
+pub use h2_spec_log::{Refusal, Role};
 pub use happened::{Happened, Progress};

@@ -1,15 +1,15 @@
 //! What a connection answers of itself. None of it takes memory.
 
 ghost use Rattle.std.specs.Prelude.{◌≡◌, ◌≤◌, ◌<◌, Bool, IfSome};
-ghost use Rattle.h2_log.specs.Acts.{Values, Open};
-ghost use Rattle.h2_log.specs.Log.{Log, active, waiting, reader_held, reader_next_live};
-ghost use Rattle.h2_log.specs.LogView.{log_view};
-ghost use Rattle.h2_log.specs.CallRules.{reader_room, reader_owed, reader_due, refusal_of};
+ghost use Rattle.h2_spec_log.specs.Acts.{Values, Open};
+ghost use Rattle.h2_spec_log.specs.Log.{Log, active, waiting, reader_held, reader_next_live};
+ghost use Rattle.h2_spec_log.specs.LogView.{log_view};
+ghost use Rattle.h2_spec_log.specs.CallRules.{reader_room, reader_owed, reader_due, refusal_of};
 ghost use Rattle.h2_conn.specs.Conn.{ConnRepresents, reader_next_number};
 
 use crate::conn::Conn;
 use h2_frame::Code;
-use h2_log::{Refusal, Role};
+use h2_spec_log::{Refusal, Role};
 use hpack::Field;
 
 impl Conn {

@@ -1,9 +1,11 @@
-//! Taking octets, before anything is lent.
+//! Taking octets, before anything is lent: the prover takes no body that lends from the cutter
+//! while the end is changed, so what has happened says where a frame lies, and lending reads it
+//! again.
 
 ghost use Rattle.std.specs.Prelude.{◌≡◌, ℕ, ◌≤◌, List, None, IfOk, length};
 ghost use Rattle.h2_frame.specs.Frames.{frame_of};
 ghost use Rattle.h2_frame.specs.Encoding.{refusal};
-ghost use Rattle.h2_machine.specs.Machine.{unprocessed_of_end};
+ghost use Rattle.h2_spec_machine.specs.Machine.{unprocessed_of_end};
 ghost use Rattle.h2_core.specs.Endpoint.{end_of, IsSoundEnd};
 ghost use Rattle.h2_conn.specs.Inner.{PartsTake, HappensByFrame};
 ghost use Rattle.h2_conn.specs.Loans.{without_lent, octets_of_body, IsBodyLent, LiesThere};

@@ -3,8 +3,8 @@
 
 ghost use Rattle.std.specs.Prelude.{◌≡◌, ◌++◌, drop, length};
 ghost use Rattle.h2_wire.specs.Cutter.{saturated};
-ghost use Rattle.h2_log.specs.Acts.{Values};
-ghost use Rattle.h2_log.specs.Log.{Log};
+ghost use Rattle.h2_spec_log.specs.Acts.{Values};
+ghost use Rattle.h2_spec_log.specs.Log.{Log};
 ghost use Rattle.h2_conn.specs.Conn.{ConnRepresents};
 
 use crate::conn::Conn;

@@ -3,11 +3,11 @@ use Rattle.std.proofs.Common.{◌≡◌, Bool, true, false, List, ◌∷◌, Opt
 use Rattle.std.specs.Option.{is_some, option_map}
 use Rattle.std.specs.Prelude.{Result, Ok, Err, OnErr}
 use Rattle.std.specs.Result.{is_err}
-use Rattle.h2_log.specs.declared.refusal.Refusal.{Refusal}
-use Rattle.h2_log.specs.declared.refusal.Refusal.TheVariants.{Memory}
-use Rattle.h2_log.specs.Acts.{Act}
-use Rattle.h2_log.specs.CallRules.{first_of, refusal_of}
-use Rattle.h2_machine.specs.End.{End, end_view}
+use Rattle.h2_spec_log.specs.declared.refusal.Refusal.{Refusal}
+use Rattle.h2_spec_log.specs.declared.refusal.Refusal.TheVariants.{Memory}
+use Rattle.h2_spec_log.specs.Acts.{Act}
+use Rattle.h2_spec_log.specs.CallRules.{first_of, refusal_of}
+use Rattle.h2_spec_machine.specs.End.{End, end_view}
 use Rattle.h2_core.specs.Calls.{CallRefused}
 
 -- It holds.

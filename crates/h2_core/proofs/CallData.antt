@@ -6,10 +6,10 @@ use Rattle.std.proofs.lemmas.Bool.{cases_lt}
 use Rattle.h2_frame.specs.Frames.{Data}
 use Rattle.h2_frame.specs.Encoding.{encoding_of}
 use Rattle.h2_block.specs.Grouping.{Item, alone}
-use Rattle.h2_log.specs.Items.{encoding_of_item, encoding_of_items}
-use Rattle.h2_log.specs.CallRules.{data_frames}
-use Rattle.h2_log.proofs.DataFrames.{frames_last as frames_one}
-use Rattle.h2_log.proofs.DataFrames.{frames_more}
+use Rattle.h2_spec_log.specs.Items.{encoding_of_item, encoding_of_items}
+use Rattle.h2_spec_log.specs.CallRules.{data_frames}
+use Rattle.h2_spec_log.proofs.DataFrames.{frames_last as frames_one}
+use Rattle.h2_spec_log.proofs.DataFrames.{frames_more}
 
 -- Items that follow an oldest one are written after it.
 oldest_first : (most : ℕ) (items : List Item) (item : Item)

@@ -4,8 +4,8 @@ use Rattle.std.proofs.Common.{ap, ◌∙◌}
 use Rattle.std.specs.Cmp.{nat_cmp_total}
 use Rattle.std.specs.FinMap as map
 use Rattle.std.proofs.lemmas.Bool.{eqb-true}
-use Rattle.h2_machine.specs.End.{StreamEntry, StreamMap}
-use Rattle.h2_machine.proofs.SetEntries.{get_set, get_removed}
+use Rattle.h2_spec_machine.specs.End.{StreamEntry, StreamMap}
+use Rattle.h2_spec_machine.proofs.SetEntries.{get_set, get_removed}
 
 -- Each entry is what it was, by whether its number was added and taken away.
 entry_again : (m : StreamMap) (k : ℕ) (v : StreamEntry) (q : ℕ) (same : Bool)

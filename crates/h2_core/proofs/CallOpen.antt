@@ -7,17 +7,17 @@ use Rattle.hpack.specs.declared.types.field.Field.{Field}
 use Rattle.hpack.specs.Choice.{block_of, after_block}
 use Rattle.hpack.specs.Lists.{list_size}
 use Rattle.h2_block.specs.Grouping.{block}
-use Rattle.h2_log.specs.Acts.{Open}
-use Rattle.h2_log.specs.CallRules.{conditions, refusal_of, items_of, encoder_after_call}
-use Rattle.h2_log.specs.Settings.{is_server}
-use Rattle.h2_log.specs.View.{StreamView}
-use Rattle.h2_machine.specs.End.{End, end_view, active_entry, number_after}
-use Rattle.h2_machine.specs.Machine.{after_call, queue_output, with_encoder, new_stream}
-use Rattle.h2_machine.specs.Machine.{open_stream}
+use Rattle.h2_spec_log.specs.Acts.{Open}
+use Rattle.h2_spec_log.specs.CallRules.{conditions, refusal_of, items_of, encoder_after_call}
+use Rattle.h2_spec_log.specs.Settings.{is_server}
+use Rattle.h2_spec_log.specs.View.{StreamView}
+use Rattle.h2_spec_machine.specs.End.{End, end_view, active_entry, number_after}
+use Rattle.h2_spec_machine.specs.Machine.{after_call, queue_output, with_encoder, new_stream}
+use Rattle.h2_spec_machine.specs.Machine.{open_stream}
 use Rattle.h2_streams.specs.Table.{TableState}
 use Rattle.h2_core.proofs.CallMaps.{remove_inserted}
-use Rattle.h2_log_laws.proofs.InvariantSends.{client_number as number_at}
-use Rattle.h2_log_laws.proofs.CallConditions.{first_none as none_first}
+use Rattle.h2_laws_log.proofs.InvariantSends.{client_number as number_at}
+use Rattle.h2_laws_log.proofs.CallConditions.{first_none as none_first}
 use Rattle.hpack.proofs.Tests.{none_since as nothing}
 
 -- What holds where no condition refuses to open a stream.

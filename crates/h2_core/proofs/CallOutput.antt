@@ -12,8 +12,8 @@ use Rattle.h2_frame.specs.Frames.{Frame}
 use Rattle.h2_frame.specs.Encoding.{encoding_of}
 use Rattle.h2_block.specs.Grouping.{alone, block}
 use Rattle.h2_block.specs.Spread.{spread_frames, encoding_of_frames}
-use Rattle.h2_log.specs.Items.{encoding_of_item, encoding_of_items}
-use Rattle.h2_machine.specs.End.{End}
+use Rattle.h2_spec_log.specs.Items.{encoding_of_item, encoding_of_items}
+use Rattle.h2_spec_machine.specs.End.{End}
 
 -- an end whose output is this
 abbrev pub with_waiting : End → List ℕ → End

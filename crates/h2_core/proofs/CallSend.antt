@@ -9,13 +9,13 @@ use Rattle.hpack.specs.declared.types.field.Field.{Field}
 use Rattle.hpack.specs.Choice.{block_of, after_block}
 use Rattle.hpack.specs.Lists.{list_size}
 use Rattle.h2_block.specs.Grouping.{Item, block}
-use Rattle.h2_log.specs.declared.refusal.Refusal.TheVariants.{ListTooLarge}
-use Rattle.h2_log.specs.Acts.{SendFields, SendData}
-use Rattle.h2_log.specs.CallRules.{first_of, conditions, refusal_of, data_count, data_items}
-use Rattle.h2_log.specs.CallRules.{items_of, data_frames, encoder_after_call}
-use Rattle.h2_log.specs.View.{StreamView}
-use Rattle.h2_machine.specs.End.{End, end_view, stream_at}
-use Rattle.h2_machine.specs.Machine.{after_call, update_stream, queue_output, with_encoder}
+use Rattle.h2_spec_log.specs.declared.refusal.Refusal.TheVariants.{ListTooLarge}
+use Rattle.h2_spec_log.specs.Acts.{SendFields, SendData}
+use Rattle.h2_spec_log.specs.CallRules.{first_of, conditions, refusal_of, data_count, data_items}
+use Rattle.h2_spec_log.specs.CallRules.{items_of, data_frames, encoder_after_call}
+use Rattle.h2_spec_log.specs.View.{StreamView}
+use Rattle.h2_spec_machine.specs.End.{End, end_view, stream_at}
+use Rattle.h2_spec_machine.specs.Machine.{after_call, update_stream, queue_output, with_encoder}
 
 -- No condition refuses fields.
 pub fields_free : (e : End) (id : ℕ) (stream : StreamView) (fields : List Field) (end : Bool)

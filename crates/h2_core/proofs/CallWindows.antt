@@ -5,7 +5,7 @@ use Rattle.std.proofs.lemmas.Int.{ints, to_z-of_z}
 use Rattle.std.specs.Int.RustNames.{FitsSigned}
 use mir.Syntax.{w64}
 use mir.Val.{to_z, of_z}
-use Rattle.h2_log.specs.CallRules.{at_least_none}
+use Rattle.h2_spec_log.specs.CallRules.{at_least_none}
 use Rattle.h2_streams.specs.Streams.{is_far}
 
 -- What a window lets through leaves it near zero.

@@ -12,7 +12,7 @@ use Rattle.hpack.specs.declared.types.field.Decoded.{Decoded as Answered}
 use Rattle.hpack.specs.declared.types.field.Decoded.TheVariants as answered
 use Rattle.hpack.specs.contracts.types.field.Decoded.{the_type}
 use denote.Enum.Bare.{sameb}
-use Rattle.h2_log.specs.Limits.{max_list}
+use Rattle.h2_spec_log.specs.Limits.{max_list}
 use Rattle.hpack.specs.Tables.{Entries}
 use Rattle.hpack.specs.declared.types.field.Field.{Field}
 use Rattle.h2_frame.specs.declared.code.Code.{Code}
@@ -21,19 +21,20 @@ use Rattle.h2_frame.specs.Codes.{code_number}
 use Rattle.h2_frame.specs.Encoding.{encoding_of}
 use Rattle.h2_frame.specs.Frames.{Data, Reset, Settings, Ping, GoAway, WindowUpdate}
 use Rattle.h2_block.specs.Grouping.{Item, alone, block}
-use Rattle.h2_log.specs.Items.{encoding_of_items, encoding_of_item}
-use Rattle.h2_log.specs.CallRules.{returns_credit}
-use Rattle.h2_log.specs.Acts.{Values}
-use Rattle.h2_log.specs.View.{StreamView}
-use Rattle.h2_log.specs.Verdicts.{Verdict, ConnectionFault, StreamFault, NoEvent, Reported}
-use Rattle.h2_log.specs.ItemRules.{Decoded, is_idle, is_at_capacity, peer_opens, opened_by}
-use Rattle.h2_log.specs.ItemRules.{verdict_of, verdict_by_rules, over_limits, replies_to}
-use Rattle.h2_machine.specs.End.{End, end_view, stream_at}
-use Rattle.h2_machine.specs.Machine.{after_item, after_verdict, after_stream_fault, after_ignored}
-use Rattle.h2_machine.specs.Machine.{after_reported, add_unreturned, return_credit, more_unreturned}
-use Rattle.h2_machine.specs.Machine.{update_stream, close_stream, set_stream, widen_send_window}
-use Rattle.h2_machine.specs.Machine.{receive_data, receive_block, apply_own_settings, fail}
-use Rattle.h2_machine.specs.Machine.{with_flow, narrow_recv_window}
+use Rattle.h2_spec_log.specs.Items.{encoding_of_items, encoding_of_item}
+use Rattle.h2_spec_log.specs.CallRules.{returns_credit}
+use Rattle.h2_spec_log.specs.Acts.{Values}
+use Rattle.h2_spec_log.specs.View.{StreamView}
+use Rattle.h2_spec_log.specs.Verdicts.{Verdict, ConnectionFault, StreamFault, NoEvent, Reported}
+use Rattle.h2_spec_log.specs.ItemRules.{Decoded, is_idle, is_at_capacity, peer_opens, opened_by}
+use Rattle.h2_spec_log.specs.ItemRules.{verdict_of, verdict_by_rules, over_limits, replies_to}
+use Rattle.h2_spec_machine.specs.End.{End, end_view, stream_at}
+use Rattle.h2_spec_machine.specs.Machine.{after_item, after_verdict, after_stream_fault}
+use Rattle.h2_spec_machine.specs.Machine.{after_ignored, after_reported, add_unreturned}
+use Rattle.h2_spec_machine.specs.Machine.{return_credit, more_unreturned, update_stream}
+use Rattle.h2_spec_machine.specs.Machine.{close_stream, set_stream, widen_send_window, receive_data}
+use Rattle.h2_spec_machine.specs.Machine.{receive_block, apply_own_settings, fail, with_flow}
+use Rattle.h2_spec_machine.specs.Machine.{narrow_recv_window}
 use Rattle.h2_core.specs.Endpoint.{IsSoundEnd}
 use Rattle.h2_core.specs.Failure.{FailsAlike}
 use Rattle.h2_core.specs.Items.{ItemTaken, TakesItem}
@@ -43,8 +44,8 @@ use Rattle.h2_core.specs.Stops.{IsSmall, FailsBy}
 use Rattle.h2_core.specs.declared.reader.Reported.{Reported as Answer}
 use Rattle.h2_core.specs.declared.reader.StepError.{StepError}
 use Rattle.h2_core.specs.declared.reader.StepError.TheVariants.{Fault, OutOfMemory}
-use Rattle.h2_machine_laws.proofs.TableRanges.{block_within}
-use Rattle.h2_log_laws.proofs.StreamNumbers.{number_or_none as opens_by}
+use Rattle.h2_laws_machine.proofs.TableRanges.{block_within}
+use Rattle.h2_laws_log.proofs.StreamNumbers.{number_or_none as opens_by}
 
 -- Credit that is returned fails nothing.
 credit_by : (b : Bool) (e : End) (more : ℕ)

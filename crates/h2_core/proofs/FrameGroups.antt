@@ -16,7 +16,7 @@ use Rattle.h2_block.specs.Gather.{GatherState, GatherContinues, gathered_items}
 use Rattle.h2_block.specs.Gather.{ReportsFault, GatherFails, GatherFaults}
 use Rattle.h2_core.proofs.FrameWritable.{headers_number, continuation_number}
 use Rattle.h2_block.proofs.RunLemmas.{one_grouping_lem}
-use Rattle.h2_log.specs.ItemRules.{FrameStep, fails_with, begins_block, completes, grouped}
+use Rattle.h2_spec_log.specs.ItemRules.{FrameStep, fails_with, begins_block, completes, grouped}
 
 -- A block that has begun is within the limit.
 abbrev pub IsShort : Option Begun → Type 0

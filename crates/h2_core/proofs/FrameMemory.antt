@@ -9,11 +9,11 @@ use Rattle.h2_block.specs.declared.fault.BlockFault.TheVariants as faults
 use Rattle.h2_block.specs.Grouping.{Begun, next_fault, fault_outside, fault_inside, is_standalone}
 use Rattle.h2_block.specs.Grouping.{max_block_octets}
 use Rattle.h2_block.specs.Gather.{ReportsFault}
-use Rattle.h2_log.specs.ItemRules.{grouped, may_be_first}
-use Rattle.h2_machine.specs.End.{End, end_view}
-use Rattle.h2_machine.specs.Machine.{with_begun}
+use Rattle.h2_spec_log.specs.ItemRules.{grouped, may_be_first}
+use Rattle.h2_spec_machine.specs.End.{End, end_view}
+use Rattle.h2_spec_machine.specs.Machine.{with_begun}
 use Rattle.h2_core.specs.Frames.{FailsWithoutMemory, FrameLacksMemory}
-use Rattle.h2_log.specs.Memory.{step_needs_memory}
+use Rattle.h2_spec_log.specs.Memory.{step_needs_memory}
 use Rattle.h2_core.proofs.FrameTaking.{step_grouped}
 
 -- No frame is at fault for memory.

@@ -11,17 +11,18 @@ use Rattle.h2_block.specs.Gather.{block_fault_code}
 use Rattle.h2_block.specs.Grouping.{alone, block, Begun, next_fault, fault_outside}
 use Rattle.h2_block.specs.Grouping.{max_block_octets}
 use Rattle.std.proofs.lemmas.Bool.{le-ltb}
-use Rattle.h2_log.specs.ItemRules.{Decoded, FrameStep, fails_with, begins_block, completes, grouped}
-use Rattle.h2_log.specs.ItemRules.{frame_step, grouping_step, may_be_first, verdict_of, opened_by}
-use Rattle.h2_machine.specs.End.{End, end_view}
-use Rattle.h2_machine.specs.Machine.{with_begun, after_frame, after_step, after_item, after_verdict}
-use Rattle.h2_machine.specs.Machine.{fail}
+use Rattle.h2_spec_log.specs.ItemRules.{Decoded, FrameStep, fails_with, begins_block, completes}
+use Rattle.h2_spec_log.specs.ItemRules.{grouped, frame_step, grouping_step, may_be_first}
+use Rattle.h2_spec_log.specs.ItemRules.{verdict_of, opened_by}
+use Rattle.h2_spec_machine.specs.End.{End, end_view}
+use Rattle.h2_spec_machine.specs.Machine.{with_begun, after_frame, after_step, after_item}
+use Rattle.h2_spec_machine.specs.Machine.{after_verdict, fail}
 use Rattle.h2_core.specs.Endpoint.{IsSoundEnd}
 use Rattle.h2_core.specs.Failure.{FailsAlike}
 use Rattle.h2_core.specs.Items.{ItemTaken, TakesItem, item_events}
 use Rattle.h2_core.specs.Frames.{FrameTaken, FrameFails, FrameLacksMemory, EndTakesFrame}
 use Rattle.h2_core.specs.Frames.{IsDecodedBy, step_events}
-use Rattle.h2_log.specs.Memory.{needs_memory, step_needs_memory}
+use Rattle.h2_spec_log.specs.Memory.{needs_memory, step_needs_memory}
 use Rattle.h2_core.specs.Blocks.{TakesBlock, IsDecodedOf}
 use Rattle.h2_core.specs.Stops.{IsSmall, FailsBy}
 use Rattle.h2_core.specs.declared.reader.Reported.{Reported as Answer}

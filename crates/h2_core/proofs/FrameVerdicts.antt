@@ -13,28 +13,31 @@ use Rattle.h2_frame.specs.declared.code.Code.TheVariants.{EnhanceYourCalm}
 use Rattle.h2_frame.specs.Codes.{code_number}
 use Rattle.h2_frame.specs.Frames.{Reset as ResetFrame}
 use Rattle.h2_block.specs.Grouping.{Item, alone, block}
-use Rattle.h2_log.specs.Settings.{is_server}
-use Rattle.h2_log.specs.States.{State, Idle, Active, ClosedByUs, Closed}
-use Rattle.h2_log.specs.Items.{stream_of_item, encoding_of_items}
-use Rattle.h2_log.specs.Limits.{max_list, max_frame_size_sent, max_output, max_resets}
-use Rattle.h2_log.specs.View.{StreamView, ended_in}
-use Rattle.h2_log.specs.Verdicts.{Verdict, ConnectionFault, StreamFault, NoEvent}
-use Rattle.h2_log.specs.Verdicts.{Reported, block_verdict, opening_verdict}
-use Rattle.h2_log.specs.ItemRules.{Decoded, is_idle, is_at_capacity, is_stream_fault, over_limits}
-use Rattle.h2_log.specs.ItemRules.{replies_to, verdict_by_rules, verdict_of, opened_by, peer_opens}
-use Rattle.h2_log.specs.Events.{FieldsEvent}
-use Rattle.h2_log.specs.ItemEffects.{events_of}
-use Rattle.h2_log_laws.proofs.ItemSizes.{size_of, size-reset}
-use Rattle.h2_machine.specs.End.{End, end_view, stream_at, state_at, state_by_entry, reset_entry}
-use Rattle.h2_machine.specs.End.{owed_entry, StreamEntry, active_entry, stream_in, is_above_goaway}
-use Rattle.h2_machine.specs.Machine.{after_item, after_verdict, after_stream_fault, after_ignored}
-use Rattle.h2_machine.specs.Machine.{after_reported, is_fresh, with_table_after, add_unreturned}
-use Rattle.h2_machine.specs.Machine.{return_credit, more_unreturned, mark_used, reset_stream}
-use Rattle.h2_machine.specs.Machine.{queue_output, is_one, is_calm, receive_block}
-use Rattle.h2_log.specs.CallRules.{returns_credit}
+use Rattle.h2_spec_log.specs.Settings.{is_server}
+use Rattle.h2_spec_log.specs.States.{State, Idle, Active, ClosedByUs, Closed}
+use Rattle.h2_spec_log.specs.Items.{stream_of_item, encoding_of_items}
+use Rattle.h2_spec_log.specs.Limits.{max_list, max_frame_size_sent, max_output, max_resets}
+use Rattle.h2_spec_log.specs.View.{StreamView, ended_in}
+use Rattle.h2_spec_log.specs.Verdicts.{Verdict, ConnectionFault, StreamFault, NoEvent}
+use Rattle.h2_spec_log.specs.Verdicts.{Reported, block_verdict, opening_verdict}
+use Rattle.h2_spec_log.specs.ItemRules.{Decoded, is_idle, is_at_capacity, is_stream_fault}
+use Rattle.h2_spec_log.specs.ItemRules.{over_limits, replies_to, verdict_by_rules, verdict_of}
+use Rattle.h2_spec_log.specs.ItemRules.{opened_by, peer_opens}
+use Rattle.h2_spec_log.specs.Events.{FieldsEvent}
+use Rattle.h2_spec_log.specs.ItemEffects.{events_of}
+use Rattle.h2_laws_log.proofs.ItemSizes.{size_of, size-reset}
+use Rattle.h2_spec_machine.specs.End.{End, end_view, stream_at, state_at, state_by_entry}
+use Rattle.h2_spec_machine.specs.End.{reset_entry, owed_entry, StreamEntry, active_entry, stream_in}
+use Rattle.h2_spec_machine.specs.End.{is_above_goaway}
+use Rattle.h2_spec_machine.specs.Machine.{after_item, after_verdict, after_stream_fault}
+use Rattle.h2_spec_machine.specs.Machine.{after_ignored, after_reported, is_fresh, with_table_after}
+use Rattle.h2_spec_machine.specs.Machine.{add_unreturned, return_credit, more_unreturned, mark_used}
+use Rattle.h2_spec_machine.specs.Machine.{reset_stream, queue_output, is_one, is_calm}
+use Rattle.h2_spec_machine.specs.Machine.{receive_block}
+use Rattle.h2_spec_log.specs.CallRules.{returns_credit}
 use Rattle.h2_core.specs.Endpoint.{end_of, IsSoundEnd}
 use Rattle.h2_core.specs.Items.{ItemTaken, TakesItem, item_events}
-use Rattle.h2_log.specs.Memory.{needs_memory}
+use Rattle.h2_spec_log.specs.Memory.{needs_memory}
 use Rattle.h2_core.specs.declared.reader.Reported.{Reported as Answer}
 use Rattle.h2_core.specs.declared.reader.Reported.TheVariants.{Reset, Fields}
 use Rattle.h2_core.specs.declared.endpoint.Endpoint.{Endpoint}

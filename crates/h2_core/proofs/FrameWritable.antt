@@ -8,12 +8,12 @@ use Rattle.h2_frame.specs.Frames.{WindowUpdate, Continuation, Unknown}
 use Rattle.h2_frame.specs.Encoding.{refusal, stream_of, kind_of_frame, payload_of, has_good_values}
 use Rattle.h2_frame.specs.Heads.{fits_stream}
 use Rattle.h2_block.specs.Grouping.{alone}
-use Rattle.h2_log.specs.Items.{encoding_of_items}
-use Rattle.h2_log.specs.Verdicts.{Verdict, NoEvent}
-use Rattle.h2_log.specs.ItemRules.{verdict_of, verdict_by_rules, over_limits, replies_to}
-use Rattle.h2_log.specs.ItemEffects.{events_of}
-use Rattle.h2_machine.specs.End.{End, end_view}
-use Rattle.h2_machine.specs.Machine.{after_verdict, after_ignored}
+use Rattle.h2_spec_log.specs.Items.{encoding_of_items}
+use Rattle.h2_spec_log.specs.Verdicts.{Verdict, NoEvent}
+use Rattle.h2_spec_log.specs.ItemRules.{verdict_of, verdict_by_rules, over_limits, replies_to}
+use Rattle.h2_spec_log.specs.ItemEffects.{events_of}
+use Rattle.h2_spec_machine.specs.End.{End, end_view}
+use Rattle.h2_spec_machine.specs.Machine.{after_verdict, after_ignored}
 use Rattle.h2_core.specs.Items.{ItemTaken}
 
 -- The numbers of a frame that is not refused.

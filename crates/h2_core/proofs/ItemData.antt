@@ -9,15 +9,16 @@ use Rattle.h2_frame.specs.declared.code.Code.TheVariants.{ProtocolError, FlowCon
 use Rattle.h2_frame.specs.declared.code.Code.TheVariants.{StreamClosed}
 use Rattle.h2_frame.specs.Encoding.{payload_of}
 use Rattle.h2_block.specs.Grouping.{alone}
-use Rattle.h2_log.specs.View.{StreamView, ended_in}
-use Rattle.h2_log.specs.States.{State, Idle, Active, ClosedByUs, Closed}
-use Rattle.h2_log.specs.Verdicts.{ConnectionFault, StreamFault, NoEvent, Reported, data_verdict}
-use Rattle.h2_log.specs.ItemRules.{verdict_by_rules, verdict_of, replies_to, exceeds}
-use Rattle.h2_log.specs.ItemRules.{exceeds_stream}
-use Rattle.h2_log.specs.CallRules.{returns_credit}
-use Rattle.h2_machine.specs.End.{End, end_view, state_at, stream_at}
-use Rattle.h2_machine.specs.Machine.{after_reported, after_ignored, narrow_recv_window}
-use Rattle.h2_machine.specs.Machine.{update_stream}
+use Rattle.h2_spec_log.specs.View.{StreamView, ended_in}
+use Rattle.h2_spec_log.specs.States.{State, Idle, Active, ClosedByUs, Closed}
+use Rattle.h2_spec_log.specs.Verdicts.{ConnectionFault, StreamFault, NoEvent, Reported}
+use Rattle.h2_spec_log.specs.Verdicts.{data_verdict}
+use Rattle.h2_spec_log.specs.ItemRules.{verdict_by_rules, verdict_of, replies_to, exceeds}
+use Rattle.h2_spec_log.specs.ItemRules.{exceeds_stream}
+use Rattle.h2_spec_log.specs.CallRules.{returns_credit}
+use Rattle.h2_spec_machine.specs.End.{End, end_view, state_at, stream_at}
+use Rattle.h2_spec_machine.specs.Machine.{after_reported, after_ignored, narrow_recv_window}
+use Rattle.h2_spec_machine.specs.Machine.{update_stream}
 use Rattle.h2_core.specs.declared.receive.DataFrame.{DataFrame}
 use Rattle.h2_core.specs.declared.reader.Reported.{Reported as Answer}
 use Rattle.h2_core.specs.declared.reader.StepError.{StepError}

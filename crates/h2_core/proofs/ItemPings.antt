@@ -9,12 +9,12 @@ use Rattle.hpack.specs.Choice.{same_octets}
 use Rattle.h2_frame.specs.declared.code.Code.TheVariants.{EnhanceYourCalm}
 use Rattle.h2_frame.specs.Frames.{Ping}
 use Rattle.h2_block.specs.Grouping.{alone}
-use Rattle.h2_log.specs.Limits.{max_frame_size_sent, max_output}
-use Rattle.h2_log.specs.Verdicts.{ConnectionFault, NoEvent}
-use Rattle.h2_log.specs.ItemRules.{is_awaited_ping, verdict_by_rules, verdict_of, over_limits}
-use Rattle.h2_log.specs.ItemRules.{replies_to}
-use Rattle.h2_log_laws.proofs.ItemSizes.{size-ping}
-use Rattle.h2_machine.specs.End.{End, end_view}
+use Rattle.h2_spec_log.specs.Limits.{max_frame_size_sent, max_output}
+use Rattle.h2_spec_log.specs.Verdicts.{ConnectionFault, NoEvent}
+use Rattle.h2_spec_log.specs.ItemRules.{is_awaited_ping, verdict_by_rules, verdict_of, over_limits}
+use Rattle.h2_spec_log.specs.ItemRules.{replies_to}
+use Rattle.h2_laws_log.proofs.ItemSizes.{size-ping}
+use Rattle.h2_spec_machine.specs.End.{End, end_view}
 use Rattle.hpack.proofs.Tests.{not_back as back}
 
 -- Numbers are compared in either order.

@@ -2,11 +2,11 @@
 use Rattle.std.proofs.Common.{◌≡◌, ◌⊎◌, ℕ, ◌%◌, ◌==◌, nat_lt, ◌||◌, Bool, Option, Some, None, refl}
 use Rattle.std.proofs.Common.{inl, inr, sym, ap, ◌∙◌}
 use Rattle.std.specs.FinMap as map
-use Rattle.h2_log.specs.States as states
-use Rattle.h2_log.specs.States.{State}
-use Rattle.h2_log.specs.View.{StreamView}
-use Rattle.h2_machine.specs.End.{StreamEntry, active_entry, reset_entry, End, stream_in, stream_at}
-use Rattle.h2_machine.specs.End.{state_by_entry, state_at, is_above_goaway}
+use Rattle.h2_spec_log.specs.States as states
+use Rattle.h2_spec_log.specs.States.{State}
+use Rattle.h2_spec_log.specs.View.{StreamView}
+use Rattle.h2_spec_machine.specs.End.{StreamEntry, active_entry, reset_entry, End, stream_in}
+use Rattle.h2_spec_machine.specs.End.{stream_at, state_by_entry, state_at, is_above_goaway}
 use Rattle.h2_core.specs.declared.status.Status.{Status}
 use Rattle.h2_core.specs.declared.status.Status.TheVariants.{ClosedByUs, Closed}
 use Rattle.h2_core.specs.Statuses.{state_of_status, stream_of_status}

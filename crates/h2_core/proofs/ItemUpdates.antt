@@ -7,15 +7,15 @@ use Rattle.h2_frame.specs.declared.code.Code.{Code}
 use Rattle.h2_frame.specs.declared.code.Code.TheVariants.{ProtocolError, FlowControlError}
 use Rattle.h2_frame.specs.Frames.{WindowUpdate}
 use Rattle.h2_block.specs.Grouping.{alone}
-use Rattle.h2_log.specs.View.{StreamView}
-use Rattle.h2_log.specs.States.{State, Idle, Active, ClosedByUs, Closed}
-use Rattle.h2_log.specs.Windows.{greatest_window}
-use Rattle.h2_log.specs.Verdicts.{ConnectionFault, StreamFault, NoEvent}
-use Rattle.h2_log.specs.Verdicts.{connection_update_verdict, update_verdict}
-use Rattle.h2_log.specs.ItemRules.{verdict_by_rules, verdict_of, replies_to, overflows_by}
-use Rattle.h2_log.specs.ItemRules.{overflows_stream}
-use Rattle.h2_machine.specs.End.{End, end_view, state_at, stream_at}
-use Rattle.h2_machine.specs.Machine.{widen_send_window}
+use Rattle.h2_spec_log.specs.View.{StreamView}
+use Rattle.h2_spec_log.specs.States.{State, Idle, Active, ClosedByUs, Closed}
+use Rattle.h2_spec_log.specs.Windows.{greatest_window}
+use Rattle.h2_spec_log.specs.Verdicts.{ConnectionFault, StreamFault, NoEvent}
+use Rattle.h2_spec_log.specs.Verdicts.{connection_update_verdict, update_verdict}
+use Rattle.h2_spec_log.specs.ItemRules.{verdict_by_rules, verdict_of, replies_to, overflows_by}
+use Rattle.h2_spec_log.specs.ItemRules.{overflows_stream}
+use Rattle.h2_spec_machine.specs.End.{End, end_view, state_at, stream_at}
+use Rattle.h2_spec_machine.specs.Machine.{widen_send_window}
 use Rattle.h2_core.proofs.ItemVerdicts.{quiet_verdict, fault_stands}
 use Rattle.h2_core.proofs.ItemStatuses.{active_state}
 

@@ -8,20 +8,20 @@ use Rattle.h2_frame.specs.declared.code.Code.TheVariants.{EnhanceYourCalm}
 use Rattle.h2_frame.specs.Codes.{code_number}
 use Rattle.h2_frame.specs.Frames.{Frame, Reset as ResetFrame}
 use Rattle.h2_block.specs.Grouping.{alone}
-use Rattle.h2_log.specs.Items.{encoding_of_items, stream_of_item}
-use Rattle.h2_log.specs.Limits.{max_frame_size_sent}
-use Rattle.h2_log.specs.Events.{Event, ResetEvent}
-use Rattle.h2_log.specs.View.{View}
-use Rattle.h2_log.specs.Verdicts.{Verdict, ConnectionFault, StreamFault, NoEvent, Reported}
-use Rattle.h2_log.specs.ItemRules.{verdict_by_rules, verdict_of, over_limits, replies_to, opened_by}
-use Rattle.h2_log.specs.ItemRules.{is_stream_fault}
-use Rattle.h2_log.specs.ItemEffects.{events_of}
+use Rattle.h2_spec_log.specs.Items.{encoding_of_items, stream_of_item}
+use Rattle.h2_spec_log.specs.Limits.{max_frame_size_sent}
+use Rattle.h2_spec_log.specs.Events.{Event, ResetEvent}
+use Rattle.h2_spec_log.specs.View.{View}
+use Rattle.h2_spec_log.specs.Verdicts.{Verdict, ConnectionFault, StreamFault, NoEvent, Reported}
+use Rattle.h2_spec_log.specs.ItemRules.{verdict_by_rules, verdict_of, over_limits, replies_to}
+use Rattle.h2_spec_log.specs.ItemRules.{opened_by, is_stream_fault}
+use Rattle.h2_spec_log.specs.ItemEffects.{events_of}
 use Rattle.h2_streams.specs.Table.{TableState}
-use Rattle.h2_machine.specs.End.{End, end_view}
-use Rattle.h2_machine.specs.Machine.{after_verdict, after_ignored, after_reported}
-use Rattle.h2_machine.specs.Machine.{after_stream_fault, reset_stream, queue_output}
-use Rattle.h2_machine.specs.Machine.{narrow_recv_window}
-use Rattle.h2_log_laws.proofs.ItemSizes.{size-reset}
+use Rattle.h2_spec_machine.specs.End.{End, end_view}
+use Rattle.h2_spec_machine.specs.Machine.{after_verdict, after_ignored, after_reported}
+use Rattle.h2_spec_machine.specs.Machine.{after_stream_fault, reset_stream, queue_output}
+use Rattle.h2_spec_machine.specs.Machine.{narrow_recv_window}
+use Rattle.h2_laws_log.proofs.ItemSizes.{size-reset}
 use Rattle.h2_core.specs.declared.reader.Reported.{Reported as Answer}
 use Rattle.h2_core.specs.declared.reader.StepError.{StepError}
 use Rattle.h2_core.specs.declared.reader.StepError.TheVariants.{Fault, OutOfMemory}
@@ -29,7 +29,7 @@ use Rattle.h2_core.specs.declared.endpoint.Endpoint.{Endpoint}
 use Rattle.h2_core.specs.Endpoint.{end_of}
 use Rattle.h2_core.specs.Resets.{is_over_limits, ResetsForFault}
 use Rattle.h2_core.specs.Items.{TakesItem, ItemTaken, event_of}
-use Rattle.h2_log.specs.Memory.{needs_memory}
+use Rattle.h2_spec_log.specs.Memory.{needs_memory}
 
 -- A verdict to which nothing is replied stands.
 pub quiet_verdict : (view : View) (frame : Frame) (verdict : Verdict)

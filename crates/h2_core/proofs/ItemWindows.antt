@@ -3,8 +3,8 @@ use Rattle.std.proofs.Common.{◌≡◌, ℕ, ◌<◌, ◌^◌, Bool, false, ℤ
 use Rattle.std.proofs.Common.{FitsSigned, to_z, of_z, w64}
 use Rattle.std.proofs.lemmas.Bool.Decides.{nat_tests}
 use Rattle.std.proofs.lemmas.Int.{ints}
-use Rattle.h2_log.specs.Windows.{greatest_window}
-use Rattle.h2_log.specs.ItemRules.{overflows_by, exceeds}
+use Rattle.h2_spec_log.specs.Windows.{greatest_window}
+use Rattle.h2_spec_log.specs.ItemRules.{overflows_by, exceeds}
 use Rattle.h2_streams.specs.Streams.{is_far}
 
 -- A window is itself.

@@ -15,20 +15,21 @@ use Rattle.h2_frame.specs.Encoding.{encoding_of, kind_of_frame, flags_of, stream
 use Rattle.h2_flow.specs.declared.settings.Settings.{Settings}
 use Rattle.h2_flow.specs.Settings.{with_value}
 use Rattle.h2_block.specs.Grouping.{Item, alone}
-use Rattle.h2_log.specs.Acts.{Values}
-use Rattle.h2_log.specs.Items.{encoding_of_items, encoding_of_item}
-use Rattle.h2_log.specs.Settings.{value_after}
-use Rattle.h2_log.specs.Limits.{max_frame_size_sent}
-use Rattle.h2_log.specs.Events.{AckedEvent}
-use Rattle.h2_log.specs.View.{View}
-use Rattle.h2_log.specs.Verdicts.{ConnectionFault, NoEvent, Reported}
-use Rattle.h2_log.specs.ItemRules.{settings_fault, verdict_of, verdict_by_rules, replies_to}
-use Rattle.h2_log.specs.ItemRules.{over_limits}
-use Rattle.h2_log.specs.ItemRules.{opened_by}
-use Rattle.h2_log.specs.ItemEffects.{encoder_after_settings, events_of}
-use Rattle.h2_machine.specs.End.{End, end_view}
-use Rattle.h2_machine.specs.Machine.{after_item, after_verdict, after_ignored, after_reported}
-use Rattle.h2_machine.specs.Machine.{first_allowed, each_entry, shifted_entry, apply_own_settings}
+use Rattle.h2_spec_log.specs.Acts.{Values}
+use Rattle.h2_spec_log.specs.Items.{encoding_of_items, encoding_of_item}
+use Rattle.h2_spec_log.specs.Settings.{value_after}
+use Rattle.h2_spec_log.specs.Limits.{max_frame_size_sent}
+use Rattle.h2_spec_log.specs.Events.{AckedEvent}
+use Rattle.h2_spec_log.specs.View.{View}
+use Rattle.h2_spec_log.specs.Verdicts.{ConnectionFault, NoEvent, Reported}
+use Rattle.h2_spec_log.specs.ItemRules.{settings_fault, verdict_of, verdict_by_rules, replies_to}
+use Rattle.h2_spec_log.specs.ItemRules.{over_limits}
+use Rattle.h2_spec_log.specs.ItemRules.{opened_by}
+use Rattle.h2_spec_log.specs.ItemEffects.{encoder_after_settings, events_of}
+use Rattle.h2_spec_machine.specs.End.{End, end_view}
+use Rattle.h2_spec_machine.specs.Machine.{after_item, after_verdict, after_ignored, after_reported}
+use Rattle.h2_spec_machine.specs.Machine.{first_allowed, each_entry, shifted_entry}
+use Rattle.h2_spec_machine.specs.Machine.{apply_own_settings}
 use Rattle.h2_core.specs.declared.endpoint.Endpoint.{Endpoint}
 use Rattle.h2_core.specs.declared.reader.Reported.TheVariants.{Acked}
 use Rattle.h2_core.specs.declared.reader.StepError.{StepError}

@@ -9,10 +9,10 @@ use Rattle.std.proofs.lemmas.List.{drop_min}
 use Rattle.h2_frame.specs.Frames.{WindowUpdate}
 use Rattle.h2_frame.specs.Encoding.{encoding_of, kind_of_frame, flags_of, stream_of, payload_of}
 use Rattle.h2_block.specs.Grouping.{alone}
-use Rattle.h2_log.specs.Items.{encoding_of_items, encoding_of_item}
-use Rattle.h2_log.specs.CallRules.{returns_before_put_out}
-use Rattle.h2_machine.specs.End.{End, end_view}
-use Rattle.h2_machine.specs.Machine.{after_call, before_put_out_at, return_credit}
+use Rattle.h2_spec_log.specs.Items.{encoding_of_items, encoding_of_item}
+use Rattle.h2_spec_log.specs.CallRules.{returns_before_put_out}
+use Rattle.h2_spec_machine.specs.End.{End, end_view}
+use Rattle.h2_spec_machine.specs.Machine.{after_call, before_put_out_at, return_credit}
 use Rattle.h2_core.specs.Readers.{PutsOut}
 
 -- What holds of a success holds where there is no error.

@@ -4,9 +4,9 @@ use Rattle.h2_frame.specs.declared.code.Code.{Code}
 use Rattle.h2_frame.specs.declared.code.Code.TheVariants.{FlowControlError}
 use Rattle.h2_flow.specs.declared.settings.Settings.{Settings}
 use Rattle.h2_flow.specs.Settings.{with_value}
-use Rattle.h2_log.specs.Settings.{peer_of, value_fault}
-use Rattle.h2_log.specs.View.{View}
-use Rattle.h2_log.specs.ItemRules.{settings_fault}
+use Rattle.h2_spec_log.specs.Settings.{peer_of, value_fault}
+use Rattle.h2_spec_log.specs.View.{View}
+use Rattle.h2_spec_log.specs.ItemRules.{settings_fault}
 use Rattle.h2_core.specs.Settings.{with_values}
 
 -- A pair whose value is at fault is the first fault.

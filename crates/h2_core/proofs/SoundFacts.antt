@@ -4,10 +4,10 @@ use Rattle.std.proofs.Common.{Option, Some, None, length, sym, ap, ◌∙◌, ar
 use Rattle.std.proofs.lemmas.Int.{ints}
 use Rattle.std.specs.FinMap as map
 use Rattle.std.specs.Ordering.{nat_cmp, is_eq}
-use Rattle.h2_log.specs.View.{StreamView}
-use Rattle.h2_machine.specs.End.{StreamEntry, active_entry, reset_entry, End, stream_in, stream_at}
-use Rattle.h2_machine.specs.End.{owed_sum}
-use Rattle.h2_machine_laws.specs.Ranges.{count_active, StreamIsInRange}
+use Rattle.h2_spec_log.specs.View.{StreamView}
+use Rattle.h2_spec_machine.specs.End.{StreamEntry, active_entry, reset_entry, End, stream_in}
+use Rattle.h2_spec_machine.specs.End.{stream_at, owed_sum}
+use Rattle.h2_laws_machine.specs.Ranges.{count_active, StreamIsInRange}
 use Rattle.h2_streams.specs.Streams.{is_far}
 use Rattle.h2_core.specs.Endpoint.{IsSoundEnd}
 

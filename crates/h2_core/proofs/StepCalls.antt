@@ -5,13 +5,14 @@ use Rattle.std.proofs.Common.{sym, ap}
 use Rattle.std.specs.Result.{OnOk, OnErr, is_err}
 use Rattle.h2_frame.specs.Frames.{Reset, Ping, GoAway}
 use Rattle.h2_block.specs.Grouping.{alone}
-use Rattle.h2_log.specs.declared.refusal.Refusal.{Refusal}
-use Rattle.h2_log.specs.declared.refusal.Refusal.TheVariants.{Memory}
-use Rattle.h2_log.specs.View.{StreamView}
-use Rattle.h2_log.specs.Acts.{Act, ResetStream, SendPing, SendGoAway}
-use Rattle.h2_log.specs.CallRules.{refusal_of, first_of, is_no_stream, items_of, encoder_after_call}
-use Rattle.h2_machine.specs.End.{End, end_view, stream_at}
-use Rattle.h2_machine.specs.Machine.{after_call, queue_output, reset_stream}
+use Rattle.h2_spec_log.specs.declared.refusal.Refusal.{Refusal}
+use Rattle.h2_spec_log.specs.declared.refusal.Refusal.TheVariants.{Memory}
+use Rattle.h2_spec_log.specs.View.{StreamView}
+use Rattle.h2_spec_log.specs.Acts.{Act, ResetStream, SendPing, SendGoAway}
+use Rattle.h2_spec_log.specs.CallRules.{refusal_of, first_of, is_no_stream, items_of}
+use Rattle.h2_spec_log.specs.CallRules.{encoder_after_call}
+use Rattle.h2_spec_machine.specs.End.{End, end_view, stream_at}
+use Rattle.h2_spec_machine.specs.Machine.{after_call, queue_output, reset_stream}
 use Rattle.h2_core.specs.Calls.{CallRefused}
 
 -- The first condition holds.

@@ -1,9 +1,9 @@
 -- Whether credit is returned, by what more is unreturned and how much output waits.
 use Rattle.std.proofs.Common.{◌≡◌, ℕ, ◌<◌, ◌≤◌, Bool, true, false, if◌then◌else◌, length, ap, arith}
 use Rattle.std.proofs.lemmas.Bool.Decides.{nat_tests}
-use Rattle.h2_log.specs.CallRules.{returns_credit}
-use Rattle.h2_machine.specs.End.{End}
-use Rattle.h2_machine.specs.Machine.{return_credit, more_unreturned, add_unreturned}
+use Rattle.h2_spec_log.specs.CallRules.{returns_credit}
+use Rattle.h2_spec_machine.specs.End.{End}
+use Rattle.h2_spec_machine.specs.Machine.{return_credit, more_unreturned, add_unreturned}
 
 -- It is, where there is more and less than the full output waits.
 pub returned : (more : ℕ) (e : End) → 0 < more → length e.output.waiting < 65536

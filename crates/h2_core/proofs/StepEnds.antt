@@ -3,8 +3,8 @@ use Rattle.std.proofs.Common.{◌≡◌, ℕ, List, [], ◌∷◌, ◌++◌, sym
 use Rattle.h2_block.specs.Grouping.{alone}
 use Rattle.h2_frame.specs.Frames.{Frame}
 use Rattle.h2_frame.specs.Encoding.{encoding_of}
-use Rattle.h2_log.specs.Items.{encoding_of_items}
-use Rattle.h2_machine.specs.End.{End}
+use Rattle.h2_spec_log.specs.Items.{encoding_of_items}
+use Rattle.h2_spec_machine.specs.End.{End}
 use Rattle.h2_streams.specs.Table.{TableState}
 use Rattle.h2_core.proofs.StepFrames.{one-item}
 

@@ -8,7 +8,7 @@ use Rattle.h2_frame.specs.Heads.{fits_stream}
 use Rattle.h2_frame.specs.Encoding.{encoding_of, kind_of_frame, flags_of, stream_of, payload_of}
 use Rattle.h2_frame.specs.Encoding.{has_good_values, refusal}
 use Rattle.h2_block.specs.Grouping.{alone}
-use Rattle.h2_log.specs.Items.{encoding_of_item, encoding_of_items}
+use Rattle.h2_spec_log.specs.Items.{encoding_of_item, encoding_of_items}
 
 -- A frame as the one item has its octets.
 pub one-item : (most : ℕ) (frame : Frame)

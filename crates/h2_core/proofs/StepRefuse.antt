@@ -6,11 +6,12 @@ use Rattle.std.proofs.Common.{eq-eqb, ne_eqb, nat_le}
 use Rattle.h2_frame.specs.declared.code.Code.TheVariants.{InternalError, EnhanceYourCalm}
 use Rattle.h2_frame.specs.Frames.{Reset}
 use Rattle.h2_block.specs.Grouping.{alone}
-use Rattle.h2_log.specs.declared.refusal.Refusal.TheVariants.{Closed, NoSuchStream}
-use Rattle.h2_log.specs.Acts.{Refuse}
-use Rattle.h2_log.specs.CallRules.{refusal_of, conditions, is_no_stream, refuse_fault}
-use Rattle.h2_machine.specs.End.{End, end_view}
-use Rattle.h2_machine.specs.Machine.{after_call, after_refuse, queue_output, reset_stream, fail}
+use Rattle.h2_spec_log.specs.declared.refusal.Refusal.TheVariants.{Closed, NoSuchStream}
+use Rattle.h2_spec_log.specs.Acts.{Refuse}
+use Rattle.h2_spec_log.specs.CallRules.{refusal_of, conditions, is_no_stream, refuse_fault}
+use Rattle.h2_spec_machine.specs.End.{End, end_view}
+use Rattle.h2_spec_machine.specs.Machine.{after_call, after_refuse, queue_output, reset_stream}
+use Rattle.h2_spec_machine.specs.Machine.{fail}
 use Rattle.h2_core.proofs.StepCalls.{first-here, first-later, first-none}
 use Rattle.hpack.proofs.Tests.{and_false as and-false}
 

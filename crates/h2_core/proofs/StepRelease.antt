@@ -14,13 +14,13 @@ use Rattle.std.specs.FinMap as map
 use Rattle.h2_frame.specs.Frames.{WindowUpdate}
 use Rattle.h2_frame.specs.Encoding.{encoding_of}
 use Rattle.h2_block.specs.Grouping.{alone}
-use Rattle.h2_log.specs.Acts.{Release}
-use Rattle.h2_log.specs.CallRules.{is_not_owed, items_of, encoder_after_call}
-use Rattle.h2_log.specs.Items.{encoding_of_item, encoding_of_items}
-use Rattle.h2_log.specs.View.{StreamView, ended_in, owed_on}
-use Rattle.h2_machine.specs.End.{active_entry, End, end_view, stream_in, stream_at}
-use Rattle.h2_machine.specs.Machine.{after_call, after_release, queue_output}
-use Rattle.h2_machine_laws.specs.Ranges.{StreamIsInRange}
+use Rattle.h2_spec_log.specs.Acts.{Release}
+use Rattle.h2_spec_log.specs.CallRules.{is_not_owed, items_of, encoder_after_call}
+use Rattle.h2_spec_log.specs.Items.{encoding_of_item, encoding_of_items}
+use Rattle.h2_spec_log.specs.View.{StreamView, ended_in, owed_on}
+use Rattle.h2_spec_machine.specs.End.{active_entry, End, end_view, stream_in, stream_at}
+use Rattle.h2_spec_machine.specs.Machine.{after_call, after_release, queue_output}
+use Rattle.h2_laws_machine.specs.Ranges.{StreamIsInRange}
 use Rattle.h2_streams.specs.Streams.{is_far}
 use Rattle.h2_core.specs.Endpoint.{IsSoundEnd}
 use Rattle.h2_core.proofs.SoundFacts.{absent_above, highest_small}

@@ -9,10 +9,10 @@ use Rattle.hpack.specs.declared.types.fault.Fault.TheVariants as faults
 use Rattle.h2_frame.specs.declared.code.Code.{Code}
 use Rattle.h2_frame.specs.declared.code.Code.TheVariants.{CompressionError, InternalError}
 use Rattle.h2_block.specs.Grouping.{block}
-use Rattle.h2_log.specs.ItemRules.{Decoded}
-use Rattle.h2_log.specs.Limits.{max_list}
-use Rattle.h2_machine.specs.End.{End}
-use Rattle.h2_machine.specs.Machine.{after_item}
+use Rattle.h2_spec_log.specs.ItemRules.{Decoded}
+use Rattle.h2_spec_log.specs.Limits.{max_list}
+use Rattle.h2_spec_machine.specs.End.{End}
+use Rattle.h2_spec_machine.specs.Machine.{after_item}
 use Rattle.h2_core.specs.declared.endpoint.Endpoint.{Endpoint}
 use Rattle.h2_core.specs.declared.reader.Reported.{Reported}
 use Rattle.h2_core.specs.declared.reader.StepError.{StepError}

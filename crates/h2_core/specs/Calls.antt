@@ -5,15 +5,15 @@ use Rattle.hpack.specs.declared.types.field.Field.{Field}
 use Rattle.hpack.specs.Choice.{block_of}
 use Rattle.hpack.specs.Lists.{EncoderState, list_size}
 use Rattle.h2_block.specs.Spread.{spread_frames, encoding_of_frames}
-use Rattle.h2_log.specs.declared.refusal.Refusal.{Refusal}
-use Rattle.h2_log.specs.declared.refusal.Refusal.TheVariants.{Memory, Closed, NoSuchStream, Ended}
-use Rattle.h2_log.specs.declared.refusal.Refusal.TheVariants.{OutputFull}
-use Rattle.h2_log.specs.Acts.{Act, Refuse}
-use Rattle.h2_log.specs.CallRules.{refusal_of, first_of, refuse_fault}
-use Rattle.h2_log.specs.Limits.{full_output}
-use Rattle.h2_log.specs.View.{ended_out}
-use Rattle.h2_machine.specs.End.{End, end_view, stream_at}
-use Rattle.h2_machine.specs.Machine.{after_call, fail}
+use Rattle.h2_spec_log.specs.declared.refusal.Refusal.{Refusal}
+use Rattle.h2_spec_log.specs.declared.refusal.Refusal.TheVariants.{Memory, Closed, NoSuchStream}
+use Rattle.h2_spec_log.specs.declared.refusal.Refusal.TheVariants.{Ended, OutputFull}
+use Rattle.h2_spec_log.specs.Acts.{Act, Refuse}
+use Rattle.h2_spec_log.specs.CallRules.{refusal_of, first_of, refuse_fault}
+use Rattle.h2_spec_log.specs.Limits.{full_output}
+use Rattle.h2_spec_log.specs.View.{ended_out}
+use Rattle.h2_spec_machine.specs.End.{End, end_view, stream_at}
+use Rattle.h2_spec_machine.specs.Machine.{after_call, fail}
 use Rattle.h2_frame.specs.declared.code.Code.TheVariants.{InternalError}
 use Rattle.h2_core.specs.declared.endpoint.Endpoint.{Endpoint}
 use Rattle.h2_core.specs.Endpoint.{end_of}

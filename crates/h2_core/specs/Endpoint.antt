@@ -1,10 +1,10 @@
 -- An end's code as the machine: what it keeps is a machine's value.
 use Rattle.std.specs.Prelude.{ℕ, min, Bool, true, false, Option, Some, None}
 use Rattle.std.specs.Option.{option_map}
-use Rattle.h2_config.specs.ConfigValues.{values_of}
-use Rattle.h2_machine.specs.End.{End}
-use Rattle.h2_machine_laws.specs.Bounds.{IsBounded, KeepsConnectionWindow}
-use Rattle.h2_machine_laws.specs.Ranges.{ValuesAreInRange, CountsEntries}
+use Rattle.h2_flow.specs.ConfigValues.{values_of}
+use Rattle.h2_spec_machine.specs.End.{End}
+use Rattle.h2_laws_machine.specs.Bounds.{IsBounded, KeepsConnectionWindow}
+use Rattle.h2_laws_machine.specs.Ranges.{ValuesAreInRange, CountsEntries}
 use Rattle.h2_core.specs.declared.endpoint.Endpoint.{Endpoint}
 
 -- how many streams a client may have active: 100 before the server's first SETTINGS, then the

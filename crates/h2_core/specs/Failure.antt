@@ -1,6 +1,6 @@
 -- What stands after the connection has failed.
 use Rattle.std.specs.Prelude.{◌≡◌, ◌≢◌, None}
-use Rattle.h2_machine.specs.End.{End}
+use Rattle.h2_spec_machine.specs.End.{End}
 
 -- The connection has failed, and of what counts then both ends have the same: the code, the output,
 -- the streams and the windows. What was read last, and the rest that no call looks at any more, may

@@ -4,15 +4,15 @@ use Rattle.std.specs.Prelude.{Result, Ok, Err, length}
 use Rattle.hpack.specs.declared.types.field.Field.{Field}
 use Rattle.h2_frame.specs.declared.code.Code.{Code}
 use Rattle.h2_block.specs.Grouping.{Item}
-use Rattle.h2_log.specs.Events.{Event, FieldsEvent, DataEvent, ResetEvent, GoAwayEvent, AckedEvent}
-use Rattle.h2_log.specs.Events.{PongEvent}
-use Rattle.h2_log.specs.Verdicts.{ConnectionFault}
-use Rattle.h2_log.specs.ItemRules.{Decoded, verdict_of, opened_by}
-use Rattle.h2_log.specs.ItemEffects.{events_of}
-use Rattle.h2_log.specs.CallRules.{returns_credit}
-use Rattle.h2_log.specs.Memory.{needs_memory}
-use Rattle.h2_machine.specs.End.{End, end_view}
-use Rattle.h2_machine.specs.Machine.{after_item, add_unreturned, narrow_recv_window}
+use Rattle.h2_spec_log.specs.Events.{Event, FieldsEvent, DataEvent, ResetEvent, GoAwayEvent}
+use Rattle.h2_spec_log.specs.Events.{AckedEvent, PongEvent}
+use Rattle.h2_spec_log.specs.Verdicts.{ConnectionFault}
+use Rattle.h2_spec_log.specs.ItemRules.{Decoded, verdict_of, opened_by}
+use Rattle.h2_spec_log.specs.ItemEffects.{events_of}
+use Rattle.h2_spec_log.specs.CallRules.{returns_credit}
+use Rattle.h2_spec_log.specs.Memory.{needs_memory}
+use Rattle.h2_spec_machine.specs.End.{End, end_view}
+use Rattle.h2_spec_machine.specs.Machine.{after_item, add_unreturned, narrow_recv_window}
 use Rattle.h2_core.specs.declared.reader.Reported.{Reported}
 use Rattle.h2_core.specs.declared.reader.Reported.TheVariants.{Fields, Data, Reset, GoAway, Acked}
 use Rattle.h2_core.specs.declared.reader.Reported.TheVariants.{Pong}

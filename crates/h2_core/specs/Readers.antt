@@ -2,11 +2,11 @@
 use Rattle.std.specs.Prelude.{◌≡◌, ℕ, ◌==◌, ◌++◌, if◌then◌else◌, ℤ, pos, List, take, Option, Some}
 use Rattle.std.specs.Prelude.{None, is_some}
 use Rattle.std.specs.Option.{option_map}
-use Rattle.h2_log.specs.View.{owed_on}
-use Rattle.h2_log.specs.Acts.{PutOut, Count}
-use Rattle.h2_log.specs.CallRules.{answer_of}
-use Rattle.h2_machine.specs.End.{End, end_view, stream_at}
-use Rattle.h2_machine.specs.Machine.{after_call, before_put_out_at}
+use Rattle.h2_spec_log.specs.View.{owed_on}
+use Rattle.h2_spec_log.specs.Acts.{PutOut, Count}
+use Rattle.h2_spec_log.specs.CallRules.{answer_of}
+use Rattle.h2_spec_machine.specs.End.{End, end_view, stream_at}
+use Rattle.h2_spec_machine.specs.Machine.{after_call, before_put_out_at}
 
 -- how many octets may be sent on the connection (0) or a stream
 -- rule: calls (own) An end answers of its state, and of little once it has failed

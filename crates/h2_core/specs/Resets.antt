@@ -6,9 +6,9 @@ use Rattle.h2_frame.specs.declared.code.Code.TheVariants.{EnhanceYourCalm}
 use Rattle.h2_frame.specs.Codes.{code_number}
 use Rattle.h2_frame.specs.Frames.{Reset as ResetFrame}
 use Rattle.h2_block.specs.Grouping.{alone}
-use Rattle.h2_log.specs.Limits.{max_resets, max_output}
-use Rattle.h2_machine.specs.End.{End}
-use Rattle.h2_machine.specs.Machine.{reset_stream, queue_output, narrow_recv_window}
+use Rattle.h2_spec_log.specs.Limits.{max_resets, max_output}
+use Rattle.h2_spec_machine.specs.End.{End}
+use Rattle.h2_spec_machine.specs.Machine.{reset_stream, queue_output, narrow_recv_window}
 use Rattle.h2_core.specs.declared.endpoint.Endpoint.{Endpoint}
 use Rattle.h2_core.specs.declared.reader.Reported.{Reported}
 use Rattle.h2_core.specs.declared.reader.Reported.TheVariants.{Reset}

@@ -3,8 +3,8 @@ use Rattle.std.specs.Prelude.{◌≡◌, ℕ, ℤ, List, [], ◌∷◌, Option, 
 use Rattle.std.specs.FinMap as map
 use Rattle.h2_flow.specs.declared.settings.Settings.{Settings}
 use Rattle.h2_flow.specs.Settings.{with_value}
-use Rattle.h2_log.specs.ItemRules.{settings_fault}
-use Rattle.h2_machine.specs.End.{end_view, any_above}
+use Rattle.h2_spec_log.specs.ItemRules.{settings_fault}
+use Rattle.h2_spec_machine.specs.End.{end_view, any_above}
 use Rattle.h2_streams.specs.Streams.{is_above_by_shift}
 use Rattle.h2_streams.specs.Table.{TableState}
 use Rattle.h2_core.specs.declared.endpoint.Endpoint.{Endpoint}

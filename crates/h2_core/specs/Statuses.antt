@@ -1,7 +1,7 @@
 -- What an end knows of a number.
 use Rattle.std.specs.Prelude.{Option, Some, None}
-use Rattle.h2_log.specs.States as states
-use Rattle.h2_log.specs.View.{StreamView}
+use Rattle.h2_spec_log.specs.States as states
+use Rattle.h2_spec_log.specs.View.{StreamView}
 use Rattle.h2_streams.specs.Streams.{stream_view}
 use Rattle.h2_core.specs.declared.status.Status.{Status}
 use Rattle.h2_core.specs.declared.status.Status.TheVariants.{Idle, Active, ClosedByUs, Closed}

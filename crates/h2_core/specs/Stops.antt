@@ -2,8 +2,8 @@
 use Rattle.std.specs.Prelude.{◌≡◌, ◌<◌, ◌^◌, max}
 use Rattle.h2_frame.specs.declared.code.Code.{Code}
 use Rattle.h2_frame.specs.declared.code.Code.TheVariants.{InternalError}
-use Rattle.h2_machine.specs.End.{End}
-use Rattle.h2_machine.specs.Machine.{fail}
+use Rattle.h2_spec_machine.specs.End.{End}
+use Rattle.h2_spec_machine.specs.Machine.{fail}
 use Rattle.h2_core.specs.declared.reader.StepError.{StepError}
 use Rattle.h2_core.specs.declared.reader.StepError.TheVariants.{Fault, OutOfMemory}
 

@@ -3,8 +3,8 @@
 
 ghost use Rattle.std.specs.Prelude.{◌≡◌, nat_le, length, is_some, None, true, false, OnOk};
 ghost use Rattle.std.specs.Prelude.{IfErr};
-ghost use Rattle.h2_log.specs.Limits.{full_output};
-ghost use Rattle.h2_log.specs.Acts.{Release, ResetStream, SendPing, SendGoAway};
+ghost use Rattle.h2_spec_log.specs.Limits.{full_output};
+ghost use Rattle.h2_spec_log.specs.Acts.{Release, ResetStream, SendPing, SendGoAway};
 ghost use Rattle.h2_core.specs.Endpoint.{end_of, IsSoundEnd};
 ghost use Rattle.h2_core.specs.Calls.{CallRefused, CallAccepted, CallRefuses};
 
@@ -12,7 +12,7 @@ use crate::endpoint::Endpoint;
 use crate::limits::{FULL_OUTPUT, MAX_RESETS, SMALL_FRAME};
 use crate::reader::StepError;
 use h2_frame::{Code, FrameRef};
-use h2_log::Refusal;
+use h2_spec_log::Refusal;
 
 /// The octets of PING, and of GOAWAY without debug octets.
 const LARGE_FRAME: usize = 17;

@@ -1,9 +1,9 @@
 //! Credit that is returned to the peer (RFC 9113, section 6.9), and failing.
 
 ghost use Rattle.std.specs.Prelude.{◌≡◌, ◌+◌, ◌≤◌, ◌<◌, ◌^◌, Some, None, nat_lt, length, true};
-ghost use Rattle.h2_log.specs.CallRules.{returns_credit};
-ghost use Rattle.h2_machine.specs.Machine.{return_credit, add_unreturned, fail};
-ghost use Rattle.h2_machine.specs.End.{End};
+ghost use Rattle.h2_spec_log.specs.CallRules.{returns_credit};
+ghost use Rattle.h2_spec_machine.specs.Machine.{return_credit, add_unreturned, fail};
+ghost use Rattle.h2_spec_machine.specs.End.{End};
 ghost use Rattle.h2_core.specs.Endpoint.{end_of};
 ghost use Rattle.h2_core.specs.Failure.{FailsAlike};
 

@@ -3,11 +3,10 @@
 ghost use Rattle.std.specs.Prelude.{◌≡◌, None, false};
 
 use h2_block::Gather;
-use h2_config::Config;
-use h2_flow::Settings;
+use h2_flow::{Config, Settings};
 use h2_frame::Code;
-use h2_log::Role;
 use h2_output::Output;
+use h2_spec_log::Role;
 use h2_streams::StreamTable;
 use hpack::{Decoder, Encoder, FieldList};
 

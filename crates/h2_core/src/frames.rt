@@ -2,7 +2,7 @@
 //! sections 3.4 and 6.10).
 
 ghost use Rattle.std.specs.Prelude.{◌≡◌, None, true, not, ◌&&◌};
-ghost use Rattle.h2_log.specs.ItemRules.{may_be_first};
+ghost use Rattle.h2_spec_log.specs.ItemRules.{may_be_first};
 ghost use Rattle.h2_frame.specs.Frames.{frame_of};
 ghost use Rattle.h2_frame.specs.Encoding.{refusal};
 ghost use Rattle.h2_block.specs.Grouping.{alone, is_standalone};

@@ -1,5 +1,5 @@
 //! One end of an HTTP/2 connection, but for cutting its octets into frames: each frame and each
-//! call as a step that does what the machine of `h2_machine` does.
+//! call as a step that does what the machine of `h2_spec_machine` does.
 //!
 //! It knows nothing of logs: `h2_conn` says what an end does by its history.
 #![tactic(auto)]

@@ -4,20 +4,19 @@ ghost use Rattle.std.specs.Prelude.{◌≡◌, ◌++◌, not, false, IfOk, IfErr
 ghost use Rattle.h2_frame.specs.Frames.{Settings as SettingsFrame};
 ghost use Rattle.h2_frame.specs.Encoding.{encoding_of};
 ghost use Rattle.h2_wire.specs.Streams.{expected_preface};
-ghost use Rattle.h2_log.specs.Settings.{is_server};
-ghost use Rattle.h2_log.specs.CallRules.{opening_pairs};
-ghost use Rattle.h2_config.specs.ConfigValues.{values_of};
-ghost use Rattle.h2_machine.specs.Machine.{new_end};
+ghost use Rattle.h2_spec_log.specs.Settings.{is_server};
+ghost use Rattle.h2_spec_log.specs.CallRules.{opening_pairs};
+ghost use Rattle.h2_flow.specs.ConfigValues.{values_of};
+ghost use Rattle.h2_spec_machine.specs.Machine.{new_end};
 ghost use Rattle.h2_core.specs.Endpoint.{end_of};
 
 use crate::endpoint::Endpoint;
 use crate::limits::{FIRST_WINDOW, LEAST_FRAME};
 use crate::settings_frame::add_opening_settings;
 use h2_block::Gather;
-use h2_config::Config;
-use h2_flow::Settings;
-use h2_log::{Refusal, Role};
+use h2_flow::{Config, Settings};
 use h2_output::Output;
+use h2_spec_log::{Refusal, Role};
 use h2_streams::StreamTable;
 use hpack::{Decoder, Encoder, FieldList};
 use std::alloc::{AllocError, Global};

@@ -5,11 +5,11 @@ ghost use Rattle.std.specs.Prelude.{if◌then◌else◌, None, IfOk, IfErr, IfSo
 ghost use Rattle.std.specs.Vec.{vec_capacity};
 ghost use Rattle.std.specs.FinMap as map;
 ghost use Rattle.h2_streams.specs.Streams.{number_or_none};
-ghost use Rattle.h2_log.specs.CallRules.{returns_before_put_out};
-ghost use Rattle.h2_log.specs.Memory.{credit_needs_memory};
-ghost use Rattle.h2_machine.specs.End.{end_view, payload_limit_of, stream_at};
-ghost use Rattle.h2_machine.specs.Machine.{fail, unprocessed_of_end, before_put_out_at};
-ghost use Rattle.h2_machine.specs.Machine.{close_unprocessed, first_active};
+ghost use Rattle.h2_spec_log.specs.CallRules.{returns_before_put_out};
+ghost use Rattle.h2_spec_log.specs.Memory.{credit_needs_memory};
+ghost use Rattle.h2_spec_machine.specs.End.{end_view, payload_limit_of, stream_at};
+ghost use Rattle.h2_spec_machine.specs.Machine.{fail, unprocessed_of_end, before_put_out_at};
+ghost use Rattle.h2_spec_machine.specs.Machine.{close_unprocessed, first_active};
 ghost use Rattle.h2_core.specs.Endpoint.{end_of, IsSoundEnd};
 ghost use Rattle.h2_core.specs.Frames.{FailsWithoutMemory};
 ghost use Rattle.h2_core.specs.Readers.{PutsOut, room_of, owed_of};
@@ -19,7 +19,7 @@ use crate::limits::{FULL_OUTPUT, SMALL_FRAME};
 use crate::reader::StepError;
 use crate::stream_steps::reserve_credit;
 use h2_frame::Code;
-use h2_log::{Refusal, Role};
+use h2_spec_log::{Refusal, Role};
 use hpack::FieldList;
 
 impl Endpoint {

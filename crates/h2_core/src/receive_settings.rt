@@ -5,10 +5,10 @@ ghost use Rattle.std.specs.FinMap as map;
 ghost use Rattle.h2_block.specs.Grouping.{alone};
 ghost use Rattle.h2_frame.specs.Frames.{Settings as SettingsFrame};
 ghost use Rattle.h2_frame.specs.Pairs.{lent_pairs};
-ghost use Rattle.h2_log.specs.Settings.{peer_of};
-ghost use Rattle.h2_log.specs.ItemEffects.{encoder_after_settings};
+ghost use Rattle.h2_spec_log.specs.Settings.{peer_of};
+ghost use Rattle.h2_spec_log.specs.ItemEffects.{encoder_after_settings};
 ghost use Rattle.h2_streams.specs.Streams.{is_above_by_shift};
-ghost use Rattle.h2_machine.specs.End.{any_above};
+ghost use Rattle.h2_spec_machine.specs.End.{any_above};
 ghost use Rattle.h2_core.specs.Endpoint.{end_of, IsSoundEnd};
 ghost use Rattle.h2_core.specs.Items.{TakesItem};
 ghost use Rattle.h2_core.specs.Settings.{AppliesSettings, KnowsGreatest};
@@ -18,7 +18,7 @@ use crate::limits::{GREATEST, HEAD, MAX_OUTPUT};
 use crate::reader::{Reported, StepError};
 use h2_flow::Settings;
 use h2_frame::{Code, Pairs};
-use h2_log::Role;
+use h2_spec_log::Role;
 use hpack::Encoder;
 
 /// The most octets of header table that this end's encoder takes (own).

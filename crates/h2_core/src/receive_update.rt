@@ -7,7 +7,7 @@ ghost use Rattle.std.specs.Option.{option_map};
 ghost use Rattle.h2_block.specs.Grouping.{alone};
 ghost use Rattle.h2_frame.specs.Frames.{WindowUpdate};
 ghost use Rattle.h2_streams.specs.Streams.{stream_view};
-ghost use Rattle.h2_machine.specs.End.{stream_at};
+ghost use Rattle.h2_spec_machine.specs.End.{stream_at};
 ghost use Rattle.h2_core.specs.Endpoint.{end_of, IsSoundEnd};
 ghost use Rattle.h2_core.specs.Items.{TakesItem};
 ghost use Rattle.h2_core.specs.Resets.{is_over_limits, ResetsForFault};

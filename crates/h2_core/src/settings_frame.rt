@@ -5,18 +5,18 @@ ghost use Rattle.std.specs.Prelude.{OnOk, IfErr};
 ghost use Rattle.byteorder.specs.Endian.{big_bytes};
 ghost use Rattle.h2_frame.specs.Frames.{Settings};
 ghost use Rattle.h2_frame.specs.Encoding.{encoding_of, pair_octets};
-ghost use Rattle.h2_config.specs.ConfigValues.{values_of};
-ghost use Rattle.h2_log.specs.Acts.{ChangeSettings};
-ghost use Rattle.h2_log.specs.CallRules.{opening_pairs, changed_pairs};
+ghost use Rattle.h2_flow.specs.ConfigValues.{values_of};
+ghost use Rattle.h2_spec_log.specs.Acts.{ChangeSettings};
+ghost use Rattle.h2_spec_log.specs.CallRules.{opening_pairs, changed_pairs};
 ghost use Rattle.h2_core.specs.Endpoint.{end_of, IsSoundEnd};
 ghost use Rattle.h2_core.specs.Calls.{CallRefused, CallAccepted};
 
 use crate::endpoint::Endpoint;
 use crate::limits::{HEAD, LEAST_FRAME, MAX_LIST};
 use byteorder::{BigEndian, ByteOrder};
-use h2_config::Config;
-use h2_log::{Refusal, Role};
+use h2_flow::Config;
 use h2_output::Output;
+use h2_spec_log::{Refusal, Role};
 
 /// The octets of a pair (section 6.5.1).
 const PAIR: usize = 6;

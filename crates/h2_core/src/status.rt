@@ -1,17 +1,52 @@
 //! What an end knows of a stream's number.
 
 ghost use Rattle.std.specs.Prelude.{◌≡◌, true};
-ghost use Rattle.h2_log.specs.Settings.{is_server};
-ghost use Rattle.h2_machine.specs.End.{state_at, stream_at, end_view, is_above_goaway};
-ghost use Rattle.h2_machine.specs.Machine.{is_fresh};
-ghost use Rattle.h2_log.specs.ItemRules.{is_at_capacity};
+ghost use Rattle.h2_spec_log.specs.Settings.{is_server};
+ghost use Rattle.h2_spec_machine.specs.End.{state_at, stream_at, end_view, is_above_goaway};
+ghost use Rattle.h2_spec_machine.specs.Machine.{is_fresh};
+ghost use Rattle.h2_spec_log.specs.ItemRules.{is_at_capacity};
 ghost use Rattle.h2_core.specs.Endpoint.{end_of};
 ghost use Rattle.h2_core.specs.Statuses.{state_of_status, stream_of_status};
 
 use crate::endpoint::Endpoint;
-use h2_log::Role;
+use h2_spec_log::Role;
 use h2_streams::{Entry, Stream};
 
+// The states of section 5.1 by this end's names. H is a field block, ES END_STREAM, R RST_STREAM. H
+// is too much where as many streams are active as are allowed, or its list is too large.
+//
+//                           +---------------------------------+
+//                           | Idle       "idle"               |  even numbers always: no push
+//                           +---------------------------------+
+//   server: H, and send R,    |              |             |
+//   as it is too much; or H   |              |             |  server, before its GOAWAY:
+//   on it or a greater number |              |             |  H on a greater number
+//   after its GOAWAY          |              |             |
+//             +---------------+              |             +----------------+
+//             |              server: recv H, client: send H                 |
+//             |                              v                              |
+//             |             +---------------------------------+             |
+//             |             | Active     "open"               |             |
+//             |             |     recv ES |      | send ES    |             |
+//             |             |             v      v            |             |
+//             |             |      ended_in      ended_out    |             |
+//             |             | "half-closed      "half-closed  |             |
+//             |             |     (remote)"      (local)"     |             |
+//             |             +---------------------------------+             |
+//             |               |                            |                |
+//             |        send R |   recv ES and send ES, or  |                |
+//             |               |   recv R, or client: it is |                |
+//             |               |   reported as unprocessed  |                |
+//             v               v                            v                v
+//   +-------------------------------+              +-------------------------------+
+//   | ClosedByUs "closed"           | <----------- | Closed     "closed"           |
+//   +-------------------------------+ server: send +-------------------------------+
+//                                     GOAWAY with
+//                                     a lower last
+//
+// "open" and both "half-closed" are one state, whose `StreamState` says which sides have ended.
+// "closed" is two: where this end closed the stream, frames of the peer may still be under way.
+// "reserved (local)" and "reserved (remote)" don't occur, since nothing is pushed.
 /// The state of a number (RFC 9113, section 5.1), with the stream where it is active.
 #[derive(Clone, Copy, Debug)]
 pub(crate) enum Status {

@@ -5,11 +5,11 @@ ghost use Rattle.std.specs.Prelude.{None, Some, OnOk, OnErr, true, length};
 ghost use Rattle.std.specs.Option.{option_map};
 ghost use Rattle.h2_block.specs.Grouping.{alone};
 ghost use Rattle.h2_frame.specs.Frames.{Reset as ResetFrame};
-ghost use Rattle.h2_log.specs.CallRules.{returns_credit};
+ghost use Rattle.h2_spec_log.specs.CallRules.{returns_credit};
 ghost use Rattle.h2_streams.specs.Streams.{stream_view};
-ghost use Rattle.h2_machine.specs.End.{stream_at};
-ghost use Rattle.h2_machine.specs.Machine.{close_stream, reset_stream, update_stream};
-ghost use Rattle.h2_machine.specs.Machine.{queue_output};
+ghost use Rattle.h2_spec_machine.specs.End.{stream_at};
+ghost use Rattle.h2_spec_machine.specs.Machine.{close_stream, reset_stream, update_stream};
+ghost use Rattle.h2_spec_machine.specs.Machine.{queue_output};
 ghost use Rattle.h2_core.specs.Endpoint.{end_of};
 ghost use Rattle.h2_core.specs.Streams.{IsNear, WindowHolds, both_ended, owed_by};
 

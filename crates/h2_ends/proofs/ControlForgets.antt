@@ -1,14 +1,7 @@
 -- A stream is forgotten if it is over.
-use Rattle.std.proofs.Common.{◌≡◌, ℕ, false, Option, None, refl, inl, inr}
-use Rattle.std.proofs.lemmas.Bool.{both_ways, cases_eq}
-use Rattle.h2_log.specs.Acts.{Values}
-use Rattle.h2_log.specs.Log.{active}
-use Rattle.h2_ends.specs.declared.end.End.{End}
-use Rattle.h2_ends.specs.declared.outgoing.Stream.{Stream}
-use Rattle.h2_ends.specs.declared.span.Spans.{Spans}
-use Rattle.h2_ends.specs.Ends.{EndLog}
-use Rattle.h2_ends.specs.Heads.{KeepsOne}
-use Rattle.h2_ends.specs.Represents.{EndRepresents, RepresentsBut, IsInStep, kept_at}
+use Rattle.h2_ends.proofs.Names.{◌≡◌, ℕ, false, Option, None, refl, inl, inr, both_ways, cases_eq}
+use Rattle.h2_ends.proofs.Names.{Values, active, End, Stream, Spans, EndLog, KeepsOne}
+use Rattle.h2_ends.proofs.Names.{EndRepresents, RepresentsBut, IsInStep, kept_at}
 use Rattle.h2_ends.proofs.EndSteps.{forgotten}
 
 -- Of a stream that isn't active nothing need be kept.

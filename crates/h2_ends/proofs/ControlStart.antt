@@ -1,18 +1,13 @@
 -- A new end represents that nothing has happened.
-use Rattle.std.proofs.Common.{◌≡◌, ℕ, List, [], ◌++◌, None, refl, sym, ap, ◌∙◌, inl, inr}
-use Rattle.std.proofs.lemmas.Bool.{both_ways}
-use Rattle.h2_log.specs.declared.role.Role.{Role}
-use Rattle.h2_log.specs.Acts.{Values}
-use Rattle.h2_log.specs.LogCalls.{opened}
-use Rattle.h2_log.specs.LogSteps.{with_sent}
-use Rattle.h2_conn.specs.Conn.{ConnRepresents}
-use Rattle.h2_pair.specs.Tokens.{Token, tokens_sent, tokens_heard}
-use Rattle.h2_ends.specs.declared.end.End.{End}
-use Rattle.h2_ends.specs.declared.span.Spans.{Spans}
+use Rattle.h2_ends.proofs.Names.{◌≡◌, ℕ, List, [], ◌++◌, None, refl, sym, ap, ◌∙◌, inl, inr}
+use Rattle.h2_ends.proofs.Names.{both_ways, Role, Values, ConnRepresents, Token, End, Spans}
+use Rattle.h2_ends.proofs.Names.{EndRepresents, IsInStep, SendsInOrder, owed_inactive}
+use Rattle.h2_laws_pair.specs.Tokens.{tokens_sent, tokens_heard}
 use Rattle.h2_ends.specs.Ends.{message_for, parts_on, tokens_given, tokens_of_parts}
-use Rattle.h2_ends.specs.Represents.{EndRepresents, IsKept, IsInStep, SendsInOrder, new_end_log}
-use Rattle.h2_end_laws.proofs.OverRoom.{owed_inactive}
-use Rattle.h2_machine_laws.proofs.NewEnd.{new_is_active as none_active}
+use Rattle.h2_ends.specs.Represents.{IsKept, new_end_log}
+use Rattle.h2_spec_log.specs.LogCalls.{opened}
+use Rattle.h2_spec_log.specs.LogSteps.{with_sent}
+use Rattle.h2_laws_machine.proofs.NewEnd.{new_is_active as none_active}
 
 -- The log of a new end has its role, and no call.
 opened_role : (role : Role) (values : Values) → (opened role values).role ≡ role

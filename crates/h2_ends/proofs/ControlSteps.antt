@@ -1,17 +1,12 @@
 -- The connection's own calls, that send no part of a message.
-use Rattle.std.proofs.Common.{◌≡◌, ◌≢◌, ℕ, false, List, [], Result, Ok, Err, refl, sym}
-use Rattle.std.proofs.lemmas.Bool.{ne_eqb}
-use Rattle.h2_log.specs.declared.refusal.Refusal.{Refusal}
-use Rattle.h2_log.specs.Acts.{Values, Act, Answer, ResetStream, SendPing, SendGoAway}
-use Rattle.h2_log.specs.Acts.{ChangeSettings, PutOut, Number, Count, Done, Refused}
-use Rattle.h2_log.specs.LogCalls.{MayAnswer, with_call}
-use Rattle.h2_conn.specs.Conn.{ConnAnswers, answer_by}
-use Rattle.h2_pair.specs.Tokens.{tokens_of_call}
-use Rattle.h2_ends.specs.declared.end.End.{End}
-use Rattle.h2_ends.specs.Ends.{EndLog}
-use Rattle.h2_ends.specs.EndTakes.{end_with_log}
-use Rattle.h2_ends.specs.Represents.{EndAnswers, EndRepresents, RepresentsBut}
-use Rattle.h2_end_laws.specs.Activity.{call_may_close}
+use Rattle.h2_ends.proofs.Names.{◌≡◌, ◌≢◌, ℕ, false, List, [], refl, sym, ne_eqb, Refusal, Values}
+use Rattle.h2_ends.proofs.Names.{Act, Answer, Number, Count, Done, Refused, MayAnswer, with_call}
+use Rattle.h2_ends.proofs.Names.{ConnAnswers, answer_by, tokens_of_call, End, EndLog, end_with_log}
+use Rattle.h2_ends.proofs.Names.{EndRepresents, RepresentsBut}
+use Rattle.h2_laws_end.specs.Activity.{call_may_close}
+use Rattle.std.proofs.Common.{Result, Ok, Err}
+use Rattle.h2_spec_log.specs.Acts.{ResetStream, SendPing, SendGoAway, ChangeSettings, PutOut}
+use Rattle.h2_ends.specs.Represents.{EndAnswers}
 use Rattle.h2_ends.proofs.EndTokens.{no_part_tokens}
 use Rattle.h2_ends.proofs.InSteps.{called_as, called_but}
 

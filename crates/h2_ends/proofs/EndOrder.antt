@@ -1,38 +1,29 @@
 -- What was sent and handed out at an end keeps the order, after each call that sends what waits and
 -- each call of `take`.
-use Rattle.std.proofs.Common.{map as each, ◌≡◌, ◌≢◌, ℕ, ◌==◌, ◌&&◌, Bool, true, false, List, []}
-use Rattle.std.proofs.Common.{◌∷◌, ◌++◌, length, take, drop, Option, Some, None, is_none, inl, inr}
-use Rattle.std.proofs.Common.{refl, sym, ap, ◌∙◌, append_assoc, append-nil}
-use Rattle.std.proofs.Math.Seq.{drop-append_seam}
-use Rattle.std.proofs.lemmas.Bool.{and_parts, cases_eq, eqb-true}
-use Rattle.hpack.specs.declared.types.field.Field.{Field}
-use Rattle.h2_log.specs.declared.refusal.Refusal.{Refusal}
-use Rattle.h2_log.specs.Acts.{Act, Answer, SendFields, SendData, Refuse, Count, Done, Refused}
-use Rattle.h2_log.specs.Events.{Event, FieldsEvent, DataEvent, ResetEvent}
-use Rattle.h2_log.specs.Log.{Log}
-use Rattle.h2_log.specs.LogCalls.{MayAnswer, with_call}
-use Rattle.h2_end_laws.specs.Over.{IsOver, is_number_used}
-use Rattle.h2_end_laws.specs.Takes.{TakeAnswer, MayTake, Took, Failed}
-use Rattle.h2_end_laws.proofs.OverEvents.{fields_in_use, data_in_use}
-use Rattle.h2_end_laws.proofs.TakeAnswers.{log_after_take}
-use Rattle.h2_message.specs.Messages.{SentMessage}
-use Rattle.h2_message.specs.Reading.{Part, FieldsPart, OctetsPart}
-use Rattle.h2_pair.specs.Tokens.{Token, OctetToken, EndToken, end_tokens, tokens_of_call}
-use Rattle.h2_pair.specs.Tokens.{tokens_of_event, tokens_heard, trailers_tokens, IsPrefixOfTokens}
-use Rattle.h2_ends.specs.Ends.{EndLog, Passed, EndAnswer, parts_on, reads_on, handed_as}
-use Rattle.h2_ends.specs.Ends.{part_of_event, tokens_of_part, tokens_handed, tokens_out}
-use Rattle.h2_ends.specs.Ends.{message_for, tokens_given, tokens_waiting}
-use Rattle.h2_ends.specs.EndTakes.{EndMayTake, IsReadableWith, end_with_log}
-use Rattle.h2_ends.specs.EndTakes.{end_with_handed, fails, hands_nothing, passes, hands_out}
-use Rattle.h2_ends.specs.EndTakes.{refuses, refusal_fails, runs_out_of_memory}
-use Rattle.h2_ends.specs.EndCalls.{BodyWaits, TrailersWait, end_with_message}
-use Rattle.h2_ends.specs.Pumping.{end_after_call}
-use Rattle.h2_ends.specs.Represents.{SendsInOrder, HandsInOrder}
+use Rattle.h2_ends.proofs.Names.{◌≡◌, ◌≢◌, ℕ, ◌==◌, ◌&&◌, Bool, true, false, List, [], ◌∷◌, ◌++◌}
+use Rattle.h2_ends.proofs.Names.{length, take, drop, Option, Some, None, inl, inr, refl, sym, ap}
+use Rattle.h2_ends.proofs.Names.{◌∙◌, append_assoc, append-nil, drop-append_seam, and_parts}
+use Rattle.h2_ends.proofs.Names.{cases_eq, eqb-true, Field, Refusal, Act, Answer, SendFields}
+use Rattle.h2_ends.proofs.Names.{SendData, Refuse, Count, Done, Refused, Event, FieldsEvent}
+use Rattle.h2_ends.proofs.Names.{DataEvent, ResetEvent, Log, MayAnswer, with_call, IsOver}
+use Rattle.h2_ends.proofs.Names.{is_number_used, TakeAnswer, MayTake, Took, Failed, fields_in_use}
+use Rattle.h2_ends.proofs.Names.{data_in_use, log_after_take, SentMessage, Part, FieldsPart}
+use Rattle.h2_ends.proofs.Names.{OctetsPart, Token, OctetToken, EndToken, tokens_of_call}
+use Rattle.h2_ends.proofs.Names.{tokens_of_event, tokens_heard, trailers_tokens, IsPrefixOfTokens}
+use Rattle.h2_ends.proofs.Names.{EndLog, Passed, EndAnswer, parts_on, reads_on, handed_as}
+use Rattle.h2_ends.proofs.Names.{tokens_of_part, tokens_handed, tokens_out, message_for}
+use Rattle.h2_ends.proofs.Names.{tokens_waiting, EndMayTake, IsReadableWith, end_with_log}
+use Rattle.h2_ends.proofs.Names.{end_with_handed, hands_nothing, passes, hands_out, refusal_fails}
+use Rattle.h2_ends.proofs.Names.{BodyWaits, TrailersWait, end_with_message, end_after_call}
+use Rattle.h2_ends.proofs.Names.{SendsInOrder, HandsInOrder}
+use Rattle.h2_laws_pair.specs.Tokens.{end_tokens}
+use Rattle.h2_ends.specs.Ends.{part_of_event, tokens_given}
+use Rattle.std.proofs.Common.{map as each, is_none}
+use Rattle.h2_ends.specs.EndTakes.{fails, refuses, runs_out_of_memory}
 use Rattle.h2_ends.proofs.EndParts.{handed_elsewhere, readable_here, same_part, no_tokens}
 use Rattle.h2_ends.proofs.EndParts.{part_tokens, other_tokens}
 use Rattle.h2_ends.proofs.EndSteps.{passed_none, same_sent, same_taken, sent_handed}
-use Rattle.h2_ends.proofs.EndTokens.{SendsNoPart, refused_tokens, no_part_tokens}
-use Rattle.h2_ends.proofs.EndTokens.{call_adds_none}
+use Rattle.h2_ends.proofs.EndTokens.{SendsNoPart, refused_tokens, no_part_tokens, call_adds_none}
 use Rattle.h2_ends.proofs.InSteps.{tokens_reported, handed_called, handed_taken, handed_no_part}
 use Rattle.h2_ends.proofs.PumpStuck.{out_after, data_none, fields_none}
 use Rattle.h2_ends.proofs.PumpTokens.{begun_more, data_tokens, fields_tokens, octets_split}

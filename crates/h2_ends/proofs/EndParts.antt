@@ -1,29 +1,19 @@
 -- A part of a message is handed out as that part, and its tokens are those that were reported.
-use Rattle.std.proofs.Common.{◌≡◌, ◌≢◌, ℕ, ◌==◌, Bool, true, false, if◌then◌else◌}
-use Rattle.std.proofs.Common.{List, [], ◌∷◌, ◌++◌, Option, None, Some, refl, sym, ap, ◌∙◌}
-use Rattle.std.proofs.Common.{append-nil, append_assoc}
-use Rattle.std.proofs.lemmas.Bool.{eq-eqb, ne_eqb}
+use Rattle.h2_ends.proofs.Names.{◌≡◌, ◌≢◌, ℕ, ◌==◌, Bool, true, false, if◌then◌else◌, List, [], ◌∷◌}
+use Rattle.h2_ends.proofs.Names.{◌++◌, Option, None, Some, refl, sym, ap, ◌∙◌, append-nil}
+use Rattle.h2_ends.proofs.Names.{append_assoc, eq-eqb, ne_eqb, Field, Event, FieldsEvent, DataEvent}
+use Rattle.h2_ends.proofs.Names.{Reads, Requests, Responses, Phase, AtHead, InBody, AtEnd, Place}
+use Rattle.h2_ends.proofs.Names.{Reading, first_broken, interim_rules, Part, FieldsPart, OctetsPart}
+use Rattle.h2_ends.proofs.Names.{IsReadable, Follows, phase_after_final, place_after, BodyHanded}
+use Rattle.h2_ends.proofs.Names.{Token, after_both, after_none}
+use Rattle.h2_message.specs.Phases.{phase_after, phase_after_all, phase_after_head, place_at_head}
+use Rattle.h2_message.specs.Phases.{place_in, asks_head_first}
+use Rattle.h2_ends.specs.Ends.{part_on, handed_at, handed_as, part_of_event, tokens_of_part}
+use Rattle.h2_ends.specs.Ends.{tokens_of_parts, InterimHanded, HeadHanded, TrailersHanded}
+use Rattle.h2_laws_pair.specs.Tokens.{tokens_of_event}
 use Rattle.std.specs.Prelude.{is_some}
-use Rattle.hpack.specs.declared.types.field.Field.{Field}
-use Rattle.h2_log.specs.Events.{Event, FieldsEvent, DataEvent}
-use Rattle.h2_message.specs.declared.reading.Reads.{Reads}
-use Rattle.h2_message.specs.declared.reading.Reads.TheVariants.{Requests, Responses}
-use Rattle.h2_message.specs.declared.reading.Phase.{Phase}
-use Rattle.h2_message.specs.declared.reading.Phase.TheVariants.{AtHead, InBody, AtEnd}
-use Rattle.h2_message.specs.declared.reading.Place.{Place}
-use Rattle.h2_message.specs.declared.reading.Place.TheVariants as places
-use Rattle.h2_message.specs.declared.reading.Reading.{Reading}
-use Rattle.h2_message.specs.Messages.{first_broken, interim_rules}
-use Rattle.h2_message.specs.Reading.{Part, FieldsPart, OctetsPart, IsReadable}
-use Rattle.h2_message.specs.Phases.{Follows, phase_after, phase_after_all}
-use Rattle.h2_message.specs.Phases.{phase_after_head, phase_after_final, place_at_head, place_in}
-use Rattle.h2_message.specs.Phases.{place_after, asks_head_first}
-use Rattle.h2_ends.specs.Ends.{InterimHanded, HeadHanded, BodyHanded, TrailersHanded}
-use Rattle.h2_ends.specs.Ends.{part_on, handed_at, handed_as, part_of_event}
-use Rattle.h2_ends.specs.Ends.{tokens_of_part, tokens_of_parts}
-use Rattle.h2_pair.specs.Tokens.{Token, tokens_of_event}
-use Rattle.h2_message.proofs.PhaseSteps.{after_both, after_none}
 use Rattle.h2_message.proofs.PhaseWhole.{not_readable}
+use Rattle.h2_message.specs.declared.reading.Place.TheVariants as places
 
 -- After no part the phase is the same.
 after_no_part : (reads : Reads) (phase : Option Phase) → phase_after_all reads phase [] ≡ phase

@@ -1,36 +1,20 @@
 -- What a step leaves of what an end represents: each stream but the one that it is of.
-use Rattle.std.proofs.Common.{◌≡◌, ◌≢◌, ◌⊎◌, ℕ, Bool, true, false, List, [], ◌∷◌, ◌++◌}
-use Rattle.std.proofs.Common.{Option, Some, None, refl, sym, ap, ◌∙◌, inl, inr, append-nil}
-use Rattle.std.proofs.lemmas.Bool.{cases_eq}
-use Rattle.h2_log.specs.Acts.{Values, Act, Answer}
-use Rattle.h2_log.specs.Events.{Event}
-use Rattle.h2_log.specs.Log.{Log, active}
-use Rattle.h2_log.specs.LogCalls.{MayAnswer, with_call}
-use Rattle.h2_end_laws.specs.Takes.{TakeAnswer, MayTake}
-use Rattle.h2_end_laws.specs.Over.{IsOver, is_number_used}
-use Rattle.h2_conn.specs.Conn.{ConnRepresents}
-use Rattle.h2_message.specs.declared.reading.Reads.{Reads}
-use Rattle.h2_message.specs.declared.reading.Reading.{Reading}
-use Rattle.h2_message.specs.Messages.{SentMessage}
-use Rattle.h2_message.specs.Reading.{Part}
-use Rattle.h2_message.specs.Phases.{Follows}
-use Rattle.h2_pair.specs.Tokens.{tokens_of_call, tokens_sent}
-use Rattle.h2_ends.specs.declared.end.End.{End}
-use Rattle.h2_ends.specs.declared.outgoing.Outgoing.{Outgoing}
-use Rattle.h2_ends.specs.declared.outgoing.Outgoing.TheVariants as outgoings
-use Rattle.h2_ends.specs.declared.outgoing.Stream.{Stream}
-use Rattle.h2_ends.specs.Ends.{EndLog, Passed, message_for, parts_on, part_on, reads_on, handed_as}
-use Rattle.h2_ends.specs.Ends.{Handed, tokens_out}
-use Rattle.h2_ends.specs.EndTakes.{end_with_log, end_with_handed}
-use Rattle.h2_ends.specs.Represents.{RepresentsMessages, IsKept, SendsInOrder, kept_at}
-use Rattle.h2_ends.specs.Represents.{IsOutgoing, outgoing_in}
-use Rattle.h2_ends.specs.Heads.{KeepsOne}
-use Rattle.h2_end_laws.proofs.OverCalls.{over_by_call, used_by_call}
-use Rattle.h2_end_laws.proofs.OverReads.{over_by_take, used_by_take}
-use Rattle.h2_log_laws.proofs.LogGrowth.{grows_call}
+use Rattle.h2_ends.proofs.Names.{◌≡◌, ◌≢◌, ◌⊎◌, ℕ, Bool, true, false, List, [], ◌∷◌, ◌++◌, Option}
+use Rattle.h2_ends.proofs.Names.{Some, None, refl, sym, ap, ◌∙◌, inl, inr, append-nil, cases_eq}
+use Rattle.h2_ends.proofs.Names.{Values, Act, Answer, Event, Log, active, MayAnswer, with_call}
+use Rattle.h2_ends.proofs.Names.{TakeAnswer, MayTake, IsOver, is_number_used, ConnRepresents, Reads}
+use Rattle.h2_ends.proofs.Names.{Reading, SentMessage, Part, Follows, tokens_of_call, tokens_sent}
+use Rattle.h2_ends.proofs.Names.{End, Outgoing, Stream, EndLog, Passed, message_for, handed_as}
+use Rattle.h2_ends.proofs.Names.{Handed, tokens_out, end_with_log, end_with_handed}
+use Rattle.h2_ends.proofs.Names.{RepresentsMessages, SendsInOrder, kept_at, outgoing_in, KeepsOne}
+use Rattle.h2_ends.proofs.Names.{over_by_call, used_by_call, over_by_take, grows_call}
+use Rattle.h2_ends.specs.Ends.{parts_on, part_on, reads_on}
+use Rattle.h2_ends.specs.Represents.{IsKept, IsOutgoing}
+use Rattle.h2_laws_end.proofs.OverReads.{used_by_take}
 use Rattle.h2_ends.proofs.EndTokens.{call_adds_none, take_calls}
-use Rattle.h2_pair.proofs.StepUnprocessed.{role_by_take as take_role}
+use Rattle.h2_laws_pair.proofs.StepUnprocessed.{role_by_take as take_role}
 use Rattle.h2_ends.proofs.EndParts.{handed_elsewhere, handed_here}
+use Rattle.h2_ends.specs.declared.outgoing.Outgoing.TheVariants as outgoings
 
 -- what an end keeps of a stream
 abbrev pub kept : End → ℕ → Option Stream

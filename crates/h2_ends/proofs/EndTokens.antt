@@ -1,21 +1,15 @@
 -- What a call and what taking octets leave of what was sent on a stream, and of the role.
-use Rattle.std.proofs.Common.{◌≡◌, ℕ, List, [], ◌++◌, refl, ap, ◌∙◌, append-nil}
-use Rattle.h2_block.specs.Grouping.{Item}
-use Rattle.h2_log.specs.declared.role.Role.{Role}
-use Rattle.h2_log.specs.declared.refusal.Refusal.{Refusal}
-use Rattle.h2_log.specs.Acts.{Act, Answer, Open, SendFields, SendData, Refused}
-use Rattle.h2_log.specs.Events.{Event}
-use Rattle.h2_log.specs.Log.{Log}
-use Rattle.h2_log.specs.LogCalls.{with_call}
-use Rattle.h2_log.specs.Verdicts.{Verdict, ConnectionFault, StreamFault, NoEvent, Reported}
-use Rattle.h2_end_laws.specs.Takes.{TakeAnswer, MayTake, has_failed, reports_unprocessed}
-use Rattle.h2_end_laws.specs.Takes.{ends_no_frame, ends_frame, meets_fault, runs_out_of_memory}
-use Rattle.h2_end_laws.proofs.OverSteps.{HoldsRead}
-use Rattle.h2_machine_laws.specs.Machines as steps
-use Rattle.h2_machine_laws.specs.Machines.{log_after}
-use Rattle.h2_pair.specs.Tokens.{Token, tokens_of_call, tokens_sent}
-use Rattle.h2_pair.proofs.HeardCalls.{step_calls}
-use Rattle.h2_log_laws.proofs.PartsStay.{call_calls}
+use Rattle.h2_ends.proofs.Names.{◌≡◌, ℕ, List, [], ◌++◌, refl, ap, ◌∙◌, append-nil, Item, Role}
+use Rattle.h2_ends.proofs.Names.{Refusal, Act, Answer, Open, SendFields, SendData, Refused, Event}
+use Rattle.h2_ends.proofs.Names.{Log, with_call, Verdict, ConnectionFault, StreamFault, NoEvent}
+use Rattle.h2_ends.proofs.Names.{Reported, TakeAnswer, MayTake, reports_unprocessed, ends_no_frame}
+use Rattle.h2_ends.proofs.Names.{ends_frame, meets_fault, Token, call_calls}
+use Rattle.h2_laws_pair.specs.Tokens.{tokens_of_call, tokens_sent}
+use Rattle.h2_laws_end.specs.Takes.{has_failed, runs_out_of_memory}
+use Rattle.h2_laws_end.proofs.OverSteps.{HoldsRead}
+use Rattle.h2_laws_machine.specs.Machines.{log_after}
+use Rattle.h2_laws_pair.proofs.HeardCalls.{step_calls}
+use Rattle.h2_laws_machine.specs.Machines as steps
 
 -- After a call its tokens follow those that were sent before.
 pub call_tokens : (i : ℕ) (log : Log) (act : Act) (answer : Answer)

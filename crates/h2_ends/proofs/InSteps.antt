@@ -1,37 +1,22 @@
 -- What a step leaves of what keeps step with what has happened, stream by stream.
-use Rattle.std.proofs.Common.{◌≡◌, ◌≢◌, ℕ, false, List, [], ◌∷◌, ◌++◌, Option, Some, None, refl}
-use Rattle.std.proofs.Common.{sym, ap, ◌∙◌, inl, inr, append-nil}
-use Rattle.std.proofs.lemmas.Bool.{both_ways, cases_Bool}
+use Rattle.h2_ends.proofs.Names.{◌≡◌, ◌≢◌, ℕ, false, List, [], ◌∷◌, ◌++◌, Option, Some, None, refl}
+use Rattle.h2_ends.proofs.Names.{sym, ap, ◌∙◌, inl, inr, append-nil, both_ways, cases_Bool, Role}
+use Rattle.h2_ends.proofs.Names.{Values, Act, Answer, Number, Log, active, MayAnswer, with_call}
+use Rattle.h2_ends.proofs.Names.{IsLog, grows_call, TakeAnswer, MayTake, Took, Failed}
+use Rattle.h2_ends.proofs.Names.{reports_unprocessed, ends_no_frame, ends_frame, meets_fault}
+use Rattle.h2_ends.proofs.Names.{over_by_call, over_by_take, log_after_take, ConnRepresents}
+use Rattle.h2_ends.proofs.Names.{SentMessage, Token, tokens_of_event, tokens_of_call, call_calls}
+use Rattle.h2_ends.proofs.Names.{End, Stream, Span, Spans, EndLog, Handed, part_on, tokens_of_parts}
+use Rattle.h2_ends.proofs.Names.{tokens_handed, end_with_log, end_with_handed, EndRepresents}
+use Rattle.h2_ends.proofs.Names.{RepresentsBut, IsInStep, KeepsActive, kept_at, HandsInOrder}
+use Rattle.h2_ends.proofs.Names.{OwesWithin, WasRefused, outgoing_in, call_may_close}
+use Rattle.h2_ends.proofs.Names.{take_may_close, take_has_data, take_has_fields, active_by_call}
+use Rattle.h2_laws_pair.specs.Tokens.{tokens_heard}
 use Rattle.std.proofs.lemmas.List.Elements.{Contains-append_right}
-use Rattle.h2_log.specs.declared.role.Role.{Role}
-use Rattle.h2_log.specs.Acts.{Values, Act, Answer, Number}
-use Rattle.h2_log.specs.Log.{Log, active}
-use Rattle.h2_log.specs.LogCalls.{MayAnswer, with_call}
-use Rattle.h2_log.specs.Histories.{IsLog}
-use Rattle.h2_log_laws.proofs.LogGrowth.{grows_call}
-use Rattle.h2_end_laws.specs.Takes.{TakeAnswer, MayTake, AfterTake, Took, Failed, has_failed}
-use Rattle.h2_end_laws.specs.Takes.{reports_unprocessed, ends_no_frame, ends_frame, meets_fault}
-use Rattle.h2_end_laws.specs.Takes.{runs_out_of_memory}
-use Rattle.h2_end_laws.proofs.OverCalls.{over_by_call}
-use Rattle.h2_end_laws.proofs.OverReads.{over_by_take}
-use Rattle.h2_end_laws.proofs.TakeAnswers.{log_after_take}
-use Rattle.h2_conn.specs.Conn.{ConnRepresents}
-use Rattle.h2_message.specs.Messages.{SentMessage}
-use Rattle.h2_pair.specs.Tokens.{Token, tokens_of_event, tokens_of_call, tokens_heard}
-use Rattle.h2_log_laws.proofs.PartsStay.{call_calls}
-use Rattle.h2_ends.specs.declared.end.End.{End}
-use Rattle.h2_ends.specs.declared.outgoing.Stream.{Stream}
-use Rattle.h2_ends.specs.declared.span.Span.{Span}
-use Rattle.h2_ends.specs.declared.span.Spans.{Spans}
-use Rattle.h2_ends.specs.Ends.{EndLog, Handed, part_on, tokens_of_parts, tokens_handed}
-use Rattle.h2_ends.specs.EndTakes.{end_with_log, end_with_handed}
-use Rattle.h2_ends.specs.Represents.{EndRepresents, RepresentsBut, IsInStep, KeepsActive, kept_at}
-use Rattle.h2_ends.specs.Represents.{HandsInOrder, OwesWithin, WasRefused, outgoing_in}
-use Rattle.h2_end_laws.specs.Activity.{call_may_close, take_may_close, take_has_data}
-use Rattle.h2_end_laws.specs.Activity.{take_has_fields}
-use Rattle.h2_end_laws.proofs.ActivityCalls.{active_by_call, inactive_by_call}
-use Rattle.h2_end_laws.proofs.ActivityTakes.{active_by_take, inactive_by_take}
-use Rattle.h2_end_laws.proofs.ActivityOwed.{none_owed_by_call, none_owed_by_take}
+use Rattle.h2_laws_end.specs.Takes.{AfterTake, has_failed, runs_out_of_memory}
+use Rattle.h2_laws_end.proofs.ActivityCalls.{inactive_by_call}
+use Rattle.h2_laws_end.proofs.ActivityTakes.{active_by_take, inactive_by_take}
+use Rattle.h2_laws_end.proofs.ActivityOwed.{none_owed_by_call, none_owed_by_take}
 use Rattle.h2_ends.proofs.EndTokens.{take_calls}
 use Rattle.h2_ends.proofs.EndSteps.{called_end, quiet_call, same_handed}
 

@@ -44,3 +44,4 @@ pub mod ReadableParts
 pub mod MessageTokensPlaced
 pub mod MessageTokensSaid
 pub mod EndOrder
+pub mod Names

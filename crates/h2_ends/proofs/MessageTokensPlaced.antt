@@ -1,26 +1,22 @@
 -- What is handed out on a stream, part by part, is what its place says: interim heads, the head and
 -- trailers.
-use Rattle.std.proofs.Common.{map as each, ◌≡◌, ◌≢◌, ℕ, ◌==◌, ◌-◌, Bool, true, false, List, []}
-use Rattle.std.proofs.Common.{if◌then◌else◌, ◌∷◌, ◌++◌, length, Option, None, Some, refl, sym, ap}
-use Rattle.std.proofs.Common.{◌∙◌, append-nil, append_assoc}
+use Rattle.h2_ends.proofs.Names.{◌≡◌, ◌≢◌, ℕ, ◌==◌, ◌-◌, Bool, true, false, List, [], if◌then◌else◌}
+use Rattle.h2_ends.proofs.Names.{◌∷◌, ◌++◌, length, Option, None, Some, refl, sym, ap, ◌∙◌}
+use Rattle.h2_ends.proofs.Names.{append-nil, append_assoc, eq-eqb, ne_eqb, Field, Reads, Requests}
+use Rattle.h2_ends.proofs.Names.{Responses, Phase, AtHead, InBody, AtEnd, Place, first_broken}
+use Rattle.h2_ends.proofs.Names.{interim_rules, Part, FieldsPart, OctetsPart, final_rules}
+use Rattle.h2_ends.proofs.Names.{place_after, after_none, after_both, BodyHanded, MessageToken}
+use Rattle.h2_ends.proofs.Names.{ListToken, BodyToken}
+use Rattle.h2_message.specs.Phases.{phase_after_final, phase_after_head, phase_after}
+use Rattle.h2_message.specs.Phases.{phase_after_all, place_at_head, place_in, is_short}
+use Rattle.h2_message.specs.Phases.{phase_in_body, phase_after_data}
+use Rattle.h2_ends.specs.Ends.{part_on, handed_at, handed_as}
+use Rattle.h2_ends.specs.MessageTokens.{last_tokens, parts_heard_in}
+use Rattle.std.proofs.Common.{map as each}
 use Rattle.std.specs.Prelude.{nat_lt, is_some, not, ◌||◌}
-use Rattle.std.proofs.lemmas.Bool.{eq-eqb, ne_eqb}
-use Rattle.hpack.specs.declared.types.field.Field.{Field}
-use Rattle.h2_message.specs.declared.reading.Reads.{Reads}
-use Rattle.h2_message.specs.declared.reading.Reads.TheVariants.{Requests, Responses}
-use Rattle.h2_message.specs.declared.reading.Phase.{Phase}
-use Rattle.h2_message.specs.declared.reading.Phase.TheVariants.{AtHead, InBody, AtEnd}
-use Rattle.h2_message.specs.declared.reading.Place.{Place}
+use Rattle.h2_message.specs.Messages.{trailer_rules}
+use Rattle.h2_message.specs.Reading.{compared_length}
 use Rattle.h2_message.specs.declared.reading.Place.TheVariants as places
-use Rattle.h2_message.specs.Messages.{first_broken, interim_rules, trailer_rules}
-use Rattle.h2_message.specs.Reading.{Part, FieldsPart, OctetsPart, final_rules, compared_length}
-use Rattle.h2_message.specs.Phases.{is_short, phase_in_body, phase_after_final, phase_after_head}
-use Rattle.h2_message.specs.Phases.{phase_after_data, phase_after, phase_after_all, place_at_head}
-use Rattle.h2_message.specs.Phases.{place_in, place_after}
-use Rattle.h2_message.proofs.PhaseSteps.{after_none, after_both}
-use Rattle.h2_ends.specs.Ends.{BodyHanded, part_on, handed_at, handed_as}
-use Rattle.h2_ends.specs.MessageTokens.{MessageToken, ListToken, BodyToken, last_tokens}
-use Rattle.h2_ends.specs.MessageTokens.{parts_heard_in}
 
 -- what a list of fields is, by whether a final head has come before it, and by whether requests are
 -- read

@@ -1,22 +1,20 @@
 -- Where the tokens that have come are a prefix of a message's, so are its parts: what each part is
 -- follows from the tokens, since the first list is the head and a later one the trailers.
-use Rattle.std.proofs.Common.{map as each, ◌≡◌, ℕ, Bool, true, false, List, [], ◌∷◌, ◌++◌, Option}
-use Rattle.std.proofs.Common.{None, Some, refl, sym, ap, ◌∙◌, subst}
-use Rattle.std.proofs.lemmas.List.{map-append}
-use Rattle.hpack.specs.declared.types.field.Field.{Field}
-use Rattle.h2_message.specs.declared.reading.Place.TheVariants as places
-use Rattle.h2_message.specs.Messages.{SentMessage, first_broken, interim_rules, broken_by_response}
-use Rattle.h2_message.specs.Reading.{Part, FieldsPart, OctetsPart, final_rules}
-use Rattle.h2_message.proofs.LawSent.{sent_response}
+use Rattle.h2_ends.proofs.Names.{◌≡◌, ℕ, Bool, true, false, List, [], ◌∷◌, ◌++◌, Option, None, Some}
+use Rattle.h2_ends.proofs.Names.{refl, sym, ap, ◌∙◌, subst, map-append, Field, SentMessage}
+use Rattle.h2_ends.proofs.Names.{first_broken, interim_rules, broken_by_response, Part, FieldsPart}
+use Rattle.h2_ends.proofs.Names.{OctetsPart, sent_response, Token, FieldsToken, OctetToken}
+use Rattle.h2_ends.proofs.Names.{EndToken, IsPrefixOfTokens, MessageToken, ListToken, BodyToken}
+use Rattle.h2_message.specs.Reading.{final_rules}
+use Rattle.h2_laws_pair.specs.Tokens.{end_tokens, trailers_tokens, message_tokens}
+use Rattle.h2_ends.specs.Ends.{tokens_of_part, tokens_of_parts, tokens_given}
+use Rattle.h2_ends.specs.MessageTokens.{last_tokens, LastToken, trailers_listed, parts_of_message}
+use Rattle.h2_ends.specs.MessageTokens.{parts_said, IsPrefixOfParts}
+use Rattle.std.proofs.Common.{map as each}
 use Rattle.h2_message.proofs.ReadingRules.{some_not_none, not_both}
 use Rattle.h2_message.proofs.ReadingWhole.{one_sum}
-use Rattle.h2_pair.specs.Tokens.{Token, FieldsToken, OctetToken, EndToken, end_tokens}
-use Rattle.h2_pair.specs.Tokens.{trailers_tokens, message_tokens, IsPrefixOfTokens}
-use Rattle.h2_ends.specs.Ends.{tokens_of_part, tokens_of_parts, tokens_given}
-use Rattle.h2_ends.specs.MessageTokens.{MessageToken, ListToken, BodyToken, LastToken, last_tokens}
-use Rattle.h2_ends.specs.MessageTokens.{trailers_listed, parts_of_message, parts_said}
-use Rattle.h2_ends.specs.MessageTokens.{IsPrefixOfParts}
 use Rattle.h2_ends.proofs.MessageTokensPlaced.{place_where, parts_placed}
+use Rattle.h2_message.specs.declared.reading.Place.TheVariants as places
 
 -- what a token is after a final head
 abbrev pub token_in_body : Token → MessageToken

@@ -1,32 +1,21 @@
 -- A pump, from its start to its end: what holds as it comes to a stream and passes it.
-use Rattle.std.proofs.Common.{◌≡◌, ◌≢◌, ◌⊎◌, inl, inr, ℕ, ◌+◌, ◌-◌, ◌<◌, ◌≤◌, true, false, Option}
-use Rattle.std.proofs.Common.{Some, None, Ok, Err, refl, sym, ap, ◌∙◌, subst, arith}
-use Rattle.std.proofs.lemmas.Bool.{both_ways, cases_eq}
-use Rattle.h2_log.specs.declared.role.Role.{Role}
-use Rattle.h2_log.specs.declared.refusal.Refusal.TheVariants.{OutputFull, Memory, Closed}
-use Rattle.h2_log.specs.Acts.{Values}
-use Rattle.h2_log.specs.Limits.{full_output}
-use Rattle.h2_log.specs.Log.{Log, active, waiting}
-use Rattle.h2_machine_laws.proofs.BoundedLogs.{few_wait}
-use Rattle.h2_end_laws.specs.Over.{IsOver}
-use Rattle.h2_conn.specs.declared.conn.Conn.{Conn}
-use Rattle.h2_ends.specs.declared.end.End.{End}
-use Rattle.h2_ends.specs.declared.outgoing.Outgoing.TheVariants as outgoings
-use Rattle.h2_ends.specs.declared.outgoing.Stream.{Stream}
-use Rattle.h2_ends.specs.declared.outgoing.Waiting.{Waiting}
-use Rattle.h2_ends.specs.declared.refusal.EndRefusal.TheVariants as refusals
-use Rattle.h2_ends.specs.declared.span.Span.{Span}
-use Rattle.h2_ends.specs.declared.span.Spans.{Spans}
-use Rattle.h2_ends.specs.Ends.{EndLog}
-use Rattle.h2_ends.specs.EndCalls.{IsStuckOn, Pumps, MayPump}
-use Rattle.h2_ends.specs.Represents.{EndRepresents, IsKept, IsInStep, InSpan, WaitsWithin}
-use Rattle.h2_ends.specs.Represents.{KeepsActive}
-use Rattle.h2_ends.specs.Represents.{outgoing_in}
-use Rattle.h2_ends.specs.Pumping.{IsPumping, KeepsActiveOnly, sends_nothing, IsStuckBelow}
-use Rattle.h2_ends.specs.Sends.{PumpGoes, NoneWaits, WaitsAsBefore, keeps_of}
+use Rattle.h2_ends.proofs.Names.{◌≡◌, ◌≢◌, ◌⊎◌, inl, inr, ℕ, ◌+◌, ◌-◌, ◌<◌, ◌≤◌, true, false}
+use Rattle.h2_ends.proofs.Names.{Option, Some, None, refl, sym, ap, ◌∙◌, subst, arith, both_ways}
+use Rattle.h2_ends.proofs.Names.{cases_eq, Role, OutputFull, Memory, Closed, Values, full_output}
+use Rattle.h2_ends.proofs.Names.{Log, active, waiting, IsOver, Conn, End, Stream, Waiting, Span}
+use Rattle.h2_ends.proofs.Names.{Spans, EndLog, IsStuckOn, Pumps, EndRepresents, IsKept, IsInStep}
+use Rattle.h2_ends.proofs.Names.{InSpan, WaitsWithin, KeepsActive, outgoing_in, IsPumping}
+use Rattle.h2_ends.proofs.Names.{KeepsActiveOnly, sends_nothing, PumpGoes, NoneWaits, WaitsAsBefore}
+use Rattle.h2_ends.proofs.Names.{keeps_of}
+use Rattle.h2_ends.specs.EndCalls.{MayPump}
+use Rattle.std.proofs.Common.{Ok, Err}
+use Rattle.h2_laws_machine.proofs.BoundedLogs.{few_wait}
+use Rattle.h2_ends.specs.Pumping.{IsStuckBelow}
 use Rattle.h2_ends.proofs.PumpEnds.{by_end, to_end, stuck_unless_waiting}
 use Rattle.h2_ends.proofs.PumpSteps.{IsNext, pumps_all, zero_inactive, up_to_or}
 use Rattle.h2_ends.proofs.PumpStuck.{stuck_inactive}
+use Rattle.h2_ends.specs.declared.outgoing.Outgoing.TheVariants as outgoings
+use Rattle.h2_ends.specs.declared.refusal.EndRefusal.TheVariants as refusals
 
 -- So few octets were sent that their count fits a number of 64 bits.
 pub pump_is_short : (values : Values) (start : EndLog) (count : ℕ) (conn : Conn) (role : Role)

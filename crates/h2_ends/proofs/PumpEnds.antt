@@ -1,33 +1,21 @@
 -- An end in the middle of a pump: its connection and one of its streams are ahead of the rest.
-use Rattle.std.proofs.Common.{◌≡◌, ◌≢◌, ◌⊎◌, inl, inr, ℕ, ◌==◌, Bool, true, false, [], Option, Some}
-use Rattle.std.proofs.Common.{if◌then◌else◌, refl, sym, ap, ◌∙◌, subst, append-nil}
-use Rattle.std.proofs.lemmas.Bool.{both_ways, eq-eqb, eqb-true, ne_eqb, cases_eq}
-use Rattle.h2_log.specs.declared.role.Role.{Role}
-use Rattle.h2_log.specs.Acts.{Values, Act, Answer}
-use Rattle.h2_log.specs.Log.{active}
-use Rattle.h2_log.specs.LogCalls.{MayAnswer, with_call}
-use Rattle.h2_log_laws.proofs.LogGrowth.{grows_call}
-use Rattle.h2_end_laws.specs.Over.{IsOver}
-use Rattle.h2_end_laws.proofs.OverCalls.{used_by_call, over_by_call}
-use Rattle.h2_conn.specs.declared.conn.Conn.{Conn}
-use Rattle.h2_conn.specs.Conn.{ConnRepresents}
-use Rattle.h2_message.specs.declared.reading.Reads.{Reads}
-use Rattle.h2_message.specs.Messages.{SentMessage}
-use Rattle.h2_message.specs.Phases.{Follows}
-use Rattle.h2_pair.specs.Tokens.{tokens_of_call, message_tokens}
-use Rattle.h2_ends.specs.declared.end.End.{End}
-use Rattle.h2_ends.specs.declared.outgoing.Outgoing.{Outgoing}
-use Rattle.h2_ends.specs.declared.outgoing.Outgoing.TheVariants as outgoings
-use Rattle.h2_ends.specs.declared.outgoing.Stream.{Stream}
-use Rattle.h2_ends.specs.declared.outgoing.Waiting.{Waiting}
-use Rattle.h2_ends.specs.Ends.{EndLog, parts_on, reads_on, tokens_given, tokens_out}
-use Rattle.h2_ends.specs.EndCalls.{IsStuckOn}
-use Rattle.h2_ends.specs.Represents.{RepresentsMessages, IsKept, IsStream, IsOutgoing, SendsInOrder}
-use Rattle.h2_ends.specs.Represents.{tokens_kept, outgoing_in}
-use Rattle.h2_ends.specs.Pumping.{end_after_call, with_outgoing, keeps_with, RepresentsBy}
+use Rattle.h2_ends.proofs.Names.{◌≡◌, ◌≢◌, ◌⊎◌, inl, inr, ℕ, ◌==◌, Bool, true, false, [], Option}
+use Rattle.h2_ends.proofs.Names.{Some, if◌then◌else◌, refl, sym, ap, ◌∙◌, subst, append-nil}
+use Rattle.h2_ends.proofs.Names.{both_ways, eq-eqb, eqb-true, ne_eqb, cases_eq, Role, Values, Act}
+use Rattle.h2_ends.proofs.Names.{Answer, active, MayAnswer, with_call, grows_call, IsOver}
+use Rattle.h2_ends.proofs.Names.{used_by_call, over_by_call, Conn, ConnRepresents, Reads}
+use Rattle.h2_ends.proofs.Names.{SentMessage, Follows, tokens_of_call, End, Outgoing, Stream}
+use Rattle.h2_ends.proofs.Names.{Waiting, EndLog, parts_on, tokens_out, IsStuckOn}
+use Rattle.h2_ends.proofs.Names.{RepresentsMessages, IsStream, SendsInOrder, tokens_kept}
+use Rattle.h2_ends.proofs.Names.{outgoing_in, end_after_call, with_outgoing, keeps_with}
+use Rattle.h2_laws_pair.specs.Tokens.{message_tokens}
+use Rattle.h2_ends.specs.Ends.{reads_on, tokens_given}
+use Rattle.h2_ends.specs.Represents.{IsKept, IsOutgoing}
+use Rattle.h2_ends.specs.Pumping.{RepresentsBy}
 use Rattle.h2_ends.proofs.EndSteps.{kept, IsSame, same_kept, same_sent, outgoing_kept}
 use Rattle.h2_ends.proofs.PumpStuck.{out_same, stuck_inactive}
 use Rattle.h2_ends.proofs.PumpTokens.{stuck_sent, stuck_unsaid}
+use Rattle.h2_ends.specs.declared.outgoing.Outgoing.TheVariants as outgoings
 
 -- An end does so,
 pub by_end : (values : Values) (end : End) (happened : EndLog)

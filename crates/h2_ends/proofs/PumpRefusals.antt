@@ -1,25 +1,18 @@
 -- Why calls of a pump and of a release may be refused: the output is full, or memory was refused.
-use Rattle.std.proofs.Common.{◌≡◌, ◌≢◌, inl, inr, ℕ, ◌==◌, nat_lt, ◌||◌, Bool, true, false}
-use Rattle.std.proofs.Common.{if◌then◌else◌, List, [], ◌∷◌, Some, None, is_some, refl, sym, ap, ◌∙◌}
-use Rattle.std.proofs.Common.{arith, leb-true}
-use Rattle.std.specs.List.{list_any}
-use Rattle.std.proofs.lemmas.Bool.Decides.{nat_tests}
-use Rattle.hpack.specs.declared.types.field.Field.{Field}
-use Rattle.h2_log.specs.declared.refusal.Refusal.{Refusal}
-use Rattle.h2_log.specs.declared.refusal.Refusal.TheVariants.{OutputFull, Closed, NoSuchStream}
-use Rattle.h2_log.specs.declared.refusal.Refusal.TheVariants.{NotOwed}
-use Rattle.h2_log.specs.Acts.{SendFields, SendData, Release, Refused}
-use Rattle.h2_log.specs.Items.{ends}
-use Rattle.h2_log.specs.Limits.{full_output}
-use Rattle.h2_log.specs.Log.{Log, active, owed, unreleased, waiting}
-use Rattle.h2_log.specs.View.{StreamView, owed_on}
-use Rattle.h2_log.specs.States.{when}
-use Rattle.h2_log.specs.LogView.{log_view, stream_of_log}
-use Rattle.h2_log.specs.CallRules.{conditions, refusal_of, first_of, is_full, is_too_large}
-use Rattle.h2_log.specs.CallRules.{is_not_owed, reader_owed, is_no_stream}
-use Rattle.h2_log.specs.LogCalls.{MayAnswer, accepts, refuses, lacks, fails}
-use Rattle.h2_log_laws.proofs.LogViewLemmas.{owed_there}
-use Rattle.h2_ends.specs.Pumping.{LacksSpace}
+use Rattle.h2_ends.proofs.Names.{◌≡◌, ◌≢◌, inl, inr, ℕ, ◌==◌, Bool, true, false, if◌then◌else◌}
+use Rattle.h2_ends.proofs.Names.{List, [], ◌∷◌, Some, None, refl, sym, ap, ◌∙◌, arith, list_any}
+use Rattle.h2_ends.proofs.Names.{nat_tests, Field, Refusal, OutputFull, Closed, NoSuchStream}
+use Rattle.h2_ends.proofs.Names.{SendFields, SendData, Release, Refused, ends, full_output, Log}
+use Rattle.h2_ends.proofs.Names.{active, unreleased, waiting, owed_on, when, log_view}
+use Rattle.h2_ends.proofs.Names.{stream_of_log, refusal_of, is_full, is_too_large, reader_owed}
+use Rattle.h2_ends.proofs.Names.{is_no_stream, MayAnswer, accepts, lacks, LacksSpace}
+use Rattle.h2_spec_log.specs.Log.{owed}
+use Rattle.h2_spec_log.specs.CallRules.{conditions, first_of, is_not_owed}
+use Rattle.std.proofs.Common.{nat_lt, ◌||◌, is_some, leb-true}
+use Rattle.h2_spec_log.specs.declared.refusal.Refusal.TheVariants.{NotOwed}
+use Rattle.h2_spec_log.specs.View.{StreamView}
+use Rattle.h2_spec_log.specs.LogCalls.{refuses, fails}
+use Rattle.h2_laws_log.proofs.LogViewLemmas.{owed_there}
 
 -- The one condition left, by its test.
 full_by : (b : Bool) (refusal : Refusal) → (if b then Some OutputFull else None) ≡ Some refusal

@@ -1,43 +1,26 @@
 -- What a pump makes of one stream: what holds before each call on it, and what each call leaves.
-use Rattle.std.proofs.Common.{◌≡◌, ◌≢◌, ◌⊎◌, inl, inr, ℕ, ◌+◌, ◌<◌, ◌≤◌, ◌==◌, ◌&&◌, Bool, true}
-use Rattle.std.proofs.Common.{false, List, length, Option, Some, None, is_none, option_map}
-use Rattle.std.proofs.Common.{refl, sym, ap, ◌∙◌, subst, arith, length-drop}
-use Rattle.std.specs.List.{list_any}
-use Rattle.std.proofs.lemmas.Bool.{both_ways, and_parts, and_right, cases_Bool, cases_eq, eqb-true}
-use Rattle.std.proofs.lemmas.Bool.{ne_eqb}
-use Rattle.std.proofs.lemmas.Bool.Decides.{nat_tests}
-use Rattle.hpack.specs.declared.types.field.Field.{Field}
-use Rattle.h2_log.specs.declared.role.Role.{Role}
-use Rattle.h2_log.specs.declared.refusal.Refusal.{Refusal}
-use Rattle.h2_log.specs.Acts.{Values, Act, Answer, IsTypedAct, SendFields, SendData, Count, Done}
-use Rattle.h2_log.specs.Acts.{Number, Refused}
-use Rattle.h2_log.specs.Items.{ends}
-use Rattle.h2_log.specs.Log.{Log, active}
-use Rattle.h2_log.specs.LogCalls.{MayAnswer, with_call}
-use Rattle.h2_end_laws.proofs.OverRoom.{no_room_by_call}
-use Rattle.h2_conn.specs.declared.conn.Conn.{Conn}
-use Rattle.h2_conn.specs.Conn.{ConnRepresents}
-use Rattle.h2_ends.specs.declared.outgoing.Outgoing.{Outgoing}
-use Rattle.h2_ends.specs.declared.outgoing.Outgoing.TheVariants as outgoings
-use Rattle.h2_ends.specs.declared.outgoing.Stream.{Stream}
-use Rattle.h2_ends.specs.declared.outgoing.Waiting.{Waiting}
-use Rattle.h2_ends.specs.declared.span.Spans.{Spans}
-use Rattle.h2_ends.specs.Ends.{EndLog}
-use Rattle.h2_ends.specs.EndCalls as calls
-use Rattle.h2_ends.specs.EndCalls.{IsStuckOn, data_refused, trailers_refused}
-use Rattle.h2_ends.specs.Represents.{IsStream, IsOutgoing, IsWaiting, IsKept, IsInStep, KeepsActive}
-use Rattle.h2_ends.specs.Represents.{outgoing_in}
-use Rattle.h2_ends.specs.Pumping as pumping
-use Rattle.h2_ends.specs.Pumping.{end_after_call, with_outgoing, keeps_with, IsPumping, LacksSpace}
-use Rattle.h2_ends.specs.Pumping.{KeepsActiveOnly, KeepsActiveBut, sends_data, sends_trailers}
-use Rattle.h2_end_laws.specs.Activity.{call_may_close}
+use Rattle.h2_ends.proofs.Names.{◌≡◌, ◌≢◌, ◌⊎◌, inl, inr, ℕ, ◌+◌, ◌<◌, ◌≤◌, ◌==◌, ◌&&◌, Bool, true}
+use Rattle.h2_ends.proofs.Names.{false, List, length, Option, Some, None, refl, sym, ap, ◌∙◌, subst}
+use Rattle.h2_ends.proofs.Names.{arith, length-drop, list_any, both_ways, and_parts, and_right}
+use Rattle.h2_ends.proofs.Names.{cases_Bool, cases_eq, eqb-true, ne_eqb, nat_tests, Field, Role}
+use Rattle.h2_ends.proofs.Names.{Refusal, Values, Act, Answer, IsTypedAct, SendFields, SendData}
+use Rattle.h2_ends.proofs.Names.{Count, Done, Number, Refused, ends, Log, active, MayAnswer}
+use Rattle.h2_ends.proofs.Names.{with_call, no_room_by_call, Conn, ConnRepresents, Outgoing, Stream}
+use Rattle.h2_ends.proofs.Names.{Waiting, Spans, EndLog, IsStuckOn, IsStream, IsWaiting, IsInStep}
+use Rattle.h2_ends.proofs.Names.{KeepsActive, outgoing_in, end_after_call, with_outgoing}
+use Rattle.h2_ends.proofs.Names.{keeps_with, IsPumping, LacksSpace, KeepsActiveOnly, KeepsActiveBut}
+use Rattle.h2_ends.proofs.Names.{sends_data}
+use Rattle.h2_ends.specs.Represents.{IsOutgoing, IsKept}
+use Rattle.h2_laws_end.specs.Activity.{call_may_close}
+use Rattle.std.proofs.Common.{is_none, option_map}
+use Rattle.h2_ends.specs.EndCalls.{data_refused, trailers_refused}
+use Rattle.h2_ends.specs.Pumping.{sends_trailers}
 use Rattle.h2_ends.proofs.InSteps.{in_step_called, active_called}
 use Rattle.h2_ends.proofs.PumpCalls.{pump_keeps}
 use Rattle.h2_ends.proofs.PumpEnds.{keeps_here, keeps_other, kept_is, call_represents, same_by}
 use Rattle.h2_ends.proofs.PumpEnds.{same_by_call, stuck_unless_waiting}
 use Rattle.h2_ends.proofs.EndSteps.{same_outgoing}
 use Rattle.h2_ends.proofs.EndTokens.{refused_tokens}
-use Rattle.h2_ends.proofs.PumpRefusals as refused
 use Rattle.h2_ends.proofs.PumpStays.{stays_active}
 use Rattle.h2_ends.proofs.PumpSteps.{pumps_until}
 use Rattle.h2_ends.proofs.PumpStuck.{data_none, fields_none, stuck_by_data, stuck_by_fields}
@@ -46,6 +29,10 @@ use Rattle.h2_ends.proofs.PumpTokens.{waits_after, sent_after_data, sent_after_f
 use Rattle.h2_ends.proofs.PumpTokens.{trailers_left, body_waits, trailers_wait}
 use Rattle.h2_ends.proofs.PumpWindows.{none_without_room, data_waits, data_within, data_failed}
 use Rattle.h2_ends.proofs.PumpWindows.{fields_failed, fields_wait, refused_waits}
+use Rattle.h2_ends.specs.declared.outgoing.Outgoing.TheVariants as outgoings
+use Rattle.h2_ends.specs.EndCalls as calls
+use Rattle.h2_ends.specs.Pumping as pumping
+use Rattle.h2_ends.proofs.PumpRefusals as refused
 
 -- Neither call, nor its refusal, closes another stream.
 data_elsewhere : (i id : ℕ) (octets : List ℕ) (end : Bool) (answer : Answer) → i ≢ id

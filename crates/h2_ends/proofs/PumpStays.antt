@@ -1,27 +1,20 @@
 -- A stream that this end has not ended stays active after it has sent octets on it.
-use Rattle.std.proofs.Common.{◌≡◌, ℕ, zero, suc, ◌==◌, ◌&&◌, not, nat_le, Bool, true, false}
-use Rattle.std.proofs.Common.{if◌then◌else◌, List, [], ◌∷◌, ◌++◌, length, take, drop, None, refl}
-use Rattle.std.proofs.Common.{inl, inr, ap, subst, sym}
-use Rattle.std.specs.List.{list_any}
-use Rattle.std.proofs.lemmas.Bool.{or_from, and_right}
-use Rattle.h2_frame.specs.Frames.{Data, WindowUpdate}
-use Rattle.h2_block.specs.Grouping.{Item, alone}
-use Rattle.h2_log.specs.declared.role.Role.{Role}
-use Rattle.h2_log.specs.declared.role.Role.TheVariants.{Client, Server}
-use Rattle.h2_log.specs.Acts.{SendData, Count}
-use Rattle.h2_log.specs.Items.{is_block_on, ends, resets, is_goaway_below}
-use Rattle.h2_log.specs.States.{openings, is_above}
-use Rattle.h2_log.specs.Log.{Log, active, max_payload_sent}
-use Rattle.h2_log.specs.LogView.{log_view}
-use Rattle.h2_log.specs.CallRules.{data_frames, data_items, items_of}
-use Rattle.h2_log.specs.LogCalls.{MayAnswer, with_call}
-use Rattle.h2_log_laws.proofs.ItemLists.{any_after}
-use Rattle.h2_log_laws.proofs.LogGrowth.{grows_call}
-use Rattle.h2_log_laws.proofs.ReaderStates.{active_parts, active_from, lasts_parts, lasts_from}
-use Rattle.h2_end_laws.specs.Written.{Writes, IsCredit}
-use Rattle.h2_end_laws.proofs.WrittenSteps.{call_writes}
+use Rattle.h2_ends.proofs.Names.{◌≡◌, ℕ, zero, suc, ◌==◌, ◌&&◌, nat_le, Bool, true, false}
+use Rattle.h2_ends.proofs.Names.{if◌then◌else◌, List, [], ◌∷◌, ◌++◌, length, take, drop, None, refl}
+use Rattle.h2_ends.proofs.Names.{inl, inr, ap, subst, sym, list_any, or_from, and_right, Data, Item}
+use Rattle.h2_ends.proofs.Names.{alone, Role, Client, Server, SendData, Count, is_block_on, ends}
+use Rattle.h2_ends.proofs.Names.{Log, active, max_payload_sent, log_view, MayAnswer, with_call}
+use Rattle.h2_ends.proofs.Names.{grows_call, active_parts, Writes, call_writes}
+use Rattle.h2_spec_log.specs.CallRules.{data_frames, data_items, items_of}
+use Rattle.std.proofs.Common.{not}
+use Rattle.h2_frame.specs.Frames.{WindowUpdate}
+use Rattle.h2_spec_log.specs.Items.{resets, is_goaway_below}
+use Rattle.h2_spec_log.specs.States.{openings, is_above}
+use Rattle.h2_laws_log.proofs.ItemLists.{any_after}
+use Rattle.h2_laws_log.proofs.ReaderStates.{active_from, lasts_parts, lasts_from}
+use Rattle.h2_laws_end.specs.Written.{IsCredit}
 use Rattle.h2_ends.proofs.PumpWindows.{data_accepted, data_active}
-use Rattle.h2_end_laws.proofs.OverCalls.{none_of_both}
+use Rattle.h2_laws_end.proofs.OverCalls.{none_of_both}
 
 module _ (p : Item → Bool)
     (body : (id : ℕ) (end : Bool) (octets : List ℕ) → p (alone (Data id end octets None)) ≡ false)

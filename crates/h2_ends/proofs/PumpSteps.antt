@@ -1,16 +1,15 @@
 -- The calls of a pump, one more at their end; and which streams come next.
-use Rattle.std.proofs.Common.{◌≡◌, ◌≢◌, ◌⊎◌, inl, inr, ℕ, ◌+◌, ◌<◌, ◌≤◌, ◌==◌, ◌||◌, nat_lt, Bool}
-use Rattle.std.proofs.Common.{true, false, if◌then◌else◌, Option, Some, None, is_some, refl, ap}
-use Rattle.std.proofs.Common.{subst, arith, ltb-true, ltb-false}
-use Rattle.std.proofs.lemmas.Bool.{both_ways, and_parts, or_parts, eqb-true, cases_Bool}
-use Rattle.std.proofs.lemmas.Bool.{false_from_ne_true}
-use Rattle.h2_log.specs.declared.refusal.Refusal.{Refusal}
-use Rattle.h2_log.specs.Log.{Log, active, next_active, reader_next_live}
-use Rattle.h2_log_laws.proofs.NextStreams.{next_passes, next_found}
-use Rattle.h2_log_laws.proofs.ReaderStates.{active_parts}
-use Rattle.h2_ends.specs.Ends.{EndLog}
-use Rattle.h2_ends.specs.EndCalls.{Pumps, pumps_no_more, pumps_data, pumps_trailers}
-use Rattle.h2_ends.specs.Pumping.{PumpsSoFar, sends_nothing, sends_data, sends_trailers}
+use Rattle.h2_ends.proofs.Names.{◌≡◌, ◌≢◌, ◌⊎◌, inl, inr, ℕ, ◌+◌, ◌<◌, ◌≤◌, ◌==◌, Bool, true, false}
+use Rattle.h2_ends.proofs.Names.{if◌then◌else◌, Option, Some, None, refl, ap, subst, arith}
+use Rattle.h2_ends.proofs.Names.{ltb-true, ltb-false, both_ways, and_parts, eqb-true, cases_Bool}
+use Rattle.h2_ends.proofs.Names.{false_from_ne_true, Refusal, Log, active, reader_next_live}
+use Rattle.h2_ends.proofs.Names.{active_parts, EndLog, Pumps, sends_nothing, sends_data}
+use Rattle.std.proofs.Common.{◌||◌, nat_lt, is_some}
+use Rattle.std.proofs.lemmas.Bool.{or_parts}
+use Rattle.h2_spec_log.specs.Log.{next_active}
+use Rattle.h2_laws_log.proofs.NextStreams.{next_passes, next_found}
+use Rattle.h2_ends.specs.EndCalls.{pumps_no_more, pumps_data, pumps_trailers}
+use Rattle.h2_ends.specs.Pumping.{PumpsSoFar, sends_trailers}
 
 -- Calls after them are calls of the pump.
 pub pumps_after : (start now after : EndLog) (count more : ℕ) (refused : Option Refusal)

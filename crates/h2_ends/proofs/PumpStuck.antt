@@ -1,27 +1,16 @@
 -- Streams on which nothing of what waits can go: a call on another one leaves them so.
-use Rattle.std.proofs.Common.{◌≡◌, ◌≢◌, inl, inr, ℕ, Bool, false, List, [], ◌∷◌, ◌++◌, length, drop}
-use Rattle.std.proofs.Common.{refl, sym, ap, ◌∙◌, append-nil, subst}
-use Rattle.std.specs.List.{list_any}
-use Rattle.std.proofs.lemmas.Bool.{both_ways, and_parts, and_from, cases_Bool, ne_eqb}
-use Rattle.hpack.specs.declared.types.field.Field.{Field}
-use Rattle.h2_log.specs.Acts.{Act, Answer, SendFields, SendData, Count, Done}
-use Rattle.h2_log.specs.Items.{is_block_on}
-use Rattle.h2_log.specs.Log.{Log, active}
-use Rattle.h2_log.specs.LogView.{log_view}
-use Rattle.h2_log.specs.CallRules.{items_of}
-use Rattle.h2_log.specs.LogCalls.{with_call}
-use Rattle.h2_end_laws.specs.Over.{has_room}
-use Rattle.h2_end_laws.proofs.OverCalls.{items_no_block}
-use Rattle.h2_end_laws.proofs.OverLists.{IsInactive, inactive_sent}
-use Rattle.h2_end_laws.proofs.OverRoom.{no_room_by_call}
-use Rattle.h2_end_laws.proofs.OverSteps.{call_keeps}
-use Rattle.h2_pair.specs.Quiet.{NoneCouldGo}
-use Rattle.h2_pair.specs.Tokens.{Token, FieldsToken, OctetToken, EndToken, tokens_of_call}
-use Rattle.h2_pair.specs.Tokens.{tokens_sent}
-use Rattle.h2_log_laws.proofs.PartsStay.{call_calls}
-use Rattle.h2_ends.specs.Ends.{EndLog, tokens_out, tokens_said, tokens_waiting}
-use Rattle.h2_ends.specs.EndCalls.{IsStuckOn}
-use Rattle.h2_ends.specs.Pumping.{end_after_call}
+use Rattle.h2_ends.proofs.Names.{◌≡◌, ◌≢◌, inl, inr, ℕ, Bool, false, List, [], ◌∷◌, ◌++◌, length}
+use Rattle.h2_ends.proofs.Names.{drop, refl, sym, ap, ◌∙◌, append-nil, subst, list_any, both_ways}
+use Rattle.h2_ends.proofs.Names.{and_parts, and_from, cases_Bool, ne_eqb, Field, Act, Answer}
+use Rattle.h2_ends.proofs.Names.{SendFields, SendData, Count, Done, is_block_on, Log, active}
+use Rattle.h2_ends.proofs.Names.{log_view, items_of, with_call, has_room, no_room_by_call}
+use Rattle.h2_ends.proofs.Names.{NoneCouldGo, Token, FieldsToken, OctetToken, EndToken, call_calls}
+use Rattle.h2_ends.proofs.Names.{EndLog, tokens_out, tokens_said, tokens_waiting, IsStuckOn}
+use Rattle.h2_ends.proofs.Names.{end_after_call}
+use Rattle.h2_laws_pair.specs.Tokens.{tokens_of_call, tokens_sent}
+use Rattle.h2_laws_end.proofs.OverCalls.{items_no_block}
+use Rattle.h2_laws_end.proofs.OverLists.{IsInactive, inactive_sent}
+use Rattle.h2_laws_end.proofs.OverSteps.{call_keeps}
 
 -- What is sent with a call is more of it.
 pub out_after : (end : EndLog) (act : Act) (answer : Answer) (i : ℕ)

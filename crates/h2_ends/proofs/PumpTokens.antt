@@ -1,36 +1,27 @@
 -- What waits of a message, as sending goes on.
-use Rattle.std.proofs.Common.{map as each, ◌≡◌, ◌≢◌, ◌⊎◌, inl, inr, ℕ, zero, suc, ◌+◌, ◌-◌, ◌<◌}
-use Rattle.std.proofs.Common.{◌≤◌, ◌==◌, ◌&&◌, Bool, true, false, List, [], ◌∷◌, ◌++◌, length, take}
-use Rattle.std.proofs.Common.{drop, Option, Some, None, is_none, option_map, refl, sym, ap, ◌∙◌}
-use Rattle.std.proofs.Common.{subst, append_assoc, append-nil, length-drop, arith}
-use Rattle.std.specs.List.{list_any}
-use Rattle.std.proofs.lemmas.Bool.{both_ways, and_from, false_from_ne_true, eq-eqb}
-use Rattle.std.proofs.lemmas.List.{map-append, take-append-drop, drop-drop}
-use Rattle.std.proofs.Math.Seq.{drop-append_seam, take-length}
-use Rattle.std.proofs.lemmas.Bool.Decides.{nat_tests}
-use Rattle.h2_log.specs.declared.role.Role.{Role}
-use Rattle.h2_log.specs.Acts.{Values, SendFields, SendData, Count, Done}
-use Rattle.h2_log.specs.Items.{ends}
-use Rattle.h2_log.specs.Histories.{IsLog}
-use Rattle.h2_end_laws.specs.Sendings.{lists_accepted, settings_received}
-use Rattle.h2_end_laws.specs.Over.{has_room}
-use Rattle.h2_end_laws.proofs.Sendings.{log_sent}
-use Rattle.hpack.specs.declared.types.field.Field.{Field}
-use Rattle.h2_log.specs.CallRules.{is_too_large}
-use Rattle.h2_message.specs.Messages.{SentMessage, trailer_fields}
-use Rattle.h2_pair.specs.Tokens.{Token, FieldsToken, OctetToken, EndToken, end_tokens}
-use Rattle.h2_pair.specs.Tokens.{tokens_of_call, trailers_tokens, message_tokens}
-use Rattle.h2_pair.proofs.HeardLists.{blocks_of_lists}
-use Rattle.h2_pair.proofs.HeardMessages.{ended_tokens, unended}
-use Rattle.h2_pair.proofs.HeardSent.{tokens_carried}
-use Rattle.h2_ends.specs.declared.outgoing.Waiting.{Waiting}
-use Rattle.h2_ends.specs.declared.outgoing.Outgoing.TheVariants as outgoings
-use Rattle.h2_ends.specs.Ends.{EndLog, message_for, tokens_given, tokens_out, tokens_said}
-use Rattle.h2_ends.specs.Ends.{tokens_waiting}
-use Rattle.h2_ends.specs.EndCalls.{IsStuckOn, BodyWaits, TrailersWait}
-use Rattle.h2_ends.specs.Pumping.{end_after_call}
-use Rattle.h2_ends.specs.Represents.{IsWaiting, IsOutgoing, tokens_kept}
+use Rattle.h2_ends.proofs.Names.{◌≡◌, ◌≢◌, ◌⊎◌, inl, inr, ℕ, zero, suc, ◌+◌, ◌-◌, ◌<◌, ◌≤◌, ◌==◌}
+use Rattle.h2_ends.proofs.Names.{◌&&◌, Bool, true, false, List, [], ◌∷◌, ◌++◌, length, take, drop}
+use Rattle.h2_ends.proofs.Names.{Option, Some, None, refl, sym, ap, ◌∙◌, subst, append_assoc}
+use Rattle.h2_ends.proofs.Names.{append-nil, length-drop, arith, list_any, both_ways, and_from}
+use Rattle.h2_ends.proofs.Names.{false_from_ne_true, eq-eqb, map-append, drop-append_seam}
+use Rattle.h2_ends.proofs.Names.{take-length, nat_tests, Role, Values, SendFields, SendData, Count}
+use Rattle.h2_ends.proofs.Names.{Done, ends, IsLog, has_room, Field, is_too_large, SentMessage}
+use Rattle.h2_ends.proofs.Names.{Token, FieldsToken, OctetToken, EndToken, Waiting, EndLog}
+use Rattle.h2_ends.proofs.Names.{message_for, tokens_out, tokens_said, tokens_waiting, IsStuckOn}
+use Rattle.h2_ends.proofs.Names.{BodyWaits, TrailersWait, end_after_call, IsWaiting, tokens_kept}
+use Rattle.h2_message.specs.Messages.{trailer_fields}
+use Rattle.h2_laws_pair.specs.Tokens.{end_tokens, tokens_of_call, trailers_tokens, message_tokens}
+use Rattle.h2_ends.specs.Ends.{tokens_given}
+use Rattle.h2_ends.specs.Represents.{IsOutgoing}
+use Rattle.std.proofs.Common.{map as each, is_none, option_map}
+use Rattle.std.proofs.lemmas.List.{take-append-drop, drop-drop}
+use Rattle.h2_laws_end.specs.Sendings.{lists_accepted, settings_received}
+use Rattle.h2_laws_end.proofs.Sendings.{log_sent}
+use Rattle.h2_laws_pair.proofs.HeardLists.{blocks_of_lists}
+use Rattle.h2_laws_pair.proofs.HeardMessages.{ended_tokens, unended}
+use Rattle.h2_laws_pair.proofs.HeardSent.{tokens_carried}
 use Rattle.h2_ends.proofs.PumpStuck.{out_after, stuck_empty, stuck_octet}
+use Rattle.h2_ends.specs.declared.outgoing.Outgoing.TheVariants as outgoings
 
 -- what waits after the octets of the body
 abbrev pub tail_kept : Waiting → List Token

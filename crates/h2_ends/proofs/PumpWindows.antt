@@ -1,33 +1,26 @@
 -- What sending on a stream makes of windows, and of the output that waits.
-use Rattle.std.proofs.Common.{◌≡◌, ◌≢◌, ℕ, zero, suc, ◌+◌, ◌-◌, ◌≤◌, ◌<◌, ◌==◌, min, nat_le}
-use Rattle.std.proofs.Common.{◌&&◌, not, Bool, true, false, if◌then◌else◌, List, [], ◌∷◌, ◌++◌}
-use Rattle.std.proofs.Common.{length, take, drop, None, refl, sym, ap, ◌∙◌, arith, length-append}
-use Rattle.std.proofs.Common.{length-take, length-drop, pos, ◌-ℤ◌, leb-false, ltb-true}
+use Rattle.h2_ends.proofs.Names.{◌≡◌, ◌≢◌, ℕ, zero, suc, ◌+◌, ◌-◌, ◌≤◌, ◌<◌, ◌==◌, min, nat_le}
+use Rattle.h2_ends.proofs.Names.{◌&&◌, Bool, true, false, if◌then◌else◌, List, [], ◌∷◌, ◌++◌}
+use Rattle.h2_ends.proofs.Names.{length, take, drop, None, refl, sym, ap, ◌∙◌, arith, length-drop}
+use Rattle.h2_ends.proofs.Names.{pos, ltb-true, and_parts, false_from_ne_true, eqb-true, Field}
+use Rattle.h2_ends.proofs.Names.{Data, Item, alone, Refusal, Act, SendFields, SendData, Release}
+use Rattle.h2_ends.proofs.Names.{Count, Done, Refused, Log, active, max_payload_sent, log_view}
+use Rattle.h2_ends.proofs.Names.{refusal_of, MayAnswer, accepts, lacks, none_holds, has_room}
+use Rattle.h2_ends.proofs.Names.{Writes, call_writes}
+use Rattle.h2_spec_log.specs.Log.{waiting, output}
+use Rattle.h2_spec_log.specs.CallRules.{conditions, data_frames, data_items, items_of, data_count}
+use Rattle.h2_spec_log.specs.LogCalls.{with_call, refuses, fails, with_items}
+use Rattle.std.proofs.Common.{not, length-append, length-take, ◌-ℤ◌, leb-false}
 use Rattle.std.specs.Prelude.{int_lt}
-use Rattle.std.proofs.lemmas.Bool.{and_parts, false_from_ne_true, eqb-true}
-use Rattle.hpack.specs.declared.types.field.Field.{Field}
-use Rattle.h2_frame.specs.Frames.{Data}
 use Rattle.h2_frame.specs.Encoding.{payload_of}
-use Rattle.h2_block.specs.Grouping.{Item, alone}
-use Rattle.h2_log.specs.declared.refusal.Refusal.{Refusal}
-use Rattle.h2_log.specs.Acts.{Act, SendFields, SendData, Release, Count, Done, Refused}
-use Rattle.h2_log.specs.Items.{total, data_on, data_of}
-use Rattle.h2_log.specs.Limits.{max_data}
-use Rattle.h2_log.specs.Windows.{given_on, given_on_connection}
-use Rattle.h2_log.specs.Log.{Log, active, waiting, output, max_payload_sent}
-use Rattle.h2_log.specs.LogView.{log_view}
-use Rattle.h2_log.specs.CallRules.{conditions, refusal_of, data_count, data_frames, data_items}
-use Rattle.h2_log.specs.CallRules.{items_of}
-use Rattle.h2_log.specs.LogCalls.{MayAnswer, accepts, refuses, lacks, fails, with_call, with_items}
-use Rattle.h2_log.proofs.SentPayloads.{most_between}
-use Rattle.h2_log_laws.proofs.CallConditions.{none_holds}
-use Rattle.h2_log_laws.proofs.ItemSizes.{size_of, size-frame, size-append}
-use Rattle.h2_log_laws.proofs.LogViewLemmas.{stream_is_active, count_by_sums}
-use Rattle.h2_end_laws.specs.Over.{has_room}
-use Rattle.h2_end_laws.specs.Written.{Writes}
-use Rattle.h2_end_laws.proofs.WrittenSteps.{call_writes}
-use Rattle.h2_end_laws.proofs.OverRoom.{window_test}
-use Rattle.h2_pair.proofs.StepCalls.{call_given, call_failed}
+use Rattle.h2_spec_log.specs.Items.{total, data_on, data_of}
+use Rattle.h2_spec_log.specs.Limits.{max_data}
+use Rattle.h2_spec_log.specs.Windows.{given_on, given_on_connection}
+use Rattle.h2_spec_log.proofs.SentPayloads.{most_between}
+use Rattle.h2_laws_log.proofs.ItemSizes.{size_of, size-frame, size-append}
+use Rattle.h2_laws_log.proofs.LogViewLemmas.{stream_is_active, count_by_sums}
+use Rattle.h2_laws_end.proofs.OverRoom.{window_test}
+use Rattle.h2_laws_pair.proofs.StepCalls.{call_given, call_failed}
 
 -- A call that sends octets is accepted, with the count of the rules.
 pub data_accepted : (log : Log) (id : ℕ) (octets : List ℕ) (end : Bool) (n : ℕ)

@@ -1,19 +1,12 @@
 -- Whether an end is quiet, by what its connection answers and its streams say.
-use Rattle.std.proofs.Common.{◌≡◌, ◌≢◌, ◌↔◌, ℕ, ◌≤◌, ◌==◌, Bool, true, false, not, arith}
-use Rattle.std.proofs.Common.{length, Option, None, is_some, if◌then◌else◌, refl, sym, ap, ◌∙◌}
-use Rattle.std.proofs.lemmas.Bool.{both_ways, eqb-true, eq-eqb}
-use Rattle.h2_frame.specs.declared.code.Code.{Code}
-use Rattle.h2_log.specs.Acts.{Values}
-use Rattle.h2_log.specs.CallRules.{reader_due}
-use Rattle.h2_log.specs.Log.{Log, owed, waiting, output}
-use Rattle.h2_log.specs.LogView.{log_view}
-use Rattle.h2_conn.specs.declared.conn.Conn.{Conn}
-use Rattle.h2_conn.specs.Conn.{ConnRepresents}
-use Rattle.h2_ends.specs.declared.end.End.{End}
-use Rattle.h2_ends.specs.Ends.{EndLog}
-use Rattle.h2_ends.specs.EndCalls.{IsStuckOn}
+use Rattle.h2_ends.proofs.Names.{◌≡◌, ◌≢◌, ◌↔◌, ℕ, ◌≤◌, ◌==◌, Bool, true, false, arith, length}
+use Rattle.h2_ends.proofs.Names.{Option, None, if◌then◌else◌, refl, sym, ap, ◌∙◌, both_ways}
+use Rattle.h2_ends.proofs.Names.{eqb-true, eq-eqb, Code, Values, Log, owed, log_view, Conn}
+use Rattle.h2_ends.proofs.Names.{ConnRepresents, End, EndLog, IsStuckOn, EndRepresents}
+use Rattle.h2_spec_log.specs.Log.{waiting, output}
+use Rattle.std.proofs.Common.{not, is_some}
+use Rattle.h2_spec_log.specs.CallRules.{reader_due}
 use Rattle.h2_ends.specs.Quiet.{IsQuietEnd}
-use Rattle.h2_ends.specs.Represents.{EndRepresents}
 use Rattle.h2_ends.proofs.SendingRelease.{ReadsFailed, up_by}
 use Rattle.hpack.proofs.Tests.{not_false}
 

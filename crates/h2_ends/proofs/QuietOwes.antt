@@ -1,16 +1,9 @@
 -- Whether something is owed on a stream: those of the span are looked at in rising order, as in a
 -- release that has released nothing.
-use Rattle.std.proofs.Common.{◌≡◌, ◌≢◌, ◌⊎◌, inl, inr, ℕ, ◌+◌, ◌-◌, true, false, Bool, Option, Some}
-use Rattle.std.proofs.Common.{None, is_some, if◌then◌else◌, refl, sym, ◌∙◌, subst}
-use Rattle.h2_frame.specs.declared.code.Code.{Code}
-use Rattle.h2_log.specs.Acts.{Values}
-use Rattle.h2_log.specs.CallRules.{reader_owed}
-use Rattle.h2_log.specs.Log.{owed}
-use Rattle.h2_log.specs.LogView.{log_view}
-use Rattle.h2_ends.specs.declared.end.End.{End}
-use Rattle.h2_ends.specs.Ends.{EndLog}
-use Rattle.h2_ends.specs.Represents.{EndRepresents}
-use Rattle.h2_ends.specs.Sends.{IsNextIn}
+use Rattle.h2_ends.proofs.Names.{◌≡◌, ◌≢◌, ◌⊎◌, inl, inr, ℕ, ◌+◌, ◌-◌, true, false, Bool, Option}
+use Rattle.h2_ends.proofs.Names.{Some, None, if◌then◌else◌, refl, sym, ◌∙◌, subst, Code, Values}
+use Rattle.h2_ends.proofs.Names.{reader_owed, owed, log_view, End, EndLog, EndRepresents, IsNextIn}
+use Rattle.std.proofs.Common.{is_some}
 use Rattle.h2_ends.proofs.PumpSteps.{next_read}
 use Rattle.h2_ends.proofs.ReleaseSteps.{IsReleasing, release_begins, release_comes, release_passes}
 use Rattle.h2_ends.proofs.ReleaseSteps.{none_is_owed}

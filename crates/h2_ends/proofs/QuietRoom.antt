@@ -1,15 +1,11 @@
 -- Whether both windows let an octet go on a stream, by what a connection answers of them.
-use Rattle.std.proofs.Common.{◌≡◌, ℕ, Bool, true, false, if◌then◌else◌, ℤ, pos}
-use Rattle.std.proofs.Common.{int_lt, Option, Some, None, is_some, refl, sym, ap, subst}
-use Rattle.std.proofs.lemmas.Bool.{and_parts, false_from_ne_true, ne_eqb}
-use Rattle.h2_frame.specs.declared.code.Code.{Code}
-use Rattle.h2_log.specs.CallRules.{reader_room}
-use Rattle.h2_log.specs.Log.{Log, active, send_window}
-use Rattle.h2_log.specs.LogView.{log_view}
-use Rattle.h2_log.specs.Windows.{connection_send_window}
-use Rattle.h2_end_laws.specs.Over.{has_room}
-use Rattle.h2_ends.specs.Quiet.{HasRoom}
-use Rattle.h2_log_laws.proofs.InvariantCalls.{active_some as not_zero}
+use Rattle.h2_ends.proofs.Names.{◌≡◌, ℕ, Bool, true, false, if◌then◌else◌, pos, Option, Some, None}
+use Rattle.h2_ends.proofs.Names.{refl, sym, ap, subst, and_parts, false_from_ne_true, ne_eqb, Code}
+use Rattle.h2_ends.proofs.Names.{reader_room, Log, active, log_view, has_room, HasRoom}
+use Rattle.std.proofs.Common.{ℤ, int_lt, is_some}
+use Rattle.h2_spec_log.specs.Log.{send_window}
+use Rattle.h2_spec_log.specs.Windows.{connection_send_window}
+use Rattle.h2_laws_log.proofs.InvariantCalls.{active_some as not_zero}
 
 -- What the connection answers of its own window, as long as it is up,
 room_of_all : (log : Log) → log.failed ≡ None

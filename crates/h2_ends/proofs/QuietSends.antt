@@ -1,30 +1,18 @@
 -- Whether something that waits on a stream could be sent: those of the span are looked at in rising
 -- order, as in a pump that has sent nothing.
-use Rattle.std.proofs.Common.{map as each, ◌≡◌, ◌≢◌, ◌↔◌, ℕ, ◌+◌, ◌-◌, ◌<◌, ◌≤◌, true, false, Bool}
-use Rattle.std.proofs.Common.{List, [], ◌∷◌, ◌++◌, length, Option, Some, None, option_map}
-use Rattle.std.proofs.Common.{refl, sym, ap, ◌∙◌, inl, inr, subst, length-drop, arith}
-use Rattle.std.proofs.lemmas.Bool.{both_ways}
+use Rattle.h2_ends.proofs.Names.{◌≡◌, ◌≢◌, ◌↔◌, ℕ, ◌+◌, ◌-◌, ◌<◌, ◌≤◌, true, false, Bool, List, []}
+use Rattle.h2_ends.proofs.Names.{◌∷◌, ◌++◌, length, Option, Some, None, refl, sym, ap, ◌∙◌, inl}
+use Rattle.h2_ends.proofs.Names.{inr, subst, length-drop, arith, both_ways, Field, Values}
+use Rattle.h2_ends.proofs.Names.{reader_room, Log, active, log_view, Conn, ConnRepresents}
+use Rattle.h2_ends.proofs.Names.{NoneCouldGo, Token, FieldsToken, OctetToken, EndToken, End}
+use Rattle.h2_ends.proofs.Names.{Outgoing, Stream, Waiting, EndLog, tokens_waiting, IsStuckOn}
+use Rattle.h2_ends.proofs.Names.{HasRoom, EndRepresents, IsWaiting, kept_at, outgoing_in, IsNextIn}
+use Rattle.h2_ends.proofs.Names.{PumpGoes, keeps_of}
+use Rattle.h2_laws_pair.specs.Tokens.{trailers_tokens}
+use Rattle.h2_ends.specs.Represents.{IsOutgoing}
+use Rattle.std.proofs.Common.{map as each, option_map}
 use Rattle.std.proofs.lemmas.List.{drop_all}
-use Rattle.hpack.specs.declared.types.field.Field.{Field}
-use Rattle.h2_log.specs.Acts.{Values}
-use Rattle.h2_log.specs.CallRules.{reader_room}
-use Rattle.h2_log.specs.Log.{Log, active}
-use Rattle.h2_log.specs.LogView.{log_view}
-use Rattle.h2_conn.specs.declared.conn.Conn.{Conn}
-use Rattle.h2_conn.specs.Conn.{ConnRepresents}
-use Rattle.h2_pair.specs.Quiet.{CouldGo, NoneCouldGo}
-use Rattle.h2_pair.specs.Tokens.{Token, FieldsToken, OctetToken, EndToken, trailers_tokens}
-use Rattle.h2_ends.specs.declared.end.End.{End}
-use Rattle.h2_ends.specs.declared.outgoing.Outgoing.{Outgoing}
-use Rattle.h2_ends.specs.declared.outgoing.Outgoing.TheVariants as outgoings
-use Rattle.h2_ends.specs.declared.outgoing.Stream.{Stream}
-use Rattle.h2_ends.specs.declared.outgoing.Waiting.{Waiting}
-use Rattle.h2_ends.specs.Ends.{EndLog, tokens_waiting}
-use Rattle.h2_ends.specs.EndCalls.{IsStuckOn}
-use Rattle.h2_ends.specs.Quiet.{HasRoom}
-use Rattle.h2_ends.specs.Represents.{EndRepresents, IsOutgoing, IsWaiting, kept_at}
-use Rattle.h2_ends.specs.Represents.{outgoing_in}
-use Rattle.h2_ends.specs.Sends.{IsNextIn, PumpGoes, keeps_of}
+use Rattle.h2_laws_pair.specs.Quiet.{CouldGo}
 use Rattle.h2_ends.proofs.EndSteps.{outgoing_kept}
 use Rattle.h2_ends.proofs.PumpCalls.{pump_begins, pump_comes, pump_passes, all_stuck}
 use Rattle.h2_ends.proofs.PumpEnds.{by_end, stuck_unless_waiting}
@@ -32,6 +20,7 @@ use Rattle.h2_ends.proofs.PumpSteps.{next_read}
 use Rattle.h2_ends.proofs.PumpTokens.{octets_left, tail_kept, waiting_is_kept, some_octet}
 use Rattle.h2_ends.proofs.PumpTokens.{stuck_waiting, trailers_left}
 use Rattle.h2_ends.proofs.QuietRoom.{has_both, no_room_of_all, no_room_of_stream}
+use Rattle.h2_ends.specs.declared.outgoing.Outgoing.TheVariants as outgoings
 
 -- A stream isn't stuck that is active and where the next token could go.
 could_go : (end : EndLog) (i : ℕ) (token : Token) (rest : List Token)

@@ -1,20 +1,18 @@
 -- What was handed out of a message that was sent can be read, in whatever pieces its body came.
-use Rattle.std.proofs.Common.{map as each, ◌≡◌, ◌≢◌, ℕ, Bool, true, false, List, [], ◌∷◌}
-use Rattle.std.proofs.Common.{◌++◌, length, sum_by, Option, Some, None, refl, sym, ap, ◌∙◌, inl}
-use Rattle.std.proofs.Common.{inr, append_assoc, append-nil, arith}
-use Rattle.std.specs.List.{AllByRecursion}
+use Rattle.h2_ends.proofs.Names.{◌≡◌, ◌≢◌, ℕ, Bool, true, false, List, [], ◌∷◌, ◌++◌, length}
+use Rattle.h2_ends.proofs.Names.{Option, Some, None, refl, sym, ap, ◌∙◌, inl, inr, append_assoc}
+use Rattle.h2_ends.proofs.Names.{append-nil, arith, AllByRecursion, Field, Requests, Responses}
+use Rattle.h2_ends.proofs.Names.{SentMessage, broken_by_request, broken_by_response, Part}
+use Rattle.h2_ends.proofs.Names.{FieldsPart, OctetsPart, IsReadable, sent_response, Token}
+use Rattle.h2_ends.proofs.Names.{FieldsToken, OctetToken, EndToken, IsPrefixOfTokens, is_head_alone}
+use Rattle.h2_message.specs.Reading.{ended, message_parts, final_parts, trailers_parts, as_read}
+use Rattle.h2_laws_pair.specs.Tokens.{end_tokens, trailers_tokens, message_tokens}
+use Rattle.h2_ends.specs.Ends.{tokens_of_part, tokens_of_parts, IsNoEmptyPart}
+use Rattle.std.proofs.Common.{map as each, sum_by}
 use Rattle.std.proofs.lemmas.List.{length-append}
 use Rattle.std.proofs.lemmas.List.Sums.{sum_by-cons}
-use Rattle.hpack.specs.declared.types.field.Field.{Field}
-use Rattle.h2_message.specs.declared.reading.Reads.TheVariants.{Requests, Responses}
-use Rattle.h2_message.specs.Messages.{SentMessage, broken_by_request, broken_by_response}
-use Rattle.h2_message.specs.Reading.{Part, FieldsPart, OctetsPart, IsReadable, as_read, ended}
-use Rattle.h2_message.specs.Reading.{message_parts, final_parts, trailers_parts}
-use Rattle.h2_message.proofs.LawSent.{sent_request, sent_response}
+use Rattle.h2_message.proofs.LawSent.{sent_request}
 use Rattle.h2_message.proofs.PhaseWhole.{body_parts, ended_more}
-use Rattle.h2_pair.specs.Tokens.{Token, FieldsToken, OctetToken, EndToken, end_tokens}
-use Rattle.h2_pair.specs.Tokens.{trailers_tokens, message_tokens, IsPrefixOfTokens, is_head_alone}
-use Rattle.h2_ends.specs.Ends.{IsNoEmptyPart, tokens_of_part, tokens_of_parts}
 use Rattle.h2_message.proofs.ReadingWhole.{one_sum as one_piece}
 
 -- the tokens after a head, of this body and these trailers

@@ -1,29 +1,23 @@
 -- The calls of a release of all that is owed, one more at their end.
-use Rattle.std.proofs.Common.{◌≡◌, ◌≢◌, ◌⊎◌, inl, inr, ℕ, ◌+◌, ◌<◌, ◌-◌, false, Option}
-use Rattle.std.proofs.Common.{Some, None, Ok, Err, refl, sym, ◌∙◌, subst, arith, nat_lt, ltb-true}
-use Rattle.std.proofs.Common.{ltb-false}
-use Rattle.std.proofs.lemmas.Bool.{cases_Bool, cases_eq}
-use Rattle.h2_log.specs.declared.refusal.Refusal.{Refusal}
-use Rattle.h2_log.specs.Acts.{Values, Answer, IsTypedAct, Release, Done, Refused}
-use Rattle.h2_log.specs.Log.{Log, active, owed, unreleased, released}
-use Rattle.h2_log.specs.LogCalls.{MayAnswer, with_call}
-use Rattle.h2_end_laws.proofs.OverRoom.{none_owed, none_owed_more}
-use Rattle.h2_conn.specs.Conn.{ConnRepresents}
-use Rattle.h2_ends.specs.declared.end.End.{End}
-use Rattle.h2_ends.specs.declared.refusal.EndRefusal.TheVariants as refusals
-use Rattle.h2_ends.specs.Ends.{EndLog}
-use Rattle.h2_ends.specs.EndCalls.{Releases, releases_no_more, releases_one, releases_refused}
-use Rattle.h2_ends.specs.EndCalls.{IsNextOwed, MayReleaseAll}
-use Rattle.h2_ends.specs.declared.span.Span.{Span}
-use Rattle.h2_ends.specs.Represents.{EndRepresents, InSpan}
-use Rattle.h2_ends.specs.Pumping.{end_after_call, LacksSpace}
-use Rattle.h2_end_laws.specs.Activity.{call_may_close}
+use Rattle.h2_ends.proofs.Names.{◌≡◌, ◌≢◌, ◌⊎◌, inl, inr, ℕ, ◌+◌, ◌<◌, ◌-◌, false, Option, Some}
+use Rattle.h2_ends.proofs.Names.{None, refl, sym, ◌∙◌, subst, arith, ltb-true, ltb-false}
+use Rattle.h2_ends.proofs.Names.{cases_Bool, cases_eq, Refusal, Values, Answer, IsTypedAct, Release}
+use Rattle.h2_ends.proofs.Names.{Done, Refused, Log, active, MayAnswer, ConnRepresents, End, EndLog}
+use Rattle.h2_ends.proofs.Names.{Span, EndRepresents, InSpan, end_after_call, LacksSpace}
+use Rattle.h2_ends.proofs.Names.{owed_inactive}
+use Rattle.h2_spec_log.specs.Log.{owed, unreleased, released}
+use Rattle.h2_spec_log.specs.LogCalls.{with_call}
+use Rattle.h2_ends.specs.EndCalls.{MayReleaseAll, Releases, releases_no_more, releases_one}
+use Rattle.h2_ends.specs.EndCalls.{releases_refused, IsNextOwed}
+use Rattle.h2_laws_end.specs.Activity.{call_may_close}
+use Rattle.std.proofs.Common.{Ok, Err, nat_lt}
+use Rattle.h2_laws_end.proofs.OverRoom.{none_owed, none_owed_more}
 use Rattle.h2_ends.proofs.EndTokens.{no_part_tokens}
 use Rattle.h2_ends.proofs.InSteps.{called_as}
 use Rattle.h2_ends.proofs.PumpRefusals.{release_refused}
 use Rattle.h2_ends.proofs.PumpSteps.{IsNext, zero_inactive}
 use Rattle.h2_ends.proofs.PumpWindows.{release_failed, refused_waits}
-use Rattle.h2_end_laws.proofs.OverRoom.{owed_inactive}
+use Rattle.h2_ends.specs.declared.refusal.EndRefusal.TheVariants as refusals
 
 -- Nothing is owed on any lower stream.
 abbrev pub OwesNoneBelow : EndLog → ℕ → Type 0

@@ -1,14 +1,7 @@
 -- What an end keeps of a stream that was given a message.
-use Rattle.std.proofs.Common.{◌≡◌, ℕ, Bool, true, false, Some, None, refl, sym, ◌∙◌}
-use Rattle.std.proofs.lemmas.Bool.{both_ways}
-use Rattle.h2_message.specs.declared.message.Message.{Message}
-use Rattle.h2_message.specs.Values.{message_value}
-use Rattle.h2_ends.specs.declared.end.End.{End}
-use Rattle.h2_ends.specs.declared.outgoing.Stream.{Stream}
-use Rattle.h2_ends.specs.declared.span.Span.{Span}
-use Rattle.h2_pair.specs.Tokens.{is_head_alone}
-use Rattle.h2_ends.specs.Represents.{InSpan, kept_at}
-use Rattle.h2_ends.specs.Heads.{IsGiven, given_stream}
+use Rattle.h2_ends.proofs.Names.{◌≡◌, ℕ, Bool, true, false, Some, None, refl, sym, ◌∙◌, both_ways}
+use Rattle.h2_ends.proofs.Names.{Message, message_value, End, Stream, Span, is_head_alone, InSpan}
+use Rattle.h2_ends.proofs.Names.{kept_at, IsGiven, given_stream}
 use Rattle.h2_ends.proofs.TableSteps.{ChangesAt, keeps_but}
 
 -- The span of those that wait has the number too, unless the message is its head alone, and all

@@ -1,45 +1,31 @@
 -- What an end represents once it has sent the head of a message and keeps the rest of it.
-use Rattle.std.proofs.Common.{◌≡◌, ◌≢◌, ◌⊎◌, ℕ, false, [], ◌∷◌, Option, Some, None}
-use Rattle.std.proofs.Common.{refl, sym, ◌∙◌, inl, inr}
-use Rattle.std.proofs.lemmas.Bool.{both_ways, eq-eqb, ne_eqb}
-use Rattle.h2_log.specs.declared.role.Role.TheVariants.{Client, Server}
-use Rattle.h2_log.specs.Acts.{Values, Act, Answer, Open, SendFields, Number, Done}
+use Rattle.h2_ends.proofs.Names.{◌≡◌, ◌≢◌, ◌⊎◌, ℕ, false, [], ◌∷◌, Option, Some, None, refl, sym}
+use Rattle.h2_ends.proofs.Names.{◌∙◌, inl, inr, both_ways, eq-eqb, ne_eqb, Client, Server, Values}
+use Rattle.h2_ends.proofs.Names.{Act, Answer, Open, SendFields, Number, Done, Refusal, Malformed}
+use Rattle.h2_ends.proofs.Names.{broken_by_request, RefusesMessage, IsUnchanged, is_too_large}
+use Rattle.h2_ends.proofs.Names.{MayAnswer, with_call, ConnRepresents, grows_call, IsOver}
+use Rattle.h2_ends.proofs.Names.{is_number_used, used_by_call, Message, Requests, Responses}
+use Rattle.h2_ends.proofs.Names.{SentMessage, asks_head, trailer_fields, message_value, End}
+use Rattle.h2_ends.proofs.Names.{Outgoing, Stream, EndLog, message_for, tokens_out}
+use Rattle.h2_ends.proofs.Names.{end_with_message, IsAsked, is_head_alone, EndRepresents}
+use Rattle.h2_ends.proofs.Names.{RepresentsBut, RepresentsMessages, IsStream, IsUntouched, kept_at}
+use Rattle.h2_ends.proofs.Names.{IsGiven, KeepsOne, given_stream, active_by_call}
+use Rattle.h2_laws_pair.specs.Tokens.{tokens_of_call}
+use Rattle.h2_ends.specs.Ends.{reads_on, asked_head}
+use Rattle.h2_ends.specs.EndCalls.{MayRespond, MayRequest}
+use Rattle.h2_ends.specs.Represents.{IsKept, IsOutgoing}
 use Rattle.std.specs.Prelude.{Ok, Err}
-use Rattle.h2_log.specs.declared.refusal.Refusal.{Refusal}
-use Rattle.h2_message.specs.declared.malformed.Malformed.{Malformed}
-use Rattle.h2_message.specs.Messages.{broken_by_request}
-use Rattle.h2_ends.specs.declared.refusal.EndRefusal.TheVariants as refusals
-use Rattle.h2_ends.specs.EndCalls.{MayRequest, RefusesMessage, IsUnchanged}
-use Rattle.h2_log.specs.CallRules.{is_too_large}
-use Rattle.h2_log.specs.LogCalls.{MayAnswer, with_call}
-use Rattle.h2_conn.specs.Conn.{ConnRepresents}
-use Rattle.h2_log_laws.proofs.LogGrowth.{grows_call}
-use Rattle.h2_end_laws.specs.Over.{IsOver, is_number_used}
-use Rattle.h2_end_laws.proofs.OverCalls.{used_by_call}
-use Rattle.h2_end_laws.proofs.OverNumbers.{opened_is_new}
-use Rattle.h2_message.specs.declared.message.Message.{Message}
-use Rattle.h2_message.specs.declared.reading.Reads.TheVariants.{Requests, Responses}
-use Rattle.h2_message.specs.Messages.{SentMessage, asks_head, trailer_fields}
-use Rattle.h2_message.specs.Values.{message_value}
-use Rattle.h2_pair.specs.Tokens.{tokens_of_call}
-use Rattle.h2_ends.specs.declared.end.End.{End}
-use Rattle.h2_ends.specs.declared.outgoing.Outgoing.{Outgoing}
-use Rattle.h2_ends.specs.declared.outgoing.Outgoing.TheVariants as outgoings
-use Rattle.h2_ends.specs.declared.outgoing.Stream.{Stream}
-use Rattle.h2_ends.specs.Ends.{EndLog, message_for, reads_on, tokens_out, asked_head}
-use Rattle.h2_ends.specs.EndCalls.{end_with_message, IsAsked, MayRespond}
-use Rattle.h2_pair.specs.Tokens.{is_head_alone}
-use Rattle.h2_ends.specs.Represents.{EndRepresents, RepresentsBut, RepresentsMessages, IsKept}
-use Rattle.h2_ends.specs.Represents.{IsStream, IsOutgoing, IsUntouched, kept_at}
-use Rattle.h2_ends.specs.Heads.{IsGiven, IsOpened, IsAnswered, KeepsOne, given_stream}
+use Rattle.h2_laws_end.proofs.OverNumbers.{opened_is_new}
+use Rattle.h2_ends.specs.Heads.{IsOpened, IsAnswered}
 use Rattle.h2_ends.proofs.EndSteps.{called_end, stepped}
-use Rattle.h2_end_laws.proofs.ActivityOpened.{active_by_open}
-use Rattle.h2_end_laws.proofs.ActivityCalls.{active_by_call}
+use Rattle.h2_laws_end.proofs.ActivityOpened.{active_by_open}
 use Rattle.h2_ends.proofs.InSteps.{owes_called, in_step_called}
 use Rattle.h2_ends.proofs.RequestSteps.{stepped_but, and_that, opens_one, open_keeps, fields_keep}
 use Rattle.h2_ends.proofs.RequestSteps.{head_keeps, handed_open, within_given}
-use Rattle.h2_ends.proofs.RequestSent.{head_tokens, sent_in_order, outgoing_after_head}
-use Rattle.h2_ends.proofs.RequestSent.{sent_first, accepted_here, accepted_elsewhere}
+use Rattle.h2_ends.proofs.RequestSent.{head_tokens, sent_in_order, outgoing_after_head, sent_first}
+use Rattle.h2_ends.proofs.RequestSent.{accepted_here, accepted_elsewhere}
+use Rattle.h2_ends.specs.declared.refusal.EndRefusal.TheVariants as refusals
+use Rattle.h2_ends.specs.declared.outgoing.Outgoing.TheVariants as outgoings
 
 -- Nothing was given or handed out on a number that wasn't used.
 untouched_by : (end : EndLog) (id : ℕ) (kept : Option Stream) → is_number_used end.log id ≡ false

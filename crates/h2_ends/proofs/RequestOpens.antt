@@ -1,35 +1,18 @@
 -- What opening a stream with the head of a request makes of an end.
-use Rattle.std.proofs.Common.{◌≡◌, ◌⊎◌, ℕ, ◌||◌, Bool, true, false, if◌then◌else◌, List, []}
-use Rattle.std.proofs.Common.{Option, Some, None, refl, sym, ap, ◌∙◌, inl, inr, arith}
+use Rattle.h2_ends.proofs.Names.{◌≡◌, ◌⊎◌, ℕ, Bool, true, false, if◌then◌else◌, List, [], Option}
+use Rattle.h2_ends.proofs.Names.{Some, None, refl, sym, ap, ◌∙◌, inl, inr, arith, both_ways}
+use Rattle.h2_ends.proofs.Names.{cases_eq, false_from_ne_true, Field, Refusal, Memory, Client}
+use Rattle.h2_ends.proofs.Names.{Values, IsTypedAct, Open, Number, Refused, is_server, is_too_large}
+use Rattle.h2_ends.proofs.Names.{refusal_of, Log, next_number, log_view, MayAnswer, with_call}
+use Rattle.h2_ends.proofs.Names.{is_number_used, ConnRepresents, answer_by, reader_next_number}
+use Rattle.h2_ends.proofs.Names.{Reading, Responses, SentMessage, trailer_fields, asks_head}
+use Rattle.h2_ends.proofs.Names.{Follows, End, Stream, EndLog, end_with_log, RefusesMessage}
+use Rattle.h2_ends.proofs.Names.{is_head_alone, EndRepresents, kept_at, KeepsOne}
+use Rattle.std.proofs.Common.{◌||◌}
 use Rattle.std.specs.Prelude.{Result, Ok, Err, is_some, is_err, OnOk, OnErr, unwrap_or}
-use Rattle.std.proofs.lemmas.Bool.{both_ways, cases_eq, false_from_ne_true}
-use Rattle.hpack.specs.declared.types.field.Field.{Field}
-use Rattle.h2_log.specs.declared.refusal.Refusal.{Refusal}
-use Rattle.h2_log.specs.declared.refusal.Refusal.TheVariants.{Memory}
-use Rattle.h2_log.specs.declared.role.Role.TheVariants.{Client}
-use Rattle.h2_log.specs.Acts.{Values, IsTypedAct, Open, Number, Refused}
-use Rattle.h2_log.specs.Settings.{is_server}
-use Rattle.h2_log.specs.CallRules.{is_too_large, refusal_of}
-use Rattle.h2_log.specs.Log.{Log, next_number}
-use Rattle.h2_log.specs.LogView.{log_view}
-use Rattle.h2_log.specs.LogCalls.{MayAnswer, with_call}
-use Rattle.h2_log_laws.proofs.CallConditions.{neither_other}
-use Rattle.h2_end_laws.specs.Over.{is_number_used}
-use Rattle.h2_end_laws.proofs.OverNumbers.{open_answer, used_below}
-use Rattle.h2_conn.specs.Conn.{ConnRepresents, answer_by, reader_next_number}
-use Rattle.h2_message.specs.declared.reading.Reading.{Reading}
-use Rattle.h2_message.specs.declared.reading.Reads.TheVariants.{Responses}
-use Rattle.h2_message.specs.Messages.{SentMessage, trailer_fields, asks_head}
-use Rattle.h2_message.specs.Phases.{Follows}
-use Rattle.h2_ends.specs.declared.end.End.{End}
-use Rattle.h2_ends.specs.declared.outgoing.Outgoing.TheVariants as outgoings
-use Rattle.h2_ends.specs.declared.outgoing.Stream.{Stream}
-use Rattle.h2_ends.specs.Ends.{EndLog}
-use Rattle.h2_ends.specs.EndTakes.{end_with_log}
-use Rattle.h2_ends.specs.EndCalls.{RefusesMessage}
-use Rattle.h2_pair.specs.Tokens.{is_head_alone}
-use Rattle.h2_ends.specs.Represents.{EndRepresents, kept_at}
-use Rattle.h2_ends.specs.Heads.{OpensStream, KeepsOne}
+use Rattle.h2_laws_log.proofs.CallConditions.{neither_other}
+use Rattle.h2_laws_end.proofs.OverNumbers.{open_answer, used_below}
+use Rattle.h2_ends.specs.Heads.{OpensStream}
 use Rattle.h2_ends.proofs.EndTokens.{refused_tokens}
 use Rattle.h2_ends.proofs.InSteps.{called_as}
 use Rattle.h2_ends.proofs.RequestTable.{kept_alike}
@@ -40,7 +23,8 @@ use Rattle.h2_ends.proofs.RequestRefusals.{open_too_large, trailers_refuse_open,
 use Rattle.h2_ends.proofs.RequestRefusals.{no_number_refuses}
 use Rattle.h2_ends.proofs.RequestSends.{unchanged_by}
 use Rattle.h2_ends.proofs.TableSteps.{ChangesAt, keeps_but}
-use Rattle.h2_log_laws.proofs.InvariantSends.{client_since as client_by}
+use Rattle.h2_laws_log.proofs.InvariantSends.{client_since as client_by}
+use Rattle.h2_ends.specs.declared.outgoing.Outgoing.TheVariants as outgoings
 
 -- What holds of a result, by its test.
 pub on_err : {A E : Type 0} (result : Result A E) (P : Type 0) → is_err result ≡ true

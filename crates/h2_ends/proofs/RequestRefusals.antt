@@ -1,29 +1,24 @@
 -- Why the connection refuses a message: as the call that sends its head, and C10 of its trailers.
-use Rattle.std.proofs.Common.{◌≡◌, ◌⊎◌, ℕ, ◌<◌, ◌≤◌, ◌^◌, ◌-◌, min, ◌||◌, Bool, true, false}
-use Rattle.std.proofs.Common.{List, [], ◌∷◌, ◌++◌, if◌then◌else◌, Option, Some, None, refl, sym}
-use Rattle.std.proofs.Common.{ap, ◌∙◌, inl, inr, arith}
+use Rattle.h2_ends.proofs.Names.{◌≡◌, ◌⊎◌, ℕ, ◌<◌, ◌≤◌, ◌^◌, ◌-◌, min, Bool, true, false, List, []}
+use Rattle.h2_ends.proofs.Names.{◌∷◌, ◌++◌, if◌then◌else◌, Option, Some, None, refl, sym, ap, ◌∙◌}
+use Rattle.h2_ends.proofs.Names.{inl, inr, arith, both_ways, or_from, Field, Refusal, Memory}
+use Rattle.h2_ends.proofs.Names.{Closed, NoSuchStream, OutputFull, Act, Answer, Open, SendFields}
+use Rattle.h2_ends.proofs.Names.{Refused, is_server, View, Log, next_number, log_view, refusal_of}
+use Rattle.h2_ends.proofs.Names.{is_too_large, is_full, is_no_stream, MayAnswer, accepts, lacks}
+use Rattle.h2_ends.proofs.Names.{none_holds, reader_next_number, SentMessage, trailer_fields}
+use Rattle.h2_ends.proofs.Names.{RefusesMessage}
+use Rattle.h2_spec_log.specs.CallRules.{conditions, first_of, has_failed, has_all_streams}
+use Rattle.h2_spec_log.specs.CallRules.{has_no_number, answer_of}
+use Rattle.std.proofs.Common.{◌||◌}
 use Rattle.std.specs.Prelude.{is_some}
-use Rattle.std.proofs.lemmas.Bool.{both_ways, lt-ltb, le-ltb, or_from}
-use Rattle.hpack.specs.declared.types.field.Field.{Field}
+use Rattle.std.proofs.lemmas.Bool.{lt-ltb, le-ltb}
 use Rattle.hpack.specs.Lists.{list_size}
-use Rattle.h2_log.specs.declared.refusal.Refusal.{Refusal}
-use Rattle.h2_log.specs.declared.refusal.Refusal.TheVariants.{ListTooLarge, Memory, Closed}
-use Rattle.h2_log.specs.declared.refusal.Refusal.TheVariants.{NoSuchStream, Ended, OutputFull}
-use Rattle.h2_log.specs.declared.refusal.Refusal.TheVariants.{TooManyStreams, StreamsExhausted}
-use Rattle.h2_log.specs.declared.refusal.Refusal.TheVariants.{GoingAway}
-use Rattle.h2_log.specs.Acts.{Act, Answer, Open, SendFields, Refused}
-use Rattle.h2_log.specs.Settings.{is_server}
-use Rattle.h2_log.specs.View.{View, ended_out}
-use Rattle.h2_log.specs.Log.{Log, next_number}
-use Rattle.h2_log.specs.LogView.{log_view}
-use Rattle.h2_log.specs.CallRules.{conditions, first_of, refusal_of, is_too_large, has_failed}
-use Rattle.h2_log.specs.CallRules.{has_all_streams, has_no_number, is_full, is_no_stream, answer_of}
-use Rattle.h2_log.specs.LogCalls.{MayAnswer, accepts, refuses, lacks, fails}
-use Rattle.h2_log_laws.proofs.CallConditions.{none_holds, neither_one}
-use Rattle.h2_conn.specs.Conn.{reader_next_number}
-use Rattle.h2_message.specs.Messages.{SentMessage, trailer_fields}
-use Rattle.h2_ends.specs.EndCalls.{RefusesMessage}
-use Rattle.h2_log_laws.proofs.CallConditions.{first_kept as first_stays}
+use Rattle.h2_spec_log.specs.declared.refusal.Refusal.TheVariants.{ListTooLarge, Ended}
+use Rattle.h2_spec_log.specs.declared.refusal.Refusal.TheVariants.{TooManyStreams, StreamsExhausted}
+use Rattle.h2_spec_log.specs.declared.refusal.Refusal.TheVariants.{GoingAway}
+use Rattle.h2_spec_log.specs.View.{ended_out}
+use Rattle.h2_spec_log.specs.LogCalls.{refuses, fails}
+use Rattle.h2_laws_log.proofs.CallConditions.{neither_one, first_kept as first_stays}
 
 -- a list of conditions, with C10 of a list at its end
 abbrev with_size : List (Bool × Refusal) → Bool → List (Bool × Refusal)

@@ -1,29 +1,16 @@
 -- What the connection answers to the head of a message, or to trailers that are too large.
-use Rattle.std.proofs.Common.{◌≡◌, ℕ, ◌<◌, ◌^◌, Bool, true, false, List, Option}
-use Rattle.std.proofs.Common.{Some, None, refl, ap, ◌∙◌, inl, inr, Vec, Global}
+use Rattle.h2_ends.proofs.Names.{◌≡◌, ℕ, ◌<◌, ◌^◌, Bool, true, false, List, Option, Some, None}
+use Rattle.h2_ends.proofs.Names.{refl, ap, ◌∙◌, inl, inr, Vec, Global, Field, AreOctets, both_ways}
+use Rattle.h2_ends.proofs.Names.{Role, Client, Server, Refusal, Values, Act, Open, SendFields, Done}
+use Rattle.h2_ends.proofs.Names.{Refused, is_too_large, Log, log_view, MayAnswer, with_call, Conn}
+use Rattle.h2_ends.proofs.Names.{ConnRepresents, answer_by, Message, SentMessage, message_value}
+use Rattle.h2_ends.proofs.Names.{is_head_alone, end_with_log, EndLog}
+use Rattle.h2_spec_log.specs.Acts.{IsTypedAct}
+use Rattle.h2_message.specs.Messages.{trailer_fields}
+use Rattle.h2_ends.specs.EndCalls.{IsUnchanged, IsHeadCall}
 use Rattle.std.specs.Prelude.{Result, Ok, Err, option_map}
-use Rattle.hpack.specs.declared.types.field.Field.{Field}
-use Rattle.hpack.specs.Written.{AreOctets}
-use Rattle.std.proofs.lemmas.Bool.{both_ways}
 use denote.Enum.Bare.{sameb}
-use Rattle.h2_log.specs.contracts.role.Role.{the_type}
-use Rattle.h2_log.specs.declared.role.Role.{Role}
-use Rattle.h2_log.specs.declared.role.Role.TheVariants.{Client, Server}
-use Rattle.h2_log.specs.declared.refusal.Refusal.{Refusal}
-use Rattle.h2_log.specs.Acts.{Values, Act, IsTypedAct, Open, SendFields, Done, Refused}
-use Rattle.h2_log.specs.CallRules.{is_too_large}
-use Rattle.h2_log.specs.Log.{Log}
-use Rattle.h2_log.specs.LogView.{log_view}
-use Rattle.h2_log.specs.LogCalls.{MayAnswer, with_call}
-use Rattle.h2_conn.specs.declared.conn.Conn.{Conn}
-use Rattle.h2_conn.specs.Conn.{ConnRepresents, answer_by}
-use Rattle.h2_message.specs.declared.message.Message.{Message}
-use Rattle.h2_message.specs.Messages.{SentMessage, trailer_fields}
-use Rattle.h2_message.specs.Values.{message_value}
-use Rattle.h2_ends.specs.EndCalls.{IsHeadCall, IsUnchanged}
-use Rattle.h2_pair.specs.Tokens.{is_head_alone}
-use Rattle.h2_ends.specs.EndTakes.{end_with_log}
-use Rattle.h2_ends.specs.Ends.{EndLog}
+use Rattle.h2_spec_log.specs.contracts.role.Role.{the_type}
 use Rattle.h2_ends.specs.Heads.{SendsHead}
 use Rattle.h2_ends.proofs.RequestRefusals.{fields_too_large, is_refused, trailers_refuse_fields}
 use Rattle.h2_ends.proofs.RequestRefusals.{refuses_fitting, refused_so}

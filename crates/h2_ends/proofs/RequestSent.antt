@@ -1,24 +1,20 @@
 -- What is kept of a message whose head was sent, and nothing else of it.
-use Rattle.std.proofs.Common.{◌≡◌, ◌≢◌, ◌⊎◌, ℕ, ◌<◌, ◌==◌, ◌&&◌, Bool, true, false, List, [], ◌∷◌}
-use Rattle.std.proofs.Common.{◌++◌, length, if◌then◌else◌, map as each, Option, Some, None, refl}
-use Rattle.std.proofs.Common.{sym, ap, ◌∙◌, inl, inr, arith}
+use Rattle.h2_ends.proofs.Names.{◌≡◌, ◌≢◌, ◌⊎◌, ℕ, ◌<◌, ◌==◌, ◌&&◌, Bool, true, false, List, []}
+use Rattle.h2_ends.proofs.Names.{◌∷◌, ◌++◌, length, if◌then◌else◌, Option, Some, None, refl, sym}
+use Rattle.h2_ends.proofs.Names.{ap, ◌∙◌, inl, inr, arith, both_ways, and_parts, eqb-true, eq-eqb}
+use Rattle.h2_ends.proofs.Names.{ne_eqb, Field, Act, Answer, is_too_large, Message, SentMessage}
+use Rattle.h2_ends.proofs.Names.{trailer_fields, message_value, Token, FieldsToken, OctetToken}
+use Rattle.h2_ends.proofs.Names.{EndToken, tokens_of_call, EndLog, tokens_out, is_head_alone}
+use Rattle.h2_ends.proofs.Names.{SendsInOrder}
+use Rattle.h2_laws_pair.specs.Tokens.{end_tokens, trailers_tokens, message_tokens}
+use Rattle.h2_ends.specs.Ends.{message_for, tokens_given}
+use Rattle.h2_ends.specs.Represents.{IsOutgoing}
+use Rattle.std.proofs.Common.{map as each}
 use Rattle.std.specs.Prelude.{is_none, option_map}
-use Rattle.std.proofs.lemmas.Bool.{both_ways, and_parts, eqb-true, eq-eqb, ne_eqb}
-use Rattle.hpack.specs.declared.types.field.Field.{Field}
-use Rattle.h2_log.specs.Acts.{Act, Answer}
-use Rattle.h2_log.specs.CallRules.{is_too_large}
-use Rattle.h2_message.specs.declared.message.Message.{Message}
-use Rattle.h2_message.specs.Messages.{SentMessage, trailer_fields}
-use Rattle.h2_message.specs.Values.{message_value}
-use Rattle.h2_pair.specs.Tokens.{Token, FieldsToken, OctetToken, EndToken, end_tokens}
-use Rattle.h2_pair.specs.Tokens.{trailers_tokens, message_tokens, tokens_of_call}
-use Rattle.h2_ends.specs.declared.outgoing.Outgoing.TheVariants as outgoings
-use Rattle.h2_ends.specs.Ends.{EndLog, message_for, tokens_given, tokens_out}
-use Rattle.h2_pair.specs.Tokens.{is_head_alone}
-use Rattle.h2_ends.specs.Represents.{IsOutgoing, SendsInOrder}
 use Rattle.h2_ends.specs.Heads.{outgoing_for}
 use Rattle.h2_ends.proofs.EndSteps.{called_end}
 use Rattle.h2_ends.proofs.EndTokens.{call_tokens}
+use Rattle.h2_ends.specs.declared.outgoing.Outgoing.TheVariants as outgoings
 
 -- the tokens of a message's head
 abbrev pub head_tokens : SentMessage → List Token

@@ -1,36 +1,20 @@
 -- What keeps step with a call that opens or closes one stream at most.
-use Rattle.std.proofs.Common.{◌≡◌, ◌≢◌, ℕ, if◌then◌else◌, Bool, true, false, List, Option}
-use Rattle.std.proofs.Common.{Some, None, refl, sym, ap, ◌∙◌, inl, inr}
-use Rattle.std.proofs.lemmas.Bool.{both_ways, cases_eq, ne_eqb}
-use Rattle.hpack.specs.declared.types.field.Field.{Field}
-use Rattle.h2_log.specs.declared.refusal.Refusal.{Refusal}
-use Rattle.h2_log.specs.Acts.{Values, Act, Answer, Open, SendFields, Number, Done, Refused}
-use Rattle.h2_log.specs.CallRules.{conditions}
-use Rattle.h2_log.specs.Log.{Log}
-use Rattle.h2_log.specs.LogCalls.{MayAnswer, accepts, refuses, lacks, fails}
-use Rattle.h2_log_laws.proofs.CallConditions.{none_holds}
-use Rattle.hpack.proofs.Tests.{none_since}
-use Rattle.h2_log_laws.proofs.LogGrowth.{grows_call}
-use Rattle.h2_end_laws.specs.Over.{is_number_used}
-use Rattle.h2_message.specs.declared.message.Message.{Message}
-use Rattle.h2_message.specs.Messages.{SentMessage}
-use Rattle.h2_message.specs.Values.{message_value}
-use Rattle.h2_pair.specs.Tokens.{tokens_heard}
-use Rattle.h2_ends.specs.declared.end.End.{End}
-use Rattle.h2_ends.specs.declared.outgoing.Outgoing.TheVariants as outgoings
-use Rattle.h2_ends.specs.declared.outgoing.Stream.{Stream}
-use Rattle.h2_ends.specs.declared.outgoing.Waiting.{Waiting}
-use Rattle.h2_ends.specs.declared.span.Span.{Span}
-use Rattle.h2_ends.specs.declared.span.Spans.{Spans}
-use Rattle.h2_ends.specs.Ends.{EndLog, tokens_handed}
-use Rattle.h2_pair.specs.Tokens.{is_head_alone}
-use Rattle.h2_ends.specs.Represents.{EndRepresents, RepresentsBut, RepresentsMessages, IsInStep}
-use Rattle.h2_ends.specs.Represents.{WaitsWithin, InSpan, HandsInOrder, KeepsActive}
-use Rattle.h2_ends.specs.Heads.{KeepsOne, given_stream}
+use Rattle.h2_ends.proofs.Names.{◌≡◌, ◌≢◌, ℕ, if◌then◌else◌, Bool, true, false, List, Option, Some}
+use Rattle.h2_ends.proofs.Names.{None, refl, sym, ap, ◌∙◌, inl, inr, both_ways, cases_eq, ne_eqb}
+use Rattle.h2_ends.proofs.Names.{Field, Refusal, Values, Act, Answer, Open, SendFields, Number}
+use Rattle.h2_ends.proofs.Names.{Done, Refused, Log, MayAnswer, accepts, lacks, none_holds}
+use Rattle.h2_ends.proofs.Names.{grows_call, is_number_used, Message, SentMessage, message_value}
+use Rattle.h2_ends.proofs.Names.{tokens_heard, End, Stream, Waiting, Span, Spans, EndLog}
+use Rattle.h2_ends.proofs.Names.{tokens_handed, is_head_alone, EndRepresents, RepresentsBut}
+use Rattle.h2_ends.proofs.Names.{RepresentsMessages, IsInStep, WaitsWithin, InSpan, HandsInOrder}
+use Rattle.h2_ends.proofs.Names.{KeepsActive, KeepsOne, given_stream}
+use Rattle.h2_spec_log.specs.CallRules.{conditions}
+use Rattle.h2_laws_end.specs.Activity.{call_may_close}
+use Rattle.h2_spec_log.specs.LogCalls.{refuses, fails}
+use Rattle.hpack.proofs.Tests.{none_since, and_false as never_both}
 use Rattle.h2_ends.proofs.EndSteps.{called_end, kept}
-use Rattle.h2_end_laws.specs.Activity.{call_may_close}
 use Rattle.h2_ends.proofs.InSteps.{in_step_called, active_called}
-use Rattle.hpack.proofs.Tests.{and_false as never_both}
+use Rattle.h2_ends.specs.declared.outgoing.Outgoing.TheVariants as outgoings
 
 -- What is in a span is in a wider one.
 wider : (spans more : Spans) (stream : Option Stream) (happened : EndLog) (i : ℕ)

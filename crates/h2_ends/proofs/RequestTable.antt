@@ -1,9 +1,5 @@
 -- What an end represents that keeps of each stream what another one keeps.
-use Rattle.std.proofs.Common.{◌≡◌, ℕ, ◌∙◌}
-use Rattle.h2_ends.specs.declared.end.End.{End}
-use Rattle.h2_ends.specs.Ends.{EndLog}
-use Rattle.h2_log.specs.Acts.{Values}
-use Rattle.h2_ends.specs.Represents.{EndRepresents, kept_at}
+use Rattle.h2_ends.proofs.Names.{◌≡◌, ℕ, ◌∙◌, End, EndLog, Values, EndRepresents, kept_at}
 
 -- What is kept of each stream as before is represented as before.
 pub kept_alike : (values : Values) (end new : End) (happened : EndLog)

@@ -1,28 +1,16 @@
 -- What `respond` may answer, by what an end keeps of the stream.
-use Rattle.std.proofs.Common.{◌≡◌, ◌≢◌, ◌⊎◌, ℕ, true, false, Some}
-use Rattle.std.proofs.Common.{None, refl, ◌∙◌, inl, inr}
+use Rattle.h2_ends.proofs.Names.{◌≡◌, ◌≢◌, ◌⊎◌, ℕ, true, false, Some, None, refl, ◌∙◌, inl, inr}
+use Rattle.h2_ends.proofs.Names.{both_ways, Refusal, Client, Server, Values, SendFields, Done}
+use Rattle.h2_ends.proofs.Names.{is_too_large, active, MayAnswer, IsOver, Malformed, SentMessage}
+use Rattle.h2_ends.proofs.Names.{trailer_fields, broken_by_response, End, Outgoing, Stream, EndLog}
+use Rattle.h2_ends.proofs.Names.{message_for, end_with_message, IsAsked, is_head_alone}
+use Rattle.h2_ends.proofs.Names.{RefusesMessage, IsUnchanged, EndRepresents, IsStream, kept_at}
+use Rattle.h2_ends.specs.EndCalls.{MayRespond, IsNotAsked, broken_by_answer}
+use Rattle.h2_ends.specs.Represents.{IsKept, IsOutgoing}
 use Rattle.std.specs.Prelude.{Ok, Err}
-use Rattle.std.proofs.lemmas.Bool.{both_ways}
-use Rattle.h2_log.specs.declared.refusal.Refusal.{Refusal}
-use Rattle.h2_log.specs.declared.role.Role.TheVariants.{Client, Server}
-use Rattle.h2_log.specs.Acts.{Values, SendFields, Done}
-use Rattle.h2_log.specs.CallRules.{is_too_large}
-use Rattle.h2_log.specs.Log.{active}
-use Rattle.h2_log.specs.LogCalls.{MayAnswer}
-use Rattle.h2_end_laws.specs.Over.{IsOver}
-use Rattle.h2_message.specs.declared.malformed.Malformed.{Malformed}
-use Rattle.h2_message.specs.Messages.{SentMessage, trailer_fields, broken_by_response}
-use Rattle.h2_ends.specs.declared.end.End.{End}
-use Rattle.h2_ends.specs.declared.outgoing.Outgoing.{Outgoing}
-use Rattle.h2_ends.specs.declared.outgoing.Outgoing.TheVariants as outgoings
-use Rattle.h2_ends.specs.declared.outgoing.Stream.{Stream}
-use Rattle.h2_ends.specs.declared.refusal.EndRefusal.TheVariants as refusals
-use Rattle.h2_ends.specs.Ends.{EndLog, message_for}
-use Rattle.h2_ends.specs.EndCalls.{end_with_message, IsAsked, IsNotAsked, MayRespond}
-use Rattle.h2_pair.specs.Tokens.{is_head_alone}
-use Rattle.h2_ends.specs.EndCalls.{RefusesMessage, IsUnchanged, broken_by_answer}
-use Rattle.h2_ends.specs.Represents.{EndRepresents, IsKept, IsStream, IsOutgoing, kept_at}
 use Rattle.h2_ends.proofs.RequestHeads.{server_reads}
+use Rattle.h2_ends.specs.declared.outgoing.Outgoing.TheVariants as outgoings
+use Rattle.h2_ends.specs.declared.refusal.EndRefusal.TheVariants as refusals
 
 -- E3, where nothing is kept of the stream, and at a client.
 pub nothing_asked : (end : EndLog) (id : ℕ) (message : SentMessage)

@@ -1,27 +1,16 @@
 -- The loop that sends a message on a stream, whatever had happened in the pump when it began.
-use Rattle.std.proofs.Common.{◌≡◌, inl, inr, ℕ, ◌+◌, ◌<◌, ◌≤◌, ◌^◌, Bool, true, false, not, List}
-use Rattle.std.proofs.Common.{length, take, drop, length-drop, ◌-◌, Vec, Global, Option, Some, None}
-use Rattle.std.proofs.Common.{is_some, is_none, option_map, min, Result, Ok, refl, sym, ap, ◌∙◌}
-use Rattle.std.proofs.Common.{subst, arith}
-use Rattle.std.proofs.Math.Seq.{take-length}
-use Rattle.std.specs.List.{AllByRecursion}
-use Rattle.hpack.specs.declared.types.field.Field.{Field}
-use Rattle.hpack.specs.Written.{AreOctets}
+use Rattle.h2_ends.proofs.Names.{◌≡◌, inl, inr, ℕ, ◌+◌, ◌<◌, ◌≤◌, ◌^◌, Bool, true, false, List}
+use Rattle.h2_ends.proofs.Names.{length, take, drop, length-drop, ◌-◌, Vec, Global, Option, Some}
+use Rattle.h2_ends.proofs.Names.{None, min, refl, sym, ap, ◌∙◌, subst, arith, take-length}
+use Rattle.h2_ends.proofs.Names.{AllByRecursion, Field, AreOctets, Role, Refusal, Values, Act}
+use Rattle.h2_ends.proofs.Names.{Answer, SendFields, SendData, Count, Done, Refused, Conn}
+use Rattle.h2_ends.proofs.Names.{ConnAnswers, Stream, Waiting, Spans, Sent, Stuck, SendState}
+use Rattle.h2_ends.proofs.Names.{EndLog, end_after_call, IsStopped, Sends}
+use Rattle.h2_spec_log.specs.Acts.{IsTypedAct}
+use Rattle.h2_ends.specs.Sends.{HasGone, StopsBy}
+use Rattle.std.proofs.Common.{not, is_some, is_none, option_map, Result, Ok}
 use Rattle.hpack_text.specs.Bits.{IsOctet}
-use Rattle.h2_log.specs.declared.role.Role.{Role}
-use Rattle.h2_log.specs.declared.refusal.Refusal.{Refusal}
-use Rattle.h2_log.specs.Acts.{Values, Act, Answer, IsTypedAct, SendFields, SendData, Count, Done}
-use Rattle.h2_log.specs.Acts.{Refused}
-use Rattle.h2_conn.specs.declared.conn.Conn.{Conn}
-use Rattle.h2_conn.specs.Conn.{ConnAnswers}
-use Rattle.h2_ends.specs.declared.outgoing.Stream.{Stream}
-use Rattle.h2_ends.specs.declared.outgoing.Waiting.{Waiting}
-use Rattle.h2_ends.specs.declared.span.Spans.{Spans}
-use Rattle.h2_ends.specs.declared.sending.SendState.TheVariants.{Sent, Stuck}
-use Rattle.h2_ends.specs.declared.sending.SendState.{SendState}
-use Rattle.h2_ends.specs.Ends.{EndLog}
-use Rattle.h2_ends.specs.Pumping.{end_after_call, IsSendingOn, HasSent, IsStopped}
-use Rattle.h2_ends.specs.Sends.{HasGone, Sends, StopsBy}
+use Rattle.h2_ends.specs.Pumping.{IsSendingOn, HasSent}
 use Rattle.h2_ends.proofs.PumpCalls.{pump_is_short}
 use Rattle.h2_ends.proofs.PumpSends.{IsUnderWay, data_act, data_goes, data_is_stuck}
 use Rattle.h2_ends.proofs.PumpSends.{data_is_refused, fields_go, fields_are_refused}

@@ -1,30 +1,20 @@
 -- The loop of a pump, whatever had happened when it began.
-use Rattle.std.proofs.Common.{◌≡◌, ◌≢◌, ◌⊎◌, inl, inr, ℕ, ◌+◌, ◌-◌, ◌<◌, true, false, Option, Some}
-use Rattle.std.proofs.Common.{None, is_some, Ok, Err, refl, sym, ap, ◌∙◌, subst, arith}
-use Rattle.h2_frame.specs.declared.code.Code.{Code}
-use Rattle.h2_log.specs.declared.refusal.Refusal.{Refusal}
-use Rattle.h2_log.specs.declared.refusal.Refusal.TheVariants.{Closed}
-use Rattle.h2_log.specs.Acts.{Values}
-use Rattle.h2_log.specs.Log.{Log, reader_next_live}
-use Rattle.h2_conn.specs.declared.conn.Conn.{Conn}
-use Rattle.h2_conn.specs.Conn.{ConnRepresents}
-use Rattle.h2_ends.specs.declared.end.End.{End}
-use Rattle.h2_ends.specs.declared.refusal.EndRefusal.TheVariants as refusals
-use Rattle.h2_ends.specs.declared.outgoing.Outgoing.TheVariants as outgoings
-use Rattle.h2_ends.specs.declared.sending.SendState.{SendState}
-use Rattle.h2_ends.specs.declared.sending.SendState.TheVariants.{Idle, Sent, Stuck, Full}
-use Rattle.h2_ends.specs.declared.span.Span.{Span}
-use Rattle.h2_ends.specs.Ends.{EndLog}
-use Rattle.h2_ends.specs.EndCalls.{Pumps, MayPump}
-use Rattle.h2_ends.specs.Pumping.{KeepsActiveOnly}
-use Rattle.h2_ends.specs.Represents.{EndRepresents, EndPumps, RepresentsBut, InSpan, outgoing_in}
-use Rattle.h2_ends.specs.Sends.{HasPumped, PumpsOn, PumpGoes, NoneWaits, WaitsAsBefore}
-use Rattle.h2_ends.specs.Sends.{IsNextIn, keeps_of}
+use Rattle.h2_ends.proofs.Names.{◌≡◌, ◌≢◌, ◌⊎◌, inl, inr, ℕ, ◌+◌, ◌-◌, ◌<◌, true, false, Option}
+use Rattle.h2_ends.proofs.Names.{Some, None, refl, sym, ap, ◌∙◌, subst, arith, Code, Refusal}
+use Rattle.h2_ends.proofs.Names.{Closed, Values, Log, reader_next_live, Conn, ConnRepresents, End}
+use Rattle.h2_ends.proofs.Names.{SendState, Idle, Sent, Stuck, Full, Span, EndLog, Pumps, MayPump}
+use Rattle.h2_ends.proofs.Names.{KeepsActiveOnly, EndRepresents, RepresentsBut, InSpan, outgoing_in}
+use Rattle.h2_ends.proofs.Names.{PumpsOn, PumpGoes, NoneWaits, WaitsAsBefore, IsNextIn, keeps_of}
+use Rattle.h2_ends.specs.Sends.{HasPumped}
+use Rattle.std.proofs.Common.{is_some, Ok, Err}
+use Rattle.h2_ends.specs.Represents.{EndPumps}
 use Rattle.h2_ends.proofs.PumpCalls.{WaitsIn, pump_begins, waits_at_first, pump_comes}
 use Rattle.h2_ends.proofs.PumpCalls.{waits_between, waits_past, pump_ends, ends_represent}
 use Rattle.h2_ends.proofs.PumpCalls.{pump_is_full, pump_lacks, pump_is_closed}
 use Rattle.h2_ends.proofs.PumpEnds.{by_end, to_end}
 use Rattle.h2_ends.proofs.PumpSteps.{next_read, none_read}
+use Rattle.h2_ends.specs.declared.refusal.EndRefusal.TheVariants as refusals
+use Rattle.h2_ends.specs.declared.outgoing.Outgoing.TheVariants as outgoings
 
 -- What `next_live` answers of any log that the connection represents: where that is none, or is
 -- beyond the span, no active stream of the span is left.

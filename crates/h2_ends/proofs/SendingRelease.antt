@@ -1,30 +1,21 @@
 -- The loop that releases all that is owed, whatever had happened when it began.
-use Rattle.std.proofs.Common.{◌≡◌, ◌≢◌, ◌<◌, ℕ, ◌+◌, ◌-◌, ◌^◌, Bool, true, false, Option}
-use Rattle.std.proofs.Common.{if◌then◌else◌, Some, None, is_some, Ok, Err, refl, sym, ap, ◌∙◌}
-use Rattle.std.proofs.Common.{subst}
-use Rattle.h2_frame.specs.declared.code.Code.{Code}
-use Rattle.h2_log.specs.declared.refusal.Refusal.{Refusal}
-use Rattle.h2_log.specs.declared.refusal.Refusal.TheVariants.{Closed}
-use Rattle.h2_log.specs.Acts.{Values, IsTypedAct, Release, Done, Refused}
-use Rattle.h2_log.specs.CallRules.{reader_owed}
-use Rattle.h2_log.specs.Log.{Log, active, owed}
-use Rattle.h2_log.specs.LogView.{log_view, stream_of_log}
-use Rattle.h2_log.specs.States.{when}
-use Rattle.h2_log.specs.View.{owed_on}
-use Rattle.h2_conn.specs.declared.conn.Conn.{Conn}
-use Rattle.h2_conn.specs.Conn.{ConnRepresents, ConnAnswers}
-use Rattle.h2_ends.specs.declared.end.End.{End}
-use Rattle.h2_ends.specs.declared.refusal.EndRefusal.TheVariants as refusals
-use Rattle.h2_ends.specs.Ends.{EndLog}
+use Rattle.h2_ends.proofs.Names.{◌≡◌, ◌≢◌, ◌<◌, ℕ, ◌+◌, ◌-◌, ◌^◌, Bool, true, false, Option}
+use Rattle.h2_ends.proofs.Names.{if◌then◌else◌, Some, None, refl, sym, ap, ◌∙◌, subst, Code}
+use Rattle.h2_ends.proofs.Names.{Refusal, Closed, Values, Release, Done, Refused, reader_owed, Log}
+use Rattle.h2_ends.proofs.Names.{active, log_view, stream_of_log, when, owed_on, Conn}
+use Rattle.h2_ends.proofs.Names.{ConnRepresents, ConnAnswers, End, EndLog, Span, EndRepresents}
+use Rattle.h2_ends.proofs.Names.{IsNextIn}
+use Rattle.h2_spec_log.specs.Acts.{IsTypedAct}
+use Rattle.h2_spec_log.specs.Log.{owed}
 use Rattle.h2_ends.specs.EndCalls.{MayReleaseAll}
-use Rattle.h2_ends.specs.declared.span.Span.{Span}
-use Rattle.h2_ends.specs.Represents.{EndRepresents, EndReleases}
-use Rattle.h2_ends.specs.Sends.{IsNextIn}
+use Rattle.std.proofs.Common.{is_some, Ok, Err}
+use Rattle.h2_ends.specs.Represents.{EndReleases}
 use Rattle.h2_ends.proofs.PumpSteps.{next_read}
 use Rattle.h2_ends.proofs.ReleaseSteps.{IsReleasing, release_begins, release_comes, release_passes}
 use Rattle.h2_ends.proofs.ReleaseSteps.{release_goes_on, release_ends, release_is_refused}
 use Rattle.h2_ends.proofs.ReleaseSteps.{refusal_represents, after_release, after_refusal}
 use Rattle.h2_ends.proofs.ReleaseSteps.{none_is_owed, none_owing}
+use Rattle.h2_ends.specs.declared.refusal.EndRefusal.TheVariants as refusals
 
 -- The connection has not failed, by its answer.
 pub up_by : (failed : Option Code) → false ≡ is_some failed → failed ≡ None

@@ -1,32 +1,20 @@
 -- One stream of a pump: what the end keeps of it is written back once sending on it stops.
-use Rattle.std.proofs.Common.{◌≡◌, ◌≢◌, inl, inr, ℕ, ◌==◌, Bool, true, Option, Some, Result, ◌+◌}
-use Rattle.std.proofs.Common.{◌≤◌, if◌then◌else◌, Ok, Err, refl, sym, ap, ◌∙◌, subst}
-use Rattle.std.proofs.lemmas.Bool.{cases_eq}
+use Rattle.h2_ends.proofs.Names.{◌≡◌, ◌≢◌, inl, inr, ℕ, ◌==◌, Bool, true, Option, Some, ◌+◌, ◌≤◌}
+use Rattle.h2_ends.proofs.Names.{if◌then◌else◌, refl, sym, ap, ◌∙◌, subst, cases_eq, nat_cmp, is_eq}
+use Rattle.h2_ends.proofs.Names.{unsigned_tied, Refusal, OutputFull, Memory, Values, full_output}
+use Rattle.h2_ends.proofs.Names.{active, waiting, Conn, End, Stream, Waiting, SendState, Idle, Sent}
+use Rattle.h2_ends.proofs.Names.{Stuck, Full, EndLog, IsStuckOn, IsInStep, KeepsActive, outgoing_in}
+use Rattle.h2_ends.proofs.Names.{with_outgoing, keeps_with, IsPumping, IsStopped, LacksSpace}
+use Rattle.h2_ends.proofs.Names.{KeepsActiveOnly, KeepsActiveBut, Sends, PumpsOn, PumpGoes}
+use Rattle.h2_ends.proofs.Names.{NoneWaits, WaitsAsBefore, keeps_of}
+use Rattle.h2_ends.specs.Sends.{HasGone, HasPumped, IsPumped}
+use Rattle.std.proofs.Common.{Result, Ok, Err}
 use Rattle.std.specs.BTreeMap.{BTreeMap, WritesThrough, get_by}
-use Rattle.std.specs.Ordering.{nat_cmp, is_eq}
-use Rattle.std.specs.Cmp.{nat_cmp_total, unsigned_tied, eq_by_cmp_equiv}
-use Rattle.h2_log.specs.declared.refusal.Refusal.{Refusal}
-use Rattle.h2_log.specs.declared.refusal.Refusal.TheVariants.{OutputFull, Memory}
-use Rattle.h2_log.specs.Acts.{Values}
-use Rattle.h2_log.specs.Limits.{full_output}
-use Rattle.h2_log.specs.Log.{active, waiting}
-use Rattle.h2_conn.specs.declared.conn.Conn.{Conn}
-use Rattle.h2_ends.specs.declared.end.End.{End}
-use Rattle.h2_ends.specs.declared.outgoing.Outgoing.TheVariants as outgoings
-use Rattle.h2_ends.specs.declared.outgoing.Stream.{Stream}
-use Rattle.h2_ends.specs.declared.outgoing.Waiting.{Waiting}
-use Rattle.h2_ends.specs.declared.sending.SendState.{SendState}
-use Rattle.h2_ends.specs.declared.sending.SendState.TheVariants.{Idle, Sent, Stuck, Full}
-use Rattle.h2_ends.specs.Ends.{EndLog}
-use Rattle.h2_ends.specs.EndCalls.{IsStuckOn}
-use Rattle.h2_ends.specs.Represents.{IsInStep, KeepsActive, outgoing_in}
-use Rattle.h2_ends.specs.Pumping.{with_outgoing, keeps_with, IsPumping, IsStopped, LacksSpace}
-use Rattle.h2_ends.specs.Pumping.{KeepsActiveOnly, KeepsActiveBut}
-use Rattle.h2_ends.specs.Sends.{HasGone, Sends, IsPumped, HasPumped, PumpsOn, PumpGoes, NoneWaits}
-use Rattle.h2_ends.specs.Sends.{WaitsAsBefore, keeps_of}
+use Rattle.std.specs.Cmp.{nat_cmp_total, eq_by_cmp_equiv}
 use Rattle.h2_ends.proofs.PumpCalls.{pump_keeps, pump_passes}
 use Rattle.h2_ends.proofs.PumpEnds.{same_by, stuck_unless_waiting, to_end}
 use Rattle.h2_ends.proofs.PumpSends.{send_begins, sent_is_stuck, none_waits_sent}
+use Rattle.h2_ends.specs.declared.outgoing.Outgoing.TheVariants as outgoings
 
 -- A number is found by its own test.
 test_of : (id i : ℕ) → is_eq (nat_cmp id i) ≡ (i == id)

@@ -1,13 +1,8 @@
 -- What is found among the entries of an end after one of them was changed.
-use Rattle.std.proofs.Common.{◌≡◌, ◌≢◌, ℕ, Bool, true, false, cond, List, Option}
-use Rattle.std.proofs.Common.{refl, sym, ap, ◌∙◌}
-use Rattle.std.proofs.lemmas.Bool.{ne_eqb, eq-eqb}
-use Rattle.std.specs.Ordering.{nat_cmp, is_eq}
-use Rattle.std.specs.Cmp.{unsigned_tied}
-use Rattle.h2_ends.specs.declared.end.End.{End}
-use Rattle.h2_ends.specs.declared.outgoing.Stream.{Stream}
-use Rattle.h2_ends.specs.Represents.{kept_at}
-use Rattle.h2_ends.specs.Heads.{KeepsOne}
+use Rattle.h2_ends.proofs.Names.{◌≡◌, ◌≢◌, ℕ, Bool, true, false, List, Option, refl, sym, ap, ◌∙◌}
+use Rattle.h2_ends.proofs.Names.{ne_eqb, eq-eqb, nat_cmp, is_eq, unsigned_tied, End, Stream}
+use Rattle.h2_ends.proofs.Names.{kept_at, KeepsOne}
+use Rattle.std.proofs.Common.{cond}
 use Rattle.h2_ends.proofs.EndSteps.{kept}
 
 -- other entries, with another one at a number

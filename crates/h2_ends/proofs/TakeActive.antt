@@ -1,26 +1,21 @@
 -- Octets of a body are reported of active streams alone.
-use Rattle.std.proofs.Common.{◌≡◌, ℕ, Bool, true, List, [], ◌∷◌, ◌++◌, Option, Some}
-use Rattle.std.proofs.Common.{None, sym, ap, ◌∙◌, subst}
-use Rattle.h2_frame.specs.Frames.{Frame, Data, Reset, Settings, Ping, GoAway}
-use Rattle.h2_block.specs.Grouping.{Item, alone, block}
-use Rattle.h2_log.specs.Events.{Event, DataEvent, UnprocessedEvent}
-use Rattle.h2_log.specs.Log.{Log, active, state, next_unprocessed}
-use Rattle.h2_log.specs.View.{View}
-use Rattle.h2_log.specs.LogView.{log_view}
-use Rattle.h2_log.specs.LogSteps.{read, used}
-use Rattle.h2_log.specs.LogSteps.{with_verdict, with_step, with_frame, took_frame}
-use Rattle.h2_log.specs.Verdicts.{Verdict, ConnectionFault, StreamFault, NoEvent, Reported}
-use Rattle.h2_log.specs.ItemEffects.{events_of}
-use Rattle.h2_log.specs.ItemRules.{Decoded, FrameStep, fails_with, begins_block, completes}
-use Rattle.h2_log.specs.ItemRules.{frame_step, verdict_by_rules, verdict_of}
-use Rattle.h2_log_laws.proofs.ReaderStates.{state_is_active}
-use Rattle.h2_end_laws.specs.Takes.{MayTake, Took, has_failed, reports_unprocessed}
-use Rattle.h2_end_laws.specs.Takes.{ends_no_frame, ends_frame, meets_fault, runs_out_of_memory}
-use Rattle.h2_end_laws.proofs.ReadVerdicts.{Says, says_of, says_data}
-use Rattle.h2_end_laws.proofs.TakeAnswers.{sent_reported}
-use Rattle.h2_end_laws.proofs.OverEvents.{replied_reported, same_event}
-use Rattle.h2_end_laws.proofs.ReadVerdicts.{says_nothing}
-use Rattle.h2_end_laws.proofs.OverEvents.{no_event}
+use Rattle.h2_ends.proofs.Names.{◌≡◌, ℕ, Bool, true, List, [], ◌∷◌, ◌++◌, Option, Some, None, sym}
+use Rattle.h2_ends.proofs.Names.{ap, ◌∙◌, subst, Frame, Data, Item, alone, Event, DataEvent}
+use Rattle.h2_ends.proofs.Names.{UnprocessedEvent, Log, active, View, log_view, Verdict}
+use Rattle.h2_ends.proofs.Names.{ConnectionFault, StreamFault, NoEvent, Reported, MayTake, Took}
+use Rattle.h2_ends.proofs.Names.{reports_unprocessed, ends_no_frame, ends_frame, meets_fault}
+use Rattle.h2_frame.specs.Frames.{Reset, Settings, Ping, GoAway}
+use Rattle.h2_block.specs.Grouping.{block}
+use Rattle.h2_spec_log.specs.Log.{state, next_unprocessed}
+use Rattle.h2_spec_log.specs.LogSteps.{read, used, with_verdict, with_step, with_frame, took_frame}
+use Rattle.h2_spec_log.specs.ItemEffects.{events_of}
+use Rattle.h2_spec_log.specs.ItemRules.{Decoded, FrameStep, fails_with, begins_block, completes}
+use Rattle.h2_spec_log.specs.ItemRules.{frame_step, verdict_by_rules, verdict_of}
+use Rattle.h2_laws_log.proofs.ReaderStates.{state_is_active}
+use Rattle.h2_laws_end.specs.Takes.{has_failed, runs_out_of_memory}
+use Rattle.h2_laws_end.proofs.ReadVerdicts.{Says, says_of, says_data, says_nothing}
+use Rattle.h2_laws_end.proofs.TakeAnswers.{sent_reported}
+use Rattle.h2_laws_end.proofs.OverEvents.{replied_reported, same_event, no_event}
 
 -- The item is no DATA, or this holds of its stream.
 abbrev OfData : (ℕ → Type 0) → Item → Type 0

@@ -1,47 +1,36 @@
 -- What an end hands out of what its connection has reported.
-use Rattle.std.proofs.Common.{◌≡◌, ℕ, Bool, true, false, List, [], Some, None, Ok, Err}
-use Rattle.std.proofs.Common.{Result, IfOk, refl, sym, ap, ◌∙◌}
-use Rattle.std.proofs.lemmas.Bool.{both_ways, eq-eqb}
-use Rattle.hpack.specs.declared.types.field.Field.{Field}
-use Rattle.h2_frame.specs.Frames.{Frame, Encodes}
+use Rattle.h2_ends.proofs.Names.{◌≡◌, ℕ, Bool, true, false, List, [], Some, None, refl, sym, ap}
+use Rattle.h2_ends.proofs.Names.{◌∙◌, both_ways, eq-eqb, Field, Frame, InternalError, Server}
+use Rattle.h2_ends.proofs.Names.{Values, Answer, Refuse, Event, FieldsEvent, DataEvent, ResetEvent}
+use Rattle.h2_ends.proofs.Names.{Log, MayAnswer, with_call, MayTake, Took, fields_in_use}
+use Rattle.h2_ends.proofs.Names.{data_in_use, log_after_take, Place, Part, FieldsPart, OctetsPart}
+use Rattle.h2_ends.proofs.Names.{End, EndLog, Handed, BodyHanded, Passed, EndAnswer, EndTook}
+use Rattle.h2_ends.proofs.Names.{EndFailed, parts_on, handed_at, EndMayTake, IsReadableWith}
+use Rattle.h2_ends.proofs.Names.{end_with_log, end_with_handed, passes, hands_out, refusal_fails}
+use Rattle.h2_ends.proofs.Names.{Span, EndRepresents, InSpan, IsReadOn, MustRefuse, HasReported}
+use Rattle.h2_ends.proofs.Names.{code_unread}
+use Rattle.h2_laws_pair.specs.Tokens.{tokens_of_event}
+use Rattle.h2_ends.specs.Ends.{reads_on, handed_as, part_of_event, tokens_of_part}
+use Rattle.h2_ends.specs.Loans.{BodyLiesIn}
+use Rattle.h2_ends.specs.Taking.{ReadsFields, ReadsData, AnswersRefusal, IsRead, IsResetBy}
+use Rattle.h2_ends.specs.Taking.{answer_of_report}
+use Rattle.h2_laws_end.specs.Activity.{take_has_fields, take_has_data, take_may_close}
+use Rattle.h2_laws_end.specs.Activity.{event_may_close}
+use Rattle.std.proofs.Common.{Ok, Err, Result, IfOk}
+use Rattle.h2_frame.specs.Frames.{Encodes}
 use Rattle.h2_frame.proofs.FrameLemmas.{one_frame_lem}
 use Rattle.h2_conn.specs.Loans.{octets_of_body}
-use Rattle.h2_frame.specs.declared.code.Code.TheVariants.{InternalError}
-use Rattle.h2_log.specs.declared.role.Role.TheVariants.{Server}
-use Rattle.h2_log.specs.Acts.{Values, Answer, Refuse}
-use Rattle.h2_log.specs.Events.{Event, FieldsEvent, DataEvent, ResetEvent}
-use Rattle.h2_log.specs.Log.{Log}
-use Rattle.h2_log.specs.LogCalls.{MayAnswer, with_call}
-use Rattle.h2_end_laws.specs.Takes.{MayTake, Took}
-use Rattle.h2_end_laws.proofs.OverEvents.{fields_in_use, data_in_use}
-use Rattle.h2_end_laws.proofs.TakeAnswers.{log_after_take}
 use Rattle.h2_conn.specs.declared.event.ConnFault.{ConnFault}
-use Rattle.h2_message.specs.declared.reading.Place.{Place}
-use Rattle.h2_message.specs.Reading.{Part, FieldsPart, OctetsPart}
-use Rattle.h2_pair.specs.Tokens.{tokens_of_event}
-use Rattle.h2_ends.specs.declared.end.End.{End}
 use Rattle.h2_ends.specs.declared.taking.HandedOut.{HandedOut}
 use Rattle.h2_ends.specs.declared.taking.Unread.{Unread}
-use Rattle.h2_ends.specs.declared.taking.Unread.TheVariants as unreads
-use Rattle.h2_ends.specs.Ends.{EndLog, Handed, BodyHanded, Passed, EndAnswer, EndTook, EndFailed}
-use Rattle.h2_ends.specs.Ends.{reads_on, parts_on, handed_as, handed_at, part_of_event}
-use Rattle.h2_ends.specs.Ends.{tokens_of_part}
-use Rattle.h2_ends.specs.EndTakes.{EndMayTake, IsReadableWith, end_with_log}
-use Rattle.h2_ends.specs.EndTakes.{end_with_handed, passes, hands_out, refuses, refusal_fails}
-use Rattle.h2_ends.specs.EndTakes.{runs_out_of_memory}
-use Rattle.h2_ends.specs.Loans.{BodyLiesIn}
-use Rattle.h2_ends.specs.declared.span.Span.{Span}
-use Rattle.h2_ends.specs.Represents.{EndRepresents, InSpan}
-use Rattle.h2_ends.specs.Taking.{IsReadOn, IsRead, MustRefuse, ReadsFields, ReadsData, HasReported}
-use Rattle.h2_ends.specs.Taking.{AnswersRefusal, IsResetBy, answer_of_report, code_unread}
-use Rattle.h2_pair.proofs.StepUnprocessed.{role_by_take as take_role}
+use Rattle.h2_ends.specs.EndTakes.{refuses, runs_out_of_memory}
+use Rattle.h2_laws_pair.proofs.StepUnprocessed.{role_by_take as take_role}
 use Rattle.h2_ends.proofs.TakeActive.{data_is_active}
 use Rattle.h2_ends.proofs.InSteps.{owes_taken}
 use Rattle.h2_ends.proofs.TakeInStep.{differs, passed_over, read_on, reported_wider}
 use Rattle.h2_ends.proofs.TakeRefusing.{memory_fails}
-use Rattle.h2_end_laws.specs.Activity.{take_has_fields, take_has_data, take_may_close}
-use Rattle.h2_end_laws.specs.Activity.{event_may_close}
-use Rattle.h2_end_laws.proofs.ActivityOpened.{active_by_fields}
+use Rattle.h2_laws_end.proofs.ActivityOpened.{active_by_fields}
+use Rattle.h2_ends.specs.declared.taking.Unread.TheVariants as unreads
 
 -- The end may answer so, and represents what has happened then.
 abbrev pub Hands : Values → EndLog → List ℕ → EndAnswer → End → Type 0

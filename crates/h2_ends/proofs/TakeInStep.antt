@@ -1,37 +1,25 @@
 -- What keeps step with what has happened, once octets were taken and once a part of a message was
 -- read.
-use Rattle.std.proofs.Common.{◌≡◌, ◌≢◌, ◌⊎◌, ℕ, ◌==◌, Bool, true, false, List, [], ◌∷◌, ◌++◌}
-use Rattle.std.proofs.Common.{Some, None, inl, inr, refl, sym, ap, ◌∙◌}
-use Rattle.std.proofs.lemmas.Bool.{cases_eq, false_from_ne_true, ne_eqb}
-use Rattle.h2_log.specs.declared.role.Role.TheVariants.{Server}
-use Rattle.h2_log.specs.Acts.{Values}
-use Rattle.h2_log.specs.Events.{Event, ResetEvent, UnprocessedEvent}
-use Rattle.h2_log.specs.Log.{Log, active}
-use Rattle.h2_end_laws.specs.Over.{IsOver, is_number_used}
-use Rattle.h2_end_laws.specs.Takes.{TakeAnswer, MayTake, Took, has_failed, reports_unprocessed}
-use Rattle.h2_end_laws.specs.Takes.{ends_no_frame, ends_frame, meets_fault, runs_out_of_memory}
-use Rattle.h2_end_laws.proofs.TakeAnswers.{log_after_take}
-use Rattle.h2_conn.specs.Conn.{ConnRepresents}
-use Rattle.h2_message.specs.Reading.{Part}
-use Rattle.h2_message.specs.Phases.{Follows}
-use Rattle.h2_pair.specs.Tokens.{Token, tokens_of_event, tokens_heard}
-use Rattle.h2_ends.specs.declared.end.End.{End}
-use Rattle.h2_ends.specs.declared.outgoing.Stream.{Stream}
-use Rattle.h2_ends.specs.declared.span.Span.{Span}
-use Rattle.h2_ends.specs.Ends.{EndLog, Handed, Passed, parts_on, part_on, reads_on, handed_as}
-use Rattle.h2_ends.specs.Ends.{tokens_handed, tokens_of_part, tokens_of_parts}
-use Rattle.h2_ends.specs.EndTakes.{end_with_log, end_with_handed}
-use Rattle.h2_ends.specs.Heads.{KeepsOne}
-use Rattle.h2_ends.specs.Represents.{EndRepresents, RepresentsBut, IsInStep, KeepsActive}
-use Rattle.h2_ends.specs.Represents.{HandsInOrder, InSpan, OwesWithin, outgoing_in}
-use Rattle.h2_ends.specs.Taking.{HasReported, IsReadOn, end_with_part}
+use Rattle.h2_ends.proofs.Names.{◌≡◌, ◌≢◌, ◌⊎◌, ℕ, ◌==◌, Bool, true, false, List, [], ◌∷◌, ◌++◌}
+use Rattle.h2_ends.proofs.Names.{Some, None, inl, inr, refl, sym, ap, ◌∙◌, cases_eq}
+use Rattle.h2_ends.proofs.Names.{false_from_ne_true, ne_eqb, Server, Values, Event, ResetEvent}
+use Rattle.h2_ends.proofs.Names.{UnprocessedEvent, Log, active, IsOver, is_number_used, TakeAnswer}
+use Rattle.h2_ends.proofs.Names.{MayTake, Took, reports_unprocessed, ends_no_frame, ends_frame}
+use Rattle.h2_ends.proofs.Names.{meets_fault, log_after_take, ConnRepresents, Part, Follows, Token}
+use Rattle.h2_ends.proofs.Names.{End, Stream, Span, EndLog, Handed, Passed, parts_on, part_on}
+use Rattle.h2_ends.proofs.Names.{reads_on, handed_as, tokens_handed, tokens_of_part}
+use Rattle.h2_ends.proofs.Names.{tokens_of_parts, end_with_log, end_with_handed, KeepsOne}
+use Rattle.h2_ends.proofs.Names.{EndRepresents, RepresentsBut, IsInStep, KeepsActive, HandsInOrder}
+use Rattle.h2_ends.proofs.Names.{InSpan, OwesWithin, outgoing_in, HasReported, IsReadOn}
+use Rattle.h2_ends.proofs.Names.{end_with_part}
+use Rattle.h2_laws_pair.specs.Tokens.{tokens_of_event, tokens_heard}
+use Rattle.h2_laws_end.specs.Activity.{take_may_close, event_may_close, take_has_fields}
+use Rattle.h2_laws_end.specs.Activity.{take_has_data}
+use Rattle.h2_laws_end.specs.Takes.{has_failed, runs_out_of_memory}
 use Rattle.h2_ends.proofs.EndParts.{handed_elsewhere, tokens_with}
-use Rattle.h2_ends.proofs.EndSteps.{kept, taken, parts_handed, handed_part, handed_on}
-use Rattle.h2_ends.proofs.EndSteps.{passed_on, passed_none}
-use Rattle.h2_ends.proofs.InSteps.{tokens_reported, in_step_taken, active_taken}
-use Rattle.h2_ends.proofs.InSteps.{in_step_elsewhere}
-use Rattle.h2_end_laws.specs.Activity.{take_may_close, event_may_close, take_has_fields}
-use Rattle.h2_end_laws.specs.Activity.{take_has_data}
+use Rattle.h2_ends.proofs.EndSteps.{kept, taken, parts_handed, handed_part, handed_on, passed_on}
+use Rattle.h2_ends.proofs.EndSteps.{passed_none}
+use Rattle.h2_ends.proofs.InSteps.{tokens_reported, in_step_taken, active_taken, in_step_elsewhere}
 
 -- An end represents what has happened where what it keeps of the one stream is active too.
 pub represents_all : (values : Values) (end : End) (happened : EndLog) (id : ℕ)

@@ -1,12 +1,10 @@
 -- A client and a server don't run out of memory at a frame that needs none.
-use Rattle.std.proofs.Common.{◌≡◌, ◌≢◌, ◌∙◌, ℕ, List, refl, sym, ap}
-use Rattle.h2_frame.specs.declared.code.Code.TheVariants.{InternalError}
-use Rattle.h2_end_laws.specs.Takes.{Failed}
-use Rattle.h2_end_laws.proofs.Promised.{never_out_of_memory}
-use Rattle.h2_message.specs.Reading.{FieldsPart, OctetsPart}
-use Rattle.h2_ends.specs.Ends.{EndLog, EndAnswer, EndFailed, part_of_event}
-use Rattle.h2_ends.specs.EndTakes.{EndMayTake, EndNeedsNoMemory, fails, hands_nothing, passes}
-use Rattle.h2_ends.specs.EndTakes.{hands_out, refuses, refusal_fails, runs_out_of_memory}
+use Rattle.h2_ends.proofs.Names.{◌≡◌, ◌≢◌, ◌∙◌, ℕ, List, refl, sym, ap, InternalError, Failed}
+use Rattle.h2_ends.proofs.Names.{FieldsPart, OctetsPart, EndLog, EndAnswer, EndFailed, EndMayTake}
+use Rattle.h2_ends.proofs.Names.{hands_nothing, passes, hands_out, refusal_fails}
+use Rattle.h2_ends.specs.Ends.{part_of_event}
+use Rattle.h2_laws_end.proofs.Promised.{never_out_of_memory}
+use Rattle.h2_ends.specs.EndTakes.{EndNeedsNoMemory, fails, refuses, runs_out_of_memory}
 
 -- A call that took octets hasn't failed.
 took_none : (count : ℕ) (answer : EndAnswer) (taken : EndAnswer) → answer ≡ taken

@@ -1,34 +1,23 @@
 -- A part of a message that an end reads.
-use Rattle.std.proofs.Common.{◌≡◌, ℕ, Bool, true, false, if◌then◌else◌, List, [], ◌∷◌, ◌++◌}
-use Rattle.std.proofs.Common.{map as each, Option, Some, None, Ok, Err, refl, sym, ap, subst, ◌∙◌}
-use Rattle.std.proofs.Common.{inl, inr}
-use Rattle.std.proofs.lemmas.Bool.{cases_eq}
-use Rattle.hpack.specs.declared.types.field.Field.{Field}
-use Rattle.h2_log.specs.declared.role.Role.{Role}
-use Rattle.h2_log.specs.declared.role.Role.TheVariants.{Client, Server}
-use Rattle.h2_log.specs.Acts.{Values}
-use Rattle.h2_log.specs.Settings.{is_server}
-use Rattle.h2_message.specs.declared.reading.Place.{Place}
-use Rattle.h2_message.specs.declared.reading.Reads.{Reads}
-use Rattle.h2_message.specs.declared.reading.Reads.TheVariants.{Requests, Responses}
-use Rattle.h2_message.specs.declared.reading.Reading.{Reading}
-use Rattle.h2_message.specs.Messages.{SentMessage}
-use Rattle.h2_message.specs.Reading.{Part, FieldsPart, OctetsPart, IsReadable, ended}
-use Rattle.h2_message.specs.Reading.{message_parts, final_parts, trailers_parts}
-use Rattle.h2_message.specs.Phases.{Follows, FollowsFields, FollowsData, place_after}
-use Rattle.h2_ends.specs.declared.end.End.{End}
-use Rattle.h2_ends.specs.declared.outgoing.Outgoing.TheVariants as outgoings
-use Rattle.h2_ends.specs.declared.outgoing.Stream.{Stream}
-use Rattle.h2_ends.specs.declared.taking.Unread.TheVariants as unreads
-use Rattle.h2_ends.specs.Ends.{EndLog, message_for, parts_on, reads_on, asked_head}
-use Rattle.h2_ends.specs.Ends.{tokens_of_part}
-use Rattle.h2_ends.specs.EndTakes.{IsReadableWith}
-use Rattle.h2_ends.specs.Represents.{RepresentsMessages, RepresentsBut, IsKept, IsStream}
-use Rattle.h2_ends.specs.Represents.{IsUntouched, KeepsActive, reads_of_new, kept_at, outgoing_in}
-use Rattle.h2_ends.specs.Taking.{IsReadOn, MustRefuse, ReadsFields, ReadsData, end_with_part}
-use Rattle.h2_ends.specs.Heads.{KeepsOne}
+use Rattle.h2_ends.proofs.Names.{◌≡◌, ℕ, Bool, true, false, if◌then◌else◌, List, [], ◌∷◌, ◌++◌}
+use Rattle.h2_ends.proofs.Names.{Option, Some, None, refl, sym, ap, subst, ◌∙◌, inl, inr, cases_eq}
+use Rattle.h2_ends.proofs.Names.{Field, Role, Client, Server, Values, is_server, Place, Reads}
+use Rattle.h2_ends.proofs.Names.{Requests, Responses, Reading, SentMessage, Part, FieldsPart}
+use Rattle.h2_ends.proofs.Names.{OctetsPart, IsReadable, trailers_parts, Follows, place_after, End}
+use Rattle.h2_ends.proofs.Names.{Stream, EndLog, message_for, parts_on, tokens_of_part}
+use Rattle.h2_ends.proofs.Names.{IsReadableWith, RepresentsMessages, RepresentsBut, IsStream}
+use Rattle.h2_ends.proofs.Names.{IsUntouched, KeepsActive, kept_at, outgoing_in, IsReadOn}
+use Rattle.h2_ends.proofs.Names.{MustRefuse, end_with_part, KeepsOne}
+use Rattle.h2_message.specs.Reading.{ended, message_parts, final_parts}
+use Rattle.h2_ends.specs.Ends.{reads_on, asked_head}
+use Rattle.h2_ends.specs.Represents.{IsKept, reads_of_new}
+use Rattle.h2_ends.specs.Taking.{ReadsFields, ReadsData}
+use Rattle.std.proofs.Common.{map as each, Ok, Err}
+use Rattle.h2_message.specs.Phases.{FollowsFields, FollowsData}
 use Rattle.h2_ends.proofs.EndSteps.{kept}
 use Rattle.h2_ends.proofs.TakeInStep.{part_but, represents_all}
+use Rattle.h2_ends.specs.declared.outgoing.Outgoing.TheVariants as outgoings
+use Rattle.h2_ends.specs.declared.taking.Unread.TheVariants as unreads
 
 -- A stream of which this is kept.
 stream_of : (values : Values) (end : End) (happened : EndLog) (id : ℕ) (part : Part × Bool)

@@ -1,34 +1,23 @@
 -- A stream that is refused at an end, and what the connection is then.
-use Rattle.std.proofs.Common.{◌≡◌, ◌≢◌, ◌⊎◌, ℕ, true, false, Option, Some, None, ◌∷◌, List}
-use Rattle.std.proofs.Common.{arith, inl, inr, refl}
+use Rattle.h2_ends.proofs.Names.{◌≡◌, ◌≢◌, ◌⊎◌, ℕ, true, false, Option, Some, None, ◌∷◌, List}
+use Rattle.h2_ends.proofs.Names.{arith, inl, inr, refl, both_ways, cases_eq, Code, InternalError}
+use Rattle.h2_ends.proofs.Names.{Values, Act, Answer, Refuse, Number, Count, Done, Refused, Log}
+use Rattle.h2_ends.proofs.Names.{log_view, MayAnswer, accepts, lacks, grows_call, IsOver}
+use Rattle.h2_ends.proofs.Names.{is_number_used, used_by_call, tokens_heard, IsPrefixOfTokens}
+use Rattle.h2_ends.proofs.Names.{call_calls, End, EndLog, tokens_handed, end_with_log}
+use Rattle.h2_ends.proofs.Names.{RepresentsBut, IsInStep, WasRefused, MustRefuse}
+use Rattle.h2_spec_log.specs.CallRules.{first_of, conditions, refuse_fault, may_lack_memory}
+use Rattle.h2_spec_log.specs.LogCalls.{with_call, refuses, fails, refused_with}
+use Rattle.h2_laws_end.specs.Activity.{call_may_close}
 use Rattle.std.specs.List.{Contains}
-use Rattle.std.proofs.lemmas.Bool.{both_ways, cases_eq}
-use Rattle.h2_frame.specs.declared.code.Code.{Code}
-use Rattle.h2_frame.specs.declared.code.Code.TheVariants.{InternalError}
-use Rattle.h2_log.specs.Acts.{Values, Act, Answer, Refuse, Number, Count, Done, OutOfMemory}
-use Rattle.h2_log.specs.Acts.{Refused}
-use Rattle.h2_log.specs.CallRules.{first_of, conditions, refuse_fault, may_lack_memory}
-use Rattle.h2_log.specs.Log.{Log}
-use Rattle.h2_log.specs.LogView.{log_view}
-use Rattle.h2_log.specs.LogCalls.{MayAnswer, with_call, accepts, refuses, lacks, fails}
-use Rattle.h2_log.specs.LogCalls.{refused_with}
-use Rattle.h2_log_laws.proofs.LogGrowth.{grows_call}
-use Rattle.h2_end_laws.specs.Over.{IsOver, is_number_used}
-use Rattle.h2_end_laws.proofs.OverCalls.{used_by_call}
+use Rattle.h2_spec_log.specs.Acts.{OutOfMemory}
 use Rattle.h2_conn.specs.Conn.{ConnShows}
-use Rattle.h2_pair.specs.Tokens.{tokens_heard, IsPrefixOfTokens}
-use Rattle.h2_log_laws.proofs.PartsStay.{call_calls}
-use Rattle.h2_ends.specs.declared.end.End.{End}
-use Rattle.h2_ends.specs.Ends.{EndLog, tokens_handed}
-use Rattle.h2_ends.specs.EndTakes.{end_with_log}
-use Rattle.h2_ends.specs.Represents.{RepresentsBut, IsInStep, IsCutShort, WasRefused}
-use Rattle.h2_ends.specs.Taking.{MustRefuse}
+use Rattle.h2_ends.specs.Represents.{IsCutShort}
 use Rattle.h2_ends.proofs.EndTokens.{no_part_tokens}
 use Rattle.h2_ends.proofs.EndSteps.{kept, quiet_call}
 use Rattle.h2_ends.proofs.InSteps.{in_step_called, active_called, owes_called}
 use Rattle.h2_ends.proofs.TakeInStep.{differs}
-use Rattle.h2_end_laws.specs.Activity.{call_may_close}
-use Rattle.h2_end_laws.proofs.ActivityCalls.{inactive_by_refusal}
+use Rattle.h2_laws_end.proofs.ActivityCalls.{inactive_by_refusal}
 
 -- A refusal opens no stream.
 refuse_opens_none : (log : Log) (id code i : ℕ) (answer : Answer)

@@ -1,20 +1,13 @@
 -- What taking octets makes of an end, as its connection answers.
-use Rattle.std.proofs.Common.{◌≡◌, ℕ, List, Option, Some, None, ◌≤◌, refl, sym, subst}
-use Rattle.h2_frame.specs.declared.code.Code.{Code}
-use Rattle.h2_log.specs.Acts.{Values}
-use Rattle.h2_log.specs.Events.{Event}
-use Rattle.h2_log.specs.Log.{Log}
-use Rattle.h2_end_laws.specs.Takes.{TakeAnswer, MayTake, Took, Failed}
-use Rattle.h2_conn.specs.Conn.{ConnRepresents}
-use Rattle.h2_ends.specs.declared.end.End.{End}
-use Rattle.h2_ends.specs.Ends.{EndLog, Handed, EndAnswer, EndTook, EndFailed}
-use Rattle.h2_ends.specs.EndTakes.{end_with_log, fails, hands_nothing}
-use Rattle.h2_ends.specs.Represents.{EndRepresents}
-use Rattle.h2_ends.specs.Taking.{HasReported}
+use Rattle.h2_ends.proofs.Names.{◌≡◌, ℕ, List, Option, Some, None, ◌≤◌, refl, sym, subst, Code}
+use Rattle.h2_ends.proofs.Names.{Values, Event, Log, TakeAnswer, MayTake, Took, Failed}
+use Rattle.h2_ends.proofs.Names.{ConnRepresents, End, EndLog, Handed, EndAnswer, EndTook, EndFailed}
+use Rattle.h2_ends.proofs.Names.{end_with_log, hands_nothing, EndRepresents, HasReported}
+use Rattle.h2_laws_end.specs.Activity.{take_has_data, take_has_fields, take_may_close}
+use Rattle.h2_ends.specs.EndTakes.{fails}
 use Rattle.h2_ends.proofs.EndSteps.{taken, taken_kept, kept}
 use Rattle.h2_ends.proofs.TakeHands.{Hands}
 use Rattle.h2_ends.proofs.TakeInStep.{quiet_taken}
-use Rattle.h2_end_laws.specs.Activity.{take_has_data, take_has_fields, take_may_close}
 
 -- The connection may answer so, and represents the log then.
 abbrev pub Tells : Values → EndLog → List ℕ → TakeAnswer → End → Type 0

@@ -4,24 +4,24 @@ use Rattle.std.specs.Prelude.{map as each, ◌≡◌, ◌≢◌, ◌⊎◌, ◌�
 use Rattle.std.specs.Prelude.{List, [], ◌∷◌, ◌++◌, Option, Some, None, is_none}
 use Rattle.std.specs.Prelude.{Result, Ok, Err}
 use Rattle.hpack.specs.declared.types.field.Field.{Field}
-use Rattle.h2_log.specs.declared.refusal.Refusal.{Refusal}
-use Rattle.h2_log.specs.declared.refusal.Refusal.TheVariants.{Closed, OutputFull, ListTooLarge}
-use Rattle.h2_log.specs.declared.refusal.Refusal.TheVariants.{Memory}
-use Rattle.h2_log.specs.declared.role.Role.TheVariants.{Client, Server}
-use Rattle.h2_log.specs.Acts.{Act, Answer, IsTypedAct, Open, SendFields, SendData, Release}
-use Rattle.h2_log.specs.Acts.{Number, Count, Done, Refused}
-use Rattle.h2_log.specs.Limits.{full_output}
-use Rattle.h2_log.specs.Log.{Log, active, owed, waiting}
-use Rattle.h2_log.specs.LogView.{log_view}
-use Rattle.h2_log.specs.CallRules.{conditions, first_of, is_too_large}
-use Rattle.h2_log.specs.LogCalls.{MayAnswer, with_call}
+use Rattle.h2_spec_log.specs.declared.refusal.Refusal.{Refusal}
+use Rattle.h2_spec_log.specs.declared.refusal.Refusal.TheVariants.{Closed, OutputFull, ListTooLarge}
+use Rattle.h2_spec_log.specs.declared.refusal.Refusal.TheVariants.{Memory}
+use Rattle.h2_spec_log.specs.declared.role.Role.TheVariants.{Client, Server}
+use Rattle.h2_spec_log.specs.Acts.{Act, Answer, IsTypedAct, Open, SendFields, SendData, Release}
+use Rattle.h2_spec_log.specs.Acts.{Number, Count, Done, Refused}
+use Rattle.h2_spec_log.specs.Limits.{full_output}
+use Rattle.h2_spec_log.specs.Log.{Log, active, owed, waiting}
+use Rattle.h2_spec_log.specs.LogView.{log_view}
+use Rattle.h2_spec_log.specs.CallRules.{conditions, first_of, is_too_large}
+use Rattle.h2_spec_log.specs.LogCalls.{MayAnswer, with_call}
 use Rattle.h2_message.specs.declared.malformed.Malformed.{Malformed}
 use Rattle.h2_message.specs.Messages.{SentMessage, trailer_fields, broken_by_request}
 use Rattle.h2_message.specs.Messages.{broken_by_response}
 use Rattle.h2_message.specs.Phases.{asks_head_first}
-use Rattle.h2_pair.specs.Quiet.{IsStuck}
-use Rattle.h2_pair.specs.Tokens.{FieldsToken, OctetToken, EndToken, is_head_alone}
-use Rattle.h2_pair.specs.Tokens.{trailers_tokens}
+use Rattle.h2_laws_pair.specs.Quiet.{IsStuck}
+use Rattle.h2_laws_pair.specs.Tokens.{FieldsToken, OctetToken, EndToken, is_head_alone}
+use Rattle.h2_laws_pair.specs.Tokens.{trailers_tokens}
 use Rattle.h2_ends.specs.declared.refusal.EndRefusal.{EndRefusal}
 use Rattle.h2_ends.specs.declared.refusal.EndRefusal.TheVariants as refusals
 use Rattle.h2_ends.specs.Ends.{EndLog, message_for, parts_on, tokens_waiting}

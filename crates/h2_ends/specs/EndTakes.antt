@@ -4,13 +4,13 @@ use Rattle.std.specs.Prelude.{◌≡◌, ℕ, Bool, true, List, [], ◌∷◌, �
 use Rattle.hpack.specs.declared.types.field.Field.{Field}
 use Rattle.h2_frame.specs.declared.code.Code.{Code}
 use Rattle.h2_frame.specs.declared.code.Code.TheVariants.{InternalError}
-use Rattle.h2_log.specs.declared.role.Role.TheVariants.{Server}
-use Rattle.h2_log.specs.Acts.{Answer, Refuse}
-use Rattle.h2_log.specs.Events.{Event, FieldsEvent, ResetEvent}
-use Rattle.h2_log.specs.Log.{Log}
-use Rattle.h2_log.specs.LogCalls.{MayAnswer, with_call}
-use Rattle.h2_end_laws.specs.Promises.{NeedsNoMemory}
-use Rattle.h2_end_laws.specs.Takes.{MayTake, Took, Failed}
+use Rattle.h2_spec_log.specs.declared.role.Role.TheVariants.{Server}
+use Rattle.h2_spec_log.specs.Acts.{Answer, Refuse}
+use Rattle.h2_spec_log.specs.Events.{Event, FieldsEvent, ResetEvent}
+use Rattle.h2_spec_log.specs.Log.{Log}
+use Rattle.h2_spec_log.specs.LogCalls.{MayAnswer, with_call}
+use Rattle.h2_laws_end.specs.Promises.{NeedsNoMemory}
+use Rattle.h2_laws_end.specs.Takes.{MayTake, Took, Failed}
 use Rattle.h2_message.specs.Reading.{Part, FieldsPart, OctetsPart, IsReadable}
 use Rattle.h2_ends.specs.Ends.{EndLog, Handed, Passed, EndAnswer, EndTook, EndFailed, parts_on}
 use Rattle.h2_ends.specs.Ends.{reads_on, part_of_event, handed_as}
@@ -30,10 +30,10 @@ IsReadableWith end id part = IsReadable (reads_on end id) (parts_on id end.hande
 
 -- The connection takes octets. What it reports is handed out; but a part of a message only where
 -- what was read of the stream with it begins a message that breaks no rule. Else the stream is
--- refused with PROTOCOL_ERROR, and the answer is that this end has reset it (which the last octet of
--- the part may have closed already: then no RST_STREAM is sent); or the connection has failed. At a
--- server the first field block of a stream takes memory, and where that is refused the connection
--- fails.
+-- refused with PROTOCOL_ERROR, and the answer is that this end has reset it (which the last octet
+-- of the part may have closed already: then no RST_STREAM is sent); or the connection has failed.
+-- At a server the first field block of a stream takes memory, and where that is refused the
+-- connection fails.
 -- rule: 8.1.1 A malformed message is a stream error PROTOCOL_ERROR
 -- rule: 8.1.1 (own) How the connection takes a refusal is what is answered
 -- rule: 8.1 (own) A server without memory for a first block fails with INTERNAL_ERROR

@@ -4,9 +4,9 @@ use Rattle.std.specs.Prelude.{◌≡◌, ◌≢◌, ◌⊎◌, ℕ, ◌==◌, Bo
 use Rattle.std.specs.Prelude.{[], ◌∷◌, ◌++◌, length, drop, map as each, Option, Some, None}
 use Rattle.hpack.specs.declared.types.field.Field.{Field}
 use Rattle.h2_frame.specs.declared.code.Code.{Code}
-use Rattle.h2_log.specs.Events.{Event, FieldsEvent, DataEvent}
-use Rattle.h2_log.specs.Settings.{is_server}
-use Rattle.h2_log.specs.Log.{Log}
+use Rattle.h2_spec_log.specs.Events.{Event, FieldsEvent, DataEvent}
+use Rattle.h2_spec_log.specs.Settings.{is_server}
+use Rattle.h2_spec_log.specs.Log.{Log}
 use Rattle.h2_message.specs.declared.reading.Reads.{Reads}
 use Rattle.h2_message.specs.declared.reading.Reads.TheVariants.{Requests, Responses}
 use Rattle.h2_message.specs.declared.reading.Place.{Place}
@@ -14,8 +14,8 @@ use Rattle.h2_message.specs.declared.reading.Place.TheVariants as places
 use Rattle.h2_message.specs.Messages.{SentMessage, asks_head}
 use Rattle.h2_message.specs.Reading.{Part, FieldsPart, OctetsPart}
 use Rattle.h2_message.specs.Phases.{place_after}
-use Rattle.h2_pair.specs.Tokens.{Token, FieldsToken, OctetToken, end_tokens, tokens_sent}
-use Rattle.h2_pair.specs.Tokens.{message_tokens}
+use Rattle.h2_laws_pair.specs.Tokens.{Token, FieldsToken, OctetToken, end_tokens, tokens_sent}
+use Rattle.h2_laws_pair.specs.Tokens.{message_tokens}
 
 -- what an end hands out
 pub data Handed : Type 0 where

@@ -3,11 +3,11 @@
 use Rattle.std.specs.Prelude.{◌≡◌, ◌≢◌, ℕ, Bool, false, if◌then◌else◌, [], Option, Some}
 use Rattle.std.specs.Prelude.{option_map, List, Result, Ok, Err}
 use Rattle.hpack.specs.declared.types.field.Field.{Field}
-use Rattle.h2_log.specs.declared.refusal.Refusal.{Refusal}
-use Rattle.h2_log.specs.Acts.{Values, IsTypedAct, Open, SendFields, Number, Done, Refused}
-use Rattle.h2_log.specs.CallRules.{is_too_large}
-use Rattle.h2_log.specs.Log.{Log}
-use Rattle.h2_log.specs.LogCalls.{MayAnswer, with_call}
+use Rattle.h2_spec_log.specs.declared.refusal.Refusal.{Refusal}
+use Rattle.h2_spec_log.specs.Acts.{Values, IsTypedAct, Open, SendFields, Number, Done, Refused}
+use Rattle.h2_spec_log.specs.CallRules.{is_too_large}
+use Rattle.h2_spec_log.specs.Log.{Log}
+use Rattle.h2_spec_log.specs.LogCalls.{MayAnswer, with_call}
 use Rattle.h2_conn.specs.declared.conn.Conn.{Conn}
 use Rattle.h2_conn.specs.Conn.{ConnRepresents}
 use Rattle.h2_message.specs.declared.message.Message.{Message}
@@ -23,7 +23,7 @@ use Rattle.h2_ends.specs.declared.outgoing.Outgoing.TheVariants as outgoings
 use Rattle.h2_ends.specs.declared.outgoing.Stream.{Stream}
 use Rattle.h2_ends.specs.Ends.{EndLog}
 use Rattle.h2_ends.specs.EndCalls.{RefusesMessage, IsUnchanged, MayRespond}
-use Rattle.h2_pair.specs.Tokens.{is_head_alone}
+use Rattle.h2_laws_pair.specs.Tokens.{is_head_alone}
 use Rattle.h2_ends.specs.EndCalls.{end_with_message}
 use Rattle.h2_ends.specs.Represents.{EndRepresents, InSpan, kept_at}
 

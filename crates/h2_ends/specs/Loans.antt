@@ -3,7 +3,7 @@ use Rattle.std.specs.Prelude.{◌≡◌, ℕ, List, Option, Some, Result, Ok, Er
 use Rattle.hpack.specs.declared.types.field.Field.{Field}
 use Rattle.h2_frame.specs.Frames.{Frame, Encodes}
 use Rattle.h2_wire.specs.Cutter.{HasFrame, octets_of}
-use Rattle.h2_log.specs.Events as log
+use Rattle.h2_spec_log.specs.Events as log
 use Rattle.h2_conn.specs.declared.event.ConnFault.{ConnFault}
 use Rattle.h2_conn.specs.Loans.{octets_of_body}
 use Rattle.h2_ends.specs.declared.end.End.{End}

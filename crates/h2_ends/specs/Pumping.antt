@@ -2,14 +2,15 @@
 use Rattle.std.specs.Prelude.{◌≡◌, ◌≢◌, ◌⊎◌, ◌==◌, ◌≤◌, ◌<◌, ℕ, ◌+◌, Bool, true, List, Option}
 use Rattle.std.specs.Prelude.{if◌then◌else◌, Some, None}
 use Rattle.hpack.specs.declared.types.field.Field.{Field}
-use Rattle.h2_log.specs.declared.role.Role.{Role}
-use Rattle.h2_log.specs.declared.refusal.Refusal.{Refusal}
-use Rattle.h2_log.specs.declared.refusal.Refusal.TheVariants.{OutputFull, Memory}
-use Rattle.h2_log.specs.Acts.{Values, Act, Answer, IsTypedAct, SendFields, SendData, Count, Done}
-use Rattle.h2_log.specs.Limits.{full_output}
-use Rattle.h2_log.specs.Log.{Log, active, waiting}
-use Rattle.h2_log.specs.LogCalls.{MayAnswer, with_call}
-use Rattle.h2_end_laws.specs.Over.{IsOver}
+use Rattle.h2_spec_log.specs.declared.role.Role.{Role}
+use Rattle.h2_spec_log.specs.declared.refusal.Refusal.{Refusal}
+use Rattle.h2_spec_log.specs.declared.refusal.Refusal.TheVariants.{OutputFull, Memory}
+use Rattle.h2_spec_log.specs.Acts.{Values, Act, Answer, IsTypedAct, SendFields, SendData, Count}
+use Rattle.h2_spec_log.specs.Acts.{Done}
+use Rattle.h2_spec_log.specs.Limits.{full_output}
+use Rattle.h2_spec_log.specs.Log.{Log, active, waiting}
+use Rattle.h2_spec_log.specs.LogCalls.{MayAnswer, with_call}
+use Rattle.h2_laws_end.specs.Over.{IsOver}
 use Rattle.h2_conn.specs.declared.conn.Conn.{Conn}
 use Rattle.h2_conn.specs.Conn.{ConnRepresents}
 use Rattle.h2_ends.specs.declared.outgoing.Outgoing.{Outgoing}

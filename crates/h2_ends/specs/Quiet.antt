@@ -1,6 +1,6 @@
 -- When an end is quiet (RFC 9113, sections 6.9 and 8.1).
 use Rattle.std.specs.Prelude.{◌≡◌, ℕ, ℤ, pos, int_lt, true, length, Option, Some, None}
-use Rattle.h2_log.specs.Log.{owed}
+use Rattle.h2_spec_log.specs.Log.{owed}
 use Rattle.h2_ends.specs.Ends.{EndLog}
 use Rattle.h2_ends.specs.EndCalls.{IsStuckOn}
 

@@ -6,13 +6,13 @@ use Rattle.std.specs.List.{Contains}
 use Rattle.std.specs.Map.{lookup}
 use Rattle.std.specs.Ordering.{nat_cmp}
 use Rattle.std.specs.BTreeMap.{is_at}
-use Rattle.h2_log.specs.declared.role.Role.{Role}
-use Rattle.h2_log.specs.declared.role.Role.TheVariants.{Client, Server}
-use Rattle.h2_log.specs.Acts.{Values, Act, Answer, Refuse}
-use Rattle.h2_log.specs.CallRules.{is_too_large}
-use Rattle.h2_log.specs.Log.{Log, active, owed}
-use Rattle.h2_log.specs.LogCalls.{MayAnswer, with_call, opened}
-use Rattle.h2_end_laws.specs.Over.{IsOver, is_number_used}
+use Rattle.h2_spec_log.specs.declared.role.Role.{Role}
+use Rattle.h2_spec_log.specs.declared.role.Role.TheVariants.{Client, Server}
+use Rattle.h2_spec_log.specs.Acts.{Values, Act, Answer, Refuse}
+use Rattle.h2_spec_log.specs.CallRules.{is_too_large}
+use Rattle.h2_spec_log.specs.Log.{Log, active, owed}
+use Rattle.h2_spec_log.specs.LogCalls.{MayAnswer, with_call, opened}
+use Rattle.h2_laws_end.specs.Over.{IsOver, is_number_used}
 use Rattle.h2_conn.specs.Conn.{ConnRepresents}
 use Rattle.h2_message.specs.declared.message.Message.{Message}
 use Rattle.h2_message.specs.declared.reading.Reads.{Reads}
@@ -20,8 +20,8 @@ use Rattle.h2_message.specs.declared.reading.Reads.TheVariants.{Requests, Respon
 use Rattle.h2_message.specs.Messages.{SentMessage, trailer_fields}
 use Rattle.h2_message.specs.Phases.{Follows}
 use Rattle.h2_message.specs.Values.{message_value}
-use Rattle.h2_pair.specs.Tokens.{Token, OctetToken, EndToken, trailers_tokens, message_tokens}
-use Rattle.h2_pair.specs.Tokens.{tokens_heard, IsPrefixOfTokens}
+use Rattle.h2_laws_pair.specs.Tokens.{Token, OctetToken, EndToken, trailers_tokens, message_tokens}
+use Rattle.h2_laws_pair.specs.Tokens.{tokens_heard, IsPrefixOfTokens}
 use Rattle.h2_ends.specs.declared.refusal.EndRefusal.{EndRefusal}
 use Rattle.h2_ends.specs.declared.end.End.{End}
 use Rattle.h2_ends.specs.declared.outgoing.Waiting.{Waiting}

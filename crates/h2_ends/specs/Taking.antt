@@ -5,14 +5,14 @@ use Rattle.std.specs.Prelude.{IfSome, IfOk, Result, Ok, Err}
 use Rattle.hpack.specs.declared.types.field.Field.{Field}
 use Rattle.h2_frame.specs.Frames.{Frame, Encodes}
 use Rattle.h2_wire.specs.Cutter.{HasFrame, octets_of}
-use Rattle.h2_log.specs.declared.role.Role.{Role}
-use Rattle.h2_log.specs.declared.role.Role.TheVariants.{Server}
-use Rattle.h2_log.specs.Acts.{Values}
-use Rattle.h2_log.specs.Events.{Event}
-use Rattle.h2_log.specs.Histories.{IsLog}
-use Rattle.h2_log.specs.Log.{Log, active}
-use Rattle.h2_end_laws.specs.Over.{IsOver, is_number_used}
-use Rattle.h2_end_laws.specs.Takes.{MayTake, Took}
+use Rattle.h2_spec_log.specs.declared.role.Role.{Role}
+use Rattle.h2_spec_log.specs.declared.role.Role.TheVariants.{Server}
+use Rattle.h2_spec_log.specs.Acts.{Values}
+use Rattle.h2_spec_log.specs.Events.{Event}
+use Rattle.h2_spec_log.specs.Histories.{IsLog}
+use Rattle.h2_spec_log.specs.Log.{Log, active}
+use Rattle.h2_laws_end.specs.Over.{IsOver, is_number_used}
+use Rattle.h2_laws_end.specs.Takes.{MayTake, Took}
 use Rattle.h2_conn.specs.declared.event.ConnFault.{ConnFault}
 use Rattle.h2_conn.specs.declared.happened.Happened.{Happened}
 use Rattle.h2_conn.specs.Events.{happened_value}
@@ -20,7 +20,7 @@ use Rattle.h2_conn.specs.Loans.{frame_in, octets_of_body}
 use Rattle.h2_message.specs.declared.reading.Place.{Place}
 use Rattle.h2_message.specs.Reading.{Part, FieldsPart, OctetsPart}
 use Rattle.h2_message.specs.Phases.{place_after}
-use Rattle.h2_pair.specs.Tokens.{tokens_heard, IsPrefixOfTokens}
+use Rattle.h2_laws_pair.specs.Tokens.{tokens_heard, IsPrefixOfTokens}
 use Rattle.h2_ends.specs.declared.end.End.{End}
 use Rattle.h2_ends.specs.declared.taking.HandedOut.{HandedOut}
 use Rattle.h2_ends.specs.declared.taking.HandedOut.TheVariants as parts

@@ -2,12 +2,12 @@
 
 ghost use Rattle.std.specs.Prelude.{◌≡◌, ◌+◌, ◌≤◌, min, false, vec_len, IfOk, IsOk, OnErr};
 ghost use Rattle.std.specs.Vec.{vec_capacity};
-ghost use Rattle.h2_log.specs.Acts.{ResetStream, SendPing, SendGoAway, ChangeSettings, PutOut};
-ghost use Rattle.h2_log.specs.Acts.{Values, Count, Done};
-ghost use Rattle.h2_log.specs.CallRules.{returns_before_put_out};
-ghost use Rattle.h2_log.specs.Log.{Log, waiting};
-ghost use Rattle.h2_log.specs.LogView.{log_view};
-ghost use Rattle.h2_config.specs.ConfigValues.{values_of};
+ghost use Rattle.h2_spec_log.specs.Acts.{ResetStream, SendPing, SendGoAway, ChangeSettings, PutOut};
+ghost use Rattle.h2_spec_log.specs.Acts.{Values, Count, Done};
+ghost use Rattle.h2_spec_log.specs.CallRules.{returns_before_put_out};
+ghost use Rattle.h2_spec_log.specs.Log.{Log, waiting};
+ghost use Rattle.h2_spec_log.specs.LogView.{log_view};
+ghost use Rattle.h2_flow.specs.ConfigValues.{values_of};
 ghost use Rattle.h2_conn.specs.Conn.{ConnRepresents, GivesOut, answer_by};
 ghost use Rattle.h2_ends.specs.Represents.{EndAnswers};
 

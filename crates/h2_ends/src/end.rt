@@ -1,8 +1,8 @@
 //! What a client and a server have in common.
 
 ghost use Rattle.std.specs.Prelude.{◌≡◌, ◌⊎◌, None, IfOk, IfErr};
-ghost use Rattle.h2_config.specs.ConfigValues.{values_of};
-ghost use Rattle.h2_log.specs.Acts.{Values};
+ghost use Rattle.h2_flow.specs.ConfigValues.{values_of};
+ghost use Rattle.h2_spec_log.specs.Acts.{Values};
 ghost use Rattle.h2_ends.specs.Ends.{EndLog};
 ghost use Rattle.h2_ends.specs.Represents.{EndRepresents, RepresentsBut, new_end_log, reads_of_new};
 ghost use Rattle.h2_ends.specs.Represents.{kept_at};
@@ -11,8 +11,8 @@ ghost use Rattle.h2_ends.specs.Sends.{WaitsAsBefore};
 use crate::outgoing::Stream;
 use crate::span::{Span, Spans};
 use h2_conn::{Config, Conn, Refusal};
-use h2_log::Role;
 use h2_message::Reads;
+use h2_spec_log::Role;
 use std::alloc::Global;
 use std::collections::BTreeMap;
 

@@ -5,7 +5,7 @@ ghost use Rattle.std.specs.List.{AllByRecursion};
 ghost use Rattle.h2_message.specs.declared.reading.Reads.TheVariants.{Requests, Responses};
 ghost use Rattle.h2_message.specs.Messages.{SentMessage, broken_by_request, broken_by_response};
 ghost use Rattle.h2_message.specs.Reading.{Part, IsReadable};
-ghost use Rattle.h2_pair.specs.Tokens.{IsPrefixOfTokens, message_tokens};
+ghost use Rattle.h2_laws_pair.specs.Tokens.{IsPrefixOfTokens, message_tokens};
 ghost use Rattle.h2_ends.specs.Ends.{IsNoEmptyPart, tokens_of_parts};
 
 // contract: 8.1 (own) What has come of a message that breaks no rule can be read

@@ -4,7 +4,7 @@ ghost use Rattle.std.specs.Prelude.{◌≢◌, ◌≤◌, length, IfOk, IfErr};
 ghost use Rattle.std.specs.Borrow.{sem};
 ghost use Rattle.std.specs.Io.BufRead.{Rests};
 ghost use Rattle.h2_frame.specs.declared.code.Code.TheVariants.{InternalError};
-ghost use Rattle.h2_log.specs.Acts.{Values};
+ghost use Rattle.h2_spec_log.specs.Acts.{Values};
 ghost use Rattle.h2_ends.specs.Ends.{EndLog};
 ghost use Rattle.h2_ends.specs.EndTakes.{EndNeedsNoMemory};
 ghost use Rattle.h2_ends.specs.Represents.{EndRepresents, EndTakes};

@@ -1,10 +1,10 @@
 //! Whether an end is quiet.
 
 ghost use Rattle.std.specs.Prelude.{◌≡◌, ◌≢◌, ◌↔◌, ℕ, true, false, None};
-ghost use Rattle.h2_log.specs.Acts.{Values};
-ghost use Rattle.h2_log.specs.CallRules.{reader_room};
-ghost use Rattle.h2_log.specs.Log.{Log, active, owed};
-ghost use Rattle.h2_log.specs.LogView.{log_view};
+ghost use Rattle.h2_spec_log.specs.Acts.{Values};
+ghost use Rattle.h2_spec_log.specs.CallRules.{reader_room};
+ghost use Rattle.h2_spec_log.specs.Log.{Log, active, owed};
+ghost use Rattle.h2_spec_log.specs.LogView.{log_view};
 ghost use Rattle.h2_conn.specs.Conn.{ConnRepresents};
 ghost use Rattle.h2_ends.specs.Ends.{EndLog};
 ghost use Rattle.h2_ends.specs.EndCalls.{IsStuckOn};

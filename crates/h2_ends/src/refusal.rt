@@ -1,7 +1,7 @@
 //! Why a call of a client or a server is refused.
 
-use h2_log::Refusal;
 use h2_message::Malformed;
+use h2_spec_log::Refusal;
 use thiserror::Error;
 
 /// Why a call was refused. E3 and E4 come first, then E1, then E2. Nothing has changed, unless the

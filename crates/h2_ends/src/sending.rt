@@ -1,14 +1,14 @@
 //! Sending messages: heads at once, bodies and trailers as windows allow.
 
 ghost use Rattle.std.specs.Prelude.{◌≡◌, ◌<◌, IfSome, IfNone, true, false};
-ghost use Rattle.h2_log.specs.Acts.{Values};
-ghost use Rattle.h2_log.specs.CallRules.{is_too_large};
-ghost use Rattle.h2_log.specs.Log.{Log};
+ghost use Rattle.h2_spec_log.specs.Acts.{Values};
+ghost use Rattle.h2_spec_log.specs.CallRules.{is_too_large};
+ghost use Rattle.h2_spec_log.specs.Log.{Log};
 ghost use Rattle.h2_conn.specs.Conn.{ConnRepresents};
 ghost use Rattle.h2_message.specs.Messages.{trailer_fields};
 ghost use Rattle.h2_message.specs.Values.{message_value};
 ghost use Rattle.h2_ends.specs.Ends.{EndLog};
-ghost use Rattle.h2_pair.specs.Tokens.{is_head_alone};
+ghost use Rattle.h2_laws_pair.specs.Tokens.{is_head_alone};
 ghost use Rattle.h2_ends.specs.Heads.{AnswersHead, IsGiven, OpensStream, SendsHead, outgoing_for};
 ghost use Rattle.h2_ends.specs.Represents.{EndRepresents, EndPumps, EndReleases, EndRequests};
 ghost use Rattle.h2_ends.specs.Represents.{EndResponds};
@@ -20,8 +20,8 @@ use crate::refusal::EndRefusal;
 use crate::span::Span;
 use crate::typed::{check_fields, check_octets};
 use h2_conn::{Conn, Refusal};
-use h2_log::Role;
 use h2_message::{Message, Reading, Reads, asks_head, check_request, check_response};
+use h2_spec_log::Role;
 use hpack::{Field, list_size};
 
 /// The largest list of fields that is sent (RFC 9113, section 6.5.2; own).

@@ -3,13 +3,13 @@
 ghost use Rattle.std.specs.Prelude.{◌≡◌, ◌↔◌, ◌+◌, ◌≤◌, min, true, false, vec_len};
 ghost use Rattle.std.specs.Prelude.{IfOk, IfErr, IsOk, OnErr};
 ghost use Rattle.std.specs.Vec.{vec_capacity};
-ghost use Rattle.h2_config.specs.ConfigValues.{values_of};
-ghost use Rattle.h2_log.specs.declared.role.Role.TheVariants as roles;
-ghost use Rattle.h2_log.specs.Acts.{ResetStream, SendPing, SendGoAway, ChangeSettings, PutOut};
-ghost use Rattle.h2_log.specs.Acts.{Values, Count, Done};
-ghost use Rattle.h2_log.specs.CallRules.{returns_before_put_out};
-ghost use Rattle.h2_log.specs.Log.{Log, waiting};
-ghost use Rattle.h2_log.specs.LogView.{log_view};
+ghost use Rattle.h2_flow.specs.ConfigValues.{values_of};
+ghost use Rattle.h2_spec_log.specs.declared.role.Role.TheVariants as roles;
+ghost use Rattle.h2_spec_log.specs.Acts.{ResetStream, SendPing, SendGoAway, ChangeSettings, PutOut};
+ghost use Rattle.h2_spec_log.specs.Acts.{Values, Count, Done};
+ghost use Rattle.h2_spec_log.specs.CallRules.{returns_before_put_out};
+ghost use Rattle.h2_spec_log.specs.Log.{Log, waiting};
+ghost use Rattle.h2_spec_log.specs.LogView.{log_view};
 ghost use Rattle.h2_conn.specs.Conn.{ConnRepresents, GivesOut, answer_by};
 ghost use Rattle.h2_message.specs.Values.{message_value};
 ghost use Rattle.h2_ends.specs.Ends.{EndLog};
@@ -20,8 +20,8 @@ ghost use Rattle.h2_ends.specs.Represents.{EndResponds, new_end_log};
 use crate::end::End;
 use crate::refusal::EndRefusal;
 use h2_conn::{Config, Conn, Refusal};
-use h2_log::Role;
 use h2_message::Message;
+use h2_spec_log::Role;
 use std::alloc::Global;
 
 /// A server: it takes requests, and gives their responses. It does no input or output.

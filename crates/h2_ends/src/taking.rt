@@ -1,8 +1,8 @@
 //! Taking octets: parts of messages, checked before anyone sees them.
 
 ghost use Rattle.std.specs.Prelude.{◌≡◌, ℕ, ◌≤◌, false, List, Some, None, IfOk, Ok, length};
-ghost use Rattle.h2_log.specs.Acts.{Values, Answer, Refuse};
-ghost use Rattle.h2_log.specs.LogCalls.{MayAnswer, with_call};
+ghost use Rattle.h2_spec_log.specs.Acts.{Values, Answer, Refuse};
+ghost use Rattle.h2_spec_log.specs.LogCalls.{MayAnswer, with_call};
 ghost use Rattle.h2_message.specs.Reading.{FieldsPart, OctetsPart};
 ghost use Rattle.h2_ends.specs.Ends.{EndLog, handed_at};
 ghost use Rattle.h2_ends.specs.EndTakes.{end_with_log};

@@ -1,22 +1,21 @@
 -- What is kept of requests once one of them was answered, or its stream was reset; and at first.
-use Rattle.h2_engines.proofs.Names.{◌≡◌, ◌≢◌, ℕ, Bool, true, false, if◌then◌else◌, List, [], ◌∷◌}
-use Rattle.h2_engines.proofs.Names.{Option, Some, None, Ok, refl, sym, ap, ◌∙◌, subst, inl, inr}
-use Rattle.h2_engines.proofs.Names.{ne_eqb, cases_eq, both_ways, ◌⊎◌, Server, Values, Act}
-use Rattle.h2_engines.proofs.Names.{SendFields, ResetStream, Done, SentMessage, Part, first_in}
-use Rattle.h2_engines.proofs.Names.{call_calls, is_head_alone, EndLog, end_with_log, new_end_log}
-use Rattle.h2_log.specs.LogCalls.{with_call}
+use Rattle.h2_engines.proofs.Names.{◌≡◌, ℕ, Bool, true, false, List, [], ◌∷◌, Option, Some, None}
+use Rattle.h2_engines.proofs.Names.{Ok, refl, sym, ap, ◌∙◌, subst, inl, inr, ne_eqb, cases_eq}
+use Rattle.h2_engines.proofs.Names.{both_ways, Server, Values, Act, SendFields, ResetStream, Done}
+use Rattle.h2_engines.proofs.Names.{SentMessage, Part, first_in, call_calls, is_head_alone, EndLog}
+use Rattle.h2_engines.proofs.Names.{end_with_log, new_end_log, with_call, Request, answer_with}
+use Rattle.h2_engines.proofs.Names.{RequestState, has_not_come, comes, was_answered, was_given_up}
+use Rattle.h2_engines.proofs.Names.{KeepsRequests, KeepsOthers, IsToAnswer, request_at}
+use Rattle.h2_engines.proofs.Names.{IsResponding, WasReportedReset, WasTooLarge, WasAnswered}
+use Rattle.h2_engines.proofs.Names.{AnswersAll, calm}
 use Rattle.h2_message.specs.Phases.{ends_message}
 use Rattle.h2_ends.specs.Ends.{message_for, parts_on}
 use Rattle.h2_ends.specs.EndCalls.{MayRespond, end_with_message}
-use Rattle.h2_engines.specs.declared.request.Request.{Request}
+use Rattle.h2_engines.specs.Answers.{answer_to, body_of_parts, is_too_large_body}
+use Rattle.std.proofs.Common.{◌≢◌, if◌then◌else◌}
+use Rattle.std.specs.Prelude.{◌⊎◌}
 use Rattle.h2_engines.specs.declared.request.Requests.{Requests}
-use Rattle.h2_engines.specs.Answers.{answer_to, answer_with, body_of_parts, is_too_large_body}
-use Rattle.h2_engines.specs.PartialMessages.{RequestState, has_not_come, comes, was_answered}
-use Rattle.h2_engines.specs.PartialMessages.{was_given_up, KeepsRequests, KeepsOthers, IsToAnswer}
-use Rattle.h2_engines.specs.PartialMessages.{request_at}
-use Rattle.h2_engines.specs.ServerHistories.{IsResponding, WasReportedReset, WasTooLarge}
-use Rattle.h2_engines.specs.ServerHistories.{WasAnswered}
-use Rattle.h2_engines.specs.ServerHistories.{AreOnce, AnswersAll, calm}
+use Rattle.h2_engines.specs.ServerHistories.{AreOnce}
 use Rattle.h2_engines.proofs.SameRequests.{SameOn, same_on, stands_as}
 use Rattle.h2_engines.proofs.LinkInvariants.{holds_responding}
 use Rattle.h2_engines.proofs.TakeMessages.{keeps_by_call, taken_says}

@@ -1,44 +1,38 @@
 -- A server whose connection is up, and at which no stream is active, has sent each answer whole,
 -- unless its stream was reset.
 use Rattle.h2_engines.proofs.Names.{◌≡◌, ℕ, Bool, true, false, List, [], ◌∷◌, ◌++◌, Option, Some}
-use Rattle.h2_engines.proofs.Names.{None, refl, sym, ap, ◌∙◌, subst, inl, inr, ◌⊎◌, length, drop}
-use Rattle.h2_engines.proofs.Names.{both_ways, Contains, Server, Values, Act, Answer}
-use Rattle.h2_engines.proofs.Names.{SendFields, ResetStream, Refuse, PutOut, Done, OutOfMemory}
-use Rattle.h2_engines.proofs.Names.{Event, ResetEvent, Log, is_server, MayTake, Took, Failed}
-use Rattle.h2_engines.proofs.Names.{reports_unprocessed, ends_no_frame, ends_frame, meets_fault}
-use Rattle.h2_engines.proofs.Names.{log_after_take, call_calls, first_in, later_in, SentMessage}
-use Rattle.h2_engines.proofs.Names.{Part, Ok, EndLog, Handed, Passed, EndAnswer, end_with_log}
-use Rattle.h2_engines.proofs.Names.{EndMayTake, hands_nothing, passes, hands_out}
-use Rattle.h2_engines.proofs.Names.{runs_out_of_memory, End, EndRepresents, new_end_log}
-use Rattle.h2_engines.proofs.Names.{is_head_alone, TakeAnswer}
-use Rattle.std.proofs.Math.Seq.{drop-append_seam}
-use Rattle.h2_log.specs.LogCalls.{with_call, opened}
-use Rattle.h2_log.specs.LogSteps.{with_sent}
-use Rattle.h2_log.specs.Log.{active}
-use Rattle.h2_log_laws.proofs.LogGrowth.{grows_call}
-use Rattle.h2_end_laws.specs.Takes.{events_answered, has_failed, runs_out_of_memory as lacks_memory}
-use Rattle.h2_pair.specs.Tokens.{Token, message_tokens}
-use Rattle.h2_pair.specs.Undisturbed.{WasAsked}
-use Rattle.h2_pair.proofs.HeardMessages.{unended}
-use Rattle.h2_pair.proofs.Lists.{first_or_later, none_in}
-use Rattle.h2_pair.proofs.NamedUnprocessed.{log_named}
-use Rattle.h2_ends.specs.Ends.{message_for, part_of_event, part_on, parts_on, tokens_given}
-use Rattle.h2_ends.specs.Ends.{tokens_out}
+use Rattle.h2_engines.proofs.Names.{None, refl, sym, ap, ◌∙◌, subst, inl, inr, length, drop}
+use Rattle.h2_engines.proofs.Names.{both_ways, Contains, Server, Values, Act, Answer, SendFields}
+use Rattle.h2_engines.proofs.Names.{ResetStream, Refuse, PutOut, Done, OutOfMemory, Event}
+use Rattle.h2_engines.proofs.Names.{ResetEvent, Log, is_server, MayTake, Took, Failed}
+use Rattle.h2_engines.proofs.Names.{ends_no_frame, ends_frame, meets_fault, log_after_take}
+use Rattle.h2_engines.proofs.Names.{call_calls, first_in, later_in, SentMessage, Part, Ok, EndLog}
+use Rattle.h2_engines.proofs.Names.{Handed, Passed, EndAnswer, end_with_log, EndMayTake}
+use Rattle.h2_engines.proofs.Names.{hands_nothing, passes, hands_out, End, EndRepresents}
+use Rattle.h2_engines.proofs.Names.{new_end_log, is_head_alone, TakeAnswer, drop-append_seam}
+use Rattle.h2_engines.proofs.Names.{with_call, active, grows_call, Token, WasAsked, message_for}
+use Rattle.h2_engines.proofs.Names.{part_on, refusal_fails, take_calls, memory_fails}
+use Rattle.h2_engines.proofs.Names.{is_too_large_body, IsResponding, WasReportedReset, WasAnswered}
+use Rattle.h2_engines.proofs.Names.{AnswersAll, calm}
+use Rattle.h2_spec_log.specs.LogCalls.{opened}
+use Rattle.h2_spec_log.specs.LogSteps.{with_sent}
+use Rattle.h2_ends.specs.Ends.{parts_on, tokens_given, part_of_event, tokens_out}
 use Rattle.h2_ends.specs.EndCalls.{MayRespond}
-use Rattle.h2_ends.specs.EndTakes.{end_with_handed, fails, refuses, refusal_fails}
-use Rattle.h2_ends.proofs.EndTokens.{take_calls}
-use Rattle.h2_ends.proofs.TakeRefusing.{memory_fails}
-use Rattle.h2_engines.specs.Answers.{is_too_large_body}
-use Rattle.h2_engines.specs.ServerHistories as server
-use Rattle.h2_engines.specs.ServerHistories.{IsResponding, WasReportedReset, WasAnswered}
-use Rattle.h2_engines.specs.ServerHistories.{AnswersAll}
-use Rattle.h2_engines.specs.ServerHistories.{calm}
+use Rattle.std.specs.Prelude.{◌⊎◌}
+use Rattle.h2_laws_end.specs.Takes.{reports_unprocessed, events_answered, has_failed}
+use Rattle.h2_laws_end.specs.Takes.{runs_out_of_memory as lacks_memory}
+use Rattle.h2_ends.specs.EndTakes.{runs_out_of_memory, end_with_handed, fails, refuses}
+use Rattle.h2_laws_pair.specs.Tokens.{message_tokens}
+use Rattle.h2_laws_pair.proofs.HeardMessages.{unended}
+use Rattle.h2_laws_pair.proofs.Lists.{first_or_later, none_in}
+use Rattle.h2_laws_pair.proofs.NamedUnprocessed.{log_named}
 use Rattle.h2_engines.specs.Serves.{HasSentWhole}
 use Rattle.h2_engines.proofs.LinkInvariants.{SendsOrReleases, CallsKeep, pumped_keeps}
 use Rattle.h2_engines.proofs.LinkInvariants.{released_keeps, responded_keeps, kept_role}
 use Rattle.h2_engines.proofs.NoteBodies.{too_large_more}
 use Rattle.h2_engines.proofs.SpokenStreams.{IsSpoken, goes_on, has_ended, was_reset, was_asked}
 use Rattle.h2_engines.proofs.SpokenStreams.{was_named, spoken_by_logs}
+use Rattle.h2_engines.specs.ServerHistories as server
 
 -- A stream was reset and that was handed out, or its request is too large.
 abbrev IsDropped : EndLog → ℕ → Type 0

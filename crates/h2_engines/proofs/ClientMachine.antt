@@ -1,26 +1,24 @@
 -- What a client that is driven makes of octets.
-use Rattle.h2_engines.proofs.Names.{◌≡◌, ◌≢◌, ℕ, Bool, true, false, List, ◌∷◌, Some, None, Result}
-use Rattle.h2_engines.proofs.Names.{Ok, Err, refl, sym, ap, ◌∙◌, subst, inl, inr, append-nil}
-use Rattle.h2_engines.proofs.Names.{Contains, Event, SentMessage, first_in, End, EndLog, Handed}
-use Rattle.h2_engines.proofs.Names.{EndAnswer, EndTook, EndFailed, Passed, EndMayTake, LinkError}
-use Rattle.h2_message.specs.Phases.{ends_message}
-use Rattle.h2_ends.specs.Ends.{message_for, part_on, parts_on}
-use Rattle.h2_engines.specs.declared.fetcher.Coming.{Coming}
-use Rattle.h2_engines.specs.declared.machine.Heard.{Heard}
-use Rattle.h2_engines.specs.declared.request.Next.{Next}
-use Rattle.h2_engines.specs.declared.request.Next.TheVariants as nexts
-use Rattle.h2_engines.specs.Fetches.{EndsUnfinished, refused_stream}
+use Rattle.h2_engines.proofs.Names.{◌≡◌, ℕ, Bool, true, false, List, ◌∷◌, Some, None, Result, Ok}
+use Rattle.h2_engines.proofs.Names.{Err, refl, sym, ap, ◌∙◌, subst, inl, inr, append-nil, Contains}
+use Rattle.h2_engines.proofs.Names.{Event, SentMessage, first_in, End, EndLog, Handed, EndAnswer}
+use Rattle.h2_engines.proofs.Names.{EndTook, EndFailed, Passed, EndMayTake, LinkError, ends_message}
+use Rattle.h2_engines.proofs.Names.{message_for, Coming, Heard, Next, EndsUnfinished, ClientHears}
+use Rattle.h2_engines.proofs.Names.{Fetching, MachineState, HearsNoMore, gives_up, Hears, IsDue}
+use Rattle.h2_engines.proofs.Names.{Responds}
+use Rattle.h2_ends.specs.Ends.{part_on, parts_on}
+use Rattle.h2_engines.specs.ClientSteps.{FetchedSo, ErrsFetching, KeepsResponse}
+use Rattle.h2_engines.specs.Machines.{Keeps, fails}
+use Rattle.std.proofs.Common.{◌≢◌}
+use Rattle.h2_engines.specs.Fetches.{refused_stream}
 use Rattle.h2_engines.specs.ClientHistories.{takes}
-use Rattle.h2_engines.specs.ClientSteps.{ClientHears, FetchedSo, ErrsFetching, KeepsResponse}
-use Rattle.h2_engines.specs.Machines.{Fetching, MachineState, Keeps, HearsNoMore, fails, gives_up}
-use Rattle.h2_engines.specs.Machines.{Hears}
-use Rattle.h2_engines.specs.Machines.{IsDue, Responds}
 use Rattle.h2_engines.proofs.LinkInvariants.{fetching_role}
 use Rattle.h2_engines.proofs.FetchLinkParts.{come_not_whole}
 use Rattle.h2_engines.proofs.MachineHears.{hears_on, hears_last}
 use Rattle.h2_engines.proofs.MachineLaws.{unfinished}
 use Rattle.h2_engines.proofs.ServeLinkTakes.{SaysUsed}
 use Rattle.h2_engines.proofs.TakeMessages.{taken_says, kept_failed}
+use Rattle.h2_engines.specs.declared.request.Next.TheVariants as nexts
 
 -- a client, by its parts
 abbrev pub client_with : End → ℕ → Coming → Bool → MachineState

@@ -1,38 +1,32 @@
 -- How a client ends its fetch, over a link and without one, by how it was driven.
 use Rattle.h2_engines.proofs.Names.{◌≡◌, ℕ, Bool, true, false, List, [], ◌∷◌, Option, Some, None}
-use Rattle.h2_engines.proofs.Names.{Result, Ok, Err, if◌then◌else◌, refl, sym, ap, ◌∙◌, subst, inl}
-use Rattle.h2_engines.proofs.Names.{inr, IfErr, eq-eqb, Appends-nil, Field, Code, InternalError}
-use Rattle.h2_engines.proofs.Names.{Client, Values, AreInRange, Log, Keeps-call, SentMessage, Part}
-use Rattle.h2_engines.proofs.Names.{call_given, is_head_alone, EndLog, new_end_log, LinkError}
-use Rattle.std.proofs.Common.{◌⊎◌, map as each, IfOk}
-use Rattle.std.specs.Prelude.{OnErr}
-use Rattle.h2_log.specs.Acts.{Open, Number}
-use Rattle.h2_log.specs.LogCalls.{opened, with_call}
-use Rattle.h2_log.specs.LogSteps.{with_sent}
+use Rattle.h2_engines.proofs.Names.{Result, Ok, Err, refl, sym, ap, ◌∙◌, subst, inl, inr, IfErr}
+use Rattle.h2_engines.proofs.Names.{eq-eqb, Appends-nil, Field, Code, InternalError, Client, Values}
+use Rattle.h2_engines.proofs.Names.{AreInRange, Log, Keeps-call, SentMessage, Part, call_given}
+use Rattle.h2_engines.proofs.Names.{is_head_alone, EndLog, new_end_log, LinkError, Open, Number}
+use Rattle.h2_engines.proofs.Names.{Coming, Fetched, Fetcher, CutsOffAtEnd, IsNotAccepted}
+use Rattle.h2_engines.proofs.Names.{HasRequested, Traffic, IsLinked, HasTakenAll, Course, IsDriven}
+use Rattle.h2_engines.proofs.Names.{EndsFor, lacks_memory, link_fails, has_stalled, stops_itself}
+use Rattle.h2_engines.proofs.Names.{HasEnded, MachineTakesPiece, Drives, HasSentFor, AreHeadsSoFar}
+use Rattle.h2_engines.proofs.Names.{HasCome, IsWhole, interims_alone, interim_parts, error_with}
+use Rattle.h2_engines.proofs.Names.{items_failed}
+use Rattle.h2_spec_log.specs.LogCalls.{opened, with_call}
+use Rattle.h2_spec_log.specs.LogSteps.{with_sent}
 use Rattle.h2_ends.specs.Ends.{message_for, parts_on}
 use Rattle.h2_ends.specs.EndCalls.{MayRequest}
-use Rattle.h2_link.specs.declared.error.LinkError.TheVariants as errors
-use Rattle.h2_engines.specs.declared.fetcher.Coming.{Coming}
-use Rattle.h2_engines.specs.declared.fetcher.Fetched.{Fetched}
-use Rattle.h2_engines.specs.declared.fetcher.Fetcher.{Fetcher}
-use Rattle.h2_engines.specs.declared.request.Next.TheVariants as nexts
-use Rattle.h2_engines.specs.Failures.{CutsOffAtEnd}
-use Rattle.h2_engines.specs.Fetches.{EndsFetchSo, Fetches, IsNotAccepted}
+use Rattle.h2_engines.specs.Machines.{Keeps, TakenSo, DrivenSo, has_failed}
+use Rattle.std.proofs.Common.{if◌then◌else◌, ◌⊎◌, map as each, IfOk}
+use Rattle.std.specs.Prelude.{OnErr}
+use Rattle.h2_engines.specs.Fetches.{EndsFetchSo, Fetches}
 use Rattle.h2_engines.specs.ClientHistories.{IsFetched, begins, requests}
-use Rattle.h2_engines.specs.ClientSteps.{HasRequested, IsFetchedOf}
-use Rattle.h2_engines.specs.Linked.{Traffic, IsLinked, HasTakenAll}
-use Rattle.h2_engines.specs.Machines.{Course, Keeps, IsDriven, EndsFor, lacks_memory, link_fails}
-use Rattle.h2_engines.specs.Machines.{has_failed, has_stalled, stops_itself, HasEnded, TakenSo}
-use Rattle.h2_engines.specs.Machines.{MachineTakesPiece, DrivenSo, Drives, HasSentFor}
-use Rattle.h2_engines.specs.PartialMessages.{AreHeadsSoFar, HasCome, IsWhole, interims_alone}
-use Rattle.h2_engines.specs.PartialMessages.{interim_parts}
-use Rattle.h2_engines.specs.ServerSteps.{error_with}
+use Rattle.h2_engines.specs.ClientSteps.{IsFetchedOf}
 use Rattle.h2_engines.specs.WithoutLink.{IsFetchingAlone, StopsFetchAlone, FetchesInSo}
 use Rattle.h2_engines.specs.WithoutLink.{ClientTakesIn}
 use Rattle.h2_engines.proofs.MachineLaws.{holds_again}
 use Rattle.h2_engines.proofs.MachineViews.{client_held, begun, carried, links_alone, uses_alone}
 use Rattle.h2_engines.proofs.MachineViews.{all_in_part, goes_for, not_cut}
-use Rattle.h2_end_laws.proofs.Failures.{items_failed}
+use Rattle.h2_link.specs.declared.error.LinkError.TheVariants as errors
+use Rattle.h2_engines.specs.declared.request.Next.TheVariants as nexts
 
 -- Nothing has gone over the link.
 nothing_linked : (start : Traffic) (log : Log) → log.input ≡ [] → log.given ≡ 0

@@ -1,25 +1,21 @@
 -- What a client's end hands out of its response, and what is kept of that.
-use Rattle.h2_engines.proofs.Names.{◌≡◌, ℕ, Bool, true, false, if◌then◌else◌, List, [], ◌∷◌, ◌++◌}
-use Rattle.h2_engines.proofs.Names.{length, Some, None, Ok, Err, refl, sym, ap, ◌∙◌, subst, inl}
-use Rattle.h2_engines.proofs.Names.{inr, Field, Client, ResetEvent, is_server, ConnFault, Reads}
-use Rattle.h2_engines.proofs.Names.{Requests, Responses, Place, Part, FieldsPart, OctetsPart}
-use Rattle.h2_engines.proofs.Names.{IsReadable, place_after, End, EndEvent, EndTaken, EndLog}
-use Rattle.h2_engines.proofs.Names.{EndTook, EndFailed, Handed, Passed, asked_head}
-use Rattle.h2_engines.proofs.Names.{event_handed, EndTakes, LinkError}
-use Rattle.std.proofs.Common.{◌⊎◌}
-use Rattle.h2_message.specs.declared.reading.Place.TheVariants as places
-use Rattle.h2_ends.specs.Ends.{handed_as, handed_at, message_for, part_on, parts_on, reads_on}
-use Rattle.h2_link.specs.declared.error.LinkError.TheVariants as errors
-use Rattle.h2_engines.specs.declared.fetcher.Coming.{Coming}
-use Rattle.h2_engines.specs.declared.request.Next.{Next}
-use Rattle.h2_engines.specs.declared.request.Next.TheVariants as goes
-use Rattle.h2_engines.specs.ClientSteps.{ClientHears, FetchedSo, KeepsResponse, ErrsFetching}
-use Rattle.h2_engines.specs.ClientSteps.{NotesPart}
-use Rattle.h2_engines.specs.PartialMessages.{HasCome}
-use Rattle.h2_engines.specs.ServerSteps.{error_with}
+use Rattle.h2_engines.proofs.Names.{◌≡◌, ℕ, Bool, true, false, List, [], ◌∷◌, ◌++◌, length, Some}
+use Rattle.h2_engines.proofs.Names.{None, Ok, Err, refl, sym, ap, ◌∙◌, subst, inl, inr, Field}
+use Rattle.h2_engines.proofs.Names.{Client, ResetEvent, is_server, ConnFault, Reads, Responses}
+use Rattle.h2_engines.proofs.Names.{Place, Part, FieldsPart, OctetsPart, IsReadable, place_after}
+use Rattle.h2_engines.proofs.Names.{End, EndEvent, EndTaken, EndLog, EndTook, EndFailed, Handed}
+use Rattle.h2_engines.proofs.Names.{Passed, event_handed, EndTakes, LinkError, message_for, part_on}
+use Rattle.h2_engines.proofs.Names.{Coming, Next, ClientHears, NotesPart, HasCome, error_with}
+use Rattle.h2_ends.specs.Ends.{handed_as, handed_at, parts_on, reads_on, asked_head}
+use Rattle.h2_engines.specs.ClientSteps.{FetchedSo, KeepsResponse, ErrsFetching}
+use Rattle.std.proofs.Common.{if◌then◌else◌, ◌⊎◌}
+use Rattle.h2_message.specs.declared.reading.Reads.TheVariants.{Requests}
 use Rattle.h2_engines.proofs.FetcherParts.{MayHand, KeepsSoFar, notes_on}
 use Rattle.h2_engines.proofs.FetcherPlaces.{SaysPlace, place_says, octets_say}
 use Rattle.h2_engines.proofs.TakeMessages.{HandsAsRead, hands_event, hands_part, taken_says}
+use Rattle.h2_message.specs.declared.reading.Place.TheVariants as places
+use Rattle.h2_link.specs.declared.error.LinkError.TheVariants as errors
+use Rattle.h2_engines.specs.declared.request.Next.TheVariants as goes
 
 -- A part of the response is handed out as it was read.
 hands_at : (coming : Coming) (id i : ℕ) (list : List Field) (last : Bool) (place : Place)

@@ -1,23 +1,18 @@
 -- Which part of a response may come next, after what has come.
-use Rattle.h2_engines.proofs.Names.{◌≡◌, ◌≢◌, ℕ, Bool, true, false, if◌then◌else◌, List, []}
-use Rattle.h2_engines.proofs.Names.{◌∷◌, ◌++◌, Option, Some, None, option_map, refl}
-use Rattle.h2_engines.proofs.Names.{ap, ◌∙◌, sym, subst, is_some, AllByRecursion, Field}
-use Rattle.h2_engines.proofs.Names.{Malformed, Responses, Phase, AtHead}
-use Rattle.h2_engines.proofs.Names.{Place, first_broken, interim_rules, Part, FieldsPart}
-use Rattle.h2_engines.proofs.Names.{OctetsPart, BreakNone, IsReadable}
-use Rattle.h2_engines.proofs.Names.{place_after}
-use Rattle.h2_message.specs.declared.reading.Place.TheVariants as places
-use Rattle.h2_message.specs.Phases.{phase_after_head}
-use Rattle.h2_message.specs.Phases.{phase_after, phase_after_all, place_at_head}
+use Rattle.h2_engines.proofs.Names.{◌≡◌, ℕ, Bool, true, false, List, [], ◌∷◌, ◌++◌, Option, Some}
+use Rattle.h2_engines.proofs.Names.{None, option_map, refl, ap, ◌∙◌, sym, subst, AllByRecursion}
+use Rattle.h2_engines.proofs.Names.{Field, Malformed, Responses, Phase, AtHead, Place, first_broken}
+use Rattle.h2_engines.proofs.Names.{interim_rules, Part, FieldsPart, OctetsPart, BreakNone}
+use Rattle.h2_engines.proofs.Names.{IsReadable, place_after, Coming, HasCome, interims_alone}
+use Rattle.h2_engines.proofs.Names.{head_and_body, interim_parts, data_parts_of, after_both}
+use Rattle.h2_message.specs.Phases.{phase_after_head, phase_after, phase_after_all, place_at_head}
 use Rattle.h2_message.specs.Phases.{place_in}
+use Rattle.std.proofs.Common.{◌≢◌, if◌then◌else◌}
+use Rattle.std.specs.Prelude.{is_some}
 use Rattle.h2_message.proofs.PhaseWhole.{after_interim}
-use Rattle.h2_engines.specs.declared.fetcher.Coming.{Coming}
-use Rattle.h2_engines.specs.PartialMessages.{HasCome, interims_alone, head_and_body, interim_parts}
-use Rattle.h2_engines.specs.PartialMessages.{data_parts_of}
-use Rattle.h2_engines.proofs.NextParts.{is_begun, final_begun, stays_begun, one_more}
-use Rattle.h2_message.proofs.PhaseSteps.{after_both}
-use Rattle.h2_engines.proofs.NextParts.{place_later}
+use Rattle.h2_engines.proofs.NextParts.{is_begun, final_begun, stays_begun, one_more, place_later}
 use Rattle.h2_message.proofs.ReadingRules.{some_not_none}
+use Rattle.h2_message.specs.declared.reading.Place.TheVariants as places
 
 -- After interim responses a head comes next.
 after_interims : (to_head : Bool) (interims : List (List Field))

@@ -1,17 +1,15 @@
 -- How a new client has made its request.
-use Rattle.h2_engines.proofs.Names.{◌≡◌, ◌≢◌, [], Option, Some, None, Ok, Err, refl, ap, ◌∙◌, subst}
-use Rattle.h2_engines.proofs.Names.{inl, inr, ◌⊎◌, Refusal, Memory, Client, Values, Malformed}
-use Rattle.h2_engines.proofs.Names.{Message, SentMessage, LinkError, End, EndRefusal, EndLog}
-use Rattle.h2_engines.proofs.Names.{EndRepresents, new_end_log}
-use Rattle.h2_log.specs.declared.refusal.Refusal.TheVariants.{ListTooLarge}
-use Rattle.h2_ends.specs.declared.refusal.EndRefusal.TheVariants as refusals
+use Rattle.h2_engines.proofs.Names.{◌≡◌, [], Option, Some, None, Ok, Err, refl, ap, ◌∙◌, subst, inl}
+use Rattle.h2_engines.proofs.Names.{inr, Refusal, Memory, Client, Values, Malformed, Message}
+use Rattle.h2_engines.proofs.Names.{SentMessage, LinkError, End, EndRefusal, EndLog, EndRepresents}
+use Rattle.h2_engines.proofs.Names.{new_end_log, Fetcher, error_after, IsNotAccepted, HasRequested}
 use Rattle.h2_ends.specs.EndCalls.{MayRequest}
+use Rattle.std.proofs.Common.{◌≢◌}
+use Rattle.std.specs.Prelude.{◌⊎◌}
+use Rattle.h2_spec_log.specs.declared.refusal.Refusal.TheVariants.{ListTooLarge}
 use Rattle.h2_ends.specs.Represents.{EndRequests}
-use Rattle.h2_engines.specs.declared.fetcher.Fetcher.{Fetcher}
-use Rattle.h2_engines.specs.Failures.{error_after}
-use Rattle.h2_engines.specs.Fetches.{IsRefusedMessage, IsRefusedOtherwise, IsNotAccepted}
-use Rattle.h2_engines.specs.Fetches.{refusal_of_request}
-use Rattle.h2_engines.specs.ClientSteps.{HasRequested}
+use Rattle.h2_engines.specs.Fetches.{IsRefusedMessage, IsRefusedOtherwise, refusal_of_request}
+use Rattle.h2_ends.specs.declared.refusal.EndRefusal.TheVariants as refusals
 
 -- It was accepted.
 pub has_requested : {values : Values} (message : SentMessage) {old : End} (fetcher : Fetcher)

@@ -5,21 +5,20 @@ use Rattle.h2_engines.proofs.Names.{Refusal, Server, Client, Values, Act, Answer
 use Rattle.h2_engines.proofs.Names.{true, Count, Done, OutOfMemory, Refused, SentMessage}
 use Rattle.h2_engines.proofs.Names.{EndRefusal, EndLog, EndAnswer, EndMayTake, end_with_log, Pumps}
 use Rattle.h2_engines.proofs.Names.{pumps_no_more, pumps_data, pumps_trailers, data_refused}
-use Rattle.h2_engines.proofs.Names.{trailers_refused, Releases, releases_no_more, releases_one}
-use Rattle.h2_engines.proofs.Names.{releases_refused, new_end_log}
-use Rattle.h2_log.specs.Acts.{Open, SendFields, SendData, Release}
-use Rattle.h2_log.specs.Log.{owed}
-use Rattle.h2_log.specs.declared.refusal.Refusal.TheVariants as reasons
-use Rattle.h2_log.specs.LogCalls.{with_call, opened}
-use Rattle.h2_log.specs.LogSteps.{with_sent}
-use Rattle.h2_ends.specs.declared.refusal.EndRefusal.TheVariants as refusals
-use Rattle.h2_ends.specs.EndCalls.{MayRequest, MayRespond, MayPump, MayReleaseAll, IsUnchanged}
-use Rattle.h2_ends.specs.EndCalls.{IsHeadCall}
-use Rattle.h2_engines.specs.ClientHistories as client
+use Rattle.h2_engines.proofs.Names.{trailers_refused, Releases, releases_one, releases_refused}
+use Rattle.h2_engines.proofs.Names.{new_end_log, Open, SendFields, SendData, owed, with_call}
+use Rattle.h2_engines.proofs.Names.{IsResponding}
+use Rattle.h2_spec_log.specs.LogCalls.{opened}
+use Rattle.h2_spec_log.specs.LogSteps.{with_sent}
+use Rattle.h2_ends.specs.EndCalls.{MayRequest, MayRespond, MayPump, MayReleaseAll, releases_no_more}
+use Rattle.h2_ends.specs.EndCalls.{IsUnchanged, IsHeadCall}
+use Rattle.h2_spec_log.specs.Acts.{Release}
 use Rattle.h2_engines.specs.ClientHistories.{IsFetching}
-use Rattle.h2_engines.specs.ServerHistories as server
-use Rattle.h2_engines.specs.ServerHistories.{IsResponding}
 use Rattle.h2_engines.proofs.TakeMessages.{role_by_call, taken_role}
+use Rattle.h2_spec_log.specs.declared.refusal.Refusal.TheVariants as reasons
+use Rattle.h2_ends.specs.declared.refusal.EndRefusal.TheVariants as refusals
+use Rattle.h2_engines.specs.ClientHistories as client
+use Rattle.h2_engines.specs.ServerHistories as server
 
 -- A call puts no output out, refuses no stream, and was not left without memory.
 abbrev pub IsQuiet : Act → Answer → Type 0

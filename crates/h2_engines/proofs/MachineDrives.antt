@@ -3,24 +3,21 @@
 use Rattle.h2_engines.proofs.Names.{◌≡◌, ◌≤◌, ℕ, ◌+◌, ◌-◌, ◌^◌, Bool, true, false, List, [], ◌++◌}
 use Rattle.h2_engines.proofs.Names.{length, take, Option, Result, Ok, Err, refl, sym, ap, ◌∙◌}
 use Rattle.h2_engines.proofs.Names.{subst, append-nil, inl, inr, arith, Appends, Appends-trans, Log}
-use Rattle.h2_engines.proofs.Names.{Values, given_out, full_output, EndLog, LinkError, ◌<◌}
+use Rattle.h2_engines.proofs.Names.{Values, given_out, full_output, EndLog, LinkError, ◌<◌, waiting}
+use Rattle.h2_engines.proofs.Names.{ConnRepresents, EndsWriting, failures_at_end, Traffic, IsLinked}
+use Rattle.h2_engines.proofs.Names.{HasTakenAll, MachineState, Course, IsDriven, lacks_memory}
+use Rattle.h2_engines.proofs.Names.{link_fails, has_stalled, WritesWaiting, MachineTakesPiece}
+use Rattle.h2_engines.proofs.Names.{MessageState, HasSentFor, Serving, Fetching, HasReturnedAll}
+use Rattle.h2_engines.proofs.Names.{HasSentAll, SendsWaiting}
+use Rattle.h2_engines.specs.Machines.{TakenSo, DrivenSo}
 use Rattle.std.proofs.Math.Seq.{take-append_seam}
-use Rattle.h2_log.specs.Log.{waiting}
-use Rattle.h2_conn.specs.Conn.{ConnRepresents}
-use Rattle.h2_link.specs.declared.error.LinkError.TheVariants as errors
 use Rattle.h2_link.specs.Links.{ended_after}
-use Rattle.h2_engines.specs.declared.request.Next.TheVariants as nexts
-use Rattle.h2_engines.specs.Failures.{EndsWriting, failures_at_end}
-use Rattle.h2_engines.specs.Linked.{Traffic, IsLinked, HasTakenAll}
-use Rattle.h2_engines.specs.Machines.{MachineState, Course, IsDriven, lacks_memory, link_fails}
-use Rattle.h2_engines.specs.Machines.{has_stalled, WritesWaiting, TakenSo, MachineTakesPiece}
-use Rattle.h2_engines.specs.Machines.{DrivenSo, MessageState, HasSentFor, Serving, Fetching}
-use Rattle.h2_engines.specs.Serves.{HasReturnedAll, HasSentAll}
-use Rattle.h2_engines.specs.WithoutLink.{SendsWaiting}
 use Rattle.h2_engines.proofs.MachineLaws.{holds_again, stays_driven, ends_going}
 use Rattle.h2_engines.proofs.MachineTakes.{written_driven, ends_unwritten}
 use Rattle.h2_engines.proofs.SentAll.{all_sent}
 use Rattle.h2_engines.proofs.WithoutLinkSends.{sends_at, sent_stays, sent_turns, sent_error}
+use Rattle.h2_link.specs.declared.error.LinkError.TheVariants as errors
+use Rattle.h2_engines.specs.declared.request.Next.TheVariants as nexts
 
 -- What the loop keeps: the machine is driven, these octets weren't used yet, and in each round a
 -- turn has passed at least.

@@ -1,14 +1,13 @@
 -- What a machine that is driven makes of octets, by what a call of `take` has made of its end.
 use Rattle.h2_engines.proofs.Names.{◌≡◌, ℕ, List, length, Option, Ok, Err, EndLog, Handed}
-use Rattle.h2_engines.proofs.Names.{EndAnswer, EndTook, EndMayTake, EndRepresents, LinkError}
-use Rattle.h2_engines.specs.declared.machine.Heard.{Heard}
-use Rattle.h2_engines.specs.declared.request.Next.TheVariants as nexts
-use Rattle.h2_engines.specs.Linked.{Traffic}
-use Rattle.h2_engines.specs.Machines.{MachineState, Course, Happens, Keeps, IsDriven, HearsNoMore}
+use Rattle.h2_engines.proofs.Names.{EndAnswer, EndTook, EndMayTake, EndRepresents, LinkError, Heard}
+use Rattle.h2_engines.proofs.Names.{Traffic, MachineState, Course, Happens, Keeps, IsDriven}
+use Rattle.h2_engines.proofs.Names.{HearsNoMore}
 use Rattle.h2_engines.specs.Machines.{HearsSo}
 use Rattle.h2_engines.proofs.ResponderEnds.{given_within}
 use Rattle.h2_engines.proofs.ServeLinkTakes.{SaysUsed, takes_first, took_links, links_first}
 use Rattle.h2_engines.proofs.TurnsPassed.{turns_of_take, turns_of_answer}
+use Rattle.h2_engines.specs.declared.request.Next.TheVariants as nexts
 
 -- It goes on,
 pub hears_on : {course : Course} {now : Traffic} {old : MachineState} (new : MachineState)

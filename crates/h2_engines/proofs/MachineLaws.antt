@@ -1,29 +1,24 @@
 -- What stays of a machine where nothing of messages has happened at its end, and what may happen
 -- there.
-use Rattle.h2_engines.proofs.Names.{◌≡◌, ◌≢◌, ℕ, Bool, true, false, List, length, Result, Err, refl}
-use Rattle.h2_engines.proofs.Names.{sym, ap, ◌∙◌, subst, inr, SentMessage, EndRefusal, EndLog}
-use Rattle.h2_engines.proofs.Names.{Handed, EndRepresents, LinkError}
-use Rattle.h2_message.specs.Phases.{ends_message}
-use Rattle.h2_ends.specs.Ends.{message_for, parts_on}
-use Rattle.h2_ends.specs.EndCalls.{MayPump, MayReleaseAll}
-use Rattle.h2_link.specs.declared.error.LinkError.TheVariants as errors
-use Rattle.h2_engines.specs.declared.request.Next.{Next}
-use Rattle.h2_engines.specs.declared.request.Next.TheVariants as nexts
-use Rattle.h2_engines.specs.ClientHistories as client
-use Rattle.h2_engines.specs.Failures.{EndsWriting}
-use Rattle.h2_engines.specs.Fetches.{EndsUnfinished}
-use Rattle.h2_engines.specs.Linked.{Traffic, IsLinked, StallsWriting}
-use Rattle.h2_engines.specs.Machines.{MessageState, Serving, Fetching, MachineState, Course}
-use Rattle.h2_engines.specs.Machines.{Happens, Keeps, IsDriven, EndsBeforeResponse, IsDue, EndsFor}
-use Rattle.h2_engines.specs.Machines.{lacks_memory, link_fails, has_stalled, HasEnded}
-use Rattle.h2_engines.specs.PartialMessages.{HasCome, IsWhole}
-use Rattle.h2_engines.specs.ServerHistories as server
-use Rattle.h2_engines.specs.ServerSteps.{IsSameOfMessages}
+use Rattle.h2_engines.proofs.Names.{◌≡◌, ℕ, Bool, true, false, List, length, Result, Err, refl, sym}
+use Rattle.h2_engines.proofs.Names.{ap, ◌∙◌, subst, inr, SentMessage, EndRefusal, EndLog, Handed}
+use Rattle.h2_engines.proofs.Names.{EndRepresents, LinkError, ends_message, message_for, parts_on}
+use Rattle.h2_engines.proofs.Names.{MayPump, MayReleaseAll, Next, EndsWriting, EndsUnfinished}
+use Rattle.h2_engines.proofs.Names.{Traffic, IsLinked, StallsWriting, MessageState, Serving}
+use Rattle.h2_engines.proofs.Names.{Fetching, MachineState, Course, Happens, IsDriven}
+use Rattle.h2_engines.proofs.Names.{EndsBeforeResponse, IsDue, EndsFor, lacks_memory, link_fails}
+use Rattle.h2_engines.proofs.Names.{has_stalled, HasEnded, HasCome, IsWhole, IsSameOfMessages}
+use Rattle.h2_engines.specs.Machines.{Keeps}
+use Rattle.std.proofs.Common.{◌≢◌}
 use Rattle.h2_engines.proofs.FetchLinkParts.{come_not_whole}
 use Rattle.h2_engines.proofs.ResponderEnds.{given_first, given_within}
 use Rattle.h2_engines.proofs.ResponderWrites.{MayPutOut}
 use Rattle.h2_engines.proofs.SameRequests.{kept_same_next}
 use Rattle.h2_engines.proofs.ServeLinkLogs.{goes_links, StaysOn, stays_same}
+use Rattle.h2_link.specs.declared.error.LinkError.TheVariants as errors
+use Rattle.h2_engines.specs.declared.request.Next.TheVariants as nexts
+use Rattle.h2_engines.specs.ClientHistories as client
+use Rattle.h2_engines.specs.ServerHistories as server
 
 -- Whatever has happened at a machine, output may be put out then, what waits sent, and what is owed
 -- given back.

@@ -1,27 +1,24 @@
 -- What a machine makes of a piece, part by part, over a link or without one.
-use Rattle.std.proofs.lemmas.List.{take_rest}
-use Rattle.h2_engines.proofs.Names.{◌≡◌, ◌≢◌, ◌≤◌, ℕ, ◌+◌, ◌-◌, ◌^◌, Bool, true, false, List}
-use Rattle.h2_engines.proofs.Names.{length, take, drop, Some, None, Result, Ok, Err, refl, sym, ◌∙◌}
-use Rattle.h2_engines.proofs.Names.{subst, inl, inr, arith, drop_all, Code, SentMessage, EndLog}
-use Rattle.h2_engines.proofs.Names.{EndRepresents, LinkError}
-use Rattle.std.proofs.lemmas.List.{drop-drop}
-use Rattle.h2_link.specs.declared.error.LinkError.TheVariants as errors
-use Rattle.h2_engines.specs.declared.machine.Heard.{Heard}
-use Rattle.h2_engines.specs.declared.request.Next.{Next}
-use Rattle.h2_engines.specs.declared.request.Next.TheVariants as nexts
-use Rattle.h2_engines.specs.Failures.{EndsWriting, failures_at_end, failures_by}
-use Rattle.h2_engines.specs.Linked.{Traffic, HasTakenAll}
-use Rattle.h2_engines.specs.Machines.{MessageState, Serving, Fetching, MachineState, Course}
-use Rattle.h2_engines.specs.Machines.{Happens, Keeps, IsDriven, EndsBeforeResponse, EndsFor}
-use Rattle.h2_engines.specs.Machines.{lacks_memory, has_failed, has_stalled, stops_itself, HasEnded}
-use Rattle.h2_engines.specs.Machines.{HearsNoMore, fails, gives_up, HasHeardLast, HearsSo, Hears}
-use Rattle.h2_engines.specs.Machines.{IsDue, RespondedSo, Responds, WritesOut, WritesWaiting, flow}
-use Rattle.h2_engines.specs.Machines.{WritesAndResponds, EndsEarly, TakenSo}
+use Rattle.h2_engines.proofs.Names.{◌≡◌, ◌≤◌, ℕ, ◌+◌, ◌-◌, ◌^◌, Bool, true, false, List, length}
+use Rattle.h2_engines.proofs.Names.{take, drop, Some, None, Result, Ok, Err, refl, sym, ◌∙◌, subst}
+use Rattle.h2_engines.proofs.Names.{inl, inr, arith, drop_all, Code, SentMessage, EndLog}
+use Rattle.h2_engines.proofs.Names.{EndRepresents, LinkError, Heard, Next, EndsWriting}
+use Rattle.h2_engines.proofs.Names.{failures_at_end, failures_by, Traffic, HasTakenAll}
+use Rattle.h2_engines.proofs.Names.{MessageState, Serving, Fetching, MachineState, Course, Happens}
+use Rattle.h2_engines.proofs.Names.{IsDriven, EndsBeforeResponse, EndsFor, lacks_memory}
+use Rattle.h2_engines.proofs.Names.{has_stalled, stops_itself, HasEnded, HearsNoMore, gives_up}
+use Rattle.h2_engines.proofs.Names.{Hears, IsDue, Responds, WritesOut, WritesWaiting}
+use Rattle.h2_engines.specs.Machines.{Keeps, HearsSo, RespondedSo, TakenSo, has_failed, fails}
+use Rattle.h2_engines.specs.Machines.{HasHeardLast, flow, WritesAndResponds, EndsEarly}
 use Rattle.h2_engines.specs.PartialMessages.{KeepsNext}
+use Rattle.std.proofs.lemmas.List.{take_rest, drop-drop}
+use Rattle.std.proofs.Common.{◌≢◌}
 use Rattle.h2_engines.proofs.MachineLaws.{keeps_same, holds_same, holds_due, ends_linked}
 use Rattle.h2_engines.proofs.MachineLaws.{ends_going, writing_ends}
 use Rattle.h2_engines.proofs.MachineWrites.{written_links}
 use Rattle.h2_engines.proofs.ResponderRefusals.{waits_none}
+use Rattle.h2_link.specs.declared.error.LinkError.TheVariants as errors
+use Rattle.h2_engines.specs.declared.request.Next.TheVariants as nexts
 
 -- All that waits was written, and the machine is driven on.
 pub written_driven : {course : Course} {before now : Traffic} {old : MachineState}

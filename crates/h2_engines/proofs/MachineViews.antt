@@ -1,20 +1,18 @@
 -- A server and a client as machines, and what stands for a link where there is none.
-use Rattle.h2_engines.proofs.Names.{◌≡◌, ◌≢◌, List, ℕ, [], ◌++◌, Bool, true, false, Some, None}
-use Rattle.h2_engines.proofs.Names.{Result, Ok, Err, refl, sym, ap, ◌∙◌, IfErr, Code, InternalError}
-use Rattle.h2_engines.proofs.Names.{Log, SentMessage, given_out, EndLog, LinkError}
-use Rattle.h2_link.specs.declared.error.LinkError.TheVariants as errors
-use Rattle.h2_engines.specs.declared.fetcher.Fetcher.{Fetcher}
-use Rattle.h2_engines.specs.declared.responder.Responder.{Responder}
-use Rattle.h2_engines.specs.Linked.{Traffic, traffic, IsLinked, IsLinkedInPart}
-use Rattle.h2_engines.specs.Failures.{CutsOffAtEnd, failures_at_end, failures_by}
-use Rattle.h2_engines.specs.Machines.{MachineState, MessageState, Serving, Fetching, EndsFor}
-use Rattle.h2_engines.specs.Machines.{lacks_memory, link_fails, has_failed, has_stalled}
-use Rattle.h2_engines.specs.Machines.{stops_itself, MeetsEnd, cannot_reset, counts_no_more}
-use Rattle.h2_engines.specs.Machines.{answer_refused, reset_refused}
-use Rattle.h2_engines.specs.ServerSteps.{error_with}
+use Rattle.h2_engines.proofs.Names.{◌≡◌, List, ℕ, [], ◌++◌, Bool, true, false, Some, None, Result}
+use Rattle.h2_engines.proofs.Names.{Ok, Err, refl, sym, ap, ◌∙◌, IfErr, Code, InternalError, Log}
+use Rattle.h2_engines.proofs.Names.{SentMessage, given_out, EndLog, LinkError, Fetcher, Responder}
+use Rattle.h2_engines.proofs.Names.{Traffic, traffic, IsLinked, CutsOffAtEnd, failures_at_end}
+use Rattle.h2_engines.proofs.Names.{failures_by, MachineState, MessageState, Serving, Fetching}
+use Rattle.h2_engines.proofs.Names.{EndsFor, lacks_memory, link_fails, has_stalled, stops_itself}
+use Rattle.h2_engines.proofs.Names.{cannot_reset, answer_refused, reset_refused, error_with}
+use Rattle.std.proofs.Common.{◌≢◌}
+use Rattle.h2_engines.specs.Linked.{IsLinkedInPart}
+use Rattle.h2_engines.specs.Machines.{has_failed, MeetsEnd, counts_no_more}
 use Rattle.h2_engines.specs.WithoutLink.{UsesPiece}
 use Rattle.h2_engines.proofs.MachineTakes.{failures_err}
 use Rattle.h2_engines.proofs.ResponderEnds.{given_first}
+use Rattle.h2_link.specs.declared.error.LinkError.TheVariants as errors
 
 -- the two machines
 abbrev pub server_held : Responder → MachineState

@@ -1,18 +1,21 @@
 -- Which part of a message is read next: a head comes first, and nothing after the end.
-use Rattle.h2_engines.proofs.Names.{◌≡◌, ◌≢◌, ℕ, ◌-◌, Bool, true, false, List, [], ◌∷◌, ◌++◌}
-use Rattle.h2_engines.proofs.Names.{length, Option, Some, None, refl, sym, ap, ◌∙◌, append_assoc}
-use Rattle.h2_engines.proofs.Names.{nat_lt, is_some, Field, Reads, Requests, Phase, AtHead, InBody}
-use Rattle.h2_engines.proofs.Names.{AtEnd, first_broken, Part, FieldsPart, OctetsPart, final_rules}
-use Rattle.h2_engines.proofs.Names.{compared_length, IsReadable, place_after, not_readable}
-use Rattle.std.proofs.Common.{map as each}
-use Rattle.std.specs.Prelude.{if◌then◌else◌, not, ◌||◌}
-use Rattle.h2_message.specs.declared.reading.Place.TheVariants as places
+use Rattle.h2_engines.proofs.Names.{◌≡◌, ℕ, ◌-◌, Bool, true, false, List, [], ◌∷◌, ◌++◌, length}
+use Rattle.h2_engines.proofs.Names.{Option, Some, None, refl, sym, ap, ◌∙◌, append_assoc, nat_lt}
+use Rattle.h2_engines.proofs.Names.{Field, Reads, Phase, AtHead, first_broken, Part, FieldsPart}
+use Rattle.h2_engines.proofs.Names.{OctetsPart, IsReadable, place_after, final_parts, after_both}
+use Rattle.h2_message.specs.Reading.{ended, message_parts, final_rules, compared_length}
+use Rattle.h2_message.specs.Reading.{AreSoundInterims}
+use Rattle.h2_message.specs.Phases.{phase_after_head, phase_after, phase_after_all, ends_message}
+use Rattle.h2_message.specs.Phases.{place_at_head, place_in, is_short, phase_in_body}
+use Rattle.h2_message.specs.Phases.{phase_after_final, phase_after_data}
+use Rattle.std.proofs.Common.{◌≢◌, map as each}
+use Rattle.std.specs.Prelude.{is_some, if◌then◌else◌, not, ◌||◌}
+use Rattle.h2_message.specs.declared.reading.Reads.TheVariants.{Requests}
+use Rattle.h2_message.specs.declared.reading.Phase.TheVariants.{InBody, AtEnd}
+use Rattle.h2_message.proofs.PhaseWhole.{not_readable}
 use Rattle.h2_message.specs.Messages.{trailer_rules}
-use Rattle.h2_message.specs.Reading.{AreSoundInterims, ended, message_parts, final_parts}
-use Rattle.h2_message.specs.Phases.{is_short, phase_in_body, phase_after_final, phase_after_head}
-use Rattle.h2_message.specs.Phases.{phase_after_data, phase_after, phase_after_all, ends_message}
-use Rattle.h2_message.specs.Phases.{place_at_head, place_in}
-use Rattle.h2_message.proofs.PhaseSteps.{after_both, after_none}
+use Rattle.h2_message.proofs.PhaseSteps.{after_none}
+use Rattle.h2_message.specs.declared.reading.Place.TheVariants as places
 
 -- Whether no head comes next.
 abbrev pub is_begun : Option Phase → Bool

@@ -2,12 +2,11 @@
 use Rattle.h2_engines.proofs.Names.{◌≡◌, ℕ, ◌+◌, ◌<◌, ◌≤◌, Bool, true, false, List, [], ◌∷◌, ◌++◌}
 use Rattle.h2_engines.proofs.Names.{length, refl, sym, ap, ◌∙◌, append_assoc, append-nil, arith}
 use Rattle.h2_engines.proofs.Names.{nat_lt, Field, method_of, path_of, Part, FieldsPart, OctetsPart}
+use Rattle.h2_engines.proofs.Names.{Request, IsRequest, IsLonger, body_room}
+use Rattle.h2_message.specs.Phases.{ends_message}
+use Rattle.h2_engines.specs.Answers.{body_in, body_of_parts, is_too_large_body, text_of}
 use Rattle.std.proofs.lemmas.Bool.{ltb-true, ltb-false, lt-ltb, le-ltb}
 use Rattle.std.proofs.lemmas.List.{length-append}
-use Rattle.h2_message.specs.Phases.{ends_message}
-use Rattle.h2_engines.specs.declared.request.Request.{Request}
-use Rattle.h2_engines.specs.Answers.{IsRequest, body_in, body_of_parts, is_too_large_body, text_of}
-use Rattle.h2_engines.specs.PartialMessages.{IsLonger, body_room}
 
 -- The last part says whether it ends.
 pub ends_last : (parts : List (Part × Bool)) (part : Part) (last : Bool)

@@ -1,21 +1,20 @@
 -- What was handed out at a server is kept as it is noted.
-use Rattle.h2_engines.proofs.Names.{◌≡◌, ◌≢◌, ℕ, ◌≤◌, Bool, true, false, List, [], ◌∷◌, ◌++◌}
-use Rattle.h2_engines.proofs.Names.{length, Option, Some, None, refl, sym, ap, ◌∙◌, subst, inl, inr}
-use Rattle.h2_engines.proofs.Names.{arith, ◌⊎◌, both_ways, cases_eq, Field, Server, Event}
-use Rattle.h2_engines.proofs.Names.{ResetEvent, Part, FieldsPart, OctetsPart, EndLog, EndTook}
-use Rattle.h2_engines.proofs.Names.{Handed, Passed, EndMayTake}
+use Rattle.h2_engines.proofs.Names.{◌≡◌, ℕ, ◌≤◌, Bool, true, false, List, [], ◌∷◌, ◌++◌, length}
+use Rattle.h2_engines.proofs.Names.{Option, Some, None, refl, sym, ap, ◌∙◌, subst, inl, inr, arith}
+use Rattle.h2_engines.proofs.Names.{both_ways, cases_eq, Field, Server, Event, ResetEvent, Part}
+use Rattle.h2_engines.proofs.Names.{FieldsPart, OctetsPart, EndLog, EndTook, Handed, Passed}
+use Rattle.h2_engines.proofs.Names.{EndMayTake, message_for, parts_on, Next, Request, IsRequest}
+use Rattle.h2_engines.proofs.Names.{is_too_large_body, RequestState, has_not_come, comes}
+use Rattle.h2_engines.proofs.Names.{was_answered, was_given_up, KeepsRequests, KeepsOthers}
+use Rattle.h2_engines.proofs.Names.{IsToAnswer, request_at, ChangesAt, WasReportedReset}
+use Rattle.h2_engines.proofs.Names.{WasTooLarge}
 use Rattle.h2_message.specs.Phases.{ends_message}
-use Rattle.h2_ends.specs.Ends.{message_for, parts_on}
-use Rattle.h2_engines.specs.declared.request.Next.{Next}
-use Rattle.h2_engines.specs.declared.request.Next.TheVariants as nexts
-use Rattle.h2_engines.specs.declared.request.Request.{Request}
+use Rattle.h2_engines.specs.Answers.{body_in}
+use Rattle.h2_engines.specs.PartialMessages.{KeepsNext, EndsRequest, AddsOctets, EndsKept}
+use Rattle.h2_engines.specs.PartialMessages.{NotesHanded, NotesTaken}
+use Rattle.std.proofs.Common.{◌≢◌}
+use Rattle.std.specs.Prelude.{◌⊎◌}
 use Rattle.h2_engines.specs.declared.request.Requests.{Requests}
-use Rattle.h2_engines.specs.Answers.{IsRequest, body_in, is_too_large_body}
-use Rattle.h2_engines.specs.PartialMessages.{RequestState, has_not_come, comes, was_answered}
-use Rattle.h2_engines.specs.PartialMessages.{was_given_up, KeepsRequests, KeepsOthers, IsToAnswer}
-use Rattle.h2_engines.specs.PartialMessages.{KeepsNext, request_at, ChangesAt, EndsRequest}
-use Rattle.h2_engines.specs.PartialMessages.{AddsOctets, EndsKept, NotesHanded, NotesTaken}
-use Rattle.h2_engines.specs.ServerHistories.{WasReportedReset, WasTooLarge}
 use Rattle.h2_engines.proofs.NoteBodies.{ends_last, is_large, is_not_large, not_large}
 use Rattle.h2_engines.proofs.NoteBodies.{too_large_more, no_room, has_room, longer_request}
 use Rattle.h2_engines.proofs.NoteBodies.{same_request, body_same}
@@ -24,6 +23,7 @@ use Rattle.h2_engines.proofs.TakeRequests.{hands_event, server_hands, Hands, Han
 use Rattle.h2_engines.proofs.TakeRequests.{body_hands, trailers_hands, event_besides, reset_now}
 use Rattle.h2_engines.proofs.SameRequests.{SameOn, same_on, stands_as}
 use Rattle.h2_engines.proofs.TakeMessages.{taken_says, take_keeps_calls}
+use Rattle.h2_engines.specs.declared.request.Next.TheVariants as nexts
 
 -- Where only what is kept of one stream changes, it stands so with all requests, or all others.
 changes_all : {old new : Requests} (end : EndLog) {after : EndLog} {id : ℕ} {now : Option Request}

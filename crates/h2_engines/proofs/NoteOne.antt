@@ -1,10 +1,9 @@
 -- What is nothing of a request is noted as nothing.
-use Rattle.h2_engines.proofs.Names.{◌≡◌, ℕ, Bool, List, Bor}
-use Rattle.h2_engines.proofs.Names.{refl, Field, EndEvent, event_handed}
+use Rattle.h2_engines.proofs.Names.{◌≡◌, ℕ, Bool, List, Bor, refl, Field, EndEvent, event_handed}
+use Rattle.h2_engines.specs.PartialMessages.{NotesHanded}
+use Rattle.h2_engines.specs.declared.request.Requests.{Requests}
 use Rattle.h2_ends.specs.declared.event.EndEvent.TheVariants as events
 use Rattle.h2_engines.specs.declared.request.Next.TheVariants as nexts
-use Rattle.h2_engines.specs.declared.request.Requests.{Requests}
-use Rattle.h2_engines.specs.PartialMessages.{NotesHanded}
 
 pub notes_other : (old : Requests) (event : EndEvent)
     → ((id : ℕ) (list : Bor (List Field)) (last : Bool) → event ≡ events.Head id list last → ⊥)

@@ -1,12 +1,11 @@
 -- What is noted of a response, part by part.
-use Rattle.h2_engines.proofs.Names.{◌≡◌, ℕ, Bool, false, if◌then◌else◌, List, [], ◌∷◌, Bor, refl}
-use Rattle.h2_engines.proofs.Names.{ap, ◌==◌, ne_eqb, Field, Part, EndEvent}
-use Rattle.h2_engines.proofs.Names.{event_handed}
-use Rattle.std.specs.Prelude.{◌≢◌}
-use Rattle.h2_ends.specs.declared.event.EndEvent.TheVariants as events
+use Rattle.h2_engines.proofs.Names.{◌≡◌, ℕ, Bool, false, List, [], ◌∷◌, Bor, refl, ap, ne_eqb}
+use Rattle.h2_engines.proofs.Names.{Field, Part, EndEvent, event_handed, Coming, NotesPart}
+use Rattle.h2_engines.proofs.Names.{notes_nothing}
 use Rattle.h2_ends.specs.Ends.{part_on}
-use Rattle.h2_engines.specs.declared.fetcher.Coming.{Coming}
-use Rattle.h2_engines.specs.ClientSteps.{NotesPart, notes_nothing}
+use Rattle.std.proofs.Common.{if◌then◌else◌}
+use Rattle.std.specs.Prelude.{◌==◌, ◌≢◌}
+use Rattle.h2_ends.specs.declared.event.EndEvent.TheVariants as events
 
 -- A part of another stream is none of the response.
 pub other_stream : (stream id : ℕ) (part : Part × Bool) → stream ≢ id

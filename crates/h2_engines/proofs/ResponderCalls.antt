@@ -1,12 +1,12 @@
 -- What the calls of a server that answer, reset and end say of it, by what its end has answered.
-use Rattle.h2_engines.proofs.Names.{◌≡◌, ◌≢◌, ℕ, Ok, Err, refl, sym, subst, Refusal}
-use Rattle.h2_engines.proofs.Names.{TooManyResets, Memory, ResetStream, Refused, LinkError}
-use Rattle.h2_engines.proofs.Names.{Message, SentMessage, End, EndRefusal, Conn, EndAnswers}
+use Rattle.h2_engines.proofs.Names.{◌≡◌, ℕ, Ok, Err, refl, sym, subst, Refusal, TooManyResets}
+use Rattle.h2_engines.proofs.Names.{Memory, ResetStream, Refused, LinkError, Message, SentMessage}
+use Rattle.h2_engines.proofs.Names.{End, EndRefusal, EndAnswers, error_after, calm, ServerAnswers}
+use Rattle.h2_engines.proofs.Names.{ServerResets, is_refused}
+use Rattle.h2_engines.specs.ServerSteps.{AnsweredSo, ResetSo}
+use Rattle.std.proofs.Common.{◌≢◌}
+use Rattle.h2_ends.specs.declared.refusal.EndRefusal.TheVariants.{Conn}
 use Rattle.h2_ends.specs.Represents.{EndResponds}
-use Rattle.h2_engines.specs.Failures.{error_after}
-use Rattle.h2_engines.specs.ServerHistories.{calm}
-use Rattle.h2_engines.specs.ServerSteps.{ServerAnswers, AnsweredSo, ServerResets, ResetSo}
-use Rattle.h2_engines.specs.ServerSteps.{is_refused}
 
 -- The answer is taken.
 pub answers_done : (old new : End) (id : ℕ) {message is : SentMessage} (count : ℕ)

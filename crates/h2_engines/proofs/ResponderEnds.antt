@@ -1,12 +1,13 @@
 -- What a call that puts output out, and writing its octets to a link, make of an end and of what
 -- has gone over the link.
 use Rattle.h2_engines.proofs.Names.{◌≡◌, ◌≤◌, ℕ, List, [], ◌++◌, length, take, drop, refl, sym, ap}
-use Rattle.h2_engines.proofs.Names.{◌∙◌, subst, append_assoc, append-nil, take-append-drop, Appends}
-use Rattle.h2_engines.proofs.Names.{Appends-trans, Refusal, Values, Act, Answer, Refused, Log}
-use Rattle.h2_engines.proofs.Names.{Keeps-call, given_out, End, EndLog, end_with_log, EndRepresents}
-use Rattle.h2_log.specs.LogCalls.{with_call}
-use Rattle.h2_engines.specs.Linked.{Traffic, HasGiven, IsLinked, HasTakenFirst}
-use Rattle.h2_engines.specs.ServerSteps.{IsSameOfMessages}
+use Rattle.h2_engines.proofs.Names.{◌∙◌, subst, append_assoc, append-nil, Appends, Appends-trans}
+use Rattle.h2_engines.proofs.Names.{Refusal, Values, Act, Answer, Refused, Log, Keeps-call}
+use Rattle.h2_engines.proofs.Names.{given_out, End, EndLog, end_with_log, EndRepresents, Traffic}
+use Rattle.h2_engines.proofs.Names.{HasGiven, IsLinked, IsSameOfMessages}
+use Rattle.h2_spec_log.specs.LogCalls.{with_call}
+use Rattle.std.proofs.lemmas.List.{take-append-drop}
+use Rattle.h2_engines.specs.Linked.{HasTakenFirst}
 use Rattle.h2_engines.proofs.TakeMessages.{keeps_by_call}
 
 -- Nothing has happened, or nothing twice.

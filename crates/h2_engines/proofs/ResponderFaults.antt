@@ -1,8 +1,10 @@
 -- How often a link has failed, and what it has taken, where writing to it has ended early.
-use Rattle.h2_engines.proofs.Names.{◌≡◌, ◌≢◌, ℕ, ◌+◌, List, Option, Err, ap, ◌∙◌, LinkError}
-use Rattle.h2_link.specs.declared.error.LinkError.TheVariants as errors
+use Rattle.h2_engines.proofs.Names.{◌≡◌, ℕ, ◌+◌, List, Option, Err, ap, ◌∙◌, LinkError}
+use Rattle.h2_engines.proofs.Names.{failures_at_end, IsOfCall, EndsWriting}
 use Rattle.h2_link.specs.Links.{WritesAll, TakesFirst}
-use Rattle.h2_engines.specs.Failures.{failures_at_end, IsOfCall, EndsWriting, IsOfServer}
+use Rattle.std.proofs.Common.{◌≢◌}
+use Rattle.h2_engines.specs.Failures.{IsOfServer}
+use Rattle.h2_link.specs.declared.error.LinkError.TheVariants as errors
 
 -- The link took some first octets,
 pub written_some : (before after : Option (List ℕ)) (failures failures_now : ℕ)

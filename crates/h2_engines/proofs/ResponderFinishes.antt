@@ -1,14 +1,14 @@
 -- What a server has left once the input has ended, by what its connection answers of itself.
-use Rattle.h2_engines.proofs.Names.{◌≡◌, ◌≢◌, inl, inr, ℕ, ◌<◌, ◌≤◌, Bool, true, false}
-use Rattle.h2_engines.proofs.Names.{if◌then◌else◌, List, [], ◌∷◌, length, Option, Some, None, Ok}
-use Rattle.h2_engines.proofs.Names.{Err, refl, sym, ap, ◌∙◌, arith, both_ways, Code, Log, EndLog}
-use Rattle.std.proofs.Common.{◌==◌, ◌||◌, is_some, zero, suc}
-use Rattle.std.proofs.lemmas.Bool.{and_parts, or_parts, eqb-true, false_from_ne_true}
-use Rattle.h2_log.specs.Log.{active, next_active, reader_next_live, reader_held}
-use Rattle.h2_log_laws.proofs.NextStreams.{next_passes, next_found}
-use Rattle.h2_link.specs.declared.error.LinkError.TheVariants as errors
+use Rattle.h2_engines.proofs.Names.{◌≡◌, inl, inr, ℕ, ◌<◌, ◌≤◌, Bool, true, false, List, [], ◌∷◌}
+use Rattle.h2_engines.proofs.Names.{length, Option, Some, None, Ok, Err, refl, sym, ap, ◌∙◌, arith}
+use Rattle.h2_engines.proofs.Names.{both_ways, Code, Log, EndLog, and_parts, or_parts, eqb-true}
+use Rattle.h2_engines.proofs.Names.{false_from_ne_true, active}
 use Rattle.h2_engines.specs.ServerSteps.{FinishedSo}
+use Rattle.std.proofs.Common.{◌≢◌, if◌then◌else◌, ◌==◌, ◌||◌, is_some, zero, suc}
+use Rattle.h2_spec_log.specs.Log.{next_active, reader_next_live, reader_held}
+use Rattle.h2_laws_log.proofs.NextStreams.{next_passes, next_found}
 use Rattle.h2_ends.proofs.PumpSteps.{none_by, zero_inactive, some_by}
+use Rattle.h2_link.specs.declared.error.LinkError.TheVariants as errors
 
 -- How many octets are held while the connection is up.
 held_by : (failed : Option Code) (count : ℕ) → failed ≡ None

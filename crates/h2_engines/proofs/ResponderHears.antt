@@ -1,17 +1,16 @@
 -- What a call of `take` has made of a piece, and of what is kept of requests.
-use Rattle.h2_engines.proofs.Names.{◌≡◌, ◌≢◌, ℕ, Bool, true, false, List, length, Option, Some}
-use Rattle.h2_engines.proofs.Names.{None, Ok, Err, refl, inl, inr, ResetEvent, ConnFault, End}
-use Rattle.h2_engines.proofs.Names.{EndEvent, EndTaken, Handed, HeadHanded, BodyHanded}
-use Rattle.h2_engines.proofs.Names.{TrailersHanded, Passed, event_handed, EndTakes}
-use Rattle.std.proofs.Common.{◌⊎◌}
-use Rattle.h2_link.specs.declared.error.LinkError.TheVariants as errors
-use Rattle.h2_engines.specs.declared.request.Next.{Next}
-use Rattle.h2_engines.specs.declared.request.Next.TheVariants as nexts
-use Rattle.h2_engines.specs.declared.request.Request.{Request}
-use Rattle.h2_engines.specs.declared.request.Requests.{Requests}
+use Rattle.h2_engines.proofs.Names.{◌≡◌, ℕ, Bool, true, false, List, length, Option, Some, None, Ok}
+use Rattle.h2_engines.proofs.Names.{Err, refl, inl, inr, ResetEvent, ConnFault, End, EndEvent}
+use Rattle.h2_engines.proofs.Names.{EndTaken, Handed, HeadHanded, BodyHanded, TrailersHanded}
+use Rattle.h2_engines.proofs.Names.{Passed, event_handed, EndTakes, Next, Request, request_at}
+use Rattle.h2_engines.proofs.Names.{ServerHears, error_with}
 use Rattle.h2_engines.specs.PartialMessages.{NotesHanded, NotesTaken, AddsOctets, EndsKept}
-use Rattle.h2_engines.specs.PartialMessages.{EndsRequest, request_at}
-use Rattle.h2_engines.specs.ServerSteps.{ServerHears, HeardSo, ErrsServing, error_with}
+use Rattle.h2_engines.specs.PartialMessages.{EndsRequest}
+use Rattle.h2_engines.specs.ServerSteps.{HeardSo, ErrsServing}
+use Rattle.std.proofs.Common.{◌≢◌, ◌⊎◌}
+use Rattle.h2_engines.specs.declared.request.Requests.{Requests}
+use Rattle.h2_link.specs.declared.error.LinkError.TheVariants as errors
+use Rattle.h2_engines.specs.declared.request.Next.TheVariants as nexts
 
 -- Where something was handed out, there may be more.
 ends_on : (old new : Requests) (id : ℕ) (end : Bool) (request : Request) (next : Next)

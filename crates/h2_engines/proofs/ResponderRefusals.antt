@@ -1,22 +1,21 @@
 -- What a call of an end that is refused makes of a connection over a link.
-use Rattle.h2_engines.proofs.Names.{◌≡◌, ◌≢◌, ℕ, Bool, true, false, if◌then◌else◌, length, Some}
-use Rattle.h2_engines.proofs.Names.{None, Err, refl, ap, subst, inl, inr, arith}
-use Rattle.h2_engines.proofs.Names.{length-take, SendFields, has_failed, is_no_stream, is_full}
+use Rattle.h2_engines.proofs.Names.{◌≡◌, ℕ, Bool, true, false, length, Some, None, Err, refl, ap}
+use Rattle.h2_engines.proofs.Names.{subst, inl, inr, arith, SendFields, is_no_stream, is_full}
 use Rattle.h2_engines.proofs.Names.{full_output, Log, log_view, SentMessage, is_head_alone}
-use Rattle.h2_engines.proofs.Names.{LinkError, End, EndRefusal, EndLog}
-use Rattle.std.specs.Prelude.{nat_le}
-use Rattle.h2_log.specs.CallRules.{conditions, first_of, is_too_large}
-use Rattle.h2_log.specs.Log.{output, waiting}
-use Rattle.h2_log.specs.View.{ended_out}
-use Rattle.h2_log.specs.declared.refusal.Refusal.TheVariants as reasons
-use Rattle.h2_message.specs.Messages.{trailer_fields}
-use Rattle.h2_ends.specs.declared.refusal.EndRefusal.TheVariants as refusals
+use Rattle.h2_engines.proofs.Names.{LinkError, End, EndRefusal, EndLog, error_after, Traffic}
+use Rattle.h2_engines.proofs.Names.{IsWrittenOut, ReleasesSome}
+use Rattle.h2_spec_log.specs.CallRules.{conditions, first_of, has_failed, is_too_large}
+use Rattle.h2_spec_log.specs.Log.{output, waiting}
 use Rattle.h2_ends.specs.EndCalls.{MayRespond, RefusesMessage, refusal_of_message}
+use Rattle.h2_engines.specs.ServerSteps.{EndsAfter, EndsRelease}
+use Rattle.std.proofs.Common.{◌≢◌, if◌then◌else◌}
+use Rattle.std.proofs.lemmas.List.{length-take}
+use Rattle.std.specs.Prelude.{nat_le}
+use Rattle.h2_spec_log.specs.View.{ended_out}
+use Rattle.h2_message.specs.Messages.{trailer_fields}
 use Rattle.h2_ends.specs.Represents.{EndReleases}
-use Rattle.h2_engines.specs.Failures.{error_after}
-use Rattle.h2_engines.specs.Linked.{Traffic}
-use Rattle.h2_engines.specs.ServerSteps.{EndsAfter, EndsRelease, IsWrittenOut}
-use Rattle.h2_engines.specs.ServerSteps.{ReleasesSome}
+use Rattle.h2_spec_log.specs.declared.refusal.Refusal.TheVariants as reasons
+use Rattle.h2_ends.specs.declared.refusal.EndRefusal.TheVariants as refusals
 
 -- A release that was refused otherwise ends as the refusal says.
 ends_release : (refusal : EndRefusal) {error : LinkError}

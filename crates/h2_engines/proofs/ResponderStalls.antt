@@ -1,17 +1,16 @@
 -- Why what waits is not written: the link has stalled, or memory was refused.
-use Rattle.h2_engines.proofs.Names.{◌≡◌, ◌≢◌, ℕ, ◌∷◌, None, Result, Ok, Err, refl, ap, ◌∙◌, inl}
-use Rattle.h2_engines.proofs.Names.{Refusal, PutOut, Refused, Log, MayAnswer, accepts, refuses}
-use Rattle.h2_engines.proofs.Names.{lacks, fails, LinkError, StallsAtNoProgress, EndRefusal, EndLog}
-use Rattle.h2_engines.proofs.Names.{call_calls, end_with_log}
-use Rattle.h2_log.specs.LogCalls.{with_call}
-use Rattle.h2_log.specs.declared.refusal.Refusal.TheVariants as reasons
-use Rattle.h2_log.specs.CallRules.{conditions, first_of}
+use Rattle.h2_engines.proofs.Names.{◌≡◌, ℕ, ◌∷◌, None, Result, Ok, Err, refl, ap, ◌∙◌, inl, Refusal}
+use Rattle.h2_engines.proofs.Names.{PutOut, Refused, Log, MayAnswer, accepts, lacks, LinkError}
+use Rattle.h2_engines.proofs.Names.{StallsAtNoProgress, EndRefusal, EndLog, call_calls}
+use Rattle.h2_engines.proofs.Names.{end_with_log, with_call, error_after, Traffic, StallsWriting}
+use Rattle.h2_spec_log.specs.CallRules.{conditions, first_of}
+use Rattle.h2_ends.specs.EndCalls.{MayPump}
+use Rattle.h2_engines.specs.ServerSteps.{EndsAfter}
+use Rattle.std.proofs.Common.{◌≢◌}
+use Rattle.h2_spec_log.specs.LogCalls.{refuses, fails}
+use Rattle.h2_spec_log.specs.declared.refusal.Refusal.TheVariants as reasons
 use Rattle.h2_link.specs.declared.error.LinkError.TheVariants as errors
 use Rattle.h2_ends.specs.declared.refusal.EndRefusal.TheVariants as refusals
-use Rattle.h2_ends.specs.EndCalls.{MayPump}
-use Rattle.h2_engines.specs.Failures.{error_after}
-use Rattle.h2_engines.specs.Linked.{Traffic, StallsWriting}
-use Rattle.h2_engines.specs.ServerSteps.{EndsAfter}
 
 -- The link has stalled where a write says so, and wants no memory.
 pub stalls_by_link : (now : Traffic) (end : EndLog) (error : LinkError) → error ≢ errors.Memory

@@ -1,20 +1,15 @@
 -- What has happened at an end and over a link since its output began to be written.
-use Rattle.h2_engines.proofs.Names.{◌≡◌, ◌≢◌, ◌≤◌, ◌<◌, ℕ, ◌+◌, ◌-◌, ◌^◌, List, [], length, take}
-use Rattle.h2_engines.proofs.Names.{Ok, Err, subst, inr, arith, Appends, Refusal, Values, Answer}
+use Rattle.h2_engines.proofs.Names.{◌≡◌, ◌≤◌, ◌<◌, ℕ, ◌+◌, ◌-◌, ◌^◌, List, [], length, take, Ok}
+use Rattle.h2_engines.proofs.Names.{Err, subst, inr, arith, Appends, Refusal, Values, Answer}
 use Rattle.h2_engines.proofs.Names.{PutOut, Count, Refused, MayAnswer, Keeps-call, GivesOut}
-use Rattle.h2_engines.proofs.Names.{LinkError, StallsAtNoProgress, End, Conn, EndLog, end_with_log}
-use Rattle.h2_engines.proofs.Names.{EndRepresents, EndAnswers}
-use Rattle.h2_log.specs.Acts.{IsTypedAct}
-use Rattle.h2_log.specs.LogCalls.{with_call}
-use Rattle.h2_link.specs.declared.error.LinkError.TheVariants as errors
-use Rattle.h2_engines.specs.Failures.{error_after}
-use Rattle.h2_engines.specs.Linked.{Traffic, IsLinked}
-use Rattle.h2_engines.specs.Machines.{WritesOut}
-use Rattle.h2_engines.specs.Serves.{HasSentAll}
-use Rattle.h2_engines.specs.ServerSteps.{IsSameOfMessages}
-use Rattle.h2_engines.proofs.ResponderOutput.{put_out_failed, put_out_octets}
-use Rattle.h2_ends.proofs.PumpWindows.{refused_failed}
-use Rattle.h2_engines.proofs.ResponderOutput.{given_more}
+use Rattle.h2_engines.proofs.Names.{LinkError, StallsAtNoProgress, End, EndLog, end_with_log}
+use Rattle.h2_engines.proofs.Names.{EndRepresents, EndAnswers, with_call, error_after, Traffic}
+use Rattle.h2_engines.proofs.Names.{IsLinked, WritesOut, HasSentAll, IsSameOfMessages}
+use Rattle.h2_engines.proofs.Names.{refused_failed}
+use Rattle.h2_spec_log.specs.Acts.{IsTypedAct}
+use Rattle.std.proofs.Common.{◌≢◌}
+use Rattle.h2_ends.specs.declared.refusal.EndRefusal.TheVariants.{Conn}
+use Rattle.h2_engines.proofs.ResponderOutput.{put_out_failed, put_out_octets, given_more}
 use Rattle.h2_engines.proofs.ResponderEnds.{same_itself, same_twice, same_by_call, given_within}
 use Rattle.h2_engines.proofs.ResponderEnds.{gives_as, linked_by, takes_first, given_first}
 use Rattle.h2_engines.proofs.ResponderEnds.{refused_first}
@@ -22,6 +17,7 @@ use Rattle.h2_engines.proofs.SentAll.{put_sent}
 use Rattle.h2_engines.proofs.ResponderStalls.{stalls_by_link, stalls_no_more}
 use Rattle.h2_engines.proofs.TurnsPassed.{turns_of_call}
 use Rattle.h2_engines.proofs.WithoutLinkOutput.{none_put}
+use Rattle.h2_link.specs.declared.error.LinkError.TheVariants as errors
 
 -- Where this may have happened at an end, it may also have put output out.
 abbrev pub MayPutOut : (EndLog → Type 0) → Type 0

@@ -1,19 +1,15 @@
 -- What is kept of requests says the same of an end at which nothing of a request has happened.
-use Rattle.h2_engines.proofs.Names.{◌≡◌, ℕ, List, Option, sym, ap, ◌∙◌, subst, inl, inr, ◌⊎◌}
-use Rattle.h2_engines.proofs.Names.{Contains, ResetEvent, EndLog, Handed, Passed}
-use Rattle.h2_message.specs.Phases.{ends_message}
-use Rattle.h2_ends.specs.Ends.{message_for, parts_on}
-use Rattle.h2_engines.specs.declared.request.Next.{Next}
-use Rattle.h2_engines.specs.declared.request.Next.TheVariants as nexts
-use Rattle.h2_engines.specs.declared.request.Request.{Request}
-use Rattle.h2_engines.specs.declared.request.Requests.{Requests}
-use Rattle.h2_engines.specs.Answers.{answer_to, is_too_large_body}
-use Rattle.h2_engines.specs.PartialMessages.{RequestState, has_not_come, comes, was_answered}
-use Rattle.h2_engines.specs.PartialMessages.{was_given_up, KeepsRequests, KeepsOthers, IsToAnswer}
+use Rattle.h2_engines.proofs.Names.{◌≡◌, ℕ, List, Option, sym, ap, ◌∙◌, subst, inl, inr, Contains}
+use Rattle.h2_engines.proofs.Names.{ResetEvent, EndLog, Handed, Passed, ends_message, message_for}
+use Rattle.h2_engines.proofs.Names.{parts_on, Next, Request, answer_to, is_too_large_body}
+use Rattle.h2_engines.proofs.Names.{RequestState, has_not_come, comes, was_answered, was_given_up}
+use Rattle.h2_engines.proofs.Names.{KeepsRequests, KeepsOthers, IsToAnswer, WasReportedReset}
+use Rattle.h2_engines.proofs.Names.{WasTooLarge, WasAnswered, IsSameOfMessages}
 use Rattle.h2_engines.specs.PartialMessages.{KeepsNext}
-use Rattle.h2_engines.specs.ServerHistories.{WasReportedReset, WasTooLarge, WasAnswered}
-use Rattle.h2_engines.specs.ServerSteps.{IsSameOfMessages}
+use Rattle.std.specs.Prelude.{◌⊎◌}
+use Rattle.h2_engines.specs.declared.request.Requests.{Requests}
 use Rattle.h2_engines.proofs.TakeMessages.{KeepsCalls}
+use Rattle.h2_engines.specs.declared.request.Next.TheVariants as nexts
 
 -- Nothing has happened to the request on this stream.
 pub record SameOn (before after : EndLog) (id : ℕ) : Type 0 where

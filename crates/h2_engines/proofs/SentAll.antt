@@ -2,29 +2,28 @@
 -- be sent; and it stays so while output is put out.
 use Rattle.h2_engines.proofs.Names.{◌≡◌, ◌≤◌, ◌<◌, ℕ, false, List, [], ◌∷◌, Option, None, Ok, sym}
 use Rattle.h2_engines.proofs.Names.{ap, subst, inl, both_ways, drop, inr, refl, arith, length}
-use Rattle.h2_engines.proofs.Names.{length-append, full_output, Refusal, Values, Answer, PutOut}
-use Rattle.h2_engines.proofs.Names.{MayAnswer, Log, Result, EndRefusal, EndLog, end_with_log}
-use Rattle.h2_engines.proofs.Names.{log_view, Pumps, pumps_no_more, pumps_data, pumps_trailers}
-use Rattle.h2_engines.proofs.Names.{data_refused, trailers_refused, Releases, releases_no_more}
-use Rattle.h2_engines.proofs.Names.{releases_one, releases_refused}
-use Rattle.std.proofs.lemmas.Bool.{and_parts, and_from, cases_Bool}
-use Rattle.h2_log.specs.declared.role.Role.{Role}
-use Rattle.h2_log.specs.Histories.{IsLog, called_one}
-use Rattle.h2_log.specs.Log.{active, owed, output, waiting}
-use Rattle.h2_log.specs.LogCalls.{with_call}
-use Rattle.h2_end_laws.specs.Over.{has_room}
-use Rattle.h2_end_laws.proofs.ActivityOwed.{none_owed_by_call}
-use Rattle.h2_end_laws.proofs.OverCalls.{items_no_block}
-use Rattle.h2_end_laws.proofs.OverLists.{IsInactive, inactive_sent}
-use Rattle.h2_end_laws.proofs.OverRoom.{no_room_by_call}
-use Rattle.h2_end_laws.proofs.OverSteps.{call_keeps}
-use Rattle.h2_pair.specs.Tokens.{Token, FieldsToken, OctetToken, EndToken, tokens_of_call}
-use Rattle.h2_pair.specs.Quiet.{NoneCouldGo}
+use Rattle.h2_engines.proofs.Names.{full_output, Refusal, Values, Answer, PutOut, MayAnswer, Log}
+use Rattle.h2_engines.proofs.Names.{Result, EndRefusal, EndLog, end_with_log, log_view, Pumps}
+use Rattle.h2_engines.proofs.Names.{pumps_no_more, pumps_data, pumps_trailers, data_refused}
+use Rattle.h2_engines.proofs.Names.{trailers_refused, Releases, releases_one, releases_refused}
+use Rattle.h2_engines.proofs.Names.{and_parts, cases_Bool, Role, IsLog, called_one, active, owed}
+use Rattle.h2_engines.proofs.Names.{with_call, Token, OctetToken, EndToken, HasSentAll, HasSent}
+use Rattle.h2_engines.proofs.Names.{sends}
+use Rattle.h2_spec_log.specs.Log.{output, waiting}
+use Rattle.h2_laws_pair.specs.Tokens.{tokens_of_call, FieldsToken}
+use Rattle.h2_ends.specs.EndCalls.{MayPump, MayReleaseAll, releases_no_more, IsStuckOn}
+use Rattle.std.proofs.Common.{length-append}
+use Rattle.std.proofs.lemmas.Bool.{and_from}
+use Rattle.h2_laws_end.specs.Over.{has_room}
+use Rattle.h2_laws_end.proofs.ActivityOwed.{none_owed_by_call}
+use Rattle.h2_laws_end.proofs.OverCalls.{items_no_block}
+use Rattle.h2_laws_end.proofs.OverLists.{IsInactive, inactive_sent}
+use Rattle.h2_laws_end.proofs.OverRoom.{no_room_by_call}
+use Rattle.h2_laws_end.proofs.OverSteps.{call_keeps}
+use Rattle.h2_laws_pair.specs.Quiet.{NoneCouldGo}
 use Rattle.h2_ends.specs.Ends.{tokens_said, tokens_waiting}
-use Rattle.h2_ends.specs.EndCalls.{MayPump, MayReleaseAll, IsStuckOn}
 use Rattle.h2_ends.proofs.EndTokens.{call_adds_none}
-use Rattle.h2_engines.specs.Serves.{HasSentAll}
-use Rattle.h2_engines.specs.WithoutLink.{HasSent, has_failed, sends}
+use Rattle.h2_engines.specs.WithoutLink.{has_failed}
 use Rattle.h2_engines.proofs.ServeLinkLogs.{StaysOn, pumped_stays}
 
 -- Output that is put out gives nothing room,

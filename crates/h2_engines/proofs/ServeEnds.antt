@@ -2,36 +2,35 @@
 use Rattle.h2_engines.proofs.Names.{◌≡◌, ℕ, Bool, true, false, List, [], ◌++◌, Some, None, Result}
 use Rattle.h2_engines.proofs.Names.{Ok, Err, refl, sym, ap, ◌∙◌, inl, inr, IfErr, Appends-nil, Code}
 use Rattle.h2_engines.proofs.Names.{InternalError, Server, Values, AreInRange, EndLog, new_end_log}
-use Rattle.h2_engines.proofs.Names.{LinkError, both_ways}
-use Rattle.std.specs.Prelude.{OnOk}
-use Rattle.h2_log.specs.LogCalls.{opened}
-use Rattle.h2_log.specs.LogSteps.{with_sent}
-use Rattle.h2_pair.specs.Tokens.{Token, tokens_sent}
+use Rattle.h2_engines.proofs.Names.{LinkError, both_ways, Token, tokens_sent, Responder}
+use Rattle.h2_engines.proofs.Names.{CutsOffAtEnd, Traffic, IsLinked, HasTakenAll, Course, IsDriven}
+use Rattle.h2_engines.proofs.Names.{EndsFor, lacks_memory, link_fails, has_stalled, stops_itself}
+use Rattle.h2_engines.proofs.Names.{cannot_reset, answer_refused, reset_refused, MachineTakesPiece}
+use Rattle.h2_engines.proofs.Names.{Drives, HasReturnedAll, HasSentAll, error_with, IsServingAlone}
+use Rattle.h2_engines.proofs.Names.{none_sent}
+use Rattle.h2_spec_log.specs.LogCalls.{opened}
+use Rattle.h2_spec_log.specs.LogSteps.{with_sent}
 use Rattle.h2_ends.specs.Ends.{tokens_given}
-use Rattle.h2_link.specs.declared.error.LinkError.TheVariants as errors
-use Rattle.h2_engines.specs.declared.request.Next.TheVariants as nexts
-use Rattle.h2_engines.specs.declared.responder.Responder.{Responder}
-use Rattle.h2_engines.specs.Failures.{CutsOffAtEnd, EndsServing}
-use Rattle.h2_engines.specs.Linked.{Traffic, IsLinked, HasTakenAll}
-use Rattle.h2_engines.specs.Machines.{Course, Keeps, IsDriven, EndsFor, lacks_memory, link_fails}
-use Rattle.h2_engines.specs.Machines.{has_failed, has_stalled, stops_itself, cannot_reset}
-use Rattle.h2_engines.specs.Machines.{counts_no_more, answer_refused, reset_refused, ServerStops}
-use Rattle.h2_engines.specs.Machines.{TakenSo, MachineTakesPiece, DrivenSo, Drives, MayEnd}
+use Rattle.h2_engines.specs.Machines.{Keeps, TakenSo, DrivenSo, has_failed, counts_no_more}
+use Rattle.h2_engines.specs.Machines.{ServerStops, MayEnd}
 use Rattle.h2_engines.specs.PartialMessages.{KeepsNext}
+use Rattle.h2_engines.specs.ServerSteps.{FinishedSo, ServerFinishes}
+use Rattle.std.specs.Prelude.{OnOk}
+use Rattle.h2_engines.specs.Failures.{EndsServing}
 use Rattle.h2_engines.specs.ServerHistories.{begins}
-use Rattle.h2_engines.specs.Serves.{Serves, HasReturnedAll, HasSentAll, SendsAll}
-use Rattle.h2_engines.specs.Serves.{EndsServingSo}
-use Rattle.h2_engines.specs.Serves as stops
-use Rattle.h2_engines.specs.ServerSteps.{error_with, ServerFinishes, FinishedSo}
-use Rattle.h2_engines.specs.WithoutLink.{IsServingAlone, StopsAlone, TakesInSo, ServerTakesIn}
-use Rattle.h2_engines.specs.WithoutLink as alone
+use Rattle.h2_engines.specs.Serves.{Serves, SendsAll, EndsServingSo}
+use Rattle.h2_engines.specs.WithoutLink.{StopsAlone, TakesInSo, ServerTakesIn}
 use Rattle.h2_engines.proofs.AnswerRequests.{kept_all}
 use Rattle.h2_engines.proofs.AnswersSent.{sent_whole}
 use Rattle.h2_engines.proofs.MachineViews.{server_held, no_message, begun, carried, links_alone}
 use Rattle.h2_engines.proofs.MachineViews.{uses_alone, all_in_part, goes_for, not_cut}
-use Rattle.h2_end_laws.proofs.OverRoom.{owed_inactive}
-use Rattle.h2_machine_laws.proofs.NewEnd.{new_is_active}
-use Rattle.h2_ends.proofs.ControlStart.{none_sent, none_given as none_accepted}
+use Rattle.h2_laws_end.proofs.OverRoom.{owed_inactive}
+use Rattle.h2_laws_machine.proofs.NewEnd.{new_is_active}
+use Rattle.h2_ends.proofs.ControlStart.{none_given as none_accepted}
+use Rattle.h2_link.specs.declared.error.LinkError.TheVariants as errors
+use Rattle.h2_engines.specs.declared.request.Next.TheVariants as nexts
+use Rattle.h2_engines.specs.Serves as stops
+use Rattle.h2_engines.specs.WithoutLink as alone
 
 -- A server that goes on is one that is driven.
 serving_driven : {values : Values} {start now : Traffic} {responder : Responder} {end : EndLog}

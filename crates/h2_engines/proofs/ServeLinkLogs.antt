@@ -1,23 +1,21 @@
 -- What calls and octets that were taken leave of the input and the output of a log.
-use Rattle.h2_engines.proofs.Names.{◌≡◌, ◌≢◌, ◌≤◌, ℕ, List, length, refl, sym, ◌∙◌, subst, Act}
-use Rattle.h2_engines.proofs.Names.{Answer, Refuse, PutOut, OutOfMemory, Refused, Log, Keeps-call}
-use Rattle.h2_engines.proofs.Names.{TakeAnswer, MayTake, reports_unprocessed, ends_no_frame}
-use Rattle.h2_engines.proofs.Names.{ends_frame, meets_fault, given_out, gives_call, call_given}
-use Rattle.h2_engines.proofs.Names.{Result, EndRefusal, EndLog}
-use Rattle.h2_log.specs.LogCalls.{with_call}
-use Rattle.h2_end_laws.specs.Takes.{has_failed, runs_out_of_memory}
-use Rattle.h2_machine_laws.specs.Machines as steps
-use Rattle.h2_machine_laws.specs.Machines.{MachineStep, log_after}
-use Rattle.h2_pair.proofs.CarriedOctets.{given_same}
-use Rattle.h2_pair.proofs.LogOutput.{Adds, adds_reads}
-use Rattle.h2_pair.proofs.StepsOfLogs.{step_adds, IsNoCall}
-use Rattle.h2_ends.specs.EndCalls.{MayPump, MayReleaseAll}
-use Rattle.h2_engines.specs.Linked.{Traffic, IsLinked}
-use Rattle.h2_engines.specs.ServerSteps.{IsSameOfMessages}
+use Rattle.h2_engines.proofs.Names.{◌≡◌, ◌≤◌, ℕ, List, length, refl, sym, ◌∙◌, subst, Act, Answer}
+use Rattle.h2_engines.proofs.Names.{Refuse, PutOut, OutOfMemory, Refused, Log, Keeps-call}
+use Rattle.h2_engines.proofs.Names.{TakeAnswer, MayTake, ends_no_frame, ends_frame, meets_fault}
+use Rattle.h2_engines.proofs.Names.{given_out, gives_call, call_given, Result, EndRefusal, EndLog}
+use Rattle.h2_engines.proofs.Names.{MayPump, MayReleaseAll, Traffic, IsLinked, IsSameOfMessages}
+use Rattle.h2_engines.proofs.Names.{items_failed}
+use Rattle.h2_spec_log.specs.LogCalls.{with_call}
+use Rattle.h2_laws_machine.specs.Machines.{log_after, MachineStep}
+use Rattle.std.proofs.Common.{◌≢◌}
+use Rattle.h2_laws_end.specs.Takes.{reports_unprocessed, has_failed, runs_out_of_memory}
+use Rattle.h2_laws_pair.proofs.CarriedOctets.{given_same}
+use Rattle.h2_laws_pair.proofs.LogOutput.{Adds, adds_reads}
+use Rattle.h2_laws_pair.proofs.StepsOfLogs.{step_adds, IsNoCall}
 use Rattle.h2_engines.proofs.LinkInvariants.{IsQuiet, CallsKeep, sends_quietly, pumped_keeps}
 use Rattle.h2_engines.proofs.LinkInvariants.{released_keeps}
 use Rattle.h2_engines.proofs.TakeMessages.{KeepsCalls, keeps_by_call}
-use Rattle.h2_end_laws.proofs.Failures.{items_failed}
+use Rattle.h2_laws_machine.specs.Machines as steps
 
 -- Octets were added to the output, and as many were given out.
 abbrev pub Writes : Log → Log → Type 0

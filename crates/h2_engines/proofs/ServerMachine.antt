@@ -1,39 +1,32 @@
 -- What a server that is driven makes of octets, and of what is due.
 use Rattle.h2_engines.proofs.Names.{◌≡◌, ◌≤◌, ◌<◌, ℕ, ◌+◌, ◌-◌, ◌^◌, Bool, true, false, List, ◌∷◌}
-use Rattle.h2_engines.proofs.Names.{length, Some, None, Result, Ok, Err, if◌then◌else◌, refl, sym}
-use Rattle.h2_engines.proofs.Names.{ap, ◌∙◌, subst, inl, arith, IfErr, Refusal, Answer, SendFields}
-use Rattle.h2_engines.proofs.Names.{ResetStream, Done, Refused, has_failed, is_no_stream, is_full}
-use Rattle.h2_engines.proofs.Names.{Log, log_view, MayAnswer, accepts, refuses, lacks, fails}
-use Rattle.h2_engines.proofs.Names.{is_head_alone, first_in, SentMessage, EndRefusal, EndLog}
-use Rattle.h2_engines.proofs.Names.{EndAnswer, EndTook, EndFailed, EndMayTake, end_with_log}
-use Rattle.h2_engines.proofs.Names.{LinkError}
-use Rattle.std.proofs.lemmas.Bool.{leb-true}
-use Rattle.h2_log.specs.declared.refusal.Refusal.TheVariants as reasons
-use Rattle.h2_log.specs.Acts.{IsTypedAct}
-use Rattle.h2_log.specs.CallRules.{conditions, first_of, refusal_of, has_all_resets}
-use Rattle.h2_log.specs.Limits.{max_resets}
-use Rattle.h2_log.specs.Log.{waiting, resets_written}
-use Rattle.h2_log.specs.LogCalls.{with_call}
-use Rattle.h2_ends.specs.Ends.{parts_on}
+use Rattle.h2_engines.proofs.Names.{length, Some, None, Result, Ok, Err, refl, sym, ap, ◌∙◌, subst}
+use Rattle.h2_engines.proofs.Names.{inl, arith, IfErr, Refusal, Answer, SendFields, ResetStream}
+use Rattle.h2_engines.proofs.Names.{Done, Refused, is_no_stream, is_full, Log, log_view, MayAnswer}
+use Rattle.h2_engines.proofs.Names.{accepts, lacks, is_head_alone, first_in, SentMessage}
+use Rattle.h2_engines.proofs.Names.{EndRefusal, EndLog, EndAnswer, EndTook, EndFailed, EndMayTake}
+use Rattle.h2_engines.proofs.Names.{end_with_log, LinkError, waiting, parts_on, Heard, Request}
+use Rattle.h2_engines.proofs.Names.{Responder, answer_with, is_too_large_body, IsOfCall}
+use Rattle.h2_engines.proofs.Names.{KeepsRequests, IsToAnswer, Traffic, Serving, MachineState}
+use Rattle.h2_engines.proofs.Names.{Course, IsDriven, EndsFor, HearsNoMore, gives_up, Hears, IsDue}
+use Rattle.h2_engines.proofs.Names.{Responds, IsResponding, calm, ServerHears, ServerAnswers}
+use Rattle.h2_engines.proofs.Names.{no_memory, is_refused, ServerResets}
+use Rattle.h2_spec_log.specs.Acts.{IsTypedAct}
+use Rattle.h2_spec_log.specs.CallRules.{conditions, first_of, has_failed, refusal_of}
+use Rattle.h2_spec_log.specs.CallRules.{has_all_resets}
+use Rattle.h2_spec_log.specs.LogCalls.{with_call, refuses, fails}
 use Rattle.h2_ends.specs.EndCalls.{MayRespond}
-use Rattle.h2_link.specs.declared.error.LinkError.TheVariants as errors
-use Rattle.h2_engines.specs.declared.machine.Heard.{Heard}
-use Rattle.h2_engines.specs.declared.request.Next.TheVariants as nexts
-use Rattle.h2_engines.specs.declared.request.Request.{Request}
+use Rattle.h2_engines.specs.PartialMessages.{KeepsNext}
+use Rattle.h2_engines.specs.Machines.{Keeps, RespondedSo}
+use Rattle.h2_engines.specs.ServerSteps.{HeardSo, ErrsServing, AnsweredSo, ResetSo, counted_answer}
+use Rattle.h2_engines.specs.ServerSteps.{NotAnswered, counts_no_more}
+use Rattle.std.proofs.Common.{if◌then◌else◌}
+use Rattle.std.proofs.lemmas.Bool.{leb-true}
+use Rattle.h2_spec_log.specs.Limits.{max_resets}
+use Rattle.h2_spec_log.specs.Log.{resets_written}
 use Rattle.h2_engines.specs.declared.request.Requests.{Requests}
-use Rattle.h2_engines.specs.declared.responder.Responder.{Responder}
-use Rattle.h2_engines.specs.Answers.{answer_with, is_too_large_body}
-use Rattle.h2_engines.specs.Failures.{IsOfCall}
-use Rattle.h2_engines.specs.PartialMessages.{KeepsNext, KeepsRequests, IsToAnswer}
-use Rattle.h2_engines.specs.Linked.{Traffic}
-use Rattle.h2_engines.specs.Machines.{Serving, MachineState, Course, Keeps, IsDriven, EndsFor}
-use Rattle.h2_engines.specs.Machines.{HearsNoMore, gives_up, Hears, IsDue, RespondedSo, Responds}
-use Rattle.h2_engines.specs.Machines as stops
-use Rattle.h2_engines.specs.ServerHistories.{IsResponding, takes, answers, resets, calm}
+use Rattle.h2_engines.specs.ServerHistories.{takes, answers, resets}
 use Rattle.h2_engines.specs.Serves.{CannotReset}
-use Rattle.h2_engines.specs.ServerSteps.{ServerHears, HeardSo, ErrsServing, ServerAnswers}
-use Rattle.h2_engines.specs.ServerSteps.{AnsweredSo, NotAnswered, no_memory, counts_no_more}
-use Rattle.h2_engines.specs.ServerSteps.{is_refused, ServerResets, ResetSo, counted_answer}
 use Rattle.h2_engines.proofs.AnswerRequests.{kept_to_answer, kept_answered, kept_reset}
 use Rattle.h2_engines.proofs.MachineHears.{hears_on, hears_last}
 use Rattle.h2_engines.proofs.MachineLaws.{ends_linked}
@@ -47,6 +40,10 @@ use Rattle.h2_engines.proofs.TakeMessages.{taken_says, kept_failed}
 use Rattle.h2_engines.proofs.ServeLinkLogs.{GoesOn, goes_none, goes_twice, call_goes, goes_links}
 use Rattle.h2_engines.proofs.ServeLinkTakes.{SaysUsed}
 use Rattle.h2_engines.proofs.TurnsPassed.{turns_of_response, turns_of_call}
+use Rattle.h2_spec_log.specs.declared.refusal.Refusal.TheVariants as reasons
+use Rattle.h2_link.specs.declared.error.LinkError.TheVariants as errors
+use Rattle.h2_engines.specs.declared.request.Next.TheVariants as nexts
+use Rattle.h2_engines.specs.Machines as stops
 
 -- Why it can't hear on.
 hears_why : (message : SentMessage) (requests : Requests) (answered : ℕ) {end : EndLog}

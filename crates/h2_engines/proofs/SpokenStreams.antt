@@ -1,66 +1,63 @@
 -- A stream on which an end has sent something is active as long as the connection is up, unless
 -- this end has sent the end of its message, or was asked to reset the stream, or has reported that
 -- it was reset, or isn't processed.
-use Rattle.h2_engines.proofs.Names.{◌≡◌, ◌≢◌, ℕ, ◌==◌, Bool, true, false, if◌then◌else◌, List, []}
-use Rattle.h2_engines.proofs.Names.{◌∷◌, ◌++◌, Option, None, Some, refl, sym, ap, ◌∙◌, subst, inl}
-use Rattle.h2_engines.proofs.Names.{inr, ◌⊎◌, take, eq-eqb, both_ways, Contains, Code, Log, Values}
-use Rattle.h2_engines.proofs.Names.{Act, Answer, SendFields, ResetStream, Refuse, Count, Done}
-use Rattle.h2_engines.proofs.Names.{Event, ResetEvent, MayAnswer, log_view, call_calls, first_in}
-use Rattle.h2_engines.proofs.Names.{later_in}
-use Rattle.std.proofs.Common.{map as each}
+use Rattle.h2_engines.proofs.Names.{◌≡◌, ℕ, Bool, true, false, List, [], ◌∷◌, ◌++◌, Option, None}
+use Rattle.h2_engines.proofs.Names.{Some, refl, sym, ap, ◌∙◌, subst, inl, inr, take, eq-eqb}
+use Rattle.h2_engines.proofs.Names.{both_ways, Contains, Code, Log, Values, Act, Answer, SendFields}
+use Rattle.h2_engines.proofs.Names.{ResetStream, Refuse, Count, Done, Event, ResetEvent, MayAnswer}
+use Rattle.h2_engines.proofs.Names.{log_view, call_calls, first_in, later_in, and_parts, or_parts}
+use Rattle.h2_engines.proofs.Names.{eqb-true, false_from_ne_true, cases_Bool, alone, Role, Open}
+use Rattle.h2_engines.proofs.Names.{SendData, Number, IsLog, called_one, Decoded, active, with_call}
+use Rattle.h2_engines.proofs.Names.{grows_call, Token, OctetToken, EndToken, tokens_sent, WasAsked}
+use Rattle.h2_engines.proofs.Names.{none_sent}
+use Rattle.h2_spec_log.specs.LogCalls.{opened}
+use Rattle.h2_spec_log.specs.LogSteps.{used, with_sent, took_frame, took_part, took_none}
+use Rattle.h2_spec_log.specs.LogSteps.{took_fault, took_out_of_memory}
+use Rattle.h2_laws_machine.specs.Machines.{log_after}
+use Rattle.h2_laws_pair.specs.Tokens.{tokens_of_call, end_tokens}
+use Rattle.std.proofs.Common.{◌≢◌, if◌then◌else◌, map as each}
+use Rattle.std.specs.Prelude.{◌==◌, ◌⊎◌}
 use Rattle.std.specs.List.{list_any}
-use Rattle.std.proofs.lemmas.Bool.{and_parts, and_right, or_from, or_left, or_parts, eqb-true}
-use Rattle.std.proofs.lemmas.Bool.{or_right, false_from_ne_true, cases_Bool}
+use Rattle.std.proofs.lemmas.Bool.{and_right, or_from, or_left, or_right}
 use Rattle.std.proofs.lemmas.List.Elements.{Contains-append_left, Contains-append_right}
 use Rattle.std.proofs.lemmas.List.Folds.{list_any-append}
 use Rattle.h2_frame.specs.Codes.{code_number}
 use Rattle.h2_frame.specs.Frames.{Reset}
-use Rattle.h2_block.specs.Grouping.{Item, alone}
-use Rattle.h2_log.specs.declared.role.Role.{Role}
-use Rattle.h2_log.specs.Acts.{Open, SendData, Number}
-use Rattle.h2_log.specs.Events.{UnprocessedEvent, reports_unprocessed}
-use Rattle.h2_log.specs.Histories.{IsLog, begins, took_some, took_one, met_fault, ran_out_of_memory}
-use Rattle.h2_log.specs.Histories.{reported_one, called_one}
-use Rattle.h2_log.specs.ItemEffects.{events_of}
-use Rattle.h2_log.specs.ItemRules.{Decoded, replies_to, verdict_of, is_stream_fault}
-use Rattle.h2_log.specs.Items.{ends, resets, stream_of_item}
-use Rattle.h2_log.specs.Log.{active, next_unprocessed}
-use Rattle.h2_log.specs.LogCalls.{with_call, opened}
-use Rattle.h2_log.specs.LogSteps.{used, with_sent, took_frame, took_part, took_none, took_fault}
-use Rattle.h2_log.specs.LogSteps.{took_out_of_memory}
-use Rattle.h2_log.specs.States.{is_active}
-use Rattle.h2_log.specs.Verdicts.{Verdict, ConnectionFault, StreamFault, NoEvent, Reported}
-use Rattle.h2_log.specs.View.{View}
-use Rattle.h2_log_laws.proofs.ItemLists.{any_after}
-use Rattle.h2_log_laws.proofs.LogGrowth.{grows_call}
-use Rattle.h2_log_laws.proofs.LogHistory.{none_both}
-use Rattle.h2_log_laws.proofs.ReaderStates.{active_parts, active_from, lasts_parts, lasts_from}
-use Rattle.h2_end_laws.specs.Activity.{call_may_close}
-use Rattle.h2_end_laws.specs.Sendings.{lists_accepted, settings_received}
-use Rattle.h2_end_laws.specs.Written.{IsCredit}
-use Rattle.h2_end_laws.proofs.ActivityCalls.{active_by_call}
-use Rattle.h2_end_laws.proofs.ActivityFrames.{active_added}
-use Rattle.h2_end_laws.proofs.ActivityItems.{closes_own, silent_keeps, events_name_none}
-use Rattle.h2_end_laws.proofs.ActivityOpened.{active_by_open}
-use Rattle.h2_end_laws.proofs.ActivityStays.{AreHarmless, harmless_append, harmless_credit}
-use Rattle.h2_end_laws.proofs.ActivityStays.{harmless_replies, none_ends, opened_after}
-use Rattle.h2_end_laws.proofs.ActivityStays.{stays_active}
-use Rattle.h2_end_laws.proofs.ActivitySteps.{Adds, AfterFrame, stays_same, has_broken, has_read}
-use Rattle.h2_end_laws.proofs.ActivitySteps.{frame_used, frame_after, none_adds}
-use Rattle.h2_end_laws.proofs.OverNumbers.{fields_active}
-use Rattle.h2_end_laws.proofs.Sendings.{log_sent}
-use Rattle.h2_machine_laws.specs.Machines as steps
-use Rattle.h2_machine_laws.specs.Machines.{log_after}
-use Rattle.h2_pair.specs.Tokens.{Token, OctetToken, EndToken, end_tokens, tokens_of_call}
-use Rattle.h2_pair.specs.Tokens.{tokens_sent}
-use Rattle.h2_pair.specs.Undisturbed.{WasAsked}
-use Rattle.h2_pair.proofs.HeardCalls.{step_calls}
-use Rattle.h2_pair.proofs.HeardLists.{blocks_of_lists}
-use Rattle.h2_pair.proofs.HeardMessages.{is_end, ended_tokens}
-use Rattle.h2_pair.proofs.HeardSent.{tokens_carried}
-use Rattle.h2_ends.proofs.ControlStart.{none_sent}
+use Rattle.h2_block.specs.Grouping.{Item}
+use Rattle.h2_spec_log.specs.Events.{UnprocessedEvent, reports_unprocessed}
+use Rattle.h2_spec_log.specs.Histories.{begins, took_some, took_one, met_fault, ran_out_of_memory}
+use Rattle.h2_spec_log.specs.Histories.{reported_one}
+use Rattle.h2_spec_log.specs.ItemEffects.{events_of}
+use Rattle.h2_spec_log.specs.ItemRules.{replies_to, verdict_of, is_stream_fault}
+use Rattle.h2_spec_log.specs.Items.{ends, resets, stream_of_item}
+use Rattle.h2_spec_log.specs.Log.{next_unprocessed}
+use Rattle.h2_spec_log.specs.States.{is_active}
+use Rattle.h2_spec_log.specs.Verdicts.{Verdict, ConnectionFault, StreamFault, NoEvent, Reported}
+use Rattle.h2_spec_log.specs.View.{View}
+use Rattle.h2_laws_log.proofs.ItemLists.{any_after}
+use Rattle.h2_laws_log.proofs.LogHistory.{none_both}
+use Rattle.h2_laws_log.proofs.ReaderStates.{active_parts, active_from, lasts_parts, lasts_from}
+use Rattle.h2_laws_end.specs.Activity.{call_may_close}
+use Rattle.h2_laws_end.specs.Sendings.{lists_accepted, settings_received}
+use Rattle.h2_laws_end.specs.Written.{IsCredit}
+use Rattle.h2_laws_end.proofs.ActivityCalls.{active_by_call}
+use Rattle.h2_laws_end.proofs.ActivityFrames.{active_added}
+use Rattle.h2_laws_end.proofs.ActivityItems.{closes_own, silent_keeps, events_name_none}
+use Rattle.h2_laws_end.proofs.ActivityOpened.{active_by_open}
+use Rattle.h2_laws_end.proofs.ActivityStays.{AreHarmless, harmless_append, harmless_credit}
+use Rattle.h2_laws_end.proofs.ActivityStays.{harmless_replies, none_ends, opened_after}
+use Rattle.h2_laws_end.proofs.ActivityStays.{stays_active}
+use Rattle.h2_laws_end.proofs.ActivitySteps.{Adds, AfterFrame, stays_same, has_broken, has_read}
+use Rattle.h2_laws_end.proofs.ActivitySteps.{frame_used, frame_after, none_adds}
+use Rattle.h2_laws_end.proofs.OverNumbers.{fields_active}
+use Rattle.h2_laws_end.proofs.Sendings.{log_sent}
+use Rattle.h2_laws_pair.proofs.HeardCalls.{step_calls}
+use Rattle.h2_laws_pair.proofs.HeardLists.{blocks_of_lists}
+use Rattle.h2_laws_pair.proofs.HeardMessages.{is_end, ended_tokens}
+use Rattle.h2_laws_pair.proofs.HeardSent.{tokens_carried}
 use Rattle.h2_ends.proofs.EndTokens.{call_tokens}
 use Rattle.h2_ends.proofs.PumpWindows.{data_active}
+use Rattle.h2_laws_machine.specs.Machines as steps
 
 -- What is known of a stream on which something was sent.
 pub data IsSpoken (i : ℕ) (log : Log) : Type 0 where

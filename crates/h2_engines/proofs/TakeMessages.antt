@@ -1,20 +1,15 @@
 -- A call of `take` of an end is one of its connection, after which a stream may have been refused:
 -- what it says of its octets, its messages and its calls.
 use Rattle.h2_engines.proofs.Names.{◌≡◌, ℕ, Bool, true, List, ◌∷◌, Option, Some, None, refl, sym}
-use Rattle.h2_engines.proofs.Names.{subst, inl, inr, Contains, ◌⊎◌, TakeAnswer, MayTake, Took}
-use Rattle.h2_engines.proofs.Names.{Failed}
+use Rattle.h2_engines.proofs.Names.{subst, inl, inr, Contains, TakeAnswer, MayTake, Took, Failed}
 use Rattle.h2_engines.proofs.Names.{log_after_take, EndMayTake, hands_nothing, passes, hands_out}
-use Rattle.h2_engines.proofs.Names.{runs_out_of_memory, EndLog, Handed, EndAnswer, EndTook}
-use Rattle.h2_engines.proofs.Names.{EndFailed}
-use Rattle.h2_engines.proofs.Names.{Passed, Code, Act, Answer, Refuse, Event, ResetEvent, Log, Part}
-use Rattle.h2_engines.proofs.Names.{later_in, call_calls, ◌∙◌}
-use Rattle.h2_log.specs.LogCalls.{with_call}
-use Rattle.h2_ends.specs.Ends.{handed_as, parts_on, reads_on}
-use Rattle.h2_ends.specs.EndTakes.{IsReadableWith, fails, refuses, refusal_fails}
-use Rattle.h2_ends.proofs.EndTokens.{take_calls}
-use Rattle.h2_pair.proofs.StepUnprocessed.{role_by_take as take_role}
-use Rattle.h2_ends.proofs.TakeRefusing.{memory_fails}
-use Rattle.h2_log_laws.proofs.LogGrowth.{grows_call}
+use Rattle.h2_engines.proofs.Names.{EndLog, Handed, EndAnswer, EndTook, EndFailed, Passed, Code}
+use Rattle.h2_engines.proofs.Names.{Act, Answer, Refuse, Event, ResetEvent, Log, Part, later_in}
+use Rattle.h2_engines.proofs.Names.{call_calls, ◌∙◌, with_call, handed_as, parts_on, reads_on}
+use Rattle.h2_engines.proofs.Names.{refusal_fails, take_calls, memory_fails, grows_call}
+use Rattle.std.specs.Prelude.{◌⊎◌}
+use Rattle.h2_ends.specs.EndTakes.{runs_out_of_memory, IsReadableWith, fails, refuses}
+use Rattle.h2_laws_pair.proofs.StepUnprocessed.{role_by_take as take_role}
 
 -- What was called stays called.
 abbrev pub KeepsCalls : (before after : Log) → Type 0

@@ -1,19 +1,20 @@
 -- What a server's end hands out of a request, and where.
-use Rattle.h2_engines.proofs.Names.{◌≡◌, ◌≢◌, ℕ, Bool, true, false, if◌then◌else◌, List, [], ◌∷◌}
-use Rattle.h2_engines.proofs.Names.{◌++◌, refl, sym, ap, ◌∙◌, subst, append-nil, ne_eqb, eq-eqb}
-use Rattle.h2_engines.proofs.Names.{Contains, ◌==◌, Field, Server, Event, ResetEvent, Reads}
-use Rattle.h2_engines.proofs.Names.{Requests, Place, Part, FieldsPart, OctetsPart, IsReadable}
-use Rattle.h2_engines.proofs.Names.{first_in, later_in, EndLog, Handed, HeadHanded, BodyHanded}
-use Rattle.h2_engines.proofs.Names.{TrailersHanded, Passed}
-use Rattle.h2_message.specs.Phases.{ends_message}
-use Rattle.h2_ends.specs.Ends.{handed_as, handed_at, message_for, part_on, parts_on}
-use Rattle.h2_engines.specs.ServerHistories.{WasReportedReset}
+use Rattle.h2_engines.proofs.Names.{◌≡◌, ℕ, Bool, true, false, List, [], ◌∷◌, ◌++◌, refl, sym, ap}
+use Rattle.h2_engines.proofs.Names.{◌∙◌, subst, append-nil, ne_eqb, eq-eqb, Contains, Field, Server}
+use Rattle.h2_engines.proofs.Names.{Event, ResetEvent, Reads, Place, Part, FieldsPart, OctetsPart}
+use Rattle.h2_engines.proofs.Names.{IsReadable, first_in, later_in, EndLog, Handed, HeadHanded}
+use Rattle.h2_engines.proofs.Names.{BodyHanded, TrailersHanded, Passed, ends_message, message_for}
+use Rattle.h2_engines.proofs.Names.{WasReportedReset}
+use Rattle.h2_ends.specs.Ends.{handed_as, handed_at, part_on, parts_on}
+use Rattle.std.proofs.Common.{◌≢◌, if◌then◌else◌}
+use Rattle.std.specs.Prelude.{◌==◌}
+use Rattle.h2_message.specs.declared.reading.Reads.TheVariants.{Requests}
 use Rattle.h2_engines.proofs.NextParts.{place_first, place_later, request_begun, no_octets_first}
 use Rattle.h2_engines.proofs.NextParts.{goes_with}
 use Rattle.h2_engines.proofs.SameRequests.{SameOn}
-use Rattle.h2_engines.proofs.TakeMessages as read
 use Rattle.h2_engines.proofs.TakeMessages.{KeepsCalls, HandsAsRead}
 use Rattle.h2_ends.proofs.RequestHeads.{server_reads as reads_requests}
+use Rattle.h2_engines.proofs.TakeMessages as read
 
 -- What a server's end may hand out: the head of a request where nothing of it has come; octets and
 -- trailers after that, where it hasn't ended; or what is no part of a request.

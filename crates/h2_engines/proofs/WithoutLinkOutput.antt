@@ -1,23 +1,20 @@
 -- How many octets a call puts out of the output of a log: as many as were asked for, or all.
-use Rattle.h2_engines.proofs.Names.{◌≡◌, ◌≤◌, ◌<◌, ℕ, ◌+◌, if◌then◌else◌, List, [], ◌∷◌, ◌++◌}
-use Rattle.h2_engines.proofs.Names.{length, take, drop, refl, sym, ap, ◌∙◌, arith, length-append}
-use Rattle.h2_engines.proofs.Names.{append-nil, take_all, length-drop, length-take, PutOut, Count}
-use Rattle.h2_engines.proofs.Names.{None, false, inl, inr, nat_lt, full_output}
-use Rattle.h2_engines.proofs.Names.{returns_before_put_out, Log, MayAnswer, accepts, refuses, lacks}
-use Rattle.h2_engines.proofs.Names.{fails, called, log_view, given_out}
+use Rattle.h2_engines.proofs.Names.{◌≡◌, ◌≤◌, ◌<◌, ℕ, ◌+◌, List, [], ◌∷◌, ◌++◌, length, take, drop}
+use Rattle.h2_engines.proofs.Names.{refl, sym, ap, ◌∙◌, arith, append-nil, PutOut, Count, None}
+use Rattle.h2_engines.proofs.Names.{false, inl, inr, nat_lt, full_output, Log, MayAnswer, accepts}
+use Rattle.h2_engines.proofs.Names.{lacks, log_view, given_out, alone, PutsOutNext}
+use Rattle.h2_spec_log.specs.Log.{waiting, output, max_payload_sent}
+use Rattle.h2_spec_log.specs.LogSteps.{with_sent}
+use Rattle.h2_spec_log.specs.LogCalls.{with_call, refuses, fails, called, before_put_out}
+use Rattle.std.proofs.Common.{if◌then◌else◌, length-append, min, ltb-false}
+use Rattle.std.proofs.lemmas.List.{take_all, length-drop, length-take}
+use Rattle.h2_spec_log.specs.CallRules.{returns_before_put_out, update_size}
 use Rattle.std.specs.Prelude.{◌&&◌}
-use Rattle.std.proofs.Common.{min, ltb-false}
 use Rattle.std.proofs.lemmas.Bool.{and_cases}
 use Rattle.h2_frame.specs.Frames.{WindowUpdate}
-use Rattle.h2_block.specs.Grouping.{alone}
-use Rattle.h2_log.specs.CallRules.{update_size}
-use Rattle.h2_log.specs.Items.{encoding_of_items}
-use Rattle.h2_log.specs.Log.{waiting, output, max_payload_sent}
-use Rattle.h2_log.specs.LogSteps.{with_sent}
-use Rattle.h2_log.specs.LogCalls.{before_put_out, with_call}
-use Rattle.h2_log_laws.proofs.ItemSizes.{size-update}
-use Rattle.h2_log_laws.proofs.CreditCases.{put_out_cases}
-use Rattle.h2_engines.specs.WithoutLink.{PutsOutNext}
+use Rattle.h2_spec_log.specs.Items.{encoding_of_items}
+use Rattle.h2_laws_log.proofs.ItemSizes.{size-update}
+use Rattle.h2_laws_log.proofs.CreditCases.{put_out_cases}
 use Rattle.h2_engines.proofs.ResponderOutput.{given_more, put_out_octets}
 
 -- how many octets are put out

@@ -1,29 +1,24 @@
 -- What an end without a link puts out, and that a server and a client go on then.
-use Rattle.h2_engines.proofs.Names.{◌≡◌, ◌<◌, ℕ, ◌^◌, List, ◌++◌, Result, Ok, Err, refl, ap}
-use Rattle.h2_engines.proofs.Names.{◌∙◌, Refusal, Values, PutOut, Count, Refused, Log}
-use Rattle.h2_engines.proofs.Names.{GivesOut, SentMessage, given_out, Conn, EndLog, end_with_log}
-use Rattle.h2_engines.proofs.Names.{EndAnswers, LinkError}
-use Rattle.h2_log.specs.Acts.{IsTypedAct}
-use Rattle.h2_log.specs.LogCalls.{with_call}
-use Rattle.h2_engines.specs.declared.fetcher.Fetcher.{Fetcher}
-use Rattle.h2_engines.specs.declared.request.Next.{Next}
-use Rattle.h2_engines.specs.declared.request.Next.TheVariants as nexts
-use Rattle.h2_engines.specs.declared.responder.Responder.{Responder}
-use Rattle.h2_engines.specs.Failures.{error_after}
-use Rattle.h2_engines.specs.Machines.{MessageState, Serving, Fetching, MachineState, Course, Keeps}
-use Rattle.h2_engines.specs.Machines.{PutsWaiting}
+use Rattle.h2_engines.proofs.Names.{◌≡◌, ◌<◌, ℕ, ◌^◌, List, ◌++◌, Result, Ok, Err, refl, ap, ◌∙◌}
+use Rattle.h2_engines.proofs.Names.{Refusal, Values, PutOut, Count, Refused, Log, GivesOut}
+use Rattle.h2_engines.proofs.Names.{SentMessage, given_out, EndLog, end_with_log, EndAnswers}
+use Rattle.h2_engines.proofs.Names.{LinkError, Fetcher, Next, Responder, error_after, MessageState}
+use Rattle.h2_engines.proofs.Names.{Serving, Fetching, MachineState, Course, IsSameOfMessages}
+use Rattle.h2_engines.proofs.Names.{SendsWaiting, PutsOutNext, refused_failed}
+use Rattle.h2_spec_log.specs.Acts.{IsTypedAct}
+use Rattle.h2_spec_log.specs.LogCalls.{with_call}
+use Rattle.h2_engines.specs.Machines.{Keeps, PutsWaiting}
 use Rattle.h2_engines.specs.PartialMessages.{KeepsNext}
-use Rattle.h2_engines.specs.ServerSteps.{IsSameOfMessages}
-use Rattle.h2_engines.specs.WithoutLink.{SendsWaiting, PutsOutNext, PutOutSo, ServerPutsOut}
-use Rattle.h2_engines.specs.WithoutLink.{ClientPutsOut}
+use Rattle.h2_ends.specs.declared.refusal.EndRefusal.TheVariants.{Conn}
+use Rattle.h2_engines.specs.WithoutLink.{PutOutSo, ServerPutsOut, ClientPutsOut}
 use Rattle.h2_engines.proofs.MachineLaws.{puts_at, keeps_same}
 use Rattle.h2_engines.proofs.MachineViews.{server_held, client_held, no_message, begun}
 use Rattle.h2_engines.proofs.ResponderEnds.{same_twice, same_by_call, given_within}
 use Rattle.h2_engines.proofs.ResponderOutput.{put_out_failed}
-use Rattle.h2_ends.proofs.PumpWindows.{refused_failed}
 use Rattle.h2_engines.proofs.ResponderStalls.{put_out_ends}
 use Rattle.h2_engines.proofs.WithoutLinkOutput.{puts_out}
 use Rattle.h2_engines.proofs.WithoutLinkSends.{sent_same, sent_given, sent_error, sends_at}
+use Rattle.h2_engines.specs.declared.request.Next.TheVariants as nexts
 
 -- The same octets had been given out before.
 puts_after : (one : Log) {two three : Log} {count given : ℕ} {before now : List ℕ}

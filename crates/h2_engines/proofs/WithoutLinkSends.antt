@@ -1,28 +1,24 @@
 -- What is given back and sent before output is put out, and what that leaves.
-use Rattle.h2_engines.proofs.Names.{EndRepresents}
-use Rattle.h2_engines.proofs.Names.{◌≡◌, ◌≢◌, ◌≤◌, ℕ, true, false, length, Option, Some, None}
-use Rattle.h2_engines.proofs.Names.{Result}
-use Rattle.h2_engines.proofs.Names.{Ok, Err, refl, sym, ◌∙◌, inl, inr, ◌⊎◌, arith, Code, Values}
-use Rattle.h2_engines.proofs.Names.{Log}
-use Rattle.h2_engines.proofs.Names.{given_out, End, EndRefusal, EndLog, LinkError}
-use Rattle.std.proofs.Common.{is_some}
-use Rattle.h2_log.specs.declared.refusal.Refusal.TheVariants as reasons
+use Rattle.h2_engines.proofs.Names.{EndRepresents, ◌≡◌, ◌≤◌, ℕ, true, false, length, Option, Some}
+use Rattle.h2_engines.proofs.Names.{None, Result, Ok, Err, refl, sym, ◌∙◌, inl, inr, arith, Code}
+use Rattle.h2_engines.proofs.Names.{Values, Log, given_out, End, EndRefusal, EndLog, LinkError}
+use Rattle.h2_engines.proofs.Names.{ConnRepresents, MayPump, MessageState, Course, Happens}
+use Rattle.h2_engines.proofs.Names.{IsSameOfMessages, ReleasesSome, HasSent, sends, SendsWaiting}
+use Rattle.h2_ends.specs.EndCalls.{MayReleaseAll}
+use Rattle.h2_engines.specs.ServerSteps.{EndsAfter, EndsRelease, PumpsSome}
+use Rattle.std.proofs.Common.{◌≢◌, is_some}
+use Rattle.std.specs.Prelude.{◌⊎◌}
 use Rattle.h2_conn.specs.declared.conn.Conn.{Conn}
-use Rattle.h2_conn.specs.Conn.{ConnRepresents}
-use Rattle.h2_ends.specs.declared.refusal.EndRefusal.TheVariants as refusals
-use Rattle.h2_ends.specs.EndCalls.{MayPump, MayReleaseAll}
-use Rattle.h2_link.specs.declared.error.LinkError.TheVariants as errors
-use Rattle.h2_engines.specs.Machines.{MessageState, Course, Happens}
-use Rattle.h2_engines.specs.ServerSteps.{IsSameOfMessages, ReleasesSome, PumpsSome, EndsAfter}
-use Rattle.h2_engines.specs.ServerSteps.{EndsRelease}
-use Rattle.h2_engines.specs.WithoutLink.{HasSent, has_failed, sends, releases_no_more}
-use Rattle.h2_engines.specs.WithoutLink.{sends_no_more, SendsWaiting}
+use Rattle.h2_engines.specs.WithoutLink.{has_failed, releases_no_more, sends_no_more}
 use Rattle.h2_engines.proofs.MachineLaws.{pumps_at, releases_at}
 use Rattle.h2_engines.proofs.ResponderStalls.{pump_ends}
 use Rattle.h2_engines.proofs.ServeLinkLogs.{writes_given, StaysOn, released_stays, pumped_stays}
 use Rattle.h2_engines.proofs.ServeLinkLogs.{stays_same, stays_none, stays_twice}
 use Rattle.h2_engines.proofs.TurnsPassed.{turns_of_pump, turns_of_release}
 use Rattle.h2_conn.proofs.AskMemory.{none_of as none_failed}
+use Rattle.h2_spec_log.specs.declared.refusal.Refusal.TheVariants as reasons
+use Rattle.h2_ends.specs.declared.refusal.EndRefusal.TheVariants as refusals
+use Rattle.h2_link.specs.declared.error.LinkError.TheVariants as errors
 
 -- What `failed` answers of any log that the connection represents.
 abbrev pub ReadsFailed : Conn → Option Code → Type 0

@@ -1,11 +1,9 @@
 -- A new server without a link.
 use Rattle.h2_engines.proofs.Names.{◌≡◌, [], None, refl, Server, Values, AreInRange, EndRepresents}
-use Rattle.h2_engines.proofs.Names.{new_end_log}
-use Rattle.h2_log.specs.LogCalls.{opened}
-use Rattle.h2_log.specs.LogSteps.{with_sent}
-use Rattle.h2_engines.specs.declared.responder.Responder.{Responder}
+use Rattle.h2_engines.proofs.Names.{new_end_log, Responder, IsServingAlone}
+use Rattle.h2_spec_log.specs.LogCalls.{opened}
+use Rattle.h2_spec_log.specs.LogSteps.{with_sent}
 use Rattle.h2_engines.specs.ServerHistories.{begins}
-use Rattle.h2_engines.specs.WithoutLink.{IsServingAlone}
 use Rattle.h2_engines.proofs.AnswerRequests.{kept_none}
 
 -- A new server serves.

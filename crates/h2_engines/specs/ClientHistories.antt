@@ -2,9 +2,9 @@
 use Rattle.std.specs.Prelude.{◌≡◌, ℕ, Bool, List, map as each, option_map}
 use Rattle.std.specs.Prelude.{Result}
 use Rattle.std.specs.List.{concat}
-use Rattle.h2_log.specs.declared.role.Role.TheVariants.{Client}
-use Rattle.h2_log.specs.Acts.{Values, AreInRange, Answer, IsTypedAct, PutOut}
-use Rattle.h2_log.specs.LogCalls.{MayAnswer, with_call}
+use Rattle.h2_spec_log.specs.declared.role.Role.TheVariants.{Client}
+use Rattle.h2_spec_log.specs.Acts.{Values, AreInRange, Answer, IsTypedAct, PutOut}
+use Rattle.h2_spec_log.specs.LogCalls.{MayAnswer, with_call}
 use Rattle.h2_message.specs.Messages.{SentMessage}
 use Rattle.h2_message.specs.Reading.{Part, ReadMessage, message_parts}
 use Rattle.h2_ends.specs.declared.refusal.EndRefusal.{EndRefusal}

@@ -3,9 +3,9 @@
 -- contract: h2_engines::serve_link
 use Rattle.std.specs.Prelude.{◌≡◌, ◌⊎◌, ℕ, ◌+◌, Bool, true, List, ◌∷◌, Some, None, Result, Err}
 use Rattle.h2_frame.specs.declared.code.Code.TheVariants.{InternalError}
-use Rattle.h2_log.specs.declared.refusal.Refusal.TheVariants.{Memory}
-use Rattle.h2_log.specs.Acts.{Act, Answer, PutOut, Refused}
-use Rattle.h2_log.specs.Log.{Log}
+use Rattle.h2_spec_log.specs.declared.refusal.Refusal.TheVariants.{Memory}
+use Rattle.h2_spec_log.specs.Acts.{Act, Answer, PutOut, Refused}
+use Rattle.h2_spec_log.specs.Log.{Log}
 use Rattle.h2_ends.specs.declared.refusal.EndRefusal.{EndRefusal}
 use Rattle.h2_ends.specs.declared.refusal.EndRefusal.TheVariants as refusals
 use Rattle.h2_link.specs.declared.error.LinkError.{LinkError}

@@ -2,15 +2,15 @@
 use Rattle.std.specs.Prelude.{◌≡◌, ◌≢◌, ◌⊎◌, ℕ, Bool, false, [], Option, Some, None}
 use Rattle.std.specs.Prelude.{Result, Ok, Err}
 use Rattle.std.specs.List.{Contains}
-use Rattle.h2_log.specs.declared.refusal.Refusal.{Refusal}
-use Rattle.h2_log.specs.declared.refusal.Refusal.TheVariants.{ListTooLarge, Memory}
-use Rattle.h2_log.specs.declared.role.Role.TheVariants.{Client}
-use Rattle.h2_log.specs.Acts.{Values, Open}
-use Rattle.h2_log.specs.Events.{ResetEvent, UnprocessedEvent}
-use Rattle.h2_log.specs.LogCalls.{opened}
+use Rattle.h2_spec_log.specs.declared.refusal.Refusal.{Refusal}
+use Rattle.h2_spec_log.specs.declared.refusal.Refusal.TheVariants.{ListTooLarge, Memory}
+use Rattle.h2_spec_log.specs.declared.role.Role.TheVariants.{Client}
+use Rattle.h2_spec_log.specs.Acts.{Values, Open}
+use Rattle.h2_spec_log.specs.Events.{ResetEvent, UnprocessedEvent}
+use Rattle.h2_spec_log.specs.LogCalls.{opened}
 use Rattle.h2_message.specs.Messages.{SentMessage, broken_by_request}
 use Rattle.h2_message.specs.Phases.{ends_message}
-use Rattle.h2_pair.specs.Tokens.{is_head_alone}
+use Rattle.h2_laws_pair.specs.Tokens.{is_head_alone}
 use Rattle.h2_ends.specs.Ends.{EndLog, Passed, message_for, parts_on}
 use Rattle.h2_ends.specs.EndCalls.{refusal_of_message}
 use Rattle.h2_ends.specs.Represents.{new_end_log}

@@ -2,11 +2,11 @@
 use Rattle.std.specs.Prelude.{◌≡◌, ◌≤◌, ◌-◌, ◌^◌, ◌⊎◌, ℕ, Bool, true, List, ◌++◌, length}
 use Rattle.std.specs.Prelude.{Option, Result, Err}
 use Rattle.std.specs.Io.KnownBytes.{Appends}
-use Rattle.h2_log.specs.Log.{Log}
+use Rattle.h2_spec_log.specs.Log.{Log}
 use Rattle.h2_ends.specs.Ends.{EndLog}
 use Rattle.h2_link.specs.declared.error.LinkError.{LinkError}
 use Rattle.h2_link.specs.declared.error.LinkError.TheVariants as errors
-use Rattle.h2_pair.specs.Pairs.{given_out}
+use Rattle.h2_laws_pair.specs.Pairs.{given_out}
 use Rattle.h2_engines.specs.Failures.{CannotPutOut}
 
 -- the octets that a link has given and taken so far, where it says so; and whether a write of

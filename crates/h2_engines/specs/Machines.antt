@@ -3,10 +3,10 @@ use Rattle.std.specs.Prelude.{◌≡◌, ◌≢◌, ◌⊎◌, ◌≤◌, ◌<�
 use Rattle.std.specs.Prelude.{[], length, drop, Some, None, Result, Ok, Err}
 use Rattle.std.specs.List.{Contains}
 use Rattle.h2_frame.specs.declared.code.Code.{Code}
-use Rattle.h2_log.specs.declared.refusal.Refusal.{Refusal}
-use Rattle.h2_log.specs.declared.refusal.Refusal.TheVariants.{OutputFull, TooManyResets}
-use Rattle.h2_log.specs.Acts.{Values, ResetStream, Refused}
-use Rattle.h2_log.specs.Log.{Log, waiting}
+use Rattle.h2_spec_log.specs.declared.refusal.Refusal.{Refusal}
+use Rattle.h2_spec_log.specs.declared.refusal.Refusal.TheVariants.{OutputFull, TooManyResets}
+use Rattle.h2_spec_log.specs.Acts.{Values, ResetStream, Refused}
+use Rattle.h2_spec_log.specs.Log.{Log, waiting}
 use Rattle.h2_message.specs.Messages.{SentMessage}
 use Rattle.h2_message.specs.Phases.{ends_message}
 use Rattle.h2_ends.specs.declared.end.End.{End}

@@ -6,7 +6,7 @@ use Rattle.std.specs.Map.{lookup}
 use Rattle.std.specs.Ordering.{nat_cmp}
 use Rattle.std.specs.BTreeMap.{is_at}
 use Rattle.hpack.specs.declared.types.field.Field.{Field}
-use Rattle.h2_log.specs.Events.{ResetEvent}
+use Rattle.h2_spec_log.specs.Events.{ResetEvent}
 use Rattle.h2_message.specs.Messages.{first_broken, interim_rules}
 use Rattle.h2_message.specs.Phases.{ends_message}
 use Rattle.h2_message.specs.Reading.{Part, FieldsPart, OctetsPart, BreakNone}

@@ -2,10 +2,11 @@
 use Rattle.std.specs.Prelude.{◌≡◌, ◌≢◌, ◌⊎◌, ℕ, Bool, true, false, List, [], ◌∷◌, Some, None}
 use Rattle.std.specs.Prelude.{Result}
 use Rattle.std.specs.List.{Contains}
-use Rattle.h2_log.specs.declared.role.Role.TheVariants.{Server}
-use Rattle.h2_log.specs.Acts.{Values, AreInRange, Answer, IsTypedAct, ResetStream, PutOut, Done}
-use Rattle.h2_log.specs.Events.{ResetEvent}
-use Rattle.h2_log.specs.LogCalls.{MayAnswer, with_call}
+use Rattle.h2_spec_log.specs.declared.role.Role.TheVariants.{Server}
+use Rattle.h2_spec_log.specs.Acts.{Values, AreInRange, Answer, IsTypedAct, ResetStream, PutOut}
+use Rattle.h2_spec_log.specs.Acts.{Done}
+use Rattle.h2_spec_log.specs.Events.{ResetEvent}
+use Rattle.h2_spec_log.specs.LogCalls.{MayAnswer, with_call}
 use Rattle.h2_message.specs.Messages.{SentMessage}
 use Rattle.h2_message.specs.Phases.{ends_message}
 use Rattle.h2_ends.specs.declared.refusal.EndRefusal.{EndRefusal}

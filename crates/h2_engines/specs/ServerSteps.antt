@@ -6,13 +6,14 @@ use Rattle.std.specs.List.{Contains}
 use Rattle.h2_frame.specs.declared.code.Code.{Code}
 use Rattle.h2_frame.specs.declared.code.Code.TheVariants.{InternalError}
 use Rattle.h2_frame.specs.Codes.{code_number}
-use Rattle.h2_log.specs.Acts.{Values, Act, Answer, ResetStream, Done, Refused}
-use Rattle.h2_log.specs.Log.{Log}
-use Rattle.h2_log.specs.LogCalls.{MayAnswer, with_call}
-use Rattle.h2_log.specs.declared.refusal.Refusal.{Refusal}
-use Rattle.h2_log.specs.declared.refusal.Refusal.TheVariants.{Memory, OutputFull, TooManyResets}
+use Rattle.h2_spec_log.specs.Acts.{Values, Act, Answer, ResetStream, Done, Refused}
+use Rattle.h2_spec_log.specs.Log.{Log}
+use Rattle.h2_spec_log.specs.LogCalls.{MayAnswer, with_call}
+use Rattle.h2_spec_log.specs.declared.refusal.Refusal.{Refusal}
+use Rattle.h2_spec_log.specs.declared.refusal.Refusal.TheVariants.{Memory, OutputFull}
+use Rattle.h2_spec_log.specs.declared.refusal.Refusal.TheVariants.{TooManyResets}
 use Rattle.h2_message.specs.Messages.{SentMessage}
-use Rattle.h2_pair.specs.Pairs.{given_out}
+use Rattle.h2_laws_pair.specs.Pairs.{given_out}
 use Rattle.h2_ends.specs.declared.end.End.{End}
 use Rattle.h2_ends.specs.declared.refusal.EndRefusal.{EndRefusal}
 use Rattle.h2_ends.specs.declared.refusal.EndRefusal.TheVariants.{Conn}

@@ -8,11 +8,11 @@ use Rattle.std.specs.List.{Contains}
 use Rattle.h2_frame.specs.declared.code.Code.{Code}
 use Rattle.h2_frame.specs.declared.code.Code.TheVariants.{InternalError}
 use Rattle.h2_frame.specs.Codes.{code_number}
-use Rattle.h2_log.specs.declared.refusal.Refusal.{Refusal}
-use Rattle.h2_log.specs.declared.refusal.Refusal.TheVariants.{OutputFull, TooManyResets}
-use Rattle.h2_log.specs.Acts.{Values, ResetStream, Refused}
-use Rattle.h2_log.specs.Limits.{max_resets}
-use Rattle.h2_log.specs.Log.{Log, active, owed, resets_written}
+use Rattle.h2_spec_log.specs.declared.refusal.Refusal.{Refusal}
+use Rattle.h2_spec_log.specs.declared.refusal.Refusal.TheVariants.{OutputFull, TooManyResets}
+use Rattle.h2_spec_log.specs.Acts.{Values, ResetStream, Refused}
+use Rattle.h2_spec_log.specs.Limits.{max_resets}
+use Rattle.h2_spec_log.specs.Log.{Log, active, owed, resets_written}
 use Rattle.h2_message.specs.Messages.{SentMessage}
 use Rattle.h2_message.specs.Phases.{ends_message}
 use Rattle.h2_ends.specs.declared.refusal.EndRefusal.{EndRefusal}

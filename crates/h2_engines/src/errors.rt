@@ -22,8 +22,10 @@ pub(crate) fn error_of_code(code: Code) -> LinkError
 
 // rule: engines (own) N2 has the code with which the connection failed; memory is N3
 // rule: engines (own) N5 comes only where a write has taken nothing
-/// How it ends once a call was refused: C12 is N3, and any other N5. C7 comes about where so much
-/// output waits that a request can't be answered, without a link; over one no other is expected.
+/// How it ends once a call was refused: [`Refusal::Memory`] (C12) is [`LinkError::Memory`] (N3),
+/// and any other [`LinkError::NoProgress`] (N5). [`Refusal::OutputFull`] (C7) comes about where so
+/// much output waits that a request can't be answered, without a link; over one no other is
+/// expected.
 pub(crate) fn error_of_refusal(refusal: EndRefusal) -> LinkError
     ensures error { result ≡ error_after refusal }
     ensures kind { IsOfCall result }

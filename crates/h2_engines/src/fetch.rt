@@ -1,7 +1,7 @@
 //! Fetching a response over a link.
 
 ghost use Rattle.std.specs.Prelude.{◌≡◌, ◌<◌, ◌-◌, ◌^◌};
-ghost use Rattle.h2_config.specs.ConfigValues.{values_of};
+ghost use Rattle.h2_flow.specs.ConfigValues.{values_of};
 ghost use Rattle.h2_message.specs.Values.{message_value};
 ghost use Rattle.h2_engines.specs.Failures.{CutsOffAtEnd, failures_at_end};
 ghost use Rattle.h2_engines.specs.Fetches.{Fetches};
@@ -27,11 +27,12 @@ use std::alloc::Global;
 ///
 /// # Errors
 ///
-/// `Device` (N1) where the link failed; `Stream` (N2) where the connection failed, once its GOAWAY
-/// was written; `Memory` (N3) where an allocation was refused; `CutOff` (N4) where the input ended
-/// before the response was whole; `NoProgress` (N5) where a write took nothing, and after 2^64 - 1
-/// rounds; `Reset` (N6) where the stream was reset, by either end, or was not processed;
-/// `Refused` (N7) where the message breaks a rule or its fields are too many.
+/// [`LinkError::Device`] (N1) where the link failed; [`LinkError::Stream`] (N2) where the
+/// connection failed, once its GOAWAY was written; [`LinkError::Memory`] (N3) where an allocation
+/// was refused; [`LinkError::CutOff`] (N4) where the input ended before the response was whole;
+/// [`LinkError::NoProgress`] (N5) where a write took nothing, and after 2^64 - 1 rounds;
+/// [`LinkError::Reset`] (N6) where the stream was reset, by either end, or was not processed;
+/// [`LinkError::Refused`] (N7) where the message breaks a rule or its fields are too many.
 pub fn fetch_link<L: Link>(
     alloc: Global,
     link: &mut L,

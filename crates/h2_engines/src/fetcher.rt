@@ -2,7 +2,7 @@
 
 ghost use Rattle.std.specs.Prelude.{◌≡◌, ◌≤◌, ◌⊎◌, true, false, IfOk, IfErr, OnErr, OnOk};
 ghost use Rattle.std.specs.Prelude.{Ok, Err, None, length};
-ghost use Rattle.h2_config.specs.ConfigValues.{values_of};
+ghost use Rattle.h2_flow.specs.ConfigValues.{values_of};
 ghost use Rattle.h2_message.specs.Values.{message_value};
 ghost use Rattle.h2_ends.specs.Loans.{event_handed};
 ghost use Rattle.h2_engines.specs.Failures.{IsOfClient};
@@ -99,8 +99,8 @@ impl Fetcher {
     ///
     /// # Errors
     ///
-    /// `Refused` (N7) where the message breaks a rule or its fields are too many, `Memory` (N3)
-    /// where an allocation was refused.
+    /// [`LinkError::Refused`] (N7) where the message breaks a rule or its fields are too many,
+    /// [`LinkError::Memory`] (N3) where an allocation was refused.
     pub fn new(alloc: Global, config: Config, message: Message) -> Result<Fetcher, LinkError>
         ensures ok { IfOk result (λ fetcher. HasRequested (values_of config)
             (message_value message) fetcher) }
@@ -136,7 +136,7 @@ impl Fetcher {
     ///
     /// # Errors
     ///
-    /// `NoProgress` (N5) where it isn't whole.
+    /// [`LinkError::NoProgress`] (N5) where it isn't whole.
     pub fn into_fetched(self) -> Result<Fetched, LinkError>
         ensures ok { IfOk result (λ fetched. IsFetchedOf self.coming fetched) }
         ensures whole { OnOk result (self.whole ≡ true) }
@@ -169,9 +169,10 @@ impl Fetcher {
     ///
     /// # Errors
     ///
-    /// `Stream` (N2) where the connection failed, whose GOAWAY waits; `Memory` (N3) where an
-    /// allocation was refused; `NoProgress` (N5) after 2^64 - 1 rounds; `Reset` (N6) where the
-    /// stream was reset, by either end, or was not processed.
+    /// [`LinkError::Stream`] (N2) where the connection failed, whose GOAWAY waits;
+    /// [`LinkError::Memory`] (N3) where an allocation was refused; [`LinkError::NoProgress`] (N5)
+    /// after 2^64 - 1 rounds; [`LinkError::Reset`] (N6) where the stream was reset, by either end,
+    /// or was not processed.
     pub fn take_in(&mut self, piece: &[u8]) -> Result<bool, LinkError>
         ensures takes { ClientTakesIn self.old self.new piece.now result }
         ensures whole { self.old.whole ≡ true → (result ≡ Ok true) × (self.new ≡ self.old) }
@@ -191,7 +192,7 @@ impl Fetcher {
     ///
     /// # Errors
     ///
-    /// `Memory` (N3) where an allocation was refused; then nothing is appended.
+    /// [`LinkError::Memory`] (N3) where an allocation was refused; then nothing is appended.
     pub fn put_out(&mut self, count: usize, out: &mut Vec<u8>) -> Result<usize, LinkError>
         ensures puts { ClientPutsOut self.old self.new count out.old.items out.new.items result }
         ensures err { IfErr result IsOfClient }

@@ -2,7 +2,7 @@
 
 ghost use Rattle.std.specs.Prelude.{◌≡◌, ◌≤◌, ◌<◌, ◌-◌, ◌^◌, Bool, true, length};
 ghost use Rattle.std.specs.Prelude.{IfOk, IfErr, OnErr, OnOk};
-ghost use Rattle.h2_log.specs.Acts.{PutOut, Count};
+ghost use Rattle.h2_spec_log.specs.Acts.{PutOut, Count};
 ghost use Rattle.h2_conn.specs.Conn.{GivesOut, answer_by};
 ghost use Rattle.h2_ends.specs.Represents.{EndAnswers, EndPumps, EndReleases};
 ghost use Rattle.h2_engines.specs.Failures.{EndsWriting, IsOfCall, failures_at_end, failures_by};

@@ -1,8 +1,8 @@
 //! A server that answers each whole request with what it asked.
 
 ghost use Rattle.std.specs.Prelude.{◌≡◌, ◌≤◌, ◌<◌, ◌^◌, [], IfOk, IfErr, length, true};
-ghost use Rattle.h2_config.specs.ConfigValues.{values_of};
-ghost use Rattle.h2_log.specs.declared.role.Role.TheVariants as roles;
+ghost use Rattle.h2_flow.specs.ConfigValues.{values_of};
+ghost use Rattle.h2_spec_log.specs.declared.role.Role.TheVariants as roles;
 ghost use Rattle.h2_ends.specs.Represents.{EndRepresents, new_end_log};
 ghost use Rattle.h2_engines.specs.Answers.{answer_with};
 ghost use Rattle.h2_engines.specs.Failures.{IsOfCall, IsOfServer};
@@ -37,7 +37,7 @@ impl Responder {
     ///
     /// # Errors
     ///
-    /// `Memory` (N3) where an allocation was refused.
+    /// [`LinkError::Memory`] (N3) where an allocation was refused.
     pub fn new(alloc: Global, config: Config) -> Result<Responder, LinkError>
         ensures ok { IfOk result (λ responder. EndRepresents (values_of config)
             responder.server.end (new_end_log roles.Server (values_of config))) }
@@ -134,10 +134,10 @@ impl Responder {
     ///
     /// # Errors
     ///
-    /// `Stream` (N2) where the connection failed, whose GOAWAY waits, or where no stream can be
-    /// reset any more, with 11; `Memory` (N3) where an allocation was refused; `NoProgress` (N5)
-    /// where so much output waits that a request can't be answered, and after 2^64 - 1 rounds or
-    /// 2^32 - 1 answers.
+    /// [`LinkError::Stream`] (N2) where the connection failed, whose GOAWAY waits, or where no
+    /// stream can be reset any more, with ENHANCE_YOUR_CALM; [`LinkError::Memory`] (N3) where an
+    /// allocation was refused; [`LinkError::NoProgress`] (N5) where so much output waits that a
+    /// request can't be answered, and after 2^64 - 1 rounds or 2^32 - 1 answers.
     pub fn take_in(&mut self, piece: &[u8]) -> Result<(), LinkError>
         ensures takes { ServerTakesIn self.old self.new piece.now result }
         ensures err { IfErr result IsOfServer }
@@ -154,7 +154,7 @@ impl Responder {
     ///
     /// # Errors
     ///
-    /// `Memory` (N3) where an allocation was refused; then nothing is appended.
+    /// [`LinkError::Memory`] (N3) where an allocation was refused; then nothing is appended.
     pub fn put_out(&mut self, count: usize, out: &mut Vec<u8>) -> Result<usize, LinkError>
         ensures puts { ServerPutsOut self.old self.new count out.old.items out.new.items result }
         ensures answered { self.new.answered ≡ self.old.answered }
@@ -169,7 +169,8 @@ impl Responder {
     ///
     /// # Errors
     ///
-    /// `CutOff` (N4) where it has ended inside the preface or a frame, or a stream is active.
+    /// [`LinkError::CutOff`] (N4) where it has ended inside the preface or a frame, or a stream is
+    /// active.
     pub(crate) fn finish(&self) -> Result<u32, LinkError>
         ensures finishes { ServerFinishes self.now.server.end self.now.answered result }
         ensures err { IfErr result (λ error. error ≡ LinkError.CutOff) }

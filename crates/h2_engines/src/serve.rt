@@ -1,7 +1,7 @@
 //! Serving a connection over a link.
 
 ghost use Rattle.std.specs.Prelude.{◌≡◌, ◌<◌, ◌-◌, ◌^◌, IfErr, OnOk, true};
-ghost use Rattle.h2_config.specs.ConfigValues.{values_of};
+ghost use Rattle.h2_flow.specs.ConfigValues.{values_of};
 ghost use Rattle.h2_engines.specs.Failures.{CutsOffAtEnd, EndsServing, failures_at_end};
 ghost use Rattle.h2_engines.specs.Linked.{traffic};
 ghost use Rattle.h2_engines.specs.Serves.{Serves};
@@ -27,12 +27,13 @@ use std::alloc::Global;
 ///
 /// # Errors
 ///
-/// `Device` (N1) where the link failed; `Stream` (N2) where the connection failed, once its GOAWAY
-/// was written, or where no stream can be reset any more, with 11; `Memory` (N3) where an
-/// allocation was refused; `CutOff` (N4) where the input ended inside the preface or a frame, or
-/// while a stream was active; `NoProgress` (N5) where a write took nothing, and also where nothing
-/// could go on, which is not expected: after 2^64 - 1 rounds or 2^32 - 1 answers, or where the end
-/// refuses an answer or a reset.
+/// [`LinkError::Device`] (N1) where the link failed; [`LinkError::Stream`] (N2) where the
+/// connection failed, once its GOAWAY was written, or where no stream can be reset any more, with
+/// ENHANCE_YOUR_CALM; [`LinkError::Memory`] (N3) where an allocation was refused;
+/// [`LinkError::CutOff`] (N4) where the input ended inside the preface or a frame, or while a
+/// stream was active; [`LinkError::NoProgress`] (N5) where a write took nothing, and also where
+/// nothing could go on, which is not expected: after 2^64 - 1 rounds or 2^32 - 1 answers, or where
+/// the end refuses an answer or a reset.
 pub fn serve_link<L: Link>(alloc: Global, link: &mut L, config: Config) -> Result<u32, LinkError>
     requires { L.faults link.old < 2 ^ 64 - 1 }
     ensures serves { Serves (values_of config)

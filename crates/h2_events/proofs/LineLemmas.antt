@@ -5,7 +5,7 @@ use Rattle.std.proofs.KnownBytes.{Appends-trans}
 use Rattle.std.proofs.lemmas.Grind.{flat_map-append}
 use Rattle.std.proofs.lemmas.List.{take_more}
 use Rattle.std.specs.Io.KnownBytes.{Appends}
-use Rattle.h2_log.specs.Events.{GoAwayEvent, UnprocessedEvent}
+use Rattle.h2_spec_log.specs.Events.{GoAwayEvent, UnprocessedEvent}
 use Rattle.h2_events.specs.EventLines.{event_lines}
 
 -- a turn of writing what each item gives

@@ -7,24 +7,24 @@ use Rattle.std.proofs.KnownBytes.{Consumes-trans, Consumes-whole}
 use Rattle.h2_frame.specs.declared.code.Code.{Code}
 use Rattle.h2_frame.specs.declared.code.Code.TheVariants.{InternalError}
 use Rattle.h2_show.specs.declared.show.Shown.{Shown}
-use Rattle.h2_log.specs.declared.role.Role.{Role}
-use Rattle.h2_log.specs.Acts.{Values, AreInRange, TakeCalled, TakeAnswered}
-use Rattle.h2_log.specs.Log.{Log}
-use Rattle.h2_log.specs.LogCalls.{opened}
-use Rattle.h2_log.specs.LogSteps.{with_sent}
-use Rattle.h2_end_laws.specs.Replays.{TakesAll, is_done, goes_on, has_fault}
-use Rattle.h2_end_laws.specs.Replays.{starts, takes}
-use Rattle.h2_end_laws.specs.Replays.{octets_of_acts}
-use Rattle.h2_end_laws.proofs.TakeAnswers.{log_after_take}
-use Rattle.h2_end_laws.proofs.TurnsAdded.{Adds, is_of_take, adds_twice, adds_take}
-use Rattle.h2_config.specs.declared.config.Config.{Config}
-use Rattle.h2_config.specs.ConfigValues.{values_of}
+use Rattle.h2_spec_log.specs.declared.role.Role.{Role}
+use Rattle.h2_spec_log.specs.Acts.{Values, AreInRange, TakeCalled, TakeAnswered}
+use Rattle.h2_spec_log.specs.Log.{Log}
+use Rattle.h2_spec_log.specs.LogCalls.{opened}
+use Rattle.h2_spec_log.specs.LogSteps.{with_sent}
+use Rattle.h2_laws_end.specs.Replays.{TakesAll, is_done, goes_on, has_fault}
+use Rattle.h2_laws_end.specs.Replays.{starts, takes}
+use Rattle.h2_laws_end.specs.Replays.{octets_of_acts}
+use Rattle.h2_laws_end.proofs.TakeAnswers.{log_after_take}
+use Rattle.h2_laws_end.proofs.TurnsAdded.{Adds, is_of_take, adds_twice, adds_take}
+use Rattle.h2_flow.specs.declared.config.Config.{Config}
+use Rattle.h2_flow.specs.ConfigValues.{values_of}
 use Rattle.h2_conn.specs.declared.conn.Conn.{Conn}
 use Rattle.h2_conn.specs.Conn.{ConnRepresents}
 use Rattle.h2_events.specs.Replayer.{first_values, EndReplays, HandsPiece, joined_pieces}
 use Rattle.h2_events.specs.Report.{IsReplayOf, TakesInput, FailsInInput, ReplayReports}
 use Rattle.h2_events.specs.Report.{ReplayReportsOctets, replay_status}
-use Rattle.h2_end_laws.proofs.ReplayedLogs.{adds_all as turns_added}
+use Rattle.h2_laws_end.proofs.ReplayedLogs.{adds_all as turns_added}
 
 -- The connection has failed with the code of a fault that is met in them, and with none otherwise.
 failed_after : (log after : Log) (octets : List ℕ) (fault : Option Code)

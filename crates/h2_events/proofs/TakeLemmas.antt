@@ -5,9 +5,9 @@ use Rattle.std.proofs.Common.{length-drop}
 use Rattle.std.proofs.lemmas.List.{take_rest, drop-drop}
 use Rattle.std.specs.Option.{option_map}
 use Rattle.h2_frame.specs.declared.code.Code.{Code}
-use Rattle.h2_show.specs.declared.failure.Failure.TheVariants as failures
-use Rattle.h2_end_laws.specs.Takes.{Took, Failed, MayTake, TakeAnswer}
-use Rattle.h2_end_laws.specs.Replays.{TakesAll, is_done, goes_on, has_fault, IsCalledAgain}
+use Rattle.h2_cli.specs.declared.failure.Failure.TheVariants as failures
+use Rattle.h2_laws_end.specs.Takes.{Took, Failed, MayTake, TakeAnswer}
+use Rattle.h2_laws_end.specs.Replays.{TakesAll, is_done, goes_on, has_fault, IsCalledAgain}
 use Rattle.h2_conn.specs.declared.conn.Conn.{Conn}
 use Rattle.h2_conn.specs.declared.event.Event.{Event}
 use Rattle.h2_conn.specs.declared.event.Taken.{Taken}

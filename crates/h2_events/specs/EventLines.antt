@@ -1,7 +1,7 @@
 -- The lines of events that `h2 replay` prints, as octets.
 use Rattle.std.specs.Prelude.{ℕ, Bool, true, false, List, ◌++◌, length, codes, decimal, flat_map}
-use Rattle.h2_log.specs.Events.{Event, FieldsEvent, DataEvent, ResetEvent, GoAwayEvent}
-use Rattle.h2_log.specs.Events.{UnprocessedEvent, AckedEvent, PongEvent}
+use Rattle.h2_spec_log.specs.Events.{Event, FieldsEvent, DataEvent, ResetEvent, GoAwayEvent}
+use Rattle.h2_spec_log.specs.Events.{UnprocessedEvent, AckedEvent, PongEvent}
 use Rattle.h2_show.specs.Lines.{field_line, flag_word, hex_octet}
 
 -- a space and the word of END_STREAM, where it is set (RFC 9113, section 6.1)

@@ -2,11 +2,11 @@
 use Rattle.std.specs.Prelude.{◌≡◌, ◌≢◌, ℕ, List, map, drop, Option, Some, None}
 use Rattle.h2_frame.specs.declared.code.Code.{Code}
 use Rattle.h2_frame.specs.declared.code.Code.TheVariants.{InternalError}
-use Rattle.h2_show.specs.declared.failure.Failure.TheVariants as failures
-use Rattle.h2_log.specs.declared.role.Role.{Role}
-use Rattle.h2_log.specs.Acts.{Values, Turn}
-use Rattle.h2_log.specs.Log.{Log}
-use Rattle.h2_end_laws.specs.Replays.{Take, TakesAll, IsReplay, octets_of_acts}
+use Rattle.h2_cli.specs.declared.failure.Failure.TheVariants as failures
+use Rattle.h2_spec_log.specs.declared.role.Role.{Role}
+use Rattle.h2_spec_log.specs.Acts.{Values, Turn}
+use Rattle.h2_spec_log.specs.Log.{Log}
+use Rattle.h2_laws_end.specs.Replays.{Take, TakesAll, IsReplay, octets_of_acts}
 use Rattle.h2_conn.specs.declared.conn.Conn.{Conn}
 use Rattle.h2_conn.specs.Conn.{ConnRepresents}
 use Rattle.h2_events.specs.declared.replayer.ReplayError.{ReplayError}

@@ -2,13 +2,14 @@
 
 ghost use Rattle.std.specs.Prelude.{◌≢◌, Err, Some, flat_map, OnOk};
 ghost use Rattle.std.specs.Io.KnownBytes.{Appends};
-ghost use Rattle.h2_log.specs.Events.{PongEvent};
+ghost use Rattle.h2_spec_log.specs.Events.{PongEvent};
 ghost use Rattle.h2_conn.specs.Events.{event_value};
 ghost use Rattle.h2_show.specs.Lines.{field_line};
 ghost use Rattle.h2_events.specs.EventLines.{event_lines, end_word};
 
+use h2_cli::{Failure, PIECE};
 use h2_conn::{Conn, Event};
-use h2_show::{Failure, PIECE, write_field};
+use h2_show::write_field;
 use hpack::FieldList;
 use std::alloc::Global;
 use std::fmt;

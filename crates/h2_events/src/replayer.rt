@@ -5,9 +5,9 @@ ghost use Rattle.h2_events.specs.Replayer.{EndReplays, HandsPiece, ReportsCode, 
 ghost use Rattle.h2_events.specs.Replayer.{IsFailed};
 
 use crate::lines::write_event;
+use h2_cli::Failure;
 use h2_conn::{Config, Conn, ConnFault, Refusal, Role};
 use h2_frame::Code;
-use h2_show::Failure;
 use std::alloc::Global;
 use std::io::{self, Write};
 

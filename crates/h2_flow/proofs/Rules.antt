@@ -1,5 +1,5 @@
 -- What an attribute `unfolding` opens at once: the rules of settings.
-use Rattle.h2_log.specs.Settings.{value_fault}
+use Rattle.h2_spec_log.specs.Settings.{value_fault}
 use Rattle.h2_flow.specs.Settings.{with_value}
 
 -- the fault of a value, and the settings with it

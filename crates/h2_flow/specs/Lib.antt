@@ -1,2 +1,4 @@
+pub mod ConfigValues
+pub mod Configs
 pub mod Settings
 pub mod Window

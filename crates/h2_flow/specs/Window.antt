@@ -1,6 +1,6 @@
 -- In which range a window is.
 use Rattle.std.specs.Prelude.{◌^◌, ◌||◌, Bool, ℤ, pos, int_lt, ◌-ℤ◌}
-use Rattle.h2_log.specs.Windows.{greatest_window}
+use Rattle.h2_spec_log.specs.Windows.{greatest_window}
 
 -- Whether a window is above 2^31 - 1 (RFC 9113, section 6.9.1), or below -2^31: initial windows are
 -- at most 2^31 - 1, so that no settings shift one of them below that (section 6.9.2).

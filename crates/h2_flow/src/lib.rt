@@ -1,13 +1,18 @@
-//! The peer's settings, flow-control windows and the two sides of a stream (RFC 9113, sections 5.1,
-//! 6.5 and 6.9): small values that take no memory, each step with its refusal.
+//! The settings of this end, each within its bounds, the peer's settings, flow-control windows and
+//! the two sides of a stream (RFC 9113, sections 5.1, 6.5 and 6.9): small values that take no
+//! memory, each step with its refusal.
 #![tactic(auto)]
 
+mod config;
 mod fault;
+mod ranges;
 mod settings;
 mod stream_state;
 mod window;
 
+pub use config::{BadConfig, Config};
 pub use fault::{BadSetting, Closed, Exceeded, Overflow};
+pub use ranges::values_in_range;
 pub use settings::Settings;
 pub use stream_state::StreamState;
 pub use window::Window;

@@ -1,12 +1,13 @@
 //! The settings of a peer.
 
 ghost use Rattle.std.specs.Prelude.{◌≡◌, None, Some, OnOk, IfErr, if◌then◌else◌};
-ghost use Rattle.h2_log.specs.Settings.{value_fault, is_server};
+ghost use Rattle.h2_spec_log.specs.Settings.{value_fault, is_server};
 ghost use Rattle.h2_flow.specs.Settings.{first_settings, with_value};
 
 use crate::fault::BadSetting;
 use h2_frame::Code;
-use h2_log::Role;
+use h2_frame::limits::{FIRST_TABLE, FIRST_WINDOW, GREATEST_WINDOW, LEAST_MAX_FRAME, MAX_PAYLOAD};
+use h2_spec_log::Role;
 
 /// The six values of a peer's settings (RFC 9113, section 6.5.2).
 #[derive(Clone, Copy, Debug, PartialEq, Eq, Hash)]
@@ -35,11 +36,11 @@ impl Settings {
         ensures { result ≡ first_settings }
     {
         Settings {
-            header_table_size: 4_096,
+            header_table_size: FIRST_TABLE,
             enable_push: true,
             max_concurrent_streams: None,
-            initial_window_size: 65_535,
-            max_frame_size: 16_384,
+            initial_window_size: FIRST_WINDOW,
+            max_frame_size: LEAST_MAX_FRAME,
             max_header_list_size: None,
         }
     }
@@ -79,13 +80,13 @@ impl Settings {
             }
             3 => self.max_concurrent_streams = Some(value),
             4 => {
-                if value > 0x7fff_ffff {
+                if value > GREATEST_WINDOW {
                     return Err(BadSetting(Code::FlowControlError));
                 }
                 self.initial_window_size = value;
             }
             5 => {
-                if value < 16_384 || value > 0xff_ffff {
+                if value < LEAST_MAX_FRAME || value > MAX_PAYLOAD {
                     return Err(BadSetting(Code::ProtocolError));
                 }
                 self.max_frame_size = value;

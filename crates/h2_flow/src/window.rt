@@ -2,11 +2,12 @@
 
 ghost use Rattle.std.specs.Prelude.{◌≡◌, ◌≤◌, ◌<◌, pos, ◌+ℤ◌, ◌-ℤ◌, int_lt, true, false, OnOk};
 ghost use Rattle.std.specs.Prelude.{OnErr};
-ghost use Rattle.h2_log.specs.Windows.{greatest_window};
-ghost use Rattle.h2_log.specs.ItemRules.{exceeds, overflows_by};
+ghost use Rattle.h2_spec_log.specs.Windows.{greatest_window};
+ghost use Rattle.h2_spec_log.specs.ItemRules.{exceeds, overflows_by};
 ghost use Rattle.h2_flow.specs.Window.{is_out_of_range};
 
 use crate::fault::{Exceeded, Overflow};
+use h2_frame::limits::GREATEST_WINDOW;
 
 /// How many octets may be sent (RFC 9113, section 6.9): from -2<sup>31</sup> to 2<sup>31</sup> - 1,
 /// since settings can lower a stream's window below zero (section 6.9.2).
@@ -69,7 +70,7 @@ impl Window {
             × (self.new ≡ self.old)) }
     {
         let value = self.value + i64::from(octets);
-        if value > 0x7fff_ffff {
+        if value > i64::from(GREATEST_WINDOW) {
             return Err(Overflow);
         }
         self.value = value;
@@ -92,7 +93,7 @@ impl Window {
             × (self.new ≡ self.old)) }
     {
         match self.value.checked_add(difference) {
-            Some(value) if value >= -0x8000_0000 && value <= 0x7fff_ffff => {
+            Some(value) if value >= -0x8000_0000 && value <= i64::from(GREATEST_WINDOW) => {
                 self.value = value;
                 Ok(())
             }

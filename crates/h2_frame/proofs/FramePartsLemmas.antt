@@ -11,12 +11,12 @@ use Rattle.h2_frame.specs.declared.owned.Unwritable.TheVariants.{TooLong, BadStr
 use Rattle.h2_frame.specs.declared.frame_parts.Body.{Body}
 use Rattle.h2_frame.specs.declared.frame_parts.Body.TheVariants.{Pairs}
 use Rattle.h2_frame.specs.declared.frame_parts.FrameParts.{FrameParts}
-use Rattle.h2_frame.specs.Heads.{fits_stream}
+use Rattle.h2_frame.specs.Heads.{fits_stream, head_octets}
 use Rattle.h2_frame.specs.Frames.{Frame}
 use Rattle.h2_frame.specs.Pairs.{first_pair, pairs_in, pairs_of}
 use Rattle.h2_frame.specs.Encoding.{pair_octets, payload_of, stream_of, kind_of_frame}
 use Rattle.h2_frame.specs.Encoding.{has_good_values, refusal, encoding_of}
-use Rattle.h2_frame.specs.FrameParts.{ArePairs, body_octets, payload_octets, head_octets, Describes}
+use Rattle.h2_frame.specs.FrameParts.{ArePairs, body_octets, payload_octets, Describes}
 
 -- each pair has six octets
 pub length-pair_octets : (pairs : List (ℕ × ℕ))

@@ -7,7 +7,7 @@ use Rattle.std.proofs.lemmas.List.{drop-append-le}
 use Rattle.byteorder.specs.Endian.{big_number}
 use Rattle.byteorder.specs.Numbers.{big_from-append}
 use Rattle.h2_frame.specs.declared.heads.Head.{Head}
-use Rattle.h2_frame.specs.declared.kind.Kind.TheVariants.{Headers}
+use Rattle.h2_frame.specs.declared.kind.Kind.TheVariants.{Data, Headers}
 use Rattle.h2_frame.specs.Heads.{head_of, form_fault, fits_stream, head_fault}
 
 -- a head is read from nine octets
@@ -37,6 +37,11 @@ pub form_fault-head_fault : (head : Head) (limit : ℕ) → head_fault head limi
     → form_fault head ≡ None
 unfolding head_fault
 form_fault-head_fault head limit sound = grind (arith, nat_tests)
+
+-- a head of DATA that has no fault of its form is on a stream
+pub stream-Data : (head : Head) → head.kind ≡ Data → form_fault head ≡ None → 0 < head.stream
+unfolding form_fault fits_stream
+stream-Data head kind sound = grind (arith, nat_tests)
 
 -- a head of HEADERS that has no fault of its form is on a stream
 pub stream-Headers : (head : Head) → head.kind ≡ Headers → form_fault head ≡ None → 0 < head.stream

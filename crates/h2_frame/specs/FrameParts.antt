@@ -1,5 +1,5 @@
 -- What is written of a frame, part by part.
-use Rattle.std.specs.Prelude.{◌≡◌, ◌<◌, ◌^◌, ℕ, true, None, List, [], ◌∷◌, ◌++◌, flat_map}
+use Rattle.std.specs.Prelude.{◌≡◌, ◌<◌, ◌^◌, ℕ, true, None, List, [], ◌++◌, flat_map}
 use Rattle.std.specs.List.{AllByRecursion}
 use Rattle.byteorder.specs.Endian.{big_bytes}
 use Rattle.h2_frame.specs.declared.kind.Kind.{Kind}
@@ -9,7 +9,6 @@ use Rattle.h2_frame.specs.declared.frame_parts.FixedFields.TheVariants.{Word, Tw
 use Rattle.h2_frame.specs.declared.frame_parts.Body.{Body}
 use Rattle.h2_frame.specs.declared.frame_parts.Body.TheVariants.{Octets, Pairs}
 use Rattle.h2_frame.specs.declared.frame_parts.FrameParts.{FrameParts}
-use Rattle.h2_frame.specs.Codes.{number_of}
 use Rattle.h2_frame.specs.Frames.{Frame}
 use Rattle.h2_frame.specs.Encoding.{kind_of_frame, stream_of, flags_of, payload_of, has_good_values}
 use Rattle.h2_frame.specs.Encoding.{padded, pair_octets, IsTyped}
@@ -30,11 +29,6 @@ body_octets (Pairs pairs) = flat_map pair_octets pairs.now
 -- the octets of a payload
 abbrev pub payload_octets : FrameParts → List ℕ
 payload_octets parts = padded (fixed_octets parts.fixed_fields ++ body_octets parts.body) parts.pad
-
--- the nine octets of a head
-abbrev pub head_octets : Kind → ℕ → ℕ → ℕ → List ℕ
-head_octets kind flags stream count =
-    big_bytes 3 count ++ (number_of kind ∷ flags ∷ big_bytes 4 stream)
 
 -- Each pair has 16 bits of identifier and 32 of value.
 abbrev pub ArePairs : List (ℕ × ℕ) → Type 0

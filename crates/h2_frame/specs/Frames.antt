@@ -1,7 +1,7 @@
 -- Frames without where they lie in memory, and the octets that encode them (RFC 9113, section 6).
 -- contract: h2_frame::read_payload
 use Rattle.std.specs.Prelude.{◌≡◌, ℕ, ◌+◌, ◌-◌, ◌%◌, ◌^◌, ◌<◌, ◌≤◌, nat_lt, nat_le, ◌&&◌, Bool}
-use Rattle.std.specs.Prelude.{true, false, if◌then◌else◌, List, [], ◌∷◌, ◌++◌, length, drop}
+use Rattle.std.specs.Prelude.{true, false, if◌then◌else◌, List, [], ◌∷◌, ◌++◌, length, take, drop}
 use Rattle.std.specs.Prelude.{slice_index, Option, Some, None}
 use Rattle.byteorder.specs.Endian.{big_number}
 use Rattle.h2_frame.specs.declared.code.Code.{Code}
@@ -189,6 +189,36 @@ pads_too_much (kinds.Unknown number) flags payload = false
 unfoldable pub payload_fault : Head → List ℕ → Option Code
 payload_fault head payload = if pads_too_much head.kind head.flags payload then Some ProtocolError
     else None
+
+-- Whether a payload begins with a pad length: that of DATA or HEADERS with PADDED (sections 6.1 and
+-- 6.2).
+-- rule: 6.1 With PADDED, DATA has a pad length, data and padding
+-- rule: 6.2 HEADERS has a pad length, a priority, the fragment and the padding
+unfoldable pub is_padded : Kind → ℕ → Bool
+is_padded kinds.Data flags = has_padding flags
+is_padded kinds.Headers flags = has_padding flags
+is_padded kinds.Priority flags = false
+is_padded kinds.RstStream flags = false
+is_padded kinds.Settings flags = false
+is_padded kinds.PushPromise flags = false
+is_padded kinds.Ping flags = false
+is_padded kinds.GoAway flags = false
+is_padded kinds.WindowUpdate flags = false
+is_padded kinds.Continuation flags = false
+is_padded (kinds.Unknown number) flags = false
+
+-- the pad length of a payload, where it begins with one
+abbrev pub pad_where : Bool → List ℕ → Option ℕ
+pad_where begins payload = if begins then Some (pad_length payload) else None
+
+-- the pad length of a payload after its head, where it begins with one
+unfoldable pub pad_of : Head → List ℕ → Option ℕ
+pad_of head payload = pad_where (is_padded head.kind head.flags) payload
+
+-- What lies between the pad length and the padding; all of a payload without a pad length.
+abbrev pub unpadded : Option ℕ → List ℕ → List ℕ
+unpadded None payload = payload
+unpadded (Some count) payload = take (length payload - count - 1) (drop 1 payload)
 
 -- what an error of reading a payload says of it
 -- rule: 6.1 A fault of a payload is known at its last octet

@@ -1,8 +1,9 @@
 -- The nine octets with which a frame begins, and their faults (RFC 9113, sections 4.1, 4.2 and 6).
 -- contract: h2_frame::head_fault
 use Rattle.std.specs.Prelude.{ℕ, ◌+◌, ◌%◌, ◌^◌, ◌==◌, nat_lt, nat_le, not, Bool, true, false}
-use Rattle.std.specs.Prelude.{if◌then◌else◌, List, drop, slice_index, bit_and, Option, Some, None}
-use Rattle.byteorder.specs.Endian.{big_number}
+use Rattle.std.specs.Prelude.{if◌then◌else◌, List, ◌∷◌, ◌++◌, drop, slice_index, bit_and}
+use Rattle.std.specs.Prelude.{Option, Some, None}
+use Rattle.byteorder.specs.Endian.{big_number, big_bytes}
 use Rattle.h2_frame.specs.declared.code.Code.{Code}
 use Rattle.h2_frame.specs.declared.code.Code.TheVariants.{ProtocolError, FrameSizeError}
 use Rattle.h2_frame.specs.declared.kind.Kind.{Kind}
@@ -10,7 +11,7 @@ use Rattle.h2_frame.specs.declared.kind.Kind.TheVariants.{Data, Headers, Priorit
 use Rattle.h2_frame.specs.declared.kind.Kind.TheVariants.{Settings, PushPromise, Ping, GoAway}
 use Rattle.h2_frame.specs.declared.kind.Kind.TheVariants.{WindowUpdate, Continuation, Unknown}
 use Rattle.h2_frame.specs.declared.heads.Head.{Head}
-use Rattle.h2_frame.specs.Codes.{kind_of}
+use Rattle.h2_frame.specs.Codes.{kind_of, number_of}
 
 -- The head that nine octets encode: 24 bits of length, 8 of kind, 8 of flags, a reserved bit that
 -- is ignored, and 31 of stream number (section 4.1). Octets after the ninth aren't read.
@@ -24,6 +25,13 @@ head_of octets =
       flags = slice_index octets 4;
       stream = big_number 4 (drop 5 octets) % 2 ^ 31;
     }
+
+-- The nine octets that encode a head of these values, with 31 bits of stream (section 4.1).
+-- rule: 4.1 A frame is sent without its reserved bit and undefined flags
+-- rule: 4.1 A frame is sent with the length of its payload
+abbrev pub head_octets : Kind → ℕ → ℕ → ℕ → List ℕ
+head_octets kind flags stream count =
+    big_bytes 3 count ++ (number_of kind ∷ flags ∷ big_bytes 4 stream)
 
 -- Whether a flag is set. A flag is given by its bit.
 abbrev pub has_flag : ℕ → ℕ → Bool

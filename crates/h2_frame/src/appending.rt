@@ -4,17 +4,14 @@ ghost use Rattle.std.specs.Prelude.{◌≡◌, ◌+◌, ◌*◌, ◌^◌, ◌<�
 ghost use Rattle.std.specs.Prelude.{MatchOption};
 ghost use Rattle.std.specs.Vec.{vec_capacity};
 ghost use Rattle.h2_frame.specs.Encoding.{pair_octets};
-ghost use Rattle.h2_frame.specs.FrameParts.{fixed_octets, body_octets, payload_octets, head_octets};
+ghost use Rattle.h2_frame.specs.FrameParts.{fixed_octets, body_octets, payload_octets};
+ghost use Rattle.h2_frame.specs.Heads.{head_octets};
 
 use crate::frame_parts::{Body, FixedFields, FrameParts};
+use crate::heads::Head;
+use crate::limits::MAX_PAYLOAD;
 use crate::pairs::PAIR;
 use byteorder::{BigEndian, ByteOrder};
-
-/// The octets of a head.
-pub(crate) const HEAD: usize = 9;
-
-// The most octets of a payload: 24 bits of a head say how many there are (RFC 9113, section 4.1).
-const MOST: usize = 0xff_ffff;
 
 impl FrameParts<'_> {
     // rule: 4.2 No payload above 16,777,215 octets is written
@@ -24,7 +21,7 @@ impl FrameParts<'_> {
             (λ count. (count ≡ length (payload_octets self.now)) × (count ≤ 16777215)) }
     {
         let body = self.body.len();
-        if body > MOST {
+        if body > MAX_PAYLOAD as usize {
             return None;
         }
         let padding = match self.pad {
@@ -32,7 +29,7 @@ impl FrameParts<'_> {
             None => 0,
         };
         let length = padding + self.fixed_fields.len() + body;
-        if length > MOST {
+        if length > MAX_PAYLOAD as usize {
             return None;
         }
         Some(length as u32)
@@ -48,12 +45,13 @@ impl FrameParts<'_> {
             ++ head_octets self.now.kind self.now.flags self.now.stream length }
         ensures capacity { vec_capacity out.old ≤ vec_capacity out.new }
     {
-        let mut octets = [0; HEAD];
-        BigEndian::write_u24(&mut octets, length);
-        octets[3] = self.kind.number();
-        octets[4] = self.flags;
-        BigEndian::write_u32(&mut octets[5..], self.stream);
-        out.extend_from_slice(&octets).unwrap();
+        let head = Head {
+            length,
+            kind: self.kind,
+            flags: self.flags,
+            stream: self.stream,
+        };
+        out.extend_from_slice(&head.octets()).unwrap();
     }
 
     // rule: 6.1 Padding is sent as zeros

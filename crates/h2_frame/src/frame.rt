@@ -50,7 +50,7 @@ pub enum FrameRef<'a> {
     Reset {
         /// The stream, not 0.
         stream: u32,
-        /// Why, by its number; any is allowed.
+        /// The error code (section 7); any is allowed.
         code: u32,
     },
     /// Settings, or that the settings of the peer were applied (section 6.5).
@@ -71,7 +71,7 @@ pub enum FrameRef<'a> {
     GoAway {
         /// The greatest stream that its sender has taken, less than 2<sup>31</sup>.
         last: u32,
-        /// Why, by its number; any is allowed.
+        /// The error code (section 7); any is allowed.
         code: u32,
         /// Additional debug data.
         debug: &'a [u8],
@@ -194,7 +194,7 @@ fn priority_len(priority: Option<[u8; 5]>) -> usize
 }
 
 /// Why a payload isn't read.
-#[derive(Clone, Copy, Debug, PartialEq, Eq, Error)]
+#[derive(Clone, Copy, Debug, PartialEq, Eq, Hash, Error)]
 pub enum PayloadError {
     /// The payload breaks a rule of its kind; the connection ends with this code.
     #[error("fault of a payload: {0}")]

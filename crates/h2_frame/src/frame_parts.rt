@@ -10,7 +10,7 @@ ghost use Rattle.h2_frame.specs.FrameParts.{ArePairs, Describes, IsPlain};
 
 use crate::kind::Kind;
 use crate::pairs::{PAIR, Pairs};
-use crate::reading::{ACK, END_HEADERS, END_STREAM, PADDED, PRIORITY, fits_stream};
+use crate::reading_heads::{ACK, END_HEADERS, END_STREAM, PADDED, PRIORITY, fits_stream};
 
 /// The least number that has more than 31 bits.
 pub(crate) const ABOVE_31_BITS: u32 = 0x8000_0000;

@@ -1,6 +1,13 @@
-//! What a frame's head says.
+//! The head of a frame, and its encoding (RFC 9113, section 4.1).
+
+ghost use Rattle.std.specs.Prelude.{◌≡◌, ◌<◌, ◌^◌};
+ghost use Rattle.h2_frame.specs.Heads.{head_octets};
 
 use crate::kind::Kind;
+use byteorder::{BigEndian, ByteOrder};
+
+/// How many octets a frame's head has (RFC 9113, section 4.1).
+pub const HEAD_LEN: usize = 9;
 
 /// The nine octets with which a frame begins, as numbers (RFC 9113, section 4.1).
 #[derive(Clone, Copy, Debug, PartialEq, Eq)]
@@ -13,4 +20,23 @@ pub struct Head {
     pub flags: u8,
     /// The stream's number, less than 2<sup>31</sup> in a head that was read; 0 is the connection.
     pub stream: u32,
+}
+
+impl Head {
+    // rule: 4.1 A frame is sent without its reserved bit and undefined flags
+    // rule: 4.1 A frame is sent with the length of its payload
+    /// The octets that encode it (RFC 9113, section 4.1), where its length is less than
+    /// 2<sup>24</sup>. The reserved bit is 0 where its stream is less than 2<sup>31</sup>.
+    pub fn octets(&self) -> [u8; HEAD_LEN]
+        requires { self.now.length < 2 ^ 24 }
+        ensures { result
+            ≡ head_octets self.now.kind self.now.flags self.now.stream self.now.length }
+    {
+        let mut octets = [0; HEAD_LEN];
+        BigEndian::write_u24(&mut octets, self.length);
+        octets[3] = self.kind.number();
+        octets[4] = self.flags;
+        BigEndian::write_u32(&mut octets[5..], self.stream);
+        octets
+    }
 }

@@ -43,7 +43,7 @@ pub enum Frame {
     Reset {
         /// The stream, not 0.
         stream: u32,
-        /// Why, by its number.
+        /// The error code (section 7).
         code: u32,
     },
     /// Settings, or that the settings of the peer were applied (section 6.5).
@@ -64,7 +64,7 @@ pub enum Frame {
     GoAway {
         /// The greatest stream that its sender has taken, less than 2<sup>31</sup>.
         last: u32,
-        /// Why, by its number.
+        /// The error code (section 7).
         code: u32,
         /// Additional debug data.
         debug: Vec<u8>,
@@ -99,7 +99,7 @@ pub enum Frame {
 }
 
 /// Why a frame isn't written. Of several the first is answered.
-#[derive(Clone, Copy, Debug, PartialEq, Eq, Error)]
+#[derive(Clone, Copy, Debug, PartialEq, Eq, Hash, Error)]
 pub enum Unwritable {
     /// F1: the payload has more than 16,777,215 octets, which no head can say (RFC 9113, section
     /// 4.1).

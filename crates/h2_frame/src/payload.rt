@@ -1,17 +1,18 @@
 //! Reading payloads (RFC 9113, section 6).
 
-ghost use Rattle.std.specs.Prelude.{◌≡◌, ◌≤◌, ◌-◌, ◌+◌, ◌∷◌, ◌++◌, length, take, drop, slice_index};
-ghost use Rattle.std.specs.Prelude.{None, Some, true, MatchResult, MatchOption};
-ghost use Rattle.h2_frame.specs.Heads.{form_fault, has_padding, has_priority};
-ghost use Rattle.h2_frame.specs.Frames.{frame_of, Carries, IsPadded, IsPrioritized};
-ghost use Rattle.h2_frame.specs.Frames.{payload_fault as fault_of_payload, pads_too_much, Refuses};
+ghost use Rattle.std.specs.Prelude.{◌≡◌, ◌≤◌, ◌+◌, length, None, Some, true, Bool};
+ghost use Rattle.std.specs.Prelude.{MatchResult, IfSome};
+ghost use Rattle.h2_frame.specs.Heads.{form_fault, has_priority};
+ghost use Rattle.h2_frame.specs.Frames.{frame_of, Carries, IsPadded, IsPrioritized, pad_of};
+ghost use Rattle.h2_frame.specs.Frames.{pad_where, unpadded};
+ghost use Rattle.h2_frame.specs.Frames.{payload_fault as fault_of_payload, Refuses};
 
 use crate::code::Code;
 use crate::frame::{FrameRef, PayloadError};
 use crate::heads::Head;
 use crate::kind::Kind;
 use crate::pairs::Pairs;
-use crate::reading::{ACK, END_HEADERS, END_STREAM, PADDED, PRIORITY, octets_of_flags};
+use crate::reading_heads::{ACK, END_HEADERS, END_STREAM, PADDED, PRIORITY, octets_of_flags};
 use byteorder::{BigEndian, ByteOrder};
 
 // contract: 6.1 Padding as long as the payload of DATA, or longer, is PROTOCOL_ERROR
@@ -19,30 +20,37 @@ use byteorder::{BigEndian, ByteOrder};
 // rule: 6.1 A fault of a payload is known at its last octet
 // contract: 6.2 Padding of HEADERS above what the priority leaves is PROTOCOL_ERROR
 // rule: 6.2 Padding of HEADERS above what the priority leaves is PROTOCOL_ERROR
-/// The fault of a payload after a head without fault, or none: DATA whose pad length isn't less
-/// than its payload's length (RFC 9113, section 6.1), or HEADERS whose pad length is above what
-/// remains for the fragment (section 6.2), is a PROTOCOL_ERROR. The slice has the head's length. It
-/// allocates nothing.
+/// The pad length of a payload after a head without fault, or none where the payload begins with
+/// none (RFC 9113, sections 6.1 and 6.2). The slice has the head's length. It allocates nothing.
+///
+/// # Errors
+///
+/// The code of the payload's fault: PROTOCOL_ERROR where the pad length of DATA isn't less than the
+/// payload's length, or that of HEADERS is above what remains for the fragment.
 #[tactic(auto, unfolding(crate::proofs::Rules::payload_rules))]
-pub fn payload_fault(head: &Head, payload: &[u8]) -> Option<Code>
+pub fn pad_length(head: &Head, payload: &[u8]) -> Result<Option<u8>, Code>
     // The head has no fault of its form, but for the limit.
     requires form { form_fault head.now ≡ None }
     requires complete { length payload.now ≡ head.now.length }
-    ensures { result ≡ fault_of_payload head.now payload.now }
+    ensures { MatchResult result
+        (λ pad. (fault_of_payload head.now payload.now ≡ None)
+        × (pad ≡ pad_of head.now payload.now))
+        (λ code. fault_of_payload head.now payload.now ≡ Some code) }
 {
     if head.flags & PADDED == 0 {
-        return None;
+        return Ok(None);
     }
     let prioritized = match head.kind {
         Kind::Data => false,
         Kind::Headers => head.flags & PRIORITY != 0,
-        _ => return None,
+        _ => return Ok(None),
     };
     let left = payload.len() - octets_of_flags(true, prioritized) as usize;
-    if usize::from(payload[0]) > left {
-        return Some(Code::ProtocolError);
+    let pad = payload[0];
+    if usize::from(pad) > left {
+        return Err(Code::ProtocolError);
     }
-    None
+    Ok(Some(pad))
 }
 
 // contract: 5.5 A frame of an unknown type passes as it is, and an end ignores it
@@ -58,7 +66,7 @@ pub fn payload_fault(head: &Head, payload: &[u8]) -> Option<Code>
 ///
 /// # Errors
 ///
-/// [`PayloadError::Code`] with the code of the payload's fault, which [`payload_fault`] answers.
+/// [`PayloadError::Code`] with the code of the payload's fault, which [`pad_length`] answers.
 #[tactic(auto, unfolding(crate::proofs::Rules::form_rules))]
 pub fn read_payload<'a>(head: &Head, payload: &'a [u8]) -> Result<FrameRef<'a>, PayloadError>
     // The head has no fault of its form, but for the limit.
@@ -69,10 +77,10 @@ pub fn read_payload<'a>(head: &Head, payload: &'a [u8]) -> Result<FrameRef<'a>, 
         × Carries head.now payload.now (frame_of frame))
         (Refuses head.now payload.now) }
 {
-    if let Some(code) = payload_fault(head, payload) {
-        return Err(PayloadError::Code(code));
+    match pad_length(head, payload) {
+        Ok(pad) => Ok(payload_frame(head, pad, payload)),
+        Err(code) => Err(PayloadError::Code(code)),
     }
-    Ok(payload_frame(head, payload))
 }
 
 // rule: 4.1 Flags that the type does not define are ignored when received
@@ -84,20 +92,21 @@ pub fn read_payload<'a>(head: &Head, payload: &'a [u8]) -> Result<FrameRef<'a>, 
 // rule: 6.10 CONTINUATION is a fragment, and END_HEADERS ends the block
 // rule: 7 A received code is any number of 32 bits, and an unknown one does nothing
 /// The frame of a payload without fault, after a head without fault (RFC 9113, section 6); the
-/// payload is lent. The slice has the head's length, and [`payload_fault`] answers none for it. It
-/// allocates nothing.
+/// payload is lent. The slice has the head's length, and `pad` is what [`pad_length`] has answered
+/// for it. It allocates nothing.
 #[tactic(auto, unfolding(crate::proofs::Rules::payload_rules))]
-pub fn payload_frame<'a>(head: &Head, payload: &'a [u8]) -> FrameRef<'a>
+pub fn payload_frame<'a>(head: &Head, pad: Option<u8>, payload: &'a [u8]) -> FrameRef<'a>
     requires form { form_fault head.now ≡ None }
     requires complete { length payload.now ≡ head.now.length }
     requires sound { fault_of_payload head.now payload.now ≡ None }
+    requires pad { pad ≡ pad_of head.now payload.now }
     ensures { Carries head.now payload.now (frame_of result) }
 {
     let stream = head.stream;
     let ack = head.flags & ACK != 0;
     match head.kind {
-        Kind::Data => data(head, payload),
-        Kind::Headers => headers(head, payload),
+        Kind::Data => data(head, pad, payload),
+        Kind::Headers => headers(head, pad, payload),
         Kind::Priority => FrameRef::Priority {
             stream,
             octets: five(payload),
@@ -143,18 +152,18 @@ pub fn payload_frame<'a>(head: &Head, payload: &'a [u8]) -> FrameRef<'a>
 // rule: 6.1 END_STREAM of DATA ends the stream of the sender
 // The frame of DATA whose payload has no fault.
 #[tactic(auto, unfolding(crate::proofs::Rules::payload_rules))]
-fn data<'a>(head: &Head, payload: &'a [u8]) -> FrameRef<'a>
+fn data<'a>(head: &Head, pad: Option<u8>, payload: &'a [u8]) -> FrameRef<'a>
     requires kind { head.now.kind ≡ Kind.Data }
     requires form { form_fault head.now ≡ None }
     requires complete { length payload.now ≡ head.now.length }
     requires sound { fault_of_payload head.now payload.now ≡ None }
+    requires pad { pad ≡ pad_of head.now payload.now }
     ensures { Carries head.now payload.now (frame_of result) }
 {
-    let (octets, pad) = without_padding(head.flags, payload);
     FrameRef::Data {
         stream: head.stream,
         end: head.flags & END_STREAM != 0,
-        octets,
+        octets: without_padding(pad, payload),
         pad,
     }
 }
@@ -163,14 +172,15 @@ fn data<'a>(head: &Head, payload: &'a [u8]) -> FrameRef<'a>
 // rule: 6.2 END_STREAM and END_HEADERS are read from their bits
 // The frame of HEADERS whose payload has no fault.
 #[tactic(auto, unfolding(crate::proofs::Rules::payload_rules))]
-fn headers<'a>(head: &Head, payload: &'a [u8]) -> FrameRef<'a>
+fn headers<'a>(head: &Head, pad: Option<u8>, payload: &'a [u8]) -> FrameRef<'a>
     requires kind { head.now.kind ≡ Kind.Headers }
     requires form { form_fault head.now ≡ None }
     requires complete { length payload.now ≡ head.now.length }
     requires sound { fault_of_payload head.now payload.now ≡ None }
+    requires pad { pad ≡ pad_of head.now payload.now }
     ensures { Carries head.now payload.now (frame_of result) }
 {
-    let (body, pad) = without_padding(head.flags, payload);
+    let body = without_padding(pad, payload);
     let (fragment, priority) = without_priority(head.flags, body);
     let (end, whole) = (head.flags & END_STREAM != 0, head.flags & END_HEADERS != 0);
     FrameRef::Headers {
@@ -185,18 +195,17 @@ fn headers<'a>(head: &Head, payload: &'a [u8]) -> FrameRef<'a>
 
 // rule: 6.1 With PADDED, DATA has a pad length, data and padding
 // rule: 6.2 HEADERS has a pad length, a priority, the fragment and the padding
-// What lies between the pad length and the padding, and how much padding there is; or all of the
-// payload.
-fn without_padding(flags: u8, payload: &[u8]) -> (&[u8], Option<u8>)
-    requires { has_padding flags ≡ true → 1 + slice_index payload.now 0 ≤ length payload.now }
-    ensures padded { IsPadded (has_padding flags) payload.now result.0.now result.1 }
+// What lies between the pad length and the padding; all of a payload without a pad length.
+fn without_padding(pad: Option<u8>, payload: &[u8]) -> &[u8]
+    requires { IfSome pad (λ count. 1 + count ≤ length payload.now) }
+    ensures value { result.now ≡ unpadded pad payload.now }
+    ensures padded { (begins : Bool) → pad ≡ pad_where begins payload.now
+        → IsPadded begins payload.now result.now pad }
 {
-    if flags & PADDED == 0 {
-        return (payload, None);
+    match pad {
+        None => payload,
+        Some(count) => &payload[1..payload.len() - usize::from(count)],
     }
-    let pad = payload[0];
-    let end = payload.len() - usize::from(pad);
-    (&payload[1..end], Some(pad))
 }
 
 // rule: 6.2 HEADERS has a pad length, a priority, the fragment and the padding

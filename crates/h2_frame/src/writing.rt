@@ -7,9 +7,9 @@ ghost use Rattle.h2_frame.specs.Frames.{Frame as AnyFrame, frame_of, owned_frame
 ghost use Rattle.h2_frame.specs.Encoding.{encoding_of, refusal, IsRefused, IsTyped};
 ghost use Rattle.h2_frame.specs.FrameParts.{Describes};
 
-use crate::appending::HEAD;
 use crate::frame::FrameRef;
 use crate::frame_parts::FrameParts;
+use crate::heads::HEAD_LEN;
 use crate::owned::{Frame, Unwritable};
 
 // contract: 6 A frame is sent only on a stream that its type allows
@@ -85,7 +85,7 @@ fn write_parts(parts: &FrameParts<'_>, out: &mut Vec<u8>) -> Result<(), Unwritab
     if !parts.has_good_values {
         return Err(Unwritable::BadValue);
     }
-    if out.reserve(HEAD + length as usize).is_err() {
+    if out.reserve(HEAD_LEN + length as usize).is_err() {
         return Err(Unwritable::Memory);
     }
     parts.append_head(length, out);

@@ -1,20 +1,13 @@
 -- Calls of an end are acts of two joined ends.
-use Rattle.std.proofs.Common.{◌≡◌, ℕ, Result, refl, sym, subst}
-use Rattle.h2_log.specs.Acts.{Act, Answer, IsTypedAct}
-use Rattle.h2_log.specs.LogCalls.{with_call}
-use Rattle.h2_ends.specs.declared.refusal.EndRefusal.{EndRefusal}
-use Rattle.h2_ends.specs.EndTakes.{end_with_log}
-use Rattle.h2_ends.specs.Represents.{EndPumps, EndReleases, EndAnswers}
-use Rattle.h2_joined.specs.declared.act.Side.{Side}
-use Rattle.h2_joined.specs.declared.act.Acted.{Acted}
-use Rattle.h2_joined.specs.declared.act.Acted.TheVariants as acted
-use Rattle.h2_joined.specs.declared.joined.Joined.{Joined}
-use Rattle.h2_joined.specs.Joints.{Doing, Pumps, ReleasesAll, Calls, acted_by, acted_as}
-use Rattle.h2_joined.specs.Joints.{IsControlCall}
-use Rattle.h2_joined.specs.Joints.{pumps, releases_all, calls}
-use Rattle.h2_joined.specs.Kept.{MakesAct, made, end_at}
+use Rattle.h2_joined.proofs.Names.{Result, refl, sym, subst, Act, Answer, IsTypedAct, with_call}
+use Rattle.h2_joined.proofs.Names.{EndRefusal, end_with_log, EndPumps, EndReleases, EndAnswers}
+use Rattle.h2_joined.proofs.Names.{Side, Acted, Joined, Doing, Calls, acted_by, acted_as}
+use Rattle.h2_joined.proofs.Names.{IsControlCall, pumps, releases_all, MakesAct, made, end_at}
+use Rattle.std.proofs.Common.{◌≡◌, ℕ}
+use Rattle.h2_joined.specs.Joints.{Pumps, ReleasesAll, calls}
 use Rattle.h2_joined.proofs.KeptActs.{ChangesEnd, acts_on_end}
 use Rattle.h2_joined.proofs.KeptEnds.{pumped_says, released_says}
+use Rattle.h2_joined.specs.declared.act.Acted.TheVariants as acted
 
 -- The answer is this one.
 answered_as : (side : Side) (old new : Joined) (doing : Doing) (one other : Acted) → one ≡ other

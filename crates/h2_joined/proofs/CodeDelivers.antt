@@ -1,32 +1,20 @@
 -- Octets of a pipe that are delivered to an end.
-use Rattle.std.proofs.Common.{map as each, ◌≡◌, ℕ, Bool, true, false, List, ◌++◌, length, take}
-use Rattle.std.proofs.Common.{drop, reverse, Option, Some, None, refl, sym, ap, ◌∙◌, subst}
-use Rattle.std.proofs.lemmas.List.{drop_min, length-take, take-append-drop, drop-append-le}
-use Rattle.h2_frame.specs.declared.code.Code.{Code}
-use Rattle.h2_log.specs.Acts.{Values}
-use Rattle.h2_log.specs.Log.{Log}
+use Rattle.h2_joined.proofs.Names.{true, ◌++◌, length, take, drop, Option, refl, sym, ap, ◌∙◌}
+use Rattle.h2_joined.proofs.Names.{subst, drop_min, length-take, take-append-drop, drop-append-le}
+use Rattle.h2_joined.proofs.Names.{Code, Values, Log, End, EndLog, EndRepresents, Side, Acted}
+use Rattle.h2_joined.proofs.Names.{Accepted, Kept, Pipe, Store, Joined, JointEnd, Delivers, MayDo}
+use Rattle.h2_joined.proofs.Names.{IsDelivered, delivers, delivery_fails, delivery_stops}
+use Rattle.h2_joined.proofs.Names.{HoldsOctets, KeepsHanded, KeepsEnd, MakesAct, made, end_at}
+use Rattle.h2_joined.proofs.Names.{kept_of, other_side, accepted_value, PutsPipe, TakesDelivery}
+use Rattle.h2_joined.proofs.Names.{IsKeptAt}
+use Rattle.std.proofs.Common.{map as each, ◌≡◌, ℕ, Bool, false, List, reverse, Some, None}
 use Rattle.h2_conn.specs.Conn.{ConnRepresents}
-use Rattle.h2_ends.specs.declared.end.End.{End}
-use Rattle.h2_ends.specs.Ends.{EndLog}
-use Rattle.h2_ends.specs.Represents.{EndRepresents}
-use Rattle.h2_joined.specs.declared.act.Side.{Side}
-use Rattle.h2_joined.specs.declared.act.Acted.{Acted}
-use Rattle.h2_joined.specs.declared.act.Acted.TheVariants as acted
-use Rattle.h2_joined.specs.declared.kept.Accepted.{Accepted}
-use Rattle.h2_joined.specs.declared.kept.Kept.{Kept}
 use Rattle.h2_joined.specs.declared.octets.Delivered.{Delivered}
-use Rattle.h2_joined.specs.declared.octets.Delivered.TheVariants as delivered
-use Rattle.h2_joined.specs.declared.pipe.Pipe.{Pipe}
-use Rattle.h2_joined.specs.declared.store.Store.{Store}
-use Rattle.h2_joined.specs.declared.joined.Joined.{Joined}
-use Rattle.h2_joined.specs.Joints.{JointEnd, Delivers, MayDo, IsDelivered}
-use Rattle.h2_joined.specs.Joints.{delivers, delivery_fails, delivery_stops, has_failed}
-use Rattle.h2_joined.specs.Kept.{HoldsOctets, KeepsHanded, KeepsEnd, MakesAct, made, end_at}
-use Rattle.h2_joined.specs.Kept.{kept_of}
-use Rattle.h2_joined.specs.Kept.{other_side, accepted_value}
-use Rattle.h2_joined.specs.Delivering.{TakesPipe, PutsPipe, TakesDelivery, IsKeptAt, EndsWithin}
-use Rattle.h2_joined.specs.Delivering.{delivery_of}
+use Rattle.h2_joined.specs.Joints.{has_failed}
+use Rattle.h2_joined.specs.Delivering.{TakesPipe, EndsWithin, delivery_of}
 use Rattle.h2_joined.proofs.KeptActs.{acts_by, acts_on_end, same_kept}
+use Rattle.h2_joined.specs.declared.act.Acted.TheVariants as acted
+use Rattle.h2_joined.specs.declared.octets.Delivered.TheVariants as delivered
 
 -- how many octets of so many were used, and what is answered
 abbrev pub used_by : Delivered → ℕ → ℕ

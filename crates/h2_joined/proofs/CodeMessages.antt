@@ -1,19 +1,15 @@
 -- A request and a response are acts of two joined ends.
-use Rattle.std.proofs.Common.{◌≡◌, ℕ, ◌<◌, ◌^◌, Ok, Err}
-use Rattle.hpack.specs.Written.{AreOctets}
+use Rattle.h2_joined.proofs.Names.{◌<◌, ◌^◌, Ok, Err, AreOctets, SentMessage, EndRefusal}
+use Rattle.h2_joined.proofs.Names.{EndRequests, EndResponds, Accepted, Joined, Responds, requests}
+use Rattle.h2_joined.proofs.Names.{responds, MakesAct, made, accepted_value}
+use Rattle.std.proofs.Common.{◌≡◌, ℕ}
 use Rattle.h2_message.specs.declared.message.Message.{Message}
-use Rattle.h2_message.specs.Messages.{SentMessage}
-use Rattle.h2_ends.specs.declared.refusal.EndRefusal.{EndRefusal}
-use Rattle.h2_ends.specs.Represents.{EndRequests, EndResponds}
 use Rattle.h2_joined.specs.declared.act.Side.TheVariants.{Client, Server}
-use Rattle.h2_joined.specs.declared.act.Acted.TheVariants as acted
-use Rattle.h2_joined.specs.declared.kept.Accepted.{Accepted}
-use Rattle.h2_joined.specs.declared.joined.Joined.{Joined}
-use Rattle.h2_joined.specs.Joints.{Requests, Responds, requests, responds}
-use Rattle.h2_joined.specs.Kept.{MakesAct, made, accepted_value}
+use Rattle.h2_joined.specs.Joints.{Requests}
 use Rattle.h2_joined.proofs.KeptActs.{ChangesEnd, acts_on_end, AcceptsAt, acts_accepting}
 use Rattle.h2_joined.proofs.KeptEnds.{request_refused, respond_refused, request_accepted}
 use Rattle.h2_joined.proofs.KeptEnds.{respond_accepted}
+use Rattle.h2_joined.specs.declared.act.Acted.TheVariants as acted
 
 pub request_is_refused : (old new : Joined) (message : SentMessage) (back : Message)
     (refusal : EndRefusal)

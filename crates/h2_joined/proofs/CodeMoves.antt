@@ -1,23 +1,17 @@
 -- Octets of an output that are put on a pipe.
-use Rattle.std.proofs.Common.{◌≡◌, ℕ, ◌+◌, ◌<◌, ◌^◌, List, [], ◌++◌, take, drop}
-use Rattle.std.proofs.Common.{Result, Ok, Err, IfOk, refl, sym, ap, ◌∙◌, subst, append_assoc}
-use Rattle.std.proofs.Common.{append-nil, arith}
+use Rattle.h2_joined.proofs.Names.{◌+◌, ◌<◌, ◌^◌, [], ◌++◌, take, drop, Result, Ok, Err, refl, sym}
+use Rattle.h2_joined.proofs.Names.{ap, ◌∙◌, subst, append_assoc, append-nil, arith, length-take}
+use Rattle.h2_joined.proofs.Names.{Refusal, Values, PutOut, Count, Refused, Log, answer_by}
+use Rattle.h2_joined.proofs.Names.{given_since, EndLog, EndAnswers, EndRepresents, Side, Acted}
+use Rattle.h2_joined.proofs.Names.{Pipe, Joined, acted_as, moves, with_answer, with_given}
+use Rattle.h2_joined.proofs.Names.{HoldsOctets, MakesAct, made, end_at, kept_of, other_side}
+use Rattle.h2_spec_log.specs.Acts.{IsTypedAct}
+use Rattle.h2_spec_log.specs.LogCalls.{with_call}
+use Rattle.std.proofs.Common.{◌≡◌, ℕ, List, IfOk}
 use Rattle.std.specs.Result.{OnErr}
-use Rattle.std.proofs.lemmas.List.{length-take, length-append, drop_all}
-use Rattle.h2_log.specs.declared.refusal.Refusal.{Refusal}
-use Rattle.h2_log.specs.Acts.{Values, IsTypedAct, PutOut, Count, Refused}
-use Rattle.h2_log.specs.Log.{Log}
-use Rattle.h2_log.specs.LogCalls.{with_call}
-use Rattle.h2_conn.specs.Conn.{GivesOut, answer_by}
-use Rattle.h2_pair.specs.Pairs.{given_since}
-use Rattle.h2_ends.specs.Ends.{EndLog}
-use Rattle.h2_ends.specs.Represents.{EndAnswers, EndRepresents}
-use Rattle.h2_joined.specs.declared.act.Side.{Side}
-use Rattle.h2_joined.specs.declared.act.Acted.{Acted}
-use Rattle.h2_joined.specs.declared.pipe.Pipe.{Pipe}
-use Rattle.h2_joined.specs.declared.joined.Joined.{Joined}
-use Rattle.h2_joined.specs.Joints.{Moves, acted_as, moves, with_answer, with_given}
-use Rattle.h2_joined.specs.Kept.{HoldsOctets, MakesAct, made, end_at, kept_of, other_side}
+use Rattle.std.proofs.lemmas.List.{length-append, drop_all}
+use Rattle.h2_conn.specs.Conn.{GivesOut}
+use Rattle.h2_joined.specs.Joints.{Moves}
 use Rattle.h2_joined.proofs.KeptActs.{acts_by, keeps_same, same_kept}
 
 -- More octets are on a pipe.

@@ -1,18 +1,14 @@
 -- Octets that are handed to `take` again and again.
-use Rattle.std.proofs.Common.{◌≡◌, ℕ, suc, ◌+◌, ◌≤◌, ◌<◌, List, length, drop}
-use Rattle.std.proofs.Common.{refl, sym, ◌∙◌, subst, arith}
-use Rattle.std.proofs.lemmas.List.{drop-drop, length-drop}
-use Rattle.h2_frame.specs.declared.code.Code.{Code}
-use Rattle.h2_log.specs.Acts.{Values}
-use Rattle.h2_ends.specs.Ends.{EndLog}
-use Rattle.h2_joined.specs.declared.act.Side.{Side}
+use Rattle.h2_joined.proofs.Names.{suc, ◌+◌, ◌≤◌, ◌<◌, length, drop, refl, sym, ◌∙◌, subst, arith}
+use Rattle.h2_joined.proofs.Names.{drop-drop, Code, Values, EndLog, Side, Joined, Delivery}
+use Rattle.h2_joined.proofs.Names.{IsDelivered, Whole, Fails, Stops, ChangesOnly, IsKeptAt}
+use Rattle.h2_joined.proofs.Names.{TakesNext, TakesDelivery}
+use Rattle.std.proofs.Common.{◌≡◌, ℕ, List}
+use Rattle.std.proofs.lemmas.List.{length-drop}
+use Rattle.h2_joined.specs.Joints.{is_whole, goes_on, fails, stops, most_calls}
+use Rattle.h2_joined.proofs.CodeTakes.{both_only}
 use Rattle.h2_joined.specs.declared.octets.Next.TheVariants as nexts
 use Rattle.h2_joined.specs.declared.octets.Delivered.TheVariants as delivered
-use Rattle.h2_joined.specs.declared.joined.Joined.{Joined}
-use Rattle.h2_joined.specs.Joints.{Delivery, IsDelivered, Whole, Fails, Stops, is_whole, goes_on}
-use Rattle.h2_joined.specs.Joints.{fails, stops, most_calls}
-use Rattle.h2_joined.specs.Delivering.{ChangesOnly, IsKeptAt, TakesNext, TakesDelivery}
-use Rattle.h2_joined.proofs.CodeTakes.{both_only}
 
 -- So many octets were delivered so far, by so many calls: the rest goes on from there.
 pub record TakesSome (values : Values) (side : Side) (end : EndLog) (octets : List ℕ)

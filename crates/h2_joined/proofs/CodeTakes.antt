@@ -1,31 +1,22 @@
 -- A call of `take` of an end, and what is kept of it then.
-use Rattle.std.proofs.Common.{◌≡◌, ℕ, ◌<◌, ◌≤◌, Bool, true, false, List, [], ◌∷◌}
-use Rattle.std.proofs.Common.{length, reverse, Option, Some, None, Ok, Err, option_map, refl, sym}
-use Rattle.std.proofs.Common.{ap, ◌∙◌, subst, inl, inr, arith}
-use Rattle.std.proofs.lemmas.List.{reverse-append}
-use Rattle.h2_frame.specs.declared.code.Code.{Code}
-use Rattle.h2_log.specs.Acts.{Values}
+use Rattle.h2_joined.proofs.Names.{◌<◌, ◌≤◌, true, [], ◌∷◌, length, Option, Ok, Err, refl, sym, ap}
+use Rattle.h2_joined.proofs.Names.{◌∙◌, subst, inl, inr, arith, reverse-append, Code, Values, End}
+use Rattle.h2_joined.proofs.Names.{EndLog, Handed, EndTook, EndFailed, EndMayTake, event_handed}
+use Rattle.h2_joined.proofs.Names.{EndRepresents, Side, Store, Joined, AreStored, Fits}
+use Rattle.h2_joined.proofs.Names.{HasRoomForEvent, KeepsMore, events_kept, KeepsHanded, end_at}
+use Rattle.h2_joined.proofs.Names.{kept_of, ChangesOnly, IsKeptAt, TakesNext}
+use Rattle.std.proofs.Common.{◌≡◌, ℕ, Bool, false, List, reverse, Some, None, option_map}
 use Rattle.h2_conn.specs.declared.event.ConnFault.{ConnFault}
-use Rattle.h2_ends.specs.declared.end.End.{End}
 use Rattle.h2_ends.specs.declared.event.EndEvent.{EndEvent}
 use Rattle.h2_ends.specs.declared.event.EndTaken.{EndTaken}
-use Rattle.h2_ends.specs.Ends.{EndLog, Handed, EndTook, EndFailed}
-use Rattle.h2_ends.specs.EndTakes.{EndMayTake}
-use Rattle.h2_ends.specs.Loans.{event_handed}
-use Rattle.h2_ends.specs.Represents.{EndRepresents, EndTakes}
-use Rattle.h2_joined.specs.declared.act.Side.{Side}
-use Rattle.h2_joined.specs.declared.store.Store.{Store}
+use Rattle.h2_ends.specs.Represents.{EndTakes}
 use Rattle.h2_joined.specs.declared.octets.Taking.{Taking}
-use Rattle.h2_joined.specs.declared.octets.Taking.TheVariants as takings
-use Rattle.h2_joined.specs.declared.octets.Next.TheVariants as nexts
-use Rattle.h2_joined.specs.declared.joined.Joined.{Joined}
-use Rattle.h2_joined.specs.Stored.{AreStored, Fits, HasRoomForEvent, KeepsMore, events_kept}
-use Rattle.h2_joined.specs.Kept.{KeepsHanded, end_at, kept_of}
-use Rattle.h2_joined.specs.Delivering.{TakesOnce, ChangesOnly, IsKeptAt, IsTaken, MakesRoom}
-use Rattle.h2_joined.specs.Delivering.{TakesNext, TookAt}
+use Rattle.h2_joined.specs.Delivering.{TakesOnce, IsTaken, MakesRoom, TookAt}
 use Rattle.h2_joined.proofs.KeptEnds.{taken_says}
 use Rattle.h2_joined.proofs.KeptStore.{same_handed}
 use Rattle.h2_joined.proofs.TakenSizes.{taken_fits}
+use Rattle.h2_joined.specs.declared.octets.Taking.TheVariants as takings
+use Rattle.h2_joined.specs.declared.octets.Next.TheVariants as nexts
 
 -- Nothing more was handed out, and the store is the same.
 keeps_still : (store : Store) (handed now : List Handed) → now ≡ handed

@@ -1,17 +1,15 @@
 -- What delivering octets makes of an end: call after call of `take`, until all octets are used and
 -- nothing is handed out, the connection has failed, or there is no room before a call.
-use Rattle.std.proofs.Common.{◌≡◌, ℕ, suc, List, ◌++◌, drop, length}
-use Rattle.std.proofs.Common.{None, refl, subst}
+use Rattle.h2_joined.proofs.Names.{suc, ◌++◌, drop, length, refl, subst, next_unprocessed, EndLog}
+use Rattle.h2_joined.proofs.Names.{EndAnswer, EndTook, EndFailed, EndMayTake, hands_nothing}
+use Rattle.h2_joined.proofs.Names.{hands_out, refusal_fails, runs_out_of_memory, KeepsOrder}
+use Rattle.h2_joined.proofs.Names.{Delivery, Whole, Fails, Stops, IsDelivered}
+use Rattle.std.proofs.Common.{◌≡◌, ℕ, List, None}
 use Rattle.std.proofs.Math.Seq.{drop-length}
-use Rattle.h2_log.specs.Log.{next_unprocessed}
-use Rattle.h2_pair.proofs.StepUnprocessed.{take_reports_all}
-use Rattle.h2_ends.specs.Ends.{EndLog, EndAnswer, EndTook, EndFailed}
-use Rattle.h2_ends.specs.EndTakes.{EndMayTake, fails, hands_nothing, passes}
-use Rattle.h2_ends.specs.EndTakes.{hands_out, refuses, refusal_fails, runs_out_of_memory}
-use Rattle.h2_ends.proofs.EndOrder.{KeepsOrder}
-use Rattle.h2_joined.specs.Joints as joints
-use Rattle.h2_joined.specs.Joints.{Delivery, Whole, Fails, Stops, IsDelivered}
+use Rattle.h2_laws_pair.proofs.StepUnprocessed.{take_reports_all}
+use Rattle.h2_ends.specs.EndTakes.{fails, passes, refuses}
 use Rattle.h2_joined.proofs.HoldsTakes.{Around, HoldsIn, FallsIn, take_leads}
+use Rattle.h2_joined.specs.Joints as joints
 
 -- A call of `take` that hands out nothing leaves no stream that the peer does not process and that
 -- was not reported.

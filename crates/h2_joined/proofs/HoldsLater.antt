@@ -1,20 +1,14 @@
 -- What holds of two joined ends is kept where octets are delivered.
-use Rattle.std.proofs.Common.{ℕ, Bool, true, false, List, [], ◌∷◌, ◌++◌, length, take, drop}
-use Rattle.std.proofs.Common.{ap}
-use Rattle.std.proofs.lemmas.List.{take-append-drop}
-use Rattle.std.proofs.lemmas.List.Elements.{Contains-append_right}
-use Rattle.h2_log.specs.Acts.{Values}
-use Rattle.h2_ends.specs.Ends.{EndLog}
-use Rattle.h2_ends.proofs.EndOrder.{KeepsOrder}
-use Rattle.h2_joined.specs.declared.act.Side.{Side}
+use Rattle.h2_joined.proofs.Names.{true, [], ◌∷◌, ◌++◌, length, take, drop, ap, take-append-drop}
+use Rattle.h2_joined.proofs.Names.{Contains-append_right, Values, EndLog, KeepsOrder, Side, Acted}
+use Rattle.h2_joined.proofs.Names.{Delivers, Delivery, Whole, Fails, Stops, IsDelivered, JointEnd}
+use Rattle.h2_joined.proofs.Names.{Made}
+use Rattle.std.proofs.Common.{ℕ, Bool, false, List}
 use Rattle.h2_joined.specs.declared.act.Side.TheVariants.{Client, Server}
-use Rattle.h2_joined.specs.declared.act.Acted.{Acted}
-use Rattle.h2_joined.specs.declared.act.Acted.TheVariants as acted
-use Rattle.h2_joined.specs.Joints.{Delivers, Delivery, Whole, Fails, Stops, IsDelivered, JointEnd}
-use Rattle.h2_joined.specs.Joints.{Made}
 use Rattle.h2_joined.proofs.HoldsDelivers.{delivery_leads, DeliversIn}
 use Rattle.h2_joined.proofs.HoldsTakes.{Around, HoldsIn}
 use Rattle.h2_joined.proofs.JointHolds.{JointHolds, EndHolds}
+use Rattle.h2_joined.specs.declared.act.Acted.TheVariants as acted
 
 -- The act that delivers is made.
 abbrev pub delivered_at_client : ℕ → Acted → Made

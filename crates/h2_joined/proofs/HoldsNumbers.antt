@@ -1,32 +1,22 @@
 -- The stream of which an end of a pair hears a part of a message has a number below 2^31 (RFC 9113,
 -- section 5.1.1).
-use Rattle.std.proofs.Common.{◌≡◌, ℕ, ◌<◌, ◌^◌, ◌%◌, ◌==◌, ◌&&◌, nat_le, Bool, true, false, List}
-use Rattle.std.proofs.Common.{[], ◌∷◌, Some, inl, inr, refl, arith}
-use Rattle.std.specs.List.{AllByRecursion, list_any}
-use Rattle.std.proofs.lemmas.Bool.{both_ways, or_cases, and_parts, leb-true}
-use Rattle.h2_block.specs.Grouping.{Item, alone, block}
-use Rattle.h2_log.specs.declared.role.Role.{Role}
-use Rattle.h2_log.specs.declared.role.Role.TheVariants as roles
-use Rattle.h2_log.specs.Acts.{Values}
-use Rattle.h2_log.specs.Events.{Event}
-use Rattle.h2_log.specs.Items.{opens_from}
-use Rattle.h2_log.specs.Limits.{max_frame_size_sent}
-use Rattle.h2_log.specs.Log.{Log}
-use Rattle.h2_log.specs.States.{is_used, openings}
-use Rattle.h2_log_laws.specs.Sending.{IsSendable}
-use Rattle.h2_end_laws.specs.Over.{is_number_used}
-use Rattle.h2_end_laws.specs.Takes.{MayTake, Took}
-use Rattle.h2_end_laws.proofs.SendableCalls.{written_sendable}
-use Rattle.h2_message.specs.Reading.{Part}
-use Rattle.h2_pair.specs.Pairs.{Half}
-use Rattle.h2_pair.proofs.CarriedItems.{items_both_ways}
-use Rattle.h2_pair.proofs.PairLogs.{both_logs}
-use Rattle.h2_ends.specs.Ends.{part_of_event}
+use Rattle.h2_joined.proofs.Names.{◌<◌, ◌^◌, ◌==◌, true, [], ◌∷◌, inl, inr, refl, arith}
+use Rattle.h2_joined.proofs.Names.{AllByRecursion, list_any, both_ways, Item, alone, block, Role}
+use Rattle.h2_joined.proofs.Names.{Values, Event, Log, openings, is_number_used, MayTake, Took}
+use Rattle.h2_joined.proofs.Names.{Part, Half, both_logs, part_of_event, Side}
+use Rattle.h2_spec_log.specs.States.{is_used}
+use Rattle.std.proofs.Common.{◌≡◌, ℕ, ◌%◌, ◌&&◌, nat_le, Bool, false, List, Some}
+use Rattle.std.proofs.lemmas.Bool.{or_cases, and_parts, leb-true}
+use Rattle.h2_spec_log.specs.Items.{opens_from}
+use Rattle.h2_spec_log.specs.Limits.{max_frame_size_sent}
+use Rattle.h2_laws_log.specs.Sending.{IsSendable}
+use Rattle.h2_laws_end.proofs.SendableCalls.{written_sendable}
+use Rattle.h2_laws_pair.proofs.CarriedItems.{items_both_ways}
 use Rattle.h2_ends.proofs.EndOrder.{part_in_use}
-use Rattle.h2_joined.specs.declared.act.Side.{Side}
 use Rattle.h2_joined.specs.declared.act.Side.TheVariants.{Client, Server}
 use Rattle.h2_joined.proofs.HoldsSides.{IsPairAt, has_role_at}
-use Rattle.h2_pair.proofs.Lists.{all_older as all_later}
+use Rattle.h2_laws_pair.proofs.Lists.{all_older as all_later}
+use Rattle.h2_spec_log.specs.declared.role.Role.TheVariants as roles
 
 -- A number that items open is below 2^31, where each of them can be sent.
 opens_low : (i : ℕ) (items : List Item) → AllByRecursion (IsSendable max_frame_size_sent) items

@@ -1,27 +1,20 @@
 -- What holds of what an end hands out goes on holding as its connection reports more.
-use Rattle.std.proofs.Common.{◌≡◌, ◌⊎◌, ℕ, Bool, List, [], ◌∷◌, ◌++◌, Some, None, inl, inr, refl}
-use Rattle.std.proofs.Common.{sym, ap, ◌∙◌, arith, append-nil}
-use Rattle.std.specs.List.{AllByRecursion, Contains}
-use Rattle.std.proofs.lemmas.Bool.{cases_eq}
-use Rattle.std.proofs.lemmas.List.Elements.{Contains-append_right}
-use Rattle.hpack.specs.declared.types.field.Field.{Field}
-use Rattle.h2_log.specs.Events.{Event, FieldsEvent, DataEvent}
-use Rattle.h2_log.specs.Log.{Log}
-use Rattle.h2_message.specs.declared.reading.Place.{Place}
-use Rattle.h2_message.specs.declared.reading.Place.TheVariants as places
-use Rattle.h2_message.specs.declared.reading.Reads.{Reads}
-use Rattle.h2_message.specs.Reading.{Part, FieldsPart, OctetsPart, IsReadable}
+use Rattle.h2_joined.proofs.Names.{◌⊎◌, [], ◌∷◌, ◌++◌, inl, inr, refl, sym, ap, ◌∙◌, arith}
+use Rattle.h2_joined.proofs.Names.{append-nil, AllByRecursion, Contains, cases_eq}
+use Rattle.h2_joined.proofs.Names.{Contains-append_right, Field, Event, FieldsEvent, DataEvent, Log}
+use Rattle.h2_joined.proofs.Names.{Place, Reads, Part, FieldsPart, OctetsPart, IsReadable, Token}
+use Rattle.h2_joined.proofs.Names.{tokens_of_event, first_or_later, EndLog, Handed, Passed}
+use Rattle.h2_joined.proofs.Names.{tokens_of_part, tokens_of_parts, end_with_log, end_with_handed}
+use Rattle.h2_joined.proofs.Names.{handed_elsewhere, part_tokens, readable_here, tokens_with, Side}
+use Rattle.h2_joined.proofs.Names.{Made}
+use Rattle.h2_laws_pair.specs.Tokens.{tokens_heard, IsNoEmptyData}
+use Rattle.h2_ends.specs.Ends.{IsNoEmptyPart, part_on, parts_on, part_of_event, handed_as}
+use Rattle.h2_ends.specs.Ends.{handed_at}
+use Rattle.std.proofs.Common.{◌≡◌, ℕ, Bool, List, Some, None}
 use Rattle.h2_message.specs.Phases.{place_after}
-use Rattle.h2_pair.specs.Tokens.{Token, tokens_of_event, tokens_heard, IsNoEmptyData}
-use Rattle.h2_pair.proofs.FaultsInvariant.{first_or_later}
-use Rattle.h2_ends.specs.Ends.{EndLog, Handed, Passed, IsNoEmptyPart, part_on, parts_on}
-use Rattle.h2_ends.specs.Ends.{part_of_event, tokens_of_part, tokens_of_parts, handed_as, handed_at}
-use Rattle.h2_ends.specs.EndTakes.{end_with_log, end_with_handed}
-use Rattle.h2_ends.proofs.EndParts.{handed_elsewhere, same_part, no_tokens, part_tokens}
-use Rattle.h2_ends.proofs.EndParts.{other_tokens, readable_here, tokens_with}
-use Rattle.h2_joined.specs.declared.act.Side.{Side}
-use Rattle.h2_joined.specs.Joints.{Made}
+use Rattle.h2_ends.proofs.EndParts.{same_part, no_tokens, other_tokens}
 use Rattle.h2_joined.proofs.JointHolds.{EndHolds}
+use Rattle.h2_message.specs.declared.reading.Place.TheVariants as places
 
 -- All parts with one more say something.
 pub says_with : (parts : List (Part × Bool)) (part : Part × Bool)

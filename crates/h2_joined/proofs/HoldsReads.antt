@@ -1,31 +1,22 @@
 -- What an end hears of a message that the other one has accepted can be read, since that breaks no
 -- rule.
-use Rattle.std.proofs.Common.{map as each, ◌≡◌, ◌≢◌, ℕ, Bool, true, false, List, [], ◌∷◌, ◌++◌}
-use Rattle.std.proofs.Common.{Option, Some, None, inl, inr, refl, sym, ap, ◌∙◌}
-use Rattle.std.specs.List.{AllByRecursion}
-use Rattle.h2_log.specs.declared.role.Role.TheVariants as roles
-use Rattle.h2_log.specs.Acts.{Values}
-use Rattle.h2_log.specs.Events.{Event}
-use Rattle.h2_message.specs.declared.reading.Reads.TheVariants.{Requests, Responses}
-use Rattle.h2_message.specs.Messages.{SentMessage, asks_head}
-use Rattle.h2_message.specs.Reading.{Part, FieldsPart, OctetsPart, IsReadable}
-use Rattle.h2_pair.specs.Pairs.{Half}
-use Rattle.h2_pair.specs.Tokens.{Token, OctetToken, EndToken, tokens_heard, tokens_of_event}
-use Rattle.h2_pair.specs.Tokens.{IsPrefixOfTokens, end_tokens, IsNoEmptyData}
-use Rattle.h2_pair.proofs.HeardPairs.{begins_message}
-use Rattle.h2_ends.specs.Ends.{EndLog, IsNoEmptyPart, message_for, parts_on, tokens_said}
-use Rattle.h2_ends.specs.Ends.{part_of_event, tokens_of_part, tokens_of_parts, tokens_given}
-use Rattle.h2_ends.specs.Ends.{reads_on, asked_head}
-use Rattle.h2_ends.specs.EndTakes.{IsReadableWith}
-use Rattle.h2_ends.specs.Represents.{SendsInOrder}
-use Rattle.h2_joined.specs.declared.act.Side.{Side}
+use Rattle.h2_joined.proofs.Names.{true, [], ◌∷◌, ◌++◌, Option, inl, inr, refl, sym, ap, ◌∙◌}
+use Rattle.h2_joined.proofs.Names.{AllByRecursion, Values, Event, Responses, SentMessage, asks_head}
+use Rattle.h2_joined.proofs.Names.{Part, FieldsPart, OctetsPart, IsReadable, Half, Token}
+use Rattle.h2_joined.proofs.Names.{tokens_of_event, IsPrefixOfTokens, IsNoEmptyData, begins_message}
+use Rattle.h2_joined.proofs.Names.{EndLog, message_for, parts_on, tokens_said, part_of_event}
+use Rattle.h2_joined.proofs.Names.{tokens_of_parts, IsReadableWith, SendsInOrder, Side, Made}
+use Rattle.h2_joined.proofs.Names.{part_tokens, tokens_with}
+use Rattle.h2_laws_pair.specs.Tokens.{tokens_heard, end_tokens, OctetToken, EndToken}
+use Rattle.h2_ends.specs.Ends.{IsNoEmptyPart, tokens_of_part, tokens_given, reads_on, asked_head}
+use Rattle.std.proofs.Common.{map as each, ◌≡◌, ◌≢◌, ℕ, Bool, false, List, Some, None}
+use Rattle.h2_message.specs.declared.reading.Reads.TheVariants.{Requests}
 use Rattle.h2_joined.specs.declared.act.Side.TheVariants.{Client, Server}
-use Rattle.h2_joined.specs.Joints.{Made}
 use Rattle.h2_joined.proofs.HoldsParts.{says_with, part_says}
 use Rattle.h2_joined.proofs.HoldsSides.{IsPairAt, role_at, hears_at, reports_at}
 use Rattle.h2_joined.proofs.JointHolds.{EndHolds, AcceptWell}
-use Rattle.h2_ends.proofs.EndParts.{part_tokens, tokens_with}
 use Rattle.h2_ends.proofs.ReadableParts.{readable_request, readable_response}
+use Rattle.h2_spec_log.specs.declared.role.Role.TheVariants as roles
 
 -- Both ends have accepted messages that break no rule.
 abbrev pub AcceptAt : Side → (one other : EndLog) → Type 0

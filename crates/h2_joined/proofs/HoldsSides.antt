@@ -1,21 +1,14 @@
 -- A pair as one of its ends sees it, whichever of the two that is: this end, and the other one.
+use Rattle.h2_joined.proofs.Names.{AllByRecursion, Role, Values, stream_of_log, Half, IsPair}
+use Rattle.h2_joined.proofs.Names.{AreUndisturbed, IsNoEmptyData, tokens_heard, tokens_sent}
+use Rattle.h2_joined.proofs.Names.{IsPrefixOfTokens, IsUndisturbed, faultless_client}
+use Rattle.h2_joined.proofs.Names.{faultless_server, client_hears, server_hears, both_logs, Side}
 use Rattle.std.proofs.Common.{◌≡◌, ℕ, None}
-use Rattle.std.specs.List.{AllByRecursion}
-use Rattle.h2_log.specs.declared.role.Role.{Role}
-use Rattle.h2_log.specs.declared.role.Role.TheVariants as roles
-use Rattle.h2_log.specs.Acts.{Values}
-use Rattle.h2_log.proofs.StreamLemmas.{stream_of_log}
-use Rattle.h2_pair.specs.Pairs.{Half, IsPair}
-use Rattle.h2_pair.specs.Steps.{HalfSteps, AreUndisturbed}
-use Rattle.h2_pair.specs.Tokens.{IsNoEmptyData, tokens_heard, tokens_sent, IsPrefixOfTokens}
-use Rattle.h2_pair.specs.Undisturbed.{IsUndisturbed}
-use Rattle.h2_pair.proofs.FaultsOfPairs.{faultless_client, faultless_server}
-use Rattle.h2_pair.proofs.HeardPairs.{client_hears, server_hears}
-use Rattle.h2_pair.proofs.PairLogs.{both_logs}
-use Rattle.h2_pair.proofs.NoEmptyHeard.{client_reports, server_reports}
-use Rattle.h2_pair.proofs.StepPairs.{client_goes_on, server_goes_on}
-use Rattle.h2_joined.specs.declared.act.Side.{Side}
+use Rattle.h2_laws_pair.specs.Steps.{HalfSteps}
+use Rattle.h2_laws_pair.proofs.NoEmptyHeard.{client_reports, server_reports}
+use Rattle.h2_laws_pair.proofs.StepPairs.{client_goes_on, server_goes_on}
 use Rattle.h2_joined.specs.declared.act.Side.TheVariants.{Client, Server}
+use Rattle.h2_spec_log.specs.declared.role.Role.TheVariants as roles
 
 -- An end on this side and the other one are a pair, which is undisturbed where this holds.
 abbrev pub IsPairAt : Side → (client_values server_values : Values) → (one other : Half)

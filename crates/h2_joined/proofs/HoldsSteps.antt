@@ -1,21 +1,15 @@
 -- What taking octets, losing them and refusing a stream make of a pair.
-use Rattle.std.proofs.Common.{◌≡◌, ◌≢◌, ℕ, ◌<◌, ◌^◌, List, [], ◌++◌, drop, Option, Some}
-use Rattle.std.proofs.Common.{None, refl, sym, ap, ◌∙◌, arith, subst, append-nil}
-use Rattle.std.proofs.Math.Seq.{drop-append_seam}
-use Rattle.h2_frame.specs.declared.code.Code.{Code}
-use Rattle.h2_frame.specs.declared.code.Code.TheVariants.{InternalError}
-use Rattle.h2_log.specs.Acts.{Values, Answer, Refuse, IsTypedAct}
-use Rattle.h2_log.specs.Events.{Event}
-use Rattle.h2_log.specs.Log.{Log}
-use Rattle.h2_log.specs.LogCalls.{MayAnswer, with_call}
-use Rattle.h2_end_laws.specs.Takes.{MayTake, Took, Failed}
-use Rattle.h2_end_laws.proofs.TakeAnswers.{log_after_take}
-use Rattle.h2_pair.specs.Pairs.{Half, calls, loses, given_since}
-use Rattle.h2_pair.specs.Steps.{no_step, then_step, AreUndisturbed}
-use Rattle.h2_pair.specs.Undisturbed.{IsUndisturbedStep}
-use Rattle.h2_pair.proofs.StepCalls.{call_gives_nothing}
-use Rattle.h2_pair.proofs.StepTakes.{take_is_steps}
-use Rattle.h2_joined.specs.declared.act.Side.{Side}
+use Rattle.h2_joined.proofs.Names.{◌<◌, ◌^◌, [], ◌++◌, drop, Option, refl, sym, ap, ◌∙◌, arith}
+use Rattle.h2_joined.proofs.Names.{subst, append-nil, drop-append_seam, Code, InternalError, Values}
+use Rattle.h2_joined.proofs.Names.{Answer, Refuse, Event, Log, MayAnswer, with_call, MayTake, Took}
+use Rattle.h2_joined.proofs.Names.{log_after_take, Half, given_since, call_gives_nothing, Side}
+use Rattle.h2_spec_log.specs.Acts.{IsTypedAct}
+use Rattle.h2_laws_pair.specs.Steps.{AreUndisturbed, no_step, then_step}
+use Rattle.h2_laws_pair.specs.Undisturbed.{IsUndisturbedStep}
+use Rattle.std.proofs.Common.{◌≡◌, ◌≢◌, ℕ, List, Some, None}
+use Rattle.h2_laws_end.specs.Takes.{Failed}
+use Rattle.h2_laws_pair.specs.Pairs.{calls, loses}
+use Rattle.h2_laws_pair.proofs.StepTakes.{take_is_steps}
 use Rattle.h2_joined.proofs.HoldsSides.{IsPairAt, goes_on_at}
 
 -- A pair that is undisturbed where something holds is so where that follows.

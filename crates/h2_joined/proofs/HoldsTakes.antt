@@ -1,33 +1,24 @@
 -- What a call of `take` makes of an end to which octets are delivered.
-use Rattle.std.proofs.Common.{◌≡◌, ◌≢◌, ℕ, ◌<◌, ◌^◌, List, ◌∷◌, ◌++◌, drop, Some, None}
-use Rattle.std.proofs.Common.{Bool, true, refl, arith}
-use Rattle.h2_frame.specs.declared.code.Code.{Code}
-use Rattle.h2_frame.specs.declared.code.Code.TheVariants.{InternalError}
-use Rattle.h2_log.specs.Acts.{Values, Answer, Refuse}
-use Rattle.h2_log.specs.Events.{Event, FieldsEvent, ResetEvent}
-use Rattle.h2_log.specs.Log.{Log}
-use Rattle.h2_log.specs.LogCalls.{MayAnswer, with_call}
-use Rattle.h2_end_laws.specs.Takes.{MayTake, AfterTake, Took, Failed}
-use Rattle.h2_end_laws.proofs.TakeAnswers.{log_after_take}
-use Rattle.h2_message.specs.Reading.{Part, FieldsPart}
-use Rattle.h2_pair.specs.Pairs.{Half}
-use Rattle.h2_ends.specs.Ends.{EndLog, Passed, EndAnswer, EndTook, EndFailed, IsNoEmptyPart}
-use Rattle.h2_ends.specs.Ends.{part_of_event, parts_on, reads_on, handed_as}
-use Rattle.h2_ends.specs.EndTakes.{EndMayTake, IsReadableWith, end_with_log}
-use Rattle.h2_ends.specs.EndTakes.{end_with_handed, fails, hands_nothing, passes, hands_out}
-use Rattle.h2_ends.specs.EndTakes.{refuses, refusal_fails, runs_out_of_memory}
-use Rattle.h2_ends.proofs.EndOrder.{KeepsOrder}
+use Rattle.h2_joined.proofs.Names.{◌<◌, ◌^◌, ◌∷◌, ◌++◌, drop, true, refl, arith, Code}
+use Rattle.h2_joined.proofs.Names.{InternalError, Values, Answer, Refuse, Event, FieldsEvent}
+use Rattle.h2_joined.proofs.Names.{ResetEvent, Log, MayAnswer, with_call, MayTake, Took}
+use Rattle.h2_joined.proofs.Names.{log_after_take, Part, FieldsPart, Half, EndLog, Passed}
+use Rattle.h2_joined.proofs.Names.{EndAnswer, EndTook, EndFailed, IsNoEmptyPart, parts_on, reads_on}
+use Rattle.h2_joined.proofs.Names.{handed_as, EndMayTake, IsReadableWith, end_with_log}
+use Rattle.h2_joined.proofs.Names.{end_with_handed, hands_nothing, hands_out, refusal_fails}
+use Rattle.h2_joined.proofs.Names.{runs_out_of_memory, KeepsOrder, memory_fails, Side, JointEnd}
+use Rattle.h2_joined.proofs.Names.{Made, half_of}
+use Rattle.h2_ends.specs.Ends.{part_of_event}
+use Rattle.std.proofs.Common.{◌≡◌, ◌≢◌, ℕ, List, Some, None, Bool}
+use Rattle.h2_laws_end.specs.Takes.{AfterTake, Failed}
+use Rattle.h2_ends.specs.EndTakes.{fails, passes, refuses}
 use Rattle.h2_ends.proofs.EndTokens.{take_calls}
-use Rattle.h2_ends.proofs.TakeRefusing.{memory_fails}
-use Rattle.h2_joined.specs.declared.act.Side.{Side}
 use Rattle.h2_joined.specs.declared.act.Side.TheVariants.{Client, Server}
-use Rattle.h2_joined.specs.Joints.{JointEnd, Made, half_of}
 use Rattle.h2_joined.proofs.HoldsNumbers.{part_low_at}
 use Rattle.h2_joined.proofs.HoldsParts.{holds_none, holds_passed, holds_handed}
 use Rattle.h2_joined.proofs.HoldsReads.{AcceptAt, readable_at}
 use Rattle.h2_joined.proofs.HoldsSides.{IsPairAt, has_role_at, up_at}
-use Rattle.h2_joined.proofs.HoldsSteps.{took_at, loses_at, failed_at, refused_at}
-use Rattle.h2_joined.proofs.HoldsSteps.{where_at}
+use Rattle.h2_joined.proofs.HoldsSteps.{took_at, loses_at, failed_at, refused_at, where_at}
 use Rattle.h2_joined.proofs.JointHolds.{EndHolds, AllHadMemory}
 
 -- What stays as it is while octets are delivered to an end: its side, both ends' settings at first,

@@ -1,33 +1,20 @@
 -- Every act keeps what holds of two joined ends.
-use Rattle.std.proofs.Common.{◌≡◌, ◌≢◌, ℕ, ◌<◌, ◌^◌, List, ◌∷◌, Result, Ok, Err, refl, sym, ap, ◌∙◌}
-use Rattle.std.proofs.Common.{subst}
-use Rattle.std.specs.List.{Contains}
-use Rattle.hpack.specs.Written.{AreOctets}
-use Rattle.h2_log.specs.declared.role.Role.{Role}
-use Rattle.h2_log.specs.declared.role.Role.TheVariants as roles
-use Rattle.h2_log.specs.Acts.{Values, Act, Answer, IsTypedAct, Open, SendFields, ResetStream}
-use Rattle.h2_log.specs.Acts.{PutOut, Number, Done}
-use Rattle.h2_log.proofs.StreamLemmas.{stream_of_log}
-use Rattle.h2_end_laws.proofs.OverNumbers.{opened_is_new}
-use Rattle.h2_message.specs.Messages.{SentMessage}
-use Rattle.h2_pair.specs.Tokens.{is_head_alone}
-use Rattle.h2_pair.proofs.FaultsInvariant.{first_in, later_in}
-use Rattle.h2_pair.proofs.PairLogs.{both_logs}
-use Rattle.h2_ends.specs.declared.refusal.EndRefusal.{EndRefusal}
-use Rattle.h2_ends.specs.Ends.{EndLog}
+use Rattle.h2_joined.proofs.Names.{◌<◌, ◌^◌, ◌∷◌, Result, Ok, Err, refl, sym, ap, ◌∙◌, subst}
+use Rattle.h2_joined.proofs.Names.{Contains, AreOctets, Role, Values, Act, Answer, Open, SendFields}
+use Rattle.h2_joined.proofs.Names.{ResetStream, PutOut, Number, Done, stream_of_log, opened_is_new}
+use Rattle.h2_joined.proofs.Names.{SentMessage, is_head_alone, both_logs, EndRefusal, EndLog}
+use Rattle.h2_joined.proofs.Names.{KeepsOrder, Side, Acted, Doing, Calls, JointEnd, with_happened}
+use Rattle.h2_joined.proofs.Names.{with_answer, with_given, acted_as, IsControlCall, Whole, Fails}
+use Rattle.h2_joined.proofs.Names.{Stops, MayDo, requests, responds, pumps, releases_all, moves}
+use Rattle.h2_joined.proofs.Names.{delivers, delivery_fails, delivery_stops, Made}
+use Rattle.h2_joined.proofs.Names.{no_copy_of_a_request, no_copy_of_a_response, IsNextAct}
+use Rattle.h2_joined.proofs.Names.{at_client, at_server, continues, IsJoint, half_of}
+use Rattle.h2_spec_log.specs.Acts.{IsTypedAct}
 use Rattle.h2_ends.specs.EndCalls.{MayRequest, MayRespond}
-use Rattle.h2_ends.proofs.EndOrder.{KeepsOrder}
-use Rattle.h2_joined.specs.declared.act.Side.{Side}
+use Rattle.std.proofs.Common.{◌≡◌, ◌≢◌, ℕ, List}
+use Rattle.h2_laws_pair.proofs.FaultsInvariant.{first_in, later_in}
 use Rattle.h2_joined.specs.declared.act.Side.TheVariants.{Client, Server}
-use Rattle.h2_joined.specs.declared.act.Acted.{Acted}
-use Rattle.h2_joined.specs.Joints.{Doing, Calls, JointEnd, with_happened, with_answer, with_given}
-use Rattle.h2_joined.specs.Joints.{acted_as, IsControlCall, Whole, Fails, Stops, MayDo, requests}
-use Rattle.h2_joined.specs.Joints.{responds}
-use Rattle.h2_joined.specs.Joints.{pumps, releases_all, calls, moves, delivers, delivery_fails}
-use Rattle.h2_joined.specs.Joints.{has_failed, delivery_stops, Made}
-use Rattle.h2_joined.specs.Joints.{no_copy_of_a_request, no_copy_of_a_response}
-use Rattle.h2_joined.specs.Joints.{IsNextAct, at_client, at_server, continues}
-use Rattle.h2_joined.specs.Joints.{IsJoint, begins, half_of}
+use Rattle.h2_joined.specs.Joints.{calls, has_failed, begins}
 use Rattle.h2_joined.proofs.JointHolds.{JointHolds, EndHolds}
 use Rattle.h2_joined.proofs.HoldsLater.{client_delivered, server_delivered}
 use Rattle.h2_joined.proofs.JointCalls.{JointStays, IsOfAct, ordinary_of_act, ordinary_stays_in}
@@ -38,6 +25,7 @@ use Rattle.h2_joined.proofs.JointChains.{holds_by_refused_request, holds_by_refu
 use Rattle.h2_joined.proofs.JointAnswers.{request_accepted, response_accepted}
 use Rattle.h2_joined.proofs.JointStart.{new_ends_hold}
 use Rattle.h2_joined.proofs.OrderKept.{act_keeps_order}
+use Rattle.h2_spec_log.specs.declared.role.Role.TheVariants as roles
 
 -- One act more leaves what holds of an end,
 end_more : (made : List Made) (one : Made) (side : Side) (end : EndLog) → EndHolds made side end

@@ -1,24 +1,20 @@
 -- The messages that two joined ends accept break no rule: requests by themselves, responses as
 -- answers to the requests.
-use Rattle.std.proofs.Common.{◌≡◌, ◌≢◌, inl, inr, ℕ, ◌==◌, Bool, true, false, List, [], ◌∷◌, Option}
-use Rattle.std.proofs.Common.{Some, None, refl, sym, ap, ◌∙◌, subst}
-use Rattle.std.specs.List.{AllByRecursion}
-use Rattle.std.proofs.lemmas.Bool.{both_ways, cases_Bool, ne_eqb, eqb-true}
-use Rattle.h2_log.specs.declared.role.Role.TheVariants.{Client}
-use Rattle.h2_log.specs.Acts.{Values, Open, SendFields, Number, Done}
-use Rattle.h2_log.specs.LogCalls.{MayAnswer}
-use Rattle.h2_end_laws.specs.Over.{is_number_used}
-use Rattle.h2_end_laws.proofs.OverNumbers.{opened_is_new}
-use Rattle.h2_message.specs.Messages.{SentMessage, asks_head, broken_by_request, broken_by_response}
+use Rattle.h2_joined.proofs.Names.{inl, inr, ◌==◌, true, [], ◌∷◌, Option, refl, sym, ap, ◌∙◌, subst}
+use Rattle.h2_joined.proofs.Names.{AllByRecursion, both_ways, cases_Bool, Values, Open, SendFields}
+use Rattle.h2_joined.proofs.Names.{Number, Done, MayAnswer, is_number_used, opened_is_new}
+use Rattle.h2_joined.proofs.Names.{SentMessage, asks_head, broken_by_request, broken_by_response}
+use Rattle.h2_joined.proofs.Names.{Part, FieldsPart, OctetsPart, IsPrefixOfTokens, both_logs}
+use Rattle.h2_joined.proofs.Names.{parts_on, JointEnd, Made, half_of}
 use Rattle.h2_message.specs.Phases.{asks_head_first}
-use Rattle.h2_message.specs.Reading.{Part, FieldsPart, OctetsPart}
-use Rattle.h2_pair.specs.Tokens.{IsPrefixOfTokens, end_tokens, message_tokens}
-use Rattle.h2_pair.proofs.PairLogs.{both_logs}
-use Rattle.h2_ends.specs.Ends.{IsNoEmptyPart, message_for, parts_on, tokens_given, tokens_of_part}
+use Rattle.h2_laws_pair.specs.Tokens.{end_tokens, message_tokens}
+use Rattle.h2_ends.specs.Ends.{IsNoEmptyPart, message_for, tokens_given, tokens_of_part}
 use Rattle.h2_ends.specs.Ends.{tokens_of_parts}
+use Rattle.std.proofs.Common.{◌≡◌, ◌≢◌, ℕ, Bool, false, List, Some, None}
+use Rattle.std.proofs.lemmas.Bool.{ne_eqb, eqb-true}
+use Rattle.h2_spec_log.specs.declared.role.Role.TheVariants.{Client}
 use Rattle.h2_ends.specs.EndCalls.{IsAsked, broken_by_answer}
 use Rattle.h2_joined.specs.declared.act.Side.TheVariants.{Server}
-use Rattle.h2_joined.specs.Joints.{JointEnd, Made, half_of}
 use Rattle.h2_joined.proofs.JointHolds.{JointHolds, EndHolds, AcceptWell, IsAnswer}
 use Rattle.h2_joined.proofs.JointCalls.{end_called}
 use Rattle.h2_joined.proofs.JointOrder.{server_hands, sent_used}

@@ -1,31 +1,20 @@
 -- One call of the connection at either end keeps what holds of two joined ends.
-use Rattle.std.proofs.Common.{◌≡◌, ◌≢◌, inl, inr, ℕ, false, List, ◌∷◌, ◌++◌, refl, sym, ap}
-use Rattle.std.proofs.Common.{◌∙◌, append-nil, subst}
-use Rattle.std.proofs.lemmas.Bool.{both_ways}
-use Rattle.h2_log.specs.Acts.{Values, Act, Answer, IsTypedAct}
-use Rattle.h2_log.specs.Acts.{ResetStream, Refuse, PutOut}
-use Rattle.h2_log.specs.Acts.{Done, OutOfMemory}
-use Rattle.h2_log.specs.View.{View}
-use Rattle.h2_log.specs.Log.{Log}
-use Rattle.h2_log.specs.LogView.{log_view}
-use Rattle.h2_log.specs.CallRules.{may_fail_for_memory}
-use Rattle.h2_log.specs.LogCalls.{MayAnswer, with_call, accepts, refuses, lacks, fails}
-use Rattle.h2_log_laws.proofs.LogGrowth.{grows_call}
-use Rattle.h2_message.specs.Messages.{SentMessage}
-use Rattle.h2_pair.specs.Pairs.{IsPair, calls, client_steps, server_steps}
-use Rattle.h2_pair.specs.Tokens.{tokens_heard}
-use Rattle.h2_pair.specs.Undisturbed.{IsUndisturbed, IsUndisturbedStep, LeavesUp, WasAsked}
-use Rattle.h2_pair.proofs.FaultsInvariant.{first_or_later}
-use Rattle.h2_log_laws.proofs.PartsStay.{call_calls}
-use Rattle.h2_pair.proofs.StepCalls.{call_gives_nothing}
-use Rattle.h2_pair.proofs.StepUnprocessed.{call_reports_all}
-use Rattle.h2_ends.specs.Ends.{EndLog}
-use Rattle.h2_joined.specs.declared.act.Side.{Side}
+use Rattle.h2_joined.proofs.Names.{inl, inr, ◌∷◌, ◌++◌, refl, sym, ap, ◌∙◌, append-nil, subst}
+use Rattle.h2_joined.proofs.Names.{both_ways, Values, Act, Answer, IsTypedAct, ResetStream, Refuse}
+use Rattle.h2_joined.proofs.Names.{PutOut, Done, OutOfMemory, View, Log, log_view, MayAnswer}
+use Rattle.h2_joined.proofs.Names.{with_call, grows_call, SentMessage, IsPair, tokens_heard}
+use Rattle.h2_joined.proofs.Names.{WasAsked, first_or_later, call_gives_nothing, EndLog, Side}
+use Rattle.h2_joined.proofs.Names.{JointEnd, Made, half_of, with_happened, with_given, WasResetAt}
+use Rattle.h2_laws_pair.specs.Undisturbed.{IsUndisturbed, IsUndisturbedStep, LeavesUp}
+use Rattle.std.proofs.Common.{◌≡◌, ◌≢◌, ℕ, false, List}
+use Rattle.h2_spec_log.specs.CallRules.{may_fail_for_memory}
+use Rattle.h2_spec_log.specs.LogCalls.{accepts, refuses, lacks, fails}
+use Rattle.h2_laws_pair.specs.Pairs.{calls, client_steps, server_steps}
+use Rattle.h2_laws_log.proofs.PartsStay.{call_calls}
+use Rattle.h2_laws_pair.proofs.StepUnprocessed.{call_reports_all}
 use Rattle.h2_joined.specs.declared.act.Side.TheVariants.{Client, Server}
-use Rattle.h2_joined.specs.Joints.{JointEnd, Made, half_of, with_happened, with_given}
-use Rattle.h2_joined.specs.Headline.{WasResetAt}
 use Rattle.h2_joined.proofs.JointHolds.{IsCalm, EndHolds, AcceptWell, AllHadMemory}
-use Rattle.h2_log_laws.proofs.CallConditions.{answer_in_memory as in_memory}
+use Rattle.h2_laws_log.proofs.CallConditions.{answer_in_memory as in_memory}
 
 -- What holds between two calls of an act: all but the order, which holds again after the last one.
 pub record JointStays (client_values server_values : Values) (made : List Made)

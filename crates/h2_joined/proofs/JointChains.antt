@@ -1,23 +1,19 @@
 -- What an ordinary call of the connection keeps, an act of such calls keeps.
-use Rattle.std.proofs.Common.{inl, inr, ℕ, true, Option, Some, None, Result, Ok, Err, sym, subst}
-use Rattle.h2_log.specs.declared.refusal.Refusal.{Refusal}
-use Rattle.h2_log.specs.declared.refusal.Refusal.TheVariants.{Closed, OutputFull, Memory}
-use Rattle.h2_log.specs.Acts.{Act, Answer, IsTypedAct, Open, SendFields, SendData, Release, Count}
-use Rattle.h2_log.specs.Acts.{Done, Refused}
-use Rattle.h2_log.specs.Log.{owed}
-use Rattle.h2_log.specs.LogCalls.{MayAnswer, with_call}
-use Rattle.h2_message.specs.Messages.{SentMessage}
-use Rattle.h2_ends.specs.declared.refusal.EndRefusal.{EndRefusal}
-use Rattle.h2_ends.specs.declared.refusal.EndRefusal.TheVariants as refusals
-use Rattle.h2_ends.specs.Ends.{EndLog}
-use Rattle.h2_ends.specs.EndTakes.{end_with_log}
-use Rattle.h2_ends.specs.EndCalls.{IsHeadCall, IsUnchanged, MayRequest, MayRespond, Pumps}
-use Rattle.h2_ends.specs.EndCalls.{pumps_no_more, pumps_data, pumps_trailers, data_refused}
-use Rattle.h2_ends.specs.EndCalls.{trailers_refused, MayPump, Releases, releases_no_more}
-use Rattle.h2_ends.specs.EndCalls.{releases_one, releases_refused, MayReleaseAll}
+use Rattle.h2_joined.proofs.Names.{inl, inr, true, Option, Result, Ok, Err, sym, subst, Refusal}
+use Rattle.h2_joined.proofs.Names.{Act, Answer, IsTypedAct, Open, SendFields, Count, Done, Refused}
+use Rattle.h2_joined.proofs.Names.{MayAnswer, with_call, SentMessage, EndRefusal, EndLog}
+use Rattle.h2_joined.proofs.Names.{end_with_log, pumps_no_more, pumps_data, pumps_trailers}
+use Rattle.h2_joined.proofs.Names.{data_refused, trailers_refused, Releases, releases_no_more}
+use Rattle.h2_joined.proofs.Names.{releases_one, releases_refused, no_part_next}
+use Rattle.h2_ends.specs.EndCalls.{IsUnchanged, MayRequest, MayRespond, MayPump, MayReleaseAll}
+use Rattle.h2_ends.specs.EndCalls.{IsHeadCall, Pumps}
+use Rattle.std.proofs.Common.{ℕ, Some, None}
+use Rattle.h2_spec_log.specs.declared.refusal.Refusal.TheVariants.{Closed, OutputFull, Memory}
+use Rattle.h2_spec_log.specs.Acts.{SendData, Release}
+use Rattle.h2_spec_log.specs.Log.{owed}
 use Rattle.h2_ends.proofs.EndOrder.{SendsNext, data_next, trailers_next, refused_next}
-use Rattle.h2_ends.proofs.EndOrder.{no_part_next}
 use Rattle.h2_joined.proofs.JointCalls.{IsOrdinary}
+use Rattle.h2_ends.specs.declared.refusal.EndRefusal.TheVariants as refusals
 
 -- An ordinary call that sends what waits keeps what holds of an end.
 abbrev pub KeptByCalls : (EndLog → Type 0) → Type 0

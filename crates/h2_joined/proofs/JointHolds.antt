@@ -1,23 +1,13 @@
 -- What holds of two joined ends, whatever acts were made.
+use Rattle.h2_joined.proofs.Names.{InternalError, AllByRecursion, Contains, Values, Event}
+use Rattle.h2_joined.proofs.Names.{next_unprocessed, SentMessage, asks_head, broken_by_request}
+use Rattle.h2_joined.proofs.Names.{broken_by_response, Half, IsPair, tokens_heard, IsUndisturbed}
+use Rattle.h2_joined.proofs.Names.{WasAsked, EndLog, Passed, IsNoEmptyPart, message_for, parts_on}
+use Rattle.h2_joined.proofs.Names.{part_of_event, tokens_handed, KeepsOrder, Side, JointEnd, Made}
+use Rattle.h2_joined.proofs.Names.{half_of, WasResetAt}
 use Rattle.std.specs.Prelude.{◌≡◌, ◌≢◌, ℕ, Bool, false, List, Some, None}
-use Rattle.h2_frame.specs.declared.code.Code.TheVariants.{InternalError}
-use Rattle.std.specs.List.{AllByRecursion, Contains}
-use Rattle.h2_log.specs.Acts.{Values}
-use Rattle.h2_log.specs.Events.{Event}
-use Rattle.h2_log.specs.Log.{next_unprocessed}
-use Rattle.h2_message.specs.Messages.{SentMessage, asks_head, broken_by_request}
-use Rattle.h2_message.specs.Messages.{broken_by_response}
-use Rattle.h2_pair.specs.Pairs.{Half, IsPair}
-use Rattle.h2_pair.specs.Tokens.{tokens_heard}
-use Rattle.h2_pair.specs.Undisturbed.{IsUndisturbed, WasAsked}
-use Rattle.h2_ends.specs.Ends.{EndLog, Passed, IsNoEmptyPart, message_for, parts_on, part_of_event}
-use Rattle.h2_ends.specs.Ends.{tokens_handed}
-use Rattle.h2_ends.proofs.EndOrder.{KeepsOrder}
-use Rattle.h2_joined.specs.declared.act.Side.{Side}
 use Rattle.h2_joined.specs.declared.act.Side.TheVariants.{Client, Server}
 use Rattle.h2_joined.specs.declared.act.Acted.TheVariants.{Failed}
-use Rattle.h2_joined.specs.Joints.{JointEnd, Made, half_of}
-use Rattle.h2_joined.specs.Headline.{WasResetAt}
 
 -- No connection has failed in the act since memory was refused.
 pub record ActHadMemory (made : Made) : Type 0 where

@@ -1,23 +1,17 @@
 -- What follows for two joined ends: no fault is reported, and once they are quiet each message was
 -- handed out whole.
-use Rattle.std.proofs.Common.{◌≡◌, inl, inr, ℕ, true, false, List, Option}
-use Rattle.std.proofs.Common.{Some, None, refl, sym, ap, ◌∙◌, subst}
-use Rattle.h2_log.specs.Acts.{Values}
-use Rattle.h2_log.specs.Events.{ResetEvent, UnprocessedEvent}
-use Rattle.h2_message.specs.Messages.{SentMessage}
-use Rattle.h2_pair.specs.Quiet.{IsQuiet, WasReset, IsSending, IsStuck}
-use Rattle.h2_pair.specs.Tokens.{Token, IsPrefixOfTokens, message_tokens, tokens_heard}
-use Rattle.h2_pair.specs.Undisturbed.{IsFaultless}
-use Rattle.h2_pair.proofs.FaultsOfPairs.{faultless_client, faultless_server}
-use Rattle.h2_pair.proofs.HeardQuiet.{server_hears_whole, client_hears_whole}
-use Rattle.h2_ends.specs.Ends.{EndLog, message_for, part_of_event, tokens_given, tokens_handed}
-use Rattle.h2_ends.specs.Ends.{tokens_said}
-use Rattle.h2_ends.specs.Represents.{SendsInOrder}
-use Rattle.h2_ends.specs.Quiet.{IsQuietEnd}
-use Rattle.h2_joined.specs.declared.act.Side.{Side}
+use Rattle.h2_joined.proofs.Names.{inl, inr, true, Option, refl, sym, ap, ◌∙◌, subst, Values}
+use Rattle.h2_joined.proofs.Names.{ResetEvent, UnprocessedEvent, SentMessage, Token}
+use Rattle.h2_joined.proofs.Names.{IsPrefixOfTokens, message_tokens, tokens_heard, faultless_client}
+use Rattle.h2_joined.proofs.Names.{faultless_server, EndLog, message_for, tokens_handed}
+use Rattle.h2_joined.proofs.Names.{tokens_said, SendsInOrder, IsQuietEnd, Side, JointEnd, Made}
+use Rattle.h2_joined.proofs.Names.{half_of, AreQuiet, WasResetIn, ReportsNoFault}
+use Rattle.h2_ends.specs.Ends.{part_of_event, tokens_given}
+use Rattle.std.proofs.Common.{◌≡◌, ℕ, false, List, Some, None}
+use Rattle.h2_laws_pair.specs.Quiet.{IsQuiet, WasReset, IsSending, IsStuck}
+use Rattle.h2_laws_pair.specs.Undisturbed.{IsFaultless}
+use Rattle.h2_laws_pair.proofs.HeardQuiet.{server_hears_whole, client_hears_whole}
 use Rattle.h2_joined.specs.declared.act.Side.TheVariants.{Client, Server}
-use Rattle.h2_joined.specs.Joints.{JointEnd, Made, half_of}
-use Rattle.h2_joined.specs.Headline.{AreQuiet, WasResetIn, ReportsNoFault}
 use Rattle.h2_joined.proofs.JointHolds.{JointHolds, EndHolds, AllHadMemory}
 use Rattle.h2_joined.proofs.JointOrder.{server_hands, client_hands}
 use Rattle.h2_ends.proofs.EndOrder.{waiting_of, none_begins}

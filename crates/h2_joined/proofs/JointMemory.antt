@@ -1,38 +1,27 @@
 -- A connection that has failed stays failed. So where memory was not refused where it counts, it
 -- was not in any act.
-use Rattle.std.proofs.Common.{◌≡◌, ◌≢◌, ℕ, suc, List, take, drop, Some, Result, Ok}
-use Rattle.std.proofs.Common.{Err, refl, ap, subst, ◌∙◌}
-use Rattle.h2_frame.specs.declared.code.Code.{Code}
-use Rattle.h2_frame.specs.declared.code.Code.TheVariants.{InternalError}
-use Rattle.h2_log.specs.Acts.{Values, Act, Answer, Number, Count, Done, OutOfMemory, Refused, Open}
-use Rattle.h2_log.specs.Acts.{SendFields, Refuse, PutOut}
-use Rattle.h2_log.specs.Log.{Log}
-use Rattle.h2_log.specs.LogCalls.{MayAnswer, with_call}
-use Rattle.h2_end_laws.proofs.TakeAnswers.{log_after_take}
-use Rattle.h2_end_laws.specs.Takes.{Took, Failed}
-use Rattle.h2_log.specs.Events.{FieldsEvent}
-use Rattle.h2_message.specs.Messages.{SentMessage}
-use Rattle.h2_pair.specs.Tokens.{is_head_alone}
-use Rattle.h2_pair.proofs.StepCalls.{call_failed}
-use Rattle.h2_ends.specs.declared.refusal.EndRefusal.{EndRefusal}
-use Rattle.h2_ends.specs.Ends.{EndLog, EndAnswer, EndFailed}
-use Rattle.h2_ends.specs.EndTakes.{EndMayTake, fails, hands_nothing}
-use Rattle.h2_ends.specs.EndTakes.{passes, hands_out, refuses, refusal_fails, runs_out_of_memory}
+use Rattle.h2_joined.proofs.Names.{suc, take, drop, Result, Ok, Err, refl, ap, subst, ◌∙◌, Code}
+use Rattle.h2_joined.proofs.Names.{InternalError, Values, Act, Answer, Number, Count, Done}
+use Rattle.h2_joined.proofs.Names.{OutOfMemory, Refused, Open, SendFields, Refuse, PutOut, Log}
+use Rattle.h2_joined.proofs.Names.{MayAnswer, with_call, log_after_take, Took, FieldsEvent}
+use Rattle.h2_joined.proofs.Names.{SentMessage, is_head_alone, EndRefusal, EndLog, EndAnswer}
+use Rattle.h2_joined.proofs.Names.{EndFailed, EndMayTake, hands_nothing, hands_out, refusal_fails}
+use Rattle.h2_joined.proofs.Names.{runs_out_of_memory, memory_fails, Side, Acted, Doing, JointEnd}
+use Rattle.h2_joined.proofs.Names.{Made, Delivery, Whole, Fails, Stops, IsDelivered, MayDo}
+use Rattle.h2_joined.proofs.Names.{IsControlCall, IsJoint, IsNextAct, MemorySufficed, acted_by}
+use Rattle.h2_joined.proofs.Names.{acted_as}
 use Rattle.h2_ends.specs.EndCalls.{MayRequest, MayRespond}
-use Rattle.h2_ends.proofs.TakeRefusing.{memory_fails}
-use Rattle.h2_joined.specs.declared.act.Side.{Side}
+use Rattle.std.proofs.Common.{◌≡◌, ◌≢◌, ℕ, List, Some}
+use Rattle.h2_laws_end.specs.Takes.{Failed}
+use Rattle.h2_laws_pair.proofs.StepCalls.{call_failed}
+use Rattle.h2_ends.specs.EndTakes.{fails, passes, refuses}
 use Rattle.h2_joined.specs.declared.act.Side.TheVariants.{Client, Server}
-use Rattle.h2_joined.specs.declared.act.Acted.{Acted}
-use Rattle.h2_joined.specs.declared.act.Acted.TheVariants as acted
-use Rattle.h2_joined.specs.Joints as joints
-use Rattle.h2_joined.specs.Joints.{Doing, JointEnd, Made, Delivery, Whole, Fails, Stops}
-use Rattle.h2_joined.specs.Joints.{IsDelivered, MayDo, IsControlCall, IsJoint, IsNextAct}
-use Rattle.h2_joined.specs.Joints.{MemorySufficed}
-use Rattle.h2_joined.specs.Joints.{acted_by, acted_as}
 use Rattle.h2_joined.proofs.JointHolds.{ActHadMemory, AllHadMemory}
 use Rattle.h2_joined.proofs.JointCalls.{IsOrdinary, answers_in_memory}
 use Rattle.h2_joined.proofs.JointChains.{KeptByCalls, holds_by_pump, holds_by_release}
 use Rattle.h2_joined.proofs.JointChains.{holds_by_refused_request, holds_by_refused_response}
+use Rattle.h2_joined.specs.declared.act.Acted.TheVariants as acted
+use Rattle.h2_joined.specs.Joints as joints
 
 -- No call but the refusal of a stream makes the connection fail.
 call_stays : (log : Log) (act : Act) (answer : Answer) → ((id code : ℕ) → act ≢ Refuse id code)

@@ -1,27 +1,21 @@
 -- What an end has handed out is a prefix of what the other was given to say.
-use Rattle.std.proofs.Common.{◌≡◌, ◌≢◌, inl, inr, ℕ, true, false, List, [], sym, ◌∙◌, append-nil}
-use Rattle.std.proofs.Common.{subst}
-use Rattle.std.specs.List.{list_any}
-use Rattle.std.proofs.lemmas.Bool.{both_ways, cases_Bool, and_from}
-use Rattle.h2_block.specs.Grouping.{Item}
-use Rattle.h2_log.specs.declared.role.Role.{Role}
-use Rattle.h2_log.specs.Acts.{Values}
-use Rattle.h2_log.specs.Histories.{IsLog}
-use Rattle.h2_log.specs.Log.{Log}
-use Rattle.h2_log.specs.States.{is_used, openings}
-use Rattle.h2_log.proofs.StreamLemmas.{stream_of_log}
-use Rattle.h2_log_laws.proofs.InvariantLogs.{written_is_allowed}
-use Rattle.h2_log_laws.proofs.ReaderStates.{opens_here}
-use Rattle.h2_end_laws.specs.Over.{is_number_used}
-use Rattle.h2_end_laws.specs.Sendings.{lists_accepted}
-use Rattle.h2_pair.specs.Tokens.{Token, tokens_sent, tokens_heard, IsPrefixOfTokens}
-use Rattle.h2_pair.proofs.HeardGoAways.{speaks}
-use Rattle.h2_pair.proofs.HeardMessages.{IsOpened, spoken_opened, silent_tokens}
-use Rattle.h2_pair.proofs.HeardPairs.{server_hears, client_hears, begins_message}
-use Rattle.h2_pair.proofs.HeardSent.{tokens_carried}
-use Rattle.h2_ends.specs.Ends.{EndLog, tokens_handed, tokens_said, tokens_out}
-use Rattle.h2_ends.specs.Represents.{HandsInOrder, SendsInOrder}
-use Rattle.h2_joined.specs.Joints.{JointEnd, Made, half_of}
+use Rattle.h2_joined.proofs.Names.{inl, inr, true, [], sym, ◌∙◌, append-nil, subst, list_any}
+use Rattle.h2_joined.proofs.Names.{both_ways, cases_Bool, Item, Role, Values, IsLog, Log, openings}
+use Rattle.h2_joined.proofs.Names.{stream_of_log, is_number_used, Token, tokens_sent, tokens_heard}
+use Rattle.h2_joined.proofs.Names.{IsPrefixOfTokens, server_hears, client_hears, begins_message}
+use Rattle.h2_joined.proofs.Names.{EndLog, tokens_handed, tokens_said, SendsInOrder, JointEnd, Made}
+use Rattle.h2_joined.proofs.Names.{half_of}
+use Rattle.h2_spec_log.specs.States.{is_used}
+use Rattle.std.proofs.Common.{◌≡◌, ◌≢◌, ℕ, false, List}
+use Rattle.std.proofs.lemmas.Bool.{and_from}
+use Rattle.h2_laws_log.proofs.InvariantLogs.{written_is_allowed}
+use Rattle.h2_laws_log.proofs.ReaderStates.{opens_here}
+use Rattle.h2_laws_end.specs.Sendings.{lists_accepted}
+use Rattle.h2_laws_pair.proofs.HeardGoAways.{speaks}
+use Rattle.h2_laws_pair.proofs.HeardMessages.{IsOpened, spoken_opened, silent_tokens}
+use Rattle.h2_laws_pair.proofs.HeardSent.{tokens_carried}
+use Rattle.h2_ends.specs.Ends.{tokens_out}
+use Rattle.h2_ends.specs.Represents.{HandsInOrder}
 use Rattle.h2_joined.proofs.JointHolds.{JointHolds}
 
 -- What was handed out of a stream is a prefix of what its connection has reported.

@@ -1,49 +1,40 @@
 -- Whatever acts were made, what was handed out at each of two joined ends is what its place says,
 -- and each message that the server has accepted has a final head.
-use Rattle.std.proofs.Common.{◌≡◌, ◌⊎◌, inl, inr, ℕ, ◌==◌, Bool, true, false, if◌then◌else◌, List}
-use Rattle.std.proofs.Common.{[], ◌∷◌, ◌++◌, suc, drop, Some, None, Result, Ok, Err}
-use Rattle.std.proofs.Common.{refl, sym, ap, ◌∙◌, subst, append-nil}
-use Rattle.std.proofs.lemmas.Bool.{cases_eq, cases_Bool}
-use Rattle.h2_log.specs.declared.role.Role.{Role}
-use Rattle.h2_log.specs.declared.role.Role.TheVariants as roles
-use Rattle.h2_log.specs.Acts.{Values, Refuse, PutOut}
-use Rattle.h2_log.specs.Events.{Event, FieldsEvent, ResetEvent}
-use Rattle.h2_log.specs.Log.{Log}
-use Rattle.h2_log.specs.LogCalls.{with_call, opened}
-use Rattle.h2_log.specs.LogSteps.{with_sent}
-use Rattle.h2_log.specs.Settings.{is_server}
-use Rattle.h2_log_laws.proofs.LogGrowth.{grows_call}
-use Rattle.h2_end_laws.specs.Takes.{Took, Failed}
-use Rattle.h2_end_laws.proofs.OverNumbers.{open_answer}
-use Rattle.h2_message.specs.declared.reading.Phase.TheVariants.{AtHead}
-use Rattle.h2_message.specs.declared.reading.Place.TheVariants as places
-use Rattle.h2_message.specs.declared.reading.Reads.TheVariants.{Requests, Responses}
-use Rattle.h2_message.specs.Messages.{SentMessage}
-use Rattle.h2_message.specs.Phases.{asks_head_first, phase_after_all}
-use Rattle.h2_message.specs.Reading.{Part}
-use Rattle.h2_message.proofs.PhaseWhole.{not_readable}
-use Rattle.h2_pair.specs.Tokens.{is_head_alone}
-use Rattle.h2_pair.proofs.StepUnprocessed.{role_by_take as take_role}
-use Rattle.h2_ends.specs.declared.refusal.EndRefusal.{EndRefusal}
-use Rattle.h2_ends.specs.Ends.{EndLog, Handed, Passed, EndAnswer, message_for, part_on, parts_on}
-use Rattle.h2_ends.specs.Ends.{reads_on, asked_head, handed_as}
+use Rattle.h2_joined.proofs.Names.{◌⊎◌, inl, inr, ◌==◌, true, if◌then◌else◌, [], ◌∷◌, ◌++◌, suc}
+use Rattle.h2_joined.proofs.Names.{drop, Result, Ok, Err, refl, sym, ap, ◌∙◌, subst, append-nil}
+use Rattle.h2_joined.proofs.Names.{cases_eq, cases_Bool, Role, Values, Refuse, PutOut, Event}
+use Rattle.h2_joined.proofs.Names.{FieldsEvent, ResetEvent, Log, with_call, is_server, grows_call}
+use Rattle.h2_joined.proofs.Names.{Took, Responses, SentMessage, asks_head_first, Part}
+use Rattle.h2_joined.proofs.Names.{is_head_alone, EndRefusal, EndLog, Handed, Passed, EndAnswer}
+use Rattle.h2_joined.proofs.Names.{asked_head, handed_as, EndMayTake, IsReadableWith, end_with_log}
+use Rattle.h2_joined.proofs.Names.{end_with_handed, hands_nothing, hands_out, refusal_fails}
+use Rattle.h2_joined.proofs.Names.{runs_out_of_memory, MessageToken, new_end_log, handed_elsewhere}
+use Rattle.h2_joined.proofs.Names.{readable_here, Acted, Doing, JointEnd, Made, Delivery, Whole}
+use Rattle.h2_joined.proofs.Names.{Fails, Stops, MayDo, IsDelivered, IsJoint, IsNextAct}
+use Rattle.h2_spec_log.specs.LogCalls.{opened}
+use Rattle.h2_spec_log.specs.LogSteps.{with_sent}
+use Rattle.h2_ends.specs.Ends.{message_for, part_on, parts_on, reads_on}
 use Rattle.h2_ends.specs.EndCalls.{MayRequest, MayRespond}
-use Rattle.h2_ends.specs.EndTakes.{EndMayTake, IsReadableWith, end_with_log}
-use Rattle.h2_ends.specs.EndTakes.{end_with_handed, fails, hands_nothing, passes, hands_out}
-use Rattle.h2_ends.specs.EndTakes.{refuses, refusal_fails, runs_out_of_memory}
-use Rattle.h2_ends.specs.MessageTokens.{MessageToken, parts_heard_in, parts_heard}
-use Rattle.h2_ends.specs.Represents.{new_end_log}
-use Rattle.h2_ends.proofs.EndParts.{handed_elsewhere, has_phase, readable_here}
+use Rattle.h2_ends.specs.MessageTokens.{parts_heard, parts_heard_in}
+use Rattle.std.proofs.Common.{◌≡◌, ℕ, Bool, false, List, Some, None}
+use Rattle.h2_laws_end.specs.Takes.{Failed}
+use Rattle.h2_laws_end.proofs.OverNumbers.{open_answer}
+use Rattle.h2_message.specs.declared.reading.Phase.TheVariants.{AtHead}
+use Rattle.h2_message.specs.declared.reading.Reads.TheVariants.{Requests}
+use Rattle.h2_message.specs.Phases.{phase_after_all}
+use Rattle.h2_message.proofs.PhaseWhole.{not_readable}
+use Rattle.h2_laws_pair.proofs.StepUnprocessed.{role_by_take as take_role}
+use Rattle.h2_ends.specs.EndTakes.{fails, passes, refuses}
+use Rattle.h2_ends.proofs.EndParts.{has_phase}
 use Rattle.h2_ends.proofs.MessageTokensPlaced.{place_where, begun_after, placed_part, parts_placed}
 use Rattle.h2_ends.proofs.MessageTokensPlaced.{placed_more, reads_requests, heard_here}
 use Rattle.h2_ends.proofs.MessageTokensPlaced.{heard_elsewhere}
 use Rattle.h2_ends.proofs.MessageTokensSaid.{response_final}
-use Rattle.h2_joined.specs.declared.act.Acted.{Acted}
-use Rattle.h2_joined.specs.Joints as joints
-use Rattle.h2_joined.specs.Joints.{Doing, JointEnd, Made, Delivery, Whole, Fails, Stops, MayDo}
-use Rattle.h2_joined.specs.Joints.{IsDelivered, IsJoint, IsNextAct}
 use Rattle.h2_joined.proofs.JointChains.{KeptByCalls, holds_by_pump, holds_by_release}
 use Rattle.h2_joined.proofs.JointChains.{holds_by_refused_request, holds_by_refused_response}
+use Rattle.h2_spec_log.specs.declared.role.Role.TheVariants as roles
+use Rattle.h2_message.specs.declared.reading.Place.TheVariants as places
+use Rattle.h2_joined.specs.Joints as joints
 
 -- What was handed out at an end on each stream is what its place says, and where it is a server
 -- each message that it has accepted has a final head.

@@ -1,22 +1,19 @@
 -- Of two new ends all of it holds.
-use Rattle.std.proofs.Common.{◌≡◌, inl, inr, [], refl}
-use Rattle.h2_log.specs.declared.role.Role.{Role}
-use Rattle.h2_log.specs.declared.role.Role.TheVariants as roles
-use Rattle.h2_log.specs.Acts.{Values, AreInRange}
-use Rattle.h2_log.specs.Log.{next_unprocessed}
-use Rattle.h2_log.specs.LogCalls.{opened}
-use Rattle.h2_log.specs.LogSteps.{with_sent}
-use Rattle.h2_log.specs.States.{least_block}
-use Rattle.h2_pair.specs.Pairs.{begins}
-use Rattle.h2_pair.specs.Tokens.{tokens_sent, tokens_heard}
-use Rattle.h2_pair.specs.Undisturbed.{IsUndisturbed}
-use Rattle.h2_pair.proofs.FaultsInvariant.{none_in}
+use Rattle.h2_joined.proofs.Names.{inl, inr, [], refl, Role, Values, new_end_log, KeepsOrder, Side}
+use Rattle.h2_joined.proofs.Names.{new_joint_end}
+use Rattle.h2_spec_log.specs.Log.{next_unprocessed}
+use Rattle.h2_spec_log.specs.LogCalls.{opened}
+use Rattle.h2_spec_log.specs.LogSteps.{with_sent}
+use Rattle.h2_laws_pair.specs.Tokens.{tokens_sent, tokens_heard}
+use Rattle.h2_laws_pair.specs.Undisturbed.{IsUndisturbed}
 use Rattle.h2_ends.specs.Ends.{message_for, parts_on, tokens_given, tokens_of_parts}
-use Rattle.h2_ends.specs.Represents.{new_end_log}
-use Rattle.h2_ends.proofs.EndOrder.{KeepsOrder}
-use Rattle.h2_joined.specs.declared.act.Side.{Side}
-use Rattle.h2_joined.specs.Joints.{new_joint_end}
+use Rattle.std.proofs.Common.{◌≡◌}
+use Rattle.h2_spec_log.specs.Acts.{AreInRange}
+use Rattle.h2_spec_log.specs.States.{least_block}
+use Rattle.h2_laws_pair.specs.Pairs.{begins}
+use Rattle.h2_laws_pair.proofs.FaultsInvariant.{none_in}
 use Rattle.h2_joined.proofs.JointHolds.{JointHolds, EndHolds, AcceptWell}
+use Rattle.h2_spec_log.specs.declared.role.Role.TheVariants as roles
 
 -- A new end has said and handed out nothing,
 new_order : (role : Role) (values : Values) → KeepsOrder (new_end_log role values)

@@ -1,25 +1,14 @@
 -- An act at one end of two joined ends is one more act of both.
-use Rattle.std.proofs.Common.{map as each, ◌≡◌, ℕ, List, [], ◌∷◌, ◌++◌, reverse, refl, sym}
-use Rattle.std.proofs.Common.{ap, ◌∙◌, subst}
-use Rattle.std.proofs.lemmas.List.{map_push, reverse-append}
-use Rattle.h2_log.specs.Acts.{Values}
-use Rattle.h2_message.specs.Messages.{SentMessage}
-use Rattle.h2_ends.specs.declared.end.End.{End}
-use Rattle.h2_ends.specs.Ends.{EndLog, Handed}
-use Rattle.h2_ends.specs.Represents.{EndRepresents}
-use Rattle.h2_joined.specs.declared.act.Side.{Side}
+use Rattle.h2_joined.proofs.Names.{[], ◌∷◌, ◌++◌, refl, sym, ap, ◌∙◌, subst, reverse-append, Values}
+use Rattle.h2_joined.proofs.Names.{SentMessage, End, EndLog, Handed, EndRepresents, Side, Acted}
+use Rattle.h2_joined.proofs.Names.{Accepted, Kept, Pipe, Store, Joined, Doing, JointEnd, MayDo}
+use Rattle.h2_joined.proofs.Names.{with_happened, at_client, at_server, continues, HoldsOctets}
+use Rattle.h2_joined.proofs.Names.{KeepsHanded, KeepsEnd, MakesAct, made, accepted_value, end_at}
+use Rattle.h2_joined.proofs.Names.{kept_of, other_side}
+use Rattle.std.proofs.Common.{map as each, ◌≡◌, ℕ, List, reverse}
+use Rattle.std.proofs.lemmas.List.{map_push}
 use Rattle.h2_joined.specs.declared.act.Side.TheVariants as sides
-use Rattle.h2_joined.specs.declared.act.Acted.{Acted}
 use Rattle.h2_joined.specs.declared.act.Acted.TheVariants as acted
-use Rattle.h2_joined.specs.declared.kept.Accepted.{Accepted}
-use Rattle.h2_joined.specs.declared.kept.Kept.{Kept}
-use Rattle.h2_joined.specs.declared.pipe.Pipe.{Pipe}
-use Rattle.h2_joined.specs.declared.store.Store.{Store}
-use Rattle.h2_joined.specs.declared.joined.Joined.{Joined}
-use Rattle.h2_joined.specs.Joints.{Doing, JointEnd, MayDo, with_happened}
-use Rattle.h2_joined.specs.Joints.{at_client, at_server, continues}
-use Rattle.h2_joined.specs.Kept.{HoldsOctets, KeepsHanded, KeepsEnd, MakesAct, made}
-use Rattle.h2_joined.specs.Kept.{accepted_value, end_at, kept_of, other_side}
 
 -- What an act at one end has to show: it may be made, and both ends and what is kept are as it
 -- says.

@@ -1,20 +1,16 @@
 -- What a call of an end makes of the messages that it has accepted and of what it has handed out.
-use Rattle.std.proofs.Common.{◌≡◌, ℕ, List, ◌∷◌, Option, Some, None, Result, Ok, Err, inl}
-use Rattle.std.proofs.Common.{inr}
-use Rattle.std.proofs.Common.{refl, sym, ap, ◌∙◌}
-use Rattle.h2_log.specs.declared.refusal.Refusal.{Refusal}
-use Rattle.h2_log.specs.declared.refusal.Refusal.TheVariants as reasons
-use Rattle.h2_log.specs.Log.{Log}
-use Rattle.h2_message.specs.Messages.{SentMessage}
-use Rattle.h2_ends.specs.declared.refusal.EndRefusal.{EndRefusal}
-use Rattle.h2_ends.specs.declared.refusal.EndRefusal.TheVariants as refusals
-use Rattle.h2_ends.specs.Ends.{EndLog, Handed, EndAnswer, EndTook, EndFailed}
-use Rattle.h2_ends.specs.EndTakes.{EndMayTake, fails, hands_nothing, passes}
-use Rattle.h2_ends.specs.EndTakes.{hands_out, refuses, refusal_fails, runs_out_of_memory}
+use Rattle.h2_joined.proofs.Names.{◌∷◌, Option, Result, Ok, Err, inl, inr, refl, sym, ap, ◌∙◌}
+use Rattle.h2_joined.proofs.Names.{Refusal, Log, SentMessage, EndRefusal, EndLog, Handed, EndAnswer}
+use Rattle.h2_joined.proofs.Names.{EndTook, EndFailed, EndMayTake, hands_nothing, hands_out}
+use Rattle.h2_joined.proofs.Names.{refusal_fails, runs_out_of_memory, pumps_no_more, pumps_data}
+use Rattle.h2_joined.proofs.Names.{pumps_trailers, data_refused, trailers_refused, Releases}
+use Rattle.h2_joined.proofs.Names.{releases_no_more, releases_one, releases_refused}
 use Rattle.h2_ends.specs.EndCalls.{MayRequest, MayRespond, MayPump, MayReleaseAll, IsUnchanged}
-use Rattle.h2_ends.specs.EndCalls.{Pumps, pumps_no_more, pumps_data, pumps_trailers}
-use Rattle.h2_ends.specs.EndCalls.{data_refused, trailers_refused}
-use Rattle.h2_ends.specs.EndCalls.{Releases, releases_no_more, releases_one, releases_refused}
+use Rattle.h2_ends.specs.EndCalls.{Pumps}
+use Rattle.std.proofs.Common.{◌≡◌, ℕ, List, Some, None}
+use Rattle.h2_ends.specs.EndTakes.{fails, passes, refuses}
+use Rattle.h2_spec_log.specs.declared.refusal.Refusal.TheVariants as reasons
+use Rattle.h2_ends.specs.declared.refusal.EndRefusal.TheVariants as refusals
 
 -- The end has accepted and handed out nothing more.
 pub record SaysNothing (before after : EndLog) : Type 0 where

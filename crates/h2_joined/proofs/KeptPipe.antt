@@ -1,11 +1,9 @@
 -- The octets of a pipe, once some were delivered.
-use Rattle.std.proofs.Common.{◌≡◌, ℕ, ◌+◌, ◌-◌, ◌^◌, ◌<◌, ◌≤◌, min, List, [], ◌++◌, length, take}
-use Rattle.std.proofs.Common.{drop}
-use Rattle.std.proofs.Common.{refl, sym, ap, ◌∙◌, arith}
-use Rattle.std.proofs.lemmas.List.{length-append, length-take-le, length-drop, take-append-drop}
-use Rattle.std.proofs.lemmas.List.{drop-drop, drop_at, drop_min}
-use Rattle.h2_joined.specs.declared.pipe.Pipe.{Pipe}
-use Rattle.h2_joined.specs.Kept.{HoldsOctets}
+use Rattle.h2_joined.proofs.Names.{◌+◌, ◌-◌, ◌^◌, ◌<◌, ◌≤◌, [], ◌++◌, length, take, drop, refl, sym}
+use Rattle.h2_joined.proofs.Names.{ap, ◌∙◌, arith, take-append-drop, drop-drop, drop_min, Pipe}
+use Rattle.h2_joined.proofs.Names.{HoldsOctets}
+use Rattle.std.proofs.Common.{◌≡◌, ℕ, min, List}
+use Rattle.std.proofs.lemmas.List.{length-append, length-take-le, length-drop, drop_at}
 
 -- how many octets of a pipe were delivered once so many more are, of all that it has
 abbrev pub IsUsed : Pipe → (count used : ℕ) → Type 0

@@ -1,21 +1,15 @@
 -- What is kept at places stays where more is kept after it.
-use Rattle.std.proofs.Common.{◌≡◌, ℕ, zero, suc, ◌-◌, ◌<◌, ◌≤◌, List, [], ◌∷◌, ◌++◌}
-use Rattle.std.proofs.Common.{length, take, drop, map, get_or, Some, refl, ap, ap₂, ◌∙◌, arith}
-use Rattle.std.proofs.Common.{length-drop}
-use Rattle.std.specs.List.{AllByRecursion}
-use Rattle.std.specs.List.{slice_get}
+use Rattle.h2_joined.proofs.Names.{suc, ◌-◌, ◌<◌, ◌≤◌, [], ◌∷◌, ◌++◌, length, take, drop, map, refl}
+use Rattle.h2_joined.proofs.Names.{ap, ap₂, ◌∙◌, arith, AllByRecursion, slice_get, drop-append-le}
+use Rattle.h2_joined.proofs.Names.{Field, Handed, InterimHanded, HeadHanded, BodyHanded}
+use Rattle.h2_joined.proofs.Names.{TrailersHanded, Span, FieldPlace, EventPlace, part_of}
+use Rattle.h2_joined.proofs.Names.{stored_fields, IsSpan, IsFieldPlace}
+use Rattle.h2_joined.specs.Stored.{stored_field, event_kept, IsEventPlace}
+use Rattle.std.proofs.Common.{◌≡◌, ℕ, zero, List, get_or, Some, length-drop}
 use Rattle.std.specs.Option.{option_map}
-use Rattle.std.proofs.lemmas.List.{take-append-le, drop-append-le}
+use Rattle.std.proofs.lemmas.List.{take-append-le}
 use Rattle.std.proofs.lemmas.Option.{slice_get-map, slice_get-get_or}
-use Rattle.hpack.specs.declared.types.field.Field.{Field}
-use Rattle.h2_ends.specs.Ends.{Handed, InterimHanded, HeadHanded, BodyHanded, TrailersHanded}
-use Rattle.h2_joined.specs.declared.store.Span.{Span}
-use Rattle.h2_joined.specs.declared.store.FieldPlace.{FieldPlace}
-use Rattle.h2_joined.specs.declared.store.EventPlace.{EventPlace}
 use Rattle.h2_joined.specs.declared.store.EventPlace.TheVariants as places
-use Rattle.h2_joined.specs.Stored.{part_of, stored_field, stored_fields, event_kept, IsSpan}
-use Rattle.h2_joined.specs.Stored.{IsFieldPlace}
-use Rattle.h2_joined.specs.Stored.{IsEventPlace}
 
 -- The item at a place of a list, with what is made of it.
 pub made_at : {A B : Type 0} (f : A → B) (items : List A) (i : ℕ) (other : A) → i < length items

@@ -1,18 +1,10 @@
 -- Two joined ends are quiet where both are, and both pipes are empty.
-use Rattle.std.proofs.Common.{◌≡◌, ℕ, ◌≤◌, ◌<◌, Bool, true, false, List, [], ◌∷◌, length, refl}
-use Rattle.std.proofs.Common.{sym, ap, arith, ◌∙◌}
+use Rattle.h2_joined.proofs.Names.{◌≤◌, ◌<◌, true, [], ◌∷◌, length, refl, sym, ap, arith, ◌∙◌}
+use Rattle.h2_joined.proofs.Names.{both_ways, Values, End, EndLog, IsQuietEnd, EndRepresents}
+use Rattle.h2_joined.proofs.Names.{Joined, Pipe, AreQuiet, JointEnd, Made, HoldsOctets}
+use Rattle.h2_joined.proofs.Names.{JoinedRepresents}
+use Rattle.std.proofs.Common.{◌≡◌, ℕ, Bool, false, List}
 use Rattle.std.specs.Prelude.{◌↔◌}
-use Rattle.std.proofs.lemmas.Bool.{both_ways}
-use Rattle.h2_log.specs.Acts.{Values}
-use Rattle.h2_ends.specs.declared.end.End.{End}
-use Rattle.h2_ends.specs.Ends.{EndLog}
-use Rattle.h2_ends.specs.Quiet.{IsQuietEnd}
-use Rattle.h2_ends.specs.Represents.{EndRepresents}
-use Rattle.h2_joined.specs.declared.joined.Joined.{Joined}
-use Rattle.h2_joined.specs.declared.pipe.Pipe.{Pipe}
-use Rattle.h2_joined.specs.Headline.{AreQuiet}
-use Rattle.h2_joined.specs.Joints.{JointEnd, Made}
-use Rattle.h2_joined.specs.Kept.{HoldsOctets, JoinedRepresents}
 
 -- what `len` of a pipe answers
 abbrev pub CountsPipe : Pipe → ℕ → Type 0

@@ -1,31 +1,21 @@
 -- What a store keeps, once octets, fields or an event are kept after what was kept before.
-use Rattle.std.proofs.Common.{◌≡◌, ℕ, ◌+◌, ◌*◌, ◌-◌, ◌<◌, ◌≤◌, Bool, true, false, List, [], ◌∷◌}
-use Rattle.std.proofs.Common.{◌++◌, length, take, drop, map, reverse, refl, sym, ap, ap₂, ◌∙◌}
-use Rattle.std.proofs.Common.{if◌then◌else◌, arith, subst, append_assoc, append-nil}
-use Rattle.std.proofs.Common.{length-append}
-use Rattle.std.proofs.Math.Seq.{drop-append_seam, take-append_seam, take-length}
-use Rattle.std.proofs.lemmas.List.{map-append, take_all}
+use Rattle.h2_joined.proofs.Names.{◌+◌, ◌-◌, ◌<◌, ◌≤◌, true, [], ◌∷◌, ◌++◌, length, take, drop, map}
+use Rattle.h2_joined.proofs.Names.{refl, sym, ap, ap₂, ◌∙◌, if◌then◌else◌, arith, subst}
+use Rattle.h2_joined.proofs.Names.{append_assoc, append-nil, drop-append_seam, map-append, take_all}
+use Rattle.h2_joined.proofs.Names.{both_ways, AllByRecursion, Field, list_size, Handed, BodyHanded}
+use Rattle.h2_joined.proofs.Names.{Span, FieldPlace, EventPlace, Store, part_of, stored_fields}
+use Rattle.h2_joined.proofs.Names.{events_kept, IsSpan, IsFieldPlace, AreStored, HasRoomForEvent}
+use Rattle.h2_joined.proofs.Names.{KeepsMore, KeepsHanded}
+use Rattle.h2_joined.specs.Stored.{stored_field, event_kept, IsEventPlace, Fits, KeepsItems}
+use Rattle.h2_joined.specs.Stored.{StoresOctets, KeepsField, AreFieldsKept, KeepsList, IsPlaced}
+use Rattle.h2_joined.specs.Stored.{PlacesEvent, most_event_octets}
+use Rattle.std.proofs.Common.{◌≡◌, ℕ, ◌*◌, Bool, false, List, reverse, length-append}
+use Rattle.std.proofs.Math.Seq.{take-append_seam, take-length}
 use Rattle.std.proofs.lemmas.List.Sums.{sum_by-cons}
-use Rattle.std.proofs.lemmas.Bool.{both_ways}
-use Rattle.std.specs.List.{AllByRecursion}
 use Rattle.std.specs.Vec.{vec_len, vec_capacity}
-use Rattle.hpack.specs.declared.types.field.Field.{Field}
-use Rattle.hpack.specs.Lists.{list_size}
-use Rattle.h2_ends.specs.Ends.{Handed, BodyHanded}
-use Rattle.h2_joined.specs.declared.store.Span.{Span}
-use Rattle.h2_joined.specs.declared.store.FieldPlace.{FieldPlace}
-use Rattle.h2_joined.specs.declared.store.EventPlace.{EventPlace}
-use Rattle.h2_joined.specs.declared.store.EventPlace.TheVariants as places
-use Rattle.h2_joined.specs.declared.store.Store.{Store}
-use Rattle.h2_joined.specs.Stored.{part_of, stored_field, stored_fields, event_kept, events_kept}
-use Rattle.h2_joined.specs.Stored.{IsSpan}
-use Rattle.h2_joined.specs.Stored.{IsFieldPlace, IsEventPlace, AreStored, HasRoomForEvent}
-use Rattle.h2_joined.specs.Stored.{KeepsItems}
-use Rattle.h2_joined.specs.Stored.{KeepsMore, StoresOctets, KeepsField, AreFieldsKept}
-use Rattle.h2_joined.specs.Stored.{KeepsList, IsPlaced, PlacesEvent, Fits, most_event_octets}
-use Rattle.h2_joined.specs.Kept.{KeepsHanded}
 use Rattle.h2_joined.proofs.KeptPlaces.{fields_more, events_more, fields_within, events_within}
-use Rattle.h2_pair.proofs.Lists.{all_both as all_joined}
+use Rattle.h2_laws_pair.proofs.Lists.{all_both as all_joined}
+use Rattle.h2_joined.specs.declared.store.EventPlace.TheVariants as places
 
 -- The same items are the same events, wherever they lie.
 same_events : (old new : Store) → KeepsItems old new → events_kept new ≡ events_kept old

@@ -36,3 +36,4 @@ pub mod CodeTakes
 pub mod CodeRounds
 pub mod CodeMoves
 pub mod CodeDelivers
+pub mod Names

@@ -1,25 +1,19 @@
 -- What was sent and handed out at two joined ends keeps the order, whatever acts are made.
-use Rattle.std.proofs.Common.{ℕ, List, Result, Ok, Err, sym, subst}
-use Rattle.h2_log.specs.declared.role.Role.{Role}
-use Rattle.h2_log.specs.Acts.{Values, Act, Open, SendFields, ResetStream, SendPing}
-use Rattle.h2_log.specs.Acts.{SendGoAway, ChangeSettings, PutOut, Number, Done}
-use Rattle.h2_log.specs.Histories.{IsLog}
-use Rattle.h2_end_laws.proofs.OverNumbers.{opened_is_new}
-use Rattle.h2_message.specs.Messages.{SentMessage}
-use Rattle.h2_pair.specs.Tokens.{is_head_alone}
-use Rattle.h2_ends.specs.declared.refusal.EndRefusal.{EndRefusal}
-use Rattle.h2_ends.specs.Ends.{EndLog, EndTook, EndFailed}
+use Rattle.h2_joined.proofs.Names.{Result, Ok, Err, sym, subst, Role, Values, Act, Open, SendFields}
+use Rattle.h2_joined.proofs.Names.{ResetStream, SendPing, SendGoAway, ChangeSettings, PutOut}
+use Rattle.h2_joined.proofs.Names.{Number, Done, IsLog, opened_is_new, SentMessage, is_head_alone}
+use Rattle.h2_joined.proofs.Names.{EndRefusal, EndLog, EndTook, EndFailed, KeepsOrder, no_part_next}
+use Rattle.h2_joined.proofs.Names.{Acted, Doing, JointEnd, Delivery, IsDelivered, MayDo}
+use Rattle.h2_joined.proofs.Names.{IsControlCall}
 use Rattle.h2_ends.specs.EndCalls.{MayRequest, MayRespond}
-use Rattle.h2_ends.proofs.EndOrder.{KeepsOrder, no_part_next, order_by_call, order_by_head}
-use Rattle.h2_ends.proofs.EndOrder.{order_by_take, unsaid_unsent}
+use Rattle.std.proofs.Common.{ℕ, List}
+use Rattle.h2_ends.proofs.EndOrder.{order_by_call, order_by_head, order_by_take, unsaid_unsent}
 use Rattle.h2_ends.proofs.EndTokens.{SendsNoPart}
 use Rattle.h2_ends.proofs.RequestHeads.{open_elsewhere, open_here, fields_elsewhere, fields_here}
-use Rattle.h2_joined.specs.declared.act.Acted.{Acted}
-use Rattle.h2_joined.specs.Joints as joints
-use Rattle.h2_joined.specs.Joints.{Doing, JointEnd, Delivery, IsDelivered, MayDo, IsControlCall}
 use Rattle.h2_joined.proofs.JointChains.{KeptByCalls, holds_by_pump, holds_by_release}
 use Rattle.h2_joined.proofs.JointChains.{holds_by_refused_request, holds_by_refused_response}
 use Rattle.h2_joined.proofs.JointOrder.{unused_unsent}
+use Rattle.h2_joined.specs.Joints as joints
 
 -- A call that sends what waits keeps the order,
 order_called : KeptByCalls KeepsOrder

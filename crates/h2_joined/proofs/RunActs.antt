@@ -1,20 +1,14 @@
 -- A list of acts that is made, act by act.
-use Rattle.std.proofs.Common.{map as each, ◌≡◌, ℕ, ◌+◌, ◌<◌, ◌≤◌, List, []}
-use Rattle.std.proofs.Common.{◌∷◌, ◌++◌, length}
-use Rattle.std.proofs.Common.{take, drop, refl, sym, ap, subst, ◌∙◌, add-one, append-nil}
+use Rattle.h2_joined.proofs.Names.{◌+◌, ◌<◌, ◌≤◌, [], ◌∷◌, ◌++◌, length, take, drop, refl, sym, ap}
+use Rattle.h2_joined.proofs.Names.{subst, ◌∙◌, add-one, append-nil, reverse-append, map-append}
+use Rattle.h2_joined.proofs.Names.{take_all, take-append-drop, Values, Side, Acted, Joined, Doing}
+use Rattle.h2_joined.proofs.Names.{JointEnd, Made, MakesAct, JoinedRepresents, MakesAll}
+use Rattle.std.proofs.Common.{map as each, ◌≡◌, ℕ, List}
 use Rattle.std.proofs.Math.Seq.{take-suc}
-use Rattle.std.specs.Prelude.{reverse}
-use Rattle.std.specs.Prelude.{get_or}
-use Rattle.std.proofs.lemmas.List.{reverse-append, map-append, take_all, take-append-drop}
-use Rattle.h2_log.specs.Acts.{Values}
-use Rattle.h2_joined.specs.declared.act.Side.{Side}
-use Rattle.h2_joined.specs.declared.act.Acted.{Acted}
+use Rattle.std.specs.Prelude.{reverse, get_or}
 use Rattle.h2_joined.specs.declared.act.JointAct.{JointAct}
-use Rattle.h2_joined.specs.declared.joined.Joined.{Joined}
-use Rattle.h2_joined.specs.Joints.{Doing, JointEnd, Made}
-use Rattle.h2_joined.specs.Kept.{MakesAct, JoinedRepresents, made_of}
-use Rattle.h2_joined.specs.Runs.{Runs, GotMemory, joint_act_value, MoreActs}
-use Rattle.h2_joined.specs.Runs.{MakesAll, StopsAtAct}
+use Rattle.h2_joined.specs.Kept.{made_of}
+use Rattle.h2_joined.specs.Runs.{Runs, GotMemory, joint_act_value, MoreActs, StopsAtAct}
 use Rattle.h2_joined.proofs.RunHeadline.{has_headline}
 
 -- None was made yet.

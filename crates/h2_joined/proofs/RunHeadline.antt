@@ -1,20 +1,13 @@
 -- The headline of what is kept of two joined ends.
-use Rattle.std.proofs.Common.{◌≡◌, ℕ, List, ◌++◌, sym, ap, ◌∙◌}
-use Rattle.h2_log.specs.Acts.{Values}
-use Rattle.h2_message.specs.Messages.{SentMessage}
-use Rattle.h2_ends.specs.Ends.{EndLog, message_for}
-use Rattle.h2_ends.specs.MessageTokens.{MessageToken, parts_heard, parts_said, IsPrefixOfParts}
-use Rattle.h2_joined.specs.declared.kept.Kept.{Kept}
-use Rattle.h2_joined.specs.declared.joined.Joined.{Joined}
-use Rattle.h2_joined.specs.Joints.{JointEnd, Made}
-use Rattle.h2_joined.specs.Headline.{AreQuiet}
-use Rattle.h2_joined.specs.Kept.{KeepsHanded, KeepsEnd, JoinedRepresents}
-use Rattle.h2_joined.specs.Runs.{parts_recorded, parts_accepted, AreInOrder, AreWhole}
-use Rattle.h2_joined.specs.Runs.{HasHeadline}
-use Rattle.h2_joined.proofs.RunLaws.{client_no_fault, server_no_fault}
+use Rattle.h2_joined.proofs.Names.{◌++◌, sym, ap, ◌∙◌, Values, SentMessage, EndLog, message_for}
+use Rattle.h2_joined.proofs.Names.{MessageToken, parts_heard, parts_said, IsPrefixOfParts, Kept}
+use Rattle.h2_joined.proofs.Names.{Joined, JointEnd, Made, AreQuiet, KeepsHanded, KeepsEnd}
+use Rattle.h2_joined.proofs.Names.{JoinedRepresents}
+use Rattle.std.proofs.Common.{◌≡◌, ℕ, List}
+use Rattle.h2_joined.specs.Runs.{parts_recorded, parts_accepted, AreInOrder, AreWhole, HasHeadline}
+use Rattle.h2_joined.proofs.RunLaws.{client_no_fault, server_no_fault, keep_throughout}
 use Rattle.h2_joined.proofs.RunParts.{parts_begin_at_server, parts_begin_at_client}
 use Rattle.h2_joined.proofs.RunParts.{parts_whole_at_server, parts_whole_at_client}
-use Rattle.h2_joined.proofs.RunLaws.{keep_throughout}
 
 -- What is kept is what was handed out.
 handed_same : (kept : Kept) (end : EndLog) (i : ℕ) → KeepsHanded kept.handed end.handed

@@ -1,25 +1,23 @@
 -- The laws of two joined ends.
-use Rattle.std.proofs.Common.{◌≡◌, ℕ, List, [], ◌∷◌, ◌++◌, subst}
-use Rattle.h2_log.specs.declared.role.Role.TheVariants.{Client, Server}
-use Rattle.h2_log.specs.Acts.{Values}
-use Rattle.h2_end_laws.specs.WithinWindows.{KeepsWindows}
-use Rattle.h2_end_laws.proofs.WithinWindows.{keeps_windows}
-use Rattle.h2_pair.specs.Tokens.{IsPrefixOfTokens}
+use Rattle.h2_joined.proofs.Names.{[], ◌∷◌, ◌++◌, subst, Values, IsPrefixOfTokens, ends_to_server}
+use Rattle.h2_joined.proofs.Names.{ends_to_client, both_logs, tokens_handed, tokens_said, JointEnd}
+use Rattle.h2_joined.proofs.Names.{Made, IsJoint, continues, MemorySufficed, half_of, AreQuiet}
+use Rattle.h2_joined.proofs.Names.{WasResetIn, ReportsNoFault}
+use Rattle.std.proofs.Common.{◌≡◌, ℕ, List}
+use Rattle.h2_spec_log.specs.declared.role.Role.TheVariants.{Client, Server}
+use Rattle.h2_laws_end.specs.WithinWindows.{KeepsWindows}
+use Rattle.h2_laws_end.proofs.WithinWindows.{keeps_windows}
 use Rattle.h2_joined.proofs.Unparsed.{none_unparsed}
-use Rattle.h2_pair.proofs.BothWays.{to_server, to_client, ends_to_server, ends_to_client}
-use Rattle.h2_pair.proofs.CarriedOctets.{carried}
-use Rattle.h2_pair.proofs.PairLogs.{both_logs}
-use Rattle.h2_ends.specs.Ends.{tokens_handed, tokens_said}
-use Rattle.h2_joined.specs.declared.act.Side.TheVariants as sides
-use Rattle.h2_joined.specs.Joints.{JointEnd, Made, IsJoint, begins, continues, MemorySufficed}
-use Rattle.h2_joined.specs.Joints.{half_of}
+use Rattle.h2_laws_pair.proofs.BothWays.{to_server, to_client}
+use Rattle.h2_laws_pair.proofs.CarriedOctets.{carried}
+use Rattle.h2_joined.specs.Joints.{begins}
 use Rattle.h2_joined.specs.Runs.{KeepWindowsThroughout, ActsLeadTo, leads_nowhere, leads_on}
-use Rattle.h2_joined.specs.Headline.{AreQuiet, WasResetIn, ReportsNoFault}
 use Rattle.h2_joined.proofs.JointActs.{joint_holds}
-use Rattle.h2_joined.proofs.JointLaws.{client_faultless, server_faultless}
-use Rattle.h2_joined.proofs.JointLaws.{server_has_all, client_has_all}
+use Rattle.h2_joined.proofs.JointLaws.{client_faultless, server_faultless, server_has_all}
+use Rattle.h2_joined.proofs.JointLaws.{client_has_all}
 use Rattle.h2_joined.proofs.JointMemory.{had_memory}
 use Rattle.h2_joined.proofs.JointOrder.{server_hands, client_hands}
+use Rattle.h2_joined.specs.declared.act.Side.TheVariants as sides
 
 pub prefix_at_server : (client_values server_values : Values) (made : List Made)
     (client server : JointEnd) (i : ℕ) → IsJoint client_values server_values made client server

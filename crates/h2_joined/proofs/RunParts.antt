@@ -1,18 +1,15 @@
 -- What an end has handed out on a stream is a prefix of what the other has accepted for it, and all
 -- of it where both are quiet: part by part, where the head, interim heads and trailers are told
 -- apart.
-use Rattle.std.proofs.Common.{◌≡◌, ℕ, List, refl, ◌∙◌}
-use Rattle.h2_log.specs.declared.role.Role.TheVariants as roles
-use Rattle.h2_log.specs.Acts.{Values}
-use Rattle.h2_log.specs.Settings.{is_server}
-use Rattle.h2_ends.specs.Ends.{message_for, parts_on}
-use Rattle.h2_ends.specs.MessageTokens.{parts_heard, parts_said, IsPrefixOfParts}
+use Rattle.h2_joined.proofs.Names.{refl, ◌∙◌, Values, is_server, message_for, parts_on, parts_heard}
+use Rattle.h2_joined.proofs.Names.{parts_said, IsPrefixOfParts, JointEnd, Made, IsJoint, AreQuiet}
+use Rattle.h2_joined.proofs.Names.{WasResetIn}
+use Rattle.std.proofs.Common.{◌≡◌, ℕ, List}
 use Rattle.h2_ends.proofs.MessageTokensSaid.{parts_prefix, parts_whole}
-use Rattle.h2_joined.specs.Joints.{JointEnd, Made, IsJoint}
-use Rattle.h2_joined.specs.Headline.{AreQuiet, WasResetIn}
 use Rattle.h2_joined.proofs.JointPlaces.{joint_places}
 use Rattle.h2_joined.proofs.RunLaws.{prefix_at_server, prefix_at_client, whole_at_server}
 use Rattle.h2_joined.proofs.RunLaws.{whole_at_client}
+use Rattle.h2_spec_log.specs.declared.role.Role.TheVariants as roles
 
 -- What a server has handed out begins what the client has accepted,
 pub parts_begin_at_server : (client_values server_values : Values) (made : List Made)

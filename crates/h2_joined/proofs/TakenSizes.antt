@@ -1,57 +1,44 @@
 -- What a call of `take` hands out has at most 65,536 octets: a list whose size is above that is
 -- reset, and a body above the connection's window, which is at most 65,535 octets, is a fault. This
 -- is a law of logs; it stands here until a crate below has it.
-use Rattle.std.proofs.Common.{◌≡◌, ℕ, suc, ◌+◌, ◌≤◌, nat_lt, Bool, true, false, List, [], ◌∷◌}
-use Rattle.std.proofs.Common.{◌++◌, length, Option, Some, None, refl, sym, ap, ◌∙◌, subst, arith}
-use Rattle.std.specs.List.{AllByRecursion}
+use Rattle.h2_joined.proofs.Names.{suc, ◌+◌, ◌≤◌, true, [], ◌∷◌, ◌++◌, length, Option, refl, sym}
+use Rattle.h2_joined.proofs.Names.{ap, ◌∙◌, subst, arith, AllByRecursion, Field, list_size, Code}
+use Rattle.h2_joined.proofs.Names.{Item, alone, block, Role, Values, Event, FieldsEvent, DataEvent}
+use Rattle.h2_joined.proofs.Names.{ResetEvent, UnprocessedEvent, Log, next_unprocessed, log_view}
+use Rattle.h2_joined.proofs.Names.{View, with_sent, IsLog, Part, FieldsPart, OctetsPart, Place}
+use Rattle.h2_joined.proofs.Names.{Reads, MayTake, Took, End, EndLog, Handed, Passed, EndAnswer}
+use Rattle.h2_joined.proofs.Names.{EndTook, reads_on, parts_on, EndMayTake, hands_nothing}
+use Rattle.h2_joined.proofs.Names.{hands_out, refusal_fails, runs_out_of_memory, EndRepresents}
+use Rattle.h2_ends.specs.Ends.{part_of_event, handed_at, handed_as}
+use Rattle.h2_joined.specs.Stored.{Fits}
+use Rattle.std.proofs.Common.{◌≡◌, ℕ, nat_lt, Bool, false, List, Some, None}
 use Rattle.std.proofs.lemmas.Bool.{ltb-false}
 use Rattle.std.proofs.lemmas.Bool.Decides.{nat_tests}
-use Rattle.hpack.specs.declared.types.field.Field.{Field}
-use Rattle.hpack.specs.Lists.{list_size}
-use Rattle.h2_frame.specs.declared.code.Code.{Code}
 use Rattle.h2_frame.specs.Encoding.{payload_of}
 use Rattle.h2_frame.specs.Frames.{Frame, Data, Headers, Priority, Reset, Settings, Ping, GoAway}
 use Rattle.h2_frame.specs.Frames.{WindowUpdate, Continuation, Unknown}
 use Rattle.h2_frame.proofs.PaddingLemmas.{length-padded_body}
-use Rattle.h2_block.specs.Grouping.{Item, alone, block}
-use Rattle.h2_log.specs.declared.role.Role.{Role}
-use Rattle.h2_log.specs.Acts.{Values}
-use Rattle.h2_log.specs.Events.{Event, FieldsEvent, DataEvent, ResetEvent, UnprocessedEvent}
-use Rattle.h2_log.specs.Items.{total, data_of}
-use Rattle.h2_log.specs.Limits.{max_list}
-use Rattle.h2_log.specs.Log.{Log, next_unprocessed, state}
-use Rattle.h2_log.specs.LogView.{log_view}
-use Rattle.h2_log.specs.View.{View}
-use Rattle.h2_log.specs.States.{State, Idle, Active, ClosedByUs, Closed}
-use Rattle.h2_log.specs.Windows.{granted_on_connection, passes}
-use Rattle.h2_log.specs.Verdicts.{Verdict, ConnectionFault, StreamFault, NoEvent, Reported}
-use Rattle.h2_log.specs.Verdicts.{block_verdict, data_verdict, opening_verdict}
-use Rattle.h2_log.specs.ItemRules.{Decoded, FrameStep, fails_with, begins_block, completes}
-use Rattle.h2_log.specs.ItemRules.{frame_step, verdict_by_rules, verdict_of}
-use Rattle.h2_log.specs.ItemEffects.{events_of, decoded_fields}
-use Rattle.h2_log.specs.LogSteps.{used, read, with_sent, with_reported}
-use Rattle.h2_log.specs.LogSteps.{with_unreturned, with_failure, with_verdict, with_step}
-use Rattle.h2_log.specs.LogSteps.{with_frame, took_frame}
-use Rattle.h2_log.specs.Histories.{IsLog}
-use Rattle.h2_log_laws.proofs.InvariantLogs.{log_represents}
-use Rattle.h2_log_laws.proofs.LogViewLemmas.{data_by_sums}
-use Rattle.h2_message.specs.Reading.{Part, FieldsPart, OctetsPart}
-use Rattle.h2_message.specs.declared.reading.Place.{Place}
+use Rattle.h2_spec_log.specs.Items.{total, data_of}
+use Rattle.h2_spec_log.specs.Limits.{max_list}
+use Rattle.h2_spec_log.specs.Log.{state}
+use Rattle.h2_spec_log.specs.States.{State, Idle, Active, ClosedByUs, Closed}
+use Rattle.h2_spec_log.specs.Windows.{granted_on_connection, passes}
+use Rattle.h2_spec_log.specs.Verdicts.{Verdict, ConnectionFault, StreamFault, NoEvent, Reported}
+use Rattle.h2_spec_log.specs.Verdicts.{block_verdict, data_verdict, opening_verdict}
+use Rattle.h2_spec_log.specs.ItemRules.{Decoded, FrameStep, fails_with, begins_block, completes}
+use Rattle.h2_spec_log.specs.ItemRules.{frame_step, verdict_by_rules, verdict_of}
+use Rattle.h2_spec_log.specs.ItemEffects.{events_of, decoded_fields}
+use Rattle.h2_spec_log.specs.LogSteps.{used, read, with_reported, with_unreturned, with_failure}
+use Rattle.h2_spec_log.specs.LogSteps.{with_verdict, with_step, with_frame, took_frame}
+use Rattle.h2_laws_log.proofs.InvariantLogs.{log_represents}
+use Rattle.h2_laws_log.proofs.LogViewLemmas.{data_by_sums}
+use Rattle.h2_laws_end.specs.Takes.{TakeAnswer, AnswersFrame, has_failed, reports_unprocessed}
+use Rattle.h2_laws_end.specs.Takes.{ends_no_frame, ends_frame, meets_fault}
+use Rattle.h2_laws_end.proofs.ReadVerdicts.{Says, says_of}
+use Rattle.h2_laws_end.proofs.TakeAnswers.{reported_is, sent_reported, unreturned_reported}
+use Rattle.h2_ends.specs.EndTakes.{fails, passes as hands_on, refuses}
 use Rattle.h2_message.specs.declared.reading.Place.TheVariants as places
-use Rattle.h2_message.specs.declared.reading.Reads.{Reads}
-use Rattle.h2_end_laws.specs.Takes.{MayTake, TakeAnswer, Took, AnswersFrame, has_failed}
-use Rattle.h2_end_laws.specs.Takes.{reports_unprocessed, ends_no_frame, ends_frame, meets_fault}
-use Rattle.h2_end_laws.specs.Takes as takes
-use Rattle.h2_end_laws.proofs.ReadVerdicts.{Says, says_of}
-use Rattle.h2_end_laws.proofs.TakeAnswers.{reported_is, sent_reported, unreturned_reported}
-use Rattle.h2_ends.specs.declared.end.End.{End}
-use Rattle.h2_ends.specs.Ends.{EndLog, Handed, Passed, EndAnswer, EndTook}
-use Rattle.h2_ends.specs.Ends.{part_of_event, handed_at, handed_as, reads_on, parts_on}
-use Rattle.h2_ends.specs.EndTakes.{EndMayTake, fails, hands_nothing}
-use Rattle.h2_ends.specs.EndTakes.{passes as hands_on}
-use Rattle.h2_ends.specs.EndTakes.{hands_out, refuses, refusal_fails, runs_out_of_memory}
-use Rattle.h2_ends.specs.Represents.{EndRepresents}
-use Rattle.h2_joined.specs.Stored.{Fits}
+use Rattle.h2_laws_end.specs.Takes as takes
 
 -- The size of a list, and a body, have at most 65,536 octets, in an event
 abbrev FitsEvent : Event → Type 0

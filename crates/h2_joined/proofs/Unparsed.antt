@@ -1,18 +1,16 @@
 -- Where all that an end has written was given out and delivered, the other one, while it is up,
 -- holds no octets of a frame that isn't complete.
-use Rattle.std.proofs.Common.{◌≡◌, ℕ, not, List, [], ◌++◌, length, take, None, sym, ◌∙◌, arith}
-use Rattle.std.proofs.Common.{append-nil, subst}
-use Rattle.std.proofs.lemmas.List.{take_all}
+use Rattle.h2_joined.proofs.Names.{[], ◌++◌, length, take, sym, ◌∙◌, arith, append-nil, subst}
+use Rattle.h2_joined.proofs.Names.{take_all, is_server, Half}
+use Rattle.std.proofs.Common.{◌≡◌, ℕ, not, List, None}
 use Rattle.h2_wire.specs.Streams.{Frames}
 use Rattle.h2_wire.proofs.FaultLemmas.{one_reading_lem}
-use Rattle.h2_log.specs.Settings.{is_server}
-use Rattle.h2_log_laws.specs.Sending.{frames_by}
-use Rattle.h2_end_laws.proofs.OutputPrefixes.{output_read}
-use Rattle.h2_pair.specs.Pairs.{Half}
-use Rattle.h2_pair.specs.Directions.{CarriesOctets}
-use Rattle.h2_pair.proofs.BothWays.{AreEnds}
-use Rattle.h2_pair.proofs.WiderLimits.{wider_limits}
-use Rattle.h2_pair.proofs.ItemsRead.{frames_received}
+use Rattle.h2_laws_log.specs.Sending.{frames_by}
+use Rattle.h2_laws_end.proofs.OutputPrefixes.{output_read}
+use Rattle.h2_laws_pair.specs.Directions.{CarriesOctets}
+use Rattle.h2_laws_pair.proofs.BothWays.{AreEnds}
+use Rattle.h2_laws_pair.proofs.WiderLimits.{wider_limits}
+use Rattle.h2_laws_pair.proofs.ItemsRead.{frames_received}
 
 -- All that was written came in.
 came_in : (writer reader : Half) → CarriesOctets writer reader → reader.log.failed ≡ None

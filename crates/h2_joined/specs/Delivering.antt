@@ -1,7 +1,7 @@
 -- A delivery under way: what a call of `take` made of an end, and what is kept of it.
 use Rattle.std.specs.Prelude.{◌≡◌, ◌≢◌, ◌≤◌, ℕ, Bool, List, length, drop, ◌<◌, ◌⊎◌, true, false}
 use Rattle.std.specs.Prelude.{Option, None}
-use Rattle.h2_log.specs.Acts.{Values}
+use Rattle.h2_spec_log.specs.Acts.{Values}
 use Rattle.h2_ends.specs.declared.end.End.{End}
 use Rattle.h2_ends.specs.Ends.{EndLog, Handed, EndAnswer, EndTook, EndFailed}
 use Rattle.h2_ends.specs.EndTakes.{EndMayTake}

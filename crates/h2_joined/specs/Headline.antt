@@ -2,8 +2,8 @@
 -- has handed out (RFC 9113, sections 5.1, 5.4 and 6.8).
 use Rattle.std.specs.Prelude.{◌≡◌, ◌⊎◌, ℕ, true, false, List, [], None}
 use Rattle.std.specs.List.{Contains}
-use Rattle.h2_log.specs.Acts.{ResetStream}
-use Rattle.h2_log.specs.Events.{ResetEvent, UnprocessedEvent}
+use Rattle.h2_spec_log.specs.Acts.{ResetStream}
+use Rattle.h2_spec_log.specs.Events.{ResetEvent, UnprocessedEvent}
 use Rattle.h2_ends.specs.Ends.{EndLog, Passed}
 use Rattle.h2_ends.specs.Quiet.{IsQuietEnd}
 use Rattle.h2_joined.specs.declared.act.Side.{Side}

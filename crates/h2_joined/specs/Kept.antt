@@ -1,8 +1,8 @@
 -- What is kept of the two ends, and what it represents.
 use Rattle.std.specs.Prelude.{map as each, ◌≡◌, ◌≤◌, ℕ, List, ◌∷◌, ◌++◌, length, reverse}
-use Rattle.h2_config.specs.ConfigValues.{values_of}
-use Rattle.h2_log.specs.Acts as log
-use Rattle.h2_log.specs.Acts.{Values}
+use Rattle.h2_flow.specs.ConfigValues.{values_of}
+use Rattle.h2_spec_log.specs.Acts as log
+use Rattle.h2_spec_log.specs.Acts.{Values}
 use Rattle.h2_message.specs.Messages.{SentMessage}
 use Rattle.h2_message.specs.Values.{message_value}
 use Rattle.h2_ends.specs.declared.end.End.{End}

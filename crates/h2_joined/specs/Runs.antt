@@ -1,9 +1,9 @@
 -- The headline: what holds of two joined ends after any list of acts.
 use Rattle.std.specs.Prelude.{map as each, ◌≡◌, ◌≢◌, ℕ, List, [], ◌∷◌, ◌++◌, reverse}
 use Rattle.std.specs.List.{AllByRecursion}
-use Rattle.h2_log.specs.declared.refusal.Refusal.TheVariants.{Memory}
-use Rattle.h2_log.specs.Acts.{Values}
-use Rattle.h2_end_laws.specs.WithinWindows.{KeepsWindows}
+use Rattle.h2_spec_log.specs.declared.refusal.Refusal.TheVariants.{Memory}
+use Rattle.h2_spec_log.specs.Acts.{Values}
+use Rattle.h2_laws_end.specs.WithinWindows.{KeepsWindows}
 use Rattle.h2_ends.specs.declared.refusal.EndRefusal.TheVariants.{Conn}
 use Rattle.h2_ends.specs.Ends.{message_for}
 use Rattle.h2_ends.specs.MessageTokens.{MessageToken, parts_heard, parts_said, IsPrefixOfParts}

@@ -5,7 +5,7 @@ use Rattle.std.specs.List.{AllByRecursion}
 use Rattle.std.specs.Vec.{vec_len, vec_capacity}
 use Rattle.hpack.specs.declared.types.field.Field.{Field}
 use Rattle.hpack.specs.Lists.{list_size}
-use Rattle.h2_log.specs.Events as events
+use Rattle.h2_spec_log.specs.Events as events
 use Rattle.h2_ends.specs.Ends.{Handed, InterimHanded, HeadHanded, BodyHanded, TrailersHanded}
 use Rattle.h2_ends.specs.Ends.{Passed}
 use Rattle.h2_joined.specs.declared.store.Span.{Span}

@@ -1,8 +1,8 @@
 //! Acts that are calls of an end.
 
 ghost use Rattle.std.specs.Prelude.{◌≡◌};
-ghost use Rattle.h2_config.specs.ConfigValues.{values_of};
-ghost use Rattle.h2_log.specs.Acts.{ResetStream, SendPing, SendGoAway, ChangeSettings, Done};
+ghost use Rattle.h2_flow.specs.ConfigValues.{values_of};
+ghost use Rattle.h2_spec_log.specs.Acts.{ResetStream, SendPing, SendGoAway, ChangeSettings, Done};
 ghost use Rattle.h2_conn.specs.Conn.{answer_by};
 ghost use Rattle.h2_message.specs.Values.{message_value};
 ghost use Rattle.h2_joined.specs.declared.act.Side.TheVariants.{Client, Server};

@@ -1,9 +1,9 @@
 //! Two joined ends.
 
 ghost use Rattle.std.specs.Prelude.{◌≡◌, ◌↔◌, ℕ, List, [], true, length, IfOk};
-ghost use Rattle.h2_config.specs.ConfigValues.{values_of};
-ghost use Rattle.h2_log.specs.Acts.{Values};
-ghost use Rattle.h2_log.specs.declared.role.Role.TheVariants as roles;
+ghost use Rattle.h2_flow.specs.ConfigValues.{values_of};
+ghost use Rattle.h2_spec_log.specs.Acts.{Values};
+ghost use Rattle.h2_spec_log.specs.declared.role.Role.TheVariants as roles;
 ghost use Rattle.h2_joined.specs.Headline.{AreQuiet};
 ghost use Rattle.h2_joined.specs.Joints.{JointEnd, Made, new_joint_end};
 ghost use Rattle.h2_joined.specs.Kept.{MakesAct, HoldsOctets, JoinedRepresents, kept_of, made_of};

@@ -3,12 +3,12 @@
 
 ghost use Rattle.std.specs.Prelude.{◌≡◌, ℕ, List, [], None};
 ghost use Rattle.h2_block.specs.Grouping.{Item};
-ghost use Rattle.h2_log.specs.Acts.{Values};
-ghost use Rattle.h2_pair.specs.Pairs.{IsPair};
-ghost use Rattle.h2_pair.specs.Directions.{AreUnderWay, BoundsStreams, ConservesConnection};
-ghost use Rattle.h2_pair.specs.Directions.{ConservesStream, IsCarried};
-ghost use Rattle.h2_pair.specs.HeaderTables.{HeaderTablesInStep};
-ghost use Rattle.h2_pair.specs.Undisturbed.{IsUndisturbed};
+ghost use Rattle.h2_spec_log.specs.Acts.{Values};
+ghost use Rattle.h2_laws_pair.specs.Pairs.{IsPair};
+ghost use Rattle.h2_laws_pair.specs.Directions.{AreUnderWay, BoundsStreams, ConservesConnection};
+ghost use Rattle.h2_laws_pair.specs.Directions.{ConservesStream, IsCarried};
+ghost use Rattle.h2_laws_pair.specs.HeaderTables.{HeaderTablesInStep};
+ghost use Rattle.h2_laws_pair.specs.Undisturbed.{IsUndisturbed};
 ghost use Rattle.h2_ends.specs.Ends.{message_for};
 ghost use Rattle.h2_ends.specs.MessageTokens.{parts_heard, parts_said, IsPrefixOfParts};
 ghost use Rattle.h2_joined.specs.declared.act.Side.TheVariants.{Client, Server};

@@ -1,7 +1,7 @@
 //! Octets that are moved and delivered.
 
 ghost use Rattle.std.specs.Prelude.{◌≡◌, length};
-ghost use Rattle.h2_log.specs.Acts as log;
+ghost use Rattle.h2_spec_log.specs.Acts as log;
 ghost use Rattle.h2_conn.specs.Conn.{answer_by};
 ghost use Rattle.h2_joined.specs.Joints.{Moves, Delivers, acted_as};
 ghost use Rattle.h2_joined.specs.Kept.{MakesAct, made};

@@ -1,8 +1,8 @@
 //! Lists of acts.
 
 ghost use Rattle.std.specs.Prelude.{◌≡◌, ◌↔◌, false, List, IfOk, OnOk, OnErr};
-ghost use Rattle.h2_config.specs.ConfigValues.{values_of};
-ghost use Rattle.h2_log.specs.Acts.{Values};
+ghost use Rattle.h2_flow.specs.ConfigValues.{values_of};
+ghost use Rattle.h2_spec_log.specs.Acts.{Values};
 ghost use Rattle.h2_joined.specs.declared.joined.Joined as types;
 ghost use Rattle.h2_joined.specs.Joints.{JointEnd, Made};
 ghost use Rattle.h2_joined.specs.Kept.{JoinedRepresents};
@@ -17,7 +17,7 @@ use std::alloc::{AllocError, Global};
 /// The headline of this library. What each of two joined ends has handed out on every stream is a
 /// prefix of what the other has accepted for it, whatever acts were made. Where memory was not
 /// refused to a connection, neither end reports a fault. After whichever act, no DATA of either has
-/// passed its windows, as `h2_end_laws::no_data_passes_windows` says of one end. Once both are
+/// passed its windows, as `h2_laws_end::no_data_passes_windows` says of one end. Once both are
 /// quiet, all that was accepted was handed out, on every stream that was not reset.
 ///
 /// For any other peer, [`Conn::take`](h2_ends::Conn::take),

@@ -10,7 +10,7 @@ pub enum LinkError {
     #[error("N1 Device")]
     Device,
     /// N2: the connection has failed with this code (RFC 9113, section 7); or no stream can be
-    /// reset any more, since 1,000 were: then it is 11.
+    /// reset any more, since 1,000 were: then it is ENHANCE_YOUR_CALM.
     #[error("N2 Stream {0}")]
     Stream(u32),
     /// N3: out of memory.
@@ -22,8 +22,8 @@ pub enum LinkError {
     /// N5: a write took nothing, or 2^64 - 1 rounds have passed.
     #[error("N5 NoProgress")]
     NoProgress,
-    /// N6: the stream of the request was reset with this code (section 6.4); 7 also where the
-    /// server has not processed it (section 6.8).
+    /// N6: the stream of the request was reset with this code (section 6.4); REFUSED_STREAM also
+    /// where the server has not processed it (section 6.8).
     #[error("N6 Reset {0}")]
     Reset(u32),
     /// N7: the request breaks a rule, or its fields are too many (E1, C10).

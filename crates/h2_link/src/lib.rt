@@ -2,11 +2,13 @@
 #![tactic(auto)]
 
 mod error;
+mod interrupted;
 mod link;
 mod memory;
 mod writing;
 
 pub use error::LinkError;
+pub use interrupted::{read_some, write_some};
 pub use link::{Link, LinkFault};
 pub use memory::MemoryLink;
 pub use writing::write_all;

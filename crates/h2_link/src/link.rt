@@ -8,7 +8,7 @@ ghost use Rattle.h2_link.specs.Links.{Takes};
 use thiserror::Error;
 
 /// A call of a link has failed. Nothing more is known of it.
-#[derive(Clone, Copy, Debug, PartialEq, Eq, Error)]
+#[derive(Clone, Copy, Debug, PartialEq, Eq, Hash, Error)]
 #[error("a read or a write has failed")]
 pub struct LinkFault;
 

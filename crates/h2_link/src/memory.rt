@@ -7,7 +7,7 @@ use std::alloc::Global;
 
 /// A link in memory, for tests: it gives the octets of an input, keeps what it takes, and reads and
 /// writes so many octets a call at most. One of its calls may fail.
-#[derive(Drop)]
+#[derive(Debug, Drop)]
 pub struct MemoryLink {
     input: Vec<u8>,
     used: usize,

@@ -1,11 +1,11 @@
 -- The encodings of the frames that are written here without `write_ref`, or without a check.
-use Rattle.std.proofs.Common.{◌≡◌, ℕ, ◌<◌, ◌^◌, Bool, true, false, List, [], ◌∷◌, ◌++◌, length}
-use Rattle.std.proofs.Common.{None, refl, nat_lt, arith}
+use Rattle.std.proofs.Common.{◌≡◌, ℕ, ◌<◌, ◌^◌, Bool, true, false, List, [], ◌++◌, length, None}
+use Rattle.std.proofs.Common.{refl, nat_lt, arith}
 use Rattle.std.proofs.lemmas.Bool.Decides.{nat_tests}
 use Rattle.std.specs.Int.{from_bool}
-use Rattle.byteorder.specs.Endian.{big_bytes}
+use Rattle.h2_frame.specs.declared.kind.Kind.TheVariants as kinds
 use Rattle.h2_frame.specs.Frames.{Data, GoAway}
-use Rattle.h2_frame.specs.Heads.{fits_stream}
+use Rattle.h2_frame.specs.Heads.{head_octets, fits_stream}
 use Rattle.h2_frame.specs.Encoding.{encoding_of, kind_of_frame, flags_of, stream_of, payload_of}
 use Rattle.h2_frame.specs.Encoding.{has_good_values, refusal}
 
@@ -22,7 +22,7 @@ goaway-written last code number =
 
 -- DATA without padding is its head, and then its octets.
 pub data-head : (stream count : ℕ) (end : Bool) (octets : List ℕ) → length octets ≡ count
-    → (big_bytes 3 count ++ (0 ∷ from_bool end ∷ big_bytes 4 stream)) ++ octets
+    → head_octets kinds.Data (from_bool end) stream count ++ octets
     ≡ encoding_of (Data stream end octets None)
 unfolding encoding_of kind_of_frame flags_of stream_of payload_of
 data-head stream count true octets same = rw (← same) refl

@@ -4,22 +4,21 @@ ghost use Rattle.std.specs.Prelude.{◌≡◌, ◌^◌, ◌<◌, ◌++◌, ℕ, 
 ghost use Rattle.h2_frame.specs.Frames.{Data};
 ghost use Rattle.h2_frame.specs.Encoding.{encoding_of};
 
-use byteorder::{BigEndian, ByteOrder};
-
-/// The octets of a head.
-pub(crate) const HEAD: usize = 9;
+use h2_frame::{HEAD_LEN, Head, Kind};
 
 // rule: calls (own) Frames join the output that waits, in order
 /// The head of DATA without padding, of so many octets (RFC 9113, sections 4.1 and 6.1): followed
 /// by them, it is the frame.
-pub(crate) fn data_head(stream: u32, length: u32, end: bool) -> [u8; HEAD]
+pub(crate) fn data_head(stream: u32, length: u32, end: bool) -> [u8; HEAD_LEN]
     requires { length < 2 ^ 24 }
     ensures { (octets : List ℕ) → count_of octets ≡ length
         → result ++ octets ≡ encoding_of (Data stream end octets None) }
 {
-    let mut head = [0; HEAD];
-    BigEndian::write_u24(&mut head, length);
-    head[4] = u8::from(end);
-    BigEndian::write_u32(&mut head[5..], stream);
-    head
+    let head = Head {
+        length,
+        kind: Kind::Data,
+        flags: u8::from(end),
+        stream,
+    };
+    head.octets()
 }

@@ -2,10 +2,10 @@
 use Rattle.std.proofs.Common.{◌≡◌, ℕ, ◌-◌, List, [], ◌++◌, length, take, drop, Option, Some}
 use Rattle.std.proofs.Common.{None, refl, sym, ap, subst, ◌∙◌, append_assoc, append-nil}
 use Rattle.h2_frame.specs.declared.code.Code.{Code}
-use Rattle.h2_log.specs.Acts.{Values}
-use Rattle.h2_log.specs.Acts as logs
-use Rattle.h2_log.specs.Log.{Log}
-use Rattle.h2_end_laws.specs.Replays.{TakesAll, is_done, goes_on, has_fault}
+use Rattle.h2_spec_log.specs.Acts.{Values}
+use Rattle.h2_spec_log.specs.Acts as logs
+use Rattle.h2_spec_log.specs.Log.{Log}
+use Rattle.h2_laws_end.specs.Replays.{TakesAll, is_done, goes_on, has_fault}
 use Rattle.h2_conn.specs.declared.conn.Conn.{Conn}
 use Rattle.h2_conn.specs.Conn.{ConnRepresents}
 use Rattle.h2_replay.specs.declared.taking.Next.{Next}

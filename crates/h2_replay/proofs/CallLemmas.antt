@@ -2,12 +2,12 @@
 use Rattle.std.proofs.Common.{◌≡◌, ℕ, ◌+◌, List, [], ◌++◌, take, drop, Result, Ok}
 use Rattle.std.proofs.Common.{Err, IfOk, OnErr, refl, sym, ap, subst, ◌∙◌}
 use Rattle.std.proofs.lemmas.List.{drop-take}
-use Rattle.h2_log.specs.declared.refusal.Refusal.{Refusal}
-use Rattle.h2_log.specs.Acts.{Act, Answer}
-use Rattle.h2_log.specs.Acts.{PutOut, Count}
-use Rattle.h2_log.specs.Acts.{Refused, shown, IsTypedAct}
-use Rattle.h2_log.specs.Log.{Log}
-use Rattle.h2_log.specs.LogCalls.{with_call}
+use Rattle.h2_spec_log.specs.declared.refusal.Refusal.{Refusal}
+use Rattle.h2_spec_log.specs.Acts.{Act, Answer}
+use Rattle.h2_spec_log.specs.Acts.{PutOut, Count}
+use Rattle.h2_spec_log.specs.Acts.{Refused, shown, IsTypedAct}
+use Rattle.h2_spec_log.specs.Log.{Log}
+use Rattle.h2_spec_log.specs.LogCalls.{with_call}
 use Rattle.h2_conn.specs.declared.conn.Conn.{Conn}
 use Rattle.h2_conn.specs.Conn.{ConnAnswers, ConnShows, GivesOut, answer_by}
 use Rattle.h2_replay.specs.declared.acts.Act as code

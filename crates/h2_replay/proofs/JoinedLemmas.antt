@@ -2,13 +2,13 @@
 use Rattle.std.proofs.Common.{◌≡◌, ℕ, List, [], ◌∷◌, ◌++◌, reverse, Some, None}
 use Rattle.std.proofs.Common.{refl, sym, ap, ◌∙◌, append_assoc, append-nil}
 use Rattle.std.proofs.lemmas.List.{reverse-append}
-use Rattle.h2_log.specs.declared.role.Role.{Role}
-use Rattle.h2_log.specs.Events.{Event}
-use Rattle.h2_log.specs.Acts.{Values, Turn, In, Out, Happened, Called, Answered}
-use Rattle.h2_log.specs.Acts.{TakeCalled, TakeAnswered}
-use Rattle.h2_log.specs.Log.{Log}
-use Rattle.h2_log_laws.specs.Turns.{octets_in, octets_out, events_in}
-use Rattle.h2_end_laws.specs.Replays.{ReplayAct, Take, Make, IsReplay, starts, takes, calls}
+use Rattle.h2_spec_log.specs.declared.role.Role.{Role}
+use Rattle.h2_spec_log.specs.Events.{Event}
+use Rattle.h2_spec_log.specs.Acts.{Values, Turn, In, Out, Happened, Called, Answered}
+use Rattle.h2_spec_log.specs.Acts.{TakeCalled, TakeAnswered}
+use Rattle.h2_spec_log.specs.Log.{Log}
+use Rattle.h2_laws_log.specs.Turns.{octets_in, octets_out, events_in}
+use Rattle.h2_laws_end.specs.Replays.{ReplayAct, Take, Make, IsReplay, starts, takes, calls}
 use Rattle.h2_replay.specs.declared.turns.Turn as code
 use Rattle.h2_replay.specs.Values.{turn_value}
 use Rattle.h2_replay.specs.Replay.{each_octet, by_octets, all_by_octets, kept_by_octets}

@@ -3,16 +3,16 @@ use Rattle.std.proofs.Common.{◌≡◌, ℕ, ◌+◌, ◌≤◌, List, [], ◌�
 use Rattle.std.proofs.Common.{refl, sym, ap, subst, ◌∙◌, append_assoc, append-nil}
 use Rattle.std.proofs.lemmas.List.{drop-take, drop-drop, take-append-drop}
 use Rattle.h2_frame.specs.declared.code.Code.{Code}
-use Rattle.h2_log.specs.declared.role.Role.{Role}
-use Rattle.h2_log.specs.Acts.{Values, AreInRange, Turn, Out, Called, Answered, TakeCalled, shown}
-use Rattle.h2_log.specs.Acts.{TakeAnswered, Act, Answer, IsTypedAct, OutOfMemory, Number, Count}
-use Rattle.h2_log.specs.Acts.{Done, Refused}
-use Rattle.h2_log.specs.Log.{Log, waiting, output}
-use Rattle.h2_log.specs.LogSteps.{with_sent}
-use Rattle.h2_log.specs.LogCalls.{with_call, opened}
-use Rattle.h2_log.specs.Histories.{IsLog, begins, took_some, took_one, met_fault, called_one}
-use Rattle.h2_log.specs.Histories.{ran_out_of_memory, reported_one}
-use Rattle.h2_end_laws.specs.Replays.{ReplayAct, Take, Make, IsReplay, starts, takes, calls}
+use Rattle.h2_spec_log.specs.declared.role.Role.{Role}
+use Rattle.h2_spec_log.specs.Acts.{Values, AreInRange, Turn, Out, Called, Answered, TakeCalled}
+use Rattle.h2_spec_log.specs.Acts.{shown, TakeAnswered, Act, Answer, IsTypedAct, OutOfMemory}
+use Rattle.h2_spec_log.specs.Acts.{Number, Count, Done, Refused}
+use Rattle.h2_spec_log.specs.Log.{Log, waiting, output}
+use Rattle.h2_spec_log.specs.LogSteps.{with_sent}
+use Rattle.h2_spec_log.specs.LogCalls.{with_call, opened}
+use Rattle.h2_spec_log.specs.Histories.{IsLog, begins, took_some, took_one, met_fault, called_one}
+use Rattle.h2_spec_log.specs.Histories.{ran_out_of_memory, reported_one}
+use Rattle.h2_laws_end.specs.Replays.{ReplayAct, Take, Make, IsReplay, starts, takes, calls}
 use Rattle.h2_conn.specs.declared.conn.Conn.{Conn}
 use Rattle.h2_conn.specs.Conn.{ConnRepresents}
 use Rattle.h2_replay.specs.declared.acts.Act as code

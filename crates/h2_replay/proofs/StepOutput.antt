@@ -4,15 +4,15 @@ use Rattle.std.proofs.Common.{append-nil, add-zero}
 use Rattle.std.proofs.lemmas.List.{map-append}
 use Rattle.h2_frame.specs.declared.code.Code.{Code}
 use Rattle.h2_block.specs.Grouping.{Item}
-use Rattle.h2_log.specs.Items.{encoding_of_items}
-use Rattle.h2_log.specs.Acts.{Act, Answer, Refuse, PutOut, Count, Number, Done, OutOfMemory}
-use Rattle.h2_log.specs.Acts.{Refused, Turn, Out}
-use Rattle.h2_log.specs.Log.{Log, max_payload_sent}
-use Rattle.h2_log.specs.LogSteps.{with_sent, with_unreturned, with_failure}
-use Rattle.h2_log.specs.LogCalls.{called, with_call}
-use Rattle.h2_log_laws.proofs.GrowthBySteps.{HoldsOfFailures, holds_unreturned, holds_failure}
-use Rattle.h2_log_laws.proofs.GrowthBySteps.{holds_sent_unreturned, holds_refused, holds_ready}
-use Rattle.h2_log_laws.proofs.GrowthBySteps.{holds_items}
+use Rattle.h2_spec_log.specs.Items.{encoding_of_items}
+use Rattle.h2_spec_log.specs.Acts.{Act, Answer, Refuse, PutOut, Count, Number, Done, OutOfMemory}
+use Rattle.h2_spec_log.specs.Acts.{Refused, Turn, Out}
+use Rattle.h2_spec_log.specs.Log.{Log, max_payload_sent}
+use Rattle.h2_spec_log.specs.LogSteps.{with_sent, with_unreturned, with_failure}
+use Rattle.h2_spec_log.specs.LogCalls.{called, with_call}
+use Rattle.h2_laws_log.proofs.GrowthBySteps.{HoldsOfFailures, holds_unreturned, holds_failure}
+use Rattle.h2_laws_log.proofs.GrowthBySteps.{holds_sent_unreturned, holds_refused, holds_ready}
+use Rattle.h2_laws_log.proofs.GrowthBySteps.{holds_items}
 use Rattle.h2_replay.specs.Replay.{each_octet, by_octets, all_by_octets}
 
 -- Octets after others.

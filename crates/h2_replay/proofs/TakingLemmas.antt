@@ -8,12 +8,12 @@ use Rattle.std.proofs.lemmas.List.{append_cancel_left, length-append, take-appen
 use Rattle.std.proofs.lemmas.List.{drop-append-le}
 use Rattle.h2_frame.specs.declared.code.Code.{Code}
 use Rattle.h2_wire.specs.Cutter.{saturated}
-use Rattle.h2_log.specs.Acts.{Values, In, Out, Happened}
-use Rattle.h2_log.specs.Acts as logs
-use Rattle.h2_log.specs.Events.{Event}
-use Rattle.h2_log.specs.Log.{Log, waiting, output}
-use Rattle.h2_end_laws.specs.Takes.{TakeAnswer, Took, Failed, MayTake}
-use Rattle.h2_end_laws.proofs.TakeAnswers.{log_after_take}
+use Rattle.h2_spec_log.specs.Acts.{Values, In, Out, Happened}
+use Rattle.h2_spec_log.specs.Acts as logs
+use Rattle.h2_spec_log.specs.Events.{Event}
+use Rattle.h2_spec_log.specs.Log.{Log, waiting, output}
+use Rattle.h2_laws_end.specs.Takes.{TakeAnswer, Took, Failed, MayTake}
+use Rattle.h2_laws_end.proofs.TakeAnswers.{log_after_take}
 use Rattle.h2_replay.specs.declared.taking.Taking.{Taking}
 use Rattle.h2_replay.specs.declared.taking.Next.TheVariants as nexts
 use Rattle.h2_replay.specs.declared.turns.Turn.{Turn}

@@ -1,10 +1,10 @@
 -- What a call makes of a connection, and what it gives out.
 use Rattle.std.specs.Prelude.{◌≡◌, ℕ, List, take, drop}
-use Rattle.h2_log.specs.Acts as logs
-use Rattle.h2_log.specs.Acts.{Values, shown}
-use Rattle.h2_log.specs.Log.{Log}
-use Rattle.h2_log.specs.LogCalls.{MayAnswer, with_call}
-use Rattle.h2_end_laws.specs.Replays.{ReplayAct, Take, Make}
+use Rattle.h2_spec_log.specs.Acts as logs
+use Rattle.h2_spec_log.specs.Acts.{Values, shown}
+use Rattle.h2_spec_log.specs.Log.{Log}
+use Rattle.h2_spec_log.specs.LogCalls.{MayAnswer, with_call}
+use Rattle.h2_laws_end.specs.Replays.{ReplayAct, Take, Make}
 use Rattle.h2_conn.specs.declared.conn.Conn.{Conn}
 use Rattle.h2_conn.specs.Conn.{ConnRepresents}
 use Rattle.h2_replay.specs.declared.acts.Act.{Act}

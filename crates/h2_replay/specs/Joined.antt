@@ -1,11 +1,11 @@
 -- What the turns of a replay tell together, and the last act of a replay.
 use Rattle.std.specs.Prelude.{◌≡◌, ℕ, List, [], ◌∷◌, ◌++◌}
-use Rattle.h2_log.specs.declared.role.Role.{Role}
-use Rattle.h2_log.specs.Events.{Event}
-use Rattle.h2_log.specs.Acts.{Values, Act, Answer, Turn, In, Out, Happened}
-use Rattle.h2_log.specs.Log.{Log}
-use Rattle.h2_log.specs.LogCalls.{MayAnswer, with_call}
-use Rattle.h2_end_laws.specs.Replays.{ReplayAct, IsReplay}
+use Rattle.h2_spec_log.specs.declared.role.Role.{Role}
+use Rattle.h2_spec_log.specs.Events.{Event}
+use Rattle.h2_spec_log.specs.Acts.{Values, Act, Answer, Turn, In, Out, Happened}
+use Rattle.h2_spec_log.specs.Log.{Log}
+use Rattle.h2_spec_log.specs.LogCalls.{MayAnswer, with_call}
+use Rattle.h2_laws_end.specs.Replays.{ReplayAct, IsReplay}
 use Rattle.h2_replay.specs.declared.turns.Turn as code
 use Rattle.h2_replay.specs.Values.{turn_value}
 

@@ -1,10 +1,10 @@
 -- A replay that is under way.
 use Rattle.std.specs.Prelude.{List, ◌∷◌}
-use Rattle.h2_log.specs.declared.role.Role.{Role}
-use Rattle.h2_log.specs.Acts as logs
-use Rattle.h2_log.specs.Acts.{Values}
-use Rattle.h2_log.specs.Log.{Log}
-use Rattle.h2_end_laws.specs.Replays.{ReplayAct}
+use Rattle.h2_spec_log.specs.declared.role.Role.{Role}
+use Rattle.h2_spec_log.specs.Acts as logs
+use Rattle.h2_spec_log.specs.Acts.{Values}
+use Rattle.h2_spec_log.specs.Log.{Log}
+use Rattle.h2_laws_end.specs.Replays.{ReplayAct}
 use Rattle.h2_conn.specs.declared.conn.Conn.{Conn}
 use Rattle.h2_conn.specs.Conn.{ConnRepresents}
 use Rattle.h2_replay.specs.declared.turns.Turn.{Turn}

@@ -6,11 +6,11 @@
 -- beginning stands between the octets of two acts, what came in, what joined the output and what
 -- was reported is the same at the end of each act.
 use Rattle.std.specs.Prelude.{map as each, ◌≡◌, ℕ, List, [], ◌∷◌, ◌++◌, Some, None}
-use Rattle.h2_log.specs.declared.role.Role.{Role}
-use Rattle.h2_log.specs.Acts.{Values, Turn, In, Out, Called, Answered, Happened, TakeCalled, Done}
-use Rattle.h2_log.specs.Acts.{TakeAnswered}
-use Rattle.h2_log.specs.Log.{Log}
-use Rattle.h2_end_laws.specs.Replays.{ReplayAct, IsReplay}
+use Rattle.h2_spec_log.specs.declared.role.Role.{Role}
+use Rattle.h2_spec_log.specs.Acts.{Values, Turn, In, Out, Called, Answered, Happened, TakeCalled}
+use Rattle.h2_spec_log.specs.Acts.{Done, TakeAnswered}
+use Rattle.h2_spec_log.specs.Log.{Log}
+use Rattle.h2_laws_end.specs.Replays.{ReplayAct, IsReplay}
 use Rattle.h2_replay.specs.declared.acts.Act.{Act}
 use Rattle.h2_replay.specs.declared.turns.Turn as code
 use Rattle.h2_replay.specs.Values.{acts_made, turn_value}

@@ -3,12 +3,12 @@ use Rattle.std.specs.Prelude.{◌≡◌, ℕ, ◌≤◌, nat_lt, if◌then◌els
 use Rattle.std.specs.Prelude.{Option, Some, None}
 use Rattle.std.specs.Option.{option_map}
 use Rattle.h2_frame.specs.declared.code.Code.{Code}
-use Rattle.h2_log.specs.Acts.{Values}
-use Rattle.h2_log.specs.Acts as logs
-use Rattle.h2_log.specs.Events.{Event}
-use Rattle.h2_log.specs.Log.{Log}
-use Rattle.h2_end_laws.specs.Takes.{TakeAnswer, Took, Failed, MayTake, events_answered}
-use Rattle.h2_end_laws.specs.Replays.{TakesAll, IsCalledAgain}
+use Rattle.h2_spec_log.specs.Acts.{Values}
+use Rattle.h2_spec_log.specs.Acts as logs
+use Rattle.h2_spec_log.specs.Events.{Event}
+use Rattle.h2_spec_log.specs.Log.{Log}
+use Rattle.h2_laws_end.specs.Takes.{TakeAnswer, Took, Failed, MayTake, events_answered}
+use Rattle.h2_laws_end.specs.Replays.{TakesAll, IsCalledAgain}
 use Rattle.h2_conn.specs.declared.conn.Conn.{Conn}
 use Rattle.h2_conn.specs.Conn.{ConnRepresents}
 use Rattle.h2_replay.specs.declared.taking.Taking.{Taking}

@@ -1,9 +1,9 @@
 -- The acts, the events and the turns of a replay's code, as those of the definitions of an end.
 use Rattle.std.specs.Prelude.{List, [], ◌∷◌, ◌++◌, Some}
-use Rattle.h2_config.specs.ConfigValues.{values_of}
-use Rattle.h2_log.specs.Events as log
-use Rattle.h2_log.specs.Acts as logs
-use Rattle.h2_end_laws.specs.Replays.{ReplayAct, Take, Make}
+use Rattle.h2_flow.specs.ConfigValues.{values_of}
+use Rattle.h2_spec_log.specs.Events as log
+use Rattle.h2_spec_log.specs.Acts as logs
+use Rattle.h2_laws_end.specs.Replays.{ReplayAct, Take, Make}
 use Rattle.h2_replay.specs.declared.acts.Act.{Act}
 use Rattle.h2_replay.specs.declared.acts.Act.TheVariants as acts
 use Rattle.h2_replay.specs.declared.events.ReplayEvent.{ReplayEvent}

@@ -4,8 +4,8 @@ ghost use Rattle.std.specs.Prelude.{◌≡◌, []};
 ghost use Rattle.hpack.specs.Written.{AreOctets};
 ghost use Rattle.std.specs.List.{AllByRecursion};
 ghost use Rattle.hpack_text.specs.Bits.{IsOctet};
-ghost use Rattle.h2_log.specs.Acts as logs;
-ghost use Rattle.h2_log.specs.Acts.{IsTypedAct};
+ghost use Rattle.h2_spec_log.specs.Acts as logs;
+ghost use Rattle.h2_spec_log.specs.Acts.{IsTypedAct};
 ghost use Rattle.h2_conn.specs.Conn.{answer_by};
 ghost use Rattle.h2_replay.specs.Calls.{IsCall, call_of, MakesCall, answer_value};
 

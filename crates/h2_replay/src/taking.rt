@@ -1,7 +1,7 @@
 //! Octets that are taken.
 
 ghost use Rattle.std.specs.Prelude.{map as each, ◌≡◌, ◌<◌, ◌≤◌, ◌++◌, length, take, IfOk, vec_len};
-ghost use Rattle.h2_log.specs.Acts.{In, Out, Happened};
+ghost use Rattle.h2_spec_log.specs.Acts.{In, Out, Happened};
 ghost use Rattle.h2_replay.specs.Replay.{each_octet, all_by_octets, kept_by_octets};
 ghost use Rattle.h2_replay.specs.Taking.{TakesCall, TakesPiece, ReplayTakesOctets, taken_events};
 ghost use Rattle.h2_replay.specs.Taking.{next_of};

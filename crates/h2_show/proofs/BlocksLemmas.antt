@@ -1,20 +1,15 @@
 -- Frames are taken one by one: they group, and their blocks decode.
-use Rattle.std.proofs.Common.{◌≡◌, ℕ, Bool, false, List, [], ◌∷◌, ◌++◌, Option, None, MatchOption}
-use Rattle.std.proofs.Common.{refl, subst, inl, inr}
-use Rattle.h2_frame.specs.Frames.{Frame}
+use Rattle.h2_show.proofs.Names.{◌≡◌, ℕ, Bool, false, List, [], ◌∷◌, ◌++◌, None, MatchOption, refl}
+use Rattle.h2_show.proofs.Names.{subst, inr, Frame, Item, alone, block, Entries, Decodes, Blocks}
+use Rattle.h2_show.proofs.Names.{BlockError, EndsWithBlockError, BlocksRepresent, BlockErrorReports}
+use Rattle.h2_show.proofs.Names.{rules}
 use Rattle.h2_block.specs.declared.fault.BlockFault.{BlockFault}
 use Rattle.h2_block.specs.declared.fault.BlockFault.TheVariants as grouping
-use Rattle.h2_block.specs.Grouping.{Item, alone, block}
 use Rattle.h2_block.specs.Gather.{GatherState, GatherRepresents, GatherFaults, GatherFails}
 use Rattle.h2_block.specs.Gather.{block_fault_code}
 use Rattle.hpack.specs.declared.types.field.List.{List as FieldList}
-use Rattle.hpack.specs.Tables.{Entries}
-use Rattle.hpack.specs.Lists.{Decodes}
-use Rattle.h2_show.specs.declared.blocks.Blocks.{Blocks}
-use Rattle.h2_show.specs.declared.blocks.BlockError.{BlockError}
 use Rattle.h2_show.specs.declared.blocks.BlockError.TheVariants as errors
-use Rattle.h2_show.specs.Blocks.{ItemsDecode, EndsWithBlockError, BlocksRepresent}
-use Rattle.h2_show.specs.Blocks.{BlockErrorReports, error_of_grouping, DecodingErrorReports}
+use Rattle.h2_show.specs.Blocks.{ItemsDecode, error_of_grouping, DecodingErrorReports}
 
 -- items that decode, and others after them, decode together
 decode_append : (table mid after : Entries) (items others : List Item)
@@ -105,21 +100,7 @@ misgrouped : (blocks : Blocks) (gather : GatherState) (frame : Frame) (frames : 
     (λ known. gather ≡ blocks.gather)
     → BlocksRepresent blocks frames
     → EndsWithBlockError (frames ++ frame ∷ []) (block_fault_code fault)
-misgrouped blocks gather frame frames fault fails represents =
-    let decoded = represents.decoded in
-    let faults : GatherFaults blocks.gather frame fault gather =
-    subst (λ (known : Option BlockFault). MatchOption known
-    (GatherFaults blocks.gather frame fault gather) (λ known. gather ≡ blocks.gather))
-    represents.grouping fails in
-    inl (record {
-      items = decoded.items;
-      table = blocks.decoder.table;
-      fault = fault;
-      at = faults.at frames decoded.items
-          (record { sound = represents.grouping; split = decoded.grouped });
-      decoded = decoded.decoded;
-      coded = refl;
-    })
+misgrouped blocks gather frame frames fault fails represents = search rules
 
 -- what the gatherer's fault reports of the frames
 pub grouping_error_reports : (blocks : Blocks) (gather : GatherState) (frame : Frame)

@@ -1,24 +1,15 @@
 -- Frames are taken one by one, and their lines are shown.
-use Rattle.std.proofs.Common.{◌≡◌, ℕ, Bool, true, false, List, [], ◌∷◌, ◌++◌, Option, Some, None}
-use Rattle.std.proofs.Common.{refl, sym, ◌∙◌, ap, subst, append_assoc, append-nil}
-use Rattle.std.proofs.Common.{flat_map, nat_le, arith}
-use Rattle.std.proofs.lemmas.Bool.Decides.{nat_tests}
-use Rattle.std.proofs.lemmas.Grind.{flat_map-append}
-use Rattle.h2_frame.specs.Frames.{Frame, Headers}
-use Rattle.h2_block.specs.Grouping.{Item, alone, block, Begun, IsLeft, IsItem, is_standalone}
-use Rattle.h2_block.specs.Grouping.{AreItems}
+use Rattle.h2_show.proofs.Names.{◌≡◌, ℕ, Bool, true, List, [], ◌∷◌, ◌++◌, Option, None, refl, sym}
+use Rattle.h2_show.proofs.Names.{◌∙◌, ap, subst, append_assoc, append-nil, flat_map, arith}
+use Rattle.h2_show.proofs.Names.{nat_tests, flat_map-append, Frame, Item, alone, block, Begun}
+use Rattle.h2_show.proofs.Names.{Field, Decodes, IsList, Entries, Blocks, BlocksRepresent}
+use Rattle.h2_show.proofs.Names.{frame_line, list_lines, answered_lines, AreShown, BlocksShow}
+use Rattle.h2_show.proofs.Names.{common_steps, rules}
+use Rattle.h2_block.specs.Grouping.{IsLeft, IsItem, is_standalone, AreItems}
 use Rattle.h2_block.specs.Gather.{GatherState, GatherRepresents}
-use Rattle.hpack.specs.declared.types.field.Field.{Field}
 use Rattle.hpack.specs.declared.types.field.List.{List as AnsweredList}
-use Rattle.hpack.specs.declared.types.field.List.TheVariants.{Whole, TooLarge}
-use Rattle.hpack.specs.Lists.{Decodes, IsList, list_size}
 use Rattle.hpack.specs.Blocks.{Block}
-use Rattle.hpack.specs.Tables.{Entries}
-use Rattle.h2_show.specs.declared.blocks.Blocks.{Blocks}
-use Rattle.h2_show.specs.Blocks.{ItemsDecode, BlocksRepresent}
-use Rattle.h2_show.specs.Lines.{frame_line, list_lines, answered_lines, field_line}
-use Rattle.h2_show.specs.Shown.{AreShown}
-use Rattle.h2_show.specs.Printed.{BlocksShow}
+use Rattle.h2_show.specs.Blocks.{ItemsDecode}
 
 -- items that are shown, and others after them, are shown together
 shown_append : (table mid after : Entries) (items others : List Item) (frames more : List Frame)
@@ -74,62 +65,25 @@ shown_decode table after (block stream end octets ∷ items) frames lines
 -- blocks that show frames represent them
 pub show_represents : (blocks : Blocks) (frames : List Frame) (lines : List ℕ)
     → BlocksShow blocks frames lines → BlocksRepresent blocks frames
-show_represents blocks frames lines shows =
-    record {
-      grouping = shows.grouping;
-      decoding = shows.decoding;
-      limit = shows.limit;
-      decoded = record {
-        items = shows.items;
-        grouped = record {
-          complete = shows.complete;
-          left = shows.left;
-          joined = shows.joined;
-          grouped = shown_items _ _ shows.items shows.complete shows.first shows.shown;
-          unfinished = shows.unfinished;
-        };
-        decoded = shown_decode _ _ shows.items shows.complete shows.first shows.shown;
-      };
-    }
+show_represents blocks frames lines shows = grind (arith, common_steps, shown_items, shown_decode)
 
 -- before a frame that is passed on no block has begun
 none_begun : (begun : Option Begun) (left others : List Frame) (frame passed : Frame)
     → IsLeft begun left → is_standalone passed ≡ true → left ++ frame ∷ [] ≡ passed ∷ others
     → left ≡ []
 unfolding is_standalone
-none_begun None left others frame passed none standalone joined = none
-none_begun (Some begun) left others frame passed begins standalone joined =
-    let opened = begins.0.opened in
-    let one : Headers begun.stream begun.end false begins.0.fragment begins.0.pad begins.0.priority
-    ≡ passed = (let same = ap (λ (some : List Frame). some ++ frame ∷ []) (sym opened) ∙ joined in
-    cc) in
-    absurd (let wrong : false ≡ true = ap is_standalone one ∙ standalone in cc)
+none_begun begun left others frame passed none standalone joined = search rules
 
 -- the frames that are left are a block that has begun, and nothing precedes them
 only_left : (blocks : Blocks) (frames : List Frame) (lines : List ℕ)
     → (shows : BlocksShow blocks frames lines) → GatherRepresents blocks.gather shows.left []
-only_left blocks frames lines shows =
-    record {
-      sound = shows.grouping;
-      split = record {
-        complete = [];
-        left = shows.left;
-        joined = refl;
-        grouped = refl;
-        unfinished = shows.unfinished;
-      };
-    }
+only_left blocks frames lines shows = search rules
 
 -- the lines so far where no frame is left
 none_left : (blocks : Blocks) (frames : List Frame) (lines : List ℕ)
     → (shows : BlocksShow blocks frames lines) → shows.left ≡ []
     → (frames ≡ shows.complete) × (lines ≡ shows.first)
-none_left blocks frames lines shows none = (
-  shows.joined ∙ ap (λ (left : List Frame). shows.complete ++ left) none
-      ∙ append-nil shows.complete,
-  shows.all ∙ ap (λ (left : List Frame). shows.first ++ flat_map frame_line left) none
-      ∙ append-nil shows.first,
-)
+none_left blocks frames lines shows none = grind (arith, common_steps, append-nil, flat_map)
 
 -- a frame that is passed on
 pub show_alone : (blocks : Blocks) (gather : GatherState) (frame passed : Frame)
@@ -140,18 +94,16 @@ pub show_alone : (blocks : Blocks) (gather : GatherState) (frame passed : Frame)
     → BlocksShow (record { gather = gather; decoder = blocks.decoder }) (frames ++ frame ∷ [])
     (lines ++ (frame_line frame ++ []))
 show_alone blocks gather frame passed frames lines continues shows =
-    let after = continues shows.left [] (only_left blocks frames lines shows) in
+    let after = continues shows.left [] (only_left _ _ _ shows) in
     let (one, others, whole, is, none) = after.split.grouped in
-    let joined : shows.left ++ frame ∷ [] ≡ passed ∷ after.split.left =
-    after.split.joined ∙ ap (λ (some : List Frame). some ++ after.split.left)
-    (whole ∙ (λ i. is.1 i ++ none i)) in
-    let nothing = none_begun blocks.gather.begun shows.left after.split.left frame passed
-    shows.unfinished is.0 joined in
-    let same : frame ∷ [] ≡ passed ∷ after.split.left =
-    sym (ap (λ (some : List Frame). some ++ frame ∷ []) nothing) ∙ joined in
+    let joined : shows.left ++ frame ∷ [] ≡ passed ∷ after.split.left = after.split.joined ∙ ap
+    (λ (some : List Frame). some ++ after.split.left) (whole ∙ (λ i. is.1 i ++ none i)) in
+    let nothing = none_begun _ shows.left after.split.left _ _ shows.unfinished is.0 joined in
+    let same : frame ∷ [] ≡ passed ∷ after.split.left = sym
+    (ap (λ (some : List Frame). some ++ frame ∷ []) nothing) ∙ joined in
     let itself : frame ≡ passed = cc in
     let ended : after.split.left ≡ [] = cc in
-    let known = none_left blocks frames lines shows nothing in
+    let known = none_left _ _ _ shows nothing in
     record {
       grouping = after.sound;
       decoding = shows.decoding;
@@ -160,15 +112,12 @@ show_alone blocks gather frame passed frames lines continues shows =
       complete = shows.complete ++ frame ∷ [];
       left = [];
       first = shows.first ++ (frame_line frame ++ []);
-      joined = ap (λ (some : List Frame). some ++ frame ∷ []) known.0
-          ∙ sym (append-nil (shows.complete ++ frame ∷ []));
-      shown = shown_append _ _ _ shows.items (alone frame ∷ []) shows.complete (frame ∷ [])
-          shows.first (frame_line frame ++ []) shows.shown
+      joined = ap (λ (some : List Frame). some ++ frame ∷ []) known.0 ∙ sym (append-nil _);
+      shown = shown_append _ _ _ shows.items _ shows.complete _ shows.first _ shows.shown
           ([], [], refl, (ap is_standalone itself ∙ is.0, refl), refl, (refl, refl, refl));
       unfinished = subst (λ (some : List Frame). IsLeft gather.begun some) ended
           after.split.unfinished;
-      all = ap (λ (some : List ℕ). some ++ (frame_line frame ++ [])) known.1
-          ∙ sym (append-nil (shows.first ++ (frame_line frame ++ [])));
+      all = ap (λ (some : List ℕ). some ++ (frame_line frame ++ [])) known.1 ∙ sym (append-nil _);
     }
 
 -- a frame of a block that isn't complete
@@ -206,12 +155,7 @@ show_more blocks gather frame frames lines continues shows =
 -- the lines of a list that was answered are those of the fields
 answered_is : (fields : List Field) (list : AnsweredList) → IsList 65536 fields list
     → answered_lines list ≡ list_lines fields
-answered_is fields (Whole items) (same, small) =
-    let fits : nat_le (list_size fields) 65536 ≡ true = grind (arith, nat_tests) in
-    ap (flat_map field_line) same ∙ sym (rw fits)
-answered_is fields TooLarge large =
-    let over : nat_le (list_size fields) 65536 ≡ false = grind (arith, nat_tests) in
-    sym (rw over)
+answered_is fields list large = grind (arith, common_steps, nat_tests, flat_map)
 
 -- a frame that ends a block, which decodes
 pub show_block : (blocks new : Blocks) (gather : GatherState) (frame : Frame)
@@ -227,20 +171,17 @@ show_block blocks new gather frame frames lines stream end octets list continues
     shows =
     let after = continues shows.left [] (only_left blocks frames lines shows) in
     let (one, others, whole, is, none) = after.split.grouped in
-    let nothing : after.split.left ≡ [] =
-    subst (λ (begun : Option Begun). IsLeft begun after.split.left) ended
-    after.split.unfinished in
-    let joined : shows.left ++ frame ∷ [] ≡ one =
-    after.split.joined ∙ (λ i. whole i ++ nothing i) ∙ append-nil (one ++ others)
-    ∙ ap (λ (some : List Frame). one ++ some) none ∙ append-nil one in
+    let nothing : after.split.left ≡ [] = subst
+    (λ (begun : Option Begun). IsLeft begun after.split.left) ended after.split.unfinished in
+    let joined : shows.left ++ frame ∷ [] ≡ one = after.split.joined ∙ (λ i. whole i ++ nothing i) ∙
+    append-nil (one ++ others) ∙ ap (λ (some : List Frame). one ++ some) none ∙ append-nil one in
     let text : List ℕ = flat_map frame_line (shows.left ++ frame ∷ []) ++ list_lines decodes.fields
     in
     let lent : flat_map frame_line shows.left ++ (frame_line frame ++ answered_lines list) ≡ text =
     ap (λ (some : List ℕ). flat_map frame_line shows.left ++ (frame_line frame ++ some))
     (answered_is decodes.fields list decodes.handed)
     ∙ sym (append_assoc (flat_map frame_line shows.left) (frame_line frame)
-    (list_lines decodes.fields))
-    ∙ ap (λ (some : List ℕ). some ++ list_lines decodes.fields)
+    (list_lines decodes.fields)) ∙ ap (λ (some : List ℕ). some ++ list_lines decodes.fields)
     (ap (λ (some : List ℕ). flat_map frame_line shows.left ++ some)
     (sym (append-nil (frame_line frame)))
     ∙ sym (flat_map-append frame_line shows.left (frame ∷ []))) in
@@ -252,9 +193,8 @@ show_block blocks new gather frame frames lines stream end octets list continues
       complete = shows.complete ++ (shows.left ++ frame ∷ []);
       left = [];
       first = shows.first ++ (text ++ []);
-      joined = ap (λ (some : List Frame). some ++ frame ∷ []) shows.joined
-          ∙ append_assoc shows.complete shows.left (frame ∷ [])
-          ∙ sym (append-nil (shows.complete ++ (shows.left ++ frame ∷ [])));
+      joined = ap (λ (some : List Frame). some ++ frame ∷ []) shows.joined ∙ append_assoc
+          shows.complete shows.left (frame ∷ []) ∙ sym (append-nil _);
       shown = shown_append _ _ _ shows.items (block stream end octets ∷ []) shows.complete
           (shows.left ++ frame ∷ []) shows.first (text ++ []) shows.shown (
             shows.left ++ frame ∷ [],
@@ -270,9 +210,8 @@ show_block blocks new gather frame frames lines stream end octets list continues
             (refl, rw decodes.state refl, refl),
           );
       unfinished = rw (same, ended) refl;
-      all = ap (λ (some : List ℕ). some ++ (frame_line frame ++ answered_lines list)) shows.all
-          ∙ append_assoc shows.first (flat_map frame_line shows.left)
-          (frame_line frame ++ answered_lines list)
-          ∙ ap (λ (some : List ℕ). shows.first ++ some) (lent ∙ sym (append-nil text))
-          ∙ sym (append-nil (shows.first ++ (text ++ [])));
+      all = ap (λ (some : List ℕ). some ++ (frame_line frame ++ answered_lines list)) shows.all ∙
+          append_assoc shows.first (flat_map frame_line shows.left)
+          (frame_line frame ++ answered_lines list) ∙ ap (λ (some : List ℕ). shows.first ++ some)
+          (lent ∙ sym (append-nil text)) ∙ sym (append-nil (shows.first ++ (text ++ [])));
     }

@@ -1,32 +1,22 @@
 -- What is printed of a fault, and at the end.
-use Rattle.std.proofs.Common.{◌≡◌, ◌≢◌, ℕ, ◌==◌, not, ◌&&◌, Bool, false}
-use Rattle.std.proofs.Common.{if◌then◌else◌, List, [], ◌∷◌, ◌++◌, length, take, drop}
-use Rattle.std.proofs.Common.{Option, Some, None, refl, sym, ◌∙◌, ap, subst, arith, inl, inr}
-use Rattle.std.proofs.Common.{append_assoc, append-nil, length-append}
-use Rattle.std.specs.Option.{is_some}
-use Rattle.std.proofs.lemmas.Bool.Decides.{nat_tests}
-use Rattle.std.proofs.lemmas.List.{take-append-le, take-append-drop}
-use Rattle.std.proofs.Math.Seq.{take-append_seam}
-use Rattle.h2_frame.specs.declared.code.Code.{Code}
+use Rattle.h2_show.proofs.Names.{◌≡◌, ◌≢◌, ℕ, ◌==◌, not, ◌&&◌, Bool, false, if◌then◌else◌, List, []}
+use Rattle.h2_show.proofs.Names.{◌∷◌, ◌++◌, length, take, drop, Option, Some, None, refl, sym, ◌∙◌}
+use Rattle.h2_show.proofs.Names.{ap, subst, arith, inl, inr, append_assoc, append-nil}
+use Rattle.h2_show.proofs.Names.{length-append, is_some, nat_tests, take-append-le}
+use Rattle.h2_show.proofs.Names.{take-append-drop, take-append_seam, Code, Frame, WireFault, Limits}
+use Rattle.h2_show.proofs.Names.{Frames, expected_preface, CutterState, CutterRepresents}
+use Rattle.h2_show.proofs.Names.{CutterFaults, Begun, Blocks, Wire, Block, Status, Good, Fault}
+use Rattle.h2_show.proofs.Names.{EndsWithBlockError, fault_line, rest_line, unfinished_line}
+use Rattle.h2_show.proofs.Names.{preface_lines, Shows, BlocksShow, due_line, ViewerShows}
+use Rattle.h2_show.proofs.Names.{error_lines, end_lines, ViewerPrints, ShowsAfter, common_steps}
+use Rattle.h2_show.proofs.Names.{rules}
 use Rattle.h2_frame.specs.declared.code.Code.TheVariants.{ProtocolError}
-use Rattle.h2_frame.specs.Frames.{Frame}
-use Rattle.h2_wire.specs.declared.fault.WireFault.{WireFault}
 use Rattle.h2_wire.specs.declared.fault.WireFault.TheVariants as faults
-use Rattle.h2_wire.specs.Streams.{Limits, Frames, WireFaultAt, EndsWithFault, expected_preface}
-use Rattle.h2_wire.specs.Streams.{IsSound}
-use Rattle.h2_wire.specs.Cutter.{CutterState, CutterRepresents, CutterFaults, saturated}
-use Rattle.h2_block.specs.Grouping.{Begun}
-use Rattle.h2_show.specs.declared.blocks.Blocks.{Blocks}
+use Rattle.h2_wire.specs.Streams.{WireFaultAt, IsSound}
+use Rattle.h2_wire.specs.Cutter.{saturated}
 use Rattle.h2_show.specs.declared.blocks.BlockError.TheVariants as errors
-use Rattle.h2_show.specs.declared.viewer.ShowError.TheVariants.{Wire, Block}
-use Rattle.h2_show.specs.declared.status.Status.{Status}
-use Rattle.h2_show.specs.declared.status.Status.TheVariants.{Good, Fault}
-use Rattle.h2_show.specs.Blocks.{EndsWithBlockError}
-use Rattle.h2_show.specs.Lines.{fault_line, rest_line, unfinished_line}
-use Rattle.h2_show.specs.Shown.{preface_lines, ShowsFrames, Shows, is_complete, ends_inside_frame}
-use Rattle.h2_show.specs.Shown.{ends_inside_block, has_wire_fault, has_block_error}
-use Rattle.h2_show.specs.Printed.{BlocksShow, due_line, ViewerShows, error_lines, end_lines}
-use Rattle.h2_show.specs.Printed.{ViewerPrints, ShowsAfter}
+use Rattle.h2_show.specs.Shown.{ShowsFrames, is_complete, ends_inside_frame, ends_inside_block}
+use Rattle.h2_show.specs.Shown.{has_wire_fault, has_block_error}
 use Rattle.h2_show.proofs.PrefaceLemmas.{whole_preface, opened_lines, wrong_lines, preface_state}
 use Rattle.h2_show.proofs.PrefaceLemmas.{inside_lines}
 use Rattle.h2_show.proofs.PrintedLemmas.{settle}
@@ -34,31 +24,14 @@ use Rattle.h2_show.proofs.PrintedLemmas.{settle}
 -- the frames so far are shown
 frames_shown : (blocks : Blocks) (frames : List Frame) (lines : List ℕ)
     → BlocksShow blocks frames lines → ShowsFrames frames blocks.gather.begun lines
-frames_shown blocks frames lines shows =
-    record {
-      items = shows.items;
-      complete = shows.complete;
-      left = shows.left;
-      table = blocks.decoder.table;
-      first = shows.first;
-      joined = shows.joined;
-      shown = shows.shown;
-      unfinished = shows.unfinished;
-      all = shows.all;
-    }
+frames_shown blocks frames lines shows = search rules
 
 -- an octet at fault is so with octets after it
 at_append : (expects : Bool) (limits : Limits) (stream more : List ℕ) (frames : List Frame)
     (place : ℕ) (fault : WireFault) → WireFaultAt expects limits stream frames place fault
     → WireFaultAt expects limits (stream ++ more) frames place fault
 at_append expects limits stream more frames place fault at =
-    let same : take place (stream ++ more) ≡ take place stream =
-    take-append-le place stream more at.within in
-    record {
-      within = simp length-append (let within = at.within in omega arith);
-      made = subst (λ (octets : List ℕ). EndsWithFault expects limits frames octets fault)
-          (sym same) at.made;
-    }
+    grind (arith, common_steps, take-append-le, length-append)
 
 -- a stream whose prefix is sound begins with what is expected
 sound_lines : (expects : Bool) (limits : Limits) (frames : List Frame) (part rest stream : List ℕ)
@@ -108,10 +81,7 @@ unsettled_fault cutter blocks due expects limits stream output more fault shows 
 -- a prefix that is taken, what is left of it, and what follows
 taken : (part last rest : List ℕ) (place : ℕ) (stream : List ℕ) → take place stream ≡ part ++ last
     → stream ≡ part ++ (last ++ drop place stream)
-taken part last rest place stream joined =
-    sym (take-append-drop place stream)
-    ∙ ap (λ (octets : List ℕ). octets ++ drop place stream) joined
-    ∙ append_assoc part last (drop place stream)
+taken part last rest place stream joined = search (rules, take-append-drop, append_assoc)
 
 -- a fault that the cutter met
 pub wire_shows : (fault : WireFault) (cutter new_cutter : CutterState) (blocks : Blocks)

@@ -1,36 +1,28 @@
 -- What an input prints, piece by piece.
-use Rattle.std.proofs.Common.{◌≡◌, ℕ, ◌==◌, not, ◌&&◌, Bool, if◌then◌else◌, List, [], ◌∷◌, ◌++◌}
-use Rattle.std.proofs.Common.{length}
-use Rattle.std.proofs.Common.{take, Option, Some, None, IfSome, refl, sym, ◌∙◌, ap, subst}
-use Rattle.std.proofs.Common.{append_assoc, append-nil, option_map, Result, Ok, Err, IfOk, IsOk}
-use Rattle.std.proofs.KnownBytes.{Appends-trans, Appends-kept, Consumes-trans, Consumes-whole}
-use Rattle.std.specs.Option.{is_some}
+use Rattle.h2_show.proofs.Names.{◌≡◌, ℕ, ◌==◌, not, ◌&&◌, Bool, if◌then◌else◌, List, [], ◌∷◌, ◌++◌}
+use Rattle.h2_show.proofs.Names.{length, take, Option, Some, None, IfSome, sym, subst, append_assoc}
+use Rattle.h2_show.proofs.Names.{append-nil, Result, Ok, Err, IfOk, Appends-trans, Consumes-trans}
+use Rattle.h2_show.proofs.Names.{Consumes-whole, is_some, Appends, Consumes, IsAtEnd, Keeps}
+use Rattle.h2_show.proofs.Names.{append_known, CutterState, Blocks, ShowOptions, Shown, Status}
+use Rattle.h2_show.proofs.Names.{Good, Fault, ShowError, ViewerShows, ViewerPrints, ViewerFailsWith}
+use Rattle.h2_show.proofs.Names.{ShowsAfter, end_lines, error_lines, begins_with_preface, limits_of}
+use Rattle.h2_show.proofs.Names.{StatusReportsOctets, Shows, common_steps, rules, arith}
+use Rattle.std.proofs.Common.{option_map, IsOk}
+use Rattle.std.proofs.KnownBytes.{Appends-kept}
 use Rattle.std.specs.declared.io.buffered.BufWriter.{BufWriter}
 use Rattle.std.specs.Io.Buffered.{writer_buffer, writer_contents, writer_inner}
-use Rattle.std.specs.Io.KnownBytes.{Appends, Consumes, IsAtEnd, Keeps, append_known}
 use Rattle.hex.specs.Hex.{decode_of}
-use Rattle.h2_wire.specs.Cutter.{CutterState}
-use Rattle.h2_show.specs.declared.blocks.Blocks.{Blocks}
-use Rattle.h2_show.specs.declared.options.ShowOptions.{ShowOptions}
 use Rattle.h2_show.specs.declared.show.Lent.{Lent}
-use Rattle.h2_show.specs.declared.show.Shown.{Shown}
-use Rattle.h2_show.specs.declared.status.Status.{Status}
-use Rattle.h2_show.specs.declared.status.Status.TheVariants.{Good, Fault}
-use Rattle.h2_show.specs.declared.viewer.ShowError.{ShowError}
-use Rattle.h2_show.specs.Printed.{ViewerShows, ViewerPrints, ViewerFailsWith, ShowsAfter, end_lines}
-use Rattle.h2_show.specs.Printed.{error_lines, ShowsText}
-use Rattle.h2_show.specs.Hexadecimal.{without_blanks}
-use Rattle.h2_show.specs.Report.{begins_with_preface, limits_of, StatusReportsOctets}
+use Rattle.h2_show.specs.Printed.{ShowsText}
+use Rattle.h2_cli.specs.Hexadecimal.{without_blanks}
 use Rattle.h2_show.specs.Report.{StatusReportsText}
-use Rattle.h2_show.specs.Shown.{Shows, ShowsOctets}
+use Rattle.h2_show.specs.Shown.{ShowsOctets}
 use Rattle.h2_show.proofs.FaultLemmas.{end_shows_after}
 
 -- what holds of the octets with whatever follows them, of all that a reader had
 consumed_all : (before after : Option (List ℕ)) (octets : List ℕ) (P : List ℕ → Type 0)
     → Consumes before after octets → ((left : List ℕ) → P (octets ++ left)) → IfSome before P
-consumed_all None after octets P read holds = tt
-consumed_all (Some all) None octets P read holds = absurd read
-consumed_all (Some all) (Some left) octets P read holds = subst P (sym read) (holds left)
+consumed_all before after octets P read holds = search rules
 
 -- after octets that were shown, a fault in those that follow shows all, whatever follows them
 fails_after : (cutter mid new_cutter : CutterState) (blocks mid_blocks : Blocks)
@@ -72,16 +64,14 @@ pub end_shows_all : (cutter new_cutter : CutterState) (blocks new_blocks : Block
     × Appends start ended lines)
 end_shows_all cutter new_cutter blocks new_blocks due new_due before middle after start text ended
     octets buffer printed count status read last none at_end written prints known ending =
-    let nothing : Consumes middle after [] =
-    subst (λ (some : ℕ). Consumes middle after (take some buffer)) none last in
-    let all : Consumes before after octets =
-    subst (λ (some : List ℕ). Consumes before after some) (append-nil octets)
-    (Consumes-trans before middle after octets [] read nothing) in
+    let nothing : Consumes middle after [] = subst
+    (λ (some : ℕ). Consumes middle after (take some buffer)) none last in
+    let all : Consumes before after octets = subst (λ (some : List ℕ). Consumes before after some)
+    (append-nil octets) (Consumes-trans before middle after octets [] read nothing) in
     Consumes-whole before after octets (λ all. (lines : List ℕ)
     × ShowsAfter cutter blocks due all status lines × Appends start ended lines) all at_end (
       printed ++ end_lines (length new_cutter.unparsed) (is_some new_blocks.gather.begun),
-      end_shows_after cutter new_cutter blocks new_blocks due new_due octets printed status prints
-          known,
+      end_shows_after _ _ _ _ _ _ _ _ status prints known,
       Appends-trans start text ended printed _ written ending,
     )
 
@@ -103,8 +93,7 @@ error_shows_all cutter mid new_cutter blocks mid_blocks due mid_due new_due befo
       (one ++ two) ++ error_lines error new_cutter.place new_due,
       fails_after cutter mid new_cutter blocks mid_blocks due mid_due new_due octets piece left one
           two error status prints fails is,
-      Appends-trans start middle ended (one ++ two) _
-          (Appends-trans start text middle one two written more) last,
+      Appends-trans _ _ _ _ _ (Appends-trans start text middle one two written more) last,
     ))
 
 -- a fault in octets that are shown all at once
@@ -179,8 +168,7 @@ pub text_reported : (options : ShowOptions) (before : Option (List ℕ)) (octets
     → IfSome before (λ text. decode_of (without_blanks text) ≡ Ok octets)
     → StatusReportsOctets options octets status
     → IfSome before (λ text. StatusReportsText options text status)
-text_reported options None octets status decoded reports = tt
-text_reported options (Some text) octets status decoded reports = (octets, decoded, reports)
+text_reported options before octets status decoded reports = search rules
 
 -- lines that are appended stay so where a flush keeps what is known
 pub kept_shown : {E : Type 0} (P : List ℕ → Status → List ℕ → Type 0)
@@ -190,10 +178,7 @@ pub kept_shown : {E : Type 0} (P : List ℕ → Status → List ℕ → Type 0)
     → Keeps text ended
     → IfOk result (λ shown. IfSome before (λ given. (lines : List ℕ) × P given shown.status lines
     × Appends start ended lines))
-kept_shown P before start text ended (Err error) shown same = tt
-kept_shown P None start text ended (Ok some) shown same = tt
-kept_shown P (Some given) start text ended (Ok some) shown same =
-    (shown.0, shown.1, Appends-kept start text ended shown.0 shown.2 same)
+kept_shown P before start text ended result shown same = grind (arith, common_steps, Appends-kept)
 
 -- Lines that a buffer over a lent writer has appended, all of them written, are appended to the
 -- writer, since its name is the same.
@@ -202,14 +187,7 @@ lent_appended : (start ended final : Option (List ℕ)) (name new_name : ℕ) (l
     → Appends (append_known (option_map (λ known. name ∷ known) start) [])
     (append_known (option_map (λ known. new_name ∷ known) ended) []) lines
     → Appends start final lines
-lent_appended None ended final name new_name lines returns appended = tt
-lent_appended (Some known) None final name new_name lines returns appended = absurd appended
-lent_appended (Some known) (Some other) final name new_name lines returns appended =
-    let same : new_name ∷ (other ++ []) ≡ name ∷ ((known ++ []) ++ lines) = appended in
-    let alike : new_name ≡ name = cc in
-    let text : other ++ [] ≡ (known ++ []) ++ lines = cc in
-    rw (returns alike)
-    (sym (append-nil other) ∙ text ∙ ap (λ (some : List ℕ). some ++ lines) (append-nil known))
+lent_appended start ended final name new_name lines returns appended = search (rules, append-nil)
 
 -- what a lent writer holds, after the name of the reference
 abbrev lent_contents : {W : Type 0} → (W → Option (List ℕ)) → Lent W → Option (List ℕ)
@@ -234,24 +212,5 @@ pub lent_shown : {W A E : Type 0} (contents : W → Option (List ℕ))
     → (new_lent.out.ghost_name ≡ old_lent.out.ghost_name → final ≡ new_lent.out.now)
     → IfOk result (λ shown. IfSome before (λ given. (lines : List ℕ) × P given shown.status lines
     × Appends (contents start) (contents final) lines))
-lent_shown contents P before first last old_lent new_lent start final (Err error) shown one two
-    three four five six = tt
-lent_shown contents P None first last old_lent new_lent start final (Ok some) shown one two three
-    four five six = tt
-lent_shown contents P (Some given) first last old_lent new_lent start final (Ok some) shown is_old
-    empty starts is_new written returns =
-    let begins = buffered (lent_contents contents) first old_lent is_old empty in
-    let ends = buffered (lent_contents contents) last new_lent is_new (written refl) in
-    let appended : Appends (append_known (lent_contents contents old_lent) [])
-    (append_known (lent_contents contents new_lent) []) shown.0 =
-    subst (λ (old : Option (List ℕ)). Appends old
-    (append_known (lent_contents contents new_lent) []) shown.0) begins
-    (subst (λ (new : Option (List ℕ)). Appends
-    (writer_contents (lent_contents contents) first) new shown.0) ends shown.2) in (
-      shown.0,
-      shown.1,
-      subst (λ (old : Option (List ℕ)). Appends old (contents final) shown.0) (ap contents starts)
-          (lent_appended (contents old_lent.out.now) (contents new_lent.out.now) (contents final)
-          old_lent.out.ghost_name new_lent.out.ghost_name shown.0
-          (λ same. ap contents (returns same)) appended),
-    )
+lent_shown contents P before first last old_lent new_lent start final result shown one two three
+    four five six = grind (arith, common_steps, buffered, lent_appended)

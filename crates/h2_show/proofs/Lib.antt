@@ -1,4 +1,5 @@
 pub mod BlocksLemmas
+mod Names
 pub mod ViewerLemmas
 pub mod ReportLemmas
 pub mod LinesLemmas

@@ -1,27 +1,19 @@
 -- How the lines are put together.
-use Rattle.std.proofs.Common.{◌≡◌, ℕ, ◌+◌, ◌-◌, ◌/◌, ◌<◌, ◌≤◌, not, Bool, true, false}
-use Rattle.std.proofs.Common.{◌%◌, if◌then◌else◌, List, [], ◌∷◌, ◌++◌, length, take, drop, get_or}
-use Rattle.std.proofs.Common.{flat_map}
-use Rattle.std.proofs.Common.{length-take, position, Option, Some, None, refl, sym, ◌∙◌, ap, subst}
-use Rattle.std.proofs.Common.{arith}
-use Rattle.std.proofs.Common.{append_assoc, append-nil, suc, zero, codes, decimal, ◌*◌}
-use Rattle.std.proofs.KnownBytes.{Appends-trans}
-use Rattle.std.proofs.Math.Seq.{drop-cons}
-use Rattle.std.proofs.lemmas.Bool.{not-true, not-false}
-use Rattle.std.proofs.lemmas.Bool.Decides.{nat_tests}
-use Rattle.std.proofs.lemmas.Grind.{common_steps, flat_map-append}
-use Rattle.std.proofs.lemmas.List.{drop_all, take_rest, take-append-drop, take_more, get_or-take}
+use Rattle.h2_show.proofs.Names.{◌≡◌, ℕ, ◌+◌, ◌-◌, ◌<◌, ◌≤◌, not, Bool, true, false, if◌then◌else◌}
+use Rattle.h2_show.proofs.Names.{List, [], ◌∷◌, ◌++◌, length, take, drop, flat_map, length-take}
+use Rattle.h2_show.proofs.Names.{Option, Some, None, refl, sym, ◌∙◌, ap, subst, arith, append_assoc}
+use Rattle.h2_show.proofs.Names.{append-nil, codes, Appends-trans, drop-cons, not-true, not-false}
+use Rattle.h2_show.proofs.Names.{nat_tests, common_steps, flat_map-append, take_rest}
+use Rattle.h2_show.proofs.Names.{take-append-drop, Appends, Reset, Settings, Ping, GoAway}
+use Rattle.h2_show.proofs.Names.{WindowUpdate, shown_octets, flag_word, pair_words, frame_words}
+use Rattle.h2_show.proofs.Names.{rules}
+use Rattle.std.proofs.Common.{◌/◌, ◌%◌, get_or, position, suc, decimal, ◌*◌}
+use Rattle.std.proofs.lemmas.List.{drop_all, take_more, get_or-take}
 use Rattle.std.proofs.lemmas.List.Quantifiers.{position-Some}
 use Rattle.std.proofs.lemmas.List.Sums.{fails_before_first}
-use Rattle.std.specs.Io.KnownBytes.{Appends}
-use Rattle.std.specs.List.{position_or_len}
 use Rattle.std.proofs.lemmas.Fmt.{decimal_digit}
-use Rattle.h2_frame.specs.Frames.{Reset, Settings, Ping, GoAway, WindowUpdate}
-use Rattle.h2_frame.specs.Pairs.{pairs_in, pairs_of}
-use Rattle.h2_show.specs.Lines.{hex_digit, hex_octet, is_plain, shown_octet, shown_octets}
-use Rattle.h2_show.specs.Lines.{flag_word}
-use Rattle.h2_show.specs.Lines.{pair_words}
-use Rattle.h2_show.specs.Lines.{frame_words}
+use Rattle.h2_frame.specs.Pairs.{pairs_of}
+use Rattle.h2_show.specs.Lines.{hex_digit, hex_octet, is_plain, shown_octet}
 use Rattle.h2_frame.proofs.PairLemmas.{length-pairs_in}
 
 -- whether an octet is escaped
@@ -52,10 +44,7 @@ shown_plain (octet ∷ octets) plain =
 -- octets where no place is found
 pub shown_unescaped : (octets : List ℕ) → position (λ octet. not (is_plain octet)) octets ≡ None
     → shown_octets octets ≡ octets
-shown_unescaped octets none =
-    let all : length octets ≤ position_or_len is_escaped octets =
-    grind (arith, nat_tests, common_steps) in
-    shown_plain octets (λ k within. fails_before_first is_escaped octets k 0 (omega arith))
+shown_unescaped octets none = search (rules, nat_tests, shown_plain, fails_before_first)
 
 -- octets up to the first that is escaped, and what follows it
 shown_first : (octets : List ℕ) (count : ℕ) → count < length octets
@@ -68,9 +57,8 @@ shown_first octets count within escaped plain =
     shown_plain (take count octets) (λ k lower.
     let small : k < count = omega (arith, simp length-take at lower) in
     rw get_or-take (plain k (omega arith))) in
-    ap shown_octets (take_more octets count 0 within)
-    ∙ flat_map-append shown_octet (take count octets) (get_or octets count 0 ∷ [])
-    ∙ (λ i. before i ++ (append-nil (shown_octet (get_or octets count 0))
+    ap shown_octets (take_more octets count 0 within) ∙ flat_map-append shown_octet
+    (take count octets) (get_or octets count 0 ∷ []) ∙ (λ i. before i ++ (append-nil _
     ∙ shown_escaped (get_or octets count 0) escaped) i)
 
 -- a turn of writing octets: those as they are, and one that is escaped
@@ -91,13 +79,11 @@ text_step octets prefix rest count escape start before middle after joined shown
     rw more (Appends-trans before middle after (take count rest) _ plain
     (subst (λ (octets : List ℕ). Appends middle after octets) is escaped)) in (
       prefix ++ take (count + 1) rest,
-      joined
-          ∙ ap (λ (others : List ℕ). prefix ++ others) (sym (take-append-drop (count + 1) rest))
-          ∙ sym (append_assoc prefix (take (count + 1) rest) (drop (count + 1) rest))
-          ∙ ap (λ (others : List ℕ). (prefix ++ take (count + 1) rest) ++ others)
+      joined ∙ ap (λ (others : List ℕ). prefix ++ others) (sym (take-append-drop (count + 1) rest))
+          ∙ sym (append_assoc prefix (take (count + 1) rest) (drop (count + 1) rest)) ∙ ap
+          (λ (others : List ℕ). (prefix ++ take (count + 1) rest) ++ others)
           (sym (take_rest rest (count + 1))),
-      rw (flat_map-append shown_octet prefix (take (count + 1) rest))
-          (Appends-trans start before after _ _ shown turn),
+      rw (flat_map-append shown_octet _ _) (Appends-trans start before after _ _ shown turn),
     )
 
 -- the last turn, where none of the rest is escaped
@@ -106,18 +92,14 @@ pub text_end : (octets prefix rest : List ℕ) (start before after : Option (Lis
     → position (λ octet. not (is_plain octet)) rest ≡ None → Appends before after rest
     → Appends start after (shown_octets octets)
 text_end octets prefix rest start before after joined shown none last =
-    subst (λ (text : List ℕ). Appends start after text)
-    (ap (λ (text : List ℕ). shown_octets prefix ++ text) (sym (shown_unescaped rest none))
-    ∙ sym (flat_map-append shown_octet prefix rest) ∙ ap shown_octets (sym joined))
-    (Appends-trans start before after _ rest shown last)
+    grind (arith, common_steps, shown_unescaped, flat_map-append, Appends-trans)
 
 -- the next octet in hexadecimal, and those after it
 hexadecimal_from : (octets : List ℕ) (index : ℕ) → index < length octets
     → flat_map hex_octet (drop index octets)
     ≡ hex_digit (get_or octets index 0 / 16) ∷ hex_digit (get_or octets index 0 % 16)
     ∷ flat_map hex_octet (drop (suc index) octets)
-hexadecimal_from octets index within =
-    ap (flat_map hex_octet) (drop-cons octets index 0 within)
+hexadecimal_from octets index within = ap (flat_map hex_octet) (drop-cons _ _ 0 within)
 
 -- eight octets in hexadecimal
 pub eight_in_hexadecimal : (octets : List ℕ) → length octets ≡ 8

@@ -1,30 +1,16 @@
 -- What a piece prints, call by call of the cutter.
-use Rattle.std.proofs.Common.{◌≡◌, ◌≢◌, ℕ, ◌+◌, ◌-◌, not, ◌&&◌, Bool, true, false}
-use Rattle.std.proofs.Common.{if◌then◌else◌, List, [], ◌∷◌, ◌++◌, length, take, drop}
-use Rattle.std.proofs.Common.{Option, Some, None, MatchOption, refl, sym, ◌∙◌, ap, subst}
-use Rattle.std.proofs.Common.{append_assoc, append-nil}
-use Rattle.std.proofs.lemmas.List.{take-append-drop}
-use Rattle.std.proofs.KnownBytes.{Appends-trans}
-use Rattle.std.specs.Io.KnownBytes.{Appends}
-use Rattle.h2_frame.specs.Frames.{Frame, frame_of}
-use Rattle.h2_frame.specs.declared.frame.FrameRef.{FrameRef}
-use Rattle.h2_wire.specs.declared.cut.Cut.{Cut}
-use Rattle.h2_wire.specs.declared.fault.WireFault.{WireFault}
+use Rattle.h2_show.proofs.Names.{◌≡◌, ◌≢◌, ℕ, ◌+◌, ◌-◌, not, ◌&&◌, Bool, true, false, if◌then◌else◌}
+use Rattle.h2_show.proofs.Names.{List, [], ◌∷◌, ◌++◌, length, take, drop, Option, Some, None}
+use Rattle.h2_show.proofs.Names.{MatchOption, refl, sym, ◌∙◌, ap, subst, append_assoc, append-nil}
+use Rattle.h2_show.proofs.Names.{take-append-drop, Appends-trans, Appends, Frame, frame_of}
+use Rattle.h2_show.proofs.Names.{FrameRef, Cut, WireFault, Limits, CutterState, CutterContinues}
+use Rattle.h2_show.proofs.Names.{CutterAdvances, CutterFaults, CutterFails, Blocks, BlockError}
+use Rattle.h2_show.proofs.Names.{Wire, Block, Fault, BlocksRepresent, BlockErrorReports, frame_line}
+use Rattle.h2_show.proofs.Names.{Shows, BlocksShow, due_line, ViewerShows, ViewerPrints}
+use Rattle.h2_show.proofs.Names.{error_lines, ViewerFailsWith, IsStreamFault, common_steps, rules}
+use Rattle.h2_show.proofs.Names.{arith}
 use Rattle.h2_wire.specs.declared.fault.WireFault.TheVariants as faults
-use Rattle.h2_wire.specs.Streams.{Limits}
-use Rattle.h2_wire.specs.Cutter.{CutterState, CutterContinues, CutterAdvances}
-use Rattle.h2_wire.specs.Cutter.{CutterFaults, CutterFails}
-use Rattle.h2_show.specs.declared.blocks.Blocks.{Blocks}
-use Rattle.h2_show.specs.declared.blocks.BlockError.{BlockError}
 use Rattle.h2_show.specs.declared.blocks.BlockError.TheVariants as errors
-use Rattle.h2_show.specs.declared.viewer.ShowError.TheVariants.{Wire, Block}
-use Rattle.h2_show.specs.declared.status.Status.TheVariants.{Fault}
-use Rattle.h2_show.specs.Blocks.{BlocksRepresent, BlockErrorReports}
-use Rattle.h2_show.specs.Lines.{frame_line}
-use Rattle.h2_show.specs.Shown.{Shows}
-use Rattle.h2_show.specs.Printed.{BlocksShow, due_line, ViewerShows, ViewerPrints, error_lines}
-use Rattle.h2_show.specs.Printed.{ViewerFailsWith}
-use Rattle.h2_show.specs.Viewer.{IsStreamFault}
 use Rattle.h2_show.proofs.BlocksShown.{show_represents}
 use Rattle.h2_show.proofs.PrintedLemmas.{show_nothing, show_frame}
 use Rattle.h2_show.proofs.FaultLemmas.{wire_shows, block_shows}
@@ -35,10 +21,7 @@ same_shows : (cutter : CutterState) (blocks : Blocks) (due expects : Bool) (limi
     (stream other output text : List ℕ) → stream ≡ other → output ≡ text
     → ViewerShows cutter blocks due expects limits stream output
     → ViewerShows cutter blocks due expects limits other text
-same_shows cutter blocks due expects limits stream other output text same alike shows =
-    subst (λ (octets : List ℕ). ViewerShows cutter blocks due expects limits octets text) same
-    (subst (λ (some : List ℕ). ViewerShows cutter blocks due expects limits stream some) alike
-    shows)
+same_shows cutter blocks due expects limits stream other output text same alike shows = search rules
 
 -- no octets print nothing
 pub prints_none : (cutter : CutterState) (blocks : Blocks) (due : Bool)
@@ -55,10 +38,7 @@ pub prints_append : (cutter mid new_cutter : CutterState) (blocks mid_blocks new
     → ViewerPrints cutter blocks due (first ++ second) new_cutter new_blocks new_due (one ++ two)
 prints_append cutter mid new_cutter blocks mid_blocks new_blocks due mid_due new_due first second
     one two before after expects limits stream output shows =
-    same_shows new_cutter new_blocks new_due expects limits _ _ _ _
-    (append_assoc stream first second) (append_assoc output one two)
-    (after expects limits (stream ++ first) (output ++ one)
-    (before expects limits stream output shows))
+    grind (arith, common_steps, same_shows, append_assoc)
 
 -- a call that answers no frame
 pub prints_without_frame : (cutter mid new_cutter : CutterState) (blocks mid_blocks : Blocks)
@@ -113,8 +93,7 @@ prints_frame cutter mid new_cutter blocks mid_blocks new_blocks due mid_due new_
     (frame_of frame) listed shows cuts takes)))
 
 and_true : (one : Bool) → (one && true) ≡ one
-and_true true = refl
-and_true false = refl
+and_true one = search rules
 
 -- the lines of a frame, written one after another
 pub frame_written : (start before one two three : Option (List ℕ)) (due : Bool)
@@ -123,10 +102,7 @@ pub frame_written : (start before one two three : Option (List ℕ)) (due : Bool
     → Appends one two line → Appends two three listed
     → Appends start three (printed ++ (due_line due ++ (line ++ listed)))
 frame_written start before one two three due printed line listed first second third fourth =
-    Appends-trans start before three printed _ first
-    (Appends-trans before one three (due_line due) _
-    (subst (λ (some : Bool). Appends before one (due_line some)) (and_true due) second)
-    (Appends-trans one two three line listed third fourth))
+    grind (arith, common_steps, Appends-trans, and_true)
 
 -- a fault in what follows a prefix of the piece, with what that prefix printed
 wire_fails : (fault : WireFault) (cutter mid new_cutter : CutterState) (blocks mid_blocks : Blocks)

@@ -1,17 +1,12 @@
 -- The line of the preface comes first.
-use Rattle.std.proofs.Common.{◌≡◌, ◌⊎◌, ℕ, ◌+◌, ◌<◌, nat_lt, Bool, true, false}
-use Rattle.std.proofs.Common.{if◌then◌else◌, List, [], ◌∷◌, ◌++◌, length, take, drop, bytes_eq}
-use Rattle.std.proofs.Common.{refl, sym, ◌∙◌, ap, arith, inl, inr, append_assoc}
-use Rattle.std.proofs.Common.{length-append, length-take}
-use Rattle.std.proofs.lemmas.Bool.Decides.{nat_tests}
-use Rattle.std.proofs.lemmas.Bool.{cases_Bool}
-use Rattle.std.proofs.lemmas.List.{take-append-drop}
+use Rattle.h2_show.proofs.Names.{◌≡◌, ℕ, ◌+◌, ◌<◌, Bool, true, false, if◌then◌else◌, List, [], ◌∷◌}
+use Rattle.h2_show.proofs.Names.{◌++◌, length, take, drop, refl, sym, ◌∙◌, ap, arith, inl, inr}
+use Rattle.h2_show.proofs.Names.{append_assoc, length-append, length-take, nat_tests, cases_Bool}
+use Rattle.h2_show.proofs.Names.{take-append-drop, Frame, Limits, preface, expected_preface}
+use Rattle.h2_show.proofs.Names.{CutterState, CutterRepresents, preface_line, preface_lines}
+use Rattle.std.proofs.Common.{◌⊎◌, nat_lt, bytes_eq}
 use lib.Pointwise.{bytes_decides}
-use Rattle.h2_frame.specs.Frames.{Frame}
-use Rattle.h2_wire.specs.Streams.{Limits, preface, expected_preface, IsWrongPreface}
-use Rattle.h2_wire.specs.Cutter.{CutterState, CutterRepresents}
-use Rattle.h2_show.specs.Lines.{preface_line}
-use Rattle.h2_show.specs.Shown.{preface_lines}
+use Rattle.h2_wire.specs.Streams.{IsWrongPreface}
 
 -- the line of a preface that is complete, where one is expected
 abbrev pub whole_preface : Bool → List ℕ
@@ -54,13 +49,11 @@ same_element (octet ∷ prefix) first second one other same =
 pub wrong_lines : (expects : Bool) (stream : List ℕ) (frames : List Frame) (place : ℕ)
     → IsWrongPreface expects frames (take place stream) → preface_lines expects stream ≡ []
 wrong_lines expects stream frames place wrong =
-    unequal_lines expects stream (λ same.
-    wrong.differs (same_element wrong.prefix (drop place stream)
-    (wrong.missing ++ drop 24 stream) wrong.wrong wrong.right
+    unequal_lines _ _ (λ same. wrong.differs (same_element wrong.prefix _ _ wrong.wrong wrong.right
     (sym (append_assoc wrong.prefix (wrong.wrong ∷ []) (drop place stream))
-    ∙ ap (λ (octets : List ℕ). octets ++ drop place stream) (sym wrong.reads)
-    ∙ take-append-drop place stream ∙ sym (take-append-drop 24 stream)
-    ∙ ap (λ (octets : List ℕ). octets ++ drop 24 stream) (same ∙ wrong.opens)
+    ∙ ap (λ (octets : List ℕ). octets ++ drop place stream) (sym wrong.reads) ∙ take-append-drop _ _
+    ∙ sym (take-append-drop 24 stream) ∙ ap (λ (octets : List ℕ). octets ++ drop 24 stream)
+    (same ∙ wrong.opens)
     ∙ append_assoc wrong.prefix (wrong.right ∷ wrong.missing) (drop 24 stream))))
 
 -- Either the stream is inside the preface, after no frame, or it begins with what is expected.

@@ -1,17 +1,11 @@
 -- What is printed of a piece, frame by frame.
-use Rattle.std.proofs.Common.{◌≡◌, ℕ, ◌+◌, ◌<◌, not, ◌&&◌, Bool, true, false}
-use Rattle.std.proofs.Common.{if◌then◌else◌, List, [], ◌∷◌, ◌++◌, length, flat_map}
-use Rattle.std.proofs.Common.{refl, sym, ◌∙◌, ap, subst, arith, inl, inr}
-use Rattle.std.proofs.Common.{append_assoc, append-nil, length-append}
-use Rattle.h2_frame.specs.Frames.{Frame}
-use Rattle.h2_wire.specs.Streams.{Limits, expected_preface, preface}
-use Rattle.h2_wire.specs.Cutter.{CutterState, CutterRepresents, CutterContinues}
-use Rattle.h2_block.specs.Grouping.{Item, alone, block}
-use Rattle.hpack.specs.Tables.{Entries}
-use Rattle.h2_show.specs.declared.blocks.Blocks.{Blocks}
-use Rattle.h2_show.specs.Lines.{frame_line, preface_line}
-use Rattle.h2_show.specs.Shown.{AreShown, preface_lines}
-use Rattle.h2_show.specs.Printed.{BlocksShow, due_line, ViewerShows}
+use Rattle.h2_show.proofs.Names.{◌≡◌, ℕ, ◌+◌, ◌<◌, not, ◌&&◌, Bool, true, false, if◌then◌else◌}
+use Rattle.h2_show.proofs.Names.{List, [], ◌∷◌, ◌++◌, length, flat_map, refl, sym, ◌∙◌, ap, subst}
+use Rattle.h2_show.proofs.Names.{arith, inl, inr, append_assoc, append-nil, length-append, Frame}
+use Rattle.h2_show.proofs.Names.{Limits, expected_preface, preface, CutterState, CutterRepresents}
+use Rattle.h2_show.proofs.Names.{CutterContinues, Item, Entries, Blocks, frame_line, preface_line}
+use Rattle.h2_show.proofs.Names.{AreShown, preface_lines, BlocksShow, due_line, ViewerShows}
+use Rattle.h2_show.proofs.Names.{common_steps, rules}
 use Rattle.h2_show.proofs.PrefaceLemmas.{whole_preface, opened_lines, inside_lines, preface_state}
 use Rattle.hpack.proofs.Tests.{and_false}
 
@@ -25,25 +19,11 @@ nothing_joined (one ∷ first) second none = absurd (cc)
 nothing_shown : (table after : Entries) (items : List Item) (frames : List Frame) (lines : List ℕ)
     → frames ≡ [] → AreShown table items frames after lines → lines ≡ []
 nothing_shown table after [] frames lines none (all, same, empty) = empty
-nothing_shown table after (alone frame ∷ items) frames lines none
-    (following, text, joined, is, all, one) =
-    absurd (let wrong : [] ≡ frame ∷ following = sym none ∙ joined in cc)
-nothing_shown table after (block stream end octets ∷ items) frames lines none
-    (first, following, text, fields, next, joined, is, decoded, all, one) =
-    let empty : first ≡ [] = (nothing_joined first following (sym joined ∙ none)).0 in
-    elim is.0 [
-      | inl single ↦ absurd (let wrong = sym empty ∙ single.one in cc)
-      | inr ended ↦ absurd (let wrong =
-          (nothing_joined ended.preceding _ (sym (sym empty ∙ ended.ended))).1 in cc)
-    ]
+nothing_shown table after items frames lines none is = grind (arith, common_steps, nothing_joined)
 
 no_lines : (blocks : Blocks) (frames : List Frame) (lines : List ℕ)
     → BlocksShow blocks frames lines → frames ≡ [] → lines ≡ []
-no_lines blocks frames lines shows none =
-    let parts = nothing_joined shows.complete shows.left (sym shows.joined ∙ none) in
-    let first : shows.first ≡ [] =
-    nothing_shown _ _ shows.items shows.complete shows.first parts.0 shows.shown in
-    shows.all ∙ (λ i. first i ++ flat_map frame_line (parts.1 i))
+no_lines blocks frames lines shows none = search (rules, nothing_joined, nothing_shown, flat_map)
 
 -- the line of the preface, where it is due, is what is missing
 pub settle : (cutter : CutterState) (blocks : Blocks) (due expects : Bool) (limits : Limits)
@@ -104,8 +84,7 @@ show_frame cutter new_cutter blocks new_blocks due expects limits stream output 
     ]
 
 and_true : (one : Bool) → (one && true) ≡ one
-and_true true = refl
-and_true false = refl
+and_true one = search rules
 
 -- a call that answers no frame, and what of the preface is complete after it
 pub show_nothing : (past : Bool) (cutter new_cutter : CutterState) (blocks : Blocks)

@@ -1,35 +1,19 @@
 -- What a run of the cutter and the blocks reports of the stream.
-use Rattle.std.proofs.Common.{◌≡◌, ℕ, ◌==◌, not, ◌&&◌, Bool, false, List, []}
-use Rattle.std.proofs.Common.{◌∷◌, ◌++◌, length, take, if◌then◌else◌, Option, Some, None, IfSome}
-use Rattle.std.proofs.Common.{subst, sym, ap, ◌∙◌, arith, append_assoc, append-nil}
-use Rattle.std.proofs.Common.{length-append, Result, Ok, Err, IfOk}
-use Rattle.std.specs.Option.{is_some}
-use Rattle.std.specs.Io.KnownBytes.{Consumes, IsAtEnd}
-use Rattle.std.proofs.KnownBytes.{Consumes-trans, Consumes-whole}
-use Rattle.std.proofs.lemmas.List.{take-append-le}
-use Rattle.std.proofs.lemmas.Bool.Decides.{nat_tests}
-use Rattle.hpack.specs.Tables.{Entries}
-use Rattle.h2_frame.specs.declared.code.Code.{Code}
-use Rattle.h2_frame.specs.Frames.{Frame}
-use Rattle.h2_wire.specs.declared.fault.WireFault.{WireFault}
+use Rattle.h2_show.proofs.Names.{◌≡◌, ℕ, ◌==◌, not, ◌&&◌, Bool, List, [], ◌++◌, length, take}
+use Rattle.h2_show.proofs.Names.{if◌then◌else◌, Option, Some, None, IfSome, subst, sym, ap, ◌∙◌}
+use Rattle.h2_show.proofs.Names.{arith, append_assoc, append-nil, length-append, Result, Ok, Err}
+use Rattle.h2_show.proofs.Names.{IfOk, is_some, Consumes, IsAtEnd, Consumes-trans, Consumes-whole}
+use Rattle.h2_show.proofs.Names.{take-append-le, nat_tests, Entries, Code, Frame, WireFault, Limits}
+use Rattle.h2_show.proofs.Names.{Frames, CutterState, Begun, Blocks, ShowOptions, Shown, ShowError}
+use Rattle.h2_show.proofs.Names.{Wire, Block, Status, Good, Fault, ViewerContinues, ViewerFails}
+use Rattle.h2_show.proofs.Names.{IsStreamFault, StatusReportsOctets, begins_with_preface, limits_of}
+use Rattle.h2_show.proofs.Names.{common_steps, rules}
 use Rattle.h2_wire.specs.declared.fault.WireFault.TheVariants as faults
-use Rattle.h2_wire.specs.Streams.{Limits, Frames, EndsWithFault}
-use Rattle.h2_wire.specs.Cutter.{CutterState}
-use Rattle.h2_block.specs.Grouping.{Begun}
-use Rattle.h2_show.specs.declared.blocks.Blocks.{Blocks}
 use Rattle.h2_show.specs.declared.blocks.BlockError.TheVariants as errors
-use Rattle.h2_show.specs.declared.options.ShowOptions.{ShowOptions}
-use Rattle.h2_show.specs.declared.show.Shown.{Shown}
-use Rattle.h2_show.specs.declared.viewer.ShowError.{ShowError}
-use Rattle.h2_show.specs.declared.viewer.ShowError.TheVariants.{Wire, Block, Output}
-use Rattle.h2_show.specs.declared.status.Status.{Status}
-use Rattle.h2_show.specs.declared.status.Status.TheVariants.{Good, Fault}
 use Rattle.h2_show.specs.Blocks.{FramesDecode}
-use Rattle.h2_show.specs.Viewer.{ViewerRepresents, ViewerContinues, ShowErrorReports, ViewerFails}
-use Rattle.h2_show.specs.Viewer.{IsStreamFault, StatusReportsAfter}
+use Rattle.h2_show.specs.Viewer.{ViewerRepresents, ShowErrorReports, StatusReportsAfter}
 use Rattle.h2_show.specs.Report.{StatusReports, HasWireFaultAt, HasBlockErrorAt, IsAtFault}
-use Rattle.h2_show.specs.Report.{inside_frame, inside_block, wire_fault, block_error}
-use Rattle.h2_show.specs.Report.{StatusReportsOctets, begins_with_preface, limits_of}
+use Rattle.h2_show.specs.Report.{wire_fault, block_error}
 
 -- the status at the end of a stream without fault
 end_reports : (expects : Bool) (limits : Limits) (stream : List ℕ) (frames : List Frame)
@@ -37,27 +21,8 @@ end_reports : (expects : Bool) (limits : Limits) (stream : List ℕ) (frames : L
     → Frames expects limits stream frames unparsed → FramesDecode frames begun table
     → StatusReports expects limits stream
     (if length unparsed == 0 && not (is_some begun) then Good else Fault)
-end_reports expects limits stream frames [] None table reading decoded =
-    record { frames = frames; table = table; reading = reading; decoded = decoded }
-end_reports expects limits stream frames [] (Some begun) table reading decoded =
-    inside_block (record {
-      frames = frames;
-      begun = begun;
-      table = table;
-      reading = reading;
-      decoded = decoded;
-    })
-end_reports expects limits stream frames (first ∷ others) begun table reading decoded =
-    let some : (length (first ∷ others) == 0) ≡ false = grind (arith, nat_tests) in
-    rw some (inside_frame (record {
-      frames = frames;
-      unparsed = first ∷ others;
-      begun = begun;
-      table = table;
-      reading = reading;
-      some = λ none. (cc);
-      decoded = decoded;
-    }))
+end_reports expects limits stream frames unparsed begun table reading decoded =
+    grind (arith, common_steps, nat_tests)
 
 -- the status at the end of the input reports all octets
 pub end_reports_after : (expects : Bool) (limits : Limits) (cutter new_cutter : CutterState)
@@ -81,55 +46,30 @@ wire_fault-append : (expects : Bool) (limits : Limits) (stream more : List ℕ) 
     (fault : WireFault) → HasWireFaultAt expects limits stream place fault
     → HasWireFaultAt expects limits (stream ++ more) place fault
 wire_fault-append expects limits stream more place fault found =
-    let same : take place (stream ++ more) ≡ take place stream =
-    take-append-le place stream more found.at.within in
-    record {
-      frames = found.frames;
-      begun = found.begun;
-      table = found.table;
-      at = record {
-        within = simp length-append (let within = found.at.within in omega arith);
-        made = subst (λ (octets : List ℕ).
-            EndsWithFault expects limits found.frames octets fault) (sym same) found.at.made;
-      };
-      decoded = found.decoded;
-    }
+    grind (arith, common_steps, take-append-le, length-append)
 
 -- a frame at fault is so with octets after it
 block_error-append : (expects : Bool) (limits : Limits) (stream more : List ℕ) (place : ℕ)
     (code : Code) → HasBlockErrorAt expects limits stream place code
     → HasBlockErrorAt expects limits (stream ++ more) place code
 block_error-append expects limits stream more place code found =
-    let same : take place (stream ++ more) ≡ take place stream =
-    take-append-le place stream more found.within in
-    record {
-      frames = found.frames;
-      within = simp length-append (let within = found.within in omega arith);
-      reading = subst (λ (octets : List ℕ). Frames expects limits octets found.frames [])
-          (sym same) found.reading;
-      error = found.error;
-    }
+    grind (arith, common_steps, take-append-le, length-append)
 
 -- a stream with a fault is at fault, whatever follows it
 fault_reports : (expects : Bool) (limits : Limits) (stream more : List ℕ) (error : ShowError)
     (cutter : CutterState) → ShowErrorReports expects limits stream error cutter
     → IsStreamFault error → IsAtFault expects limits (stream ++ more)
 fault_reports expects limits stream more (Wire faults.BadPreface) cutter (place, found, at) is =
-    wire_fault place faults.BadPreface
-    (wire_fault-append expects limits stream more place faults.BadPreface found)
+    wire_fault place faults.BadPreface (wire_fault-append _ _ _ _ place faults.BadPreface found)
 fault_reports expects limits stream more (Wire (faults.HeadFault code)) cutter (place, found, at)
-    is =
-    wire_fault place (faults.HeadFault code)
-    (wire_fault-append expects limits stream more place (faults.HeadFault code) found)
+    is = wire_fault place (faults.HeadFault code) (wire_fault-append _ _ _ _ place _ found)
 fault_reports expects limits stream more (Wire (faults.PayloadFault code)) cutter
     (place, found, at) is =
-    wire_fault place (faults.PayloadFault code)
-    (wire_fault-append expects limits stream more place (faults.PayloadFault code) found)
+    wire_fault place (faults.PayloadFault code) (wire_fault-append _ _ _ _ place _ found)
 fault_reports expects limits stream more (Wire faults.Memory) cutter reports is = absurd is
 fault_reports expects limits stream more (Block (errors.Fault code)) cutter (place, found, at) is =
     block_error place code (block_error-append expects limits stream more place code found)
-fault_reports expects limits stream more (Block errors.Memory) cutter reports is = absurd is
-fault_reports expects limits stream more (Output error) cutter reports is = absurd is
+fault_reports expects limits stream more error cutter reports is = search rules
 
 -- the status of an error reports all octets
 pub error_reports_after : (expects : Bool) (limits : Limits) (cutter new_cutter : CutterState)
@@ -141,10 +81,8 @@ pub error_reports_after : (expects : Bool) (limits : Limits) (cutter new_cutter 
 error_reports_after expects limits cutter new_cutter blocks stream octets error status represents
     fails known =
     subst (λ (reported : Status). StatusReports expects limits (stream ++ octets) reported)
-    (sym known.0)
-    (subst (IsAtFault expects limits) (append-nil (stream ++ octets))
-    (fault_reports expects limits (stream ++ octets) [] error new_cutter
-    (fails expects limits stream represents) known.1))
+    (sym known.0) (subst (IsAtFault expects limits) (append-nil (stream ++ octets))
+    (fault_reports _ _ _ [] _ _ (fails expects limits stream represents) known.1))
 
 -- the status at the end of a reader reports all octets that it had
 pub end_reports_all : (cutter new_cutter : CutterState) (blocks new_blocks : Blocks)
@@ -156,11 +94,10 @@ pub end_reports_all : (cutter new_cutter : CutterState) (blocks new_blocks : Blo
     → IfSome before (λ all. StatusReportsAfter cutter blocks all status)
 end_reports_all cutter new_cutter blocks new_blocks before mid after octets buffer count status
     first none zero end continues known =
-    let all : Consumes before after octets =
-    subst (Consumes before after) (append-nil octets)
+    let all : Consumes before after octets = subst (Consumes before after) (append-nil octets)
     (Consumes-trans before mid after octets [] first
     (subst (λ (n : ℕ). Consumes mid after (take n buffer)) zero none)) in
-    Consumes-whole before after octets (λ all. StatusReportsAfter cutter blocks all status) all end
+    Consumes-whole _ _ octets (λ all. StatusReportsAfter cutter blocks all status) all end
     (λ expects limits stream represents.
     end_reports_after expects limits cutter new_cutter blocks new_blocks stream octets status
     represents continues known)
@@ -181,12 +118,11 @@ error_reports_all cutter mid_cutter new_cutter blocks mid_blocks (Some all) (Som
     piece error status read continues fails known =
     λ expects limits stream represents.
     let found = fault_reports expects limits ((stream ++ octets) ++ piece) left error new_cutter
-    (fails expects limits (stream ++ octets) (continues expects limits stream represents))
-    known.1 in
-    let same : ((stream ++ octets) ++ piece) ++ left ≡ stream ++ all =
-    ap (λ (prefix : List ℕ). prefix ++ left) (append_assoc stream octets piece)
-    ∙ append_assoc stream (octets ++ piece) left
-    ∙ ap (λ (after : List ℕ). stream ++ after) (sym read) in
+    (fails expects limits (stream ++ octets) (continues expects limits stream represents)) known.1
+    in
+    let same : ((stream ++ octets) ++ piece) ++ left ≡ stream ++ all = ap
+    (λ (prefix : List ℕ). prefix ++ left) (append_assoc stream _ _) ∙ append_assoc stream
+    (octets ++ piece) left ∙ ap (λ (after : List ℕ). stream ++ after) (sym read) in
     subst (λ (reported : Status). StatusReports expects limits (stream ++ all) reported)
     (sym known.0) (subst (IsAtFault expects limits) same found)
 

@@ -1,23 +1,18 @@
 -- A piece is shown frame by frame.
-use Rattle.std.proofs.Common.{◌≡◌, ℕ, ◌+◌, ◌-◌, ◌≤◌, Bool, List, [], ◌∷◌, ◌++◌, length, take, drop}
-use Rattle.std.proofs.Common.{Option, Some, None, MatchOption, refl, sym, ◌∙◌, ap, subst, arith}
-use Rattle.std.proofs.Common.{append_assoc, append-nil, length-append, length-drop, length-take}
-use Rattle.std.proofs.lemmas.List.{take_rest, take-append-drop}
-use Rattle.std.proofs.Math.Seq.{take-add, take-append_seam}
-use Rattle.h2_frame.specs.Frames.{Frame, frame_of}
-use Rattle.h2_frame.specs.declared.frame.FrameRef.{FrameRef}
-use Rattle.h2_wire.specs.declared.cut.Cut.{Cut}
-use Rattle.h2_wire.specs.declared.fault.WireFault.{WireFault}
+use Rattle.h2_show.proofs.Names.{◌≡◌, ℕ, ◌+◌, ◌-◌, ◌≤◌, Bool, List, [], ◌∷◌, ◌++◌, length, take}
+use Rattle.h2_show.proofs.Names.{drop, Some, None, MatchOption, refl, sym, ◌∙◌, ap, subst, arith}
+use Rattle.h2_show.proofs.Names.{append_assoc, append-nil, length-append, length-take, take_rest}
+use Rattle.h2_show.proofs.Names.{take-append-drop, take-add, take-append_seam, Frame, frame_of}
+use Rattle.h2_show.proofs.Names.{FrameRef, Cut, WireFault, Limits, Frames, CutterState}
+use Rattle.h2_show.proofs.Names.{CutterRepresents, CutterContinues, CutterFaults, CutterFails}
+use Rattle.h2_show.proofs.Names.{CutterAdvances, Blocks, BlockError, Wire, Block, BlocksRepresent}
+use Rattle.h2_show.proofs.Names.{BlockErrorReports, ViewerContinues, ViewerFails, common_steps}
+use Rattle.h2_show.proofs.Names.{rules}
+use Rattle.std.proofs.Common.{length-drop}
 use Rattle.h2_wire.specs.declared.fault.WireFault.TheVariants as faults
-use Rattle.h2_wire.specs.Streams.{Limits, Frames, WireFaultAt}
-use Rattle.h2_wire.specs.Cutter.{CutterState, CutterRepresents, CutterContinues, CutterFaults}
-use Rattle.h2_wire.specs.Cutter.{CutterFails, CutterAdvances}
-use Rattle.h2_show.specs.declared.blocks.Blocks.{Blocks}
-use Rattle.h2_show.specs.declared.blocks.BlockError.{BlockError}
+use Rattle.h2_wire.specs.Streams.{WireFaultAt}
 use Rattle.h2_show.specs.declared.blocks.BlockError.TheVariants as errors
-use Rattle.h2_show.specs.declared.viewer.ShowError.TheVariants.{Wire, Block}
-use Rattle.h2_show.specs.Blocks.{BlocksRepresent, BlockErrorReports}
-use Rattle.h2_show.specs.Viewer.{ViewerRepresents, ViewerContinues, ViewerFails, WireFaultReports}
+use Rattle.h2_show.specs.Viewer.{ViewerRepresents, WireFaultReports}
 
 -- no octets change nothing
 pub continues_nothing : (cutter : CutterState) (blocks : Blocks)
@@ -33,10 +28,7 @@ pub continues_append : (cutter mid_cutter new_cutter : CutterState)
     → ViewerContinues mid_cutter mid_blocks second new_cutter new_blocks
     → ViewerContinues cutter blocks (first ++ second) new_cutter new_blocks
 continues_append cutter mid_cutter new_cutter blocks mid_blocks new_blocks first second one two
-    expects limits stream represents =
-    subst (λ (octets : List ℕ). ViewerRepresents new_cutter new_blocks expects limits octets)
-    (append_assoc stream first second)
-    (two expects limits (stream ++ first) (one expects limits stream represents))
+    expects limits stream represents = grind (arith, common_steps, append_assoc)
 
 -- a call uses no more octets than the piece has after those used
 pub used_within : (piece : List ℕ) (done used : ℕ) → done ≤ length piece
@@ -79,9 +71,7 @@ continues_without_frame cutter mid_cutter new_cutter blocks mid_blocks piece don
     (take cut.used (take (length piece - done) (drop done piece))) [] new_cutter =
     rw none at advances.continues in
     subst (λ (octets : List ℕ). ViewerContinues cutter blocks octets new_cutter mid_blocks)
-    (prefix_append piece done cut.used)
-    (continues_append cutter mid_cutter new_cutter blocks mid_blocks mid_blocks (take done piece) _
-    continues
+    (prefix_append piece done cut.used) (continues_append _ _ _ _ _ _ (take done piece) _ continues
     (step_continues mid_cutter new_cutter mid_blocks mid_blocks _ [] cuts
     (λ so_far represents. subst (λ (frames : List Frame). BlocksRepresent mid_blocks frames)
     (sym (append-nil so_far)) represents)))
@@ -99,34 +89,24 @@ pub continues_with_frame : (cutter mid_cutter new_cutter : CutterState)
 continues_with_frame cutter mid_cutter new_cutter blocks mid_blocks new_blocks piece done cut frame
     continues some advances blocks_continue =
     let cuts : CutterContinues mid_cutter
-    (take cut.used (take (length piece - done) (drop done piece)))
-    (frame_of frame ∷ []) new_cutter =
-    rw some at advances.continues in
+    (take cut.used (take (length piece - done) (drop done piece))) (frame_of frame ∷ []) new_cutter
+    = rw some at advances.continues in
     subst (λ (octets : List ℕ). ViewerContinues cutter blocks octets new_cutter new_blocks)
-    (prefix_append piece done cut.used)
-    (continues_append cutter mid_cutter new_cutter blocks mid_blocks new_blocks (take done piece) _
-    continues
-    (step_continues mid_cutter new_cutter mid_blocks new_blocks _ (frame_of frame ∷ []) cuts
-    blocks_continue))
+    (prefix_append _ _ _) (continues_append _ _ _ _ _ _ _ _ continues
+    (step_continues _ _ _ _ _ _ cuts blocks_continue))
 
 -- a stream, a prefix of the piece, and what follows it
 pub stream_and_piece : (stream piece : List ℕ) (done : ℕ)
     → (stream ++ take done piece) ++ take (length piece - done) (drop done piece)
     ≡ stream ++ piece
-stream_and_piece stream piece done =
-    append_assoc stream (take done piece) _
-    ∙ ap (λ (unused : List ℕ). stream ++ (take done piece ++ unused)) (take_rest piece done)
-    ∙ ap (λ (octets : List ℕ). stream ++ octets) (take-append-drop done piece)
+stream_and_piece stream piece done = search (rules, append_assoc, take_rest, take-append-drop)
 
 -- where the cutter had no fault, a call that fails is at fault
 pub faults_of_sound : (fault : WireFault) (mid new : CutterState) (unused : List ℕ)
     → mid.fault ≡ None
     → MatchOption mid.fault (CutterFaults mid unused fault new) (λ known. new ≡ mid)
     → CutterFaults mid unused fault new
-faults_of_sound fault mid new unused sound fails =
-    subst (λ (known : Option WireFault).
-    MatchOption known (CutterFaults mid unused fault new) (λ known. new ≡ mid))
-    sound fails
+faults_of_sound fault mid new unused sound fails = search rules
 
 -- a fault in what follows a prefix of the piece is one of the stream with the piece
 wire_fault_reports : (fault : WireFault) (cutter mid_cutter new_cutter : CutterState)
@@ -141,8 +121,7 @@ wire_fault_reports : (fault : WireFault) (cutter mid_cutter new_cutter : CutterS
 wire_fault_reports fault cutter mid_cutter new_cutter blocks mid_blocks piece done continues fails
     expects limits stream represents =
     let after = continues expects limits stream represents in
-    let faults = faults_of_sound fault mid_cutter new_cutter
-    (take (length piece - done) (drop done piece)) after.cut.sound fails in
+    let faults = faults_of_sound _ _ _ _ after.cut.sound fails in
     let found = faults.at expects limits (stream ++ take done piece) after.frames after.cut in (
       found.0,
       record {
@@ -164,17 +143,11 @@ pub fails_at_cut : (fault : WireFault) (cutter mid_cutter new_cutter : CutterSta
     → CutterFails mid_cutter (take (length piece - done) (drop done piece)) fault new_cutter
     → ViewerFails cutter blocks piece (Wire fault) new_cutter
 fails_at_cut faults.BadPreface cutter mid_cutter new_cutter blocks mid_blocks piece done continues
-    fails =
-    wire_fault_reports faults.BadPreface cutter mid_cutter new_cutter blocks mid_blocks piece done
-    continues fails
+    fails = wire_fault_reports _ _ _ _ _ _ _ done continues fails
 fails_at_cut (faults.HeadFault code) cutter mid_cutter new_cutter blocks mid_blocks piece done
-    continues fails =
-    wire_fault_reports (faults.HeadFault code) cutter mid_cutter new_cutter blocks mid_blocks piece
-    done continues fails
+    continues fails = wire_fault_reports _ _ _ _ _ _ _ done continues fails
 fails_at_cut (faults.PayloadFault code) cutter mid_cutter new_cutter blocks mid_blocks piece done
-    continues fails =
-    wire_fault_reports (faults.PayloadFault code) cutter mid_cutter new_cutter blocks mid_blocks
-    piece done continues fails
+    continues fails = wire_fault_reports _ _ _ _ _ _ _ done continues fails
 fails_at_cut faults.Memory cutter mid_cutter new_cutter blocks mid_blocks piece done continues
     fails = λ expects limits stream represents. tt
 
@@ -205,17 +178,16 @@ fails_at_frame (errors.Fault code) cutter mid_cutter new_cutter blocks mid_block
     λ expects limits stream represents.
     let after = continues expects limits stream represents in
     let cuts : CutterContinues mid_cutter
-    (take cut.used (take (length piece - done) (drop done piece)))
-    (frame_of frame ∷ []) new_cutter =
-    rw some at advances.continues in
+    (take cut.used (take (length piece - done) (drop done piece))) (frame_of frame ∷ []) new_cutter
+    = rw some at advances.continues in
     let prefix : List ℕ = stream ++ take (done + cut.used) piece in
     let frames : List Frame = after.frames ++ frame_of frame ∷ [] in
-    let same : (stream ++ take done piece)
-    ++ take cut.used (take (length piece - done) (drop done piece)) ≡ prefix =
-    append_assoc stream (take done piece) _
-    ∙ ap (λ (octets : List ℕ). stream ++ octets) (prefix_append piece done cut.used) in
-    let cut_after : CutterRepresents new_cutter expects limits prefix frames =
-    subst (λ (octets : List ℕ). CutterRepresents new_cutter expects limits octets frames) same
+    let same : (stream ++ take done piece) ++ take cut.used
+    (take (length piece - done) (drop done piece)) ≡ prefix =
+    append_assoc stream (take done piece) _ ∙ ap (λ (octets : List ℕ). stream ++ octets)
+    (prefix_append piece done cut.used) in
+    let cut_after : CutterRepresents new_cutter expects limits prefix frames = subst
+    (λ (octets : List ℕ). CutterRepresents new_cutter expects limits octets frames) same
     (cuts.represents expects limits (stream ++ take done piece) after.frames after.cut) in
     let nothing : new_cutter.unparsed ≡ [] = advances.none_unparsed_after_a_frame (rw some refl) in
     let reading : Frames expects limits prefix frames [] = rw nothing at cut_after.split in (
@@ -224,7 +196,7 @@ fails_at_frame (errors.Fault code) cutter mid_cutter new_cutter blocks mid_block
         frames = frames;
         within = simp (length-append, length-take) (omega arith);
         reading = subst (λ (octets : List ℕ). Frames expects limits octets frames [])
-            (sym (take_prefix stream piece (done + cut.used))) reading;
+            (sym (take_prefix stream _ _)) reading;
         error = reports after.frames after.blocks_represent;
       },
       cut_after.place,

@@ -1,5 +1,3 @@
-pub mod Status
-pub mod Hexadecimal
 pub mod Blocks
 pub mod Lines
 pub mod Report

@@ -12,14 +12,14 @@ use Rattle.h2_block.specs.Grouping.{Item, IsLeft}
 use Rattle.h2_show.specs.declared.blocks.Blocks.{Blocks}
 use Rattle.h2_show.specs.declared.blocks.BlockError.TheVariants as errors
 use Rattle.h2_show.specs.declared.options.ShowOptions.{ShowOptions}
-use Rattle.h2_show.specs.declared.status.Status.{Status}
-use Rattle.h2_show.specs.declared.status.Status.TheVariants.{Fault}
+use Rattle.h2_cli.specs.declared.status.Status.{Status}
+use Rattle.h2_cli.specs.declared.status.Status.TheVariants.{Fault}
 use Rattle.h2_show.specs.declared.viewer.ShowError.{ShowError}
 use Rattle.h2_show.specs.declared.viewer.ShowError.TheVariants.{Wire, Block, Output}
 use Rattle.h2_show.specs.Blocks.{first_table, show_table_limit}
 use Rattle.h2_show.specs.Lines.{frame_line, answered_lines, preface_line, fault_line, rest_line}
 use Rattle.h2_show.specs.Lines.{unfinished_line}
-use Rattle.h2_show.specs.Hexadecimal.{without_blanks}
+use Rattle.h2_cli.specs.Hexadecimal.{without_blanks}
 use Rattle.h2_show.specs.Shown.{AreShown, preface_lines, Shows, ShowsOctets}
 
 -- The blocks represent the frames so far, which these lines show.

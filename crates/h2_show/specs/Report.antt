@@ -11,10 +11,10 @@ use Rattle.h2_block.specs.Grouping.{Begun}
 use Rattle.h2_show.specs.declared.options.ShowOptions.{ShowOptions}
 use Rattle.h2_show.specs.declared.options.Side.{Side}
 use Rattle.h2_show.specs.declared.options.Side.TheVariants.{Client, Server}
-use Rattle.h2_show.specs.declared.status.Status.{Status}
-use Rattle.h2_show.specs.declared.status.Status.TheVariants.{Good, Fault, Usage, Device, Memory}
+use Rattle.h2_cli.specs.declared.status.Status.{Status}
+use Rattle.h2_cli.specs.declared.status.Status.TheVariants.{Good, Fault, Usage, Device, Memory}
 use Rattle.h2_show.specs.Blocks.{FramesDecode, EndsWithBlockError}
-use Rattle.h2_show.specs.Hexadecimal.{without_blanks}
+use Rattle.h2_cli.specs.Hexadecimal.{without_blanks}
 
 -- whether an end begins with the preface (RFC 9113, section 3.4)
 -- rule: show (own) The words choose the end and hexadecimal

@@ -13,10 +13,10 @@ use Rattle.h2_wire.specs.Faults.{wire_fault_code}
 use Rattle.h2_wire.specs.Streams.{Limits, Frames, WireFaultAt, expected_preface}
 use Rattle.h2_block.specs.Grouping.{Item, alone, block, IsItem, IsLeft, Begun}
 use Rattle.h2_show.specs.declared.options.ShowOptions.{ShowOptions}
-use Rattle.h2_show.specs.declared.status.Status.{Status}
-use Rattle.h2_show.specs.declared.status.Status.TheVariants.{Good, Fault}
+use Rattle.h2_cli.specs.declared.status.Status.{Status}
+use Rattle.h2_cli.specs.declared.status.Status.TheVariants.{Good, Fault}
 use Rattle.h2_show.specs.Blocks.{EndsWithBlockError, first_table, show_table_limit}
-use Rattle.h2_show.specs.Hexadecimal.{without_blanks}
+use Rattle.h2_cli.specs.Hexadecimal.{without_blanks}
 use Rattle.h2_show.specs.Report.{begins_with_preface, limits_of}
 use Rattle.h2_show.specs.Lines.{frame_line, list_lines, preface_line, fault_line, rest_line}
 use Rattle.h2_show.specs.Lines.{unfinished_line}

@@ -7,7 +7,7 @@ use Rattle.h2_wire.specs.declared.fault.WireFault.TheVariants as faults
 use Rattle.h2_wire.specs.Streams.{Limits}
 use Rattle.h2_wire.specs.Cutter.{CutterState, CutterRepresents, saturated}
 use Rattle.h2_show.specs.declared.blocks.Blocks.{Blocks}
-use Rattle.h2_show.specs.declared.status.Status.{Status}
+use Rattle.h2_cli.specs.declared.status.Status.{Status}
 use Rattle.h2_show.specs.declared.blocks.BlockError.TheVariants as errors
 use Rattle.h2_show.specs.declared.viewer.ShowError.{ShowError}
 use Rattle.h2_show.specs.declared.viewer.ShowError.TheVariants.{Wire, Block, Output}

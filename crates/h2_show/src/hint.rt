@@ -1,8 +1,7 @@
 //! What is likely wrong with the options, or with the input.
 
-use crate::hexadecimal::is_hexadecimal;
 use crate::viewer::ShowError;
-use h2_hints::{answers_http1, asks_http1, is_capture};
+use h2_cli::{answers_http1, asks_http1, is_blank, is_capture};
 use h2_wire::WireFault;
 
 /// What is likely wrong with the options, or with the input, where its first octets are at fault.
@@ -79,3 +78,8 @@ impl Hint {
 
 /// The octets of a frame's head: a fault in the first of them is found at the last one.
 const HEAD: u64 = 9;
+
+// Whether an octet is a hexadecimal digit or a blank.
+fn is_hexadecimal(octet: u8) -> bool {
+    is_blank(octet) || octet.is_ascii_hexdigit()
+}

@@ -4,19 +4,17 @@ ghost use Rattle.std.specs.Prelude.{◌≡◌, ◌≢◌, ◌<◌, ℕ, List, le
 ghost use Rattle.std.specs.Prelude.{◌∷◌, option_map, IfOk, OnOk, IfErr, IfSome};
 ghost use Rattle.std.specs.Io.Buffered.{writer_buffer, writer_contents};
 ghost use Rattle.std.specs.Io.KnownBytes.{Appends};
-ghost use Rattle.h2_show.specs.Hexadecimal.{IsBadHex};
+ghost use Rattle.h2_cli.specs.Hexadecimal.{IsBadHex};
 ghost use Rattle.h2_show.specs.Printed.{ViewerPrints, ViewerFailsWith, ShowsAfter, ShowsText};
 ghost use Rattle.h2_show.specs.Report.{StatusReportsOctets, StatusReportsText, StatusReportsInput};
 ghost use Rattle.h2_show.specs.Shown.{ShowsOctets, ShowsInput};
 ghost use Rattle.h2_show.specs.Viewer.{ViewerContinues, ViewerFails, StatusReportsAfter};
 ghost use Rattle.h2_show.specs.Viewer.{IsStreamFault};
 
-use crate::failure::Failure;
 use crate::hint::Hint;
-use crate::input::{PIECE, new_buffer, read_hex, read_next};
 use crate::options::ShowOptions;
-use crate::status::Status;
 use crate::viewer::{ShowError, Viewer};
+use h2_cli::{Failure, PIECE, Status, new_buffer, read_hex, read_next};
 use std::alloc::Global;
 use std::io::{self, BufWriter, ErrorKind, Read, Write};
 
@@ -29,7 +27,8 @@ pub struct Shown {
     pub hint: Option<Hint>,
 }
 
-/// A writer that is lent.
+/// A writer that is lent: std does not say that a reference inside a `BufWriter` stays the same
+/// one, and the contract of [`show_input`] speaks of the writer's contents.
 #[derive(Drop)]
 struct Lent<'a, W> {
     out: &'a mut W,

@@ -16,7 +16,7 @@ ghost use Rattle.h2_show.specs.declared.viewer.ShowError.TheVariants.{Wire, Bloc
 use crate::blocks::{BlockError, Blocks};
 use crate::lines::{write_frame, write_list};
 use crate::options::Side;
-use crate::status::Status;
+use h2_cli::Status;
 use h2_frame::Code;
 use h2_wire::{Cutter, WireFault};
 use std::alloc::{AllocError, Global};

@@ -10,12 +10,12 @@ use Rattle.std.specs.BTreeMap.Range.{IsRangeOf}
 use Rattle.std.specs.declared.ops.Bound.TheVariants.{Excluded, Unbounded}
 use Rattle.std.specs.Option.{is_some}
 use Rattle.std.proofs.lemmas.Bool.{both_ways, ltb-true}
-use Rattle.h2_machine.specs.End.{StreamEntry, active_entry, reset_entry, StreamMap}
-use Rattle.h2_machine.specs.Machine.{first_active, is_active_entry}
+use Rattle.h2_spec_machine.specs.End.{StreamEntry, active_entry, reset_entry, StreamMap}
+use Rattle.h2_spec_machine.specs.Machine.{first_active, is_active_entry}
 use Rattle.h2_streams.specs.Table.{view_of_kept, active_at, is_reset, IsKeptWell}
 use Rattle.h2_streams.specs.declared.table.Kept.{Kept}
 use Rattle.h2_streams.proofs.KeptEntries.{entry_at, get_kept}
-use Rattle.h2_machine.proofs.SortedEntries.{first_found, first_least, two_least}
+use Rattle.h2_spec_machine.proofs.SortedEntries.{first_found, first_least, two_least}
 use Rattle.h2_streams.proofs.TableSteps.{streams}
 
 -- What is found and active is an active stream.

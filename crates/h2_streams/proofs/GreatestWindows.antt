@@ -12,14 +12,14 @@ use Rattle.std.specs.FinMap as map
 use Rattle.std.proofs.lemmas.Int.{ints}
 use Rattle.std.proofs.lemmas.Bool.{both_ways, ltb-true, ltb-false}
 use Rattle.std.proofs.lemmas.Map.Entries.{place_from_lookup, btree_map_get_place}
-use Rattle.h2_machine.specs.End.{StreamEntry, active_entry, reset_entry, StreamMap, any_above}
-use Rattle.h2_machine.specs.End.{above_by_shift}
+use Rattle.h2_spec_machine.specs.End.{StreamEntry, active_entry, reset_entry, StreamMap, any_above}
+use Rattle.h2_spec_machine.specs.End.{above_by_shift}
 use Rattle.h2_streams.specs.Streams.{is_above_by_shift}
 use Rattle.h2_streams.specs.Table.{view_of_kept, active_at, is_reset, IsKeptWell, greater_of}
 use Rattle.h2_streams.specs.Table.{IsGreatestOffset}
 use Rattle.h2_streams.specs.declared.table.Kept.{Kept}
 use Rattle.h2_streams.proofs.KeptEntries.{entry_at, get_kept}
-use Rattle.h2_machine.proofs.SortedEntries.{above_found, any_found, both_same}
+use Rattle.h2_spec_machine.proofs.SortedEntries.{above_found, any_found, both_same}
 use Rattle.h2_streams.proofs.TableSteps.{streams}
 
 -- the greatest difference among the first of what is kept

@@ -6,9 +6,9 @@ use Rattle.std.proofs.lemmas.Int.{ints}
 use Rattle.std.specs.Ordering.{nat_cmp, is_eq, is_lt}
 use Rattle.std.specs.FinMap as map
 use Rattle.std.specs.FinMap.Entries.{below_all}
-use Rattle.h2_machine.specs.End.{StreamEntry, active_entry, reset_entry, StreamMap}
-use Rattle.h2_machine.specs.Machine.{each_entry, shifted_entry, recv_shifted_entry}
-use Rattle.h2_machine.proofs.ChangedEntries.{changed_entry, get_each}
+use Rattle.h2_spec_machine.specs.End.{StreamEntry, active_entry, reset_entry, StreamMap}
+use Rattle.h2_spec_machine.specs.Machine.{each_entry, shifted_entry, recv_shifted_entry}
+use Rattle.h2_spec_machine.proofs.ChangedEntries.{changed_entry, get_each}
 use Rattle.h2_streams.specs.Table.{view_of_kept, active_at, is_reset}
 use Rattle.h2_streams.specs.declared.table.Kept.{Kept}
 use Rattle.h2_streams.proofs.KeptEntries.{entry_at, get_kept, same_streams}

@@ -6,8 +6,8 @@ use Rattle.std.proofs.lemmas.Bool.{both_ways}
 use Rattle.std.specs.Ordering.{nat_cmp, is_eq}
 use Rattle.std.specs.Cmp.{nat_cmp_total, unsigned_tied, eq_by_cmp_equiv}
 use Rattle.std.specs.FinMap as map
-use Rattle.h2_log.specs.View.{StreamView}
-use Rattle.h2_machine.specs.End.{active_entry, reset_entry, StreamMap, stream_in}
+use Rattle.h2_spec_log.specs.View.{StreamView}
+use Rattle.h2_spec_machine.specs.End.{active_entry, reset_entry, StreamMap, stream_in}
 use Rattle.h2_streams.specs.Table.{view_of_kept, active_map, with_resets, active_at, is_reset}
 use Rattle.h2_streams.specs.Table.{TableState, IsKeptWell, IsNearKept}
 use Rattle.h2_streams.specs.declared.table.Kept.{Kept}

@@ -2,7 +2,7 @@
 use Rattle.std.specs.Prelude.{◌≡◌, ℕ, Bool, ℤ, Option, Some, None, refl}
 use Rattle.std.specs.Coded.{Coded, code_by, coded×, coded_ℕ, coded_ℤ, coded_bool, coded_option}
 use Rattle.std.specs.FinMap as map
-use Rattle.h2_machine.specs.End.{StreamEntry, active_entry, reset_entry, StreamMap}
+use Rattle.h2_spec_machine.specs.End.{StreamEntry, active_entry, reset_entry, StreamMap}
 use Rattle.h2_streams.specs.Table.{TableState}
 
 -- the parts of a stream, or none of a number that was reset

@@ -1,9 +1,9 @@
 -- Entries of the table as values of the machine.
 use Rattle.std.specs.Prelude.{ℕ, ◌^◌, ◌+◌, ◌||◌, Bool, false, ℤ, pos, ◌+ℤ◌, ◌-ℤ◌, int_lt, Option}
 use Rattle.std.specs.Prelude.{Some, None}
-use Rattle.h2_log.specs.View.{StreamView}
-use Rattle.h2_log.specs.Windows.{greatest_window}
-use Rattle.h2_machine.specs.End.{StreamEntry as MachineEntry, active_entry, reset_entry}
+use Rattle.h2_spec_log.specs.View.{StreamView}
+use Rattle.h2_spec_log.specs.Windows.{greatest_window}
+use Rattle.h2_spec_machine.specs.End.{StreamEntry as MachineEntry, active_entry, reset_entry}
 use Rattle.h2_streams.specs.declared.entry.Stream.{Stream}
 use Rattle.h2_streams.specs.declared.entry.Entry.{Entry}
 use Rattle.h2_streams.specs.declared.entry.Entry.TheVariants.{Active, Reset}

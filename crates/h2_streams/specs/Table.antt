@@ -7,8 +7,8 @@ use Rattle.std.specs.Map.{lookup}
 use Rattle.std.specs.BTreeMap.{is_at}
 use Rattle.std.specs.Ordering.{nat_cmp}
 use Rattle.std.specs.FinMap as map
-use Rattle.h2_log.specs.View.{StreamView}
-use Rattle.h2_machine.specs.End.{active_entry, reset_entry, StreamMap}
+use Rattle.h2_spec_log.specs.View.{StreamView}
+use Rattle.h2_spec_machine.specs.End.{active_entry, reset_entry, StreamMap}
 use Rattle.h2_streams.specs.declared.table.Kept.{Kept}
 
 -- what is kept of numbers, with windows as they are now, and the initial windows in force

@@ -4,9 +4,9 @@ ghost use Rattle.std.specs.Prelude.{◌≡◌, ◌^◌, ◌<◌, ℕ, pos, ◌+�
 ghost use Rattle.std.specs.Prelude.{IfSome, OnOk, OnErr};
 ghost use Rattle.std.specs.Option.{option_map};
 ghost use Rattle.std.specs.FinMap as map;
-ghost use Rattle.h2_machine.specs.End.{stream_in, active_entry, reset_entry, any_above};
-ghost use Rattle.h2_machine.specs.Machine.{each_entry, shifted_entry, recv_shifted_entry};
-ghost use Rattle.h2_machine.specs.Machine.{first_active};
+ghost use Rattle.h2_spec_machine.specs.End.{stream_in, active_entry, reset_entry, any_above};
+ghost use Rattle.h2_spec_machine.specs.Machine.{each_entry, shifted_entry, recv_shifted_entry};
+ghost use Rattle.h2_spec_machine.specs.Machine.{first_active};
 ghost use Rattle.h2_streams.specs.Streams.{stream_view, entry_value, is_far, is_above_by_shift};
 ghost use Rattle.h2_streams.specs.Streams.{number_or_none};
 ghost use Rattle.h2_streams.specs.Table.{view_of_kept, is_far_offset, IsNearKept};

@@ -2,17 +2,17 @@
 use Rattle.std.proofs.Common.{◌≡◌, inl, ℕ, Bool, true, false, List, Option, Some, None, refl}
 use Rattle.std.proofs.Common.{IfOk, IfSome, MatchBool, MatchResult, Result, Ok, Err, ap, subst, sym}
 use Rattle.std.specs.Io.KnownBytes.{Appends}
-use Rattle.h2_show.specs.declared.failure.Failure.{Failure}
-use Rattle.h2_show.specs.declared.failure.Failure.TheVariants as failures
+use Rattle.h2_cli.specs.declared.failure.Failure.{Failure}
+use Rattle.h2_cli.specs.declared.failure.Failure.TheVariants as failures
 use Rattle.h2_show.specs.declared.options.ShowOptions.{ShowOptions}
 use Rattle.h2_show.specs.declared.show.Shown.{Shown}
-use Rattle.h2_show.specs.declared.status.Status.{Status}
-use Rattle.h2_show.specs.declared.status.Status.TheVariants.{Good, Fault, Usage, Device, Memory}
-use Rattle.h2_show.specs.Status.{failure_status}
-use Rattle.h2_show.specs.Hexadecimal.{IsBadHex}
+use Rattle.h2_cli.specs.declared.status.Status.{Status}
+use Rattle.h2_cli.specs.declared.status.Status.TheVariants.{Good, Fault, Usage, Device, Memory}
+use Rattle.h2_cli.specs.Status.{failure_status}
+use Rattle.h2_cli.specs.Hexadecimal.{IsBadHex}
 use Rattle.h2_show.specs.Report.{StatusReportsInput, StatusReportsOctets, StatusReportsText}
 use Rattle.h2_show.specs.Shown.{ShowsInput}
-use Rattle.h2_log.specs.declared.role.Role.{Role}
+use Rattle.h2_spec_log.specs.declared.role.Role.{Role}
 use Rattle.h2_events.specs.declared.options.ReplayOptions.{ReplayOptions}
 use Rattle.h2_events.specs.Report.{ReplayReportsInput, ReplayReportsOctets, ReplayReportsText}
 use Rattle.h2_args.specs.Words.{ShowWordsGive, ReplayWordsGive}

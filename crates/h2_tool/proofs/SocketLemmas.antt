@@ -3,17 +3,17 @@ use Rattle.std.proofs.Common.{◌≡◌, inl, inr, ℕ, List, Option, Result, Ok
 use Rattle.std.proofs.Common.{refl}
 use Rattle.std.proofs.Common.{sym, IfErr, OnOk, MatchResult, subst}
 use Rattle.std.specs.Io.KnownBytes.{Appends}
-use Rattle.h2_show.specs.declared.status.Status.{Status}
-use Rattle.h2_show.specs.declared.status.Status.TheVariants.{Good, Fault, Usage, Device, Memory}
+use Rattle.h2_cli.specs.declared.status.Status.{Status}
+use Rattle.h2_cli.specs.declared.status.Status.TheVariants.{Good, Fault, Usage, Device, Memory}
 use Rattle.h2_link.specs.declared.error.LinkError.{LinkError}
 use Rattle.h2_link.specs.declared.error.LinkError.TheVariants as errors
 use Rattle.h2_engines.specs.declared.fetcher.Fetched.{Fetched}
-use Rattle.h2_location.specs.declared.location.TargetFault.{TargetFault}
-use Rattle.h2_location.specs.declared.location.TargetFault.TheVariants as faults
-use Rattle.h2_location.specs.Locations.{IsRefusedUrl}
-use Rattle.h2_sockets.specs.Endings.{status_with}
-use Rattle.h2_sockets.specs.Loopback.{ExchangesPost}
-use Rattle.h2_sockets.specs.Printing.{PrintsResponse, exchange_line}
+use Rattle.h2_net.specs.declared.location.TargetFault.{TargetFault}
+use Rattle.h2_net.specs.declared.location.TargetFault.TheVariants as faults
+use Rattle.h2_net.specs.Locations.{IsRefusedUrl}
+use Rattle.h2_net.specs.Endings.{status_with}
+use Rattle.h2_net.specs.Loopback.{ExchangesPost}
+use Rattle.h2_net.specs.Printing.{PrintsResponse, exchange_line}
 use Rattle.h2_tool.specs.Commands.{EndsWithFetch, GetsSo, GetsUrl, IsRefusedUrlOf, PostsSo}
 use Rattle.h2_tool.specs.Commands.{RefusesUrl}
 

@@ -4,8 +4,8 @@ use Rattle.clap.specs.Words.{HasKind, IsAmong, Kinds, kind_of}
 use Rattle.clap.specs.declared.error.Error.{Error}
 use Rattle.clap.specs.declared.error.kind.ErrorKind.{ErrorKind}
 use Rattle.clap.specs.declared.error.kind.ErrorKind.TheVariants as kinds
-use Rattle.h2_show.specs.declared.status.Status.{Status}
-use Rattle.h2_show.specs.declared.status.Status.TheVariants.{Good, Fault, Usage, Device, Memory}
+use Rattle.h2_cli.specs.declared.status.Status.{Status}
+use Rattle.h2_cli.specs.declared.status.Status.TheVariants.{Good, Fault, Usage, Device, Memory}
 use Rattle.h2_args.specs.Words.{ShowWordsFail, ReplayWordsFail, ProgramWordsFail}
 use Rattle.h2_tool.specs.Commands.{AnswersWords, AsksHelp, EndsByWords, HasWrongWords, IsOfHelp}
 use Rattle.h2_tool.specs.Commands.{IsOfWrongWords, EndsShow, EndsReplay, EndsProgram}

@@ -7,9 +7,9 @@ use Rattle.clap.specs.Words.{IsAmong, Kinds}
 use Rattle.clap.specs.declared.error.kind.ErrorKind.{ErrorKind}
 use Rattle.clap.specs.declared.error.kind.ErrorKind.TheVariants as kinds
 use Rattle.h2_show.specs.declared.options.ShowOptions.{ShowOptions}
-use Rattle.h2_show.specs.declared.status.Status.{Status}
-use Rattle.h2_show.specs.declared.status.Status.TheVariants.{Good, Fault, Usage, Device, Memory}
-use Rattle.h2_show.specs.Hexadecimal.{IsBadHex}
+use Rattle.h2_cli.specs.declared.status.Status.{Status}
+use Rattle.h2_cli.specs.declared.status.Status.TheVariants.{Good, Fault, Usage, Device, Memory}
+use Rattle.h2_cli.specs.Hexadecimal.{IsBadHex}
 use Rattle.h2_show.specs.Shown.{ShowsInput}
 use Rattle.h2_events.specs.declared.options.ReplayOptions.{ReplayOptions}
 use Rattle.h2_events.specs.Report.{ReplayReportsInput}
@@ -20,15 +20,15 @@ use Rattle.h2_args.specs.Words.{loop_faults, program_faults}
 use Rattle.h2_args.specs.declared.sockets.ServeOptions.{ServeOptions}
 use Rattle.h2_link.specs.declared.error.LinkError.{LinkError}
 use Rattle.h2_engines.specs.declared.fetcher.Fetched.{Fetched}
-use Rattle.h2_location.specs.declared.location.Location.{Location}
-use Rattle.h2_location.specs.declared.location.TargetFault.{TargetFault}
-use Rattle.h2_location.specs.declared.location.TargetFault.TheVariants as faults
-use Rattle.h2_location.specs.Locations.{Names, IsRefusedUrl}
-use Rattle.h2_sockets.specs.Endings.{IsServingStatus, status_with}
-use Rattle.h2_sockets.specs.Fetching.{GetsLocation}
-use Rattle.h2_sockets.specs.Loopback.{ExchangesPost}
-use Rattle.h2_sockets.specs.Printing.{PrintsResponse, exchange_line}
-use Rattle.h2_sockets.specs.Serving.{ServesPort}
+use Rattle.h2_net.specs.declared.location.Location.{Location}
+use Rattle.h2_net.specs.declared.location.TargetFault.{TargetFault}
+use Rattle.h2_net.specs.declared.location.TargetFault.TheVariants as faults
+use Rattle.h2_net.specs.Locations.{Names, IsRefusedUrl}
+use Rattle.h2_net.specs.Endings.{IsServingStatus, status_with}
+use Rattle.h2_net.specs.Fetching.{GetsLocation}
+use Rattle.h2_net.specs.Loopback.{ExchangesPost}
+use Rattle.h2_net.specs.Printing.{PrintsResponse, exchange_line}
+use Rattle.h2_net.specs.Serving.{ServesPort}
 
 -- A kind of clap's error that asks for help, or for the version.
 abbrev pub IsOfHelp : ErrorKind → Type 0

@@ -2,7 +2,7 @@
 
 ghost use Rattle.std.specs.Prelude.{◌≡◌, ◌≢◌, List, ℕ, ◌∷◌, MatchResult, codes, map, string_bytes};
 ghost use Rattle.clap.specs.Words.{kind_of};
-ghost use Rattle.h2_show.specs.Status.{failure_status};
+ghost use Rattle.h2_cli.specs.Status.{failure_status};
 ghost use Rattle.h2_tool.specs.Commands.{AnswersWords, EndsShow, EndsReplay, EndsServe, EndsGet};
 ghost use Rattle.h2_tool.specs.Commands.{EndsLoop, EndsProgram, NamesNoCommand, NamesNoReader};
 
@@ -12,8 +12,8 @@ use crate::sockets::{cmd_get, cmd_loop, cmd_serve};
 use clap::Error;
 use clap::error::ErrorKind;
 use h2_args::no_command;
-use h2_hints::write_hint;
-use h2_show::{Failure, Hint, Shown, Status};
+use h2_cli::{Failure, Status, write_hint};
+use h2_show::{Hint, Shown};
 use std::alloc::Global;
 use std::io::{self, Read, Write};
 use std::net::Net;
@@ -138,7 +138,7 @@ fn give_hint<E: Write>(hint: Option<Hint>, from_server: &str, err: &mut E) {
     // The status is that of the stream, whether or not these writes fail.
     let _ = match hint {
         None => Ok(()),
-        Some(Hint::Capture) => write_hint(Some(h2_hints::Hint::Capture), err),
+        Some(Hint::Capture) => write_hint(Some(h2_cli::Hint::Capture), err),
         Some(Hint::Http1) => writeln!(err, "hint: the input is HTTP/1.1, and not HTTP/2"),
         Some(Hint::ClientPreface) => writeln!(
             err,

@@ -5,8 +5,8 @@ ghost use Rattle.h2_tool.specs.Commands.{EndsReplay};
 
 use crate::program::{answer, end_input};
 use h2_args::replay_args;
+use h2_cli::Status;
 use h2_events::replay_input;
-use h2_show::Status;
 use std::alloc::Global;
 use std::io::{Read, Write};
 

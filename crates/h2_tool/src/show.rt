@@ -5,7 +5,8 @@ ghost use Rattle.h2_tool.specs.Commands.{EndsShow};
 
 use crate::program::{answer, end_input};
 use h2_args::show_args;
-use h2_show::{Status, show_input};
+use h2_cli::Status;
+use h2_show::show_input;
 use std::alloc::Global;
 use std::io::{Read, Write};
 

@@ -1,18 +1,17 @@
 //! The commands over sockets: `h2 serve`, `h2 get` and `h2 loop`.
 
 ghost use Rattle.std.specs.Prelude.{◌≡◌, Ok, Err, MatchResult, map, string_bytes};
-ghost use Rattle.h2_location.specs.declared.location.TargetFault.TheVariants.{Memory};
-ghost use Rattle.h2_show.specs.declared.status.Status.TheVariants.{Good};
-ghost use Rattle.h2_sockets.specs.Endings.{status_with, without_hint};
+ghost use Rattle.h2_net.specs.declared.location.TargetFault.TheVariants.{Memory};
+ghost use Rattle.h2_cli.specs.declared.status.Status.TheVariants.{Good};
+ghost use Rattle.h2_net.specs.Endings.{status_with, without_hint};
 ghost use Rattle.h2_tool.specs.Commands.{EndsServe, EndsWithFetch, EndsGet, EndsLoop, RefusesUrl};
 
 use crate::program::{answer, give_up};
 use h2_args::{get_args, loop_args, serve_args};
-use h2_location::{TargetFault, target};
-use h2_show::{Failure, Status};
-use h2_sockets::{
-    Ending, Fetched, LinkError, exchange, get_location, print_exchange, print_response, report,
-    serve_port,
+use h2_cli::{Failure, Status};
+use h2_net::{
+    Ending, Fetched, LinkError, TargetFault, exchange, get_location, print_exchange,
+    print_response, report, serve_port, target,
 };
 use std::alloc::Global;
 use std::io::Write;
@@ -48,7 +47,7 @@ pub fn cmd_serve<N: Net, W: Write, E: Write>(
 ///
 /// The status is [`Status::Good`] for a response that has come, whatever its own status is, and for
 /// help; [`Status::Usage`] for wrong words and a URL that can't be fetched; and else that of
-/// [`h2_sockets::status_of`].
+/// [`h2_net::status_of`].
 pub fn cmd_get<N: Net, W: Write, E: Write>(
     net: &N,
     alloc: Global,
@@ -75,7 +74,7 @@ pub fn cmd_get<N: Net, W: Write, E: Write>(
 /// process, over one TCP connection, and prints how many were sent and how many came back.
 ///
 /// The status is [`Status::Good`] where the response has come, and for help; [`Status::Usage`] for
-/// wrong words; and else that of [`h2_sockets::status_of`].
+/// wrong words; and else that of [`h2_net::status_of`].
 pub fn cmd_loop<N: Net, W: Write, E: Write>(
     net: &N,
     alloc: Global,

@@ -58,6 +58,7 @@ fn serve_input<R: Read, W: Write, H: Handler>(
     Ok(())
 }
 
+// calling: h2_ends
 /// Takes what was read, and answers the requests whose heads are in it.
 fn take_piece<W: Write, H: Handler>(
     alloc: Global,
@@ -81,6 +82,7 @@ fn take_piece<W: Write, H: Handler>(
     }
     release(alloc, server, to)
 }
+// end
 
 /// The answer to a request: the handler's, unless the authority names a user (section 8.3.1).
 fn message_for<H: Handler>(alloc: Global, head: &FieldList, handler: &mut H) -> Result<Message> {
@@ -90,6 +92,7 @@ fn message_for<H: Handler>(alloc: Global, head: &FieldList, handler: &mut H) -> 
     handler.answer(alloc, head)
 }
 
+// calling: h2_ends refusals
 /// Answers a request. A message of ours that breaks a rule resets its stream alone.
 fn answer<W: Write>(
     alloc: Global,
@@ -120,6 +123,7 @@ fn release<W: Write>(alloc: Global, server: &mut Server, to: &mut W) -> Result<(
         released => Ok(released?),
     }
 }
+// end
 
 /// Sends what windows let through, and writes all that waits.
 fn send<W: Write>(alloc: Global, server: &mut Server, to: &mut W) -> Result<()> {

@@ -1,10 +1,8 @@
 -- What the steps of a call make of a buffer's state.
 use Rattle.std.proofs.Common.{◌≡◌, ◌≢◌, ℕ, ◌+◌, ◌-◌, ◌<◌, ◌≤◌, Bool, false, List, ◌++◌, length}
-use Rattle.std.proofs.Common.{take, drop, [], ◌∷◌}
-use Rattle.std.proofs.Common.{Option, None, Some, MatchOption, Result, Ok, Err, refl, arith}
-use Rattle.std.proofs.Common.{length-append}
-use Rattle.std.proofs.Common.{length-take, length-drop}
-use Rattle.std.proofs.Common.{append_assoc, subst, ap, sym, ◌∙◌}
+use Rattle.std.proofs.Common.{take, drop, [], ◌∷◌, Option, None, Some, MatchOption, Result, Ok, Err}
+use Rattle.std.proofs.Common.{refl, arith, length-append, length-take, length-drop, append_assoc}
+use Rattle.std.proofs.Common.{subst, ap, sym, ◌∙◌}
 use Rattle.std.proofs.lemmas.List.{take_rest, take-append-drop, length-take-le, drop-append-le}
 use Rattle.std.proofs.lemmas.List.{get_or-drop, get_or_append_left}
 use Rattle.std.proofs.Math.ListN.{get_or}
@@ -17,12 +15,13 @@ use Rattle.h2_wire.specs.declared.buffer.Phase.{Phase}
 use Rattle.h2_wire.specs.declared.buffer.Phase.TheVariants as phases
 use Rattle.h2_frame.specs.declared.heads.Head.{Head}
 use Rattle.h2_frame.specs.Heads.{head_of, head_fault}
-use Rattle.h2_frame.specs.Frames.{Frame, Encodes, payload_fault}
+use Rattle.h2_frame.specs.Frames.{Frame, Encodes, payload_fault, pad_of}
 use Rattle.h2_frame.proofs.HeadLemmas.{head_of-append}
 use Rattle.h2_wire.specs.Streams.{preface, BeginsWithPreface, GoesPastPreface, Limits}
 use Rattle.h2_wire.specs.Streams.{IsAfterPreface, IsPartial}
 use Rattle.h2_wire.specs.Cutter.{CutterState, saturated, CutterRepresents, CutterFaults}
-use Rattle.h2_wire.specs.Cutter.{CutterFails, CutterPasses, CutterCompletes, octets_of}
+use Rattle.h2_wire.specs.Cutter.{CutterFails, CutterPasses, CutterCompletes, octets_of, octets_at}
+use Rattle.h2_wire.specs.declared.cut.Source.{Source}
 use Rattle.h2_wire.specs.declared.cut.Complete.{Complete}
 use Rattle.h2_wire.specs.declared.cut.Advance.{Advance}
 use Rattle.h2_wire.specs.Buffer.{state_of, unparsed_of, fault_of, is_in_preface, BufferInvariant}
@@ -133,9 +132,10 @@ completes : (old kept new : Buffer) (piece : List ℕ) (start missing_octets : �
     → length old.octets.items + missing_octets ≡ 9 + frame.head.length
     → missing_octets ≤ length (drop start piece)
     → payload_fault frame.head (drop 9 (octets_of (state_of kept) piece frame)) ≡ None
+    → frame.pad ≡ pad_of frame.head (drop 9 (octets_of (state_of kept) piece frame))
     → CutterCompletes (state_of old) piece (start + missing_octets) frame (state_of new)
 completes old kept new piece start missing_octets frame same changed items starts counted enough
-    sound_payload =
+    sound_payload pad =
     let following : List ℕ = drop start piece in
     let complete : length (old.octets.items ++ take missing_octets following)
     ≡ 9 + frame.head.length =
@@ -156,6 +156,7 @@ completes old kept new piece start missing_octets frame same changed items start
         bounded = starts.bounded;
         form = starts.form;
         sound = sound_payload;
+        pad = pad;
       };
       none_unparsed = refl;
       continues = λ value encodes.
@@ -177,36 +178,36 @@ completes old kept new piece start missing_octets frame same changed items start
 
 -- So what `end_frame` answers is what the call makes of the buffer.
 pub ends_frame : (old kept new : Buffer) (piece : List ℕ) (start missing_octets : ℕ)
-    (frame : Complete) (result : Result Advance WireFault)
+    (head : Head) (source : Source) (result : Result Advance WireFault)
     → kept ≡ record old { octets = kept.octets }
-    → octets_of (state_of kept) piece frame
+    → octets_at kept.octets.items piece (9 + head.length) source
     ≡ old.octets.items ++ take missing_octets (drop start piece)
-    → StartsPayload old piece start frame.head
-    → length old.octets.items + missing_octets ≡ 9 + frame.head.length
+    → StartsPayload old piece start head
+    → length old.octets.items + missing_octets ≡ 9 + head.length
     → missing_octets ≤ length (drop start piece)
-    → EndsFrame kept piece (start + missing_octets) frame result new
+    → EndsFrame kept piece (start + missing_octets) head source result new
     → BufferTakes (state_of old) piece result new
-ends_frame old kept new piece start missing_octets frame (Ok advance) same items starts counted
-    enough (sound, answer, changed) =
+ends_frame old kept new piece start missing_octets head source (Ok advance) same items starts
+    counted enough (sound, answer, changed) =
     let within_now : kept.limit ≤ kept.greatest =
     rw (ap (λ (b : Buffer). b.limit) same, ap (λ (b : Buffer). b.greatest) same)
     starts.invariant.within in
     rw answer (record {
       invariant = rw changed (record { within = within_now; fits = tt });
       makes =
-          completes old kept new piece start missing_octets frame same changed items starts counted
-          enough sound;
+          completes old kept new piece start missing_octets _ same changed items starts counted
+          enough sound refl;
     })
-ends_frame old kept new piece start missing_octets frame (Err fault) same items starts counted
+ends_frame old kept new piece start missing_octets head source (Err fault) same items starts counted
     enough (code, faulty, is, changed) =
     let within_now : kept.limit ≤ kept.greatest =
     rw (ap (λ (b : Buffer). b.limit) same, ap (λ (b : Buffer). b.greatest) same)
     starts.invariant.within in
     let following : List ℕ = drop start piece in
     let complete : length (old.octets.items ++ take missing_octets following)
-    ≡ 9 + frame.head.length =
-    length-complete old.octets.items following missing_octets frame.head counted enough in
-    let prefix : frame.head ≡ head_of (old.octets.items ++ take missing_octets following) =
+    ≡ 9 + head.length =
+    length-complete old.octets.items following missing_octets head counted enough in
+    let prefix : head ≡ head_of (old.octets.items ++ take missing_octets following) =
     starts.is_head
     ∙ complete_head old.octets.items following missing_octets (omega (arith, complete)) in
     let within : start ≤ length piece = starts.within in
@@ -218,7 +219,7 @@ ends_frame old kept new piece start missing_octets frame (Err fault) same items 
           refl refl refl (ap (λ (b : Buffer). b.limit) same) (ap (λ (b : Buffer). b.greatest) same)
           (omega (arith, enough, within, length-drop start piece))
           (ap (λ (b : Buffer). saturated (b.place + (start + missing_octets))) same)
-          (wrong_payload (state_of old) piece old.octets.items start missing_octets frame.head code
+          (wrong_payload (state_of old) piece old.octets.items start missing_octets head code
           starts.opens prefix complete (rw items at faulty))));
     }
 

@@ -1,7 +1,7 @@
 -- What a call answers, from what it made of its buffer.
 use Rattle.std.proofs.Common.{◌≡◌, ℕ, ◌+◌, ◌^◌, ◌<◌, length, length-drop, Bool, true, false, List}
-use Rattle.std.proofs.Common.{[], drop, Option, None, Some, IfSome}
-use Rattle.std.proofs.Common.{Result, Ok, Err, refl, ap, arith, inl, inr, lit<}
+use Rattle.std.proofs.Common.{[], drop, Option, None, Some, IfSome, Result, Ok, Err, refl, ap}
+use Rattle.std.proofs.Common.{arith, inl, inr, lit<}
 use Rattle.std.proofs.lemmas.List.{take_all}
 use Rattle.h2_frame.specs.declared.heads.Head.{Head}
 use Rattle.h2_frame.specs.declared.frame.FrameRef.{FrameRef}

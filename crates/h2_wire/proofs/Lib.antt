@@ -1,4 +1,5 @@
 pub mod StreamLemmas
+pub mod BodyLemmas
 pub mod BufferLemmas
 pub mod CallLemmas
 pub mod ReadingLemmas

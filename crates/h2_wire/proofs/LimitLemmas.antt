@@ -1,6 +1,6 @@
 -- Streams with other limits of payloads.
-use Rattle.std.proofs.Common.{◌≡◌, ℕ, ◌+◌, ◌<◌, ◌≤◌, nat_le, max, Bool, true, false, List, []}
-use Rattle.std.proofs.Common.{◌∷◌, length, if◌then◌else◌, None, refl, ap, ◌∙◌, inl, inr, arith}
+use Rattle.std.proofs.Common.{◌≡◌, ℕ, ◌+◌, ◌<◌, ◌≤◌, nat_le, max, Bool, true, false, List, [], ◌∷◌}
+use Rattle.std.proofs.Common.{length, if◌then◌else◌, None, refl, ap, ◌∙◌, inl, inr, arith}
 use Rattle.std.proofs.Common.{length-append}
 use Rattle.std.proofs.lemmas.Bool.{cases_lt, le-leb, lt-leb}
 use Rattle.std.proofs.lemmas.Bool.Decides.{nat_tests}
@@ -10,8 +10,8 @@ use Rattle.h2_frame.specs.Frames.{Frame}
 use Rattle.h2_frame.proofs.HeadLemmas.{form_fault-head_fault, length-head_fault}
 use Rattle.h2_wire.specs.declared.buffer.Phase.{Phase}
 use Rattle.h2_wire.specs.declared.buffer.Phase.TheVariants as phases
-use Rattle.h2_wire.specs.Streams.{preface, expected_preface, Limits, AreFrames}
-use Rattle.h2_wire.specs.Streams.{Frames, IsInsidePreface}
+use Rattle.h2_wire.specs.Streams.{preface, expected_preface, Limits, AreFrames, Frames}
+use Rattle.h2_wire.specs.Streams.{IsInsidePreface}
 use Rattle.h2_wire.specs.Cutter.{CutterState, CutterLimited}
 use Rattle.h2_wire.specs.Buffer.{FitsPhase}
 use Rattle.h2_wire.proofs.ReadingLemmas.{nine_in_frame}

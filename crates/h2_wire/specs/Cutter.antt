@@ -7,7 +7,7 @@ use Rattle.std.specs.Prelude.{◌++◌, length, take, drop, Option, None, Some, 
 use Rattle.std.specs.Prelude.{Result, Ok, Err, true, false, ◌≤◌, if◌then◌else◌}
 use Rattle.h2_frame.specs.declared.code.Code.{Code}
 use Rattle.h2_frame.specs.Heads.{head_of, form_fault, head_fault}
-use Rattle.h2_frame.specs.Frames.{Frame, Encodes, frame_of, payload_fault}
+use Rattle.h2_frame.specs.Frames.{Frame, Data, Encodes, frame_of, payload_fault, pad_of}
 use Rattle.h2_wire.specs.declared.fault.WireFault.{WireFault}
 use Rattle.h2_wire.specs.declared.fault.WireFault.TheVariants as faults
 use Rattle.h2_wire.specs.declared.cut.Source.{Source}
@@ -145,6 +145,36 @@ pub record HasFrame (cutter : CutterState) (piece : List ℕ) (frame : Complete)
   pub bounded : frame.head.length < 2 ^ 24
   pub form : form_fault frame.head ≡ None
   pub sound : payload_fault frame.head (drop 9 (octets_of cutter piece frame)) ≡ None
+  pub pad : frame.pad ≡ pad_of frame.head (drop 9 (octets_of cutter piece frame))
+
+-- the octets from the one where a frame begins
+abbrev pub octets_from : List ℕ → List ℕ → Source → List ℕ
+octets_from kept piece (sources.Piece start) = drop start piece
+octets_from kept piece sources.Kept = kept
+
+-- the octets between two places, if they are there
+abbrev pub octets_within : ℕ → ℕ → List ℕ → Option (List ℕ)
+octets_within first last octets =
+    if nat_le first last && nat_le last (length octets)
+    then Some (take (last - first) (drop first octets)) else None
+
+-- Between pad length and padding of a frame whose payload has so many octets (sections 6.1 and
+-- 6.2): from the tenth octet on, or the eleventh, after nine of the head.
+abbrev pub body_between : Option ℕ → ℕ → List ℕ → Option (List ℕ)
+body_between None count octets = octets_within 9 (9 + count) octets
+body_between (Some padding) count octets = octets_within 10 (9 + count - padding) octets
+
+-- The body of a complete frame where it lies, if such octets are there: its payload without pad
+-- length and padding.
+-- rule: 4.1 (own) A frame that is cut in two is kept until the next call
+abbrev pub body_at : CutterState → List ℕ → Complete → Option (List ℕ)
+body_at cutter piece frame =
+    body_between frame.pad frame.head.length (octets_from cutter.kept piece frame.source)
+
+-- the data of DATA
+abbrev pub data_of_frame : Frame → Option (List ℕ)
+data_of_frame (Data stream end octets pad) = Some octets
+data_of_frame _ = None
 
 -- the frames that a call answered: one or none
 abbrev pub cut_frames : Option FrameRef → List Frame

@@ -4,15 +4,15 @@ use Rattle.std.specs.Prelude.{None, Some, Result, Ok, Err}
 use Rattle.h2_frame.specs.declared.code.Code.{Code}
 use Rattle.h2_frame.specs.declared.heads.Head.{Head}
 use Rattle.h2_frame.specs.Heads.{head_of, form_fault, head_fault}
-use Rattle.h2_frame.specs.Frames.{Frame, payload_fault}
+use Rattle.h2_frame.specs.Frames.{Frame, payload_fault, pad_of}
 use Rattle.h2_wire.specs.declared.fault.WireFault.{WireFault}
 use Rattle.h2_wire.specs.declared.fault.WireFault.TheVariants as faults
 use Rattle.h2_wire.specs.declared.buffer.Buffer.{Buffer}
 use Rattle.h2_wire.specs.declared.buffer.Phase.TheVariants as phases
-use Rattle.h2_wire.specs.declared.cut.Complete.{Complete}
+use Rattle.h2_wire.specs.declared.cut.Source.{Source}
 use Rattle.h2_wire.specs.declared.cut.Advance.{Advance}
 use Rattle.h2_wire.specs.Streams.{Limits, IsAfterPreface}
-use Rattle.h2_wire.specs.Cutter.{CutterState, saturated, CutterRepresents, octets_of, Advances}
+use Rattle.h2_wire.specs.Cutter.{CutterState, saturated, CutterRepresents, octets_at, Advances}
 use Rattle.h2_wire.specs.Buffer.{state_of, BufferInvariant}
 
 -- Whatever the stream was: with these octets appended, exactly the partial frame follows its
@@ -53,15 +53,25 @@ pub record StartsPayload (old : Buffer) (piece : List ℕ) (start : ℕ) (head :
   pub within_greatest : head.length ≤ old.greatest
   pub opens : OpensSoundly (state_of old) (take start piece) old.octets.items head
 
--- The frame is complete with so many octets of the piece, or its payload is at fault.
-abbrev pub EndsFrame : Buffer → List ℕ → ℕ → Complete → Result Advance WireFault → Buffer → Type 0
-EndsFrame old piece used frame (Ok advance) new =
-    (payload_fault frame.head (drop 9 (octets_of (state_of old) piece frame)) ≡ None)
-    × (advance ≡ record { used = used; frame = Some frame })
+-- The frame with this head is complete with so many octets of the piece, or its payload is at
+-- fault.
+abbrev pub EndsFrame : Buffer → List ℕ → ℕ → Head → Source → Result Advance WireFault → Buffer
+    → Type 0
+EndsFrame old piece used head source (Ok advance) new =
+    (payload_fault head (drop 9 (octets_at old.octets.items piece (9 + head.length) source)) ≡ None)
+    × (advance ≡ record {
+      used = used;
+      frame = Some (record {
+        head = head;
+        pad = pad_of head (drop 9 (octets_at old.octets.items piece (9 + head.length) source));
+        source = source;
+      });
+    })
     × (new ≡ record old { phase = phases.Lent; place = saturated (old.place + used) })
-EndsFrame old piece used frame (Err fault) new =
+EndsFrame old piece used head source (Err fault) new =
     (code : Code)
-    × (payload_fault frame.head (drop 9 (octets_of (state_of old) piece frame)) ≡ Some code)
+    × (payload_fault head (drop 9 (octets_at old.octets.items piece (9 + head.length) source))
+    ≡ Some code)
     × (fault ≡ faults.PayloadFault code)
     × (new ≡ record old { phase = phases.Failed fault; place = saturated (old.place + used) })
 

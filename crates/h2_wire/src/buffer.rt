@@ -1,12 +1,12 @@
 //! What a cutter keeps between calls.
 
 ghost use Rattle.std.specs.Prelude.{◌≡◌, ◌≢◌, ◌+◌, ◌<◌, ◌≤◌, ◌++◌, [], length, take, drop, vec_len};
-ghost use Rattle.std.specs.Prelude.{IfSome};
+ghost use Rattle.std.specs.Prelude.{IfSome, MatchOption};
 ghost use Rattle.std.specs.Prelude.{IfNone, IfErr, OnOk, IsOk, None, Some, not, true, false};
 ghost use Rattle.h2_frame.specs.declared.code.Code.{Code as AnyCode};
 ghost use Rattle.h2_frame.specs.Heads.{head_of, form_fault};
 ghost use Rattle.h2_wire.specs.Cutter.{saturated, IsFaultyHead, FaultsAtHead, BeginsWithFrame};
-ghost use Rattle.h2_wire.specs.Cutter.{CutterLimited, octets_of};
+ghost use Rattle.h2_wire.specs.Cutter.{CutterLimited, octets_at, body_at};
 ghost use Rattle.h2_wire.specs.Buffer.{state_of, fault_of, is_in_preface, unparsed_of};
 ghost use Rattle.h2_wire.specs.Buffer.{BufferInvariant};
 ghost use Rattle.h2_wire.specs.Step.{BufferTakes, StartsFrame, StartsPayload, EndsFrame};
@@ -15,22 +15,19 @@ ghost use Rattle.h2_wire.specs.Streams.{preface, BeginsWithPreface, GoesPastPref
 use crate::cut::{Advance, Complete, Source};
 use crate::fault::WireFault;
 use crate::preface::{self, PREFACE};
-use h2_frame::{Head, head, head_fault, payload_fault};
+use h2_frame::{HEAD_LEN, Head, head, head_fault, pad_length};
 use std::alloc::Global;
-
-/// The octets of a head.
-pub(crate) const HEAD: usize = 9;
 
 /// What a cutter expects next.
 #[derive(Clone, Copy, Debug)]
 pub(crate) enum Phase {
-    /// What is missing of the preface, of which so many octets were matched.
+    /// The rest of the preface, of which so many octets were matched.
     Preface(usize),
-    /// What is missing of a head.
+    /// A head, or the rest of one.
     Head,
-    /// What is missing of a payload after this head, which had no fault when it came.
+    /// A payload after this head, or the rest of one; the head had no fault when it came.
     Payload(Head),
-    /// A head; octets that are kept are those of the frame that was answered last.
+    /// A head; octets that are kept are those of the frame that was returned last.
     Lent,
     /// Nothing, since the stream is at fault.
     Failed(WireFault),
@@ -213,7 +210,7 @@ impl Buffer {
         };
         let head = head(&octets);
         if let Some(code) = head_fault(&head, self.limit) {
-            let used = start + (HEAD - self.octets.len());
+            let used = start + (HEAD_LEN - self.octets.len());
             return Err(self.fail(WireFault::HeadFault(code), used));
         }
         self.take_payload(piece, start, head)
@@ -230,7 +227,7 @@ impl Buffer {
         ensures takes { BufferTakes (state_of self.old) piece.now result self.new }
     {
         let following = &piece[start..];
-        let missing = HEAD + head.length as usize - self.octets.len();
+        let missing = HEAD_LEN + head.length as usize - self.octets.len();
         if following.len() < missing {
             self.append(following)?;
             self.pass(Phase::Payload(head), piece.len());
@@ -241,46 +238,73 @@ impl Buffer {
         }
         let used = start + missing;
         if self.octets.is_empty() {
-            let source = Source::Piece(start);
-            return self.end_frame(piece, used, Complete { head, source });
+            return self.end_frame(piece, used, head, Source::Piece(start));
         }
         self.append(&following[..missing])?;
-        let source = Source::Kept;
-        self.end_frame(piece, used, Complete { head, source })
+        self.end_frame(piece, used, head, Source::Kept)
     }
 
     // rule: 4.1 (own) A frame that is cut in two is kept until the next call
-    // So many octets of the piece complete this frame, which may have a fault of its payload.
+    // So many octets of the piece complete the frame with this head, which may have a fault of its
+    // payload.
     fn end_frame(
         &mut self,
         piece: &[u8],
         used: usize,
-        frame: Complete,
+        head: Head,
+        source: Source,
     ) -> Result<Advance, WireFault>
-        requires form { form_fault frame.head ≡ None }
-        requires complete { length (octets_of (state_of self.old) piece.now frame)
-            ≡ 9 + frame.head.length }
-        ensures { EndsFrame self.old piece.now used frame result self.new }
+        requires form { form_fault head ≡ None }
+        requires complete { length (octets_at self.old.octets.items piece.now (9 + head.length)
+            source) ≡ 9 + head.length }
+        ensures { EndsFrame self.old piece.now used head source result self.new }
     {
-        if let Some(code) = payload_fault(&frame.head, self.payload(piece, frame)) {
-            return Err(self.fail(WireFault::PayloadFault(code), used));
+        match pad_length(&head, self.payload(piece, head, source)) {
+            Ok(pad) => {
+                self.pass(Phase::Lent, used);
+                Ok(Advance {
+                    used,
+                    frame: Some(Complete { head, pad, source }),
+                })
+            }
+            Err(code) => Err(self.fail(WireFault::PayloadFault(code), used)),
         }
-        self.pass(Phase::Lent, used);
-        Ok(Advance {
-            used,
-            frame: Some(frame),
-        })
     }
 
     // rule: 4.1 (own) A frame that is cut in two is kept until the next call
-    /// The payload of a complete frame, where it lies.
-    pub(crate) fn payload<'a>(&'a self, piece: &'a [u8], frame: Complete) -> &'a [u8]
-        requires { length (octets_of (state_of self.now) piece.now frame) ≡ 9 + frame.head.length }
-        ensures { result.now ≡ drop 9 (octets_of (state_of self.entry.now) piece.entry.now frame) }
+    /// The payload of the complete frame with this head, where it lies.
+    pub(crate) fn payload<'a>(&'a self, piece: &'a [u8], head: Head, source: Source) -> &'a [u8]
+        requires { length (octets_at self.now.octets.items piece.now (9 + head.length) source)
+            ≡ 9 + head.length }
+        ensures { result.now ≡ drop 9 (octets_at self.entry.now.octets.items piece.entry.now
+            (9 + head.length) source) }
     {
-        match frame.source {
-            Source::Piece(start) => &piece[start + HEAD..start + HEAD + frame.head.length as usize],
-            Source::Kept => &self.octets[HEAD..],
+        match source {
+            Source::Piece(start) => {
+                let begin = start + HEAD_LEN;
+                &piece[begin..begin + head.length as usize]
+            }
+            Source::Kept => &self.octets[HEAD_LEN..],
+        }
+    }
+
+    // rule: 4.1 (own) A frame that is cut in two is kept until the next call
+    // rule: 6.1 With PADDED, DATA has a pad length, data and padding
+    /// The payload of a complete frame without its padding, if such octets are there.
+    pub(crate) fn body<'a>(&'a self, piece: &'a [u8], frame: Complete) -> Option<&'a [u8]>
+        ensures { MatchOption result
+            (body_at (state_of self.entry.now) piece.entry.now frame ≡ None)
+            (λ body. body_at (state_of self.entry.now) piece.entry.now frame
+            ≡ Some body.now) }
+    {
+        let octets = match frame.source {
+            Source::Piece(start) => &piece[start.min(piece.len())..],
+            Source::Kept => &self.octets[..],
+        };
+        let end = HEAD_LEN + frame.head.length as usize;
+        match frame.pad {
+            None => octets.get(HEAD_LEN..end),
+            Some(padding) => octets.get(HEAD_LEN + 1..end.saturating_sub(usize::from(padding))),
         }
     }
 
@@ -292,9 +316,8 @@ impl Buffer {
         ensures none { octets.now ≡ [] → IsOk result }
         ensures same { self.new ≡ record self.old { octets = self.new.octets } }
     {
-        self.octets
-            .extend_from_slice(octets)
-            .map_err(|_| WireFault::Memory)
+        self.octets.extend_from_slice(octets)?;
+        Ok(())
     }
 
     // rule: 5.4.1 The place of a fault counts the octets up to it, with the preface
@@ -325,17 +348,17 @@ impl Buffer {
 
 // rule: 4.2 A fault of a head is known at its ninth octet, whatever memory is
 // The first nine octets of two slices, joined, where there are so many.
-fn nine(partial: &[u8], following: &[u8]) -> Option<[u8; HEAD]>
+fn nine(partial: &[u8], following: &[u8]) -> Option<[u8; HEAD_LEN]>
     requires { length partial.now < 9 }
     ensures some { IfSome result (λ octets. (9 ≤ length partial.now + length following.now)
         × (octets ≡ take 9 (partial.now ++ following.now))) }
     ensures none { IfNone result (length partial.now + length following.now < 9) }
 {
-    let missing = HEAD - partial.len();
+    let missing = HEAD_LEN - partial.len();
     if following.len() < missing {
         return None;
     }
-    let mut octets = [0; HEAD];
+    let mut octets = [0; HEAD_LEN];
     octets[..partial.len()].copy_from_slice(partial);
     octets[partial.len()..].copy_from_slice(&following[..missing]);
     Some(octets)

@@ -11,12 +11,15 @@ pub(crate) enum Source {
     Kept,
 }
 
-/// A complete frame: its head, and whether it lies in the piece that completed it, or in the
-/// cutter, which keeps a frame that was cut in two. [`Cutter::frame`](crate::Cutter::frame) lends
-/// it.
+/// A complete frame: its head, its pad length, and whether it lies in the piece that completed it,
+/// or in the cutter, which keeps a frame that was cut in two.
+/// [`Cutter::frame`](crate::Cutter::frame) lends it, and
+/// [`Cutter::body`](crate::Cutter::body) its payload alone, without padding.
 #[derive(Clone, Copy, Debug, PartialEq, Eq)]
 pub struct Complete {
     pub(crate) head: Head,
+    /// The pad length of a payload that begins with one.
+    pub(crate) pad: Option<u8>,
     pub(crate) source: Source,
 }
 

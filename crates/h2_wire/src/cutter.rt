@@ -2,7 +2,7 @@
 
 ghost use Rattle.std.specs.Prelude.{◌≡◌, ◌≢◌, ◌+◌, ◌<◌, ◌≤◌, ◌++◌, [], length, not, true, false};
 ghost use Rattle.std.specs.Prelude.{None, Some, IfOk};
-ghost use Rattle.std.specs.Prelude.{IsSome, IfSome};
+ghost use Rattle.std.specs.Prelude.{IsSome, IfSome, MatchOption};
 ghost use Rattle.std.specs.Borrow.{sem};
 ghost use Rattle.std.specs.Io.BufRead.{Rests};
 ghost use Rattle.h2_frame.specs.declared.code.Code.{Code};
@@ -10,6 +10,7 @@ ghost use Rattle.h2_frame.specs.Frames.{frame_of, Encodes};
 ghost use Rattle.h2_frame.specs.Encoding.{refusal};
 ghost use Rattle.h2_wire.specs.Cutter.{CutterRepresents, Cuts, FaultsAtHead, BeginsWithFrame};
 ghost use Rattle.h2_wire.specs.Cutter.{CutterLimited, HasFrame, Advances, octets_of};
+ghost use Rattle.h2_wire.specs.Cutter.{body_at, data_of_frame};
 ghost use Rattle.h2_wire.specs.Streams.{GoesPastPreface};
 ghost use Rattle.h2_wire.specs.contracts.cutter.Cutter.{the_row};
 
@@ -106,8 +107,25 @@ impl Cutter {
         // It is one that can be written: its numbers have the bits that their places have, and its
         // stream and values are allowed for its kind.
         ensures good { refusal (frame_of result) ≡ None }
+
+        // The octets of DATA are what [`Cutter::body`] lends.
+        ensures body { IfSome (data_of_frame (frame_of result))
+            (λ octets. body_at self.now piece.now frame ≡ Some octets) }
     {
-        payload_frame(&frame.head, self.buffer.payload(piece, frame))
+        let payload = self.buffer.payload(piece, frame.head, frame.source);
+        payload_frame(&frame.head, frame.pad, payload)
+    }
+
+    // contract: 4.1 (own) A frame that is cut in two is kept until the next call
+    /// Lends the payload of the frame that the last call of [`Cutter::advance`] answered, without
+    /// pad length and padding (RFC 9113, sections 6.1 and 6.2): of DATA its data. `piece` is the
+    /// one that `advance` was given; where no such octets lie there, as in another piece, it is
+    /// `None`. It allocates nothing.
+    pub fn body<'a>(&'a self, piece: &'a [u8], frame: Complete) -> Option<&'a [u8]>
+        ensures { MatchOption result (body_at self.now piece.now frame ≡ None)
+            (λ body. body_at self.now piece.now frame ≡ Some body.now) }
+    {
+        self.buffer.body(piece, frame)
     }
 
     // contract: 3.4 (own) No octet of the preface is stored, so memory is not refused in it

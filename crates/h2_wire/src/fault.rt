@@ -4,10 +4,11 @@ ghost use Rattle.std.specs.Prelude.{◌≡◌};
 ghost use Rattle.h2_wire.specs.Faults.{wire_fault_code};
 
 use h2_frame::Code;
+use std::alloc::AllocError;
 use thiserror::Error;
 
 /// Why a stream isn't cut any further.
-#[derive(Clone, Copy, Debug, PartialEq, Eq, Error)]
+#[derive(Clone, Copy, Debug, PartialEq, Eq, Hash, Error)]
 pub enum WireFault {
     /// An octet isn't that of the preface (RFC 9113, section 3.4).
     #[error("V1 BadPreface: the stream doesn't begin with the preface")]
@@ -21,6 +22,16 @@ pub enum WireFault {
     /// An allocation was refused.
     #[error("V4 Memory: out of memory")]
     Memory,
+}
+
+impl From<AllocError> for WireFault {
+    ghost use Rattle.h2_wire.specs.declared.fault.WireFault.TheVariants.{Memory};
+
+    ghost from_gives = { λ _ fault. fault ≡ Memory };
+
+    fn from(_error: AllocError) -> WireFault {
+        WireFault::Memory
+    }
 }
 
 impl WireFault {

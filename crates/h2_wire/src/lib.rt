@@ -3,8 +3,8 @@
 //! [`Cutter::cut`] takes pieces of any length, and lends each frame once it is complete: from the
 //! piece, or from the cutter where it was cut in two. [`Cutter::advance`] and [`Cutter::frame`] are
 //! its two halves, for whoever changes something in between. The frames that `cut` answers are
-//! those
-//! of the joined octets, and a fault comes at its place in them, however they were cut into pieces.
+//! those of the joined octets, and a fault comes at its place in them, however they were cut into
+//! pieces.
 #![tactic(auto)]
 
 mod buffer;
@@ -21,3 +21,4 @@ pub use laws::{
     frames_are_read_with_wider_limits, no_reading_past_a_fault, nothing_in_a_partial_frame,
     one_fault, one_reading,
 };
+pub use preface::PREFACE;

@@ -3,8 +3,8 @@
 ghost use Rattle.std.specs.Prelude.{◌≡◌, ◌≢◌, ◌+◌, ◌<◌, ◌≤◌, length, take, drop, slice_index};
 ghost use Rattle.h2_wire.specs.Streams.{preface};
 
-/// The octets with which a client begins.
-pub(crate) const PREFACE: [u8; 24] = *b"PRI * HTTP/2.0\r\n\r\nSM\r\n\r\n";
+/// The octets with which a client begins (RFC 9113, section 3.4).
+pub const PREFACE: [u8; 24] = *b"PRI * HTTP/2.0\r\n\r\nSM\r\n\r\n";
 
 // rule: 3.4 The first octet that differs from the preface is PROTOCOL_ERROR, there
 /// How many octets of the piece continue the preface, of which so many were matched already.

@@ -1,16 +1,16 @@
 -- Numbers as bits: joined, split, and read back from octets.
-use Rattle.std.proofs.Common.{◌≡◌, ℕ, zero, suc, ◌+◌, ◌-◌, ◌*◌, ◌/◌, ◌%◌, ◌^◌, ◌<◌, ◌≤◌, Bool}
-use Rattle.std.proofs.Common.{true, false, if◌then◌else◌, List, [], ◌∷◌, ◌++◌, length, replicate}
-use Rattle.std.proofs.Common.{refl, sym, ap, ◌∙◌, subst, arith, append_assoc, append-nil}
-use Rattle.std.proofs.Common.{length-append, pow_pos, add-zero, div-one, add-suc, add-one, one-add}
-use Rattle.std.proofs.Common.{ap₂, take, drop}
-use Rattle.std.proofs.lemmas.List.{take-append-drop, replicate_more, nil_from_length}
-use Rattle.std.proofs.lemmas.List.{length-take-le}
+use Rattle.hpack_text.proofs.Names.{◌≡◌, ℕ, zero, suc, ◌+◌, ◌-◌, ◌*◌, ◌/◌, ◌%◌, ◌^◌, ◌<◌, ◌≤◌, Bool}
+use Rattle.hpack_text.proofs.Names.{true, false, if◌then◌else◌, List, [], ◌∷◌, ◌++◌, length}
+use Rattle.hpack_text.proofs.Names.{replicate, refl, sym, ap, ◌∙◌, subst, arith, append_assoc}
+use Rattle.hpack_text.proofs.Names.{append-nil, length-append, pow_pos, ap₂, take, drop, rules}
+use Rattle.hpack_text.proofs.Names.{take-append-drop, length-take-le, AllByRecursion, IsOctet}
+use Rattle.hpack_text.proofs.Names.{bits_of, bits, number_of_bits, octets_of_bits}
+use Rattle.std.proofs.Common.{add-zero, div-one, add-suc, add-one, one-add}
+use Rattle.std.proofs.lemmas.List.{replicate_more}
 use Rattle.std.proofs.lemmas.Nat.{shr_split, shr_high}
 use Rattle.std.proofs.Math.Nat.{div-div-eq-div-mul, pow-succ'}
 use Rattle.std.proofs.lemmas.Bool.Decides.{nat_tests}
-use Rattle.std.specs.List.{AllByRecursion}
-use Rattle.hpack_text.specs.Bits.{IsOctet, is_odd, bits_of, bits, number_of_bits, octets_of_bits}
+use Rattle.hpack_text.specs.Bits.{is_odd}
 
 -- how many bits
 pub length-bits_of : (n value : ℕ) → length (bits_of n value) ≡ n
@@ -46,9 +46,7 @@ bits_of-low (suc k) high low =
 -- A number shifted by k bits, with a number below 2 ^ k put in, is the bits of both.
 pub bits_of-joined : (n k high low : ℕ) → low < 2 ^ k
     → bits_of (n + k) (high * 2 ^ k + low) ≡ bits_of n high ++ bits_of k low
-bits_of-joined n k high low lt =
-    bits_of-append n k (high * 2 ^ k + low)
-    ∙ ap₂ (λ (x : ℕ) ys. bits_of n x ++ ys) (shr_high high k low lt) (bits_of-low k high low)
+bits_of-joined n k high low lt = search (rules, bits_of-append, bits_of, shr_high, bits_of-low)
 
 -- The bits of a number are those of what is above the lowest k, and those of what is below.
 pub bits_of-split : (n k value : ℕ)
@@ -96,12 +94,6 @@ number_of-bits_of (suc n) value lt =
       number_of-push (bits_of n (value / 2)) (is_odd value),
       number_of_is_odd value,
     )
-
--- Numbers with the same lowest n bits are equal.
-pub same_from_bits : (n value other : ℕ) → value < 2 ^ n → other < 2 ^ n
-    → bits_of n value ≡ bits_of n other → value ≡ other
-same_from_bits n value other lt lt' e = sym (number_of-bits_of n value lt)
-    ∙ (ap number_of_bits e ∙ number_of-bits_of n other lt')
 
 -- n bits are a number below 2 ^ n
 pub number_of-lt : (xs : List Bool) → number_of_bits xs < 2 ^ length xs
@@ -174,20 +166,12 @@ pub record AreOctets (xs : List Bool) (count : ℕ) : Type 0 where
 -- One octet more before them.
 are_octets-more : (octet count : ℕ) (more : List Bool) → octet < 256 → AreOctets more count
     → AreOctets (bits_of 8 octet ++ more) (suc count)
-are_octets-more octet count more small following =
-    let read = octets_of-octet octet more small in
-    record {
-      octets = subst (AllByRecursion IsOctet) (sym read) (small, following.octets);
-      back = ap bits read ∙ ap (λ (ys : List Bool). bits_of 8 octet ++ ys) following.back;
-      counted = ap (λ (ys : List ℕ). length ys) read ∙ ap suc following.counted;
-    }
+are_octets-more octet count more small following = search (rules, octets_of-octet, bits_of)
 
 -- Bits whose number is a multiple of eight are those of the octets that are read from them.
 pub are_octets : (count : ℕ) (xs : List Bool) → length xs ≡ 8 * count → AreOctets xs count
 unfolding octets_of_bits
-are_octets zero xs e =
-    subst (λ ys. AreOctets ys 0) (sym (nil_from_length xs e))
-    (record { octets = tt; back = refl; counted = refl })
+are_octets zero xs e = search rules
 are_octets (suc count) xs e =
     let (octet, more, small, split) = first_octet xs (omega arith) in
     let longer : length xs ≡ 8 + length more = ap (λ (ys : List Bool). length ys) split

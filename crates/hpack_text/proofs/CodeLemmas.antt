@@ -1,17 +1,14 @@
 -- Texts and their codes: which text octets encode, what stands after the longest text, and which
 -- octets are written.
-use Rattle.std.proofs.Common.{◌≡◌, ℕ, ◌+◌, ◌-◌, ◌*◌, ◌<◌, ◌≤◌, Bool, true, List, [], ◌∷◌, ◌++◌}
-use Rattle.std.proofs.Common.{length, replicate, Option, Some, None}
-use Rattle.std.proofs.Common.{refl, sym, ap, ap₂, ◌∙◌, arith, append_assoc, append-nil}
-use Rattle.std.proofs.Common.{length-append}
+use Rattle.hpack_text.proofs.Names.{◌≡◌, ℕ, ◌+◌, ◌-◌, ◌*◌, ◌<◌, ◌≤◌, Bool, true, List, [], ◌∷◌}
+use Rattle.hpack_text.proofs.Names.{◌++◌, length, replicate, Option, Some, None, refl, sym, ap, ap₂}
+use Rattle.hpack_text.proofs.Names.{◌∙◌, arith, append_assoc, append-nil, length-append, rules}
+use Rattle.hpack_text.proofs.Names.{AllByRecursion, TextFault, IsOctet, bits, octets_of_bits, code}
+use Rattle.hpack_text.proofs.Names.{codes, HasEndSymbol, huffman_bits, tree, common_steps}
 use Rattle.std.proofs.lemmas.List.{length-replicate, replicate-append-replicate, nil_from_length}
-use Rattle.std.specs.List.{AllByRecursion}
-use Rattle.hpack_text.specs.declared.fault.TextFault.{TextFault}
 use Rattle.hpack_text.specs.declared.fault.TextFault.TheVariants as faults
-use Rattle.hpack_text.specs.Bits.{IsOctet, bits, octets_of_bits}
-use Rattle.hpack_text.specs.Huffman.{code, codes, Huff, IsLongest, HasEndSymbol, HasBadPadding}
-use Rattle.hpack_text.specs.Huffman.{HuffFault, padding_of, huffman_bits, huffman_length}
-use Rattle.hpack_text.specs.Tree.{tree}
+use Rattle.hpack_text.specs.Huffman.{Huff, IsLongest, HasBadPadding, HuffFault, padding_of}
+use Rattle.hpack_text.specs.Huffman.{huffman_length}
 use Rattle.hpack_text.proofs.BitLemmas.{length-bits, octets_of-bits, are_octets, AreOctets}
 use Rattle.hpack_text.proofs.TreeLemmas.{computing_tree, first_symbol, first_symbol-code}
 use Rattle.hpack_text.proofs.TreeLemmas.{same_symbol}
@@ -55,15 +52,7 @@ other_begins (t ∷ texts) (o ∷ others) following more all all' stuck e =
 pub longest : (bit_list : List Bool) (text : List ℕ) (following : List Bool)
     → AllByRecursion IsOctet text → bit_list ≡ codes text ++ following → IsStuck following
     → IsLongest bit_list text following
-longest bit_list text following all split stuck = record {
-  text_octets = all;
-  split = split;
-  longest = λ other more all' e.
-      let after = other_begins text other following more all all' stuck (sym split ∙ e) in
-      let counted : length text ≡ length other + length after.0 =
-      ap (λ (xs : List ℕ). length xs) after.2 ∙ length-append other after.0 in
-      omega arith;
-}
+longest bit_list text following all split stuck = search (rules, other_begins, length-append)
 
 -- computed: seven ones lead to no symbol
 seven_ones : first_symbol tree (replicate 7 true) ≡ None
@@ -87,9 +76,7 @@ ones_open n few symbol more lt e =
 ones_hold_no_text : (n : ℕ) (text : List ℕ) (following : List Bool) → n ≤ 7
     → AllByRecursion IsOctet text → replicate n true ≡ codes text ++ following → text ≡ []
 ones_hold_no_text n [] following few all e = refl
-ones_hold_no_text n (t ∷ text) following few all e =
-    absurd (ones_open n few t (codes text ++ following) (omega (arith, all.0))
-    (e ∙ append_assoc (code t) (codes text) following))
+ones_hold_no_text n (t ∷ text) following few all e = search (rules, ones_open, append_assoc)
 
 -- After a text that nothing can follow, at most seven ones are read as they are.
 ones_after : (text other : List ℕ) (following : List Bool) (n : ℕ) → n ≤ 7
@@ -97,12 +84,7 @@ ones_after : (text other : List ℕ) (following : List Bool) (n : ℕ) → n ≤
     → codes text ++ following ≡ codes other ++ replicate n true
     → (text ≡ other) × (following ≡ replicate n true)
 ones_after text other following n few all all' stuck e =
-    let (tail, octets, split, after) =
-    other_begins text other following (replicate n true) all all' stuck e in
-    let none = ones_hold_no_text n tail following few octets after in (
-      split ∙ (ap (λ (xs : List ℕ). other ++ xs) none ∙ append-nil other),
-      sym (after ∙ ap (λ (xs : List ℕ). codes xs ++ following) none),
-    )
+    search (rules, other_begins, ones_hold_no_text, append-nil)
 
 -- Nothing can be read where no code begins.
 pub stuck_of_open : (bit_list : List Bool) → IsOpen bit_list → IsStuck bit_list
@@ -110,17 +92,12 @@ stuck_of_open bit_list is_open symbol more lt e = is_open symbol more (omega ari
 
 -- The code of an octet doesn't begin what the code of EOS begins.
 pub end_stuck : (more : List Bool) → IsStuck (code 256 ++ more)
-end_stuck more symbol following lt e =
-    let same = (same_symbol 256 symbol more following (omega arith) (omega arith) e).0 in
-    omega arith
+end_stuck more symbol following lt e = grind (arith, common_steps, same_symbol)
 
 -- Octets encode one text at most.
 pub one_text_lem : (text other octets : List ℕ) → Huff text octets → Huff other octets
     → text ≡ other
-one_text_lem text other octets h h' =
-    (ones_after text other (replicate h.padding true) h'.padding h'.short h.text_octets
-    h'.text_octets
-    (stuck_of_open _ (ones_open h.padding h.short)) (sym h.encoded ∙ h'.encoded)).0
+one_text_lem text other octets h h' = search (rules, ones_after, stuck_of_open, ones_open)
 
 -- Octets in which the code of EOS stands after a text have that fault.
 pub end_symbol_fault : (octets text : List ℕ) (more : List Bool) → AllByRecursion IsOctet text
@@ -170,8 +147,7 @@ pub only_huff_memory : (octets text : List ℕ) (fault : TextFault) → Huff tex
 only_huff_memory octets text faults.Memory encoded h = refl
 only_huff_memory octets text faults.EndSymbol encoded h = absurd (h.none text encoded)
 only_huff_memory octets text faults.BadPadding encoded h = absurd (h.none text encoded)
-only_huff_memory octets text faults.Truncated encoded h = absurd h
-only_huff_memory octets text faults.TooLong encoded h = absurd h
+only_huff_memory octets text fault encoded h = search rules
 
 -- the bits of a text's codes, and the ones that pad the last octet
 abbrev pub padded : List ℕ → List Bool
@@ -179,10 +155,7 @@ padded text = codes text ++ replicate (padding_of (length (codes text))) true
 
 -- The ones pad the last octet.
 length-padded : (text : List ℕ) → length (padded text) ≡ 8 * huffman_length text
-length-padded text =
-    let counted : length (padded text) ≡ length (codes text) + padding_of (length (codes text)) =
-    simp (length-append, length-replicate) refl in
-    omega arith
+length-padded text = grind (arith, common_steps)
 
 -- What is written is a full number of octets.
 pub padded_octets : (text : List ℕ) → AreOctets (padded text) (huffman_length text)
@@ -192,15 +165,7 @@ padded_octets text = are_octets (huffman_length text) (padded text) (length-padd
 pub huffman_bits_encode : (text : List ℕ) → AllByRecursion IsOctet text
     → Huff text (huffman_bits text)
 unfolding huffman_bits
-huffman_bits_encode text all =
-    let back = padded_octets text in
-    record {
-      text_octets = all;
-      octets_octets = back.octets;
-      padding = padding_of (length (codes text));
-      short = omega arith;
-      encoded = back.back;
-    }
+huffman_bits_encode text all = grind (arith, common_steps, padded_octets, padding_of)
 
 -- as many octets as the bits take, rounded up
 pub length-huffman_bits : (text : List ℕ) → length (huffman_bits text) ≡ huffman_length text

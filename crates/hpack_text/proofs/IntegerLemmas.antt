@@ -1,14 +1,13 @@
 -- Integers with a prefix: what is read, what is written, and that no encoding begins another one.
-use Rattle.std.proofs.Common.{◌≡◌, ℕ, zero, suc, ◌+◌, ◌*◌, ◌%◌, ◌^◌, ◌<◌, ◌≤◌, inl, inr, List, []}
-use Rattle.std.proofs.Common.{◌∷◌, ◌++◌, length, get_or, take, drop, Result, Ok, Err, MatchResult}
-use Rattle.std.proofs.Common.{sym, ap, ap₂, ◌∙◌, subst, arith, length-append, pow_mono}
-use Rattle.std.proofs.lemmas.List.{take_more, take_all, take-append-drop, length-take-le}
+use Rattle.hpack_text.proofs.Names.{◌≡◌, ℕ, zero, suc, ◌+◌, ◌*◌, ◌%◌, ◌^◌, ◌<◌, ◌≤◌, inl, inr, List}
+use Rattle.hpack_text.proofs.Names.{[], ◌∷◌, ◌++◌, length, get_or, take, drop, Result, Ok, Err}
+use Rattle.hpack_text.proofs.Names.{MatchResult, sym, ap, ap₂, ◌∙◌, subst, arith, length-append}
+use Rattle.hpack_text.proofs.Names.{pow_mono, rules, take_more, take_all, take-append-drop}
+use Rattle.hpack_text.proofs.Names.{length-take-le, AllByRecursion, TextFault, continuation_value}
+use Rattle.hpack_text.proofs.Names.{AreContinuation, all_ones, Int, common_steps}
 use Rattle.std.proofs.lemmas.Nat.{pow-add, shl_whole}
-use Rattle.std.specs.List.{AllByRecursion}
-use Rattle.hpack_text.specs.declared.fault.TextFault.{TextFault}
 use Rattle.hpack_text.specs.declared.fault.TextFault.TheVariants as faults
-use Rattle.hpack_text.specs.Integers.{continuation_value, HasTopBit, AreContinuation, all_ones}
-use Rattle.hpack_text.specs.Integers.{Int, IsTruncated, IsTooLong, IntFault}
+use Rattle.hpack_text.specs.Integers.{HasTopBit, IsTruncated, IsTooLong, IntFault}
 use Rattle.hpack_text.specs.Continuation.{HasContinuation}
 
 -- seven bits more are 128 times as much
@@ -78,17 +77,7 @@ octet_added_from octets i value octet low lt few e same is_low =
 pub continuation_end : (octets : List ℕ) (i whole octet : ℕ) → i < length octets → i < 5
     → AllByRecursion HasTopBit (take i octets) → octet ≡ get_or octets i 0 → octet < 128
     → IsOctetAdded octets i whole → HasContinuation octets whole (i + 1)
-continuation_end octets i whole octet lt few all same last added =
-    let more : take (i + 1) octets ≡ take i octets ++ octet ∷ [] = take_more octets i 0 lt
-    ∙ ap (λ (x : ℕ). take i octets ++ x ∷ []) (sym same) in
-    record {
-      within = omega arith;
-      few = omega arith;
-      small = added.small;
-      continuation =
-          subst AreContinuation (sym more) (continuation-push (take i octets) octet all last);
-      number = added.number;
-    }
+continuation_end octets i whole octet lt few all same last added = search rules
 
 -- What begins with continuation octets has one without a top bit among the first ones.
 no_top_bit_ends : (n : ℕ) (xs more : List ℕ) → length xs ≤ n
@@ -104,15 +93,8 @@ continuation_unique : (xs ys more following : List ℕ) → AreContinuation xs �
     → xs ++ more ≡ ys ++ following → xs ≡ ys
 continuation_unique [] ys more following h h' e = absurd h
 continuation_unique (x ∷ xs) [] more following h h' e = absurd h'
-continuation_unique (x ∷ []) (y ∷ []) more following h h' e =
-    let same : x ≡ y = cc in
-    ap (λ (z : ℕ). z ∷ []) same
-continuation_unique (x ∷ []) (y ∷ z ∷ ys) more following h h' e =
-    let same : x ≡ y = cc in
-    absurd (omega (arith, h'.0))
-continuation_unique (x ∷ w ∷ xs) (y ∷ []) more following h h' e =
-    let same : x ≡ y = cc in
-    absurd (omega (arith, h.0))
+continuation_unique (x ∷ []) ys more following h h' e = search rules
+continuation_unique (x ∷ w ∷ xs) (y ∷ []) more following h h' e = search rules
 continuation_unique (x ∷ w ∷ xs) (y ∷ z ∷ ys) more following h h' e =
     let same : x ≡ y = cc in
     let tails : (w ∷ xs) ++ more ≡ (z ∷ ys) ++ following = cc in
@@ -127,37 +109,15 @@ SameInt value other octets others = (octets ≡ others) × (value ≡ other)
 pub Int-unique : (prefix value other : ℕ) (octets others more following : List ℕ)
     → Int prefix value octets → Int prefix other others
     → octets ++ more ≡ others ++ following → SameInt value other octets others
-Int-unique prefix value other [] others more following h h' e = absurd h
-Int-unique prefix value other (f ∷ fs) [] more following h h' e = absurd h'
-Int-unique prefix value other (f ∷ fs) (g ∷ gs) more following (inl a) (inl b) e =
-    let same : f ≡ g = cc in (
-      ap₂ (λ (x : ℕ) (xs : List ℕ). x ∷ xs) same (a.1 ∙ sym b.1),
-      a.2
-          ∙ (ap (λ (x : ℕ). x % 2 ^ prefix) same ∙ sym b.2),
-    )
-Int-unique prefix value other (f ∷ fs) (g ∷ gs) more following (inl a) (inr b) e =
-    let same : f ≡ g = cc in
-    absurd (omega (arith, a.0, b.0, ap (λ (x : ℕ). x % 2 ^ prefix) same))
-Int-unique prefix value other (f ∷ fs) (g ∷ gs) more following (inr a) (inl b) e =
-    let same : f ≡ g = cc in
-    absurd (omega (arith, a.0, b.0, ap (λ (x : ℕ). x % 2 ^ prefix) same))
-Int-unique prefix value other (f ∷ fs) (g ∷ gs) more following (inr a) (inr b) e =
-    let same : f ≡ g = cc in
-    let tails : fs ++ more ≡ gs ++ following = cc in
-    let same_octets = continuation_unique fs gs more following a.1 b.1 tails in (
-      ap₂ (λ (x : ℕ) (xs : List ℕ). x ∷ xs) same same_octets,
-      a.3
-          ∙ (ap (λ (xs : List ℕ). all_ones prefix + continuation_value xs) same_octets ∙ sym b.3),
-    )
+Int-unique prefix value other octets others more following h is e =
+    grind (arith, common_steps, continuation_unique, all_ones, continuation_value)
 
 -- Where the octets end inside an encoding, none is at their start.
 pub truncated_encodes_none : (prefix value : ℕ) (octets begin more : List ℕ)
     → IsTruncated prefix octets → octets ≡ begin ++ more → Int prefix value begin → ⊥
 truncated_encodes_none prefix value octets [] more cut e h = h
 truncated_encodes_none prefix value [] (b ∷ bs) more cut e h = cc
-truncated_encodes_none prefix value (f ∷ fs) (b ∷ bs) more cut e (inl a) =
-    let same : f ≡ b = cc in
-    omega (arith, a.0, cut.0, ap (λ (x : ℕ). x % 2 ^ prefix) same)
+truncated_encodes_none prefix value (f ∷ fs) (b ∷ bs) more cut e (inl a) = search rules
 truncated_encodes_none prefix value (f ∷ fs) (b ∷ bs) more cut e (inr a) =
     let tails : fs ≡ bs ++ more = cc in
     let long : length bs ≤ length fs =
@@ -172,9 +132,7 @@ pub too_long_encodes_none : (prefix value : ℕ) (octets begin more : List ℕ)
     → IsTooLong prefix octets → octets ≡ begin ++ more → Int prefix value begin → ⊥
 too_long_encodes_none prefix value octets [] more long e h = h
 too_long_encodes_none prefix value [] (b ∷ bs) more long e h = long
-too_long_encodes_none prefix value (f ∷ fs) (b ∷ bs) more long e (inl a) =
-    let same : f ≡ b = cc in
-    omega (arith, a.0, long.0, ap (λ (x : ℕ). x % 2 ^ prefix) same)
+too_long_encodes_none prefix value (f ∷ fs) (b ∷ bs) more long e (inl a) = search rules
 too_long_encodes_none prefix value (f ∷ fs) (b ∷ bs) more long e (inr a) =
     let tails : fs ≡ bs ++ more = cc in
     no_top_bit_ends 5 bs more a.2 (subst (AllByRecursion HasTopBit) (ap (take 5) tails) long.1) a.1
@@ -213,6 +171,4 @@ only_int prefix octets value count (Err faults.Truncated) h within encoded =
 only_int prefix octets value count (Err faults.TooLong) h within encoded =
     absurd (too_long_encodes_none prefix value octets (take count octets) (drop count octets) h
     (sym (take-append-drop count octets)) encoded)
-only_int prefix octets value count (Err faults.BadPadding) h within encoded = absurd h
-only_int prefix octets value count (Err faults.EndSymbol) h within encoded = absurd h
-only_int prefix octets value count (Err faults.Memory) h within encoded = absurd h
+only_int prefix octets value count result h within encoded = search rules

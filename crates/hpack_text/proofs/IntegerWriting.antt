@@ -1,45 +1,28 @@
 -- Integers as they are written: the continuation octets, and that no encoding is shorter.
-use Rattle.std.proofs.Common.{◌≡◌, ℕ, zero, suc, ◌+◌, ◌-◌, ◌*◌, ◌/◌, ◌%◌, ◌^◌, ◌<◌, ◌≤◌}
-use Rattle.std.proofs.Common.{if◌then◌else◌, inl, inr, Bool, List, [], ◌∷◌, ◌++◌, length, refl}
-use Rattle.std.proofs.Common.{sym, ap, ◌∙◌, subst, arith, append_assoc, append-nil, length-append}
-use Rattle.std.proofs.Common.{pow_pos, lt-ltb, le-ltb, mul-le-mul_left}
-use Rattle.std.proofs.lemmas.Bool.{cases_lt}
-use Rattle.std.proofs.lemmas.Nat.{pow-add, shr_below, shr_split, mod_low}
+use Rattle.hpack_text.proofs.Names.{◌≡◌, ℕ, zero, suc, ◌+◌, ◌-◌, ◌*◌, ◌/◌, ◌%◌, ◌^◌, ◌<◌, ◌≤◌, inl}
+use Rattle.hpack_text.proofs.Names.{inr, List, [], ◌∷◌, ◌++◌, length, refl, sym, ap, ◌∙◌, subst}
+use Rattle.hpack_text.proofs.Names.{arith, append_assoc, append-nil, length-append, pow_pos, rules}
+use Rattle.hpack_text.proofs.Names.{cases_lt, continuation_value, AreContinuation, all_ones, Int}
+use Rattle.hpack_text.proofs.Names.{continuation_of, integer, IsExtended, common_steps}
+use Rattle.std.proofs.Common.{mul-le-mul_left}
+use Rattle.std.proofs.lemmas.Nat.{pow-add, shr_below, shr_split}
 use Rattle.std.proofs.Math.Nat.{pow-succ'}
-use Rattle.hpack_text.specs.Integers.{continuation_value, AreContinuation, all_ones, Int}
-use Rattle.hpack_text.specs.Integers.{continuation_of, integer}
-use Rattle.hpack_text.specs.Appended.{IsExtended}
 
 -- A number below 128 is its one continuation octet.
 continuation-small : (more number : ℕ) → number < 128 → continuation_of more number ≡ number ∷ []
 unfolding continuation_of
-continuation-small zero number lt = refl
-continuation-small (suc more) number lt =
-    ap (λ (b : Bool). if b then number ∷ []
-    else (number % 128 + 128) ∷ continuation_of more (number / 128)) (lt-ltb number 128 lt)
+continuation-small more number lt = search rules
 
 -- Another number has its lowest seven bits first.
 continuation-large : (more number : ℕ) → 128 ≤ number
     → continuation_of (suc more) number ≡ (number % 128 + 128) ∷ continuation_of more (number / 128)
 unfolding continuation_of
-continuation-large more number least =
-    ap (λ (b : Bool). if b then number ∷ []
-    else (number % 128 + 128) ∷ continuation_of more (number / 128)) (le-ltb number 128 least)
+continuation-large more number least = search rules
 
 -- There is one continuation octet at least.
 continuation-some : (more number : ℕ) → 1 ≤ length (continuation_of more number)
 unfolding continuation_of
-continuation-some zero number = omega arith
-continuation-some (suc more) number =
-    elim (cases_lt number 128) [
-      | inl small ↦
-          omega (
-            arith,
-            ap (λ (xs : List ℕ). length xs) (continuation-small (suc more) number small),
-          )
-      | inr large ↦
-          omega (arith, ap (λ (xs : List ℕ). length xs) (continuation-large more number large))
-    ]
+continuation-some more number = search rules
 
 -- Of the continuation octets of a number some were appended, and those of another number are left.
 pub record HasContinuationLeft (old now whole : List ℕ) (number : ℕ) : Type 0 where
@@ -101,20 +84,14 @@ continuation_left-full old now whole number capacity left full =
 pub integer-short : (prefix first_bits value : ℕ) → value < all_ones prefix
     → integer prefix first_bits value ≡ (first_bits + value) ∷ []
 unfolding integer
-integer-short prefix first_bits value lt =
-    ap (λ (b : Bool). if b then (first_bits + value) ∷ []
-    else (first_bits + all_ones prefix) ∷ continuation_of 4 (value - all_ones prefix))
-    (lt-ltb value (all_ones prefix) lt)
+integer-short prefix first_bits value lt = search rules
 
 -- what is written for another value
 pub integer-long : (prefix first_bits value : ℕ) → all_ones prefix ≤ value
     → integer prefix first_bits value
     ≡ (first_bits + all_ones prefix) ∷ continuation_of 4 (value - all_ones prefix)
 unfolding integer
-integer-long prefix first_bits value least =
-    ap (λ (b : Bool). if b then (first_bits + value) ∷ []
-    else (first_bits + all_ones prefix) ∷ continuation_of 4 (value - all_ones prefix))
-    (le-ltb value (all_ones prefix) least)
+integer-long prefix first_bits value least = search rules
 
 -- The bits above the prefix and those of it fit an octet together.
 pub first_octet_fits : (prefix first_bits : ℕ) → prefix ≤ 8 → first_bits < 256
@@ -141,8 +118,7 @@ pub record IsContinuationOf (more number : ℕ) : Type 0 where
 -- an octet with a top bit before continuation octets
 continuation-cons : (first : ℕ) (xs : List ℕ) → 128 ≤ first → AreContinuation xs
     → AreContinuation (first ∷ xs)
-continuation-cons first [] top h = absurd h
-continuation-cons first (x ∷ xs) top h = (top, h)
+continuation-cons first xs top h = search rules
 
 -- Continuation octets as they are written encode the number.
 pub continuation_of_number : (more number : ℕ) → number < 128 ^ suc more
@@ -178,10 +154,7 @@ continuation_of_number (suc more) number lt =
 -- After bits above the prefix, the prefix is read as it is.
 low_bits : (prefix first_bits value : ℕ) → first_bits % 2 ^ prefix ≡ 0 → value < 2 ^ prefix
     → (first_bits + value) % 2 ^ prefix ≡ value
-low_bits prefix first_bits value clear lt =
-    let split : first_bits + value ≡ first_bits / 2 ^ prefix * 2 ^ prefix + value =
-    omega (arith, shr_split first_bits prefix) in
-    ap (λ (n : ℕ). n % 2 ^ prefix) split ∙ mod_low (first_bits / 2 ^ prefix) prefix value lt
+low_bits prefix first_bits value clear lt = grind (arith, common_steps)
 
 -- What is written for an integer encodes it.
 pub integer_encodes : (prefix first_bits value : ℕ) → 1 ≤ prefix → prefix ≤ 8
@@ -207,11 +180,7 @@ fewest_octets : (more : ℕ) (xs : List ℕ) → AreContinuation xs
     → length (continuation_of more (continuation_value xs)) ≤ length xs
 unfolding continuation_of
 fewest_octets more [] h = absurd h
-fewest_octets more (x ∷ []) h =
-    omega (
-      arith,
-      ap (λ (ys : List ℕ). length ys) (continuation-small more (x % 128 + 128 * 0) (omega arith)),
-    )
+fewest_octets more (x ∷ []) h = grind (arith, common_steps, continuation-small)
 fewest_octets zero (x ∷ y ∷ xs) h = omega arith
 fewest_octets (suc more) (x ∷ y ∷ xs) h =
     let number = x % 128 + 128 * continuation_value (y ∷ xs) in
@@ -237,12 +206,7 @@ fewest_octets (suc more) (x ∷ y ∷ xs) h =
 pub integer_shortest : (prefix first_bits value : ℕ) (octets : List ℕ) → 1 ≤ prefix
     → Int prefix value octets → length (integer prefix first_bits value) ≤ length octets
 integer_shortest prefix first_bits value [] least h = absurd h
-integer_shortest prefix first_bits value (f ∷ fs) least (inl a) =
-    omega (
-      arith,
-      ap (λ (xs : List ℕ). length xs)
-          (integer-short prefix first_bits value (omega (arith, a.0, a.2))),
-    )
+integer_shortest prefix first_bits value (f ∷ fs) least (inl a) = search (rules, integer-short)
 integer_shortest prefix first_bits value (f ∷ fs) least (inr a) =
     let number : value - all_ones prefix ≡ continuation_value fs = omega (arith, a.3) in
     let fewer : length (continuation_of 4 (value - all_ones prefix)) ≤ length fs =
@@ -256,15 +220,7 @@ integer_shortest prefix first_bits value (f ∷ fs) least (inr a) =
 -- There is one octet at least.
 pub integer-some : (prefix first_bits value : ℕ) → 1 ≤ length (integer prefix first_bits value)
 integer-some prefix first_bits value =
-    elim (cases_lt value (all_ones prefix)) [
-      | inl short ↦
-          omega (
-            arith,
-            ap (λ (xs : List ℕ). length xs) (integer-short prefix first_bits value short),
-          )
-      | inr long ↦
-          omega (arith, ap (λ (xs : List ℕ). length xs) (integer-long prefix first_bits value long))
-    ]
+    grind (arith, common_steps, cases_lt, all_ones, integer-short, integer-long)
 
 -- The first octet and the continuation octets after it are the integer; a power is named by a
 -- number that is equal to it.
@@ -273,14 +229,7 @@ pub integer_joined : (prefix first_bits value power : ℕ) (old mid new : List �
     → new ≡ mid ++ continuation_of 4 (value - (power - 1))
     → new ≡ old ++ integer prefix first_bits value
 integer_joined prefix first_bits value power old mid new long same pushed octets =
-    let named : (first_bits + (power - 1)) ∷ continuation_of 4 (value - (power - 1))
-    ≡ integer prefix first_bits value =
-    ap (λ (n : ℕ). (first_bits + (n - 1)) ∷ continuation_of 4 (value - (n - 1))) same
-    ∙ sym (integer-long prefix first_bits value long) in
-    octets
-    ∙ (ap (λ (xs : List ℕ). xs ++ continuation_of 4 (value - (power - 1))) pushed
-    ∙ (append_assoc old ((first_bits + (power - 1)) ∷ []) (continuation_of 4 (value - (power - 1)))
-    ∙ ap (λ (xs : List ℕ). old ++ xs) named))
+    grind (arith, common_steps, continuation_of, integer-long, append_assoc)
 
 -- one octet, and the continuation octets
 pub length-integer_long : (prefix first_bits value power : ℕ) → all_ones prefix ≤ value

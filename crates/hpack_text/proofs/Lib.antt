@@ -2,6 +2,7 @@ pub mod BitLemmas
 pub mod CodeLemmas
 pub mod IntegerLemmas
 pub mod IntegerWriting
+mod Names
 pub mod ReadLemmas
 mod Rows
 pub mod StateLemmas

@@ -1,14 +1,12 @@
 -- Reading half octets as a text: what was read so far, and what EOS means for all octets.
-use Rattle.std.proofs.Common.{◌≡◌, ℕ, suc, ◌+◌, ◌*◌, ◌/◌, ◌%◌, ◌<◌, ◌≤◌, Fits, w8, Bool, List, []}
-use Rattle.std.proofs.Common.{◌∷◌, ◌++◌, length, get_or, take, drop, sym, ap, ◌∙◌, subst}
-use Rattle.std.proofs.Common.{Option, Some, None, MatchOption, arith, append_assoc, append-nil}
-use Rattle.std.proofs.Common.{length-append}
-use Rattle.std.proofs.lemmas.Grind.{flat_map-append}
-use Rattle.std.proofs.lemmas.List.{take_more, take-append-drop}
-use Rattle.std.specs.List.{AllByRecursion}
-use Rattle.hpack_text.specs.Bits.{IsOctet, bits_of, bits}
-use Rattle.hpack_text.specs.Huffman.{code, codes, HasEndSymbol}
-use Rattle.hpack_text.specs.States.{prefix_of, stepped, BeginsWithEnd, ReadsBits, ReadsEnd}
+use Rattle.hpack_text.proofs.Names.{◌≡◌, ℕ, suc, ◌+◌, ◌*◌, ◌/◌, ◌%◌, ◌<◌, ◌≤◌, Bool, List, [], ◌∷◌}
+use Rattle.hpack_text.proofs.Names.{◌++◌, length, get_or, take, drop, sym, ap, ◌∙◌, subst, Option}
+use Rattle.hpack_text.proofs.Names.{Some, None, arith, append_assoc, append-nil, length-append}
+use Rattle.hpack_text.proofs.Names.{rules, flat_map-append, common_steps, take-append-drop}
+use Rattle.hpack_text.proofs.Names.{AllByRecursion, IsOctet, bits_of, bits, code, codes}
+use Rattle.hpack_text.proofs.Names.{HasEndSymbol, prefix_of, stepped, ReadsBits}
+use Rattle.std.proofs.Common.{Fits, w8, MatchOption}
+use Rattle.hpack_text.specs.States.{BeginsWithEnd, ReadsEnd}
 use Rattle.hpack_text.proofs.BitLemmas.{length-bits_of, bits_of-split}
 use Rattle.hpack_text.proofs.CodeLemmas.{end_symbol_fault}
 use Rattle.hpack_text.proofs.StateLemmas.{first_state, five_bits}
@@ -17,23 +15,13 @@ use Rattle.hpack_text.proofs.WriteLemmas.{all_octets-append}
 -- what is read where no code ends
 pub reads_within : (old : List ℕ) (state half next : ℕ) → stepped state half ≡ prefix_of next
     → ReadsBits old old state (bits_of 4 half) next
-reads_within old state half next e = record {
-  added = [];
-  joined = sym (append-nil old);
-  octets = tt;
-  encoded = sym e;
-}
+reads_within old state half next e = search rules
 
 -- what is read where the code of an octet ends
 pub reads_symbol : (old new : List ℕ) (state half symbol next : ℕ) → new ≡ old ++ symbol ∷ []
     → symbol < 256 → stepped state half ≡ code symbol ++ prefix_of next
     → ReadsBits old new state (bits_of 4 half) next
-reads_symbol old new state half symbol next pushed small e = record {
-  added = symbol ∷ [];
-  joined = pushed;
-  octets = (small, tt);
-  encoded = ap (λ (xs : List Bool). xs ++ prefix_of next) (append-nil (code symbol)) ∙ sym e;
-}
+reads_symbol old new state half symbol next pushed small e = search rules
 
 -- what is read where the code of EOS ends
 pub reads_end : (old : List ℕ) (state half : ℕ) → BeginsWithEnd (stepped state half)
@@ -69,38 +57,15 @@ octet_halves octet = bits_of-split 4 4 octet
 pub reads_both : (old mid new : List ℕ) (state between next : ℕ) (first second : List Bool)
     → ReadsBits old mid state first between → ReadsBits mid new between second next
     → ReadsBits old new state (first ++ second) next
-reads_both old mid new state between next first second a b = record {
-  added = a.added ++ b.added;
-  joined = b.joined
-      ∙ (ap (λ (xs : List ℕ). xs ++ b.added) a.joined ∙ append_assoc old a.added b.added);
-  octets = all_octets-append a.added b.added a.octets b.octets;
-  encoded = ap (λ (xs : List Bool). xs ++ prefix_of next) (flat_map-append code a.added b.added)
-      ∙ (append_assoc (codes a.added) (codes b.added) (prefix_of next)
-      ∙ (ap (λ (xs : List Bool). codes a.added ++ xs) b.encoded
-      ∙ (sym (append_assoc (codes a.added) (prefix_of between) second)
-      ∙ (ap (λ (xs : List Bool). xs ++ second) a.encoded
-      ∙ append_assoc (prefix_of state) first second))));
-}
+reads_both old mid new state between next first second a b =
+    search (rules, append_assoc, all_octets-append, prefix_of, flat_map-append)
 
 -- EOS in the second step is EOS.
 pub reads_then_end : (old mid new : List ℕ) (state between : ℕ) (first second : List Bool)
     → ReadsBits old mid state first between → ReadsEnd mid new between second
     → ReadsEnd old new state (first ++ second)
 reads_then_end old mid new state between first second a b =
-    let end = code 256 ++ b.more in
-    record {
-      added = a.added ++ b.added;
-      joined = b.joined
-          ∙ (ap (λ (xs : List ℕ). xs ++ b.added) a.joined ∙ append_assoc old a.added b.added);
-      octets = all_octets-append a.added b.added a.octets b.octets;
-      more = b.more;
-      encoded = sym (append_assoc (prefix_of state) first second)
-          ∙ (ap (λ (xs : List Bool). xs ++ second) (sym a.encoded)
-          ∙ (append_assoc (codes a.added) (prefix_of between) second
-          ∙ (ap (λ (xs : List Bool). codes a.added ++ xs) b.encoded
-          ∙ (sym (append_assoc (codes a.added) (codes b.added) end)
-          ∙ ap (λ (xs : List Bool). xs ++ end) (sym (flat_map-append code a.added b.added))))));
-    }
+    search (rules, append_assoc, all_octets-append, prefix_of, flat_map-append)
 
 -- EOS is EOS however many bits follow.
 pub end_then_more : (old new : List ℕ) (state : ℕ) (first second : List Bool)
@@ -135,9 +100,7 @@ read_second_half None old mid new state between octet first second =
     (reads_then_end old mid new state between (bits_of 4 (octet / 16)) (bits_of 4 (octet % 16))
     first second)
 read_second_half (Some next) old mid new state between octet first second =
-    subst (λ xs. ReadsBits old new state xs next) (sym (octet_halves octet))
-    (reads_both old mid new state between next (bits_of 4 (octet / 16)) (bits_of 4 (octet % 16))
-    first second)
+    grind (arith, common_steps, octet_halves, reads_both, bits_of)
 
 -- how long what was appended is at most
 pub reads_length : (old new : List ℕ) (state next : ℕ) (bit_list : List Bool)
@@ -158,11 +121,7 @@ reads_length old new state next bit_list a =
 -- the bits of the first octets, and of one more
 pub bits-take-more : (octets : List ℕ) (i : ℕ) → i < length octets
     → bits (take (i + 1) octets) ≡ bits (take i octets) ++ bits_of 8 (get_or octets i 0)
-bits-take-more octets i lt =
-    ap (λ (xs : List ℕ). bits xs) (take_more octets i 0 lt)
-    ∙ (flat_map-append (bits_of 8) (take i octets) (get_or octets i 0 ∷ [])
-    ∙ ap (λ (xs : List Bool). bits (take i octets) ++ xs)
-    (append-nil (bits_of 8 (get_or octets i 0))))
+bits-take-more octets i lt = grind (arith, common_steps)
 
 -- The bits of octets are those of the first ones, of the next one and of the others.
 pub bits-split : (octets : List ℕ) (i : ℕ) → i < length octets
@@ -175,12 +134,7 @@ bits-split octets i lt =
 
 -- Before any octet nothing was read.
 pub reads_none : (old octets : List ℕ) → ReadsBits old old 0 (bits (take 0 octets)) 0
-reads_none old octets = record {
-  added = [];
-  joined = sym (append-nil old);
-  octets = tt;
-  encoded = sym (append-nil (prefix_of 0));
-}
+reads_none old octets = search rules
 
 -- One octet more was read.
 pub reads_octet : (old mid new octets : List ℕ) (state next i : ℕ) → i < length octets

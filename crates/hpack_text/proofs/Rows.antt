@@ -1,10 +1,10 @@
 -- The definitions, computed: the code is canonical, and examples of RFC 7541 and own ones come out
 -- as they should.
-use Rattle.std.proofs.Common.{◌≡◌, ℕ, ◌+◌, ◌-◌, ◌*◌, ◌^◌, ◌==◌, ◌&&◌, nat_lt, Bool, true, List, []}
-use Rattle.std.proofs.Common.{◌∷◌, length, refl}
-use Rattle.hpack_text.specs.Bits.{bits_of, number_of_bits, octets_of_bits}
-use Rattle.hpack_text.specs.Huffman.{Group, groups, code_in, code, huffman_bits}
-use Rattle.hpack_text.specs.Integers.{continuation_of, integer}
+use Rattle.hpack_text.proofs.Names.{◌≡◌, ℕ, ◌+◌, ◌-◌, ◌*◌, ◌^◌, ◌&&◌, nat_lt, Bool, true, List, []}
+use Rattle.hpack_text.proofs.Names.{◌∷◌, length, refl, bits_of, number_of_bits, octets_of_bits}
+use Rattle.hpack_text.proofs.Names.{groups, code_in, code, huffman_bits, continuation_of, integer}
+use Rattle.std.proofs.Common.{◌==◌}
+use Rattle.hpack_text.specs.Huffman.{Group}
 use Rattle.hpack_text.specs.Strings.{string}
 
 -- opens all that computes

@@ -1,18 +1,14 @@
 -- The states and the table of steps are those of the code.
-use Rattle.std.proofs.Common.{◌≡◌, ℕ, zero, suc, ◌+◌, ◌*◌, ◌/◌, ◌%◌, ◌<◌, ◌≤◌, if◌then◌else◌}
-use Rattle.std.proofs.Common.{Bool, true, false, ◌&&◌, nat_lt, nat_le, List, [], ◌∷◌, ◌++◌, length}
-use Rattle.std.proofs.Common.{Option, Some, None, get_or, drop, replicate, refl, sym, ap, ◌∙◌}
-use Rattle.std.proofs.Common.{subst}
-use Rattle.std.proofs.Common.{arith, le-leb, leb-true, ltb-true, length-append}
-use Rattle.std.proofs.lemmas.Bool.{and_parts, lt-leb, false≢true}
+use Rattle.hpack_text.proofs.Names.{◌≡◌, ℕ, zero, suc, ◌+◌, ◌*◌, ◌/◌, ◌%◌, ◌<◌, ◌≤◌, if◌then◌else◌}
+use Rattle.hpack_text.proofs.Names.{Bool, true, false, ◌&&◌, nat_lt, nat_le, List, [], ◌∷◌, ◌++◌}
+use Rattle.hpack_text.proofs.Names.{length, Option, Some, None, get_or, drop, replicate, refl, sym}
+use Rattle.hpack_text.proofs.Names.{ap, ◌∙◌, subst, arith, leb-true, ltb-true, length-append, rules}
+use Rattle.hpack_text.proofs.Names.{and_parts, lt-leb, false≢true, AllByRecursion, IsOctet, bits_of}
+use Rattle.hpack_text.proofs.Names.{code, codes, tree, prefix_of, stepped, IsHalfStep}
+use Rattle.std.proofs.Common.{le-leb}
 use Rattle.std.proofs.lemmas.List.{get_or-drop}
-use Rattle.std.specs.List.{AllByRecursion}
 use Rattle.hpack_text.specs.declared.huffman.steps.TheConstants.{STEPS}
-use Rattle.hpack_text.specs.Bits.{IsOctet, bits_of}
-use Rattle.hpack_text.specs.Huffman.{code, codes}
-use Rattle.hpack_text.specs.Tree.{tree}
-use Rattle.hpack_text.specs.States.{paths_from, states, prefix_of, stepped, code_if_some}
-use Rattle.hpack_text.specs.States.{BeginsWithEnd, IsHalfStep}
+use Rattle.hpack_text.specs.States.{paths_from, states, BeginsWithEnd}
 use Rattle.hpack_text.proofs.TreeLemmas.{computing_tree, same_bits, same_bits-true, first_symbol}
 use Rattle.hpack_text.proofs.TreeLemmas.{first_symbol-code, same_symbol}
 use Rattle.hpack_text.proofs.CodeLemmas.{IsOpen}
@@ -65,11 +61,7 @@ row_holds-at : (n half : ℕ) (steps : List ℕ) (path : List Bool)
 unfolding row_holds
 row_holds-at zero half steps path h k lt = absurd (omega arith)
 row_holds-at (suc n) half [] path h k lt = absurd (false≢true h)
-row_holds-at (suc n) half (step ∷ steps) path h zero lt =
-    let same : half ≡ half + 0 = omega arith in
-    let parts = and_parts (step_holds step (path ++ bits_of 4 half))
-    (row_holds n (suc half) steps path) h in
-    subst (λ m. step_holds step (path ++ bits_of 4 m) ≡ true) same parts.0
+row_holds-at (suc n) half (step ∷ steps) path h zero lt = search rules
 row_holds-at (suc n) half (step ∷ steps) path h (suc k) lt =
     let same : suc half + k ≡ half + suc k = omega arith in
     let parts = and_parts (step_holds step (path ++ bits_of 4 half))
@@ -102,13 +94,11 @@ rows_hold-at steps (path ∷ paths) h (suc state) half lt few =
 
 -- a choice that is true, and whose test is true
 chosen_true : (b x y : Bool) → (if b then x else y) ≡ true → b ≡ true → x ≡ true
-chosen_true true x y h e = h
-chosen_true false x y h e = absurd (false≢true e)
+chosen_true b x y h e = search rules
 
 -- a choice that is true, and whose test is false
 chosen_false : (b x y : Bool) → (if b then x else y) ≡ true → b ≡ false → y ≡ true
-chosen_false true x y h e = absurd (false≢true (sym e))
-chosen_false false x y h e = h
+chosen_false b x y h e = search rules
 
 -- A step that holds of the bits of a state and of four more is a step from that state.
 step_is : (state half step : ℕ) → step_holds step (stepped state half) ≡ true
@@ -191,10 +181,7 @@ no_end_within next bit_list lt e ends =
 -- Bits that begin with the code of an octet don't begin with the code of EOS.
 pub no_end_at_symbol : (symbol next : ℕ) (bit_list : List Bool) → symbol < 256
     → bit_list ≡ code symbol ++ prefix_of next → BeginsWithEnd bit_list → ⊥
-no_end_at_symbol symbol next bit_list small e ends =
-    let same = (same_symbol symbol 256 (prefix_of next) ends.0 (omega arith) (omega arith)
-    (sym e ∙ ends.1)).0 in
-    omega arith
+no_end_at_symbol symbol next bit_list small e ends = search (rules, same_symbol, prefix_of)
 
 -- whether bits are at most seven ones
 unfoldable is_padding : List Bool → Bool

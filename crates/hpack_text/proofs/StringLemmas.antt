@@ -1,18 +1,15 @@
 -- Strings: no encoding begins a different one, what a fault says, and what is written.
-use Rattle.std.proofs.Common.{◌≡◌, ℕ, zero, suc, ◌+◌, ◌-◌, ◌^◌, ◌<◌, ◌≤◌, nat_le, if◌then◌else◌}
-use Rattle.std.proofs.Common.{inl, inr, Bool, true, false, List, [], ◌∷◌, ◌++◌, length, get_or}
-use Rattle.std.proofs.Common.{take, drop, Result, Ok, Err, MatchResult, OnOk, OnErr, IsOk, is_ok}
-use Rattle.std.proofs.Common.{refl, sym, ap, ap₂, ◌∙◌, subst, arith, append_assoc, append-nil}
-use Rattle.std.proofs.Common.{length-append, le-leb, take_at, take-add, take-append-drop}
-use Rattle.std.proofs.Common.{length-drop}
-use Rattle.std.proofs.lemmas.Bool.{cases_lt, lt-leb, false≢true}
-use Rattle.std.proofs.lemmas.List.{append_cancel_left, length-take-le, take_rest}
-use Rattle.std.specs.List.{AllByRecursion}
-use Rattle.hpack_text.specs.declared.fault.TextFault.{TextFault}
+use Rattle.hpack_text.proofs.Names.{◌≡◌, ℕ, zero, suc, ◌+◌, ◌-◌, ◌^◌, ◌<◌, ◌≤◌, nat_le}
+use Rattle.hpack_text.proofs.Names.{if◌then◌else◌, inl, inr, Bool, true, false, List, [], ◌∷◌, ◌++◌}
+use Rattle.hpack_text.proofs.Names.{length, get_or, take, drop, Result, Ok, Err, MatchResult, OnErr}
+use Rattle.hpack_text.proofs.Names.{refl, sym, ap, ap₂, ◌∙◌, subst, arith, append-nil}
+use Rattle.hpack_text.proofs.Names.{length-append, rules, cases_lt, lt-leb, false≢true}
+use Rattle.hpack_text.proofs.Names.{length-take-le, AllByRecursion, TextFault, IsOctet}
+use Rattle.hpack_text.proofs.Names.{HasEndSymbol, huffman_bits, Int, integer, common_steps}
+use Rattle.std.proofs.Common.{OnOk, IsOk, is_ok, le-leb, take_at, take-add, take-append-drop}
+use Rattle.std.proofs.lemmas.List.{append_cancel_left, take_rest}
 use Rattle.hpack_text.specs.declared.fault.TextFault.TheVariants as faults
-use Rattle.hpack_text.specs.Bits.{IsOctet}
-use Rattle.hpack_text.specs.Huffman.{Huff, HasEndSymbol, HasBadPadding, huffman_bits}
-use Rattle.hpack_text.specs.Integers.{Int, integer}
+use Rattle.hpack_text.specs.Huffman.{Huff, HasBadPadding}
 use Rattle.hpack_text.specs.Strings.{has_bit_h, Holds, Str, IsShort, HasHuffmanFault, StrFault}
 use Rattle.hpack_text.specs.Strings.{BodyFault, LacksRoom, most_text, string}
 use Rattle.hpack_text.proofs.CodeLemmas.{one_text_lem, huffman_bits_encode}
@@ -65,14 +62,7 @@ pub record BeginsWithStr (text octets : List ℕ) (following : List ℕ) : Type 
 -- A string that is encoded is at the start of what begins with it.
 pub begins_with_str : (text encoding following octets : List ℕ) → Str text encoding
     → octets ≡ encoding ++ following → BeginsWithStr text octets following
-begins_with_str text encoding following octets s e = record {
-  head = s.head;
-  body = s.body;
-  joined = e ∙ (ap (λ (xs : List ℕ). xs ++ following) s.joined
-      ∙ append_assoc s.head s.body following);
-  head_length = s.head_length;
-  holds = s.holds;
-}
+begins_with_str text encoding following octets s e = grind (arith, common_steps)
 
 -- Strings at the start of the same octets are one.
 pub Str-unique : (text other octets others more following : List ℕ) → Str text octets
@@ -94,16 +84,7 @@ Str-unique text other octets others more following s s' e =
 -- Where a head names more octets than there are, no string is at the start.
 short_encodes_none : (text octets following : List ℕ) → IsShort octets
     → BeginsWithStr text octets following → ⊥
-short_encodes_none text octets following short s =
-    let parts = same_parts short.head s.head short.following (s.body ++ following) short.named
-    (length s.body) short.head_length s.head_length (sym short.joined ∙ s.joined) in
-    omega (
-      arith,
-      short.short,
-      parts.lengths,
-      ap (λ (xs : List ℕ). length xs) parts.following,
-      length-append s.body following,
-    )
+short_encodes_none text octets following short s = search (rules, same_parts, length-append)
 
 -- Where the Huffman-encoded string has a fault, no string is at the start.
 huffman_fault_encodes_none : (Fault : List ℕ → Type 0) (text octets following : List ℕ)
@@ -182,8 +163,7 @@ pub only_str : (old new octets text : List ℕ) (count : ℕ) (result : Result �
 only_str old new octets text count (Ok used) (other, joined, least, found) within encoded =
     let (texts, counts) = only_one_str octets text other count used (least, found) within encoded in
     (joined ∙ ap (λ (xs : List ℕ). old ++ xs) texts, counts)
-only_str old new octets text count (Err fault) h within encoded =
-    only_memory octets text count fault encoded h
+only_str old new octets text count (Err fault) h within encoded = search (rules, only_memory)
 
 -- The head of a Huffman-encoded string has the bit H.
 huffman_head : (value : ℕ) (more : List ℕ) → has_bit_h (integer 7 128 value ++ more) ≡ true
@@ -207,19 +187,13 @@ raw_head value more =
 pub string-huffman_bits : (text : List ℕ) → length (huffman_bits text) ≤ length text
     → string text ≡ integer 7 128 (length (huffman_bits text)) ++ huffman_bits text
 unfolding string
-string-huffman_bits text le =
-    ap (λ (b : Bool). if b then integer 7 128 (length (huffman_bits text)) ++ huffman_bits text
-    else integer 7 0 (length text) ++ text)
-    (le-leb (length (huffman_bits text)) (length text) le)
+string-huffman_bits text le = search rules
 
 -- what is written for another text
 pub string-raw : (text : List ℕ) → length text < length (huffman_bits text)
     → string text ≡ integer 7 0 (length text) ++ text
 unfolding string
-string-raw text lt =
-    ap (λ (b : Bool). if b then integer 7 128 (length (huffman_bits text)) ++ huffman_bits text
-    else integer 7 0 (length text) ++ text)
-    (lt-leb (length (huffman_bits text)) (length text) lt)
+string-raw text lt = search rules
 
 -- What is written for a string encodes it.
 pub string_encodes : (text : List ℕ) → AllByRecursion IsOctet text → length text < 2 ^ 35
@@ -298,17 +272,7 @@ has_body : (octets : List ℕ) (count named : ℕ) → count ≤ length octets
     → named ≤ length (take (length octets - count) (drop count octets))
     → HasBody octets count named (take named (take (length octets - count) (drop count octets)))
 has_body octets count named within enough =
-    let room : named ≤ length (drop count octets) =
-    subst (λ xs. named ≤ length xs) (drop_whole octets count) enough in
-    subst (λ xs. HasBody octets count named (take named xs)) (sym (drop_whole octets count))
-    (record {
-      as_long = length-take-le named (drop count octets) room;
-      joined = take-add count named octets;
-      all_octets = sym (take-append-drop count octets)
-          ∙ ap (λ (xs : List ℕ). take count octets ++ xs)
-          (sym (take-append-drop named (drop count octets)));
-      within = omega (arith, room, length-drop count octets);
-    })
+    grind (arith, common_steps, drop_whole, length-take-le, take-add, take-append-drop)
 
 -- A head, and a text after it, are a string.
 pub found_string : (octets text : List ℕ) (count named : ℕ) → LeadingInt 7 octets named count
@@ -355,10 +319,8 @@ pub body_fault : (octets : List ℕ) (count named : ℕ) (fault : TextFault)
     → named ≤ length (take (length octets - count) (drop count octets))
     → BodyFault (nat_le 128 (get_or octets 0 0))
     (take named (take (length octets - count) (drop count octets))) fault → StrFault octets fault
-body_fault octets count named faults.BadPadding h enough fault =
-    coded_fault HasBadPadding octets count named h enough fault.0 fault.1
-body_fault octets count named faults.EndSymbol h enough fault =
-    coded_fault HasEndSymbol octets count named h enough fault.0 fault.1
+body_fault octets count named faults.BadPadding h enough fault = search (rules, coded_fault)
+body_fault octets count named faults.EndSymbol h enough fault = search (rules, coded_fault)
 body_fault octets count named faults.Memory h enough fault =
     let body = has_body octets count named h.0 enough in
     record {
@@ -378,23 +340,11 @@ pub lacks_room : (octets : List ℕ) (count named len capacity : ℕ) → Leadin
     (length (take named (take (length octets - count) (drop count octets))))
     → LacksRoom octets len capacity
 lacks_room octets count named len capacity h enough lacks =
-    let body = has_body octets count named h.0 enough in
-    let text = take named (take (length octets - count) (drop count octets)) in
-    record {
-      head = take count octets;
-      body = text;
-      more = drop named (drop count octets);
-      joined = body.all_octets;
-      head_length = subst (λ n. Int 7 n (take count octets)) (sym body.as_long) h.1;
-      lacks = subst (λ b. capacity < len + most_text b (length text))
-          (sym (has_bit_h-take octets count named h.1)) lacks;
-    }
+    grind (arith, common_steps, has_body, most_text, has_bit_h-take)
 
 -- a call that succeeds where there is room, and failed
 pub no_room : (need capacity : ℕ) → (need ≤ capacity → false ≡ true) → capacity < need
-no_room need capacity succeeds =
-    elim (cases_lt capacity need)
-    [ inl full ↦ full | inr room ↦ absurd (false≢true (succeeds room)) ]
+no_room need capacity succeeds = search rules
 
 -- the same of a call's result
 pub full_on_err : {T E : Type 0} (result : Result T E) (need capacity : ℕ)
@@ -426,23 +376,15 @@ pub record AreParts (text head body : List ℕ) : Type 0 where
 
 -- parts that are joined
 are_parts : (text head body : List ℕ) → string text ≡ head ++ body → AreParts text head body
-are_parts text head body e = record {
-  counted = ap (λ (xs : List ℕ). length xs) e ∙ length-append head body;
-  appended = λ old mid new first second.
-      second ∙ (ap (λ (xs : List ℕ). xs ++ body) first
-      ∙ (append_assoc old head body ∙ ap (λ (xs : List ℕ). old ++ xs) (sym e)));
-}
+are_parts text head body e = grind (arith, common_steps)
 
 -- the parts of a text that is written Huffman-encoded
 pub huffman_parts : (text : List ℕ) (count : ℕ) → count ≡ length (huffman_bits text)
     → count ≤ length text → AreParts text (integer 7 128 count) (huffman_bits text)
 huffman_parts text count same le =
-    are_parts text (integer 7 128 count) (huffman_bits text)
-    (string-huffman_bits text (omega arith)
-    ∙ ap (λ (n : ℕ). integer 7 128 n ++ huffman_bits text) (sym same))
+    grind (arith, common_steps, are_parts, huffman_bits, string-huffman_bits)
 
 -- the parts of a text that is written as it is
 pub raw_parts : (text : List ℕ) (count : ℕ) → count ≡ length (huffman_bits text)
     → length text < count → AreParts text (integer 7 0 (length text)) text
-raw_parts text count same lt =
-    are_parts text (integer 7 0 (length text)) text (string-raw text (omega arith))
+raw_parts text count same lt = grind (arith, common_steps, are_parts, string-raw)

@@ -1,11 +1,8 @@
 -- The program's tables are the code.
-use Rattle.std.proofs.Common.{◌≡◌, ℕ, zero, suc, ◌+◌, ◌-◌, ◌^◌, ◌<◌, ◌≤◌, Bool, true, ◌&&◌, nat_lt}
-use Rattle.std.proofs.Common.{nat_le, List, length, get_or, refl, sym, ap, ap₂, ◌∙◌, subst, arith}
-use Rattle.std.proofs.Common.{below_more, ltb-true, leb-true}
-use Rattle.std.proofs.lemmas.Bool.{and_parts}
+use Rattle.hpack_text.proofs.Names.{◌≡◌, ℕ, zero, suc, ◌^◌, ◌<◌, ◌≤◌, Bool, true, ◌&&◌, nat_lt}
+use Rattle.hpack_text.proofs.Names.{nat_le, get_or, refl, arith, below_more, ltb-true, leb-true}
+use Rattle.hpack_text.proofs.Names.{and_parts, bits_of, code}
 use Rattle.hpack_text.specs.declared.huffman.codes.TheConstants.{COUNTS, VALUES}
-use Rattle.hpack_text.specs.Bits.{bits_of}
-use Rattle.hpack_text.specs.Huffman.{code}
 use Rattle.hpack_text.proofs.TreeLemmas.{computing_tree, same_bits, same_bits-true}
 
 -- whether the test holds of all numbers below n

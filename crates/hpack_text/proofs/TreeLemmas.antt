@@ -1,12 +1,11 @@
 -- The code as a tree, built from the table: each code leads to its symbol, and thirty bits lead to
 -- some symbol.
-use Rattle.std.proofs.Common.{◌≡◌, ℕ, zero, suc, ◌<◌, ◌≤◌, max, Bool, true, false, ◌&&◌, nat_lt}
-use Rattle.std.proofs.Common.{◌==◌, List, [], ◌∷◌, ◌++◌, length, Option, Some, None, refl, sym, ap}
-use Rattle.std.proofs.Common.{◌∙◌, subst, arith, below_more, eqb-true, ltb-true, append_assoc}
-use Rattle.std.proofs.lemmas.Bool.{and_parts, false≢true}
-use Rattle.hpack_text.specs.Bits.{bits_of}
-use Rattle.hpack_text.specs.Huffman.{groups, code_in, code}
-use Rattle.hpack_text.specs.Tree.{Tree, leaf, node, insert_path, insert_codes, tree}
+use Rattle.hpack_text.proofs.Names.{◌≡◌, ℕ, zero, suc, ◌<◌, ◌≤◌, Bool, true, false, ◌&&◌, nat_lt}
+use Rattle.hpack_text.proofs.Names.{List, [], ◌∷◌, ◌++◌, length, Option, Some, None, refl, sym, ap}
+use Rattle.hpack_text.proofs.Names.{◌∙◌, subst, arith, below_more, ltb-true, append_assoc, rules}
+use Rattle.hpack_text.proofs.Names.{and_parts, false≢true, bits_of, groups, code_in, code, tree}
+use Rattle.std.proofs.Common.{max, ◌==◌, eqb-true}
+use Rattle.hpack_text.specs.Tree.{Tree, leaf, node, insert_path, insert_codes}
 
 -- the symbol to which the bits lead, and the bits that are left
 unfoldable pub first_symbol : Tree → List Bool → Option (ℕ × List Bool)
@@ -105,9 +104,7 @@ first_symbol-path (node l r) (true ∷ path) more symbol h = first_symbol-path r
 -- What begins with a code is read as its symbol.
 pub first_symbol-code : (symbol : ℕ) (more : List Bool) → symbol < 257
     → first_symbol tree (code symbol ++ more) ≡ Some (symbol, more)
-first_symbol-code symbol more lt =
-    first_symbol-path tree (code symbol) more symbol
-    (codes_lead-at 257 tree all_codes_lead symbol lt)
+first_symbol-code symbol more lt = search (rules, first_symbol-path, codes_lead-at, all_codes_lead)
 
 -- the bits begin with the code of a symbol
 abbrev pub BeginsWithCode : List Bool → Type 0

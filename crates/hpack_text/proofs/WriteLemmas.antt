@@ -1,27 +1,20 @@
 -- Writing bits as octets: what was appended so far, and what is left.
-use Rattle.std.proofs.Common.{◌≡◌, ℕ, zero, suc, ◌+◌, ◌-◌, ◌*◌, ◌/◌, ◌%◌, ◌^◌, ◌<◌, ◌≤◌, Bool}
-use Rattle.std.proofs.Common.{true, List, [], ◌∷◌, ◌++◌, length, get_or, take, replicate, Result}
-use Rattle.std.proofs.Common.{Ok, Err, OnErr, refl, sym, ap, ◌∙◌, subst, arith, append_assoc}
-use Rattle.std.proofs.Common.{append-nil, length-append, pow_pos}
-use Rattle.std.proofs.Common.{ap₂}
+use Rattle.hpack_text.proofs.Names.{◌≡◌, ℕ, zero, suc, ◌+◌, ◌-◌, ◌*◌, ◌/◌, ◌%◌, ◌^◌, ◌<◌, ◌≤◌, Bool}
+use Rattle.hpack_text.proofs.Names.{true, List, [], ◌∷◌, ◌++◌, length, get_or, take, replicate}
+use Rattle.hpack_text.proofs.Names.{Result, OnErr, refl, sym, ap, ◌∙◌, subst, arith, append_assoc}
+use Rattle.hpack_text.proofs.Names.{append-nil, length-append, pow_pos, ap₂, rules, flat_map-append}
+use Rattle.hpack_text.proofs.Names.{common_steps, take_all, AllByRecursion, IsOctet, bits_of, bits}
+use Rattle.hpack_text.proofs.Names.{code, codes, huffman_bits, Appends, AppendsPadded}
 use Rattle.std.specs.Int.{w32, to_be_bytes}
-use Rattle.std.proofs.lemmas.Grind.{flat_map-append}
-use Rattle.std.proofs.lemmas.List.{take_more, take_all}
 use Rattle.std.proofs.lemmas.Nat.{pow-add, shl_whole, shr_below, one_shl, mul-add-lt, mod_below}
-use Rattle.std.specs.List.{AllByRecursion}
-use Rattle.hpack_text.specs.Bits.{IsOctet, bits_of, bits}
-use Rattle.hpack_text.specs.Huffman.{code, codes, huffman_bits}
-use Rattle.hpack_text.specs.Appended.{Appends, AppendsPadded}
-use Rattle.hpack_text.proofs.BitLemmas.{bits_of-append, length-bits_of, length-bits}
-use Rattle.hpack_text.proofs.BitLemmas.{bits_of-joined, bits_of-split}
-use Rattle.hpack_text.proofs.BitLemmas.{bits_of-ones}
+use Rattle.hpack_text.proofs.BitLemmas.{bits_of-append, length-bits_of, length-bits, bits_of-joined}
+use Rattle.hpack_text.proofs.BitLemmas.{bits_of-split, bits_of-ones}
 use Rattle.hpack_text.proofs.CodeLemmas.{is_huffman_bits, length-huffman_bits}
 
 -- What holds of each octet of two lists holds of each of both joined.
 pub all_octets-append : (xs ys : List ℕ) → AllByRecursion IsOctet xs → AllByRecursion IsOctet ys
     → AllByRecursion IsOctet (xs ++ ys)
-all_octets-append [] ys all more = more
-all_octets-append (x ∷ xs) ys all more = (all.0, all_octets-append xs ys all.1 more)
+all_octets-append xs ys all more = grind (arith, common_steps)
 
 -- Nothing was appended, so all bits are left.
 pub Appends-none : (old : List ℕ) (bit_list : List Bool) → Appends old old bit_list bit_list
@@ -33,22 +26,7 @@ pub Appends-push : (old mid new : List ℕ) (octet : ℕ) (bit_list left followi
     → octet < 256 → left ≡ bits_of 8 octet ++ following → Appends old mid bit_list left
     → new ≡ mid ++ octet ∷ [] → Appends old new bit_list following
 Appends-push old mid new octet bit_list left following small split adds pushed =
-    let joined_bits : bits (adds.added ++ octet ∷ []) ≡ bits adds.added ++ (bits_of 8 octet ++ []) =
-    flat_map-append (bits_of 8) adds.added (octet ∷ []) in
-    record {
-      added = adds.added ++ octet ∷ [];
-      joined = pushed
-          ∙ (ap (λ (xs : List ℕ). xs ++ octet ∷ []) adds.joined
-          ∙ append_assoc old adds.added (octet ∷ []));
-      octets = all_octets-append adds.added (octet ∷ []) adds.octets (small, tt);
-      encoded =
-          adds.encoded
-          ∙ (ap (λ (xs : List Bool). bits adds.added ++ xs) split
-          ∙ (sym (append_assoc (bits adds.added) (bits_of 8 octet) following)
-          ∙ ap (λ (xs : List Bool). xs ++ following)
-          (ap (λ (xs : List Bool). bits adds.added ++ xs) (sym (append-nil (bits_of 8 octet)))
-          ∙ sym joined_bits)));
-    }
+    grind (arith, common_steps)
 
 -- The same bits, however they are encoded.
 pub Appends-same : (old new : List ℕ) (bit_list other left : List Bool) → bit_list ≡ other
@@ -58,12 +36,7 @@ Appends-same old new bit_list other left same adds = subst (λ xs. Appends old n
 -- how many bits went into octets
 pub Appends-length : (old new : List ℕ) (bit_list left : List Bool) → Appends old new bit_list left
     → 8 * length new + length left ≡ 8 * length old + length bit_list
-Appends-length old new bit_list left adds =
-    let octets : length new ≡ length old + length adds.added =
-    ap (λ (xs : List ℕ). length xs) adds.joined ∙ length-append old adds.added in
-    let all : length bit_list ≡ length (bits adds.added) + length left =
-    ap (λ (xs : List Bool). length xs) adds.encoded ∙ length-append (bits adds.added) left in
-    omega (arith, length-bits adds.added)
+Appends-length old new bit_list left adds = grind (arith, common_steps, length-append, length-bits)
 
 -- a code after the bits that are left, as one number
 pub record IsShiftedIn (count more value low whole : ℕ) : Type 0 where
@@ -155,29 +128,13 @@ word_bits word =
 pub Appends-word : (old new : List ℕ) (word : ℕ) (bit_list following : List Bool)
     → bit_list ≡ bits_of 32 word ++ following → new ≡ old ++ to_be_bytes w32 word
     → Appends old new bit_list following
-Appends-word old new word bit_list following split appended = record {
-  added = to_be_bytes w32 word;
-  joined = appended;
-  octets = (omega arith, (omega arith, (omega arith, (omega arith, tt))));
-  encoded = split ∙ ap (λ (xs : List Bool). xs ++ following) (sym (word_bits word));
-}
+Appends-word old new word bit_list following split appended = search (rules, to_be_bytes, word_bits)
 
 -- What was appended twice was appended.
 pub Appends-join : (old mid new : List ℕ) (bit_list left following : List Bool)
     → Appends old mid bit_list left → Appends mid new left following
     → Appends old new bit_list following
-Appends-join old mid new bit_list left following first second = record {
-  added = first.added ++ second.added;
-  joined = second.joined
-      ∙ (ap (λ (xs : List ℕ). xs ++ second.added) first.joined
-      ∙ append_assoc old first.added second.added);
-  octets = all_octets-append first.added second.added first.octets second.octets;
-  encoded = first.encoded
-      ∙ (ap (λ (xs : List Bool). bits first.added ++ xs) second.encoded
-      ∙ (sym (append_assoc (bits first.added) (bits second.added) following)
-      ∙ ap (λ (xs : List Bool). xs ++ following)
-      (sym (flat_map-append (bits_of 8) first.added second.added))));
-}
+Appends-join old mid new bit_list left following first second = grind (arith, common_steps)
 
 -- the octet of the bits that are left, padded with ones
 pub record IsPadded (count value octet : ℕ) : Type 0 where
@@ -208,15 +165,7 @@ padded_octet count value some few within =
 pub AppendsPadded-push : (old new : List ℕ) (count value octet : ℕ) → 0 < count
     → IsPadded count value octet → new ≡ old ++ octet ∷ []
     → AppendsPadded old new (bits_of count value)
-AppendsPadded-push old new count value octet some padded pushed =
-    record {
-      added = octet ∷ [];
-      joined = pushed;
-      octets = (padded.small, tt);
-      padding = 8 - count;
-      short = omega arith;
-      encoded = append-nil (bits_of 8 octet) ∙ padded.same;
-    }
+AppendsPadded-push old new count value octet some padded pushed = search rules
 
 -- Where no bits were left, nothing is appended.
 pub AppendsPadded-none : (old : List ℕ) (count value : ℕ) → count ≤ 0
@@ -256,10 +205,7 @@ written_text old mid new text left adds padded =
 -- one more octet's code
 pub codes-take-more : (text : List ℕ) (i : ℕ) → i < length text
     → codes (take (i + 1) text) ≡ codes (take i text) ++ code (get_or text i 0)
-codes-take-more text i lt =
-    ap (λ (xs : List ℕ). codes xs) (take_more text i 0 lt)
-    ∙ (flat_map-append code (take i text) (get_or text i 0 ∷ [])
-    ∙ ap (λ (xs : List Bool). codes (take i text) ++ xs) (append-nil (code (get_or text i 0))))
+codes-take-more text i lt = grind (arith, common_steps)
 
 -- the codes of a prefix are no longer than those of the text
 pub length-codes-take : (text : List ℕ) (i : ℕ) → length (codes (take i text)) ≤ length (codes text)
@@ -278,11 +224,7 @@ pub length-codes-more : (text : List ℕ) (i count value : ℕ) → i < length t
     → bits_of count value ≡ code (get_or text i 0)
     → length (codes (take (i + 1) text)) ≡ length (codes (take i text)) + count
 length-codes-more text i count value lt same =
-    let counted : length (code (get_or text i 0)) ≡ count =
-    ap (λ (xs : List Bool). length xs) (sym same) ∙ length-bits_of count value in
-    ap (λ (xs : List Bool). length xs) (codes-take-more text i lt)
-    ∙ (length-append (codes (take i text)) (code (get_or text i 0))
-    ∙ ap (λ (n : ℕ). length (codes (take i text)) + n) counted)
+    grind (arith, common_steps, get_or, length-bits_of, codes-take-more, length-append)
 
 -- A prefix of the text's codes, and the next code, are no longer than all codes.
 next_code_within : (text : List ℕ) (i count value : ℕ) → i < length text
@@ -312,12 +254,7 @@ pub no_room_after : (old mid text : List ℕ) (pending bits_left capacity : ℕ)
     → 8 * capacity + 1 ≤ 8 * length mid + pending
     → capacity < length old + length (huffman_bits text)
 no_room_after old mid text pending bits_left capacity adds full =
-    omega (
-      arith,
-      Appends-length old mid (codes text) (bits_of pending bits_left) adds,
-      length-bits_of pending bits_left,
-      length-huffman_bits text,
-    )
+    search (rules, Appends-length, bits_of, length-bits_of, length-huffman_bits)
 
 -- At the end of a loop over the text, the codes of all of it were written.
 pub Appends-all : (old mid text : List ℕ) (i : ℕ) (left : List Bool) → length text ≤ i
@@ -327,5 +264,4 @@ Appends-all old mid text i left past adds =
 
 -- a fact of an error, whatever the result
 pub OnErr-from : {T E P : Type 0} (result : Result T E) → P → OnErr result P
-OnErr-from (Ok value) p = tt
-OnErr-from (Err fault) p = p
+OnErr-from result p = search rules

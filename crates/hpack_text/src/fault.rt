@@ -3,7 +3,7 @@
 use thiserror::Error;
 
 /// Why octets are not read as a text, or a text is not written.
-#[derive(Clone, Copy, Debug, PartialEq, Eq, Error)]
+#[derive(Clone, Copy, Debug, PartialEq, Eq, Hash, Error)]
 pub enum TextFault {
     /// The octets end inside an integer or a string.
     #[error("X1 Truncated: the octets end inside an integer or a string")]

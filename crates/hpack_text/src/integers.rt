@@ -10,8 +10,8 @@ ghost use Rattle.hpack_text.specs.Appended.{IsExtended};
 use crate::fault::TextFault;
 use std::alloc::AllocError;
 
-/// The most continuation octets of an integer that are read.
-const MAX_CONTINUATION_OCTETS: usize = 5;
+/// The most continuation octets of an integer that are read (own; RFC 7541, section 5.1).
+pub const MAX_CONTINUATION_OCTETS: usize = 5;
 
 // contract: HPACK 5.1 A value below 2^N-1 stands in the prefix of N bits
 // rule: HPACK 5.1 A value below 2^N-1 stands in the prefix of N bits

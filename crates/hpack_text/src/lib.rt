@@ -13,7 +13,7 @@ mod strings;
 
 pub use fault::TextFault;
 pub use huffman::{huff_len, huff_read, huff_step, huff_write};
-pub use integers::{read_int, write_int};
+pub use integers::{MAX_CONTINUATION_OCTETS, read_int, write_int};
 pub use laws::{
     no_code_begins_another, no_integer_begins_another, no_string_begins_another, one_coding,
     one_coding_fault, one_text, shortest_integer, some_code_begins, written_string,

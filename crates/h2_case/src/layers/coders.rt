@@ -22,7 +22,7 @@ pub(crate) struct Coders {
 }
 
 impl Drop for Coders {
-    /// Lets go of them by calls: where they are let go of, nothing of that is proved again.
+    /// Drops each by a call, so that what drops it is proved once.
     fn drop(self) {
         let Coders {
             alloc: _,

@@ -11,16 +11,15 @@
 //! - `end_in`, `end_out`: a side of it ends: the refusal, if there is one, and which sides have
 //!   ended.
 //! - `config`: the values of a new end.
-//! - `config TABLE WINDOW STREAMS`, and perhaps `frames N`, the greatest frame: these values, or the
-//!   first that is refused.
+//! - `config TABLE WINDOW STREAMS`, and perhaps `frames N`, the greatest frame: these values, or
+//!   the first that is refused.
 
 use crate::case::Case;
 use crate::driver::{Answer, Driver, answers};
 use crate::text::Text;
 use crate::words::Words;
-use h2_config::{BadConfig, Config};
-use h2_flow::{Closed, Settings, StreamState, Window};
-use h2_log::Role;
+use h2_flow::{BadConfig, Closed, Config, Settings, StreamState, Window};
+use h2_spec_log::Role;
 use std::alloc::Global;
 use std::fmt::Display;
 

@@ -18,7 +18,7 @@ use crate::octets::{add_frames, marked, read_octets, written_after};
 use crate::text::Text;
 use crate::words::Words;
 use h2_frame::{
-    Code, FrameRef, Head, Kind, Unwritable, head, head_fault, payload_fault, payload_frame,
+    Code, FrameRef, Head, Kind, Unwritable, head, head_fault, pad_length, payload_frame,
     read_payload, write, write_ref,
 };
 use std::alloc::Global;
@@ -118,9 +118,9 @@ fn is_read_alike(read: &Head, payload: &[u8], frame: Option<FrameRef<'_>>) -> bo
     if head_fault(read, LIMIT).is_some() || payload.len() != read.length as usize {
         return false;
     }
-    match (payload_fault(read, payload), frame) {
-        (Some(_), None) => true,
-        (None, Some(frame)) => payload_frame(read, payload) == frame,
+    match (pad_length(read, payload), frame) {
+        (Err(_), None) => true,
+        (Ok(pad), Some(frame)) => payload_frame(read, pad, payload) == frame,
         _ => false,
     }
 }

@@ -1,9 +1,8 @@
 -- A line of each kind of frame: what the definitions make of it, written out.
-use Rattle.std.proofs.Common.{◌≡◌, List, ℕ, [], ◌∷◌, true, false, Some, None, codes, refl}
+use Rattle.h2_show.proofs.Names.{◌≡◌, List, ℕ, [], ◌∷◌, true, false, Some, None, codes, refl, Reset}
+use Rattle.h2_show.proofs.Names.{Settings, Ping, GoAway, WindowUpdate, frame_line, frame_words}
 use Rattle.std.specs.Fmt.{digits}
-use Rattle.h2_frame.specs.Frames.{Data, Headers, Priority, Reset, Settings, Ping, GoAway}
-use Rattle.h2_frame.specs.Frames.{WindowUpdate, Continuation, Unknown}
-use Rattle.h2_show.specs.Lines.{frame_line, frame_words}
+use Rattle.h2_frame.specs.Frames.{Data, Headers, Priority, Continuation, Unknown}
 
 -- four octets
 abbrev four : List ℕ

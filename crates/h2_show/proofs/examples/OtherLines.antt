@@ -1,14 +1,10 @@
 -- Lines of fields, of the preface, of faults and of ends, written out.
-use Rattle.std.proofs.Common.{◌≡◌, List, ℕ, [], ◌∷◌, ◌++◌, true, false, codes, refl}
-use Rattle.std.proofs.Common.{ap, nat_le, if◌then◌else◌, flat_map}
+use Rattle.h2_show.proofs.Names.{◌≡◌, List, ℕ, [], ◌∷◌, ◌++◌, true, false, codes, refl, ap, nat_le}
+use Rattle.h2_show.proofs.Names.{if◌then◌else◌, flat_map, Field, list_size, expected_preface}
+use Rattle.h2_show.proofs.Names.{preface, field_line, list_lines, fault_line, rest_line}
+use Rattle.h2_show.proofs.Names.{unfinished_line, end_lines, preface_lines}
 use Rattle.std.specs.Fmt.{digits}
 use Rattle.h2_frame.specs.declared.code.Code.TheVariants.{FrameSizeError, EnhanceYourCalm}
-use Rattle.hpack.specs.declared.types.field.Field.{Field}
-use Rattle.hpack.specs.Lists.{list_size}
-use Rattle.h2_wire.specs.Streams.{expected_preface, preface}
-use Rattle.h2_show.specs.Lines.{field_line, list_lines, fault_line, rest_line, unfinished_line}
-use Rattle.h2_show.specs.Printed.{end_lines}
-use Rattle.h2_show.specs.Shown.{preface_lines}
 
 plain_field : field_line (record { name = codes ":path"; value = codes "/"; sensitive = false })
     ≡ codes "  :path: /\n"

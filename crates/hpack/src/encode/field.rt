@@ -82,7 +82,8 @@ pub(crate) fn append_int(
         out.push(first_bits + value as u8)?;
         return Ok(());
     }
-    write_int(prefix_bits, first_bits, value, out).map_err(|_| Fault::Memory)
+    write_int(prefix_bits, first_bits, value, out)?;
+    Ok(())
 }
 
 /// Appends a string. On `Err` nothing has changed.
@@ -91,5 +92,6 @@ fn append_string(text: &[u8], out: &mut Vec<u8>) -> Result<(), Fault>
     ensures ok { OnOk result (out.new.items ≡ out.old.items ++ string text.now) }
     ensures extended { IsExtended out.old.items out.new.items }
 {
-    write_string(text, out).map_err(|_| Fault::Memory)
+    write_string(text, out)?;
+    Ok(())
 }

@@ -96,11 +96,10 @@ impl SizeUpdates {
         ensures err { OnErr result (table.new ≡ table.old) }
     {
         match self {
-            SizeUpdates::Nothing => Ok(()),
-            SizeUpdates::Once(maximum) => table.resize(maximum).map_err(|_| Fault::Memory),
-            SizeUpdates::Twice(first, last) => {
-                table.resize_twice(first, last).map_err(|_| Fault::Memory)
-            }
+            SizeUpdates::Nothing => {}
+            SizeUpdates::Once(maximum) => table.resize(maximum)?,
+            SizeUpdates::Twice(first, last) => table.resize_twice(first, last)?,
         }
+        Ok(())
     }
 }

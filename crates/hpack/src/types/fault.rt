@@ -3,7 +3,7 @@
 use thiserror::Error;
 
 /// Why a block isn't decoded, or a list isn't encoded.
-#[derive(Clone, Copy, Debug, PartialEq, Eq, Error)]
+#[derive(Clone, Copy, Debug, PartialEq, Eq, Hash, Error)]
 pub enum Fault {
     /// The octets are no field block at this table: COMPRESSION_ERROR.
     #[error("P1 Compression: the octets are no field block")]

@@ -5,9 +5,9 @@ use Rattle.h2_frame.specs.Frames.{Encodes, frame_of}
 use Rattle.h2_wire.specs.Cutter.{CutterState, CutterLimited, octets_of}
 use Rattle.h2_wire.specs.Faults.{wire_fault_code}
 use Rattle.h2_core.specs.Endpoint.{end_of}
-use Rattle.h2_machine.specs.End.{payload_limit_of}
-use Rattle.h2_machine.specs.Machine.{fail}
-use Rattle.h2_machine_laws.proofs.ReadLimits.{limit_in_range}
+use Rattle.h2_spec_machine.specs.End.{payload_limit_of}
+use Rattle.h2_spec_machine.specs.Machine.{fail}
+use Rattle.h2_laws_machine.proofs.ReadLimits.{limit_in_range}
 use Rattle.h2_conn.proofs.SetLimits.{lies_limited, octets_limited}
 use Rattle.h2_conn.proofs.TakeFrames.{lies_there, same_body}
 use Rattle.h2_conn.proofs.TakeParts.{no_frame_taken, takes_octets, frame_taken, frame_stops}

@@ -1,6 +1,6 @@
 -- The pairs are those of the role, with the greatest frame where it isn't 16,384.
 use Rattle.std.proofs.Common.{◌≡◌, ◌==◌, true, false, sym, ◌∙◌, eq-eqb, ne_eqb}
-use Rattle.h2_log.specs.CallRules.{opening_pairs, with_max_frame}
+use Rattle.h2_spec_log.specs.CallRules.{opening_pairs, with_max_frame}
 use Rattle.h2_core.proofs.settings_frame.add_opening_settings.Goals as goal
 use Rattle.h2_core.proofs.settings_frame.add_opening_settings.Goals.{in-Client, in-Server}
 

@@ -1,5 +1,5 @@
 -- By the size of the trailers, and where there are none.
-use Rattle.std.proofs.Common.{◌∙◌}
+use Rattle.h2_ends.proofs.Names.{◌∙◌}
 use Rattle.h2_ends.proofs.RequestRefusals.{is_large, is_small}
 use Rattle.h2_ends.proofs.RequestSends.{trailers_are, no_trailers_fit}
 use Rattle.h2_ends.proofs.sending.large_trailers.Goals as goal

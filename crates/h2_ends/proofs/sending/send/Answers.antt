@@ -1,5 +1,5 @@
 -- Call by call, by the lemmas on what is sent.
-use Rattle.std.proofs.Common.{arith, true, sym, ◌∙◌}
+use Rattle.h2_ends.proofs.Names.{arith, true, sym, ◌∙◌}
 use Rattle.h2_ends.proofs.SendingBody.{going_begins, none_by, going_on, going_stuck, going_ends}
 use Rattle.h2_ends.proofs.SendingBody.{going_refused, trailers_go, trailers_refused, rest_is}
 use Rattle.h2_ends.proofs.SendingBody.{fields_are, typed_data, typed_fields}

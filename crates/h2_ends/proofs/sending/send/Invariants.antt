@@ -1,5 +1,5 @@
 -- Whatever had happened when it began, the message is under way; the rest of the body shrinks.
-use Rattle.std.proofs.Common.{◌-◌, length}
+use Rattle.h2_ends.proofs.Names.{◌-◌, length}
 use Rattle.h2_ends.proofs.SendingBody.{IsGoing}
 use Rattle.h2_ends.proofs.sending.send.Given as goal
 

@@ -1,7 +1,5 @@
 -- By the lemmas on what the connection answers to trailers, or to a head.
-use Rattle.std.proofs.Common.{true, arith}
-use Rattle.h2_message.specs.Values.{message_value}
-use Rattle.h2_pair.specs.Tokens.{is_head_alone}
+use Rattle.h2_ends.proofs.Names.{true, arith, message_value, is_head_alone}
 use Rattle.h2_ends.proofs.RequestSends.{sends_trailers, sends_head, fields_typed}
 use Rattle.h2_ends.proofs.sending.send_head.Goals as goal
 

@@ -1,5 +1,5 @@
 -- Whether the output is full, by the match.
-use Rattle.std.proofs.Common.{inl, inr, refl}
+use Rattle.h2_ends.proofs.Names.{inl, inr, refl}
 use Rattle.h2_ends.proofs.sending.stopped_by.Goals as goal
 
 pub returns-in-OutputFull : goal.returns-in-OutputFull

@@ -1,8 +1,7 @@
-use Rattle.std.proofs.Common.{[], Some, refl, ap}
-use Rattle.h2_ends.specs.Ends.{EndTook, Handed}
+use Rattle.h2_ends.proofs.Names.{[], Some, refl, ap, EndTook, Handed}
 use Rattle.h2_ends.specs.Loans.{IsBodyIn}
-use Rattle.h2_ends.proofs.taking.lend.Goals as goal
 use Rattle.h2_ends.proofs.taking.lend.Goals.{in-None, in-Some}
+use Rattle.h2_ends.proofs.taking.lend.Goals as goal
 
 pub returns : goal.returns
 unfolding IsBodyIn

@@ -1,6 +1,4 @@
-use Rattle.std.proofs.Common.{[], List, refl, ap, ◌∙◌}
-use Rattle.hpack.specs.declared.types.field.Field.{Field}
-use Rattle.h2_ends.specs.Ends.{handed_at}
+use Rattle.h2_ends.proofs.Names.{[], List, refl, ap, ◌∙◌, Field, handed_at}
 use Rattle.h2_ends.specs.Loans.{BodyLiesIn, IsBodyIn}
 use Rattle.h2_ends.proofs.taking.lend_event.Goals as goal
 

@@ -1,4 +1,4 @@
-use Rattle.std.proofs.Common.{refl}
+use Rattle.h2_ends.proofs.Names.{refl}
 use Rattle.h2_ends.specs.Ends.{handed_at}
 use Rattle.h2_ends.proofs.taking.lend_fields.Goals as goal
 

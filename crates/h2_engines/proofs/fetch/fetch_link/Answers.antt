@@ -1,11 +1,10 @@
 -- Each return, by how the client was driven.
-use Rattle.h2_engines.proofs.Names.{Bool, refl, ◌∙◌, err_from_is_err_and, message_value}
-use Rattle.h2_engines.specs.declared.fetcher.Fetched.{Fetched}
+use Rattle.h2_engines.proofs.Names.{Bool, refl, ◌∙◌, err_from_is_err_and, message_value, Fetched}
 use Rattle.h2_engines.proofs.FetchEnds.{ends_at_once, drive_fetches, drive_not_cut, drive_cut_off}
 use Rattle.h2_engines.proofs.FetchEnds.{drive_whole, fetched_not_cut}
-use Rattle.h2_link.specs.declared.error.LinkError.TheVariants as errors
 use Rattle.h2_engines.proofs.MachineDrives.{failures_same}
 use Rattle.h2_engines.proofs.MachineViews.{met, fails_none}
+use Rattle.h2_link.specs.declared.error.LinkError.TheVariants as errors
 use Rattle.h2_engines.proofs.fetch.fetch_link.Goals as goal
 
 pub returns-in_err-fetcher-clause-fetches : goal.returns-in_err-fetcher-clause-fetches

@@ -1,9 +1,9 @@
 -- By the lemmas on what a client hears.
 use Rattle.h2_engines.proofs.Names.{refl, ap, arith, false, true, inl, inr, event_handed}
-use Rattle.h2_engines.specs.declared.request.Next.TheVariants as goes
 use Rattle.h2_engines.specs.ClientSteps.{ErrsFetching}
 use Rattle.h2_engines.proofs.FetcherHears.{heard_nothing, heard_part, heard_error, heard_fault}
 use Rattle.h2_engines.proofs.FetcherHears.{errs_reset}
+use Rattle.h2_engines.specs.declared.request.Next.TheVariants as goes
 use Rattle.h2_engines.proofs.fetcher.hear.Goals as goal
 
 pub returns-in-Some-Reset-clause-hears : goal.returns-in-Some-Reset-clause-hears

@@ -1,6 +1,5 @@
 -- Each return, by what the rounds before it and the last one have made of the machine and the link.
-use Rattle.h2_engines.proofs.Names.{refl, sym, ◌∙◌, take, drop, length, arith}
-use Rattle.h2_engines.proofs.Names.{err_from_is_err_and}
+use Rattle.h2_engines.proofs.Names.{refl, sym, ◌∙◌, take, drop, length, arith, err_from_is_err_and}
 use Rattle.std.specs.List.{length_refill}
 use Rattle.h2_engines.proofs.MachineDrives.{drives_first, going_ends, no_round, waiting_on}
 use Rattle.h2_engines.proofs.MachineDrives.{waiting_last, written_on, sent_on, sent_last, read_on}

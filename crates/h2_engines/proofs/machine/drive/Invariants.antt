@@ -1,7 +1,6 @@
 -- No call of the link has failed, there is room for input, and the machine that it was at first
 -- goes on, with a turn at least in each round.
-use Rattle.h2_engines.proofs.Names.{◌≡◌, length}
-use Rattle.h2_engines.specs.Linked.{traffic}
+use Rattle.h2_engines.proofs.Names.{◌≡◌, length, traffic}
 use Rattle.h2_engines.proofs.MachineDrives.{DrivesOn}
 use Rattle.h2_engines.proofs.machine.drive.Given as goal
 

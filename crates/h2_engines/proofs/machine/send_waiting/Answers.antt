@@ -1,13 +1,13 @@
 -- By the lemmas on what is sent before output is put out.
-use Rattle.h2_engines.proofs.Names.{◌≡◌, ◌≢◌, Ok, Err, rules, sym, ◌∙◌}
-use Rattle.h2_log.specs.declared.refusal.Refusal.TheVariants as reasons
-use Rattle.h2_ends.specs.declared.refusal.EndRefusal.TheVariants as refusals
-use Rattle.h2_engines.specs.Failures.{error_after}
-use Rattle.h2_engines.specs.ServerSteps.{ReleasesSome, EndsRelease, EndsAfter}
+use Rattle.h2_engines.proofs.Names.{◌≡◌, Ok, Err, rules, sym, ◌∙◌, error_after, ReleasesSome}
+use Rattle.h2_engines.specs.ServerSteps.{EndsRelease, EndsAfter}
+use Rattle.std.proofs.Common.{◌≢◌}
 use Rattle.h2_engines.proofs.ResponderRefusals.{releases_err}
 use Rattle.h2_engines.proofs.WithoutLinkSends.{failed_sends, not_released, sends_so}
-use Rattle.h2_engines.proofs.machine.send_waiting.Goals as goal
 use Rattle.h2_engines.proofs.machine.send_waiting.Goals.{in-Ok-1, in-Err+in-Conn+in-OutputFull-1}
+use Rattle.h2_spec_log.specs.declared.refusal.Refusal.TheVariants as reasons
+use Rattle.h2_ends.specs.declared.refusal.EndRefusal.TheVariants as refusals
+use Rattle.h2_engines.proofs.machine.send_waiting.Goals as goal
 
 pub returns-then-is_some-clause-sends : goal.returns-then-is_some-clause-sends
 returns-then-is_some-clause-sends g c =

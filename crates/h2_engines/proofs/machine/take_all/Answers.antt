@@ -1,15 +1,15 @@
 -- Each part of the piece is heard of, and what is due is done, until nothing is left or the machine
 -- ends.
-use Rattle.h2_engines.proofs.Names.{◌≡◌, ◌+◌, drop, refl, ◌∙◌, arith, err_from_is_err_and}
-use Rattle.std.proofs.Common.{length, length-take, length-drop, ◌-◌}
-use Rattle.h2_engines.specs.declared.request.Next.TheVariants as nexts
-use Rattle.h2_engines.specs.Linked.{traffic}
+use Rattle.h2_engines.proofs.Names.{◌≡◌, ◌+◌, drop, refl, ◌∙◌, arith, err_from_is_err_and, length}
+use Rattle.h2_engines.proofs.Names.{◌-◌, traffic}
+use Rattle.std.proofs.Common.{length-take, length-drop}
 use Rattle.h2_engines.proofs.MachineLaws.{is_due}
-use Rattle.h2_engines.proofs.MachineTakes.{IsTaking, takes_first, heard_rest, done_rest}
-use Rattle.h2_engines.proofs.MachineTakes.{whole_rest, due_rest, not_done_rest, last_rest}
-use Rattle.h2_engines.proofs.MachineTakes.{no_round_rest, moved_to}
-use Rattle.h2_engines.proofs.machine.take_all.Goals as goal
+use Rattle.h2_engines.proofs.MachineTakes.{IsTaking, takes_first, heard_rest, done_rest, whole_rest}
+use Rattle.h2_engines.proofs.MachineTakes.{due_rest, not_done_rest, last_rest, no_round_rest}
+use Rattle.h2_engines.proofs.MachineTakes.{moved_to}
 use Rattle.h2_engines.proofs.machine.take_all.Goals.{in-Again, in_default+in_ok-do_due-in_default}
+use Rattle.h2_engines.specs.declared.request.Next.TheVariants as nexts
+use Rattle.h2_engines.proofs.machine.take_all.Goals as goal
 
 pub loop-init : goal.loop-init
 loop-init g c =

@@ -1,8 +1,7 @@
 -- So many octets of the piece were used and no call of the link has failed; and the machine that it
 -- was at first is driven now, with a turn at least in each round.
-use Rattle.h2_engines.proofs.Names.{◌≡◌, ◌≤◌, length, drop}
+use Rattle.h2_engines.proofs.Names.{◌≡◌, ◌≤◌, length, drop, traffic}
 use Rattle.h2_engines.specs.declared.request.Next.TheVariants.{Again}
-use Rattle.h2_engines.specs.Linked.{traffic}
 use Rattle.h2_engines.proofs.MachineTakes.{TakesOn}
 use Rattle.h2_engines.proofs.machine.take_all.Given as goal
 

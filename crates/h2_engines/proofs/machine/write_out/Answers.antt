@@ -1,8 +1,7 @@
 -- By the lemmas on output that is written.
 use Rattle.h2_engines.proofs.Names.{ℕ, refl, ◌∙◌, subst, arith, err_from_is_err_and, PutOut, Count}
-use Rattle.h2_engines.proofs.Names.{EndAnswers}
+use Rattle.h2_engines.proofs.Names.{EndAnswers, Happens}
 use Rattle.h2_link.specs.Links.{WritesAll}
-use Rattle.h2_engines.specs.Machines.{Happens}
 use Rattle.h2_engines.proofs.MachineLaws.{puts_at}
 use Rattle.h2_engines.proofs.ResponderFaults.{written_some, written_failures, written_ends}
 use Rattle.h2_engines.proofs.ResponderFaults.{written_known}

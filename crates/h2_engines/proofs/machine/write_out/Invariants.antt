@@ -1,6 +1,5 @@
 -- No call of the link has failed, and it took all that the end has given out, in so many rounds.
-use Rattle.h2_engines.proofs.Names.{◌≡◌}
-use Rattle.h2_engines.specs.Linked.{traffic}
+use Rattle.h2_engines.proofs.Names.{◌≡◌, traffic}
 use Rattle.h2_engines.proofs.MachineWrites.{WritesFrom}
 use Rattle.h2_engines.proofs.machine.write_out.Given as goal
 

@@ -1,6 +1,5 @@
 -- The fields so far have another name.
-use Rattle.h2_engines.proofs.Names.{◌≡◌, drop}
-use Rattle.h2_message.specs.Fields.{value_or_nothing}
+use Rattle.h2_engines.proofs.Names.{◌≡◌, drop, value_or_nothing}
 use Rattle.h2_engines.proofs.request.value_or_nothing.Given as goal
 
 abbrev pub invariant-loop-place : goal.invariant-loop-place

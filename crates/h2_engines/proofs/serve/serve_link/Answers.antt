@@ -1,10 +1,10 @@
 -- Each return, by how the server was driven.
 use Rattle.h2_engines.proofs.Names.{ℕ, Bool, refl, ◌∙◌, err_from_is_err_and}
-use Rattle.h2_link.specs.declared.error.LinkError.TheVariants as errors
 use Rattle.h2_engines.proofs.MachineDrives.{failures_same}
 use Rattle.h2_engines.proofs.MachineViews.{met, fails_none}
 use Rattle.h2_engines.proofs.ServeEnds.{none_serves, drive_serves, drive_not_cut, finish_serves}
 use Rattle.h2_engines.proofs.ServeEnds.{finish_ended, may_serve, ends_at_end, cuts_at_end, errs_cut}
+use Rattle.h2_link.specs.declared.error.LinkError.TheVariants as errors
 use Rattle.h2_engines.proofs.serve.serve_link.Goals as goal
 
 pub returns-in_err-responder-clause-serves : goal.returns-in_err-responder-clause-serves

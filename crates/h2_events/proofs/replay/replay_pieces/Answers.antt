@@ -1,7 +1,7 @@
 -- The pieces that the reader gave were handed to the end.
 use Rattle.std.proofs.Common.{rules, [], ◌∷◌}
 use Rattle.std.proofs.KnownBytes.{Consumes-trans}
-use Rattle.h2_end_laws.specs.Replays.{octets_of_acts}
+use Rattle.h2_laws_end.specs.Replays.{octets_of_acts}
 use Rattle.h2_events.proofs.ReplayLemmas.{replays_more, end_reports, fault_reports}
 use Rattle.h2_events.proofs.replay.replay_pieces.Goals as goal
 

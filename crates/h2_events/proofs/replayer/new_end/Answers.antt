@@ -1,5 +1,5 @@
 -- The configuration is the default one.
-use Rattle.h2_log.specs.declared.role.Role.TheVariants.{Client, Server}
+use Rattle.h2_spec_log.specs.declared.role.Role.TheVariants.{Client, Server}
 use Rattle.h2_events.proofs.ReplayLemmas.{new_replays}
 use Rattle.h2_events.proofs.replayer.new_end.Goals as goal
 

@@ -1,8 +1,7 @@
 -- By the lemmas on refusals, and on the octets that are written of parts.
-use Rattle.std.proofs.Common.{◌≡◌, ◌^◌, ℕ, List, ◌++◌, nat_lt, ◌&&◌, false, refl, ap, ◌∙◌, arith}
-use Rattle.std.proofs.Common.{append_assoc}
-use Rattle.h2_frame.specs.Heads.{fits_stream}
-use Rattle.h2_frame.specs.FrameParts.{payload_octets, head_octets}
+use Rattle.std.proofs.Common.{ℕ, List, ◌++◌, refl, ap, ◌∙◌, arith, append_assoc}
+use Rattle.h2_frame.specs.Heads.{head_octets}
+use Rattle.h2_frame.specs.FrameParts.{payload_octets}
 use Rattle.h2_frame.proofs.FramePartsLemmas.{refusal-too_long, refusal-bad_stream}
 use Rattle.h2_frame.proofs.FramePartsLemmas.{refusal-bad_value, refusal-none, encoding_of-parts}
 use Rattle.h2_frame.proofs.FramePartsLemmas.{length-encoding_of_parts}

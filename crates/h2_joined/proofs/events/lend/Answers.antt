@@ -1,5 +1,5 @@
 -- An event, by where it lies.
-use Rattle.std.proofs.Common.{refl}
+use Rattle.h2_joined.proofs.Names.{refl}
 use Rattle.h2_joined.specs.Stored.{event_kept}
 use Rattle.h2_joined.proofs.events.lend.Goals as goal
 

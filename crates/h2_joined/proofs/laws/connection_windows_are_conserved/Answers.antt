@@ -1,7 +1,6 @@
 -- By the lemma of a pair on either direction.
-use Rattle.h2_pair.proofs.BothWays.{ends_to_server, ends_to_client}
-use Rattle.h2_pair.proofs.ConnectionWindows.{connection_conserved}
-use Rattle.h2_joined.specs.Joints.{half_of}
+use Rattle.h2_joined.proofs.Names.{ends_to_server, ends_to_client, half_of}
+use Rattle.h2_laws_pair.proofs.ConnectionWindows.{connection_conserved}
 use Rattle.h2_joined.proofs.JointActs.{joint_holds}
 use Rattle.h2_joined.proofs.laws.connection_windows_are_conserved.Goals as goal
 

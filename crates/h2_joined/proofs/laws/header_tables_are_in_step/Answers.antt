@@ -1,6 +1,6 @@
 -- By the lemmas of a pair on either direction.
-use Rattle.h2_pair.proofs.TablesOfPairs.{tables_to_server, tables_to_client}
-use Rattle.h2_joined.specs.Joints.{half_of}
+use Rattle.h2_joined.proofs.Names.{half_of}
+use Rattle.h2_laws_pair.proofs.TablesOfPairs.{tables_to_server, tables_to_client}
 use Rattle.h2_joined.proofs.JointActs.{joint_holds}
 use Rattle.h2_joined.proofs.laws.header_tables_are_in_step.Goals as goal
 

@@ -1,8 +1,7 @@
 -- By the lemma on all acts of a list.
-use Rattle.h2_config.specs.ConfigValues.{values_of}
-use Rattle.h2_log.specs.declared.role.Role.TheVariants as roles
-use Rattle.h2_joined.specs.Joints.{new_joint_end}
+use Rattle.h2_joined.proofs.Names.{values_of, new_joint_end}
 use Rattle.h2_joined.proofs.RunActs.{runs_all}
+use Rattle.h2_spec_log.specs.declared.role.Role.TheVariants as roles
 use Rattle.h2_joined.proofs.running.run.Goals as goal
 
 pub returns : goal.returns

@@ -4,5 +4,5 @@ use Rattle.h2_output.proofs.data_head.data_head.Goals as goal
 
 pub returns : goal.returns
 returns c = λ octets same.
-    rw (c.write_u32.ensures, c.write_u24.ensures, c.from.ensures)
+    rw (c.octets.ensures, c.from.ensures)
     (data-head c.args.stream c.args.length c.args.end octets same)

@@ -4,7 +4,7 @@ use Rattle.hpack.specs.declared.types.field.Field.{Field}
 use Rattle.hpack.specs.Written.{AreOctets}
 use Rattle.std.specs.List.{AllByRecursion}
 use Rattle.hpack_text.specs.Bits.{IsOctet}
-use Rattle.h2_log.specs.Acts.{IsTypedAct, Open, SendFields, SendData, Number, Count, Done}
+use Rattle.h2_spec_log.specs.Acts.{IsTypedAct, Open, SendFields, SendData, Number, Count, Done}
 use Rattle.h2_conn.specs.Conn.{ConnAnswers, answer_by}
 use Rattle.h2_replay.proofs.CallLemmas.{answered_call, shown_call, put_out_call, typed_as}
 use Rattle.h2_replay.proofs.CallLemmas.{makes_as, shows_itself}

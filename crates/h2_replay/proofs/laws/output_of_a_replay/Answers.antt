@@ -1,11 +1,11 @@
 -- By the laws of what an end writes.
 use Rattle.std.proofs.Common.{◌∙◌}
-use Rattle.h2_log_laws.proofs.TurnsOfLogs.{turns_report}
-use Rattle.h2_end_laws.proofs.ReplayedLogs.{replay_closed}
-use Rattle.h2_end_laws.proofs.ReplayedOctets.{replay_recorded}
-use Rattle.h2_end_laws.proofs.Replies.{replies_of_logs}
-use Rattle.h2_end_laws.proofs.SendableCalls.{written_sendable}
-use Rattle.h2_end_laws.proofs.Sendings.{log_sent}
+use Rattle.h2_laws_log.proofs.TurnsOfLogs.{turns_report}
+use Rattle.h2_laws_end.proofs.ReplayedLogs.{replay_closed}
+use Rattle.h2_laws_end.proofs.ReplayedOctets.{replay_recorded}
+use Rattle.h2_laws_end.proofs.Replies.{replies_of_logs}
+use Rattle.h2_laws_end.proofs.SendableCalls.{written_sendable}
+use Rattle.h2_laws_end.proofs.Sendings.{log_sent}
 use Rattle.h2_replay.proofs.JoinedLemmas.{written_kept}
 use Rattle.h2_replay.proofs.laws.output_of_a_replay.Goals as goal
 

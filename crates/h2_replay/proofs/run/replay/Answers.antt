@@ -1,8 +1,8 @@
 -- A new end, and then one act after another.
 use Rattle.std.proofs.Common.{refl, ◌∙◌, ap, ◌++◌, ◌∷◌, [], List, sym, subst}
-use Rattle.h2_config.specs.ConfigValues.{values_of}
-use Rattle.h2_end_laws.specs.Replays.{ReplayAct}
-use Rattle.h2_log.specs.LogCalls.{opened}
+use Rattle.h2_flow.specs.ConfigValues.{values_of}
+use Rattle.h2_laws_end.specs.Replays.{ReplayAct}
+use Rattle.h2_spec_log.specs.LogCalls.{opened}
 use Rattle.h2_replay.specs.declared.turns.Turn.{Turn}
 use Rattle.h2_replay.specs.declared.turns.Turn.TheVariants as turns
 use Rattle.h2_replay.specs.Recording.{Records}

@@ -1,5 +1,5 @@
 -- The acts so far are made.
-use Rattle.h2_config.specs.ConfigValues.{values_of}
+use Rattle.h2_flow.specs.ConfigValues.{values_of}
 use Rattle.h2_replay.specs.Recording.{Records}
 use Rattle.h2_replay.specs.Values.{acts_made}
 use Rattle.h2_replay.proofs.run.replay.Given as goal

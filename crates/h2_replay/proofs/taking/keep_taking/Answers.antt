@@ -1,7 +1,7 @@
 -- Two turns are kept, or three.
 use Rattle.std.proofs.Common.{◌∙◌, ap, sym, refl, None, Option, List, map}
-use Rattle.h2_log.specs.Acts.{In, Happened}
-use Rattle.h2_log.specs.Events.{Event}
+use Rattle.h2_spec_log.specs.Acts.{In, Happened}
+use Rattle.h2_spec_log.specs.Events.{Event}
 use Rattle.h2_frame.specs.declared.code.Code.{Code}
 use Rattle.h2_replay.specs.declared.events.ReplayEvent.{ReplayEvent}
 use Rattle.h2_replay.specs.Replay.{each_octet, all_by_octets}

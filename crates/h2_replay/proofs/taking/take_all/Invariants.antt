@@ -1,7 +1,7 @@
 -- So far what has happened is that of the octets before the rest, and it goes on with the rest.
 use Rattle.std.proofs.Common.{◌≤◌, vec_len}
-use Rattle.h2_log.specs.Acts.{Values}
-use Rattle.h2_log.specs.Log.{Log}
+use Rattle.h2_spec_log.specs.Acts.{Values}
+use Rattle.h2_spec_log.specs.Log.{Log}
 use Rattle.h2_conn.specs.Conn.{ConnRepresents}
 use Rattle.h2_replay.proofs.AllLemmas.{TakesSome}
 use Rattle.h2_replay.proofs.taking.take_all.Given as goal

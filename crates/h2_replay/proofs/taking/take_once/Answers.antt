@@ -1,8 +1,8 @@
 -- By the lemmas on the octets that a call of `take` has used.
 use Rattle.std.proofs.Common.{◌≡◌, ap, sym, refl, subst, Some, Option}
 use Rattle.std.specs.Option.{option_map}
-use Rattle.h2_log.specs.Events.{Event}
-use Rattle.h2_end_laws.specs.Takes.{Took, MayTake}
+use Rattle.h2_spec_log.specs.Events.{Event}
+use Rattle.h2_laws_end.specs.Takes.{Took, MayTake}
 use Rattle.h2_conn.specs.Events as conn
 use Rattle.h2_replay.specs.Values.{replay_event_value}
 use Rattle.h2_replay.proofs.TakingLemmas.{took_input, failed_input}

@@ -1,5 +1,5 @@
 -- Each octet gives two digits.
-use Rattle.std.proofs.Common.{◌≡◌, length, rules}
+use Rattle.h2_show.proofs.Names.{◌≡◌, length, rules}
 use Rattle.h2_show.proofs.LinesLemmas.{eight_in_hexadecimal}
 use Rattle.h2_show.proofs.lines.hexadecimal_of.Goals as goal
 

@@ -1,5 +1,5 @@
 -- The octets of the pairs are within a slice.
-use Rattle.std.proofs.Common.{rules}
+use Rattle.h2_show.proofs.Names.{rules}
 use Rattle.h2_show.proofs.LinesLemmas.{pairs_fit}
 use Rattle.h2_show.proofs.lines.settings_length.Goals as goal
 

@@ -1,7 +1,5 @@
 -- The lines of the fields so far are written.
-use Rattle.std.proofs.Common.{take, flat_map}
-use Rattle.std.specs.Io.KnownBytes.{Appends}
-use Rattle.h2_show.specs.Lines.{field_line}
+use Rattle.h2_show.proofs.Names.{take, flat_map, Appends, field_line}
 use Rattle.h2_show.proofs.lines.write_list.Given as goal
 
 abbrev pub invariant-loop-field : goal.invariant-loop-field

@@ -1,9 +1,8 @@
 -- The words of the pairs follow the others.
-use Rattle.std.proofs.Common.{ℕ, List, ◌≡◌, ◌++◌, refl, sym, ◌∙◌, ap, append-nil, codes, decimal}
-use Rattle.std.proofs.Common.{length, ◌*◌}
+use Rattle.h2_show.proofs.Names.{ℕ, List, ◌≡◌, ◌++◌, refl, sym, ◌∙◌, ap, append-nil, codes, length}
+use Rattle.h2_show.proofs.Names.{pairs_left, lent_pairs, flag_word, pair_words}
+use Rattle.std.proofs.Common.{decimal, ◌*◌}
 use Rattle.std.proofs.Output.{has_written_append, has_written_of_eq}
-use Rattle.h2_frame.specs.Pairs.{pairs_left, lent_pairs}
-use Rattle.h2_show.specs.Lines.{flag_word, pair_words}
 use Rattle.h2_show.proofs.LinesLemmas.{settings_words}
 use Rattle.h2_show.proofs.lines.write_settings.Goals as goal
 

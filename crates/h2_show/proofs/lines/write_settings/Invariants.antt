@@ -1,8 +1,6 @@
 -- The pairs so far are written, and the others are to come.
-use Rattle.std.proofs.Common.{◌≡◌, ◌++◌}
+use Rattle.h2_show.proofs.Names.{◌≡◌, ◌++◌, pairs_left, pair_words}
 use Rattle.std.specs.Fmt.{HasWritten, IsPlainFormatter}
-use Rattle.h2_frame.specs.Pairs.{pairs_left}
-use Rattle.h2_show.specs.Lines.{pair_words}
 use Rattle.h2_show.proofs.lines.write_settings.Given as goal
 
 abbrev pub invariant-loop-id : goal.invariant-loop-id

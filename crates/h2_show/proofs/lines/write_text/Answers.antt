@@ -1,6 +1,5 @@
 -- Each turn writes octets as they are, and one that is escaped.
-use Rattle.std.proofs.Common.{sym}
-use Rattle.std.proofs.lemmas.Result.{on_ok_weaker}
+use Rattle.h2_show.proofs.Names.{sym, on_ok_weaker}
 use Rattle.h2_show.proofs.LinesLemmas.{text_step, text_end}
 use Rattle.h2_show.proofs.lines.write_text.Goals as goal
 

@@ -1,7 +1,5 @@
 -- A prefix of the octets is written, and the rest is to come.
-use Rattle.std.proofs.Common.{ℕ, List, ◌≡◌, ◌++◌, length}
-use Rattle.std.specs.Io.KnownBytes.{Appends}
-use Rattle.h2_show.specs.Lines.{shown_octets}
+use Rattle.h2_show.proofs.Names.{ℕ, List, ◌≡◌, ◌++◌, length, Appends, shown_octets}
 use Rattle.h2_show.proofs.lines.write_text.Given as goal
 
 abbrev pub invariant-loop-count : goal.invariant-loop-count

@@ -1,6 +1,5 @@
 -- The status reports the octets, and the lines show them.
-use Rattle.std.proofs.Common.{[]}
-use Rattle.h2_show.specs.Report.{begins_with_preface, limits_of}
+use Rattle.h2_show.proofs.Names.{[], begins_with_preface, limits_of}
 use Rattle.h2_show.proofs.InputLemmas.{end_shown, error_shown}
 use Rattle.h2_show.proofs.ReportLemmas.{end_reports_after, error_reports_after}
 use Rattle.h2_show.proofs.show.show_all.Goals as goal

@@ -1,7 +1,5 @@
 -- What the buffer took is in the writer.
-use Rattle.std.proofs.Common.{rules, refl, sym}
-use Rattle.std.proofs.lemmas.Bool.{false≢true}
-use Rattle.h2_show.specs.Shown.{ShowsInput}
+use Rattle.h2_show.proofs.Names.{rules, refl, sym, false≢true, ShowsInput}
 use Rattle.h2_show.proofs.InputLemmas.{lent_shown}
 use Rattle.h2_show.proofs.show.show_input.Goals as goal
 

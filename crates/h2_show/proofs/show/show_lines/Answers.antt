@@ -1,5 +1,5 @@
 -- A flush keeps what is known.
-use Rattle.h2_show.specs.Shown.{ShowsInput}
+use Rattle.h2_show.proofs.Names.{ShowsInput}
 use Rattle.h2_show.proofs.InputLemmas.{kept_shown}
 use Rattle.h2_show.proofs.show.show_lines.Goals as goal
 

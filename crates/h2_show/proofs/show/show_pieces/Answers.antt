@@ -1,6 +1,5 @@
 -- The status reports all octets that the reader had, and the lines show them.
-use Rattle.std.proofs.Common.{rules, []}
-use Rattle.std.proofs.KnownBytes.{Consumes-trans, Appends-nil, Appends-trans}
+use Rattle.h2_show.proofs.Names.{rules, [], Consumes-trans, Appends-nil, Appends-trans}
 use Rattle.h2_show.proofs.InputLemmas.{end_shows_all, error_shows_all}
 use Rattle.h2_show.proofs.PieceLemmas.{prints_none, prints_append}
 use Rattle.h2_show.proofs.ViewerLemmas.{continues_nothing, continues_append}

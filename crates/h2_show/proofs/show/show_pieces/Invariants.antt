@@ -1,9 +1,6 @@
 -- The octets that were read have been shown, and their lines written.
-use Rattle.std.proofs.Common.{◌≡◌, ℕ, List, []}
+use Rattle.h2_show.proofs.Names.{◌≡◌, ℕ, List, [], Appends, Consumes, ViewerPrints, ViewerContinues}
 use Rattle.std.specs.Io.Buffered.{writer_buffer, writer_contents}
-use Rattle.std.specs.Io.KnownBytes.{Appends, Consumes}
-use Rattle.h2_show.specs.Printed.{ViewerPrints}
-use Rattle.h2_show.specs.Viewer.{ViewerContinues}
 use Rattle.h2_show.proofs.show.show_pieces.Given as goal
 
 abbrev pub invariant-loop : goal.invariant-loop

@@ -1,7 +1,7 @@
 -- The words or the URL are refused, or the fetch has ended.
 use Rattle.std.proofs.Common.{ℕ, List, subst, inl, inr}
-use Rattle.h2_location.specs.Locations.{IsRefusedUrl, Names}
-use Rattle.h2_sockets.specs.Endings.{without_hint}
+use Rattle.h2_net.specs.Locations.{IsRefusedUrl, Names}
+use Rattle.h2_net.specs.Endings.{without_hint}
 use Rattle.h2_tool.specs.Commands.{GetsUrl}
 use Rattle.h2_tool.proofs.WordLemmas.{ends_by_words}
 use Rattle.h2_tool.proofs.SocketLemmas.{get_refuses, gets_so}

@@ -1,6 +1,6 @@
 -- The words are refused, the exchange has ended early, or the line is printed.
 use Rattle.std.proofs.Common.{inl, inr, Ok, Err}
-use Rattle.h2_sockets.specs.Loopback.{ExchangesPost}
+use Rattle.h2_net.specs.Loopback.{ExchangesPost}
 use Rattle.h2_tool.proofs.WordLemmas.{ends_by_words}
 use Rattle.h2_tool.proofs.SocketLemmas.{loop_ends_early, loop_prints}
 use Rattle.h2_tool.proofs.sockets.cmd_loop.Goals as goal

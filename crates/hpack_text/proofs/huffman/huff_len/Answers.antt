@@ -1,5 +1,5 @@
-use Rattle.std.proofs.Common.{◌≡◌, length, take, ap, arith, take_all}
-use Rattle.hpack_text.specs.Huffman.{codes}
+use Rattle.hpack_text.proofs.Names.{◌≡◌, length, take, ap, arith, codes}
+use Rattle.std.proofs.Common.{take_all}
 use Rattle.hpack_text.proofs.CodeLemmas.{length-huffman_bits}
 use Rattle.hpack_text.proofs.WriteLemmas.{length-codes-more}
 use Rattle.hpack_text.proofs.huffman.huff_len.Goals as goal

@@ -1,5 +1,4 @@
-use Rattle.std.proofs.Common.{◌≡◌, ◌*◌, ◌≤◌, length, take}
-use Rattle.hpack_text.specs.Huffman.{codes}
+use Rattle.hpack_text.proofs.Names.{◌≡◌, ◌*◌, ◌≤◌, length, take, codes}
 use Rattle.hpack_text.proofs.huffman.huff_len.Given as goal
 
 abbrev pub invariant-loop-octet : goal.invariant-loop-octet

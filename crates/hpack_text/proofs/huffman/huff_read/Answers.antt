@@ -1,5 +1,4 @@
-use Rattle.std.proofs.Common.{ap, ◌∙◌, ◌++◌, List, ℕ}
-use Rattle.std.proofs.lemmas.Result.{err_from_is_err_and}
+use Rattle.hpack_text.proofs.Names.{ap, ◌∙◌, ◌++◌, List, ℕ, err_from_is_err_and}
 use Rattle.hpack_text.proofs.CodeLemmas.{one_text_lem, only_huff_memory}
 use Rattle.hpack_text.proofs.huffman.huff_read.Goals as goal
 

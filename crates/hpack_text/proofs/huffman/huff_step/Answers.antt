@@ -1,6 +1,4 @@
-use Rattle.std.proofs.Common.{◌≡◌, ℕ, ◌++◌, ap₂, subst, sym, ◌∙◌}
-use Rattle.hpack_text.specs.Huffman.{code}
-use Rattle.hpack_text.specs.States.{prefix_of, stepped}
+use Rattle.hpack_text.proofs.Names.{◌≡◌, ℕ, ◌++◌, ap₂, subst, sym, ◌∙◌, code, prefix_of, stepped}
 use Rattle.hpack_text.proofs.StateLemmas.{no_end_within, no_end_at_symbol}
 use Rattle.hpack_text.proofs.huffman.huff_step.Goals as goal
 

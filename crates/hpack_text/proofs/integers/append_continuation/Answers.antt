@@ -1,4 +1,4 @@
-use Rattle.std.proofs.Common.{arith}
+use Rattle.hpack_text.proofs.Names.{arith}
 use Rattle.hpack_text.proofs.IntegerWriting.{continuation_left-begin, continuation_left-push}
 use Rattle.hpack_text.proofs.IntegerWriting.{continuation_left-last, continuation_left-full}
 use Rattle.hpack_text.proofs.WriteLemmas.{OnErr-from}

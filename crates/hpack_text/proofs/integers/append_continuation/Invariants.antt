@@ -1,5 +1,4 @@
-use Rattle.std.proofs.Common.{◌≤◌, vec_capacity}
-use Rattle.hpack_text.specs.Integers.{continuation_of}
+use Rattle.hpack_text.proofs.Names.{◌≤◌, vec_capacity, continuation_of}
 use Rattle.hpack_text.proofs.IntegerWriting.{HasContinuationLeft}
 use Rattle.hpack_text.proofs.integers.append_continuation.Given as goal
 

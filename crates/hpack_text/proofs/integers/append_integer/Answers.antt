@@ -1,7 +1,6 @@
-use Rattle.std.proofs.Common.{◌<◌, ◌≤◌, ℕ, List, ◌++◌, sym, ap, ◌∙◌, arith}
+use Rattle.hpack_text.proofs.Names.{◌<◌, ◌≤◌, ℕ, List, ◌++◌, sym, ap, ◌∙◌, arith, on_ok_weaker}
+use Rattle.hpack_text.proofs.Names.{on_err_weaker, all_ones}
 use Rattle.std.proofs.lemmas.Nat.{one_shl}
-use Rattle.std.proofs.lemmas.Result.{on_ok_weaker, on_err_weaker}
-use Rattle.hpack_text.specs.Integers.{all_ones}
 use Rattle.hpack_text.proofs.IntegerWriting.{integer-short, first_octet_fits, integer-some}
 use Rattle.hpack_text.proofs.IntegerWriting.{integer_joined, length-integer_long}
 use Rattle.hpack_text.proofs.WriteLemmas.{OnErr-from}

@@ -1,4 +1,4 @@
-use Rattle.std.proofs.Common.{get_or, refl, arith}
+use Rattle.hpack_text.proofs.Names.{get_or, refl, arith}
 use Rattle.hpack_text.proofs.IntegerLemmas.{octet_added_from, continuation_end}
 use Rattle.hpack_text.proofs.integers.read_continuation.Goals as goal
 

@@ -1,6 +1,5 @@
-use Rattle.std.proofs.Common.{◌≡◌, ◌≤◌, length, take}
-use Rattle.std.specs.List.{AllByRecursion}
-use Rattle.hpack_text.specs.Integers.{HasTopBit, continuation_value}
+use Rattle.hpack_text.proofs.Names.{◌≡◌, ◌≤◌, length, take, AllByRecursion, continuation_value}
+use Rattle.hpack_text.specs.Integers.{HasTopBit}
 use Rattle.hpack_text.proofs.integers.read_continuation.Given as goal
 
 abbrev pub invariant-loop-count : goal.invariant-loop-count

@@ -1,6 +1,5 @@
-use Rattle.std.proofs.Common.{List, ℕ, length, length-append, ap, ◌∙◌, arith}
-use Rattle.std.proofs.lemmas.Result.{on_ok_weaker, on_err_weaker}
-use Rattle.hpack_text.specs.Integers.{integer}
+use Rattle.hpack_text.proofs.Names.{List, ℕ, length, length-append, ap, ◌∙◌, arith, on_ok_weaker}
+use Rattle.hpack_text.proofs.Names.{on_err_weaker, integer}
 use Rattle.hpack_text.proofs.StringLemmas.{huffman_parts, raw_parts, no_room, full_on_err}
 use Rattle.hpack_text.proofs.StringLemmas.{on_err_other, on_ok_other}
 use Rattle.hpack_text.proofs.WriteLemmas.{OnErr-from}

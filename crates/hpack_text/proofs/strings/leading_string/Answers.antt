@@ -1,5 +1,4 @@
-use Rattle.std.proofs.Common.{inr}
-use Rattle.std.proofs.lemmas.Result.{err_from_is_err_and}
+use Rattle.hpack_text.proofs.Names.{inr, err_from_is_err_and}
 use Rattle.hpack_text.proofs.StringLemmas.{short_string, found_string, body_fault, lacks_room}
 use Rattle.hpack_text.proofs.strings.leading_string.Goals as goal
 

@@ -1,5 +1,4 @@
-use Rattle.std.proofs.Common.{ap, ◌∙◌, ◌++◌, List, ℕ}
-use Rattle.std.proofs.lemmas.Result.{err_from_is_err_and}
+use Rattle.hpack_text.proofs.Names.{ap, ◌∙◌, ◌++◌, List, ℕ, err_from_is_err_and}
 use Rattle.hpack_text.proofs.StringLemmas.{only_memory, only_one_str}
 use Rattle.hpack_text.proofs.strings.read_string.Goals as goal
 

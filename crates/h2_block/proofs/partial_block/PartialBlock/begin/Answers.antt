@@ -8,9 +8,9 @@ use Rattle.h2_block.proofs.PartialBlockLemmas.{continues, fails_with, headers_to
 use Rattle.h2_block.proofs.PartialBlockLemmas.{headers_sound}
 use Rattle.h2_block.proofs.partial_block.PartialBlock.begin.Goals as goal
 
-pub returns-then-fragment-gt-MAX_BLOCK_OCTETS-clause-takes
-    : goal.returns-then-fragment-gt-MAX_BLOCK_OCTETS-clause-takes
-returns-then-fragment-gt-MAX_BLOCK_OCTETS-clause-takes c = λ pad priority.
+pub returns-then-fragment-gt-MAX_BLOCK-clause-takes
+    : goal.returns-then-fragment-gt-MAX_BLOCK-clause-takes
+returns-then-fragment-gt-MAX_BLOCK-clause-takes c = λ pad priority.
     let opening = c.args.opening in
     let fragment = c.args.fragment.now in
     rw c.fail.ensures.fault
@@ -19,7 +19,7 @@ returns-then-fragment-gt-MAX_BLOCK_OCTETS-clause-takes c = λ pad priority.
     c.requires.sound (λ e. (cc)) c.fail.ensures.after
     (rw c.requires.outside
     (headers_too_long opening.stream opening.end c.args.whole fragment pad priority
-    c.if-fragment-gt-MAX_BLOCK_OCTETS.true)))
+    c.if-fragment-gt-MAX_BLOCK.true)))
 
 pub returns-then-whole-clause-takes : goal.returns-then-whole-clause-takes
 returns-then-whole-clause-takes c = λ pad priority.
@@ -31,6 +31,6 @@ returns-then-whole-clause-takes c = λ pad priority.
     c.requires.sound
     (rw c.requires.outside
     (headers_sound opening.stream opening.end c.args.whole fragment pad priority
-    c.if-fragment-gt-MAX_BLOCK_OCTETS.false))
+    c.if-fragment-gt-MAX_BLOCK.false))
     (rw (c.requires.outside, c.if-whole.true, c.in_ok-copy.ensures.ok) refl)
     (rw (c.requires.outside, c.if-whole.true) refl)

@@ -1,7 +1,7 @@
 -- By the law on frames that take no memory.
 use Rattle.std.proofs.Common.{ap, []}
-use Rattle.h2_end_laws.specs.Takes.{Failed}
-use Rattle.h2_end_laws.proofs.Promised.{never_out_of_memory}
+use Rattle.h2_laws_end.specs.Takes.{Failed}
+use Rattle.h2_laws_end.proofs.Promised.{never_out_of_memory}
 use Rattle.h2_conn.proofs.conn.Conn.advance.Goals as goal
 
 pub returns-in-Err-clause-promised : goal.returns-in-Err-clause-promised

@@ -2,8 +2,8 @@
 use Rattle.std.proofs.Common.{◌≡◌, not, None, refl, ap, rules}
 use Rattle.std.proofs.lemmas.Bool.{false_from_ne_true}
 use Rattle.hpack_text.proofs.ReadLemmas.{all_octets}
-use Rattle.h2_log.specs.Acts.{SendData, Count, IsTypedAct}
-use Rattle.h2_log.specs.CallRules.{may_lack_memory}
+use Rattle.h2_spec_log.specs.Acts.{SendData, Count, IsTypedAct}
+use Rattle.h2_spec_log.specs.CallRules.{may_lack_memory}
 use Rattle.h2_core.specs.Endpoint.{end_of}
 use Rattle.h2_conn.proofs.AskCalls.{answers_by, value_as}
 use Rattle.h2_conn.proofs.AskMemory.{nothing_taken}

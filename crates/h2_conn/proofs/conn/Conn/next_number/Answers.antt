@@ -1,6 +1,6 @@
 -- The machine answers as the log does.
 use Rattle.std.proofs.Common.{◌≡◌, false, Some, is_some, ap, sym, ◌∙◌}
-use Rattle.h2_log.specs.Settings.{is_server}
+use Rattle.h2_spec_log.specs.Settings.{is_server}
 use Rattle.h2_core.specs.Endpoint.{end_of}
 use Rattle.h2_conn.proofs.AskNumbers.{number_by}
 use Rattle.h2_conn.proofs.TakeStart.{is_a_server}

@@ -1,7 +1,7 @@
 -- By the lemmas on a call's answer.
 use Rattle.std.proofs.Common.{◌≡◌, None, refl, ap, rules}
-use Rattle.h2_log.specs.Acts.{Open, Number, IsTypedAct}
-use Rattle.h2_log.specs.CallRules.{may_lack_memory}
+use Rattle.h2_spec_log.specs.Acts.{Open, Number, IsTypedAct}
+use Rattle.h2_spec_log.specs.CallRules.{may_lack_memory}
 use Rattle.h2_core.specs.Endpoint.{end_of}
 use Rattle.h2_conn.proofs.AskCalls.{answers_by, value_as}
 use Rattle.h2_conn.proofs.AskSound.{was_up, sound_by, beside_value}

@@ -3,8 +3,8 @@ use Rattle.std.proofs.Common.{◌∙◌, ℕ, refl, sym, ap, Some, List, []}
 use Rattle.std.proofs.lemmas.Result.{err_from_is_err_and}
 use Rattle.std.specs.Option.{option_map}
 use Rattle.hpack.specs.declared.types.field.Field.{Field}
-use Rattle.h2_log.specs.Events.{FieldsEvent}
-use Rattle.h2_machine.specs.End.{End}
+use Rattle.h2_spec_log.specs.Events.{FieldsEvent}
+use Rattle.h2_spec_machine.specs.End.{End}
 use Rattle.h2_core.specs.Endpoint.{end_of}
 use Rattle.h2_conn.specs.Events.{happened_value}
 use Rattle.h2_conn.proofs.TakeParts.{said_so}

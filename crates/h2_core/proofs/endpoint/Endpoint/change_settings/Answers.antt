@@ -4,12 +4,12 @@ use Rattle.std.specs.Prelude.{is_some}
 use Rattle.std.proofs.lemmas.Result.{err_from_is_err_and}
 use Rattle.h2_frame.specs.Frames.{Settings}
 use Rattle.h2_frame.specs.Encoding.{encoding_of}
-use Rattle.h2_config.specs.ConfigValues.{values_of}
-use Rattle.h2_log.specs.Acts.{Values}
-use Rattle.h2_log.specs.CallRules.{conditions, first_of, changed_pairs, items_of}
-use Rattle.h2_log.specs.CallRules.{encoder_after_call}
-use Rattle.h2_machine.specs.End.{end_view, values_or}
-use Rattle.h2_machine.specs.Machine.{after_call}
+use Rattle.h2_flow.specs.ConfigValues.{values_of}
+use Rattle.h2_spec_log.specs.Acts.{Values}
+use Rattle.h2_spec_log.specs.CallRules.{conditions, first_of, changed_pairs, items_of}
+use Rattle.h2_spec_log.specs.CallRules.{encoder_after_call}
+use Rattle.h2_spec_machine.specs.End.{end_view, values_or}
+use Rattle.h2_spec_machine.specs.Machine.{after_call}
 use Rattle.h2_core.specs.Endpoint.{end_of}
 use Rattle.h2_core.proofs.CallConditions.{holds_first, others_decide, refused, lacks_memory}
 use Rattle.h2_core.proofs.CallConditions.{is_some_mapped}

@@ -7,9 +7,9 @@ use Rattle.h2_frame.specs.Frames.{Frame, GoAway, frame_of}
 use Rattle.h2_block.specs.Gather.{block_fault_code}
 use Rattle.h2_block.specs.Grouping.{Begun, alone, block, is_standalone}
 use Rattle.h2_block.specs.declared.gathered.Gathered.TheVariants.{Pass, More, Block}
-use Rattle.h2_log.specs.ItemRules.{grouped, completes}
-use Rattle.h2_machine.specs.End.{End}
-use Rattle.h2_machine.specs.Machine.{with_begun}
+use Rattle.h2_spec_log.specs.ItemRules.{grouped, completes}
+use Rattle.h2_spec_machine.specs.End.{End}
+use Rattle.h2_spec_machine.specs.Machine.{with_begun}
 use Rattle.h2_core.specs.Endpoint.{end_of, IsSoundEnd}
 use Rattle.h2_core.specs.Items.{TakesItem}
 use Rattle.h2_core.specs.Blocks.{TakesBlock}

@@ -4,10 +4,10 @@ use Rattle.std.proofs.Common.{◌∙◌}
 use Rattle.std.proofs.lemmas.Result.{err_from_is_err_and}
 use Rattle.h2_frame.specs.Frames.{GoAway}
 use Rattle.h2_block.specs.Grouping.{alone}
-use Rattle.h2_log.specs.Items.{encoding_of_items}
-use Rattle.h2_log.specs.Acts.{SendGoAway}
-use Rattle.h2_log.specs.CallRules.{conditions}
-use Rattle.h2_machine.specs.End.{End, end_view}
+use Rattle.h2_spec_log.specs.Items.{encoding_of_items}
+use Rattle.h2_spec_log.specs.Acts.{SendGoAway}
+use Rattle.h2_spec_log.specs.CallRules.{conditions}
+use Rattle.h2_spec_machine.specs.End.{End, end_view}
 use Rattle.h2_core.specs.Endpoint.{end_of}
 use Rattle.h2_core.proofs.SoundFacts.{last_small}
 use Rattle.h2_core.proofs.StepCalls.{first-here, first-later, first-none, refused, without_memory}

@@ -2,8 +2,8 @@
 use Rattle.std.proofs.Common.{◌≡◌, [], Option, Some, None, length, refl, ap, arith}
 use Rattle.std.proofs.Common.{length-append}
 use Rattle.h2_block.specs.Grouping.{Begun, Groups}
-use Rattle.h2_log.specs.Items.{encoding_of_items, encoding_of_item}
-use Rattle.h2_machine.specs.Machine.{new_end}
+use Rattle.h2_spec_log.specs.Items.{encoding_of_items, encoding_of_item}
+use Rattle.h2_spec_machine.specs.Machine.{new_end}
 use Rattle.h2_core.proofs.endpoint.Endpoint.new.Goals as goal
 
 -- Before any frame no block has begun.

@@ -2,9 +2,9 @@
 use Rattle.std.proofs.Common.{ℕ, List, Some, false, is_some, refl, sym, ap, arith, ◌∙◌}
 use Rattle.std.proofs.lemmas.Result.{err_from_is_err_and}
 use Rattle.h2_frame.specs.Frames.{Ping}
-use Rattle.h2_log.specs.Acts.{SendPing}
-use Rattle.h2_log.specs.CallRules.{conditions}
-use Rattle.h2_machine.specs.End.{End, end_view}
+use Rattle.h2_spec_log.specs.Acts.{SendPing}
+use Rattle.h2_spec_log.specs.CallRules.{conditions}
+use Rattle.h2_spec_machine.specs.End.{End, end_view}
 use Rattle.h2_core.specs.Endpoint.{end_of}
 use Rattle.h2_core.proofs.StepCalls.{first-here, first-later, first-none, refused, without_memory}
 use Rattle.h2_core.proofs.StepCalls.{after-ping, at_ok}

@@ -3,9 +3,9 @@ use Rattle.std.proofs.Common.{◌≡◌, refl}
 use Rattle.std.proofs.Common.{if◌then◌else◌}
 use Rattle.std.proofs.lemmas.Bool.{false≢true}
 use Rattle.std.proofs.Common.{◌++◌, take}
-use Rattle.h2_log.specs.CallRules.{returns_before_put_out}
-use Rattle.h2_machine.specs.End.{end_view}
-use Rattle.h2_machine.specs.Machine.{before_put_out_at}
+use Rattle.h2_spec_log.specs.CallRules.{returns_before_put_out}
+use Rattle.h2_spec_machine.specs.End.{end_view}
+use Rattle.h2_spec_machine.specs.Machine.{before_put_out_at}
 use Rattle.h2_core.specs.Endpoint.{end_of}
 use Rattle.h2_core.proofs.OwnOutput.{without_error, waiting_ready, given_out}
 use Rattle.h2_core.proofs.endpoint.Endpoint.put_out.Goals as goal

@@ -3,7 +3,7 @@ use Rattle.std.proofs.Common.{◌≡◌, false, length, sym, arith}
 use Rattle.std.specs.Prelude.{is_some, nat_le, nat_lt}
 use Rattle.std.proofs.lemmas.Bool.{le-leb, lt-leb, lt-ltb, le-ltb}
 use Rattle.hpack.specs.Lists.{list_size}
-use Rattle.h2_log.specs.CallRules.{conditions, first_of}
+use Rattle.h2_spec_log.specs.CallRules.{conditions, first_of}
 use Rattle.h2_core.proofs.CallConditions.{holds_first, others_decide}
 use Rattle.h2_core.proofs.endpoint.Endpoint.refusal_of_open.Goals as goal
 

@@ -3,8 +3,8 @@ use Rattle.std.proofs.Common.{◌≡◌, ◌≢◌, ◌+◌, ◌≤◌, max, ℕ
 use Rattle.std.proofs.Common.{arith, ◌∙◌}
 use Rattle.std.proofs.lemmas.Result.{err_from_is_err_and}
 use Rattle.h2_frame.specs.declared.code.Code.TheVariants.{InternalError, EnhanceYourCalm}
-use Rattle.h2_machine.specs.End.{End}
-use Rattle.h2_machine.specs.Machine.{fail}
+use Rattle.h2_spec_machine.specs.End.{End}
+use Rattle.h2_spec_machine.specs.Machine.{fail}
 use Rattle.h2_streams.specs.Streams.{stream_view}
 use Rattle.h2_core.specs.declared.reader.StepError.{StepError}
 use Rattle.h2_core.specs.Endpoint.{end_of}

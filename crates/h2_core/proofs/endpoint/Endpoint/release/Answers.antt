@@ -3,12 +3,12 @@
 use Rattle.std.proofs.Common.{◌+◌, ◌≤◌, ◌-◌, ◌++◌, ℤ, is_some, refl, sym, ap, ap₂, arith, ◌∙◌, List}
 use Rattle.std.proofs.Common.{ℕ}
 use Rattle.std.proofs.lemmas.Result.{err_from_is_err_and}
-use Rattle.h2_log.specs.Acts.{Release}
-use Rattle.h2_log.specs.CallRules.{conditions}
-use Rattle.h2_log.specs.View.{StreamView}
+use Rattle.h2_spec_log.specs.Acts.{Release}
+use Rattle.h2_spec_log.specs.CallRules.{conditions}
+use Rattle.h2_spec_log.specs.View.{StreamView}
 use Rattle.h2_frame.specs.Frames.{WindowUpdate}
 use Rattle.h2_frame.specs.Encoding.{encoding_of}
-use Rattle.h2_machine.specs.End.{End}
+use Rattle.h2_spec_machine.specs.End.{End}
 use Rattle.h2_streams.specs.declared.entry.Stream.{Stream}
 use Rattle.h2_streams.specs.Streams.{stream_view, is_far}
 use Rattle.h2_streams.specs.Table.{TableState}

@@ -1,8 +1,8 @@
 -- The code's tests are the conditions of a reset in their order, and `reset_stream` does the rest.
 use Rattle.std.proofs.Common.{◌+◌, ◌≤◌, is_some, refl, sym, ap, arith, ◌∙◌}
 use Rattle.std.proofs.lemmas.Result.{err_from_is_err_and}
-use Rattle.h2_log.specs.Acts.{ResetStream}
-use Rattle.h2_log.specs.CallRules.{conditions}
+use Rattle.h2_spec_log.specs.Acts.{ResetStream}
+use Rattle.h2_spec_log.specs.CallRules.{conditions}
 use Rattle.h2_streams.specs.Streams.{stream_view}
 use Rattle.h2_core.specs.Endpoint.{end_of}
 use Rattle.h2_core.proofs.SoundFacts.{counted, owed_fits}

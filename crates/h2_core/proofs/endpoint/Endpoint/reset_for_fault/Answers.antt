@@ -2,7 +2,7 @@ use Rattle.std.proofs.Common.{◌≡◌, ◌≢◌, ◌≤◌, ◌<◌, ◌^◌,
 use Rattle.std.specs.Option.{option_map}
 use Rattle.h2_streams.specs.Streams.{stream_view}
 use Rattle.h2_streams.specs.declared.entry.Stream.{Stream}
-use Rattle.h2_machine.specs.End.{End, stream_at}
+use Rattle.h2_spec_machine.specs.End.{End, stream_at}
 use Rattle.h2_core.specs.Endpoint.{end_of, IsSoundEnd}
 use Rattle.h2_core.specs.Streams.{owed_by}
 use Rattle.h2_core.proofs.SoundFacts.{counted, owed_fits, connection_fits}

@@ -3,8 +3,8 @@ use Rattle.std.proofs.Common.{ℕ, ◌≤◌, ◌+◌, ◌-◌, arith, sym, ap, 
 use Rattle.std.specs.Option.{option_map}
 use Rattle.h2_block.specs.Grouping.{alone}
 use Rattle.h2_frame.specs.Frames.{Reset as ResetFrame}
-use Rattle.h2_machine.specs.End.{End, end_view}
-use Rattle.h2_machine.specs.Machine.{queue_output, add_unreturned}
+use Rattle.h2_spec_machine.specs.End.{End, end_view}
+use Rattle.h2_spec_machine.specs.Machine.{queue_output, add_unreturned}
 use Rattle.h2_streams.specs.Streams.{stream_view}
 use Rattle.h2_streams.specs.Table.{TableState}
 use Rattle.h2_core.specs.declared.endpoint.Endpoint.{Endpoint}

@@ -1,6 +1,6 @@
 -- By the machine's condition.
 use Rattle.std.proofs.Common.{refl}
-use Rattle.h2_machine.specs.Machine.{before_put_out_at}
+use Rattle.h2_spec_machine.specs.Machine.{before_put_out_at}
 use Rattle.h2_core.proofs.endpoint.Endpoint.return_before_output.Goals as goal
 
 pub returns-then-returns_before_output : goal.returns-then-returns_before_output

@@ -3,8 +3,8 @@
 use Rattle.std.proofs.Common.{◌≡◌, ◌+◌, ◌==◌, ◌&&◌, length, take, ap, sym, ◌∙◌, arith}
 use Rattle.std.proofs.lemmas.Bool.{and_parts, eqb-true}
 use Rattle.std.proofs.lemmas.Result.{err_from_is_err_and}
-use Rattle.h2_log.specs.CallRules.{conditions, data_frames}
-use Rattle.h2_machine.specs.End.{end_view}
+use Rattle.h2_spec_log.specs.CallRules.{conditions, data_frames}
+use Rattle.h2_spec_machine.specs.End.{end_view}
 use Rattle.h2_streams.specs.Streams.{stream_view}
 use Rattle.h2_core.specs.Endpoint.{end_of}
 use Rattle.h2_core.proofs.CallConditions.{refused, lacks_memory}

@@ -2,15 +2,15 @@
 -- stream is changed.
 use Rattle.std.proofs.Common.{◌≡◌, ◌∷◌, [], ap, sym, ◌∙◌, arith}
 use Rattle.std.proofs.lemmas.Result.{err_from_is_err_and}
-use Rattle.h2_log.specs.CallRules.{conditions}
+use Rattle.h2_spec_log.specs.CallRules.{conditions}
 use Rattle.h2_streams.specs.Streams.{stream_view}
-use Rattle.h2_machine.specs.Machine.{update_stream}
-use Rattle.h2_machine.specs.End.{End}
+use Rattle.h2_spec_machine.specs.Machine.{update_stream}
+use Rattle.h2_spec_machine.specs.End.{End}
 use Rattle.h2_core.specs.Endpoint.{end_of}
 use Rattle.h2_core.proofs.CallConditions.{refused, lacks_memory, if_err}
 use Rattle.hpack.proofs.ResultLemmas.{on_ok as unless_err}
 use Rattle.h2_core.proofs.CallSend.{fields_free, fields_large, fields_sent}
-use Rattle.h2_log_laws.proofs.CallConditions.{first_kept}
+use Rattle.h2_laws_log.proofs.CallConditions.{first_kept}
 use Rattle.h2_core.proofs.SoundFacts.{counted, owed_fits, send_near, recv_near}
 use Rattle.h2_core.proofs.endpoint.Endpoint.send_fields.Goals as goal
 

@@ -4,8 +4,8 @@ use Rattle.hpack.specs.Lists.{DecoderState}
 use Rattle.h2_frame.specs.Encoding.{encoding_of}
 use Rattle.h2_frame.specs.Frames.{GoAway}
 use Rattle.h2_block.specs.Grouping.{block}
-use Rattle.h2_log.specs.ItemRules.{Decoded}
-use Rattle.h2_machine.specs.End.{End}
+use Rattle.h2_spec_log.specs.ItemRules.{Decoded}
+use Rattle.h2_spec_machine.specs.End.{End}
 use Rattle.h2_core.specs.Endpoint.{end_of, IsSoundEnd}
 use Rattle.h2_core.specs.Items.{TakesItem}
 use Rattle.h2_core.proofs.FrameFailures.{table_sound, block_taken, block_stopped, undecoded_fails}

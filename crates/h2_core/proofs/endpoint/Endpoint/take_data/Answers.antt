@@ -3,13 +3,13 @@ use Rattle.std.proofs.Common.{◌≡◌, ◌⊎◌, ℕ, Option, Some, sym, ap, 
 use Rattle.std.proofs.Common.{true}
 use Rattle.h2_frame.specs.declared.code.Code.TheVariants.{ProtocolError, FlowControlError}
 use Rattle.h2_frame.specs.declared.code.Code.TheVariants.{StreamClosed}
-use Rattle.h2_log.specs.States.{Active, ClosedByUs}
-use Rattle.h2_log.specs.ItemRules.{exceeds}
+use Rattle.h2_spec_log.specs.States.{Active, ClosedByUs}
+use Rattle.h2_spec_log.specs.ItemRules.{exceeds}
 use Rattle.h2_frame.specs.Encoding.{stream_of}
-use Rattle.h2_log.specs.Items.{stream_of_item}
+use Rattle.h2_spec_log.specs.Items.{stream_of_item}
 use Rattle.h2_streams.specs.Streams.{stream_view}
-use Rattle.h2_machine.specs.Machine.{after_stream_fault}
-use Rattle.h2_machine.specs.End.{state_at, stream_at}
+use Rattle.h2_spec_machine.specs.Machine.{after_stream_fault}
+use Rattle.h2_spec_machine.specs.End.{state_at, stream_at}
 use Rattle.h2_core.specs.DataFrames.{frame_of_data}
 use Rattle.h2_core.specs.Endpoint.{end_of}
 use Rattle.h2_streams.specs.declared.entry.Stream.{Stream}

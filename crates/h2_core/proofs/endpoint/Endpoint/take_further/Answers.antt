@@ -3,11 +3,11 @@ use Rattle.std.proofs.Common.{Some, arith, refl, sym, ap, ◌∙◌, ◌||◌, i
 use Rattle.h2_frame.specs.declared.code.Code.{Code}
 use Rattle.h2_frame.specs.declared.code.Code.TheVariants.{StreamClosed, EnhanceYourCalm}
 use Rattle.h2_streams.specs.Streams.{stream_view}
-use Rattle.h2_log.specs.ItemRules.{Decoded}
-use Rattle.h2_log.specs.Verdicts.{StreamFault, Reported}
-use Rattle.h2_log.specs.View.{StreamView}
-use Rattle.h2_machine.specs.End.{End, stream_at}
-use Rattle.h2_machine.specs.Machine.{update_stream, receive_block}
+use Rattle.h2_spec_log.specs.ItemRules.{Decoded}
+use Rattle.h2_spec_log.specs.Verdicts.{StreamFault, Reported}
+use Rattle.h2_spec_log.specs.View.{StreamView}
+use Rattle.h2_spec_machine.specs.End.{End, stream_at}
+use Rattle.h2_spec_machine.specs.Machine.{update_stream, receive_block}
 use Rattle.h2_core.specs.Endpoint.{end_of}
 use Rattle.h2_core.proofs.SoundFacts.{counted, owed_fits, send_near, recv_near}
 use Rattle.h2_core.proofs.FrameVerdicts.{active_stale, by_block, is_too_large, further_rule}

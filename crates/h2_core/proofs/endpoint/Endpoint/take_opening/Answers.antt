@@ -6,12 +6,12 @@ use Rattle.std.proofs.lemmas.Result.{err_from_is_err_and}
 use Rattle.h2_frame.specs.declared.code.Code.TheVariants.{RefusedStream, EnhanceYourCalm}
 use Rattle.h2_flow.specs.declared.stream_state.StreamState.{StreamState}
 use Rattle.h2_streams.specs.Table.{TableState}
-use Rattle.h2_log.specs.ItemRules.{Decoded, opened_by, is_at_capacity}
-use Rattle.h2_log.specs.Verdicts.{StreamFault, Reported, NoEvent, opening_verdict}
-use Rattle.h2_log.specs.View.{StreamView}
+use Rattle.h2_spec_log.specs.ItemRules.{Decoded, opened_by, is_at_capacity}
+use Rattle.h2_spec_log.specs.Verdicts.{StreamFault, Reported, NoEvent, opening_verdict}
+use Rattle.h2_spec_log.specs.View.{StreamView}
 use Rattle.h2_block.specs.Grouping.{block}
-use Rattle.h2_machine.specs.End.{End, end_view, stream_at, active_entry}
-use Rattle.h2_machine.specs.Machine.{receive_block, new_stream}
+use Rattle.h2_spec_machine.specs.End.{End, end_view, stream_at, active_entry}
+use Rattle.h2_spec_machine.specs.Machine.{receive_block, new_stream}
 use Rattle.h2_core.specs.declared.endpoint.Endpoint.{Endpoint}
 use Rattle.h2_core.specs.Endpoint.{end_of}
 use Rattle.h2_core.proofs.FrameVerdicts.{by_block, is_too_large, Fresh, fresh_of, fresh_no_stream}

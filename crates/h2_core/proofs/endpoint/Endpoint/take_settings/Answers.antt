@@ -2,8 +2,8 @@
 use Rattle.std.proofs.Common.{◌≡◌, ◌+◌, ◌<◌, ◌≤◌, length, min, true, ap, arith}
 use Rattle.std.proofs.lemmas.Result.{err_from_is_err_and}
 use Rattle.h2_frame.specs.Pairs.{lent_pairs}
-use Rattle.h2_log.specs.Settings.{value_after}
-use Rattle.h2_machine.specs.Machine.{first_allowed}
+use Rattle.h2_spec_log.specs.Settings.{value_after}
+use Rattle.h2_spec_machine.specs.Machine.{first_allowed}
 use Rattle.h2_core.specs.Endpoint.{end_of, streams_allowed_by}
 use Rattle.h2_core.specs.Settings.{with_values}
 use Rattle.h2_core.proofs.OwnItems.{settings_stop, settings_over, settings_taken, window_after}

@@ -2,8 +2,8 @@
 use Rattle.std.proofs.Common.{sym}
 use Rattle.h2_frame.specs.Frames.{WindowUpdate}
 use Rattle.h2_frame.specs.declared.code.Code.TheVariants.{ProtocolError}
-use Rattle.h2_machine.specs.End.{stream_at, state_at}
-use Rattle.h2_machine.specs.Machine.{after_ignored}
+use Rattle.h2_spec_machine.specs.End.{stream_at, state_at}
+use Rattle.h2_spec_machine.specs.Machine.{after_ignored}
 use Rattle.h2_core.specs.Endpoint.{end_of}
 use Rattle.h2_core.proofs.ItemVerdicts.{fault_taken, ignored_taken}
 use Rattle.h2_core.proofs.ItemStatuses.{closed_state, closed_stream}

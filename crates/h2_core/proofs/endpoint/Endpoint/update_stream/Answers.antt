@@ -1,7 +1,7 @@
 -- A stream that is over is removed; what was set of it before doesn't count.
 use Rattle.std.proofs.Common.{◌-◌, sym, ap, ◌∙◌}
-use Rattle.h2_machine.specs.End.{End}
-use Rattle.h2_machine.specs.Machine.{add_unreturned}
+use Rattle.h2_spec_machine.specs.End.{End}
+use Rattle.h2_spec_machine.specs.Machine.{add_unreturned}
 use Rattle.h2_streams.specs.Streams.{stream_view}
 use Rattle.h2_streams.specs.Table.{TableState}
 use Rattle.h2_core.specs.Endpoint.{end_of}

@@ -2,7 +2,7 @@
 use Rattle.std.proofs.Common.{◌≤◌, arith, refl}
 use Rattle.h2_frame.specs.Frames.{WindowUpdate}
 use Rattle.h2_frame.specs.declared.code.Code.TheVariants.{ProtocolError, FlowControlError}
-use Rattle.h2_machine.specs.Machine.{after_ignored}
+use Rattle.h2_spec_machine.specs.Machine.{after_ignored}
 use Rattle.h2_core.specs.Endpoint.{end_of}
 use Rattle.h2_core.proofs.ItemVerdicts.{fault_taken, ignored_taken}
 use Rattle.h2_core.proofs.ItemUpdates.{empty_is_fault, great_is_fault, widens_connection}

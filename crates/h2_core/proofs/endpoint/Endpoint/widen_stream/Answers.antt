@@ -4,14 +4,14 @@ use Rattle.std.proofs.Common.{None, sym, ap, ◌∙◌, [], ◌∷◌}
 use Rattle.h2_frame.specs.Frames.{WindowUpdate, Reset}
 use Rattle.h2_frame.specs.Encoding.{stream_of}
 use Rattle.h2_block.specs.Grouping.{alone}
-use Rattle.h2_log.specs.Items.{stream_of_item}
-use Rattle.h2_log.specs.Verdicts.{StreamFault}
-use Rattle.h2_log.specs.ItemRules.{verdict_by_rules, overflows_by}
+use Rattle.h2_spec_log.specs.Items.{stream_of_item}
+use Rattle.h2_spec_log.specs.Verdicts.{StreamFault}
+use Rattle.h2_spec_log.specs.ItemRules.{verdict_by_rules, overflows_by}
 use Rattle.h2_streams.specs.Streams.{stream_view, is_far}
-use Rattle.h2_machine.specs.End.{End, end_view}
-use Rattle.h2_machine.specs.Machine.{after_ignored, after_stream_fault, set_stream}
-use Rattle.h2_machine.specs.Machine.{widen_send_window}
-use Rattle.h2_machine.specs.Machine.{reset_stream, queue_output}
+use Rattle.h2_spec_machine.specs.End.{End, end_view}
+use Rattle.h2_spec_machine.specs.Machine.{after_ignored, after_stream_fault, set_stream}
+use Rattle.h2_spec_machine.specs.Machine.{widen_send_window}
+use Rattle.h2_spec_machine.specs.Machine.{reset_stream, queue_output}
 use Rattle.h2_frame.specs.Codes.{code_number}
 use Rattle.h2_core.specs.Endpoint.{end_of}
 use Rattle.h2_core.proofs.SoundFacts.{send_near, recv_near}

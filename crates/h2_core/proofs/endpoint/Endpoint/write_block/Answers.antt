@@ -2,9 +2,9 @@
 use Rattle.std.proofs.Common.{◌≡◌, ◌∷◌, [], ◌++◌, length, ap, sym, ◌∙◌, arith}
 use Rattle.hpack.specs.Choice.{block_of, after_block}
 use Rattle.h2_block.specs.Grouping.{block}
-use Rattle.h2_log.specs.Items.{encoding_of_items}
-use Rattle.h2_machine.specs.End.{end_view}
-use Rattle.h2_machine.specs.Machine.{with_encoder}
+use Rattle.h2_spec_log.specs.Items.{encoding_of_items}
+use Rattle.h2_spec_machine.specs.End.{end_view}
+use Rattle.h2_spec_machine.specs.Machine.{with_encoder}
 use Rattle.h2_core.specs.Endpoint.{end_of}
 use Rattle.h2_core.proofs.CallOutput.{octets_of_block, with_waiting}
 use Rattle.h2_core.proofs.endpoint.Endpoint.write_block.Goals as goal

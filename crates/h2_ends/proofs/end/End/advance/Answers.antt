@@ -1,6 +1,5 @@
 -- What the connection answers is handed out.
-use Rattle.std.proofs.Common.{[], refl}
-use Rattle.std.proofs.lemmas.Result.{err_from_is_err_and}
+use Rattle.h2_ends.proofs.Names.{[], refl, err_from_is_err_and}
 use Rattle.h2_ends.specs.Loans.{BodyLiesThere, IsBodyHanded, BodyLiesIn}
 use Rattle.h2_ends.proofs.TakeSteps.{fails_so, nothing_so, reports_so}
 use Rattle.h2_ends.proofs.end.End.advance.Goals as goal

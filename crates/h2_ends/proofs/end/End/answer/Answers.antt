@@ -1,11 +1,6 @@
 -- What is kept of the stream says which refusal comes first.
-use Rattle.std.proofs.Common.{◌≡◌, refl, sym, ◌∙◌}
-use Rattle.std.proofs.lemmas.Bool.{both_ways}
-use Rattle.h2_log.specs.Acts.{SendFields, Refused}
-use Rattle.h2_log.specs.LogCalls.{with_call}
-use Rattle.h2_message.specs.Values.{message_value}
-use Rattle.h2_ends.specs.declared.outgoing.Outgoing.TheVariants as outgoings
-use Rattle.h2_ends.specs.EndTakes.{end_with_log}
+use Rattle.h2_ends.proofs.Names.{◌≡◌, refl, sym, ◌∙◌, both_ways, SendFields, Refused, with_call}
+use Rattle.h2_ends.proofs.Names.{message_value, end_with_log}
 use Rattle.h2_ends.proofs.InSteps.{called_as}
 use Rattle.h2_ends.proofs.EndTokens.{refused_tokens}
 use Rattle.h2_ends.proofs.RequestSends.{unchanged_by, is_client, is_server_by}
@@ -13,8 +8,9 @@ use Rattle.h2_ends.proofs.RequestSteps.{refused_fields_keep}
 use Rattle.h2_ends.proofs.RespondHeads.{nothing_asked, client_asked, active_stream, asked_stream}
 use Rattle.h2_ends.proofs.RespondHeads.{was_answered, breaks_response, refuses_response}
 use Rattle.h2_ends.proofs.RespondHeads.{may_respond}
-use Rattle.h2_ends.proofs.end.End.answer.Goals as goal
 use Rattle.h2_ends.proofs.end.End.answer.Goals.{in-NotGiven, in_default-matches}
+use Rattle.h2_ends.specs.declared.outgoing.Outgoing.TheVariants as outgoings
+use Rattle.h2_ends.proofs.end.End.answer.Goals as goal
 
 pub returns-in_default : goal.returns-in_default
 returns-in_default c = λ values end is. (

@@ -1,5 +1,4 @@
-use Rattle.std.proofs.Common.{refl}
-use Rattle.h2_config.specs.ConfigValues.{values_of}
+use Rattle.h2_ends.proofs.Names.{refl, values_of}
 use Rattle.h2_ends.proofs.ControlSteps.{changes_settings}
 use Rattle.h2_ends.proofs.end.End.change_settings.Goals as goal
 

@@ -1,5 +1,5 @@
 -- Stream by stream, by the lemmas on what could go.
-use Rattle.std.proofs.Common.{arith}
+use Rattle.h2_ends.proofs.Names.{arith}
 use Rattle.h2_ends.proofs.QuietSends.{stuck_begins, stuck_passes, stuck_everywhere, goes_there}
 use Rattle.h2_ends.proofs.end.End.could_send.Goals as goal
 

@@ -1,5 +1,5 @@
 -- Whatever has happened, nothing could go on streams up to the last one.
-use Rattle.std.proofs.Common.{◌+◌, ◌-◌}
+use Rattle.h2_ends.proofs.Names.{◌+◌, ◌-◌}
 use Rattle.h2_ends.proofs.QuietSends.{StuckTo}
 use Rattle.h2_ends.proofs.end.End.could_send.Given as goal
 

@@ -1,5 +1,5 @@
 -- By what is kept of the stream, and by the windows.
-use Rattle.std.proofs.Common.{arith}
+use Rattle.h2_ends.proofs.Names.{arith}
 use Rattle.h2_ends.proofs.QuietSends.{sends_trailers, sends_octets, stuck_by_all, stuck_by_one}
 use Rattle.h2_ends.proofs.QuietSends.{stuck_without}
 use Rattle.h2_ends.proofs.end.End.could_send_on.Goals as goal

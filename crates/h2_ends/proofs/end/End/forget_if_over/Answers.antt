@@ -1,4 +1,4 @@
-use Rattle.std.proofs.Common.{None, refl, sym, ◌∙◌}
+use Rattle.h2_ends.proofs.Names.{None, refl, sym, ◌∙◌}
 use Rattle.h2_ends.proofs.ControlForgets.{forgets}
 use Rattle.h2_ends.proofs.TableSteps.{keeps_but}
 use Rattle.h2_ends.proofs.end.End.forget_if_over.Goals as goal

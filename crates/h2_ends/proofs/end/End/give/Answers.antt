@@ -1,9 +1,9 @@
 -- The message is given to the stream where something is kept of it.
-use Rattle.std.proofs.Common.{ap, sym, refl}
+use Rattle.h2_ends.proofs.Names.{ap, sym, refl}
 use Rattle.std.specs.Option.{is_some}
 use Rattle.h2_ends.proofs.RequestGiven.{IsWidened, with_span, with_none, given_here, given_nowhere}
-use Rattle.h2_ends.proofs.end.End.give.Goals as goal
 use Rattle.h2_ends.proofs.end.End.give.Goals.{then-not-is_head_alone, else-not-is_head_alone}
+use Rattle.h2_ends.proofs.end.End.give.Goals as goal
 
 pub returns-in-Some : goal.returns-in-Some
 returns-in-Some c =

@@ -1,4 +1,4 @@
-use Rattle.std.proofs.Common.{refl}
+use Rattle.h2_ends.proofs.Names.{refl}
 use Rattle.h2_ends.proofs.ControlSteps.{goes_away}
 use Rattle.h2_ends.proofs.end.End.go_away.Goals as goal
 

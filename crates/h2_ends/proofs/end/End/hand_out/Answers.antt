@@ -1,18 +1,16 @@
 -- What is reported is handed out, or the stream is refused.
-use Rattle.std.proofs.Common.{[], refl, ap, length}
-use Rattle.h2_log.specs.Events.{ResetEvent, GoAwayEvent, UnprocessedEvent, AckedEvent, PongEvent}
-use Rattle.h2_conn.specs.declared.conn.Conn.{Conn}
-use Rattle.h2_pair.specs.Tokens.{tokens_of_event}
+use Rattle.h2_ends.proofs.Names.{[], refl, ap, length, ResetEvent, UnprocessedEvent, Conn}
+use Rattle.h2_ends.proofs.Names.{end_with_log, code_unread}
+use Rattle.h2_laws_pair.specs.Tokens.{tokens_of_event}
 use Rattle.h2_ends.specs.Ends.{part_of_event}
-use Rattle.h2_ends.specs.EndTakes.{end_with_log}
 use Rattle.h2_ends.specs.Loans.{BodyLiesIn, IsBodyIn}
-use Rattle.h2_ends.specs.Taking.{code_unread}
+use Rattle.h2_laws_end.specs.Activity.{take_has_fields, take_has_data, take_may_close}
+use Rattle.h2_laws_end.specs.Activity.{event_may_close}
+use Rattle.h2_spec_log.specs.Events.{GoAwayEvent, AckedEvent, PongEvent}
 use Rattle.h2_ends.proofs.TakeHands.{fields_on, data_on, event_passed, fields_handed}
 use Rattle.h2_ends.proofs.TakeHands.{fields_not_handed, data_handed, data_not_handed, same_body}
 use Rattle.h2_ends.proofs.TakeHands.{reset_lies}
 use Rattle.h2_ends.proofs.TakeInStep.{reported_as, reset_but, unprocessed_but}
-use Rattle.h2_end_laws.specs.Activity.{take_has_fields, take_has_data, take_may_close}
-use Rattle.h2_end_laws.specs.Activity.{event_may_close}
 use Rattle.h2_ends.proofs.end.End.hand_out.Goals as goal
 
 pub returns-then-read_data-clause-lies : goal.returns-then-read_data-clause-lies

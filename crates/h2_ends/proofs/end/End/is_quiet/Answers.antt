@@ -1,12 +1,10 @@
 -- By the tests, one after another.
-use Rattle.std.proofs.Common.{sym, ◌∙◌}
-use Rattle.std.proofs.lemmas.Bool.{both_ways}
+use Rattle.h2_ends.proofs.Names.{sym, ◌∙◌, both_ways}
 use Rattle.h2_ends.proofs.QuietEnds.{tells_not, not_quiet_down, not_quiet_waiting, not_quiet_due}
 use Rattle.h2_ends.proofs.QuietEnds.{not_quiet_owing, quiet_unless}
+use Rattle.h2_ends.proofs.end.End.is_quiet.Goals.{then-is_none, else-is_none, then-waiting-eq0}
+use Rattle.h2_ends.proofs.end.End.is_quiet.Goals.{else-waiting-eq0, then-due-eq0, else-due-eq0}
 use Rattle.h2_ends.proofs.end.End.is_quiet.Goals as goal
-use Rattle.h2_ends.proofs.end.End.is_quiet.Goals.{then-is_none, else-is_none}
-use Rattle.h2_ends.proofs.end.End.is_quiet.Goals.{then-waiting-eq0, else-waiting-eq0}
-use Rattle.h2_ends.proofs.end.End.is_quiet.Goals.{then-due-eq0, else-due-eq0}
 
 pub returns-then-not-owes : goal.returns-then-not-owes
 returns-then-not-owes c = elim c.if-due-eq0.branch [

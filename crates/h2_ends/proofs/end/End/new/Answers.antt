@@ -1,9 +1,8 @@
-use Rattle.std.proofs.Common.{refl}
-use Rattle.h2_config.specs.ConfigValues.{values_of}
+use Rattle.h2_ends.proofs.Names.{refl, values_of}
 use Rattle.h2_ends.proofs.ControlStart.{starts}
-use Rattle.h2_ends.proofs.end.End.new.Goals as goal
 use Rattle.h2_ends.proofs.end.End.new.Goals.{in-Client+in_ok-conn-in-Client}
 use Rattle.h2_ends.proofs.end.End.new.Goals.{in-Server+in_ok-conn-in-Server}
+use Rattle.h2_ends.proofs.end.End.new.Goals as goal
 
 pub returns-clause-ok : goal.returns-clause-ok
 returns-clause-ok c =

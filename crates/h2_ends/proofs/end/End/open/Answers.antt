@@ -1,14 +1,11 @@
 -- By the lemmas on what the connection answers, and what is kept then.
-use Rattle.std.proofs.Common.{true, refl, sym, ◌∙◌}
-use Rattle.h2_log.specs.Acts.{Open}
-use Rattle.h2_message.specs.Values.{message_value}
-use Rattle.h2_pair.specs.Tokens.{is_head_alone}
+use Rattle.h2_ends.proofs.Names.{true, refl, sym, ◌∙◌, Open, message_value, is_head_alone}
 use Rattle.h2_ends.proofs.RequestRefusals.{refuses_fitting}
 use Rattle.h2_ends.proofs.RequestSends.{unchanged_itself, open_typed}
 use Rattle.h2_ends.proofs.TableSteps.{keeps_but}
 use Rattle.h2_ends.proofs.RequestTable.{kept_alike}
-use Rattle.h2_ends.proofs.RequestOpens.{opens_trailers, opens_nowhere, opens_not, opens_new}
-use Rattle.h2_ends.proofs.RequestOpens.{on_err, on_ok, or_memory, keeps_none}
+use Rattle.h2_ends.proofs.RequestOpens.{opens_trailers, opens_nowhere, opens_not, opens_new, on_err}
+use Rattle.h2_ends.proofs.RequestOpens.{on_ok, or_memory, keeps_none}
 use Rattle.h2_ends.proofs.end.End.open.Goals as goal
 
 pub returns-in-Some : goal.returns-in-Some

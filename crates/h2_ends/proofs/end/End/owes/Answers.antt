@@ -1,5 +1,5 @@
 -- Stream by stream, by the lemmas on what is owed.
-use Rattle.std.proofs.Common.{arith}
+use Rattle.h2_ends.proofs.Names.{arith}
 use Rattle.h2_ends.proofs.QuietOwes.{owes_begins, owes_passes, owes_nowhere, owes_here}
 use Rattle.h2_ends.proofs.end.End.owes.Goals as goal
 

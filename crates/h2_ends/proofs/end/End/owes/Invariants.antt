@@ -1,5 +1,5 @@
 -- Whatever has happened, nothing is owed on streams up to the last one.
-use Rattle.std.proofs.Common.{◌+◌, ◌-◌}
+use Rattle.h2_ends.proofs.Names.{◌+◌, ◌-◌}
 use Rattle.h2_ends.proofs.QuietOwes.{OwesNoneTo}
 use Rattle.h2_ends.proofs.end.End.owes.Given as goal
 

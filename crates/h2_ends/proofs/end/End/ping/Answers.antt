@@ -1,4 +1,4 @@
-use Rattle.std.proofs.Common.{refl}
+use Rattle.h2_ends.proofs.Names.{refl}
 use Rattle.h2_ends.proofs.ControlSteps.{pings}
 use Rattle.h2_ends.proofs.end.End.ping.Goals as goal
 

@@ -1,5 +1,5 @@
 -- Whatever had happened at the start, nothing more could go on streams up to the last one.
-use Rattle.std.proofs.Common.{◌-◌}
+use Rattle.h2_ends.proofs.Names.{◌-◌}
 use Rattle.h2_ends.proofs.SendingPump.{PumpsTo}
 use Rattle.h2_ends.proofs.end.End.pump.Given as goal
 

@@ -1,11 +1,8 @@
 -- What was lent of the map is written back as sending left it.
-use Rattle.std.proofs.Common.{ℕ, sym}
-use Rattle.std.proofs.lemmas.Result.{err_from_is_err_and}
-use Rattle.h2_ends.specs.declared.outgoing.Outgoing.TheVariants as outgoings
-use Rattle.h2_ends.specs.Pumping.{with_outgoing}
+use Rattle.h2_ends.proofs.Names.{ℕ, sym, err_from_is_err_and, with_outgoing}
 use Rattle.h2_ends.proofs.SendingStreams.{written, unwritten, none_goes, all_goes, not_idle, all_as}
-use Rattle.h2_ends.proofs.SendingStreams.{some_goes, full_there, memory_lacks}
-use Rattle.h2_ends.proofs.SendingStreams.{other_here}
+use Rattle.h2_ends.proofs.SendingStreams.{some_goes, full_there, memory_lacks, other_here}
+use Rattle.h2_ends.specs.declared.outgoing.Outgoing.TheVariants as outgoings
 use Rattle.h2_ends.proofs.end.End.pump_stream.Goals as goal
 
 pub returns-in_default-outgoing : goal.returns-in_default-outgoing

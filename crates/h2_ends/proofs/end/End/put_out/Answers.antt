@@ -1,4 +1,4 @@
-use Rattle.std.proofs.Common.{refl}
+use Rattle.h2_ends.proofs.Names.{refl}
 use Rattle.h2_ends.proofs.ControlSteps.{puts_out}
 use Rattle.h2_ends.proofs.end.End.put_out.Goals as goal
 

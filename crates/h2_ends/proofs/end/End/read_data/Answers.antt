@@ -1,6 +1,6 @@
-use Rattle.std.proofs.Common.{Some, refl, sym, ap}
-use Rattle.std.specs.Option.{is_some}
+use Rattle.h2_ends.proofs.Names.{Some, refl, sym, ap}
 use Rattle.h2_ends.specs.Taking.{ReadsData}
+use Rattle.std.specs.Option.{is_some}
 use Rattle.h2_ends.proofs.TableSteps.{keeps_but}
 use Rattle.h2_ends.proofs.TakeReads.{with_reading, first_data, data_taken, data_refused}
 use Rattle.h2_ends.proofs.end.End.read_data.Goals as goal

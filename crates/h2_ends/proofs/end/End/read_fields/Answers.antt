@@ -1,6 +1,6 @@
-use Rattle.std.proofs.Common.{Some, refl, sym, ap}
-use Rattle.std.specs.Option.{is_some}
+use Rattle.h2_ends.proofs.Names.{Some, refl, sym, ap}
 use Rattle.h2_ends.specs.Taking.{ReadsFields}
+use Rattle.std.specs.Option.{is_some}
 use Rattle.h2_ends.proofs.TableSteps.{keeps_but}
 use Rattle.h2_ends.proofs.TakeReads.{with_reading, fields_taken, fields_refused}
 use Rattle.h2_ends.proofs.end.End.read_fields.Goals as goal

@@ -1,4 +1,4 @@
-use Rattle.std.proofs.Common.{Some, refl}
+use Rattle.h2_ends.proofs.Names.{Some, refl}
 use Rattle.h2_ends.proofs.TableSteps.{keeps_but}
 use Rattle.h2_ends.proofs.TakeReads.{first_stream, first_taken, first_refused, first_lacks}
 use Rattle.h2_ends.proofs.end.End.read_first.Goals as goal

@@ -1,5 +1,5 @@
 -- Step by step, by the lemmas on a release.
-use Rattle.std.proofs.Common.{refl, arith}
+use Rattle.h2_ends.proofs.Names.{refl, arith}
 use Rattle.h2_ends.proofs.SendingRelease.{closed_from_start, begins_release, comes_to}
 use Rattle.h2_ends.proofs.SendingRelease.{passes_stream, releases_stream, refuses_stream}
 use Rattle.h2_ends.proofs.SendingRelease.{ends_release}

@@ -1,5 +1,5 @@
 -- Whatever had happened at the start, all that is owed on streams up to the last one was released.
-use Rattle.std.proofs.Common.{◌+◌, ◌-◌}
+use Rattle.h2_ends.proofs.Names.{◌+◌, ◌-◌}
 use Rattle.h2_ends.proofs.SendingRelease.{ReleasesTo}
 use Rattle.h2_ends.proofs.end.End.release_all.Given as goal
 

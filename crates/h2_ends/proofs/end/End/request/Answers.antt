@@ -1,11 +1,6 @@
 -- By the lemmas on an end that has opened a stream.
-use Rattle.std.proofs.Common.{refl}
-use Rattle.h2_log.specs.Acts.{Open, Number}
-use Rattle.h2_message.specs.Values.{message_value}
-use Rattle.h2_ends.specs.EndCalls.{end_with_message}
-use Rattle.h2_pair.specs.Tokens.{is_head_alone}
-use Rattle.h2_ends.proofs.RequestHeads.{request_given, may_request, breaks_request}
-use Rattle.h2_ends.proofs.RequestHeads.{refuses_request}
+use Rattle.h2_ends.proofs.Names.{refl, Open, Number, message_value, end_with_message, is_head_alone}
+use Rattle.h2_ends.proofs.RequestHeads.{request_given, may_request, breaks_request, refuses_request}
 use Rattle.h2_ends.proofs.end.End.request.Goals as goal
 
 pub returns-in-Err : goal.returns-in-Err

@@ -1,5 +1,4 @@
-use Rattle.std.proofs.Common.{refl}
-use Rattle.std.proofs.lemmas.Result.{err_from_is_err_and}
+use Rattle.h2_ends.proofs.Names.{refl, err_from_is_err_and}
 use Rattle.h2_ends.proofs.ControlSteps.{reset_is_refused, reset_is_done}
 use Rattle.h2_ends.proofs.end.End.reset.Goals as goal
 

@@ -1,13 +1,9 @@
 -- By the lemma on an end that has sent the head of a response.
-use Rattle.std.proofs.Common.{refl, sym, ◌∙◌}
-use Rattle.h2_log.specs.Acts.{SendFields, Done}
-use Rattle.h2_message.specs.Values.{message_value}
-use Rattle.h2_ends.specs.EndCalls.{end_with_message}
-use Rattle.h2_pair.specs.Tokens.{is_head_alone}
-use Rattle.h2_ends.specs.Represents.{EndRepresents}
+use Rattle.h2_ends.proofs.Names.{refl, sym, ◌∙◌, SendFields, Done, message_value, end_with_message}
+use Rattle.h2_ends.proofs.Names.{is_head_alone, EndRepresents}
 use Rattle.h2_ends.proofs.RequestHeads.{respond_given, respond_waits}
-use Rattle.h2_ends.proofs.end.End.respond.Goals as goal
 use Rattle.h2_ends.proofs.end.End.respond.Goals.{then-is_whole, else-is_whole}
+use Rattle.h2_ends.proofs.end.End.respond.Goals as goal
 
 pub returns-in-Err : goal.returns-in-Err
 returns-in-Err c = (refl, c.in-Err.ensures)

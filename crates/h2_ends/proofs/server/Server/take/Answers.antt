@@ -1,8 +1,6 @@
 -- What is lent is what is handed out.
-use Rattle.std.proofs.Common.{[], length, refl, ap}
-use Rattle.std.proofs.lemmas.Result.{err_from_is_err_and}
+use Rattle.h2_ends.proofs.Names.{[], length, refl, ap, err_from_is_err_and, EndFailed}
 use Rattle.h2_ends.specs.Loans.{BodyLiesThere, IsBodyHanded}
-use Rattle.h2_ends.specs.Ends.{EndFailed}
 use Rattle.h2_ends.proofs.TakeMemory.{never_at_ends}
 use Rattle.h2_ends.proofs.TakeSteps.{lent_so, used_so}
 use Rattle.h2_ends.proofs.server.Server.take.Goals as goal

@@ -1,10 +1,9 @@
 -- What was handed out is kept, where it is a part of the response.
 use Rattle.h2_engines.proofs.Names.{rules, Vec, Global, ◌++◌, ◌∷◌, [], List, Some, refl, ap, ◌∙◌}
-use Rattle.h2_engines.proofs.Names.{map_push, Field}
-use Rattle.std.proofs.Common.{map as each}
+use Rattle.h2_engines.proofs.Names.{map_push, Field, notes_interim, notes_head, notes_body}
+use Rattle.h2_engines.proofs.Names.{notes_trailers, notes_nothing}
 use Rattle.h2_ends.specs.Ends.{part_on}
-use Rattle.h2_engines.specs.ClientSteps.{notes_interim, notes_head, notes_body, notes_trailers}
-use Rattle.h2_engines.specs.ClientSteps.{notes_nothing}
+use Rattle.std.proofs.Common.{map as each}
 use Rattle.h2_engines.proofs.NoteResponses.{other_stream, other_event}
 use Rattle.h2_engines.proofs.fetcher.Coming.note.Goals as goal
 

@@ -1,10 +1,10 @@
 -- By the lemmas on a new client's request.
-use Rattle.h2_engines.proofs.Names.{◌≡◌, ◌≢◌, refl, rules, Malformed, message_value}
-use Rattle.h2_log.specs.declared.refusal.Refusal.TheVariants as reasons
-use Rattle.h2_ends.specs.declared.refusal.EndRefusal.TheVariants as refusals
-use Rattle.h2_engines.specs.Failures.{error_after}
+use Rattle.h2_engines.proofs.Names.{◌≡◌, refl, rules, Malformed, message_value, error_after}
+use Rattle.std.proofs.Common.{◌≢◌}
 use Rattle.h2_engines.proofs.FetcherStart.{has_requested, refused_as_broken, refused_as_large}
 use Rattle.h2_engines.proofs.FetcherStart.{refused_otherwise}
+use Rattle.h2_spec_log.specs.declared.refusal.Refusal.TheVariants as reasons
+use Rattle.h2_ends.specs.declared.refusal.EndRefusal.TheVariants as refusals
 use Rattle.h2_engines.proofs.fetcher.Fetcher.new.Goals as goal
 
 pub returns-in-Ok-request-clause-ok : goal.returns-in-Ok-request-clause-ok

@@ -1,7 +1,7 @@
 -- The fields and the body of the answer.
 use Rattle.h2_engines.proofs.Names.{◌≡◌, refl, length, arith}
-use Rattle.std.proofs.Common.{vec_len}
 use Rattle.h2_engines.specs.Answers.{answer_with}
+use Rattle.std.proofs.Common.{vec_len}
 use Rattle.h2_engines.proofs.request.Request.into_answer.Goals as goal
 
 pub returns-then-self : goal.returns-then-self

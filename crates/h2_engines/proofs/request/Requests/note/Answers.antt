@@ -1,9 +1,10 @@
 -- What was handed out of a request is kept.
-use Rattle.h2_engines.proofs.Names.{None, Some}
-use Rattle.h2_engines.proofs.Names.{refl}
+use Rattle.h2_engines.proofs.Names.{None, Some, refl}
 use Rattle.h2_engines.specs.PartialMessages.{EndsRequest, NotesHanded}
 use Rattle.h2_engines.proofs.NoteOne.{notes_other}
 use Rattle.h2_engines.proofs.RequestTable.{changes_one}
+use Rattle.h2_engines.proofs.request.Requests.note.Goals.{in-Reset+in-Some-1, in-Reset+in-None-1}
+use Rattle.h2_engines.proofs.request.Requests.note.Goals.{in_default}
 use Rattle.h2_engines.proofs.request.Requests.note.Goals as goal
 use Rattle.h2_engines.proofs.request.Requests.note.Goals.{
   in-Head+in_ok-request-in-Head+else-end+in_ok-insert-in-Head+in-Some-1,
@@ -11,8 +12,6 @@ use Rattle.h2_engines.proofs.request.Requests.note.Goals.{
 use Rattle.h2_engines.proofs.request.Requests.note.Goals.{
   in-Head+in_ok-request-in-Head+else-end+in_ok-insert-in-Head+in-None-1,
 }
-use Rattle.h2_engines.proofs.request.Requests.note.Goals.{in-Reset+in-Some-1, in-Reset+in-None-1}
-use Rattle.h2_engines.proofs.request.Requests.note.Goals.{in_default}
 
 pub returns-then-end : goal.returns-then-end
 unfolding NotesHanded EndsRequest

@@ -1,9 +1,9 @@
 -- By the lemmas on an answer.
-use Rattle.h2_engines.proofs.Names.{refl, arith}
-use Rattle.h2_engines.specs.ServerSteps.{AnsweredSo, counted_answer, counts_no_more, no_memory}
+use Rattle.h2_engines.proofs.Names.{refl, arith, no_memory}
+use Rattle.h2_engines.specs.ServerSteps.{AnsweredSo, counted_answer, counts_no_more}
 use Rattle.h2_engines.proofs.ResponderCalls.{answers_done, answers_refused}
-use Rattle.h2_engines.proofs.responder.Responder.answer.Goals as goal
 use Rattle.h2_engines.proofs.responder.Responder.answer.Goals.{in-Ok-respond, in-Err}
+use Rattle.h2_engines.proofs.responder.Responder.answer.Goals as goal
 
 pub returns-in_default-clause-answers : goal.returns-in_default-clause-answers
 unfolding AnsweredSo

@@ -1,8 +1,8 @@
 -- By the lemmas on what is left at the end of the input.
 use Rattle.h2_engines.proofs.Names.{sym, ◌∙◌}
 use Rattle.h2_engines.proofs.ResponderFinishes.{finishes_at_rest, finishes_held, finishes_active}
-use Rattle.h2_engines.proofs.responder.Responder.finish.Goals as goal
 use Rattle.h2_engines.proofs.responder.Responder.finish.Goals.{then-held-gt0-via-then-held-gt0}
+use Rattle.h2_engines.proofs.responder.Responder.finish.Goals as goal
 use Rattle.h2_engines.proofs.responder.Responder.finish.Goals.{
   then-held-gt0-via-else-held-gt0+then-is_some,
 }

@@ -1,8 +1,8 @@
 -- By the lemmas on a call of `take`.
 use Rattle.h2_engines.proofs.Names.{inl, inr, arith}
 use Rattle.h2_engines.proofs.ResponderHears.{hears_nothing, hears_event, hears_lost, hears_fault}
-use Rattle.h2_engines.proofs.responder.Responder.hear.Goals as goal
 use Rattle.h2_engines.proofs.responder.Responder.hear.Goals.{then-used-piece, else-used-piece}
+use Rattle.h2_engines.proofs.responder.Responder.hear.Goals as goal
 
 pub returns-after-used-piece-clause-hears : goal.returns-after-used-piece-clause-hears
 returns-after-used-piece-clause-hears c =

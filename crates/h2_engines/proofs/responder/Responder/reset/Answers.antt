@@ -1,6 +1,7 @@
 -- By the lemmas on a reset.
-use Rattle.h2_engines.proofs.Names.{◌≢◌, refl, rules, TooManyResets, Done, Refused}
+use Rattle.h2_engines.proofs.Names.{refl, rules, TooManyResets, Done, Refused}
 use Rattle.h2_engines.specs.ServerSteps.{ResetSo}
+use Rattle.std.proofs.Common.{◌≢◌}
 use Rattle.h2_engines.proofs.ResponderCalls.{resets_refused}
 use Rattle.h2_engines.proofs.ResponderFaults.{call_ends_server}
 use Rattle.h2_engines.proofs.responder.Responder.reset.Goals as goal

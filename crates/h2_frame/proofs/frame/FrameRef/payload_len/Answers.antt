@@ -1,5 +1,5 @@
 -- Padding, priority and body, counted; and six octets for each pair.
-use Rattle.std.proofs.Common.{◌≡◌, ◌/◌, length, arith}
+use Rattle.std.proofs.Common.{◌/◌, length, arith}
 use Rattle.h2_frame.specs.Pairs.{pairs_of}
 use Rattle.h2_frame.specs.Encoding.{payload_of, prioritized}
 use Rattle.h2_frame.proofs.PaddingLemmas.{length-padded_body, length-prioritized_fragment}

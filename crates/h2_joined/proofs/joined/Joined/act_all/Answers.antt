@@ -1,5 +1,5 @@
 -- Act by act.
-use Rattle.std.proofs.lemmas.Bool.{both_ways}
+use Rattle.h2_joined.proofs.Names.{both_ways}
 use Rattle.h2_joined.proofs.RunActs.{makes_none, makes_next, stops_there, makes_all}
 use Rattle.h2_joined.proofs.joined.Joined.act_all.Goals as goal
 

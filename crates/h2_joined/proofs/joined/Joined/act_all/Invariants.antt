@@ -1,6 +1,5 @@
 -- The acts so far are made.
-use Rattle.std.proofs.Common.{take}
-use Rattle.h2_joined.specs.Runs.{MakesAll}
+use Rattle.h2_joined.proofs.Names.{take, MakesAll}
 use Rattle.h2_joined.proofs.joined.Joined.act_all.Given as goal
 
 abbrev pub invariant-loop-act : goal.invariant-loop-act

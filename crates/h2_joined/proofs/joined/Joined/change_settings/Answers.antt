@@ -1,10 +1,7 @@
 -- By the lemma on a call of the connection.
-use Rattle.std.proofs.Common.{refl}
-use Rattle.h2_config.specs.ConfigValues.{values_of}
-use Rattle.h2_log.specs.Acts.{IsTypedAct, ChangeSettings, Done}
-use Rattle.h2_conn.specs.Conn.{answer_by}
-use Rattle.h2_ends.specs.Represents.{EndAnswers}
-use Rattle.h2_joined.specs.Kept.{end_at}
+use Rattle.h2_joined.proofs.Names.{refl, values_of, ChangeSettings, Done, answer_by, EndAnswers}
+use Rattle.h2_joined.proofs.Names.{end_at}
+use Rattle.h2_spec_log.specs.Acts.{IsTypedAct}
 use Rattle.h2_joined.proofs.KeptActs.{ChangesEnd, same_kept}
 use Rattle.h2_joined.proofs.CodeCalls.{call_acts}
 use Rattle.h2_joined.proofs.joined.Joined.change_settings.Goals.{in-Client, in-Server}

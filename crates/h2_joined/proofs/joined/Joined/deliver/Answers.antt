@@ -1,14 +1,11 @@
 -- By the lemmas on octets that are delivered.
-use Rattle.std.proofs.Common.{◌≡◌, ℕ, Bool, List, length, drop, Option, sym, ap, subst}
-use Rattle.h2_frame.specs.declared.code.Code.{Code}
-use Rattle.h2_joined.specs.declared.act.Acted.{Acted}
-use Rattle.h2_joined.specs.Joints.{Delivers}
-use Rattle.h2_joined.specs.Kept.{MakesAct, HoldsOctets, made}
-use Rattle.h2_joined.specs.Delivering.{PutsPipe}
-use Rattle.h2_joined.proofs.CodeDelivers.{used_by, answered_by, unfinished_by}
-use Rattle.h2_joined.proofs.CodeDelivers.{HasFailed, delivers_acts, none_delivered}
-use Rattle.h2_joined.proofs.joined.Joined.deliver.Goals.{in-Client, in-Server}
-use Rattle.h2_joined.proofs.joined.Joined.deliver.Goals.{in-Whole, in-Failed, in-Stopped}
+use Rattle.h2_joined.proofs.Names.{length, drop, Option, sym, ap, subst, Code, Acted, Delivers}
+use Rattle.h2_joined.proofs.Names.{MakesAct, HoldsOctets, made, PutsPipe}
+use Rattle.std.proofs.Common.{◌≡◌, ℕ, Bool, List}
+use Rattle.h2_joined.proofs.CodeDelivers.{used_by, answered_by, unfinished_by, HasFailed}
+use Rattle.h2_joined.proofs.CodeDelivers.{delivers_acts, none_delivered}
+use Rattle.h2_joined.proofs.joined.Joined.deliver.Goals.{in-Client, in-Server, in-Whole, in-Failed}
+use Rattle.h2_joined.proofs.joined.Joined.deliver.Goals.{in-Stopped}
 use Rattle.h2_joined.proofs.joined.Joined.deliver.Goals as goal
 
 pub returns-in-Some : goal.returns-in-Some

@@ -1,9 +1,6 @@
 -- By the lemma on a call of the connection.
-use Rattle.std.proofs.Common.{refl}
-use Rattle.h2_log.specs.Acts.{IsTypedAct, SendGoAway, Done}
-use Rattle.h2_conn.specs.Conn.{answer_by}
-use Rattle.h2_ends.specs.Represents.{EndAnswers}
-use Rattle.h2_joined.specs.Kept.{end_at}
+use Rattle.h2_joined.proofs.Names.{refl, SendGoAway, Done, answer_by, EndAnswers, end_at}
+use Rattle.h2_spec_log.specs.Acts.{IsTypedAct}
 use Rattle.h2_joined.proofs.KeptActs.{ChangesEnd, same_kept}
 use Rattle.h2_joined.proofs.CodeCalls.{call_acts}
 use Rattle.h2_joined.proofs.joined.Joined.go_away.Goals.{in-Client, in-Server}

@@ -1,7 +1,5 @@
 -- By the lemma on a pump.
-use Rattle.std.proofs.Common.{refl}
-use Rattle.h2_ends.specs.Represents.{EndPumps}
-use Rattle.h2_joined.specs.Kept.{end_at}
+use Rattle.h2_joined.proofs.Names.{refl, EndPumps, end_at}
 use Rattle.h2_joined.proofs.KeptActs.{ChangesEnd, same_kept}
 use Rattle.h2_joined.proofs.CodeCalls.{pump_acts}
 use Rattle.h2_joined.proofs.joined.Joined.pump.Goals.{in-Client, in-Server}

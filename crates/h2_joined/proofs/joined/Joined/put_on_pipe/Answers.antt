@@ -1,5 +1,5 @@
 -- By the lemma on octets that are put on a pipe.
-use Rattle.std.proofs.Common.{refl, arith}
+use Rattle.h2_joined.proofs.Names.{refl, arith}
 use Rattle.h2_joined.proofs.CodeMoves.{MovesAt, moves_acts}
 use Rattle.h2_joined.proofs.joined.Joined.put_on_pipe.Goals.{in-Client, in-Server}
 use Rattle.h2_joined.proofs.joined.Joined.put_on_pipe.Goals as goal

@@ -1,6 +1,5 @@
 -- By the lemma on pipes and ends.
-use Rattle.h2_joined.proofs.KeptQuiet.{both_quiet, busy_client, waits_for_client}
-use Rattle.h2_joined.proofs.KeptQuiet.{waits_for_server}
+use Rattle.h2_joined.proofs.KeptQuiet.{both_quiet, busy_client, waits_for_client, waits_for_server}
 use Rattle.h2_joined.proofs.joined.Joined.quiet.Goals as goal
 
 pub returns-then-len-gt0 : goal.returns-then-len-gt0

@@ -1,7 +1,5 @@
 -- By the lemma on `release_all`.
-use Rattle.std.proofs.Common.{refl}
-use Rattle.h2_ends.specs.Represents.{EndReleases}
-use Rattle.h2_joined.specs.Kept.{end_at}
+use Rattle.h2_joined.proofs.Names.{refl, EndReleases, end_at}
 use Rattle.h2_joined.proofs.KeptActs.{ChangesEnd, same_kept}
 use Rattle.h2_joined.proofs.CodeCalls.{release_acts}
 use Rattle.h2_joined.proofs.joined.Joined.release_all.Goals.{in-Client, in-Server}

@@ -1,11 +1,8 @@
 -- By the lemmas on a request.
-use Rattle.std.proofs.Common.{refl, ap, Ok, Err, subst}
-use Rattle.h2_message.specs.Messages.{SentMessage}
-use Rattle.h2_message.specs.Values.{message_value}
-use Rattle.h2_ends.specs.Represents.{EndRequests}
+use Rattle.h2_joined.proofs.Names.{refl, ap, Ok, Err, subst, SentMessage, message_value}
+use Rattle.h2_joined.proofs.Names.{EndRequests, Accepted, no_copy_of_a_request}
 use Rattle.h2_joined.specs.declared.act.Side.TheVariants.{Client}
-use Rattle.h2_joined.specs.declared.kept.Accepted.{Accepted}
-use Rattle.h2_joined.specs.Joints.{Requests, no_copy_of_a_request}
+use Rattle.h2_joined.specs.Joints.{Requests}
 use Rattle.h2_joined.proofs.KeptActs.{same_kept, acts_without_copy}
 use Rattle.h2_joined.proofs.CodeMessages.{request_is_refused, request_is_accepted}
 use Rattle.h2_joined.proofs.joined.Joined.request.Goals as goal

@@ -1,9 +1,6 @@
 -- By the lemma on a call of the connection.
-use Rattle.std.proofs.Common.{refl, rules}
-use Rattle.h2_log.specs.Acts.{IsTypedAct, ResetStream, Done}
-use Rattle.h2_conn.specs.Conn.{answer_by}
-use Rattle.h2_ends.specs.Represents.{EndAnswers}
-use Rattle.h2_joined.specs.Kept.{end_at}
+use Rattle.h2_joined.proofs.Names.{refl, rules, ResetStream, Done, answer_by, EndAnswers, end_at}
+use Rattle.h2_spec_log.specs.Acts.{IsTypedAct}
 use Rattle.h2_joined.proofs.KeptActs.{ChangesEnd, same_kept}
 use Rattle.h2_joined.proofs.CodeCalls.{call_acts}
 use Rattle.h2_joined.proofs.joined.Joined.reset.Goals.{in-Client, in-Server}

@@ -1,11 +1,7 @@
 -- By the lemmas on a response.
-use Rattle.std.proofs.Common.{refl, ap, Ok, Err, subst, arith}
-use Rattle.h2_message.specs.Messages.{SentMessage}
-use Rattle.h2_message.specs.Values.{message_value}
-use Rattle.h2_ends.specs.Represents.{EndResponds}
+use Rattle.h2_joined.proofs.Names.{refl, ap, Ok, Err, subst, arith, SentMessage, message_value}
+use Rattle.h2_joined.proofs.Names.{EndResponds, Accepted, Responds, no_copy_of_a_response}
 use Rattle.h2_joined.specs.declared.act.Side.TheVariants.{Server}
-use Rattle.h2_joined.specs.declared.kept.Accepted.{Accepted}
-use Rattle.h2_joined.specs.Joints.{Responds, no_copy_of_a_response}
 use Rattle.h2_joined.proofs.KeptActs.{same_kept, acts_without_copy}
 use Rattle.h2_joined.proofs.CodeMessages.{respond_is_refused, respond_is_accepted}
 use Rattle.h2_joined.proofs.joined.Joined.respond.Goals as goal

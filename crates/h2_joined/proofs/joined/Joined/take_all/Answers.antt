@@ -1,5 +1,5 @@
 -- By the lemmas on octets that are handed to `take` again and again.
-use Rattle.std.proofs.Common.{add-one}
+use Rattle.h2_joined.proofs.Names.{add-one}
 use Rattle.std.proofs.lemmas.List.{take_rest}
 use Rattle.h2_joined.proofs.CodeRounds.{takes_first, takes_more, takes_whole, takes_failed}
 use Rattle.h2_joined.proofs.CodeRounds.{takes_stopped, takes_no_more}

@@ -1,5 +1,5 @@
 -- By the lemmas on what is left in a pipe.
-use Rattle.std.proofs.Common.{refl, ◌∙◌, arith}
+use Rattle.h2_joined.proofs.Names.{refl, ◌∙◌, arith}
 use Rattle.h2_joined.proofs.KeptPipe.{holds_behind, holds_alone}
 use Rattle.h2_joined.proofs.pipe.Pipe.deliver.Goals as goal
 

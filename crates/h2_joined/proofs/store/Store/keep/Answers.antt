@@ -1,6 +1,5 @@
 -- By the lemma on an event whose place was made.
-use Rattle.std.proofs.Common.{◌++◌, ◌∷◌, [], refl, ap, ◌∙◌, arith}
-use Rattle.h2_ends.specs.Loans.{event_handed}
+use Rattle.h2_joined.proofs.Names.{◌++◌, ◌∷◌, [], refl, ap, ◌∙◌, arith, event_handed}
 use Rattle.h2_joined.proofs.KeptStore.{placed_kept, is_pushed}
 use Rattle.h2_joined.proofs.store.Store.keep.Goals as goal
 

@@ -1,5 +1,5 @@
 -- By the lemma on a name and a value that are kept.
-use Rattle.std.proofs.Common.{refl}
+use Rattle.h2_joined.proofs.Names.{refl}
 use Rattle.h2_joined.proofs.KeptStore.{field_kept, is_pushed}
 use Rattle.h2_joined.proofs.store.Store.keep_field.Goals as goal
 

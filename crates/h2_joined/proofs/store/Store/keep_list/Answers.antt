@@ -1,9 +1,8 @@
 -- By the lemmas on the fields of a list, one after another.
-use Rattle.std.proofs.Common.{◌≡◌, ◌+◌, ◌∷◌, ◌++◌, [], Some, take, drop, ap, ◌∙◌, arith}
-use Rattle.std.specs.List.{slice_get}
+use Rattle.h2_joined.proofs.Names.{◌+◌, ◌∷◌, ◌++◌, [], take, drop, ap, ◌∙◌, arith, slice_get, Field}
+use Rattle.std.proofs.Common.{◌≡◌, Some}
 use Rattle.std.proofs.lemmas.List.{take_more, drop_more}
 use Rattle.std.proofs.lemmas.Option.{slice_get_within, get_or_from_slice_get}
-use Rattle.hpack.specs.declared.types.field.Field.{Field}
 use Rattle.h2_joined.proofs.KeptStore.{list_begins, list_goes_on, list_ends}
 use Rattle.h2_joined.proofs.store.Store.keep_list.Goals as goal
 

@@ -1,6 +1,6 @@
 -- By the lemmas on output in two parts: the queue, and what waits of the last frame.
-use Rattle.std.proofs.Common.{◌≡◌, [], ◌++◌, length, min, drop, refl, ap, sym}
-use Rattle.std.proofs.Common.{append_assoc, append-nil}
+use Rattle.std.proofs.Common.{◌≡◌, [], ◌++◌, length, min, drop, refl, ap, sym, append_assoc}
+use Rattle.std.proofs.Common.{append-nil}
 use Rattle.std.proofs.Math.Seq.{take-nil, drop-nil}
 use Rattle.h2_output.specs.Output.{OutputState, waiting_of_last}
 use Rattle.h2_output.proofs.PieceLemmas.{take-parts, drop-parts}

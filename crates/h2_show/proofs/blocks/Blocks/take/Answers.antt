@@ -1,6 +1,5 @@
 -- By the gatherer's clauses and the decoder's.
-use Rattle.std.proofs.Common.{inl, inr}
-use Rattle.std.proofs.lemmas.Result.{err_from_is_err_and}
+use Rattle.h2_show.proofs.Names.{inl, inr, err_from_is_err_and}
 use Rattle.h2_show.proofs.BlocksLemmas.{represent_alone, represent_more, represent_block}
 use Rattle.h2_show.proofs.BlocksLemmas.{grouping_error_reports, decoding_error_reports}
 use Rattle.h2_show.proofs.BlocksShown.{show_alone, show_more, show_block}

@@ -1,6 +1,5 @@
 -- Nothing was used, no frame was taken, and nothing was printed.
-use Rattle.std.proofs.Common.{[], sym, ◌∙◌}
-use Rattle.h2_show.specs.Report.{begins_with_preface}
+use Rattle.h2_show.proofs.Names.{[], sym, ◌∙◌, begins_with_preface}
 use Rattle.h2_show.proofs.PrefaceLemmas.{nothing_represented}
 use Rattle.h2_show.proofs.viewer.Viewer.new.Goals as goal
 

@@ -1,10 +1,8 @@
 -- Each call of the cutter, and of the blocks where it answers a frame, shows more of the piece, or
 -- fails.
-use Rattle.std.proofs.lemmas.Result.{err_from_is_err_and}
-use Rattle.std.proofs.Common.{rules, []}
+use Rattle.h2_show.proofs.Names.{err_from_is_err_and, rules, [], Appends-nil, Appends-trans}
 use Rattle.h2_show.proofs.ViewerLemmas.{continues_nothing, used_within, continues_without_frame}
 use Rattle.h2_show.proofs.ViewerLemmas.{continues_with_frame, fails_at_cut, fails_at_frame}
-use Rattle.std.proofs.KnownBytes.{Appends-nil, Appends-trans}
 use Rattle.h2_show.proofs.PieceLemmas.{prints_none, prints_without_frame, prints_frame}
 use Rattle.h2_show.proofs.PieceLemmas.{frame_written, fails_with_wire, fails_with_block}
 use Rattle.h2_show.proofs.viewer.Viewer.show_piece.Goals as goal

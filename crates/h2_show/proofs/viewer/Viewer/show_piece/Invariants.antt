@@ -1,8 +1,6 @@
 -- A prefix of the piece has been shown.
-use Rattle.std.proofs.Common.{ℕ, List, length, ◌-◌, ◌≤◌, take}
-use Rattle.std.specs.Io.KnownBytes.{Appends}
-use Rattle.h2_show.specs.Printed.{ViewerPrints}
-use Rattle.h2_show.specs.Viewer.{ViewerContinues}
+use Rattle.h2_show.proofs.Names.{ℕ, List, length, ◌-◌, ◌≤◌, take, Appends, ViewerPrints}
+use Rattle.h2_show.proofs.Names.{ViewerContinues}
 use Rattle.h2_show.proofs.viewer.Viewer.show_piece.Given as goal
 
 abbrev pub invariant-loop-done : goal.invariant-loop-done

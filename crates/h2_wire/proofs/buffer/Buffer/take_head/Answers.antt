@@ -1,7 +1,6 @@
 -- A head continues: it isn't complete yet, or is at fault, or has no fault.
 use Rattle.std.proofs.Common.{◌≡◌, ◌+◌, ◌-◌, ◌<◌, ◌≤◌, length, take, drop, arith, ◌++◌, Some, refl}
-use Rattle.std.proofs.Common.{sym, ◌∙◌, ap}
-use Rattle.std.proofs.Common.{length-drop, length-append}
+use Rattle.std.proofs.Common.{sym, ◌∙◌, ap, length-drop, length-append}
 use Rattle.std.proofs.lemmas.List.{take_rest}
 use Rattle.h2_frame.specs.declared.heads.Head.{Head}
 use Rattle.h2_frame.specs.Heads.{head_of, head_fault}

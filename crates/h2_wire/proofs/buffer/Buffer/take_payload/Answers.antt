@@ -72,7 +72,7 @@ returns-then-is_empty-clause-takes c =
     (ap (λ (n : ℕ). take n following) (omega (arith, none, c.len.ensures))) in
     ends_frame old old c.end_frame.new.self c.args.piece.now c.args.start
     (9 + c.args.head.length - c.len.result)
-    (record { head = c.args.head; source = sources.Piece c.args.start }) c.end_frame.result refl
+    c.args.head (sources.Piece c.args.start) c.end_frame.result refl
     lies starts (omega (arith, c.len.ensures, old.octets.ok.0, short)) enough c.end_frame.ensures
 
 pub returns-clause-takes : goal.returns-clause-takes
@@ -88,6 +88,6 @@ returns-clause-takes c =
     rw following at c.if-following-missing.false in
     ends_frame old c.append-2.new.self c.end_frame-2.new.self c.args.piece.now c.args.start
     (9 + c.args.head.length - c.len.result)
-    (record { head = c.args.head; source = sources.Kept }) c.end_frame-2.result
+    c.args.head sources.Kept c.end_frame-2.result
     c.in_ok-append-2.ensures.same (rw following at c.in_ok-append-2.ensures.ok) starts
     (omega (arith, c.len.ensures, old.octets.ok.0, short)) enough c.end_frame-2.ensures

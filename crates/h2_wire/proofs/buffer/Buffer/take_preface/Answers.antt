@@ -1,7 +1,6 @@
 -- Inside the preface: it is complete, or continues, or an octet is wrong.
-use Rattle.std.proofs.Common.{◌≡◌, ◌+◌, ◌<◌, length, take, drop, arith, refl, sym}
-use Rattle.std.proofs.Common.{◌∙◌, true, subst, List, ℕ}
-use Rattle.std.proofs.Common.{None, length-drop}
+use Rattle.std.proofs.Common.{◌≡◌, ◌+◌, ◌<◌, length, take, drop, arith, refl, sym, ◌∙◌, true, subst}
+use Rattle.std.proofs.Common.{List, ℕ, None, length-drop}
 use Rattle.std.proofs.lemmas.List.{take_all}
 use Rattle.h2_wire.specs.declared.fault.WireFault.TheVariants as faults
 use Rattle.h2_wire.specs.declared.buffer.Phase.TheVariants as phases

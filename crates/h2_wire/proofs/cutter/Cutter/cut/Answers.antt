@@ -2,8 +2,7 @@
 use Rattle.std.proofs.Common.{refl, arith}
 use Rattle.std.proofs.lemmas.Result.{err_from_is_err_and}
 use Rattle.h2_wire.proofs.CutLemmas.{advances_none, advances_some, not_failed, failed_again}
-use Rattle.h2_wire.proofs.CutLemmas.{not_checked, checked_again}
-use Rattle.h2_wire.proofs.CutLemmas.{memory_again}
+use Rattle.h2_wire.proofs.CutLemmas.{not_checked, checked_again, memory_again}
 use Rattle.h2_wire.specs.Cutter.{FaultsAtHead}
 use Rattle.h2_wire.proofs.cutter.Cutter.cut.Goals as goal
 use Rattle.h2_wire.proofs.cutter.Cutter.cut.Goals.{in-None, in-Some}

@@ -1,7 +1,5 @@
-use Rattle.std.proofs.Common.{◌≡◌, ◌^◌, ◌<◌, ◌≤◌, get_or, sym, subst, arith}
+use Rattle.hpack_text.proofs.Names.{◌≡◌, ◌^◌, ◌<◌, ◌≤◌, get_or, sym, subst, arith, bits_of, code}
 use Rattle.hpack_text.specs.declared.huffman.codes.TheConstants.{VALUES}
-use Rattle.hpack_text.specs.Bits.{bits_of}
-use Rattle.hpack_text.specs.Huffman.{code}
 use Rattle.hpack_text.proofs.TableLemmas.{tables_have_code}
 use Rattle.hpack_text.proofs.huffman.codes.code_of.Goals as goal
 

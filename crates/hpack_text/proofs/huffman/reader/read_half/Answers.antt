@@ -1,6 +1,5 @@
-use Rattle.std.proofs.Common.{◌≡◌, ◌++◌, Option, ℕ, ap, ◌∙◌, vec_len, vec_capacity, arith}
-use Rattle.hpack_text.specs.Huffman.{code}
-use Rattle.hpack_text.specs.States.{code_if_some, prefix_of, stepped}
+use Rattle.hpack_text.proofs.Names.{◌≡◌, ◌++◌, Option, ℕ, ap, ◌∙◌, vec_len, vec_capacity, arith}
+use Rattle.hpack_text.proofs.Names.{code, code_if_some, prefix_of, stepped}
 use Rattle.hpack_text.proofs.ReadLemmas.{reads_end, reads_symbol, reads_within, room_for_symbol}
 use Rattle.hpack_text.proofs.huffman.reader.read_half.Goals as goal
 

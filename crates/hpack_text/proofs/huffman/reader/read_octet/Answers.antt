@@ -1,5 +1,4 @@
-use Rattle.std.proofs.Common.{◌/◌, arith}
-use Rattle.hpack_text.specs.Bits.{bits_of}
+use Rattle.hpack_text.proofs.Names.{◌/◌, arith, bits_of}
 use Rattle.hpack_text.proofs.BitLemmas.{length-bits_of}
 use Rattle.hpack_text.proofs.ReadLemmas.{end_in_first_half, read_second_half, reads_length}
 use Rattle.hpack_text.proofs.huffman.reader.read_octet.Goals as goal

@@ -1,9 +1,6 @@
-use Rattle.std.proofs.Common.{◌≡◌, ◌++◌, ℕ, List, Bool, length, take, refl, sym, ap, ◌∙◌, arith}
+use Rattle.hpack_text.proofs.Names.{◌≡◌, ◌++◌, ℕ, List, Bool, length, take, refl, sym, ap, ◌∙◌}
+use Rattle.hpack_text.proofs.Names.{arith, length-take-le, bits, codes, prefix_of}
 use Rattle.std.proofs.Common.{take_all}
-use Rattle.std.proofs.lemmas.List.{length-take-le}
-use Rattle.hpack_text.specs.Bits.{bits}
-use Rattle.hpack_text.specs.Huffman.{codes}
-use Rattle.hpack_text.specs.States.{prefix_of}
 use Rattle.hpack_text.proofs.BitLemmas.{length-bits}
 use Rattle.hpack_text.proofs.CodeLemmas.{bad_padding_fault}
 use Rattle.hpack_text.proofs.ReadLemmas.{all_octets, octet_fault, read_bits, reads_length}

@@ -1,6 +1,4 @@
-use Rattle.std.proofs.Common.{◌≡◌, ◌<◌, take, vec_capacity}
-use Rattle.hpack_text.specs.Bits.{bits}
-use Rattle.hpack_text.specs.States.{ReadsBits}
+use Rattle.hpack_text.proofs.Names.{◌≡◌, ◌<◌, take, vec_capacity, bits, ReadsBits}
 use Rattle.hpack_text.proofs.huffman.reader.read_text.Given as goal
 
 abbrev pub invariant-loop-octet : goal.invariant-loop-octet

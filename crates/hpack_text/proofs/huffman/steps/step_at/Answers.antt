@@ -1,6 +1,5 @@
-use Rattle.std.proofs.Common.{◌≡◌, ℕ, ◌+◌, ◌*◌, ap₂, get_or, subst, sym, arith}
+use Rattle.hpack_text.proofs.Names.{◌≡◌, ℕ, ◌+◌, ◌*◌, ap₂, get_or, subst, sym, arith, IsHalfStep}
 use Rattle.hpack_text.specs.declared.huffman.steps.TheConstants.{STEPS}
-use Rattle.hpack_text.specs.States.{IsHalfStep}
 use Rattle.hpack_text.proofs.StateLemmas.{table_step}
 use Rattle.hpack_text.proofs.huffman.steps.step_at.Goals as goal
 

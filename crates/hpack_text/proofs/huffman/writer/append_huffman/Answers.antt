@@ -1,5 +1,4 @@
-use Rattle.std.proofs.Common.{arith}
-use Rattle.std.proofs.lemmas.Result.{on_ok_weaker, on_err_weaker}
+use Rattle.hpack_text.proofs.Names.{arith, on_ok_weaker, on_err_weaker}
 use Rattle.hpack_text.proofs.WriteLemmas.{OnErr-from, Appends-all, Appends-join, written_text}
 use Rattle.hpack_text.proofs.WriteLemmas.{no_room_between, no_room_after}
 use Rattle.hpack_text.proofs.huffman.writer.append_huffman.Goals as goal

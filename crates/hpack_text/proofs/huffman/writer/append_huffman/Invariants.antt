@@ -1,7 +1,4 @@
-use Rattle.std.proofs.Common.{◌≤◌, take, vec_capacity}
-use Rattle.hpack_text.specs.Bits.{bits_of}
-use Rattle.hpack_text.specs.Huffman.{codes}
-use Rattle.hpack_text.specs.Appended.{Appends}
+use Rattle.hpack_text.proofs.Names.{◌≤◌, take, vec_capacity, bits_of, codes, Appends}
 use Rattle.hpack_text.proofs.huffman.writer.append_huffman.Given as goal
 
 abbrev pub invariant-loop-octet : goal.invariant-loop-octet

@@ -1,4 +1,4 @@
-use Rattle.std.proofs.Common.{refl, arith}
+use Rattle.hpack_text.proofs.Names.{refl, arith}
 use Rattle.hpack_text.proofs.WriteLemmas.{Appends-none, Appends-push, top_octet}
 use Rattle.hpack_text.proofs.huffman.writer.append_octets.Goals as goal
 

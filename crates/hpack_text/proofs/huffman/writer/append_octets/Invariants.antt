@@ -1,6 +1,5 @@
-use Rattle.std.proofs.Common.{◌≡◌, ◌+◌, ◌*◌, ◌^◌, ◌<◌, ◌≤◌, vec_len, vec_capacity}
-use Rattle.hpack_text.specs.Bits.{bits_of}
-use Rattle.hpack_text.specs.Appended.{Appends}
+use Rattle.hpack_text.proofs.Names.{◌≡◌, ◌+◌, ◌*◌, ◌^◌, ◌<◌, ◌≤◌, vec_len, vec_capacity, bits_of}
+use Rattle.hpack_text.proofs.Names.{Appends}
 use Rattle.hpack_text.proofs.huffman.writer.append_octets.Given as goal
 
 abbrev pub invariant-loop-count : goal.invariant-loop-count

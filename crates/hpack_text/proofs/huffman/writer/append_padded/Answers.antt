@@ -1,4 +1,4 @@
-use Rattle.std.proofs.Common.{arith}
+use Rattle.hpack_text.proofs.Names.{arith}
 use Rattle.hpack_text.proofs.WriteLemmas.{padded_octet, AppendsPadded-push, AppendsPadded-none}
 use Rattle.hpack_text.proofs.huffman.writer.append_padded.Goals as goal
 

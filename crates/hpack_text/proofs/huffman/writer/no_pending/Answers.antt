@@ -1,5 +1,4 @@
-use Rattle.std.proofs.Common.{refl}
-use Rattle.hpack_text.specs.Bits.{bits_of}
+use Rattle.hpack_text.proofs.Names.{refl, bits_of}
 use Rattle.hpack_text.proofs.huffman.writer.no_pending.Goals as goal
 
 pub returns-clause-empty : goal.returns-clause-empty

@@ -1,0 +1,85 @@
+//! The lines of what a client or a server hands out: `interim ID`, `head ID` and `trailers ID`, and
+//! a line for each field; `body ID` and the octets; each with `end` where the message is whole; and
+//! the others as `h2_case_conn::conn_events` says.
+
+use crate::side::Side;
+use h2_case::text::Text;
+use h2_case_conn::answers::{add_list, begin_line, end_with_octets};
+use h2_case_conn::conn_events::{
+    add_acked, add_goaway, add_pong, add_reset, add_unprocessed, note_fault,
+};
+use h2_case_conn::notes::{Notes, Taker, Used};
+use h2_ends::EndEvent;
+use hpack::FieldList;
+use std::alloc::Global;
+
+// The kind of what is handed out.
+fn kind_of(event: &EndEvent<'_>) -> &'static str {
+    match event {
+        EndEvent::Interim { .. } => "interim",
+        EndEvent::Head { .. } => "head",
+        EndEvent::Trailers { .. } => "trailers",
+        EndEvent::Body { .. } => "body",
+        EndEvent::Reset { .. } => "reset",
+        EndEvent::GoAway { .. } => "goaway",
+        EndEvent::Unprocessed { .. } => "unprocessed",
+        EndEvent::Acked => "acked",
+        EndEvent::Pong { .. } => "pong",
+    }
+}
+
+/// Adds the lines of what is handed out.
+pub(crate) fn add_handed(alloc: Global, text: &mut Text, event: EndEvent<'_>) {
+    match event {
+        EndEvent::Interim { id, list } => add_part(alloc, text, "interim", (id, false), list),
+        EndEvent::Head { id, list, end } => add_part(alloc, text, "head", (id, end), list),
+        EndEvent::Trailers { id, list } => add_part(alloc, text, "trailers", (id, true), list),
+        EndEvent::Body { id, bytes, end } => add_body(text, id, bytes, end),
+        EndEvent::Reset { id, code, ours } => add_reset(text, id, code, ours),
+        EndEvent::GoAway { last, code } => add_goaway(text, last, code),
+        EndEvent::Unprocessed { id } => add_unprocessed(text, id),
+        EndEvent::Acked => add_acked(text),
+        EndEvent::Pong { octets } => add_pong(text, &octets),
+    }
+}
+
+// Adds the lines of a field block.
+fn add_part(alloc: Global, text: &mut Text, kind: &str, stream: (u32, bool), list: &FieldList) {
+    let (id, end) = stream;
+    begin_line(text, kind, id, end);
+    text.push_str("\n");
+    add_list(alloc, text, list);
+}
+
+/// Adds the line of octets of a body.
+pub(crate) fn add_body(text: &mut Text, id: u32, octets: &[u8], end: bool) {
+    begin_line(text, "body", id, end);
+    end_with_octets(text, octets);
+}
+
+// Notes what is handed out, if something is; whether it is.
+fn note_handed(notes: &mut Notes, handed: Option<EndEvent<'_>>) -> bool {
+    match handed {
+        Some(event) => {
+            notes.begin(kind_of(&event));
+            add_handed(notes.alloc, &mut notes.lines, event);
+            true
+        }
+        None => false,
+    }
+}
+
+impl Taker<Notes> for Side {
+    fn take_piece(&mut self, piece: &[u8], notes: &mut Notes) -> Option<Used> {
+        match self.take(piece) {
+            Ok(taken) => Some(Used {
+                count: taken.used,
+                comes_out: note_handed(notes, taken.event),
+            }),
+            Err(fault) => {
+                note_fault(notes, fault);
+                None
+            }
+        }
+    }
+}

@@ -1,0 +1,140 @@
+//! A client or a server: each call is that of the one it is.
+
+use h2_ends::{Client, Config, Conn, ConnFault, EndRefusal, EndTaken, Message, Refusal, Server};
+use h2_spec_log::Role;
+use std::alloc::Global;
+
+/// One of the two.
+pub(crate) enum Side {
+    Client(Client),
+    Server(Server),
+}
+
+impl Drop for Side {
+    /// Drops it by a call, so that what drops it is proved once.
+    fn drop(self) {
+        match self {
+            Side::Client(client) => drop(client),
+            Side::Server(server) => drop(server),
+        }
+    }
+}
+
+// A new client.
+fn new_client(alloc: Global, config: Config) -> Option<Side> {
+    match Client::new(alloc, config) {
+        Ok(client) => Some(Side::Client(client)),
+        Err(_) => None,
+    }
+}
+
+// A new server.
+fn new_server(alloc: Global, config: Config) -> Option<Side> {
+    match Server::new(alloc, config) {
+        Ok(server) => Some(Side::Server(server)),
+        Err(_) => None,
+    }
+}
+
+/// What a message is answered with.
+type Given<T> = Result<T, (Message, EndRefusal)>;
+
+impl Side {
+    /// A client or a server; nothing where memory was refused.
+    pub(crate) fn new(alloc: Global, role: Role, config: Config) -> Option<Side> {
+        match role {
+            Role::Client => new_client(alloc, config),
+            Role::Server => new_server(alloc, config),
+        }
+    }
+
+    pub(crate) fn is_server(&self) -> bool {
+        matches!(self, Side::Server(_))
+    }
+
+    pub(crate) fn conn(&self) -> &Conn {
+        match self {
+            Side::Client(client) => client.conn(),
+            Side::Server(server) => server.conn(),
+        }
+    }
+
+    /// Gives a request. A server has no such call.
+    pub(crate) fn request(&mut self, message: Message) -> Given<u32> {
+        match self {
+            Side::Client(client) => client.request(message),
+            Side::Server(_) => Err((message, EndRefusal::NotAsked)),
+        }
+    }
+
+    /// Gives a response. A client has no such call.
+    pub(crate) fn respond(&mut self, id: u32, message: Message) -> Given<()> {
+        match self {
+            Side::Client(_) => Err((message, EndRefusal::NotAsked)),
+            Side::Server(server) => server.respond(id, message),
+        }
+    }
+
+    pub(crate) fn take<'a>(&'a mut self, piece: &'a [u8]) -> Result<EndTaken<'a>, ConnFault> {
+        match self {
+            Side::Client(client) => client.take(piece),
+            Side::Server(server) => server.take(piece),
+        }
+    }
+
+    pub(crate) fn is_quiet(&self) -> bool {
+        match self {
+            Side::Client(client) => client.is_quiet(),
+            Side::Server(server) => server.is_quiet(),
+        }
+    }
+
+    pub(crate) fn pump(&mut self) -> Result<usize, EndRefusal> {
+        match self {
+            Side::Client(client) => client.pump(),
+            Side::Server(server) => server.pump(),
+        }
+    }
+
+    pub(crate) fn release_all(&mut self) -> Result<(), EndRefusal> {
+        match self {
+            Side::Client(client) => client.release_all(),
+            Side::Server(server) => server.release_all(),
+        }
+    }
+
+    pub(crate) fn reset(&mut self, id: u32, code: u32) -> Result<(), Refusal> {
+        match self {
+            Side::Client(client) => client.reset(id, code),
+            Side::Server(server) => server.reset(id, code),
+        }
+    }
+
+    pub(crate) fn ping(&mut self, octets: [u8; 8]) -> Result<(), Refusal> {
+        match self {
+            Side::Client(client) => client.ping(octets),
+            Side::Server(server) => server.ping(octets),
+        }
+    }
+
+    pub(crate) fn go_away(&mut self) -> Result<(), Refusal> {
+        match self {
+            Side::Client(client) => client.go_away(),
+            Side::Server(server) => server.go_away(),
+        }
+    }
+
+    pub(crate) fn change_settings(&mut self, config: Config) -> Result<(), Refusal> {
+        match self {
+            Side::Client(client) => client.change_settings(config),
+            Side::Server(server) => server.change_settings(config),
+        }
+    }
+
+    pub(crate) fn put_out(&mut self, count: usize, out: &mut Vec<u8>) -> Result<usize, Refusal> {
+        match self {
+            Side::Client(client) => client.put_out(count, out),
+            Side::Server(server) => server.put_out(count, out),
+        }
+    }
+}

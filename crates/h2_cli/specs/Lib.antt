@@ -1,0 +1,3 @@
+pub mod Hexadecimal
+pub mod Status
+pub mod Hints

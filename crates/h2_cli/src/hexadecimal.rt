@@ -1,0 +1,60 @@
+//! Octets written in hexadecimal.
+
+ghost use Rattle.std.specs.Prelude.{◌≡◌, IfOk, MatchResult, Ok};
+ghost use Rattle.hex.specs.Hex.{decode_of};
+ghost use Rattle.h2_cli.specs.Hexadecimal.{is_skipped_blank as blank, without_blanks};
+ghost use Rattle.h2_cli.specs.Hexadecimal.{HexErrorReports};
+
+use hex::FromHexError;
+use std::alloc::{AllocError, Global};
+use thiserror::Error;
+
+/// Why a text isn't read as hexadecimal.
+#[derive(Clone, Copy, Debug, PartialEq, Eq, Error)]
+pub enum HexError {
+    /// Besides blanks it has an octet that is no hexadecimal digit, or an odd number of digits.
+    #[error("bad hex")]
+    BadHex,
+    /// Out of memory.
+    #[error("out of memory")]
+    Memory,
+}
+
+// rule: show (own) Hexadecimal is read without its blanks; other text is refused
+/// The octets that a text gives in hexadecimal, two digits each, in upper or lower case. Blanks
+/// are dropped wherever they are: spaces, tabs, line feeds and carriage returns.
+///
+/// # Errors
+///
+/// [`HexError::BadHex`] where the text without blanks isn't hexadecimal, and
+/// [`HexError::Memory`] when out of memory.
+pub fn from_hex(alloc: Global, text: &[u8]) -> Result<Vec<u8>, HexError>
+    ensures { MatchResult result
+        (λ octets. decode_of (without_blanks text.now) ≡ Ok octets.items)
+        (HexErrorReports text.now) }
+{
+    let digits = digits_of(alloc, text).map_err(|_| HexError::Memory)?;
+    match hex::decode(alloc, digits.as_slice()) {
+        Ok(octets) => Ok(octets),
+        Err(FromHexError::OutOfMemory) => Err(HexError::Memory),
+        Err(_) => Err(HexError::BadHex),
+    }
+}
+
+// The text without its blanks.
+fn digits_of(alloc: Global, text: &[u8]) -> Result<Vec<u8>, AllocError>
+    ensures { IfOk result (λ digits. digits.items ≡ without_blanks text.now) }
+{
+    text.iter()
+        .copied()
+        .filter(|octet| !is_blank(*octet))
+        .collect(alloc)
+}
+
+// rule: show (own) Hexadecimal is read without its blanks; other text is refused
+/// Whether an octet is a blank: a space, a tab, a line feed or a carriage return.
+pub fn is_blank(octet: u8) -> bool
+    ensures { result ≡ blank octet }
+{
+    matches!(octet, b' ' | b'\t' | b'\n' | b'\r')
+}

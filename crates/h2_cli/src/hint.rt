@@ -1,0 +1,135 @@
+//! Hints and their texts.
+
+ghost use Rattle.std.specs.Prelude.{◌≡◌, OnOk, Some};
+ghost use Rattle.std.specs.Io.KnownBytes.{Appends};
+ghost use Rattle.h2_cli.specs.Hints.{IsDueAtClient, IsDueAtServer, NamesCode, hint_text};
+ghost use Rattle.h2_cli.specs.Hints.{connect_hint, device_hint, lines_of_hint};
+
+use crate::opening::{answers_http1, asks_http1};
+use h2_frame::Code;
+use std::fmt;
+use std::io::{self, ErrorKind, Write};
+
+/// What is likely the cause of a failure. Its text is that of a line, after `hint: `.
+#[derive(Clone, Copy, Debug, PartialEq, Eq)]
+pub enum Hint {
+    /// The input is a capture of packets, and not octets of HTTP/2.
+    Capture,
+    /// The server speaks HTTP/1.1.
+    Http1Server,
+    /// The client speaks HTTP/1.1.
+    Http1Client,
+    /// The connection has failed with this code.
+    ErrorCode(Code),
+    /// Nothing listens at the port.
+    ConnectionRefused,
+    /// The peer has reset the connection of TCP.
+    ConnectionReset,
+    /// There is no way to the host, or it doesn't answer.
+    HostUnreachable,
+    /// Another program listens at the port.
+    PortInUse,
+    /// Not every user may listen at the port.
+    PortForbidden,
+    /// The host's name has no address.
+    UnknownHost,
+}
+
+impl fmt::Display for Hint {
+    ghost output = { λ hint. Some (hint_text hint) };
+
+    fn fmt<W: fmt::Write>(&self, f: &mut fmt::Formatter<W>) -> fmt::Result {
+        match *self {
+            Hint::Capture => f.write_str(
+                "the input is a capture: see its recipe in h2 show --help",
+            ),
+            Hint::Http1Server => f.write_str("the server answers in HTTP/1.1"),
+            Hint::Http1Client => f.write_str(
+                "the client asks in HTTP/1.1: try curl --http2-prior-knowledge",
+            ),
+            Hint::ErrorCode(code) => write!(f, "{} is {code}", code.number()),
+            Hint::ConnectionRefused => f.write_str(
+                "the connection was refused: nothing listens at that port",
+            ),
+            Hint::ConnectionReset => f.write_str("the peer has reset the connection"),
+            Hint::HostUnreachable => f.write_str("the host can't be reached"),
+            Hint::PortInUse => f.write_str("the port is in use"),
+            Hint::PortForbidden => f.write_str("the port needs a permission"),
+            Hint::UnknownHost => f.write_str("the host is unknown"),
+        }
+    }
+}
+
+// rule: engines (own) A hint after the line names the likely cause of N1 and N2
+/// The hint at a client whose connection has failed with the code of this number, by the first
+/// octets that the server sent: that it speaks HTTP/1.1, or else the code's name.
+pub fn hint_at_client(number: u32, first: &[u8]) -> Option<Hint>
+    ensures { IsDueAtClient number first.now result }
+{
+    if answers_http1(first) {
+        return Some(Hint::Http1Server);
+    }
+    hint_of_code(number)
+}
+
+/// The hint at a server whose connection has failed with the code of this number, by the first
+/// octets that the client sent: that it speaks HTTP/1.1, or else the code's name.
+pub fn hint_at_server(number: u32, first: &[u8]) -> Option<Hint>
+    ensures { IsDueAtServer number first.now result }
+{
+    if asks_http1(first) {
+        return Some(Hint::Http1Client);
+    }
+    hint_of_code(number)
+}
+
+// The hint that names the code of this number, if there is one.
+fn hint_of_code(number: u32) -> Option<Hint>
+    ensures { NamesCode number result }
+{
+    Code::from_number(number).map(Hint::ErrorCode)
+}
+
+/// The hint for a call of a socket that has failed with an error of this kind, if there is one.
+pub fn hint_of_device(kind: ErrorKind) -> Option<Hint>
+    ensures { result ≡ device_hint kind }
+{
+    match kind {
+        ErrorKind::ConnectionRefused => Some(Hint::ConnectionRefused),
+        ErrorKind::ConnectionReset | ErrorKind::ConnectionAborted | ErrorKind::BrokenPipe => {
+            Some(Hint::ConnectionReset)
+        }
+        ErrorKind::HostUnreachable | ErrorKind::NetworkUnreachable | ErrorKind::TimedOut => {
+            Some(Hint::HostUnreachable)
+        }
+        ErrorKind::AddrInUse => Some(Hint::PortInUse),
+        ErrorKind::PermissionDenied => Some(Hint::PortForbidden),
+        _ => None,
+    }
+}
+
+/// The hint where a host can't be connected to, for an error of this kind: as [`hint_of_device`],
+/// or that the host is unknown, which has no kind of its own.
+pub fn hint_of_connecting(kind: ErrorKind) -> Option<Hint>
+    ensures { result ≡ connect_hint kind }
+{
+    match kind {
+        ErrorKind::Uncategorized => Some(Hint::UnknownHost),
+        _ => hint_of_device(kind),
+    }
+}
+
+/// Writes the line of a hint, if there is one.
+///
+/// # Errors
+///
+/// Those of the writer.
+pub fn write_hint<W: Write>(hint: Option<Hint>, out: &mut W) -> io::Result<()>
+    ensures { OnOk result (Appends (W.contents out.old) (W.contents out.new)
+        (lines_of_hint hint)) }
+{
+    match hint {
+        Some(hint) => writeln!(out, "hint: {hint}"),
+        None => Ok(()),
+    }
+}

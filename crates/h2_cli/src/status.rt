@@ -1,0 +1,35 @@
+//! How a command ends.
+
+ghost use Rattle.std.specs.Prelude.{◌≡◌};
+ghost use Rattle.h2_cli.specs.Status.{exit_code_of};
+
+/// How a command ends.
+#[derive(Clone, Copy, Debug, PartialEq, Eq, Hash)]
+pub enum Status {
+    /// The input was used to its end, without fault, or help was printed.
+    Good,
+    /// The stream is at fault; or it is shown, and ends inside the preface, a frame or a field
+    /// block.
+    Fault,
+    /// The words of the command line are wrong, or the input isn't the hexadecimal text announced.
+    Usage,
+    /// A read or a write failed.
+    Device,
+    /// Out of memory.
+    Memory,
+}
+
+impl Status {
+    /// The number with which the program ends, 0 to 4.
+    pub fn code(self) -> u8
+        ensures { result ≡ exit_code_of self }
+    {
+        match self {
+            Status::Good => 0,
+            Status::Fault => 1,
+            Status::Usage => 2,
+            Status::Device => 3,
+            Status::Memory => 4,
+        }
+    }
+}

@@ -1,1 +1,0 @@
--- The lemmas of configurations.

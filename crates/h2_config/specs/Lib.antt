@@ -1,2 +1,0 @@
-pub mod ConfigValues
-pub mod Configs

@@ -1,0 +1,160 @@
+-- Of every log that comes about there is a machine that represents it and is bounded.
+use Rattle.h2_spec_log.specs.declared.refusal.Refusal.TheVariants.{Memory}
+use Rattle.h2_spec_log.specs.Histories.{TakesPart, TakesFrame, TakesFault, MayRunOutOfMemory}
+use Rattle.h2_laws_machine.proofs.Names.{◌≡◌, ◌+◌, ◌≤◌, true, None, ap, sym, ◌∙◌, arith, subst}
+use Rattle.h2_laws_machine.proofs.Names.{both_ways, wire_fault_code, InternalError, Role, Values}
+use Rattle.h2_laws_machine.proofs.Names.{Act, Answer, OutOfMemory, Refused, IsTypedAct, Open}
+use Rattle.h2_laws_machine.proofs.Names.{max_output, max_resets, log_view, Log, waiting}
+use Rattle.h2_laws_machine.proofs.Names.{resets_written, active_count, View, Refusal, MayAnswer}
+use Rattle.h2_laws_machine.proofs.Names.{accepts, refuses, lacks, fails, refusal_of, answer_of}
+use Rattle.h2_laws_machine.proofs.Names.{may_fail_for_memory, IsLog, begins, took_some, took_one}
+use Rattle.h2_laws_machine.proofs.Names.{met_fault, ran_out_of_memory, reported_one, called_one}
+use Rattle.h2_laws_machine.proofs.Names.{log_represents, End, end_view, close_unprocessed, new_end}
+use Rattle.h2_laws_machine.proofs.Names.{unprocessed_of_end, Represents, max_active, end_after}
+use Rattle.h2_laws_machine.specs.Bounds.{IsBounded, goaway_size}
+use Rattle.h2_laws_machine.specs.Machines.{MachineStep, uses_part, ends_frame, meets_fault}
+use Rattle.h2_laws_machine.specs.Machines.{runs_out_of_memory, reports_unprocessed, is_called}
+use Rattle.h2_laws_machine.specs.Machines.{MayStep, log_after, machine_after}
+use Rattle.h2_laws_machine.proofs.BoundsOfSteps.{call_bounded, new_bounded, frame_bounded, is_up}
+use Rattle.h2_laws_machine.proofs.BoundsOfSteps.{is_bounded, failed_bounded, ended_up}
+use Rattle.h2_laws_machine.proofs.CallLaw.{up_since}
+use Rattle.h2_laws_machine.proofs.CallRefusals.{refusal_same}
+use Rattle.h2_laws_machine.proofs.EveryStep.{steps_represent}
+use Rattle.h2_laws_machine.proofs.NewEnd.{new_represents}
+use Rattle.h2_laws_machine.proofs.WaitingOutput.{waits_much}
+
+-- After a call that isn't refused and has the answer of the rules, which is never that memory was
+-- refused.
+accepted_bounded : (e : End) (view : View) (act : Act) → refusal_of (end_view e) act ≡ None
+    → IsTypedAct act → IsBounded e → IsBounded (end_after e act (answer_of view act))
+unfolding end_after
+accepted_bounded e view (Open fields end) free typed bounded =
+    call_bounded e (Open fields end) free typed bounded
+accepted_bounded e view act free typed bounded = call_bounded e act free typed bounded
+
+-- A refused call changes nothing.
+refused_bounded : (e : End) (act : Act) (refusal : Refusal) → IsBounded e
+    → IsBounded (end_after e act (Refused refusal))
+unfolding end_after
+refused_bounded e act refusal bounded = bounded
+
+-- A call that isn't refused, and to which memory was refused so that the connection fails.
+failing_bounded : (values : Values) (e : End) (log : Log) (act : Act) → Represents values e log
+    → refusal_of (log_view log) act ≡ None → may_fail_for_memory (log_view log) act ≡ true
+    → IsBounded e
+    → IsBounded (end_after e act OutOfMemory)
+unfolding end_after may_fail_for_memory
+failing_bounded values e log act s none fails_so bounded =
+    let log_up = up_since log act (λ count same. both_ways _
+    (ap (may_fail_for_memory (log_view log)) same) fails_so) none in
+    failed_bounded e InternalError e.streams.last_processed (is_up e (s.failed ∙ log_up) bounded)
+
+-- After a call.
+asked_bounded : (values : Values) (e : End) (log : Log) (act : Act) (answer : Answer)
+    → Represents values e log → IsTypedAct act → MayAnswer log act answer → IsBounded e
+    → IsBounded (end_after e act answer)
+asked_bounded values e log act answer s typed (accepts none is) bounded =
+    subst (λ (other : Answer). IsBounded (end_after e act other)) (sym is)
+    (accepted_bounded e (log_view log) act (refusal_same values e log act s ∙ none) typed bounded)
+asked_bounded values e log act answer s typed (refuses refusal first is) bounded =
+    subst (λ (other : Answer). IsBounded (end_after e act other)) (sym is)
+    (refused_bounded e act refusal bounded)
+asked_bounded values e log act answer s typed (lacks none may is) bounded =
+    subst (λ (other : Answer). IsBounded (end_after e act other)) (sym is)
+    (refused_bounded e act Memory bounded)
+asked_bounded values e log act answer s typed (fails none may is) bounded =
+    subst (λ (other : Answer). IsBounded (end_after e act other)) (sym is)
+    (failing_bounded values e log act s none may bounded)
+
+-- A machine of a log that is bounded.
+abbrev BoundedMachine : Values → Log → Type 0
+BoundedMachine values log = (e : End) × Represents values e log × IsBounded e
+
+-- A step keeps a machine bounded.
+step_bounded : (values : Values) (e : End) (log : Log) (step : MachineStep)
+    → Represents values e log
+    → MayStep log step → IsBounded e → IsBounded (machine_after e step)
+unfolding MayStep machine_after
+step_bounded values e log (uses_part octets unparsed) s may bounded = bounded
+step_bounded values e log (ends_frame octets frame decoded) s (takes, read, sees) bounded =
+    frame_bounded e decoded frame (s.failed ∙ takes.up) bounded
+step_bounded values e log (meets_fault octets fault) s (takes, at) bounded =
+    failed_bounded e (wire_fault_code fault) e.streams.last_processed
+    (is_up e (s.failed ∙ takes.up) bounded)
+step_bounded values e log (runs_out_of_memory octets) s (up, may) bounded =
+    failed_bounded e InternalError e.streams.last_processed (is_up e (s.failed ∙ up) bounded)
+step_bounded values e log reports_unprocessed s (up, some) bounded =
+    is_bounded (close_unprocessed e (unprocessed_of_end e.role e.streams.entries e.goaway.received))
+    (ended_up e (unprocessed_of_end e.role e.streams.entries e.goaway.received) 0
+    (is_up e (s.failed ∙ up) bounded))
+step_bounded values e log (is_called act answer) s (typed, may) bounded =
+    asked_bounded values e log act answer s typed may bounded
+
+-- One more step.
+stepped : (role : Role) (values : Values) (log : Log) (step : MachineStep) → IsLog role values log
+    → (log.role ≡ role → MayStep log step) → BoundedMachine values log
+    → BoundedMachine values (log_after log step)
+stepped role values log step came may (e, s, bounded) =
+    let may_now = may (log_represents role values log came).own in (
+      machine_after e step,
+      steps_represent values e log step s may_now,
+      step_bounded values e log step s may_now bounded,
+    )
+
+-- Of every log that comes about there is a bounded machine.
+machine_of : (role : Role) (values : Values) (log : Log) → IsLog role values log
+    → BoundedMachine values log
+unfolding MayStep log_after
+machine_of role values _ (begins in_range) =
+    (new_end role values, new_represents role values in_range, new_bounded role values in_range)
+machine_of role values _ (took_some {log = log} is takes octets unparsed read) =
+    stepped role values log (uses_part octets unparsed) is
+    (λ own. (takes, subst (λ (r : Role). TakesPart r log octets unparsed) (sym own) read))
+    (machine_of role values log is)
+machine_of role values _ (took_one {log = log} is takes octets frame decoded read sees) =
+    stepped role values log (ends_frame octets frame decoded) is
+    (λ own. (takes, subst (λ (r : Role). TakesFrame r log octets frame) (sym own) read, sees))
+    (machine_of role values log is)
+machine_of role values _ (met_fault {log = log} is takes octets fault at) =
+    stepped role values log (meets_fault octets fault) is
+    (λ own. (takes, subst (λ (r : Role). TakesFault r log octets fault) (sym own) at))
+    (machine_of role values log is)
+machine_of role values _ (ran_out_of_memory {log = log} is up octets may) =
+    stepped role values log (runs_out_of_memory octets) is
+    (λ own. (up, subst (λ (r : Role). MayRunOutOfMemory r log octets) (sym own) may))
+    (machine_of role values log is)
+machine_of role values _ (reported_one {log = log} is up some) =
+    stepped role values log reports_unprocessed is (λ own. (up, some))
+    (machine_of role values log is)
+machine_of role values _ (called_one {log = log} is act answer typed may) =
+    stepped role values log (is_called act answer) is (λ own. (typed, may))
+    (machine_of role values log is)
+
+-- At most 262,144 octets wait, and a GOAWAY after a failure.
+pub few_wait : (role : Role) (values : Values) (log : Log) → IsLog role values log
+    → waiting log ≤ max_output + goaway_size
+few_wait role values log is =
+    let (e, s, bounded) = machine_of role values log is in
+    omega (arith, bounded.output, waits_much e log s.output)
+
+-- At most 262,144 octets wait as long as the connection hasn't failed.
+pub few_wait_while_up : (role : Role) (values : Values) (log : Log) → IsLog role values log
+    → log.failed ≡ None → waiting log ≤ max_output
+few_wait_while_up role values log is up =
+    let (e, s, bounded) = machine_of role values log is in
+    omega (arith, bounded.up (s.failed ∙ up), waits_much e log s.output)
+
+-- At most 1,000 RST_STREAM were sent.
+pub few_resets : (role : Role) (values : Values) (log : Log) → IsLog role values log
+    → resets_written log ≤ max_resets
+few_resets role values log is =
+    let (e, s, bounded) = machine_of role values log is in
+    omega (arith, bounded.resets, s.streams.resets)
+
+-- At most 1,000 streams are active.
+pub few_active : (role : Role) (values : Values) (log : Log) → IsLog role values log
+    → active_count log ≤ max_active
+unfolding active_count
+few_active role values log is =
+    let (e, s, bounded) = machine_of role values log is in
+    omega (arith, bounded.active_count, s.streams.active_count)

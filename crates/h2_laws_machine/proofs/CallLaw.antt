@@ -1,0 +1,178 @@
+-- After each call an end represents its log.
+use Rattle.h2_spec_log.specs.declared.refusal.Refusal.TheVariants.{Memory}
+use Rattle.h2_laws_log.proofs.AllowedHistories.{wrote_settings}
+use Rattle.h2_laws_log.proofs.InvariantSends.{client_since}
+use Rattle.h2_laws_log.proofs.CallConditions.{first_none, none_holds}
+use Rattle.h2_laws_log.proofs.LogViewLemmas.{open_out}
+use Rattle.h2_laws_machine.proofs.Names.{◌≡◌, ℕ, ◌%◌, ◌≤◌, ◌<◌, Bool, true, if◌then◌else◌, List}
+use Rattle.h2_laws_machine.proofs.Names.{None, refl, sym, ap, subst, ◌∙◌, Field, both_ways}
+use Rattle.h2_laws_machine.proofs.Names.{or_parts, log_view, one_ping, total, greatest_block}
+use Rattle.h2_laws_machine.proofs.Names.{one_pong, reported_total, Values, Act, Answer, IsTypedAct}
+use Rattle.h2_laws_machine.proofs.Names.{Open, SendFields, SendData, Release, ResetStream, Refuse}
+use Rattle.h2_laws_machine.proofs.Names.{SendPing, SendGoAway, PutOut, ChangeSettings, Number}
+use Rattle.h2_laws_machine.proofs.Names.{OutOfMemory, Refused, is_server, settings_count, Log}
+use Rattle.h2_laws_machine.proofs.Names.{acked, active, last_processed, next_number, conditions}
+use Rattle.h2_laws_machine.proofs.Names.{refusal_of, answer_of, may_fail_for_memory, MayAnswer}
+use Rattle.h2_laws_machine.proofs.Names.{accepts, refuses, lacks, fails, with_call, End, after_call}
+use Rattle.h2_laws_machine.proofs.Names.{Represents, Role, Client, Server, Refusal, end_after}
+use Rattle.h2_laws_machine.proofs.Names.{log_represents, next_odd, none_since, stream_is_active}
+use Rattle.h2_laws_machine.proofs.CallFailing.{refused_represents, out_of_memory_represents}
+use Rattle.h2_laws_machine.proofs.CallFailing.{refuse_represents}
+use Rattle.h2_laws_machine.proofs.CallOpen.{IsClear, open_up}
+use Rattle.h2_laws_machine.proofs.CallRefusals.{refusal_same}
+use Rattle.h2_laws_machine.proofs.CallRelease.{release_up}
+use Rattle.h2_laws_machine.proofs.CallReset.{reset_call_up}
+use Rattle.h2_laws_machine.proofs.CallSend.{fields_up, data_up}
+use Rattle.h2_laws_machine.proofs.CallWithoutStream.{ping_up, goaway_up, settings_up}
+use Rattle.h2_laws_machine.proofs.CallWithoutStream.{put_out_represents}
+use Rattle.h2_laws_machine.proofs.LogCore.{core}
+use Rattle.h2_laws_machine.proofs.RepresentedSteps.{Up, up_of, represents_after}
+
+-- What a log that hasn't failed has, besides.
+pub record IsSound (log : Log) : Type 0 where
+  pub acks : acked log ≤ settings_count log.sent
+  pub pongs : reported_total one_pong log.reported ≤ total one_ping log.sent
+  pub processed : is_server log.role ≡ true → (i : ℕ) → active log i ≡ true
+      → i ≤ last_processed log
+  pub clear : log.role ≡ Client → (i : ℕ) → greatest_block log.sent < i → IsClear (core log) i
+
+-- A log that refuses no call, other than one that puts output out, hasn't failed.
+pub up_since : (log : Log) (act : Act) → ((count : ℕ) → act ≡ PutOut count → ⊥)
+    → refusal_of (log_view log) act ≡ None → log.failed ≡ None
+unfolding conditions
+up_since log (PutOut count) other none = absurd (other count refl)
+up_since log act other none = none_since log.failed (first_none _ _ _ none).0
+
+-- the next number of a client
+next_of_client : (role : Role) (n : ℕ) → role ≡ Client → (if is_server role then 0 else n) ≡ n
+next_of_client Client n is = refl
+next_of_client Server n is = cc
+
+-- A stream is opened by a client, with a number that has nothing yet.
+opened_up : (values : Values) (e : End) (log : Log) (fields : List Field) (end : Bool)
+    → Represents values e log
+    → log.role ≡ Client → IsSound log → Up e log
+    → Up (after_call e (Open fields end))
+    (with_call log (Open fields end) (Number (log_view log).next_number))
+opened_up values e log fields end represents client sound up =
+    let written = (log_represents e.role values log represents.came).with_sent in
+    let next = next_odd log written in
+    let same : (log_view log).next_number ≡ next_number log =
+    next_of_client log.role (next_number log) client in
+    let odd : (log_view log).next_number % 2 ≡ 1 = subst (λ (n : ℕ). n % 2 ≡ 1) (sym same) next.0 in
+    let above : greatest_block log.sent < (log_view log).next_number =
+    subst (λ (n : ℕ). greatest_block log.sent < n) (sym same) next.1 in
+    open_up e log fields end client odd above (sound.clear client (log_view log).next_number above)
+    up
+
+-- After a call that is accepted, and that neither puts out output nor refuses a stream, an end that
+-- is up represents its log.
+call_up : (values : Values) (e : End) (log : Log) (act : Act) → Represents values e log
+    → refusal_of (log_view log) act ≡ None → IsSound log → ((count : ℕ) → act ≡ PutOut count → ⊥)
+    → ((id code : ℕ) → act ≡ Refuse id code → ⊥) → Up e log
+    → Up (after_call e act) (with_call log act (answer_of (log_view log) act))
+unfolding conditions
+call_up values e log (Open fields end) represents none sound no_put no_refuse up =
+    let holds = none_holds _ none in
+    let server = or_parts (is_server log.role) _ holds.1.1.0 in
+    opened_up values e log fields end represents (client_since log.role server.0) sound up
+call_up values e log (SendFields id fields end) represents none sound no_put no_refuse up =
+    let holds = none_holds _ none in
+    let active = stream_is_active log id holds.1.0 in
+    fields_up e log id fields end active (open_out log id active holds.1.1.0) up
+call_up values e log (SendData id octets end) represents none sound no_put no_refuse up =
+    let holds = none_holds _ none in
+    let active = stream_is_active log id holds.1.0 in
+    data_up e log id octets end active (open_out log id active holds.1.1.0) up
+call_up values e log (Release id count) represents none sound no_put no_refuse up =
+    let holds = none_holds _ none in
+    release_up e log id count (stream_is_active log id holds.1.0) up
+call_up values e log (ResetStream id code) represents none sound no_put no_refuse up =
+    let holds = none_holds _ none in
+    reset_call_up e log id code (stream_is_active log id holds.1.0) up
+call_up values e log (Refuse id code) represents none sound no_put no_refuse up =
+    absurd (no_refuse id code refl)
+call_up values e log (SendPing octets) represents none sound no_put no_refuse up =
+    ping_up e log octets sound.pongs up
+call_up values e log SendGoAway represents none sound no_put no_refuse up =
+    goaway_up e log sound.processed up
+call_up values e log (PutOut count) represents none sound no_put no_refuse up =
+    absurd (no_put count refl)
+call_up values e log (ChangeSettings others) represents none sound no_put no_refuse up =
+    let written = (log_represents e.role values log represents.came).with_sent in
+    settings_up e log others sound.acks (wrote_settings log.role log.received log.sent written) up
+
+-- the answer of the rules to a call
+abbrev answer_by : Log → Act → Answer
+answer_by log act = answer_of (log_view log) act
+
+-- After such a call an end represents its log.
+plain_law : (values : Values) (e : End) (log : Log) (act : Act) → Represents values e log
+    → IsTypedAct act
+    → MayAnswer log act (answer_by log act) → refusal_of (log_view log) act ≡ None
+    → (log.failed ≡ None → IsSound log)
+    → ((count : ℕ) → act ≡ PutOut count → ⊥) → ((id code : ℕ) → act ≡ Refuse id code → ⊥)
+    → Represents values (after_call e act) (with_call log act (answer_by log act))
+plain_law values e log act represents typed may none sound no_put no_refuse =
+    let log_up = up_since log act no_put none in
+    let up = up_of values e log represents (represents.failed ∙ log_up) in
+    represents_after values e log act (answer_by log act) represents typed may
+    (refusal_same values e log act represents ∙ none)
+    (call_up values e log act represents none (sound log_up) no_put no_refuse up)
+
+-- After each call that is accepted it does.
+accepted_law : (values : Values) (e : End) (log : Log) (act : Act) → Represents values e log
+    → IsTypedAct act
+    → MayAnswer log act (answer_by log act) → refusal_of (log_view log) act ≡ None
+    → (log.failed ≡ None → IsSound log)
+    → Represents values (end_after e act (answer_by log act))
+    (with_call log act (answer_by log act))
+unfolding end_after
+accepted_law values e log (Refuse id code) represents typed may none sound =
+    let log_up = up_since log (Refuse id code) (λ count same. cc) none in
+    refuse_represents values e log id code represents typed may
+    (refusal_same values e log (Refuse id code) represents ∙ none) none (represents.failed ∙ log_up)
+accepted_law values e log (PutOut count) represents typed may none sound = put_out_represents values
+    e log count represents typed may
+accepted_law values e log act represents typed may none sound =
+    plain_law values e log act represents typed may none sound (λ count same. cc)
+    (λ id code same. cc)
+
+-- After a call that is refused it does.
+refused_law : (values : Values) (e : End) (log : Log) (act : Act) (refusal : Refusal)
+    → Represents values e log → IsTypedAct act
+    → MayAnswer log act (Refused refusal)
+    → Represents values (end_after e act (Refused refusal)) (with_call log act (Refused refusal))
+unfolding end_after
+refused_law values e log act refusal represents typed may = refused_represents values e log act
+    refusal represents typed may
+
+-- After a call in which an allocation was refused, and by which the connection fails, it does.
+failing_law : (values : Values) (e : End) (log : Log) (act : Act) → Represents values e log
+    → IsTypedAct act
+    → MayAnswer log act OutOfMemory → refusal_of (log_view log) act ≡ None
+    → may_fail_for_memory (log_view log) act ≡ true
+    → Represents values (end_after e act OutOfMemory) (with_call log act OutOfMemory)
+unfolding end_after may_fail_for_memory
+failing_law values e log act represents typed may none fails_so =
+    let log_up = up_since log act (λ count same. both_ways _
+    (ap (may_fail_for_memory (log_view log)) same) fails_so) none in
+    out_of_memory_represents values e log act represents typed may (represents.failed ∙ log_up)
+
+-- After each call an end represents its log, if that is sound.
+pub call_law : (values : Values) (e : End) (log : Log) (act : Act) (answer : Answer)
+    → (log.failed ≡ None → IsSound log)
+    → Represents values e log → IsTypedAct act → MayAnswer log act answer
+    → Represents values (end_after e act answer) (with_call log act answer)
+call_law values e log act answer sound represents typed (accepts none is) =
+    subst (λ (a : Answer). Represents values (end_after e act a) (with_call log act a)) (sym is)
+    (accepted_law values e log act represents typed (accepts none refl) none sound)
+call_law values e log act answer sound represents typed (refuses refusal why is) =
+    subst (λ (a : Answer). Represents values (end_after e act a) (with_call log act a)) (sym is)
+    (refused_law values e log act refusal represents typed (refuses refusal why refl))
+call_law values e log act answer sound represents typed (lacks none may is) =
+    subst (λ (a : Answer). Represents values (end_after e act a) (with_call log act a)) (sym is)
+    (refused_law values e log act Memory represents typed (lacks none may refl))
+call_law values e log act answer sound represents typed (fails none may is) =
+    subst (λ (a : Answer). Represents values (end_after e act a) (with_call log act a)) (sym is)
+    (failing_law values e log act represents typed (fails none may refl) none may)

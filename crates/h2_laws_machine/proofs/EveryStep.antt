@@ -1,0 +1,90 @@
+-- After every step that a log may take a machine that represents it represents the log after it.
+use Rattle.h2_spec_log.specs.Histories.{TakesOctets, TakesPart, TakesFrame, TakesFault}
+use Rattle.h2_spec_log.specs.Histories.{MayRunOutOfMemory, IsDecodedFor}
+use Rattle.h2_laws_machine.proofs.Names.{◌≡◌, ℕ, List, Option, sym, subst, Frame, Role, Values}
+use Rattle.h2_laws_machine.proofs.Names.{Decoded, Log, took_frame, took_none, IsLog, begins}
+use Rattle.h2_laws_machine.proofs.Names.{took_some, took_one, met_fault, ran_out_of_memory}
+use Rattle.h2_laws_machine.proofs.Names.{reported_one, called_one, End, new_end, after_frame}
+use Rattle.h2_laws_machine.proofs.Names.{close_unprocessed, Represents, log_represents}
+use Rattle.h2_laws_machine.specs.Machines.{MachineStep, uses_part, ends_frame, meets_fault}
+use Rattle.h2_laws_machine.specs.Machines.{runs_out_of_memory, reports_unprocessed, is_called}
+use Rattle.h2_laws_machine.specs.Machines.{MayStep, log_after, machine_after}
+use Rattle.h2_laws_machine.proofs.FreshNumbers.{calls_represent}
+use Rattle.h2_laws_machine.proofs.NewEnd.{new_represents}
+use Rattle.h2_laws_machine.proofs.NextUnprocessed.{next_same}
+use Rattle.h2_laws_machine.proofs.RecvFrames.{frame_represents}
+use Rattle.h2_laws_machine.proofs.RecvUnprocessed.{unprocessed_represents}
+use Rattle.h2_laws_machine.proofs.RecvWithoutFrame.{part_represents, fault_represents}
+use Rattle.h2_laws_machine.proofs.RecvWithoutFrame.{out_of_memory_represents}
+use Rattle.h2_laws_machine.proofs.SoundLogs.{sound_log}
+
+-- After a frame a machine represents the log with it.
+pub frames_represent : (values : Values) (e : End) (log : Log) (octets : List ℕ) (frame : Frame)
+    (decoded : Option Decoded) → Represents values e log → TakesOctets log
+    → TakesFrame log.role log octets frame → IsDecodedFor log decoded frame
+    → Represents values (after_frame e decoded frame) (took_frame log octets decoded frame)
+frames_represent values e log octets frame decoded s takes read sees =
+    frame_represents values e log octets frame decoded (sound_log e.role values log s.came takes.up)
+    s takes read sees
+
+-- After every step a machine represents the log with it.
+pub steps_represent : (values : Values) (e : End) (log : Log) (step : MachineStep)
+    → Represents values e log → MayStep log step
+    → Represents values (machine_after e step) (log_after log step)
+unfolding MayStep log_after machine_after
+steps_represent values e log (uses_part octets unparsed) s (takes, part) =
+    part_represents values e log octets unparsed s takes part
+steps_represent values e log (ends_frame octets frame decoded) s (takes, read, sees) =
+    frames_represent values e log octets frame decoded s takes read sees
+steps_represent values e log (meets_fault octets fault) s (takes, at) =
+    fault_represents values e log octets fault s takes at
+steps_represent values e log (runs_out_of_memory octets) s (up, may) =
+    out_of_memory_represents values e log octets s up may
+steps_represent values e log reports_unprocessed s (up, some) =
+    subst (λ (i : ℕ). Represents values (close_unprocessed e i) (took_none log))
+    (sym (next_same values e log s up)) (unprocessed_represents values e log s up some)
+steps_represent values e log (is_called act answer) s (typed, may) =
+    calls_represent values e log act answer s typed may
+
+-- A machine that represents a log.
+abbrev HasMachine : Values → Log → Type 0
+HasMachine values log = (e : End) × Represents values e log
+
+-- A step leads from a machine that represents a log to one.
+stepped : (role : Role) (values : Values) (log : Log) (step : MachineStep) → IsLog role values log
+    → (log.role ≡ role → MayStep log step) → HasMachine values log
+    → HasMachine values (log_after log step)
+stepped role values log step came may (e, s) = (
+  machine_after e step,
+  steps_represent values e log step s
+      (may (log_represents role values log came).own),
+)
+
+-- Of each log that comes about there is a machine that represents it.
+pub every_log_has_machine : (role : Role) (values : Values) (log : Log) → IsLog role values log
+    → HasMachine values log
+unfolding MayStep log_after
+every_log_has_machine role values _ (begins in_range) =
+    (new_end role values, new_represents role values in_range)
+every_log_has_machine role values _ (took_some {log = log} is takes octets unparsed read) =
+    stepped role values log (uses_part octets unparsed) is
+    (λ own. (takes, subst (λ (r : Role). TakesPart r log octets unparsed) (sym own) read))
+    (every_log_has_machine role values log is)
+every_log_has_machine role values _ (took_one {log = log} is takes octets frame decoded read sees) =
+    stepped role values log (ends_frame octets frame decoded) is
+    (λ own. (takes, subst (λ (r : Role). TakesFrame r log octets frame) (sym own) read, sees))
+    (every_log_has_machine role values log is)
+every_log_has_machine role values _ (met_fault {log = log} is takes octets fault at) =
+    stepped role values log (meets_fault octets fault) is
+    (λ own. (takes, subst (λ (r : Role). TakesFault r log octets fault) (sym own) at))
+    (every_log_has_machine role values log is)
+every_log_has_machine role values _ (ran_out_of_memory {log = log} is up octets may) =
+    stepped role values log (runs_out_of_memory octets) is
+    (λ own. (up, subst (λ (r : Role). MayRunOutOfMemory r log octets) (sym own) may))
+    (every_log_has_machine role values log is)
+every_log_has_machine role values _ (reported_one {log = log} is up some) =
+    stepped role values log reports_unprocessed is (λ own. (up, some))
+    (every_log_has_machine role values log is)
+every_log_has_machine role values _ (called_one {log = log} is act answer typed may) =
+    stepped role values log (is_called act answer) is (λ own. (typed, may))
+    (every_log_has_machine role values log is)

@@ -1,0 +1,10 @@
+-- By the lemma on either direction.
+use Rattle.h2_laws_pair.proofs.BothWays.{to_server, to_client}
+use Rattle.h2_laws_pair.proofs.CarriedOctets.{carried}
+use Rattle.h2_laws_pair.proofs.carried.octets_are_carried.Goals as goal
+
+pub returns-clause-to_server : goal.returns-clause-to_server
+returns-clause-to_server c = λ _ _ client server is. carried client server (to_server is)
+
+pub returns-clause-to_client : goal.returns-clause-to_client
+returns-clause-to_client c = λ _ _ client server is. carried server client (to_client is)

@@ -1,4 +1,0 @@
-pub mod EmptyLists
-pub mod HostBrackets
-pub mod Names
-pub mod examples

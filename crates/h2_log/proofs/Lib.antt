@@ -1,6 +1,0 @@
-pub mod Computing
-pub mod StreamLemmas
-pub mod DataFrames
-pub mod EncodingLemmas
-pub mod SentPayloads
-pub mod examples

@@ -1,6 +1,0 @@
--- By the lemma on WINDOW_UPDATE of the connection.
-use Rattle.h2_log_laws.proofs.AcceptedItems.{connection_update_lem}
-use Rattle.h2_log_laws.proofs.accepts.connection_update_is_no_fault.Goals as goal
-
-pub returns : goal.returns
-returns c = connection_update_lem

@@ -1,6 +1,0 @@
--- By the lemma on DATA.
-use Rattle.h2_log_laws.proofs.AcceptedItems.{data_lem}
-use Rattle.h2_log_laws.proofs.accepts.data_is_no_fault.Goals as goal
-
-pub returns : goal.returns
-returns c = data_lem

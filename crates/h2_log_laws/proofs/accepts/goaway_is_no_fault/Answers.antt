@@ -1,6 +1,0 @@
--- By the lemma on GOAWAY.
-use Rattle.h2_log_laws.proofs.AcceptedItems.{goaway_lem}
-use Rattle.h2_log_laws.proofs.accepts.goaway_is_no_fault.Goals as goal
-
-pub returns : goal.returns
-returns c = goaway_lem

@@ -1,6 +1,0 @@
--- By the lemma on PING.
-use Rattle.h2_log_laws.proofs.AcceptedItems.{ping_lem}
-use Rattle.h2_log_laws.proofs.accepts.ping_is_no_fault.Goals as goal
-
-pub returns : goal.returns
-returns c = ping_lem

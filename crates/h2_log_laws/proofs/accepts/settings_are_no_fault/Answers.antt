@@ -1,6 +1,0 @@
--- By the lemma on changed SETTINGS.
-use Rattle.h2_log_laws.proofs.AcceptedSettings.{settings_lem}
-use Rattle.h2_log_laws.proofs.accepts.settings_are_no_fault.Goals as goal
-
-pub returns : goal.returns
-returns c = settings_lem

@@ -1,6 +1,0 @@
--- By the lemma on what stands of every log.
-use Rattle.h2_log_laws.proofs.InvariantLogs.{written_is_allowed}
-use Rattle.h2_log_laws.proofs.origins.what_is_written_is_allowed.Goals as goal
-
-pub returns : goal.returns
-returns c = written_is_allowed

@@ -1,6 +1,0 @@
--- By the lemma on frame sizes.
-use Rattle.h2_log_laws.proofs.FrameSizes.{sent_payload_fits}
-use Rattle.h2_log_laws.proofs.output.payload_fits.Goals as goal
-
-pub returns : goal.returns
-returns c = sent_payload_fits

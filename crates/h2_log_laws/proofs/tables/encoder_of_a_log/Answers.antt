@@ -1,6 +1,0 @@
--- By the lemma on the encoder of every log.
-use Rattle.h2_log_laws.proofs.EncoderOfLogs.{encoder_is_limited}
-use Rattle.h2_log_laws.proofs.tables.encoder_of_a_log.Goals as goal
-
-pub returns : goal.returns
-returns c = encoder_is_limited

@@ -1,6 +1,0 @@
--- By the lemma on values that were read.
-use Rattle.h2_log_laws.proofs.SettingsLists.{limits_lem}
-use Rattle.h2_log_laws.proofs.tables.limits_agree.Goals as goal
-
-pub returns : goal.returns
-returns c = limits_lem

@@ -1,6 +1,0 @@
--- By the lemma on a stream's window.
-use Rattle.h2_log_laws.proofs.WindowsOfTwoEnds.{stream_meets, stream_meets_read}
-use Rattle.h2_log_laws.proofs.windows.stream_window_meets.Goals as goal
-
-pub returns : goal.returns
-returns c = record { read = stream_meets_read; in_force = stream_meets }

@@ -1,6 +1,0 @@
--- By the lemma on what is owed and the connection's window.
-use Rattle.h2_machine_laws.proofs.OwedOnStreams.{window_of_a_log}
-use Rattle.h2_machine_laws.proofs.windows.connection_window_of_a_log.Goals as goal
-
-pub returns : goal.returns
-returns c = window_of_a_log

@@ -1,0 +1,11 @@
+pub mod EmptyLists
+mod HeldLemmas
+pub mod HostBrackets
+pub mod Names
+mod PostedRequest
+mod PostingLemmas
+pub mod Printing
+mod ReadingLemmas
+pub mod SendingLemmas
+mod ServingLemmas
+pub mod examples

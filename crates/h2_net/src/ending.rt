@@ -1,0 +1,88 @@
+//! How a command over sockets ends.
+
+ghost use Rattle.std.specs.Prelude.{◌≡◌};
+ghost use Rattle.h2_net.specs.Endings.{IsClientHint, IsServerHint, link_hint, status_with};
+
+use h2_cli::{Hint, Status, hint_at_client, hint_at_server, hint_of_device, write_hint};
+use h2_engines::LinkError;
+use std::io::{ErrorKind, Write};
+
+/// How a connection has ended early, and what is likely the cause.
+#[derive(Clone, Copy, Debug, PartialEq, Eq)]
+pub struct Ending {
+    /// How it has ended.
+    pub error: LinkError,
+    /// What is likely the cause, where it is known.
+    pub hint: Option<Hint>,
+}
+
+// rule: engines (own) N1 to N7 end a command with their statuses
+/// The status of a command whose connection has ended so: [`Status::Device`] for
+/// [`LinkError::Device`] (N1) and [`LinkError::NoProgress`] (N5), [`Status::Fault`] for
+/// [`LinkError::Stream`] (N2), [`LinkError::CutOff`] (N4) and [`LinkError::Reset`] (N6),
+/// [`Status::Memory`] for [`LinkError::Memory`] (N3), and [`Status::Usage`] for
+/// [`LinkError::Refused`] (N7).
+pub fn status_of(error: LinkError) -> Status
+    ensures { result ≡ status_with error }
+{
+    match error {
+        LinkError::Device | LinkError::NoProgress => Status::Device,
+        LinkError::Stream(_) | LinkError::CutOff | LinkError::Reset(_) => Status::Fault,
+        LinkError::Memory => Status::Memory,
+        LinkError::Refused => Status::Usage,
+    }
+}
+
+// rule: engines (own) N1 to N7 end a command with their statuses
+/// Prints on standard error how a connection has ended, and then the hint, and answers the status.
+pub fn report<E: Write>(ending: Ending, err: &mut E) -> Status
+    ensures { result ≡ status_with ending.error }
+{
+    // There is no place left to report that these writes fail.
+    let _ = writeln!(err, "{}", ending.error);
+    let _ = write_hint(ending.hint, err);
+    status_of(ending.error)
+}
+
+// rule: engines (own) A hint after the line names the likely cause of N1 and N2
+// contract: engines (own) A hint after the line names the likely cause of N1 and N2
+// The hint at a client whose connection has ended so, by the first octets that it read and the last
+// error of its link.
+pub(crate) fn client_hint(
+    error: LinkError,
+    first: &[u8],
+    last_error: Option<ErrorKind>,
+) -> Option<Hint>
+    ensures { IsClientHint error first.now last_error result }
+{
+    match error {
+        LinkError::Stream(code) => hint_at_client(code, first),
+        LinkError::Device => link_hint(last_error),
+        _ => None,
+    }
+}
+
+// The same at a server.
+pub(crate) fn server_hint(
+    error: LinkError,
+    first: &[u8],
+    last_error: Option<ErrorKind>,
+) -> Option<Hint>
+    ensures { IsServerHint error first.now last_error result }
+{
+    match error {
+        LinkError::Stream(code) => hint_at_server(code, first),
+        LinkError::Device => link_hint(last_error),
+        _ => None,
+    }
+}
+
+// The hint for the last error of a link.
+fn link_hint(last_error: Option<ErrorKind>) -> Option<Hint>
+    ensures { result ≡ link_hint last_error }
+{
+    match last_error {
+        Some(kind) => hint_of_device(kind),
+        None => None,
+    }
+}

@@ -1,0 +1,204 @@
+//! Fetching the response to a GET.
+
+ghost use Rattle.std.specs.Prelude.{◌≡◌, ◌<◌, ◌-◌, ◌^◌, IfOk, OnOk, option_map, nat_lt};
+ghost use Rattle.std.specs.Prelude.{◌&&◌, ◌⊎◌, None, [], if◌then◌else◌, IfErr, List, Option, ℕ};
+ghost use Rattle.std.specs.Prelude.{string_bytes};
+ghost use Rattle.std.specs.Io.KnownBytes.{Appends};
+ghost use Rattle.std.specs.declared.io.ErrorKind.{ErrorKind};
+ghost use Rattle.http.specs.StatusCode.{reason_phrase};
+ghost use Rattle.h2_message.specs.Fields.{status_of};
+ghost use Rattle.h2_message.specs.Values.{message_value};
+ghost use Rattle.h2_engines.specs.Failures.{failures_at_end};
+ghost use Rattle.h2_engines.specs.Linked.{traffic};
+ghost use Rattle.h2_net.specs.Endings.{HasClientHint, IsClientHint, without_hint};
+ghost use Rattle.h2_net.specs.Fetching.{FetchesLocation, GetsLocation, get_request};
+ghost use Rattle.h2_net.specs.Printing.{IsPhraseOf, PrintsResponse, status_line};
+
+use crate::ending::{Ending, client_hint};
+use crate::location::Location;
+use crate::stream_link::StreamLink;
+use h2_cli::hint_of_connecting;
+use h2_engines::{Config, Fetched, Field, Link, LinkError, Message, fetch_link};
+use http::StatusCode;
+use std::alloc::{AllocError, Global};
+use std::io::{self, Read, Write};
+use std::net::{Net, OpenStream, TcpStream};
+
+// rule: engines (own) A URL is asked for with GET
+// contract: engines (own) A hint after the line names the likely cause of N1 and N2
+/// Asks for a location with GET over a new connection, and answers its response once that is whole.
+/// A host's name is looked up by the network.
+///
+/// # Errors
+///
+/// [`LinkError::Device`] (N1) also where no connection can be made; else as [`fetch_link`]. The
+/// hint says what is likely the cause of [`LinkError::Device`] (N1) and [`LinkError::Stream`] (N2).
+pub fn get_location<N: Net>(net: &N, alloc: Global, location: &Location) -> Result<Fetched, Ending>
+    ensures gets { GetsLocation location.now (without_hint result) }
+    ensures hint { IfErr result HasClientHint }
+{
+    let stream = match TcpStream::connect(net, address_of(location)) {
+        Ok(stream) => stream,
+        Err(fault) => {
+            return Err(Ending {
+                error: LinkError::Device,
+                hint: hint_of_connecting(fault.kind()),
+            });
+        }
+    };
+    match StreamLink::new(alloc, stream) {
+        Ok(mut link) => get_with_hint(alloc, &mut link, location),
+        Err(error) => Err(Ending { error, hint: None }),
+    }
+}
+
+// rule: engines (own) A URL is asked for with GET
+/// The host and the port of a location.
+fn address_of(location: &Location) -> (&str, u16)
+    ensures host { result.0.now ≡ string_bytes location.now.host }
+    ensures port { result.1 ≡ location.now.port }
+{
+    (location.host.as_str(), location.port)
+}
+
+/// Asks over a link, as [`get_over`] does, and sends all that is held for it. Where the fetch fails
+/// the hint says what is likely the cause.
+fn get_with_hint<S: Read + Write + OpenStream>(
+    alloc: Global,
+    link: &mut StreamLink<S>,
+    location: &Location,
+) -> Result<Fetched, Ending>
+    requires { link.old.failures ≡ 0 }
+    ensures gets { GetsLocation location.now (without_hint result) }
+    ensures sent { (link.new.held.items ≡ []) ⊎ (link.old.failures < link.new.failures) }
+    ensures hint { IfErr result (λ ending. (last_error : Option ErrorKind)
+        × IsClientHint ending.error link.new.first.items last_error ending.hint) }
+{
+    let fetched = get_over(alloc, link, location);
+    let last_error = link.last_error();
+    // A GOAWAY may be held. That it can't be sent changes nothing of what was fetched.
+    let _ = link.flush();
+    match fetched {
+        Ok(fetched) => Ok(fetched),
+        Err(error) => Err(Ending {
+            error,
+            hint: client_hint(error, link.first_octets(), last_error),
+        }),
+    }
+}
+
+// rule: engines (own) A URL is asked for with GET
+/// Asks for a location with GET over a link, and answers its response once that is whole.
+///
+/// # Errors
+///
+/// As [`fetch_link`].
+pub fn get_over<L: Link>(
+    alloc: Global,
+    link: &mut L,
+    location: &Location,
+) -> Result<Fetched, LinkError>
+    requires { L.faults link.old < 2 ^ 64 - 1 }
+    ensures fetches { FetchesLocation location.now
+        (traffic (L.given link.old) (L.taken link.old) (L.stalled link.old))
+        (traffic (L.given link.new) (L.taken link.new) (L.stalled link.new)) result }
+    ensures failures { L.faults link.new ≡ failures_at_end (L.faults link.old) result }
+{
+    match request_to(alloc, location) {
+        Ok(message) => fetch_link(alloc, link, Config::default(), message),
+        Err(_) => Err(LinkError::Memory),
+    }
+}
+
+// rule: engines (own) A URL is asked for with GET
+/// The request for a location.
+fn request_to(alloc: Global, location: &Location) -> Result<Message, AllocError>
+    ensures { IfOk result (λ message. message_value message ≡ get_request location.now) }
+{
+    let path = location.path.as_bytes();
+    let authority = location.authority.as_bytes();
+    let mut head = Vec::new(alloc);
+    head.push(Field::copy_of(alloc, b":method", b"GET", false)?)?;
+    head.push(Field::copy_of(alloc, b":scheme", b"http", false)?)?;
+    head.push(Field::copy_of(alloc, b":path", path, false)?)?;
+    head.push(Field::copy_of(alloc, b":authority", authority, false)?)?;
+    Ok(Message {
+        head,
+        body: Vec::new(alloc),
+        trailers: None,
+    })
+}
+
+// rule: engines (own) A response is printed as its status, its phrase and its body
+/// Prints the status of a response and its phrase on one line, the status alone where it has none,
+/// and then the octets of the body as they are.
+///
+/// # Errors
+///
+/// [`LinkError::Device`] (N1) where a write failed.
+pub fn print_response<W: Write>(fetched: &Fetched, out: &mut W) -> Result<(), LinkError>
+    ensures prints { OnOk result
+        (PrintsResponse (W.contents out.old) (W.contents out.new) fetched.now) }
+    ensures err { IfErr result (λ error. error ≡ LinkError.Device) }
+{
+    match write_response(fetched, out) {
+        Ok(()) => Ok(()),
+        Err(_) => Err(LinkError::Device),
+    }
+}
+
+fn write_response<W: Write>(fetched: &Fetched, out: &mut W) -> io::Result<()>
+    ensures { OnOk result (PrintsResponse (W.contents out.old) (W.contents out.new) fetched.now) }
+{
+    write_status(status_value(&fetched.head), out)?;
+    out.write_all(&fetched.body)?;
+    out.flush()
+}
+
+// rule: engines (own) A response is printed as its status, its phrase and its body
+/// The phrase of a status (RFC 9110, section 15), if it has one.
+pub fn phrase(status: u16) -> Option<&'static str>
+    ensures { option_map (λ text. text.now) result
+        ≡ (if nat_lt 99 status && nat_lt status 1000 then reason_phrase status else None) }
+{
+    match StatusCode::from_u16(status) {
+        Ok(status) => status.canonical_reason(),
+        Err(_) => None,
+    }
+}
+
+// rule: engines (own) A response is printed as its status, its phrase and its body
+/// Writes a status and its phrase as a line.
+fn write_status<W: Write>(value: &[u8], out: &mut W) -> io::Result<()>
+    ensures { OnOk result ((phrase : Option (List ℕ)) × IsPhraseOf value.now phrase
+        × Appends (W.contents out.old) (W.contents out.new) (status_line value.now phrase)) }
+{
+    out.write_all(value)?;
+    match phrase_of(value) {
+        Some(phrase) => writeln!(out, " {phrase}"),
+        None => writeln!(out),
+    }
+}
+
+// rule: engines (own) A response is printed as its status, its phrase and its body
+/// The phrase of the status with these digits, if it has one.
+fn phrase_of(value: &[u8]) -> Option<&'static str>
+    ensures { IsPhraseOf value.now (option_map (λ text. text.now) result) }
+{
+    match StatusCode::from_bytes(value) {
+        Ok(status) => status.canonical_reason(),
+        Err(_) => None,
+    }
+}
+
+/// The value of `:status`, which each response has (RFC 9113, section 8.3.2).
+pub(crate) fn status_value(head: &[Field]) -> &[u8]
+    ensures { result.now ≡ status_of head.now }
+{
+    for field in head {
+        if field.name.as_slice() == b":status".as_slice() {
+            return field.value.as_slice();
+        }
+    }
+    &[]
+}

@@ -1,0 +1,27 @@
+//! HTTP/2 over sockets of TCP, cleartext and with prior knowledge (RFC 9113, section 3.3): a server
+//! of one connection at a time, a client that fetches one response, and both ends in one process.
+//!
+//! [`StreamLink`] is a link over a TCP stream: it holds what it is given to write, and sends it
+//! before it reads. [`target`] reads a URL of the scheme `http` that can be fetched (RFC 9110,
+//! section 4.2.1).
+//!
+//! What serves and what fetches takes the network as a [`std::net::Net`], and the writers that it
+//! prints to.
+#![tactic(auto)]
+
+mod ending;
+mod get;
+mod location;
+mod loopback;
+mod sending;
+mod serving;
+mod stream_link;
+
+pub use ending::{Ending, report, status_of};
+pub use get::{get_location, get_over, phrase, print_response};
+pub use h2_cli::Hint;
+pub use h2_engines::{Fetched, LinkError};
+pub use location::{Location, TargetFault, target};
+pub use loopback::{exchange, print_exchange};
+pub use serving::{serve_connections, serve_port};
+pub use stream_link::StreamLink;

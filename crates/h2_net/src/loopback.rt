@@ -1,0 +1,283 @@
+//! Both ends in one process, over one connection.
+
+ghost use Rattle.std.specs.Prelude.{◌≡◌, ◌≢◌, ◌≤◌, ◌<◌, ◌-◌, ◌^◌, ℕ, [], length, IfErr, IfOk, OnOk};
+ghost use Rattle.std.specs.Prelude.{Ok};
+ghost use Rattle.std.specs.Io.KnownBytes.{Appends};
+ghost use Rattle.h2_engines.specs.Failures.{failures_at_end};
+ghost use Rattle.h2_engines.specs.WithoutLink.{ClientPutsOut, ServerPutsOut};
+ghost use Rattle.h2_message.specs.Values.{message_value};
+ghost use Rattle.h2_net.specs.Loopback.{ExchangesPost, IsPosting, IsSilent, NoneHasFailed};
+ghost use Rattle.h2_net.specs.Loopback.{PostsOn, post_request};
+ghost use Rattle.h2_net.specs.Printing.{exchange_line};
+
+use crate::get::status_value;
+use crate::stream_link::StreamLink;
+use h2_engines::{Config, Fetched, Fetcher, Field, Link, LinkError, Message, Responder};
+use h2_link::write_all;
+use std::alloc::{AllocError, Global};
+use std::io::{self, Read, Write};
+use std::net::{Ipv4Addr, Net, OpenListener, OpenStream, SocketAddr, TcpListener, TcpStream};
+
+/// So many octets an end writes in its turn, at most.
+const TURN: usize = 4_096;
+
+/// Where the octets of a body begin again.
+const PERIOD: u32 = 251;
+
+/// The two ends, and the two streams of their connection.
+#[derive(Drop)]
+struct Ends<S> {
+    client: Fetcher,
+    server: Responder,
+    client_link: StreamLink<S>,
+    server_link: StreamLink<S>,
+}
+
+/// What is carried in a round.
+#[derive(Drop)]
+struct Carried {
+    /// What the client writes in its turn.
+    from_client: Vec<u8>,
+    /// What the server writes in its turn.
+    from_server: Vec<u8>,
+    /// Room for what the other reads: [`TURN`] octets.
+    read: Vec<u8>,
+}
+
+// rule: engines (own) h2 loop posts octets, and its line says how many came
+/// Posts so many octets, of which octet k is k mod 251, to `/` of a server in this process, over
+/// one TCP connection of 127.0.0.1, and answers the response. Each end in turn writes at most 4,096
+/// octets, which the other then reads; it ends with a round in which neither writes.
+///
+/// # Errors
+///
+/// [`LinkError::Device`] (N1) where the connection failed or can't be made;
+/// [`LinkError::Memory`] (N3) where an allocation was refused; [`LinkError::CutOff`] (N4) where the
+/// response isn't whole at the end; [`LinkError::NoProgress`] (N5) also after 2^64 - 1 rounds.
+/// [`LinkError::Stream`] (N2), [`LinkError::Reset`] (N6), [`LinkError::Refused`] (N7) and each
+/// other [`LinkError::NoProgress`] (N5) would be faults of the ends.
+pub fn exchange<N: Net>(net: &N, alloc: Global, count: u32) -> Result<Fetched, LinkError>
+    ensures { ExchangesPost count result }
+{
+    let mut ends = new_ends(net, alloc, count)?;
+    let mut carried = Carried {
+        from_client: Vec::new(alloc),
+        from_server: Vec::new(alloc),
+        read: room_for_turn(alloc)?,
+    };
+    if carry_all(&mut ends, &mut carried)? {
+        ends.client.into_fetched()
+    } else {
+        Err(LinkError::CutOff)
+    }
+}
+
+// rule: engines (own) h2 loop posts octets, and its line says how many came
+/// Two ends, of which the client is to post so many octets, and their connection.
+fn new_ends<N: Net>(net: &N, alloc: Global, count: u32) -> Result<Ends<N::Stream>, LinkError>
+    ensures failures { IfOk result NoneHasFailed }
+    ensures posts { IfOk result (λ ends. IsPosting count ends.client) }
+    ensures err { IfErr result (λ error. error ≢ LinkError.Refused) }
+{
+    let Ok(message) = post_of(alloc, count) else {
+        return Err(LinkError::Memory);
+    };
+    let (client_link, server_link) = joined(net, alloc)?;
+    Ok(Ends {
+        client: Fetcher::new(alloc, Config::default(), message)?,
+        server: Responder::new(alloc, Config::default())?,
+        client_link,
+        server_link,
+    })
+}
+
+// rule: engines (own) h2 loop posts octets, and its line says how many came
+/// Lets both ends write in turns, until a round in which neither does. Answers whether the response
+/// is whole.
+fn carry_all<S: Read + Write + OpenStream>(
+    ends: &mut Ends<S>,
+    carried: &mut Carried,
+) -> Result<bool, LinkError>
+    requires { NoneHasFailed ends.old }
+    ensures posts { (count : ℕ) → IsPosting count ends.old.client
+        → PostsOn count result ends.new.client }
+    ensures silent { OnOk result (IsSilent carried.new) }
+{
+    let mut is_whole = false;
+    for _ in 0..u64::MAX {
+        client_turn(ends, carried)?;
+        let has_ended = server_turn(ends, carried)?;
+        is_whole = is_whole || has_ended;
+        if carried.from_client.is_empty() && carried.from_server.is_empty() {
+            return Ok(is_whole);
+        }
+    }
+    Err(LinkError::NoProgress)
+}
+
+// rule: engines (own) h2 loop posts octets, and its line says how many came
+/// Prints how many octets were posted, how many the response's body has, and its status.
+///
+/// # Errors
+///
+/// [`LinkError::Device`] (N1) where a write failed.
+pub fn print_exchange<W: Write>(count: u32, fetched: &Fetched, out: &mut W) -> Result<(), LinkError>
+    ensures prints { OnOk result (Appends (W.contents out.old) (W.contents out.new)
+        (exchange_line count fetched.now)) }
+    ensures err { IfErr result (λ error. error ≡ LinkError.Device) }
+{
+    match write_exchange(count, fetched, out) {
+        Ok(()) => Ok(()),
+        Err(_) => Err(LinkError::Device),
+    }
+}
+
+fn write_exchange<W: Write>(count: u32, fetched: &Fetched, out: &mut W) -> io::Result<()>
+    ensures { OnOk result (Appends (W.contents out.old) (W.contents out.new)
+        (exchange_line count fetched.now)) }
+{
+    let length = fetched.body.len();
+    write!(out, "sent {count} got {length} status ")?;
+    out.write_all(status_value(&fetched.head))?;
+    out.write_all(b"\n")?;
+    out.flush()
+}
+
+/// The request that posts so many octets.
+fn post_of(alloc: Global, count: u32) -> Result<Message, AllocError>
+    ensures { IfOk result (λ message. message_value message ≡ post_request count) }
+{
+    let mut head = Vec::new(alloc);
+    head.push(Field::copy_of(alloc, b":method", b"POST", false)?)?;
+    head.push(Field::copy_of(alloc, b":scheme", b"http", false)?)?;
+    head.push(Field::copy_of(alloc, b":path", b"/", false)?)?;
+    head.push(Field::copy_of(alloc, b":authority", b"127.0.0.1", false)?)?;
+    let mut body = Vec::new(alloc);
+    for place in 0..count {
+        body.push((place % PERIOD) as u8)?;
+    }
+    Ok(Message {
+        head,
+        body,
+        trailers: None,
+    })
+}
+
+/// Room for what is read in a turn.
+fn room_for_turn(alloc: Global) -> Result<Vec<u8>, LinkError>
+    ensures { IfErr result (λ error. error ≡ LinkError.Memory) }
+{
+    match vec![in alloc; 0u8; TURN] {
+        Ok(room) => Ok(room),
+        Err(_) => Err(LinkError::Memory),
+    }
+}
+
+/// The two sides of a new connection of 127.0.0.1: the one that connects, and the one that accepts.
+fn joined<N: Net>(
+    net: &N,
+    alloc: Global,
+) -> Result<(StreamLink<N::Stream>, StreamLink<N::Stream>), LinkError>
+    ensures failures { IfOk result (λ links. (links.0.failures ≡ 0) × (links.1.failures ≡ 0)) }
+    ensures err { IfErr result (λ error. error ≢ LinkError.Refused) }
+{
+    let Ok(listener) = TcpListener::bind(net, SocketAddr::from((Ipv4Addr::LOCALHOST, 0))) else {
+        return Err(LinkError::Device);
+    };
+    let Ok(address) = listener.local_addr() else {
+        return Err(LinkError::Device);
+    };
+    let Ok(client) = TcpStream::connect(net, address) else {
+        return Err(LinkError::Device);
+    };
+    let Ok((server, _)) = listener.accept() else {
+        return Err(LinkError::Device);
+    };
+    Ok((
+        StreamLink::new(alloc, client)?,
+        StreamLink::new(alloc, server)?,
+    ))
+}
+
+/// The client writes, and the server takes that.
+fn client_turn<S: Read + Write + OpenStream>(
+    ends: &mut Ends<S>,
+    carried: &mut Carried,
+) -> Result<(), LinkError>
+    requires { NoneHasFailed ends.old }
+    ensures failures { OnOk result (NoneHasFailed ends.new) }
+    ensures posts { (count : ℕ) → IsPosting count ends.old.client
+        → PostsOn count result ends.new.client }
+    ensures puts { OnOk result ((count : ℕ) × ClientPutsOut ends.old.client ends.new.client TURN
+        [] carried.new.from_client.items (Ok count)) }
+{
+    carried.from_client.clear();
+    ends.client.put_out(TURN, &mut carried.from_client)?;
+    let (from, to) = (&mut ends.client_link, &mut ends.server_link);
+    let count = carry(from, to, &carried.from_client, &mut carried.read)?;
+    ends.server.take_in(&carried.read[..count])?;
+    Ok(())
+}
+
+/// The server writes, and the client takes that. Answers whether the response has become whole.
+fn server_turn<S: Read + Write + OpenStream>(
+    ends: &mut Ends<S>,
+    carried: &mut Carried,
+) -> Result<bool, LinkError>
+    requires { NoneHasFailed ends.old }
+    ensures failures { OnOk result (NoneHasFailed ends.new) }
+    ensures posts { (count : ℕ) → IsPosting count ends.old.client
+        → PostsOn count result ends.new.client }
+    ensures puts { OnOk result ((count : ℕ) × ServerPutsOut ends.old.server ends.new.server TURN
+        [] carried.new.from_server.items (Ok count)) }
+    ensures kept { carried.new.from_client ≡ carried.old.from_client }
+{
+    carried.from_server.clear();
+    ends.server.put_out(TURN, &mut carried.from_server)?;
+    let (from, to) = (&mut ends.server_link, &mut ends.client_link);
+    let count = carry(from, to, &carried.from_server, &mut carried.read)?;
+    let is_whole = ends.client.take_in(&carried.read[..count])?;
+    Ok(is_whole)
+}
+
+/// Writes octets at one side of a connection, as many as there is room for, and reads as many at
+/// the other. Answers how many.
+fn carry<S: Read + Write + OpenStream>(
+    from: &mut StreamLink<S>,
+    to: &mut StreamLink<S>,
+    octets: &[u8],
+    room: &mut [u8],
+) -> Result<usize, LinkError>
+    requires { (from.old.failures ≡ 0) × (to.old.failures ≡ 0) }
+    ensures failures { OnOk result ((from.new.failures ≡ 0) × (to.new.failures ≡ 0)) }
+    ensures length { length room.new ≡ length room.old }
+    ensures within { IfOk result (λ count. count ≤ length room.new) }
+    ensures err { IfErr result (λ error. error ≢ LinkError.Refused) }
+{
+    let count = octets.len().min(room.len());
+    write_all(from, &octets[..count])?;
+    let Ok(()) = from.flush() else {
+        return Err(LinkError::Device);
+    };
+    read_all(to, &mut room[..count])?;
+    Ok(count)
+}
+
+/// Reads as many octets as there is room for.
+fn read_all<L: Link>(link: &mut L, room: &mut [u8]) -> Result<(), LinkError>
+    requires { L.faults link.old < 2 ^ 64 - 1 }
+    ensures length { length room.new ≡ length room.old }
+    ensures filled { OnOk result (Appends (L.given link.old) (L.given link.new) room.new) }
+    ensures failures { L.faults link.new ≡ failures_at_end (L.faults link.old) result }
+    ensures err { IfErr result (λ error. error ≢ LinkError.Refused) }
+{
+    let mut filled = 0;
+    while filled < room.len() {
+        match link.read(&mut room[filled..]) {
+            Ok(0) => return Err(LinkError::CutOff),
+            Ok(count) => filled += count,
+            Err(_) => return Err(LinkError::Device),
+        }
+    }
+    Ok(())
+}

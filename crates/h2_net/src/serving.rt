@@ -1,0 +1,153 @@
+//! Serving connections to a port.
+
+ghost use Rattle.std.specs.Prelude.{◌≡◌, ℕ, Result as Outcome, OnOk, IfErr, None, true};
+ghost use Rattle.h2_link.specs.declared.error.LinkError.{LinkError as Reason};
+ghost use Rattle.h2_engines.specs.Failures.{EndsServing};
+ghost use Rattle.h2_engines.specs.Linked.{traffic};
+ghost use Rattle.h2_engines.specs.Serves.{Serves};
+ghost use Rattle.h2_net.specs.Endings.{DrainsAfter, EndsStream, FailsByLink, IsServerHint};
+ghost use Rattle.h2_net.specs.Endings.{IsServingStatus, without_hint};
+ghost use Rattle.h2_net.specs.Fetching.{default_values};
+ghost use Rattle.h2_net.specs.Serving.{ServesConnection, ServesConnections, ServesPort};
+
+use crate::ending::{Ending, report, server_hint};
+use crate::stream_link::StreamLink;
+use h2_cli::{Status, hint_of_device};
+use h2_engines::{Config, LinkError, serve_link};
+use std::alloc::Global;
+use std::io::{Read, Write};
+use std::net::{Ipv4Addr, Net, OpenListener, OpenStream, SocketAddr, TcpListener};
+
+// rule: engines (own) h2 serve serves so many connections, one after another
+/// Serves so many connections to a port of 127.0.0.1, one after another, as [`serve_link`] does
+/// with the default [`Config`], and answers the status of the first that ended early, or
+/// [`Status::Good`].
+///
+/// A connection that ends early has a line on standard error, with a hint where the cause is known,
+/// and the next one is served. Where the port can't be had no connection is served: that is
+/// [`LinkError::Device`] (N1).
+pub fn serve_port<N: Net, E: Write>(
+    net: &N,
+    alloc: Global,
+    port: u16,
+    count: u16,
+    err: &mut E,
+) -> Status
+    ensures status { IsServingStatus result }
+    ensures serves { ServesPort count result }
+{
+    match TcpListener::bind(net, SocketAddr::from((Ipv4Addr::LOCALHOST, port))) {
+        Ok(listener) => serve_connections(alloc, &listener, count, err),
+        Err(fault) => {
+            let hint = hint_of_device(fault.kind());
+            let error = LinkError::Device;
+            report(Ending { error, hint }, err)
+        }
+    }
+}
+
+// rule: engines (own) h2 serve serves so many connections, one after another
+/// Serves so many connections that a listener accepts, as [`serve_port`] does. One that can't be
+/// accepted counts as one that ended with [`LinkError::Device`] (N1).
+pub fn serve_connections<L: OpenListener, E: Write>(
+    alloc: Global,
+    listener: &L,
+    count: u16,
+    err: &mut E,
+) -> Status
+where
+    L::Stream: Read + Write + OpenStream,
+    ensures status { IsServingStatus result }
+    ensures serves { ServesConnections count result }
+{
+    let mut status = Status::Good;
+    for _place in 0..count {
+        if let Err(ending) = serve_next(alloc, listener) {
+            let of_error = report(ending, err);
+            if status == Status::Good {
+                status = of_error;
+            }
+        }
+    }
+    status
+}
+
+/// Serves the next connection that a listener accepts.
+fn serve_next<L: OpenListener>(alloc: Global, listener: &L) -> Result<(), Ending>
+where
+    L::Stream: Read + Write + OpenStream,
+    ensures err { IfErr result (λ ending. EndsServing ending.error) }
+    ensures serves { ServesConnection (without_hint result) }
+{
+    let stream = match listener.accept() {
+        Ok((stream, _)) => stream,
+        Err(fault) => {
+            return Err(Ending {
+                error: LinkError::Device,
+                hint: hint_of_device(fault.kind()),
+            });
+        }
+    };
+    match StreamLink::new(alloc, stream) {
+        Ok(mut link) => serve_with_hint(alloc, &mut link),
+        Err(error) => Err(Ending { error, hint: None }),
+    }
+}
+
+/// Serves one connection, as [`serve_stream`] does. Where it ends early the hint says what is
+/// likely the cause.
+fn serve_with_hint<S: Read + Write + OpenStream>(
+    alloc: Global,
+    link: &mut StreamLink<S>,
+) -> Result<(), Ending>
+    requires { link.old.failures ≡ 0 }
+    ensures serves { (served : Outcome ℕ Reason) × EndsStream served (without_hint result)
+        × Serves default_values (traffic None None link.old.stalled)
+        (traffic None None link.new.stalled) served }
+    ensures ended { OnOk result (link.new.ended ≡ true) }
+    ensures failures { FailsByLink link.old.failures link.new.failures (without_hint result) }
+    ensures drained { DrainsAfter (without_hint result) link.new.drained }
+    ensures err { IfErr result (λ ending. EndsServing ending.error) }
+    ensures hint { IfErr result (λ ending. IsServerHint ending.error link.new.first.items
+        link.new.last_error ending.hint) }
+{
+    match serve_stream(alloc, link) {
+        Ok(()) => Ok(()),
+        Err(error) => Err(Ending {
+            error,
+            hint: server_hint(error, link.first_octets(), link.last_error()),
+        }),
+    }
+}
+
+// contract: engines (own) After N2 and N3 input is dropped up to 16 MiB
+// rule: engines (own) After N2 and N3 input is dropped up to 16 MiB
+/// Serves one connection, and sends all that is held for it. After [`LinkError::Stream`] (N2) and
+/// [`LinkError::Memory`] (N3) the peer has the time to read the GOAWAY.
+fn serve_stream<S: Read + Write + OpenStream>(
+    alloc: Global,
+    link: &mut StreamLink<S>,
+) -> Result<(), LinkError>
+    requires { link.old.failures ≡ 0 }
+    ensures serves { (served : Outcome ℕ Reason) × EndsStream served result
+        × Serves default_values (traffic None None link.old.stalled)
+        (traffic None None link.new.stalled) served }
+    ensures ended { OnOk result (link.new.ended ≡ true) }
+    ensures failures { FailsByLink link.old.failures link.new.failures result }
+    ensures drained { DrainsAfter result link.new.drained }
+    ensures err { IfErr result EndsServing }
+{
+    let served = serve_link(alloc, link, Config::default());
+    if link.flush().is_err() {
+        return Err(LinkError::Device);
+    }
+    match served {
+        Ok(_) => Ok(()),
+        Err(error) => {
+            if matches!(&error, LinkError::Stream(_) | LinkError::Memory) {
+                link.drain();
+            }
+            Err(error)
+        }
+    }
+}

@@ -1,0 +1,252 @@
+//! A link over a TCP stream.
+
+ghost use Rattle.std.specs.Prelude.{◌≡◌, ◌⊎◌, ◌<◌, ◌≤◌, ◌-◌, ◌^◌, None, [], length, IfOk, IfErr};
+ghost use Rattle.std.specs.Prelude.{OnOk};
+ghost use Rattle.std.specs.Prelude.{true, false};
+ghost use Rattle.std.specs.Io.KnownBytes.{Appends};
+ghost use Rattle.h2_link.specs.Links.{failures_after, ended_after, stalled_after, Gives, Takes};
+ghost use Rattle.h2_net.specs.StreamLinks.{octets_passed, SendsThrough, ReadsThrough};
+ghost use Rattle.h2_net.specs.StreamLinks.{KeepsRead};
+
+use crate::sending::{MOST_FIRST, keep_first, remove_first, send};
+use h2_link::{Link, LinkError, LinkFault, read_some};
+use std::alloc::Global;
+use std::io::{ErrorKind, Read, Write};
+use std::net::{OpenStream, Shutdown};
+
+/// So many octets are held before they are sent, at most.
+const MOST_HELD: usize = 65_536;
+
+/// So many octets are read at once where they are dropped.
+const DROPPED_PIECE: usize = 4_096;
+
+/// So many octets are dropped, at most: 16 MiB.
+const MOST_DROPPED: usize = 16_777_216;
+
+/// A link over a TCP stream. It holds what it is given to write, up to 65,536 octets, and sends
+/// that at the next read, once it is so many octets, and where [`StreamLink::flush`] is called.
+/// Where sending fails the call that sends fails, and what was not sent stays held: the next call
+/// that sends goes on with it, so octets are sent in order, and none twice.
+///
+/// What is held where a link is dropped isn't sent.
+#[derive(Drop)]
+pub struct StreamLink<S> {
+    stream: S,
+    held: Vec<u8>,
+    ended: bool,
+    stalled: bool,
+    failures: u64,
+    first: Vec<u8>,
+    last_error: Option<ErrorKind>,
+    drained: bool,
+}
+
+impl<S: Read + Write + OpenStream> StreamLink<S> {
+    // rule: engines (own) A link over TCP holds 65,536 octets at most, then sends them
+    // rule: engines (own) A link over TCP counts the calls that have failed
+    /// A link over a stream, with room for what it holds. The stream sends at once what it is given
+    /// (TCP_NODELAY).
+    ///
+    /// # Errors
+    ///
+    /// [`LinkError::Device`] (N1) where the stream's option can't be set,
+    /// [`LinkError::Memory`] (N3) where an allocation was refused.
+    pub fn new(alloc: Global, stream: S) -> Result<StreamLink<S>, LinkError>
+    where
+        S: Drop,
+        ensures stream { IfOk result (λ link. link.stream ≡ stream) }
+        ensures held { IfOk result (λ link. link.held.items ≡ []) }
+        ensures first { IfOk result (λ link. link.first.items ≡ []) }
+        ensures last_error { IfOk result (λ link. link.last_error ≡ None) }
+        ensures failures { IfOk result (λ link. link.failures ≡ 0) }
+        ensures ended { IfOk result (λ link. link.ended ≡ false) }
+        ensures stalled { IfOk result (λ link. link.stalled ≡ false) }
+        ensures drained { IfOk result (λ link. link.drained ≡ false) }
+        ensures err { IfErr result (λ error. (error ≡ LinkError.Device)
+            ⊎ (error ≡ LinkError.Memory)) }
+    {
+        if stream.set_nodelay(true).is_err() {
+            return Err(LinkError::Device);
+        }
+        let Ok(held) = Vec::with_capacity(alloc, MOST_HELD) else {
+            return Err(LinkError::Memory);
+        };
+        let Ok(first) = Vec::with_capacity(alloc, MOST_FIRST) else {
+            return Err(LinkError::Memory);
+        };
+        Ok(StreamLink {
+            stream,
+            held,
+            ended: false,
+            stalled: false,
+            failures: 0,
+            first,
+            last_error: None,
+            drained: false,
+        })
+    }
+
+    /// The stream.
+    pub fn get_ref(&self) -> &S
+        ensures { result.now ≡ self.now.stream }
+    {
+        &self.stream
+    }
+
+    /// The first octets that were read, 24 at most: as many as the preface has.
+    pub fn first_octets(&self) -> &[u8]
+        ensures { result.now ≡ self.now.first.items }
+    {
+        &self.first
+    }
+
+    /// Of which kind the error was of the stream's last read or write that failed, if one has. A
+    /// write that took nothing has none.
+    pub fn last_error(&self) -> Option<ErrorKind>
+        ensures { result ≡ self.now.last_error }
+    {
+        self.last_error
+    }
+
+    /// Whether [`StreamLink::drain`] was called.
+    pub fn is_drained(&self) -> bool
+        ensures { result ≡ self.now.drained }
+    {
+        self.drained
+    }
+
+    // rule: engines (own) A link over TCP holds 65,536 octets at most, then sends them
+    // rule: engines (own) A link over TCP sends octets in order and once
+    // rule: engines (own) A link over TCP counts the calls that have failed
+    /// Sends all that is held, in as many writes as it takes; one that a signal interrupts is
+    /// tried again.
+    ///
+    /// # Errors
+    ///
+    /// [`LinkFault`] where a write failed or took none: some first octets may have been sent, and
+    /// the others, one at least, stay held.
+    pub fn flush(&mut self) -> Result<(), LinkFault>
+        requires { self.old.failures < 2 ^ 64 - 1 }
+        ensures sends { SendsThrough (S.contents self.old.stream)
+            (S.contents self.new.stream) result
+            self.old.held.items self.new.held.items }
+        ensures failures { self.new.failures ≡ failures_after self.old.failures result }
+        ensures ended { self.new.ended ≡ self.old.ended }
+        ensures stalled { self.new.stalled ≡ self.old.stalled }
+        ensures first { self.new.first ≡ self.old.first }
+        ensures last_error { OnOk result (self.new.last_error ≡ self.old.last_error) }
+    {
+        let (count, error) = send(&mut self.stream, &self.held);
+        remove_first(&mut self.held, count);
+        if self.held.is_empty() {
+            return Ok(());
+        }
+        self.last_error = error;
+        self.failures += 1;
+        Err(LinkFault)
+    }
+
+    // rule: engines (own) After N2 and N3 input is dropped up to 16 MiB
+    /// Ends what is written, and reads and drops what comes until the peer ends too, at most 16
+    /// MiB. A stream that is closed while octets are unread resets the connection, and then the
+    /// peer may lose what was sent last. What is held isn't sent.
+    pub fn drain(&mut self)
+        ensures { self.new ≡ record self.old { stream = self.new.stream; drained = true } }
+    {
+        self.drained = true;
+        if self.stream.shutdown(Shutdown::Write).is_err() {
+            return;
+        }
+        let mut piece = [0u8; DROPPED_PIECE];
+        let mut left = MOST_DROPPED;
+        for _ in 0..MOST_DROPPED {
+            let most = left.min(piece.len());
+            match read_some(&mut self.stream, &mut piece[..most]) {
+                Ok(0) | Err(_) => return,
+                Ok(count) => left = left.saturating_sub(count),
+            }
+        }
+    }
+}
+
+/// A stream says nothing of what it holds after a read, nor of what is left to read after a write.
+/// So a link over it doesn't say what it has given and taken, and its calls say what each has done.
+impl<S: Read + Write + OpenStream> Link for StreamLink<S> {
+    ghost given = { λ link. None };
+
+    ghost taken = { λ link. None };
+
+    ghost ended = { λ link. link.ended };
+
+    ghost stalled = { λ link. link.stalled };
+
+    ghost faults = { λ link. link.failures };
+
+    /// Sends all that is held, and then reads. An end of the input that was read stays known.
+    fn read(&mut self, buffer: &mut [u8]) -> Result<usize, LinkFault>
+        requires { self.old.failures < 2 ^ 64 - 1 }
+        ensures length { length buffer.new ≡ length buffer.old }
+        ensures gives { Gives None None result buffer.new }
+        ensures takes_none { Appends None None [] }
+        ensures ended { self.new.ended
+            ≡ ended_after self.old.ended (length buffer.old) result }
+        ensures stalled { self.new.stalled ≡ self.old.stalled }
+        ensures failures { self.new.failures ≡ failures_after self.old.failures result }
+        ensures reads { ReadsThrough S.contents S.remaining self.old.stream self.new.stream result
+            self.old.held.items self.new.held.items buffer.new }
+        ensures first { KeepsRead self.old.first.items result buffer.new self.new.first.items }
+        ensures last_error { OnOk result (self.new.last_error ≡ self.old.last_error) }
+    {
+        self.flush()?;
+        match read_some(&mut self.stream, buffer) {
+            Ok(count) => {
+                self.ended = (!buffer.is_empty() && count == 0) || self.ended;
+                keep_first(&mut self.first, &buffer[..count]);
+                Ok(count)
+            }
+            Err(error) => {
+                self.last_error = Some(error.kind());
+                self.failures += 1;
+                Err(LinkFault)
+            }
+        }
+    }
+
+    /// Holds as many first octets as there is room for, and sends once 65,536 are held. There is no
+    /// room only after a send that failed.
+    fn write(&mut self, octets: &[u8]) -> Result<usize, LinkFault>
+        requires { self.old.failures < 2 ^ 64 - 1 }
+        ensures takes { Takes None None result octets.now }
+        ensures gives_none { Appends None None [] }
+        ensures ended { self.new.ended ≡ self.old.ended }
+        ensures stalled { self.new.stalled
+            ≡ stalled_after self.old.stalled (length octets.now) result }
+        ensures failures { self.new.failures ≡ failures_after self.old.failures result }
+        ensures holds { Takes (octets_passed S.contents self.old)
+            (octets_passed S.contents self.new)
+            result octets.now }
+        ensures bounded { length self.old.held.items ≤ 65536
+            → length self.new.held.items ≤ 65536 }
+        ensures full { length self.old.held.items ≤ 65536
+            → OnOk result (length self.new.held.items < 65536) }
+        ensures first { self.new.first ≡ self.old.first }
+        ensures last_error { OnOk result (self.new.last_error ≡ self.old.last_error) }
+    {
+        let room = MOST_HELD.saturating_sub(self.held.len());
+        let count = octets.len().min(room);
+        if self.held.extend_from_slice(&octets[..count]).is_err() {
+            self.last_error = Some(ErrorKind::OutOfMemory);
+            self.failures += 1;
+            return Err(LinkFault);
+        }
+        if self.held.len() >= MOST_HELD {
+            self.flush()?;
+        }
+        self.stalled = (!octets.is_empty() && count == 0) || self.stalled;
+        Ok(count)
+    }
+
+    fn failures(&self) -> u64 {
+        self.failures
+    }
+}

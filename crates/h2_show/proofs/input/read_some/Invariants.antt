@@ -1,6 +1,0 @@
--- A read that is interrupted takes nothing.
-use Rattle.std.specs.Io.KnownBytes.{Keeps}
-use Rattle.h2_show.proofs.input.read_some.Given as goal
-
-abbrev pub invariant-loop : goal.invariant-loop
-invariant-loop g l = Keeps (g.R.Read.remaining l.initial.input) (g.R.Read.remaining l.input)

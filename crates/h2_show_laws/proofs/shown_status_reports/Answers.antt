@@ -1,6 +1,0 @@
--- By the lemma on what the status reports.
-use Rattle.h2_show_laws.proofs.Reports.{shown_reports}
-use Rattle.h2_show_laws.proofs.shown_status_reports.Goals as goal
-
-pub returns : goal.returns
-returns c = shown_reports

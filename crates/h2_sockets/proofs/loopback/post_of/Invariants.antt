@@ -1,7 +1,0 @@
--- The first octets of the body are there.
-use Rattle.std.proofs.Common.{◌≡◌}
-use Rattle.h2_sockets.specs.Loopback.{posted_octets}
-use Rattle.h2_sockets.proofs.loopback.post_of.Given as goal
-
-abbrev pub invariant-loop-place : goal.invariant-loop-place
-invariant-loop-place l = l.body.items ≡ posted_octets l.place

@@ -1,6 +1,0 @@
--- By the lemma on streams.
-use Rattle.h2_stream_laws.proofs.ReadingsOrFaults.{reading_or_fault_lem}
-use Rattle.h2_stream_laws.proofs.reading_or_fault.Goals as goal
-
-pub returns : goal.returns
-returns c = reading_or_fault_lem

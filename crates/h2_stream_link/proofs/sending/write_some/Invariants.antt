@@ -1,6 +1,0 @@
--- A write that is interrupted takes nothing.
-use Rattle.std.specs.Io.KnownBytes.{Keeps}
-use Rattle.h2_stream_link.proofs.sending.write_some.Given as goal
-
-abbrev pub invariant-loop : goal.invariant-loop
-invariant-loop g l = Keeps (g.W.Write.contents l.initial.out) (g.W.Write.contents l.out)

@@ -1,0 +1,43 @@
+//! Messages that are checked and read, as the `CALLING.md` of `h2_message` shows it.
+
+// calling: h2_message
+ghost use Rattle.std.specs.Prelude.{◌≡◌, true, false, List, [], ◌∷◌, length};
+ghost use Rattle.h2_message.specs.declared.reading.Reads.TheVariants.{Requests};
+ghost use Rattle.h2_message.specs.Reading.{IsReadable, FieldsPart, OctetsPart};
+
+use h2_message::{FieldList, Place, Reading, Reads};
+
+/// Whether a head and a body begin a request that breaks no rule, where the body ends it.
+pub fn is_request(head: &FieldList, body: &[u8]) -> bool
+    ensures { result ≡ true → IsReadable Requests
+        ((FieldsPart head.now, false) ∷ ((OctetsPart body.now, true) ∷ [])) }
+{
+    let mut reading = Reading::new(Reads::Requests);
+    match reading.fields(head, false) {
+        Some(Place::Head) => reading.data(body.len(), true),
+        _ => false,
+    }
+}
+// end
+
+// calling: h2_message refusals
+ghost use Rattle.std.specs.Prelude.{None, IfOk};
+ghost use Rattle.h2_message.specs.Messages.{broken_by_response};
+ghost use Rattle.h2_message.specs.Values.{message_value};
+
+use h2_message::{Malformed, Message, check_response};
+
+/// A response that may be sent; or why it may not, for the log of whoever wrote it.
+pub fn checked_response(message: Message, to_head: bool) -> Result<Message, &'static str>
+    ensures { IfOk result (λ sent. broken_by_response to_head (message_value sent) ≡ None) }
+{
+    match check_response(&message, to_head) {
+        Ok(()) => Ok(message),
+        Err(Malformed::BadLength) if to_head => Err("an answer to HEAD has no body"),
+        Err(Malformed::BadLength) => Err("content-length is not the body's length"),
+        Err(Malformed::ConnectionField) => Err("HTTP/2 has no connection fields"),
+        Err(Malformed::BadName) => Err("a name is not in lower case"),
+        Err(_) => Err("the head or the trailers break a rule"),
+    }
+}
+// end
