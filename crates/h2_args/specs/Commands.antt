@@ -77,16 +77,16 @@ replay_app names = with_rule (with_rule (named_app (codes "replay")) hex_rule)
 abbrev pub IsReplayCommand : App → Type 0
 IsReplayCommand a = (names : SideNames) × AreSides names × (a ≡ replay_app names)
 
--- a positional argument that has to stand
+-- a required positional argument
 abbrev pub required_rule : Text → Rule
 required_rule name =
     record (new_rule name) { value_names = 1; required = true; action = Some Set }
 
--- the argument with what its numbers have to be
+-- the argument with the requirements of its numbers
 abbrev pub with_numbers : Rule → ValueParser → Rule
 with_numbers rule numbers = record rule { parser = Some numbers }
 
--- a number from `least` to `most` that has to stand
+-- a required number from `least` to `most`
 abbrev pub number_rule : Text → ℕ → ℕ → Rule
 number_rule name least most = with_numbers (required_rule name) (Signed (pos least) (pos most))
 

@@ -1,4 +1,4 @@
-//! The words of the command line of `h2`, as what they ask for.
+//! The command line of `h2`: the options that its words give.
 //!
 //! Each command has a function that reads the words after its name: [`show_args`], [`replay_args`],
 //! [`serve_args`], [`get_args`] and [`loop_args`]. [`no_command`] reads words that begin with no

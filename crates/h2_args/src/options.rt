@@ -1,4 +1,4 @@
-//! What the commands share.
+//! What the commands have in common.
 
 ghost use Rattle.std.specs.Prelude.{◌≡◌, IfOk, false};
 ghost use Rattle.clap.specs.Words.{app_of, first_of, found_of, one_of, rows_of, rule_of};
@@ -8,7 +8,7 @@ ghost use Rattle.h2_args.specs.Words.{has_value, is_set};
 use clap::{Arg, ArgAction, ArgMatches, Command};
 use std::alloc::{AllocError, Global};
 
-/// What a command is called, and what its help says.
+/// The name of a command, and the text of its help.
 #[derive(Clone, Copy)]
 pub(super) struct CommandText<'a> {
     /// The program's name, and the command's.

@@ -1,4 +1,4 @@
-//! What the words after `replay` ask for.
+//! The options of `replay`.
 
 ghost use Rattle.std.specs.Prelude.{◌≡◌, IfErr, IfOk, map, string_bytes};
 ghost use Rattle.clap.specs.Words.{app_of, found_of, rows_of};

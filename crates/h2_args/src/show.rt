@@ -1,4 +1,4 @@
-//! What the words after `show` ask for.
+//! The options of `show`.
 
 ghost use Rattle.std.specs.Prelude.{◌≡◌, ◌≤◌, IfErr, IfOk, codes, false, map, pos, string_bytes};
 ghost use Rattle.clap.specs.Words.{app_of, found_of, rows_of, rule_of};
@@ -8,15 +8,9 @@ ghost use Rattle.h2_args.specs.Words.{ShowWordsFail, ShowWordsGive, show_options
 use crate::options::{CommandText, HEX, hex_arg, is_named, is_set, named_command, side_arg};
 use clap::builder::ValueParser;
 use clap::{Arg, ArgMatches, Command, Error, value_parser};
+use h2_frame::limits::{LEAST_MAX_FRAME, MOST_MAX_FRAME};
 use h2_show::{ShowOptions, Side};
 use std::alloc::{AllocError, Global};
-
-/// The limit of payloads where none is given, that of every end before its SETTINGS (RFC 9113,
-/// section 6.5.2), and the least that is taken.
-const LEAST_MAX_FRAME: u32 = 16_384;
-
-/// The greatest limit of payloads that is taken.
-const MOST_MAX_FRAME: u32 = 1_048_576;
 
 // contract: show (own) The words choose the end and hexadecimal
 // rule: show (own) The words choose the end and hexadecimal

@@ -1,4 +1,4 @@
-//! What the words of the commands over sockets ask for.
+//! The options of the commands over sockets.
 
 ghost use Rattle.std.specs.Prelude.{◌≡◌, ◌≤◌, IfErr, IfOk, Some, false, map, pos, string_bytes};
 ghost use Rattle.clap.specs.Words.{HasKind, app_of, rule_of};
@@ -15,12 +15,12 @@ use std::alloc::{AllocError, Global};
 /// The most octets that `loop` posts.
 pub const MOST_POSTED: u32 = 1_048_576;
 
-/// What `serve` is asked for.
+/// The options of `serve`.
 #[derive(Clone, Copy, Debug, PartialEq, Eq)]
 pub struct ServeOptions {
     /// The port of 127.0.0.1, from 1 to 65,535.
     pub port: u16,
-    /// How many connections are served, from 1 to 65,535.
+    /// The number of connections that are served, from 1 to 65,535.
     pub count: u16,
 }
 
@@ -72,7 +72,7 @@ pub fn get_args<'a>(alloc: Global, words: &'a [String]) -> Result<&'a str, Error
 
 // contract: engines (own) serve, get and loop have their words
 // rule: engines (own) serve, get and loop have their words
-/// Reads the words after `loop`: how many octets are posted, from 0 to [`MOST_POSTED`].
+/// Reads the words after `loop`: the number of octets to post, from 0 to [`MOST_POSTED`].
 ///
 /// # Errors
 ///
@@ -107,7 +107,7 @@ const OCTETS: &str = "N";
 
 const OCTETS_HELP: &str = "How many octets are posted, 0 to 1048576";
 
-/// What `serve` answers, how it ends, and an example.
+/// How `serve` responds, how it ends, and an example.
 const SERVED_AND_STATUSES: &str =
     r"Each request is answered with status 200 and a body: its method, a space, its
 path, a line end, and the request's own body. An answer to HEAD has no body. A
@@ -192,7 +192,7 @@ Example:
   $ h2 loop 70000
   sent 70000 got 70007 status 200";
 
-// An argument that has to stand.
+// A required argument.
 fn required_arg<'a>(alloc: Global, name: &'a str, help: &'a str) -> Arg<'a>
     ensures rule { rule_of result ≡ required_rule name.entry.now }
     ensures local { result.global ≡ false }
@@ -204,7 +204,7 @@ fn required_arg<'a>(alloc: Global, name: &'a str, help: &'a str) -> Arg<'a>
         .help(help)
 }
 
-// A number that has to stand.
+// A required number.
 fn number_arg<'a>(alloc: Global, name: &'a str, numbers: ValueParser<'a>, help: &'a str) -> Arg<'a>
     ensures rule { rule_of result ≡ with_numbers (required_rule name.entry.now) numbers.entry }
     ensures local { result.global ≡ false }

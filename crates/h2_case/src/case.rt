@@ -23,7 +23,7 @@ impl<T: Drop> From<AllocFailed<T>> for CaseError {
     }
 }
 
-/// A command, and the lines that are wanted as its answer, each with its newline.
+/// A command, and the lines of its expected answer, each with its newline.
 #[derive(Drop)]
 pub struct Step {
     pub command: String,
@@ -64,12 +64,12 @@ fn begin_step(alloc: Global, cases: &mut Vec<Case>, command: &str) -> Result<(),
     Ok(case.steps.push(Step { command, wanted })?)
 }
 
-// What is wanted of the last step.
+// The expected answer of the last step.
 fn last_wanted(cases: &mut Vec<Case>) -> Option<&mut String> {
     Some(&mut cases.last_mut()?.steps.last_mut()?.wanted)
 }
 
-// Adds a line to what is wanted of the last step; before the first step there are empty lines
+// Adds a line to the expected answer of the last step; before the first step there are empty lines
 // alone.
 fn add_wanted(cases: &mut Vec<Case>, line: &str) -> Result<(), CaseError> {
     match last_wanted(cases) {
@@ -97,7 +97,7 @@ fn read_line(alloc: Global, cases: &mut Vec<Case>, line: &str) -> Result<(), Cas
 }
 
 /// Reads the cases of a file: a line `case NAME` begins one, a line `> COMMAND` is a command, and
-/// the lines up to the next command or case are what it is to answer. Lines that begin with `# `
+/// the lines up to the next command or case are its expected answer. Lines that begin with `# `
 /// are comments, and empty last lines of an answer don't count.
 pub fn read_cases(alloc: Global, text: &str) -> Result<Vec<Case>, CaseError> {
     let mut cases = Vec::new(alloc);

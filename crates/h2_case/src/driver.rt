@@ -1,4 +1,4 @@
-//! What answers the commands of a case.
+//! The driver of a case's commands.
 
 use crate::case::{Case, CaseError};
 use crate::text::Text;
@@ -8,9 +8,9 @@ use std::alloc::Global;
 /// The answer to a command, or why it has none.
 pub type Answer = Result<String, CaseError>;
 
-/// What does the commands of a case, one after another.
+/// Runs the commands of a case, one after another.
 pub trait Driver {
-    /// Does the command of this name, with the words that follow it, and writes its answer.
+    /// Runs the command of this name, with the words that follow it, and writes its answer.
     fn answer(&mut self, name: &str, words: &mut Words<'_>, text: &mut Text);
 }
 

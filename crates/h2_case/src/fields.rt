@@ -36,7 +36,7 @@ fn append_plain(octets: &mut Vec<u8>, words: &mut Words<'_>, plain: &str) {
     }
 }
 
-// Appends the octets of what follows a backslash; what follows that.
+// Appends the octets that a backslash escapes, and returns what follows them.
 fn append_escape<'a>(
     alloc: Global,
     octets: &mut Vec<u8>,

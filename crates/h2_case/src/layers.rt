@@ -1,5 +1,5 @@
-//! What answers the commands of cases of the layers below an end: texts, field blocks, frames,
-//! streams, settings and windows.
+//! Drivers of the cases of the layers below an end: texts, field blocks, frames, streams, settings
+//! and windows.
 
 pub mod block;
 mod coders;

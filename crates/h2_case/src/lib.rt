@@ -1,6 +1,6 @@
 //! Cases, which are files: how they are read, the words, octets, fields and messages in them, what
-//! is printed of those that differ, and what answers the commands of cases of the layers below an
-//! end. `h2_cases` checks them.
+//! is printed of those that differ, and the drivers of the cases of the layers below an end.
+//! `h2_cases` checks them.
 #![tactic(auto)]
 
 pub mod case;

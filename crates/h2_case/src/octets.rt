@@ -51,7 +51,7 @@ fn append_counted(octets: &mut Vec<u8>, words: &mut Words<'_>, part: &str) {
     }
 }
 
-// The octet after this one, where octets count modulo 251.
+// The octet after this one, where octets count up modulo 251.
 fn next_counted(octet: u8) -> u8 {
     if octet >= 250 {
         0
@@ -70,7 +70,7 @@ fn append_digits(alloc: Global, octets: &mut Vec<u8>, words: &mut Words<'_>, par
     }
 }
 
-// Appends octets so many times.
+// Appends the repeated octets `times` times.
 fn push_repeated(octets: &mut Vec<u8>, words: &mut Words<'_>, repeated: &[u8], times: u32) {
     if let [octet] = repeated {
         let len = octets.len().saturating_add(times as usize);
@@ -87,7 +87,7 @@ fn push_repeated(octets: &mut Vec<u8>, words: &mut Words<'_>, repeated: &[u8], t
     }
 }
 
-/// An octet, after which others are written; it has to stay as it is.
+/// An octet, after which others are written; it must not change.
 pub(crate) fn marked(alloc: Global, text: &mut Text) -> Vec<u8> {
     let mut out = Vec::new(alloc);
     if out.push(7).is_err() {
@@ -96,7 +96,7 @@ pub(crate) fn marked(alloc: Global, text: &mut Text) -> Vec<u8> {
     out
 }
 
-/// What was written after the octet of [`marked`]. If that hasn't stayed as it was, a line says so.
+/// What was written after the octet of [`marked`]. If that has changed, a line says so.
 pub(crate) fn written_after<'a>(text: &mut Text, out: &'a [u8]) -> &'a [u8] {
     match out {
         [7, written @ ..] => written,
@@ -123,8 +123,7 @@ pub fn add_hex(text: &mut Text, octets: &[u8]) {
     }
 }
 
-/// Adds octets as [`read_octets`] reads them: of many equal ones, and of many that count on, the
-/// count.
+/// Adds octets as [`read_octets`] reads them: many equal ones, and many that count up, as a count.
 pub fn add_octets(text: &mut Text, octets: &[u8]) {
     match octets {
         [first, others @ ..] if others.len() > 15 => add_many(text, octets, *first, others),

@@ -5,7 +5,7 @@ use crate::driver::Answer;
 use std::fmt;
 use std::io::{self, Write};
 
-/// How many cases there are, and how many of them differ.
+/// The number of cases, and of those that differ.
 #[derive(Clone, Copy, Default)]
 pub struct Counts {
     cases: u64,
@@ -75,7 +75,7 @@ pub fn report_case<W: Write>(
     })
 }
 
-// Prints that a command of a case was answered otherwise than is wanted.
+// Prints that the answer to a command differs from the expected one.
 fn report_step<W: Write>(
     file: &str,
     case: &str,
@@ -91,7 +91,7 @@ fn report_step<W: Write>(
     Ok(ONE_DIFFERS)
 }
 
-// What came as the answer to a command.
+// The answer that came to a command.
 fn text_of(found: Option<&Answer>) -> &str {
     match found {
         Some(Ok(answer)) => answer,

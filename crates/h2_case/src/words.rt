@@ -3,7 +3,7 @@
 use crate::case::CaseError;
 use std::str::FromStr;
 
-/// What is left of a command's words, which one space divides. That a word could not be read is
+/// The words of a command that are left, which one space divides. That a word could not be read is
 /// noted: the reader goes on with another value in its place, and the command has no answer.
 #[derive(Clone, Copy)]
 pub struct Words<'a> {
@@ -56,7 +56,7 @@ impl<'a> Words<'a> {
         }
     }
 
-    /// The next word, which has to be there.
+    /// The next word, which must be there.
     pub fn word(&mut self) -> &'a str {
         let word = self.next_or_empty();
         if word.is_empty() {
@@ -88,7 +88,8 @@ impl<'a> Words<'a> {
         }
     }
 
-    /// How many times a command is done: `N times`, if these are the next words, and else once.
+    /// The number of times that a command is run: `N times`, if these are the next words, and else
+    /// once.
     pub fn times(&mut self) -> u32 {
         let mut others = *self;
         let count = others.number();

@@ -120,7 +120,7 @@ fn read_act_on(alloc: Global, name: &str, id: u32, words: &mut Words<'_>) -> Act
     }
 }
 
-/// Makes a call, and adds its answer: a number, `done`, the octets that it gives out, or why it is
+/// Makes a call, and adds its answer: a number, `done`, the octets that it puts out, or why it is
 /// refused. Octets are not taken by it.
 pub(crate) fn make_call(alloc: Global, conn: &mut Conn, act: &Act, text: &mut Text) {
     match act {
@@ -132,7 +132,7 @@ pub(crate) fn make_call(alloc: Global, conn: &mut Conn, act: &Act, text: &mut Te
     }
 }
 
-// Makes a call that answers nothing.
+// Makes a call that returns no value.
 fn make_other(conn: &mut Conn, act: &Act) -> Result<(), Refusal> {
     match act {
         Act::Fields { id, fields, end } => conn.fields(*id, fields, *end),
@@ -146,7 +146,7 @@ fn make_other(conn: &mut Conn, act: &Act) -> Result<(), Refusal> {
     }
 }
 
-// Gives so many octets out.
+// Puts out at most `count` octets.
 fn put_out(alloc: Global, conn: &mut Conn, count: usize, text: &mut Text) {
     let mut out = Vec::new(alloc);
     match conn.put_out(count, &mut out) {

@@ -4,17 +4,17 @@
 //!   where they are not 4096, 65535 and 100; after these `frames N`, the greatest frame that it
 //!   reads, where it is not 16384.
 //! - `take OCTETS`: what is reported of them, as [`crate::conn_events`] says, and `fault CODE`
-//!   where the connection fails. `take each N FRAMES` is the frames N times, with numbers of
-//!   streams that are 2 higher each time. `take quietly ..`: how many of each kind are reported,
-//!   and the last. `take once ..`: once the octets are used, nothing more is asked for; without
-//!   octets that is one call.
+//!   where the connection fails. `take each N FRAMES` is the frames N times, with stream numbers
+//!   that are 2 higher each time. `take quietly ..`: the number of events of each kind, and the
+//!   last. `take once ..`: once the octets are used, nothing more is asked for; without octets
+//!   that is one call.
 //! - The calls: `open FIELDS`, `fields ID FIELDS`, `data ID OCTETS` (each with `end` before its
-//!   fields or octets where it ends the stream), `release ID N`, `reset ID CODE`, `refuse ID CODE`,
-//!   `ping OCTETS`, `go_away`, `change VALUES` (as of `new`), and `out N`: the frames of so many
-//!   octets of the output at most. Each answers its number, `done`, or the rule by which it is
-//!   refused.
+//!   fields or octets where it ends the stream), `release ID N`, `reset ID CODE`,
+//!   `refuse ID CODE`, `ping OCTETS`, `go_away`, `change VALUES` (as of `new`), and `out N`: the
+//!   frames of at most `N` octets of the output. Each answers its number, `done`, or the rule by
+//!   which it is refused.
 //! - `out`: the frames of all output; `drop out` and `drop out N`: it is taken away, and not shown.
-//! - The readers: `waiting`, `lent` (the frames of the output that waits), `held`, `place`, `due`,
+//! - The readers: `waiting`, `lent` (the frames of the queued output), `held`, `place`, `due`,
 //!   `failed`, `next_number`, `room ID`, `owed ID`, `next_live ID`, `is_active ID`, and
 //!   `refusal_to_open FIELDS`.
 //! - `changes`: which of these numbers have changed since the last such command, or, at the first
@@ -22,9 +22,10 @@
 //!   stream; `live N`, how many of these there are, and `sum N`, the sum of their numbers.
 //! - `replay`: the calls and octets so far, by `h2_replay`: what it keeps, in order.
 //!
-//! Each case is done with the octets of a `take` whole, and then one a piece, or seven as long as
-//! more than 20,000 are left; and where none is longer than 160 and no command has repeated octets,
-//! or one is `take anywhere OCTETS`, in two at each place. An answer that differs then is said.
+//! Each case is run with the octets of a `take` in one piece, and then one a piece, or seven as
+//! long as more than 20,000 are left; and where none is longer than 160 and no command has
+//! repeated octets, or one is `take anywhere OCTETS`, in two at each place. An answer that differs
+//! then is added.
 
 use crate::acts::{made_config, make_call, read_act, read_values};
 use crate::answers::{add_name, add_option, add_rule, add_value, copy_of, extend};
@@ -43,7 +44,7 @@ use h2_conn::{Config, Conn, Refusal, Role};
 use h2_replay::Act;
 use std::alloc::Global;
 
-/// An end, and what was done to it.
+/// An end, and the acts done to it.
 #[derive(Drop)]
 struct State {
     alloc: Global,
@@ -109,7 +110,7 @@ fn output(alloc: Global, conn: &mut Conn) -> Vec<u8> {
     out
 }
 
-// Adds the frames of the output that waits.
+// Adds the frames of the queued output.
 fn add_lent(alloc: Global, conn: &Conn, words: &mut Words<'_>, text: &mut Text) {
     let (first, last) = conn.waiting_octets();
     let mut lent = copy_of(alloc, first, words);
@@ -138,7 +139,7 @@ pub fn drop_out(out: &[u8], text: &mut Text) {
     }
 }
 
-// Adds what a reader of this name answers; whether there is one.
+// Adds the value of the reader of this name; returns whether there is one.
 fn read(alloc: Global, conn: &Conn, name: &str, words: &mut Words<'_>, text: &mut Text) -> bool {
     match name {
         "waiting" => add_value(text, conn.waiting()),
@@ -154,7 +155,7 @@ fn read(alloc: Global, conn: &Conn, name: &str, words: &mut Words<'_>, text: &mu
     true
 }
 
-// Adds what a reader of this name answers of a stream; whether there is one.
+// Adds the value of the reader of this name for a stream; returns whether there is one.
 fn read_stream(conn: &Conn, name: &str, words: &mut Words<'_>, text: &mut Text) -> bool {
     match name {
         "room" => add_option(text, conn.room(words.number())),
@@ -212,7 +213,7 @@ impl State {
         }
     }
 
-    // Takes so many octets of output away.
+    // Takes at most `count` octets of output away.
     fn part_of_output(&mut self, words: &mut Words<'_>) -> Vec<u8> {
         let count = words.number();
         let mut out = Vec::new(self.alloc);

@@ -10,11 +10,11 @@ use crate::notes::Notes;
 use h2_case::fields::add_fields;
 use h2_case::text::Text;
 use h2_conn::{ConnFault, Event};
-use h2_replay::ReplayEvent;
+use hpack::{Field, FieldList};
 use std::alloc::Global;
 
 // The kind of what is reported.
-fn kind_of(event: &Event<'_>) -> &'static str {
+fn kind_of(event: &Event<&FieldList, &[u8]>) -> &'static str {
     match event {
         Event::Fields { .. } => "fields",
         Event::Data { .. } => "data",
@@ -26,8 +26,8 @@ fn kind_of(event: &Event<'_>) -> &'static str {
     }
 }
 
-/// Notes what is reported, if something is; whether it is.
-pub(crate) fn note_event(notes: &mut Notes, reported: Option<Event<'_>>) -> bool {
+/// Notes what is reported, if something is; returns whether it is.
+pub(crate) fn note_event(notes: &mut Notes, reported: Option<Event<&FieldList, &[u8]>>) -> bool {
     match reported {
         Some(event) => {
             notes.begin(kind_of(&event));
@@ -38,14 +38,14 @@ pub(crate) fn note_event(notes: &mut Notes, reported: Option<Event<'_>>) -> bool
     }
 }
 
-/// Notes a fault of the connection.
+/// Notes a connection error.
 pub fn note_fault(notes: &mut Notes, fault: ConnFault) {
     notes.begin("fault");
     write!(notes.lines, "fault {:?}\n", fault.code);
 }
 
 // Adds the lines of what is reported.
-fn add_event(alloc: Global, text: &mut Text, event: Event<'_>) {
+fn add_event(alloc: Global, text: &mut Text, event: Event<&FieldList, &[u8]>) {
     match event {
         Event::Fields { id, list, end } => {
             begin_line(text, "fields", id, end);
@@ -67,24 +67,24 @@ fn add_event(alloc: Global, text: &mut Text, event: Event<'_>) {
 }
 
 /// Adds the lines of what a replay has kept.
-pub(crate) fn add_kept(alloc: Global, text: &mut Text, event: &ReplayEvent) {
+pub(crate) fn add_kept(alloc: Global, text: &mut Text, event: &Event<Vec<Field>, Vec<u8>>) {
     match event {
-        ReplayEvent::Fields { id, list, end } => {
+        Event::Fields { id, list, end } => {
             begin_line(text, "fields", *id, *end);
             text.push_str("\n");
             add_fields(alloc, text, list);
         }
-        ReplayEvent::Data {
+        Event::Data {
             id,
-            octets,
+            bytes,
             flow,
             end,
-        } => add_data(text, *id, octets, (*flow, *end)),
-        ReplayEvent::Reset { id, code, ours } => add_reset(text, *id, *code, *ours),
-        ReplayEvent::GoAway { last, code } => add_goaway(text, *last, *code),
-        ReplayEvent::Unprocessed { id } => add_unprocessed(text, *id),
-        ReplayEvent::Acked => add_acked(text),
-        ReplayEvent::Pong { octets } => add_pong(text, octets),
+        } => add_data(text, *id, bytes, (*flow, *end)),
+        Event::Reset { id, code, ours } => add_reset(text, *id, *code, *ours),
+        Event::GoAway { last, code } => add_goaway(text, *last, *code),
+        Event::Unprocessed { id } => add_unprocessed(text, *id),
+        Event::Acked => add_acked(text),
+        Event::Pong { octets } => add_pong(text, octets),
     }
 }
 

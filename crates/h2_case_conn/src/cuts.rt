@@ -1,4 +1,4 @@
-//! How the octets of a command are handed over: whole, one a piece, or in two at each place.
+//! How the octets of a command are handed over: all at once, one a piece, or in two at each place.
 
 use crate::answers::extend;
 use h2_case::case::{Case, CaseError};
@@ -10,9 +10,9 @@ use std::alloc::Global;
 /// How the octets of each `take` are handed over.
 #[derive(Clone, Copy)]
 pub struct Cut {
-    /// The first piece ends after so many octets.
+    /// Where the first piece ends, in octets.
     place: usize,
-    /// A piece has so many octets at most.
+    /// The most octets of a piece.
     most: usize,
 }
 
@@ -29,7 +29,7 @@ const LONGEST: usize = 160;
 const MANY: usize = 20_000;
 
 impl Cut {
-    /// Cut 0 is pieces of one octet, and any other is two pieces, of which the first has so many
+    /// Cut 0 is pieces of one octet, and any other is two pieces, the first of which has `number`
     /// octets.
     fn of(number: u32) -> Cut {
         match number {
@@ -95,9 +95,9 @@ fn is_long(command: &str) -> bool {
         ))
 }
 
-// With how many cuts a case is done besides that of whole octets: none where it has no `take`, or
-// a crowd of messages; and no places where a command is long, unless a `take` is to be cut
-// anywhere.
+// The number of cuts with which a case is run besides the octets in one piece: none where it has
+// no `take`, or a crowd of messages; and no places where a command is long, unless a `take` is to
+// be cut anywhere.
 fn count_of_cuts(case: &Case) -> u32 {
     let (mut longest, mut long, mut anywhere) = (0, false, false);
     for step in &case.steps {
@@ -128,7 +128,7 @@ fn are_same(answer: &Answer, other: &Answer) -> bool {
     }
 }
 
-// Adds to the first answer that differs with a cut what it is then; whether one does.
+// Adds to the first answer that differs with a cut what it is then; returns whether one does.
 fn add_difference(answers: &mut [Answer], others: &[Answer], cut: u32) -> bool {
     for (answer, other) in answers.iter_mut().zip(others) {
         if !are_same(answer, other) {
@@ -139,7 +139,7 @@ fn add_difference(answers: &mut [Answer], others: &[Answer], cut: u32) -> bool {
     false
 }
 
-// Adds what an answer is with a cut.
+// Adds the answer with a cut.
 fn add_other(answer: &mut Answer, other: &Answer, cut: u32) {
     let other = match other {
         Ok(other) => other.as_str(),
@@ -154,8 +154,8 @@ fn add_other(answer: &mut Answer, other: &Answer, cut: u32) {
     }
 }
 
-/// The octets of what is left of a command: `each N FRAMES` is the frames N times, with numbers of
-/// streams that are 2 higher each time; all else is as [`read_octets`] says.
+/// The octets of what is left of a command: `each N FRAMES` is the frames N times, with stream
+/// numbers that are 2 higher each time; all else is as [`read_octets`] says.
 pub fn read_frames(alloc: Global, words: &mut Words<'_>) -> Vec<u8> {
     if words.has("each") {
         let times = words.number();
@@ -166,7 +166,7 @@ pub fn read_frames(alloc: Global, words: &mut Words<'_>) -> Vec<u8> {
     }
 }
 
-// Frames so many times, with numbers of streams that are 2 higher each time.
+// The frames `times` times, with stream numbers that are 2 higher each time.
 fn repeated(alloc: Global, frames: &[u8], times: u32, words: &mut Words<'_>) -> Vec<u8> {
     let mut octets = Vec::new(alloc);
     for time in 0..times {
@@ -178,7 +178,7 @@ fn repeated(alloc: Global, frames: &[u8], times: u32, words: &mut Words<'_>) -> 
     octets
 }
 
-// Adds frames with numbers of streams that are so much higher.
+// Adds frames with stream numbers that are `more` higher.
 fn add_frames_above(octets: &mut Vec<u8>, frames: &[u8], more: u32, words: &mut Words<'_>) {
     let mut others = frames;
     for _ in 0..frames.len() {
@@ -194,7 +194,7 @@ fn add_frames_above(octets: &mut Vec<u8>, frames: &[u8], more: u32, words: &mut 
     }
 }
 
-// The head of a frame with a number of a stream that is so much higher.
+// The head of a frame with a stream number that is `more` higher.
 fn head_above(head: &[u8; 9], more: u32) -> [u8; 9] {
     let [a, b, c, kind, flags, d, e, f, g] = *head;
     let id = u32::from_be_bytes([d, e, f, g]).wrapping_add(more);

@@ -64,7 +64,7 @@ impl Tried {
         }
     }
 
-    // The octets that break it at a place among so many of `a`, as ranges in hexadecimal.
+    // The octets that break it at `place`, where the others are `a`, as ranges in hexadecimal.
     fn bad_octets(&mut self, place: usize, text: &mut Text) -> Text {
         let mut ranges = Text::new(self.alloc);
         let mut first = None;
@@ -106,8 +106,8 @@ impl Tried {
     }
 }
 
-/// Adds a line for each place of so many octets, at which the octets are that may not be there; of
-/// places one after another that are alike, the first and the last.
+/// Adds a line for each place of a text of `count` octets, with the octets that are not allowed
+/// there; of places one after another that are alike, the first and the last.
 pub(crate) fn add_bad_octets(alloc: Global, text: &mut Text, is_name: bool, count: usize) {
     match vec![in alloc; b'a'; count] {
         Ok(octets) => Tried {

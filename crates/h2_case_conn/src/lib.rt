@@ -1,5 +1,5 @@
-//! What answers the commands of cases of messages and of one end of a connection, and what the
-//! cases of `h2_case_ends` have in common with these. `h2_cases` checks them.
+//! Drivers of the cases of messages and of one end of a connection, and what the cases of
+//! `h2_case_ends` have in common with these. `h2_cases` checks them.
 #![tactic(auto)]
 
 pub mod acts;

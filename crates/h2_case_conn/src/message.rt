@@ -1,14 +1,14 @@
 //! Messages: the rule that one breaks which is to be sent, and messages as they are read.
 //!
-//! - `each octet of names N`, `each octet of values N`: which octets may not stand at which place
-//!   of a name or a value of N octets, of which the others are `a` ([`crate::each_octet`]).
+//! - `each octet of names N`, `each octet of values N`: which octets are not allowed at which
+//!   place of a name or a value of N octets, whose others are `a` ([`crate::each_octet`]).
 //! - `request MESSAGE`, `response MESSAGE`, `response to_head MESSAGE`: `good`, or the first rule
 //!   that the message breaks. A message is written as [`h2_case::messages`] says.
 //! - `asks HEAD`: whether the head of a request asks with HEAD.
-//! - `read requests`, `read responses`, `read responses to_head`: a message is read from its start.
-//!   Of it `fields FIELDS` and `data N`, each with `end` before the rest where it ends the stream,
-//!   answer the part that the field block is, `taken` for so many octets of DATA, or `refused`; and
-//!   `is_over` and `asks_head` what they say.
+//! - `read requests`, `read responses`, `read responses to_head`: a message is read from its
+//!   start. Of it `fields FIELDS` and `data N`, each with `end` before the rest where it ends the
+//!   stream, answer the part that the field block is, `taken` for `N` octets of DATA, or
+//!   `refused`; and `is_over` and `asks_head` what they say.
 
 use crate::answers::{add_name, add_value};
 use crate::cuts::answers_of;

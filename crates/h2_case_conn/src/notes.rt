@@ -4,7 +4,7 @@ use crate::cuts::Cut;
 use h2_case::text::Text;
 use std::alloc::Global;
 
-/// What came out, in order: all of it, or how many of each kind, and the last one.
+/// What came out, in order: all of it, or the number of each kind, and the last one.
 #[derive(Drop)]
 pub struct Notes {
     pub alloc: Global,
@@ -59,7 +59,7 @@ impl Notes {
     }
 }
 
-// Adds how many there are of each kind, and what precedes the last one.
+// Adds the number of each kind, and what precedes the last one.
 fn add_counts(counts: &[(&'static str, u64)], text: &mut Text) {
     for (kind, count) in counts {
         write!(text, "{kind}: {count}\n");
@@ -69,16 +69,16 @@ fn add_counts(counts: &[(&'static str, u64)], text: &mut Text) {
     }
 }
 
-/// What an end has made of a piece.
+/// The result of a piece that an end has taken.
 #[derive(Clone, Copy)]
 pub struct Used {
-    /// How many octets of it are used.
+    /// The number of its octets that are used.
     pub count: usize,
     /// Whether something came out.
     pub comes_out: bool,
 }
 
-/// An end that takes octets in pieces, and notes what comes out.
+/// An end that takes octets in pieces, and notes what is reported.
 pub trait Taker<N> {
     /// Takes a piece, and notes what comes out, or a fault; nothing where the connection has
     /// failed.
@@ -123,7 +123,8 @@ pub(crate) fn add_taken_once<T: Taker<Notes>>(
     notes.add_to(text);
 }
 
-// Hands octets over, up to a fault or until they are used; whether the connection has not failed.
+// Hands octets over, up to a fault or until they are used; returns whether the connection has not
+// failed.
 fn take_used<N, T: Taker<N>>(taker: &mut T, cut: Cut, octets: &[u8], notes: &mut N) -> bool {
     let mut left = octets;
     for _ in 0..u64::MAX {
@@ -138,8 +139,8 @@ fn take_used<N, T: Taker<N>>(taker: &mut T, cut: Cut, octets: &[u8], notes: &mut
     true
 }
 
-/// Hands octets over, up to a fault or until they are used and nothing more comes out; whether the
-/// connection has not failed.
+/// Hands octets over, up to a fault or until they are used and nothing more comes out; returns
+/// whether the connection has not failed.
 pub fn take_part<N, T: Taker<N>>(taker: &mut T, cut: Cut, octets: &[u8], notes: &mut N) -> bool {
     let mut left = octets;
     for _ in 0..u64::MAX {

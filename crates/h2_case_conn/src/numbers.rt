@@ -32,7 +32,7 @@ fn push(
     }
 }
 
-// Adds the numbers of each active stream, and how many of these there are and the sum of theirs.
+// Adds the numbers of each active stream, the number of these and the sum of theirs.
 fn push_streams(numbers: &mut Vec<Number>, text: &mut Text, conn: &Conn) {
     let (mut last, mut count, mut sum) = (0u32, 0usize, 0i64);
     for _ in 0..u32::MAX {
@@ -49,9 +49,9 @@ fn push_streams(numbers: &mut Vec<Number>, text: &mut Text, conn: &Conn) {
     push(numbers, text, "sum", 0, Some(sum));
 }
 
-/// The numbers of an end: how many octets wait and are held, what is due, how much may be sent; how
-/// much of it on each active stream and what is owed there; and how many these are, and the sum of
-/// their numbers.
+/// The numbers of an end: how many octets are queued and held, what is due, how much may be sent;
+/// how much of it on each active stream and what is owed there; and how many these are, and the
+/// sum of their numbers.
 pub(crate) fn numbers_of(alloc: Global, conn: &Conn, text: &mut Text) -> Vec<Number> {
     let mut numbers = Vec::new(alloc);
     push(&mut numbers, text, "waiting", 0, wide(conn.waiting()));

@@ -58,7 +58,7 @@ fn add_turn(alloc: Global, text: &mut Text, turn: &Turn) {
     }
 }
 
-// Adds what an act answered.
+// Adds the answer to an act.
 fn add_act_answer(alloc: Global, text: &mut Text, answer: Answer) {
     match answer {
         Answer::Id(id) => write!(text, "id {id}\n"),

@@ -1,4 +1,4 @@
-//! Many messages, one after another on streams 1, 3, 5 and so on: how many go as they are to, up to
+//! Many messages, one after another on streams 1, 3, 5 and so on: how many go as expected, up to
 //! the first that does not.
 
 use crate::side::Side;
@@ -21,7 +21,7 @@ pub(crate) fn read_again(alloc: Global, given: Words<'_>, text: &mut Text) -> Me
     message
 }
 
-// Takes the output away where much of it waits.
+// Takes the output away where much of it is queued.
 fn give_out(alloc: Global, side: &mut Side) {
     if side.conn().waiting() > 60_000 {
         let mut out = Vec::new(alloc);
@@ -29,14 +29,14 @@ fn give_out(alloc: Global, side: &mut Side) {
     }
 }
 
-// Takes a frame; whether these lines are what is handed out.
+// Takes a frame; returns whether these lines are what is handed out.
 fn hands_out(alloc: Global, side: &mut Side, frame: &[u8], wanted: &Text) -> bool {
     let mut notes = Notes::new(alloc, false);
     take_all(side, WHOLE, frame, &mut notes);
     notes.lines.as_str() == wanted.as_str()
 }
 
-// A server takes a whole request, hands out its head alone, and is given this answer.
+// A server takes a complete request, hands out its head alone, and is given this answer.
 fn is_served(alloc: Global, side: &mut Side, id: u32, given: Words<'_>, text: &mut Text) -> bool {
     let [a, b, c, d] = id.to_be_bytes();
     let frame = [0, 0, 3, 1, 5, a, b, c, d, 0x82, 0x86, 0x84];
@@ -51,7 +51,7 @@ fn is_served(alloc: Global, side: &mut Side, id: u32, given: Words<'_>, text: &m
     is_heard && is_answered
 }
 
-// A client is given a request; whether it has this stream, which alone is active.
+// Gives a client a request; returns whether it has this stream, which alone is active.
 fn is_asked(alloc: Global, side: &mut Side, id: u32, given: Words<'_>, text: &mut Text) -> bool {
     match side.request(read_again(alloc, given, text)) {
         Ok(number) => {
@@ -63,7 +63,7 @@ fn is_asked(alloc: Global, side: &mut Side, id: u32, given: Words<'_>, text: &mu
     }
 }
 
-// A client is given this request, takes a whole answer, hands out its head alone, and then no
+// A client is given this request, takes a complete response, hands out its head alone, and then no
 // stream is active.
 fn is_answered(alloc: Global, side: &mut Side, id: u32, given: Words<'_>, text: &mut Text) -> bool {
     let is_asked = is_asked(alloc, side, id, given, text);
@@ -76,7 +76,7 @@ fn is_answered(alloc: Global, side: &mut Side, id: u32, given: Words<'_>, text: 
     is_asked && is_heard && side.conn().next_live(0).is_none()
 }
 
-// So many of these messages: how many went as they are to, up to the first that did not.
+// The number of these `count` messages that went as expected, up to the first that did not.
 fn count_of(alloc: Global, side: &mut Side, count: u32, given: Words<'_>, text: &mut Text) -> u32 {
     for place in 0..count {
         let id = place.wrapping_mul(2).wrapping_add(1);
@@ -92,7 +92,7 @@ fn count_of(alloc: Global, side: &mut Side, count: u32, given: Words<'_>, text: 
     count
 }
 
-/// Adds how many of so many messages went as they are to.
+/// Adds how many of a number of messages went as expected.
 pub(crate) fn add_crowd(alloc: Global, side: &mut Side, words: &mut Words<'_>, text: &mut Text) {
     words.expect("each");
     let count = words.number();

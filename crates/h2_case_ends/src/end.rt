@@ -1,23 +1,24 @@
-//! A client or a server of whole messages.
+//! A client or a server of complete messages.
 //!
 //! - `new client`, `new server`, `take`, `out`, `out N`, `drop out`, `ping OCTETS`, `go_away`,
-//!   `reset ID CODE`, `change VALUES`, `waiting`, `room ID`, `owed ID` and `next_live ID` as of one
-//!   end of a connection (`h2_case_conn::conn`). What is handed out is as [`crate::end_events`]
+//!   `reset ID CODE`, `change VALUES`, `waiting`, `room ID`, `owed ID` and `next_live ID` as of
+//!   one end of a connection (`h2_case_conn::conn`). What is handed out is as [`crate::end_events`]
 //!   says.
 //! - `start`: the peer's opening comes, with SETTINGS without values, and all output is taken away
 //!   and not shown.
 //! - `request MESSAGE`, `respond ID MESSAGE`: messages are written as [`h2_case::messages`] says.
-//!   That a refused one is handed back as it was given is checked.
+//!   A refused one must be returned unchanged.
 //! - `serve each N MESSAGE`, at a client `ask each N MESSAGE`: see [`crate::crowds`].
 //! - `pump`, `release_all`, `is_quiet`; `active`: the numbers of all active streams, and
-//!   `count active`: how many there are; `count out`: how many octets of output are taken away.
+//!   `count active`: their number; `count out`: the number of octets of output that are taken
+//!   away.
 //! - `other`: the commands that follow are for the other of two ends, which is new at first.
-//!   `exchange N`: octets go to the other end and back, N at once at most, until none wait
+//!   `exchange N`: octets go to the other end and back, N at once at most, until none are queued
 //!   ([`crate::joined`]).
 //!
-//! Each case is done with the octets of a `take` whole, and then one a piece; and where none is
-//! longer than 160 and no command has repeated octets, in two at each place. An answer that differs
-//! then is said. A case with `serve each` or `ask each` is done once.
+//! Each case is run with the octets of a `take` in one piece, and then one a piece; and where none
+//! is longer than 160 and no command has repeated octets, in two at each place. An answer that
+//! differs then is added. A case with `serve each` or `ask each` is run once.
 
 use crate::crowds::{add_crowd, read_again};
 use crate::joined::exchange;
@@ -36,7 +37,7 @@ use h2_case_conn::notes::{Notes, add_taken};
 use h2_ends::{EndRefusal, Message};
 use std::alloc::Global;
 
-/// Two ends, of which the first is spoken of.
+/// Two ends; commands are for the first.
 #[derive(Drop)]
 struct State {
     alloc: Global,
@@ -66,7 +67,7 @@ fn output(alloc: Global, side: &mut Side) -> Vec<u8> {
     out
 }
 
-// Takes so many octets of output away.
+// Takes at most `count` octets of output away.
 fn part_of_output(alloc: Global, side: &mut Side, count: usize, text: &mut Text) -> Vec<u8> {
     let mut out = Vec::new(alloc);
     match side.put_out(count, &mut out) {
@@ -76,7 +77,7 @@ fn part_of_output(alloc: Global, side: &mut Side, count: usize, text: &mut Text)
     out
 }
 
-// Says where another message is handed back than was given.
+// Says where another message is returned than was given.
 fn add_back(alloc: Global, text: &mut Text, given: Words<'_>, back: &Message) {
     let (mut handed, mut own) = (Text::new(alloc), Text::new(alloc));
     add_message(alloc, &mut handed, back);
@@ -88,7 +89,7 @@ fn add_back(alloc: Global, text: &mut Text, given: Words<'_>, back: &Message) {
     }
 }
 
-// Adds why a message is refused, and says where another one is handed back.
+// Adds why a message is refused, and says where another one is returned.
 fn add_refused(alloc: Global, text: &mut Text, given: Words<'_>, refused: (Message, EndRefusal)) {
     let (message, refusal) = refused;
     add_back(alloc, text, given, &message);
@@ -114,7 +115,7 @@ fn respond(alloc: Global, side: &mut Side, words: &mut Words<'_>, text: &mut Tex
     }
 }
 
-// Adds the numbers of the active streams, or how many there are.
+// Adds the numbers of the active streams, or their count.
 fn add_active(side: &Side, is_counted: bool, text: &mut Text) {
     let (mut count, mut last) = (0u32, 0u32);
     let mut divider = "";
@@ -184,7 +185,7 @@ fn add_count(alloc: Global, side: &mut Side, words: &mut Words<'_>, text: &mut T
     }
 }
 
-// Does a command about octets, or another one.
+// Runs a command about octets, or another one.
 fn answer_one(
     alloc: Global,
     cut: Cut,
@@ -203,7 +204,7 @@ fn answer_one(
     }
 }
 
-// Does a command about messages, or another one.
+// Runs a command about messages, or another one.
 fn answer_message(
     alloc: Global,
     side: &mut Side,
@@ -235,7 +236,7 @@ fn answer_call(alloc: Global, side: &mut Side, name: &str, words: &mut Words<'_>
     }
 }
 
-// Adds what a reader answers.
+// Adds the value of a reader.
 fn read(side: &Side, name: &str, words: &mut Words<'_>, text: &mut Text) {
     match name {
         "waiting" => add_value(text, side.conn().waiting()),

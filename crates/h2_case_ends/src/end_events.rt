@@ -13,8 +13,20 @@ use h2_ends::EndEvent;
 use hpack::FieldList;
 use std::alloc::Global;
 
-// The kind of what is handed out.
-fn kind_of(event: &EndEvent<'_>) -> &'static str {
+/// A list of fields that is written as lines.
+pub(crate) trait FieldLines {
+    /// Adds a line for each field.
+    fn add_lines(self, alloc: Global, text: &mut Text);
+}
+
+impl FieldLines for &FieldList {
+    fn add_lines(self, alloc: Global, text: &mut Text) {
+        add_list(alloc, text, self);
+    }
+}
+
+// The kind of an event.
+fn kind_of(event: &EndEvent<&FieldList, &[u8]>) -> &'static str {
     match event {
         EndEvent::Interim { .. } => "interim",
         EndEvent::Head { .. } => "head",
@@ -28,8 +40,11 @@ fn kind_of(event: &EndEvent<'_>) -> &'static str {
     }
 }
 
-/// Adds the lines of what is handed out.
-pub(crate) fn add_handed(alloc: Global, text: &mut Text, event: EndEvent<'_>) {
+/// Adds the lines of an event.
+pub(crate) fn add_event<F>(alloc: Global, text: &mut Text, event: EndEvent<F, &[u8]>)
+where
+    F: FieldLines + Drop,
+{
     match event {
         EndEvent::Interim { id, list } => add_part(alloc, text, "interim", (id, false), list),
         EndEvent::Head { id, list, end } => add_part(alloc, text, "head", (id, end), list),
@@ -44,11 +59,14 @@ pub(crate) fn add_handed(alloc: Global, text: &mut Text, event: EndEvent<'_>) {
 }
 
 // Adds the lines of a field block.
-fn add_part(alloc: Global, text: &mut Text, kind: &str, stream: (u32, bool), list: &FieldList) {
+fn add_part<F>(alloc: Global, text: &mut Text, kind: &str, stream: (u32, bool), list: F)
+where
+    F: FieldLines + Drop,
+{
     let (id, end) = stream;
     begin_line(text, kind, id, end);
     text.push_str("\n");
-    add_list(alloc, text, list);
+    list.add_lines(alloc, text);
 }
 
 /// Adds the line of octets of a body.
@@ -57,12 +75,12 @@ pub(crate) fn add_body(text: &mut Text, id: u32, octets: &[u8], end: bool) {
     end_with_octets(text, octets);
 }
 
-// Notes what is handed out, if something is; whether it is.
-fn note_handed(notes: &mut Notes, handed: Option<EndEvent<'_>>) -> bool {
+// Notes an event, if there is one; whether there is.
+fn note_handed(notes: &mut Notes, handed: Option<EndEvent<&FieldList, &[u8]>>) -> bool {
     match handed {
         Some(event) => {
             notes.begin(kind_of(&event));
-            add_handed(notes.alloc, &mut notes.lines, event);
+            add_event(notes.alloc, &mut notes.lines, event);
             true
         }
         None => false,

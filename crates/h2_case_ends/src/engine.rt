@@ -2,31 +2,32 @@
 //! fetches one response.
 //!
 //! - `config TABLE WINDOW STREAMS`: the settings of the engine. At first they are the default ones.
-//! - `request MESSAGE`: what the client asks.
+//! - `request MESSAGE`: the request of the client.
 //! - `input OCTETS`: what the peer sends. `from_client OCTETS`: the preface, SETTINGS without a
 //!   value, and then the octets. `from_server OCTETS`: SETTINGS without a value, and the octets.
-//!   `add OCTETS` adds octets; `data ID COUNT` and `last_data ID COUNT` add a body of so many
-//!   octets that count on, in the longest frames of DATA, the last of which ends the stream in the
-//!   second; `malformed COUNT` adds so many whole requests without `:scheme`, on streams 1, 3, 5
-//!   and so on.
-//! - `serve` and `fetch`: what the engine answers over a link that reads and writes all, and how
-//!   many calls of the link have failed, if any. It runs in pieces of one octet too, and with reads
-//!   of 7 and writes of 5 octets: where it answers something else then, it says so.
-//! - `serve READ WRITE` and `fetch READ WRITE`: the same over a link that reads and writes so many
-//!   octets a call at most, `all` for all. `fails CALLS` may follow: the call after so many fails.
-//! - `output`: what the last of these has written, as frames. `written`: how many octets.
+//!   `add OCTETS` adds octets; `data ID COUNT` and `last_data ID COUNT` add a body of `COUNT`
+//!   octets that count up, in the longest frames of DATA, the last of which ends the stream in the
+//!   second; `malformed COUNT` adds `COUNT` complete requests without `:scheme`, on streams 1, 3,
+//!   5 and so on.
+//! - `serve` and `fetch`: what the engine answers over a link that reads and writes all, and the
+//!   number of calls of the link that have failed, if any. It runs in pieces of one octet too, and
+//!   with reads of 7 and writes of 5 octets: where it answers something else then, it says so.
+//! - `serve READ WRITE` and `fetch READ WRITE`: the same over a link that reads at most `READ` and
+//!   writes at most `WRITE` octets a call, `all` for all. `fails CALLS` may follow: the call after
+//!   `CALLS` others fails.
+//! - `output`: what the last of these has written, as frames. `written`: the number of its octets.
 //!   `body ID`: the body in its DATA on a stream. `frames TYPE` and `count TYPE`: its frames of a
-//!   type, and how many there are.
+//!   type, and their number.
 //! - `serve prefixes` and `fetch prefixes`: what the engine answers to each number of first octets
-//!   of the input, and how many octets it has written.
-//! - `serve failing READ WRITE` and `fetch failing READ WRITE`: how many calls of the link a run
-//!   makes. After each smaller number of calls the next one fails; then the answer is N1, one call
-//!   has failed, and a prefix of the output was written.
-//! - `serve turns COUNT` and `fetch turns COUNT`: the engine without a link takes so many octets at
-//!   once, and puts out all after each time.
+//!   of the input, and the number of octets that it has written.
+//! - `serve failing READ WRITE` and `fetch failing READ WRITE`: the number of calls of the link
+//!   that a run makes. After each smaller number of calls the next one fails; then the answer is
+//!   N1, one call has failed, and a prefix of the output was written.
+//! - `serve turns COUNT` and `fetch turns COUNT`: the engine without a link takes `COUNT` octets
+//!   at once, and puts out all after each time.
 //! - `exchange`: a server answers what the client sends, and the client fetches that.
-//! - `many COUNT`: a client makes so many requests, request K with POST for the path /K and a body
-//!   of K octets that count on, K from 0; a server answers them in one connection; and these
+//! - `many COUNT`: a client makes `COUNT` requests, request K with POST for the path /K and a body
+//!   of K octets that count up, K from 0; a server answers them in one connection; and these
 //!   responses the client hands out, in the order of the requests.
 
 mod input;
@@ -59,7 +60,7 @@ fn read_calls(words: &mut Words<'_>) -> Calls {
     }
 }
 
-// Does `serve` or `fetch`.
+// Runs `serve` or `fetch`.
 fn run(setup: &mut Setup, engine: Engine, words: &mut Words<'_>, text: &mut Text) {
     if words.is_empty() {
         trials::add_alike(setup, engine, words, text);
@@ -76,7 +77,7 @@ fn run(setup: &mut Setup, engine: Engine, words: &mut Words<'_>, text: &mut Text
     }
 }
 
-// Keeps the message that the client asks.
+// Keeps the request of the client.
 fn keep_request(setup: &mut Setup, words: &mut Words<'_>) {
     match String::from_str(setup.alloc, words.rest()) {
         Ok(request) => setup.request = request,
@@ -90,7 +91,7 @@ fn begin_input(setup: &mut Setup, opening: &[u8], words: &mut Words<'_>) {
     input::add_rest(setup.alloc, &mut setup.input, words);
 }
 
-// Does a command about the input, or another one.
+// Runs a command about the input, or another one.
 fn answer_input(setup: &mut Setup, name: &str, words: &mut Words<'_>, text: &mut Text) {
     match name {
         "input" => begin_input(setup, &[], words),

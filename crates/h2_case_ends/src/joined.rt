@@ -1,11 +1,11 @@
-//! Two ends that are joined in memory: what one gives out, the other takes.
+//! Two ends that are joined in memory: what one puts out, the other takes.
 
-use crate::end_events::{add_body, add_handed};
+use crate::end_events::{add_body, add_event};
 use crate::side::Side;
 use h2_case::text::Text;
 use h2_case_conn::cuts::WHOLE;
 use h2_case_conn::notes::{Taker, Used, take_part};
-use h2_ends::EndEvent;
+use h2_ends::{EndEvent, FieldList};
 use std::alloc::Global;
 
 /// What an end hands out: the octets of a body in one line, in however many parts they come, and
@@ -56,19 +56,19 @@ impl Heard {
     }
 
     // Keeps what is handed out.
-    fn keep(&mut self, event: EndEvent<'_>) {
+    fn keep(&mut self, event: EndEvent<&FieldList, &[u8]>) {
         match event {
             EndEvent::Body { id, bytes, end } => self.keep_body(id, bytes, end),
             EndEvent::Acked => self.acked = self.acked.saturating_add(1),
             _ => {
                 self.end_body();
-                add_handed(self.alloc, &mut self.lines, event);
+                add_event(self.alloc, &mut self.lines, event);
             }
         }
     }
 
-    // Keeps what is handed out, if something is; whether it is.
-    fn note(&mut self, handed: Option<EndEvent<'_>>) -> bool {
+    // Keeps what is handed out, if something is; returns whether it is.
+    fn note(&mut self, handed: Option<EndEvent<&FieldList, &[u8]>>) -> bool {
         match handed {
             Some(event) => {
                 self.keep(event);
@@ -101,8 +101,8 @@ impl Taker<Heard> for Side {
     }
 }
 
-// Moves at most so many octets from one end to the other; how many, and none where a call is
-// refused.
+// Moves at most `most` octets from one end to the other; returns their number, or `None` where a
+// call is refused.
 fn move_octets(
     alloc: Global,
     from: &mut Side,
@@ -120,8 +120,8 @@ fn move_octets(
     }
 }
 
-/// Moves octets to and from the other end, so many at once at most, until none wait; and adds what
-/// each of the two hands out.
+/// Moves octets to and from the other end, at most `most` at once, until none are queued; and adds
+/// what each of the two hands out.
 pub(crate) fn exchange(
     alloc: Global,
     near: &mut Side,

@@ -1,5 +1,5 @@
-//! What answers the commands of cases of a client and a server, alone or joined, and of whole
-//! connections over links. `h2_cases` checks them.
+//! Drivers of the cases of a client and a server, alone or joined, and of connections over links.
+//! `h2_cases` checks them.
 #![tactic(auto)]
 
 mod crowds;

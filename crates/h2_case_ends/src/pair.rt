@@ -2,30 +2,31 @@
 //!
 //! SIDE is `client` or `server`, COUNT a number of octets or `all`, and MESSAGE is a message. Each
 //! case runs twice: with octets that are moved and delivered as its commands say, and then in
-//! pieces of one octet. Where an answer differs then, it says so.
+//! pieces of one octet. An answer that differs then is added.
 //!
 //! - `new client TABLE WINDOW STREAMS server TABLE WINDOW STREAMS`: two ends with these settings.
 //!   `frames N` may follow each three, for the greatest frame that is read, and `pieces N` all, for
 //!   pieces of N octets.
-//! - `request MESSAGE`, `respond ID MESSAGE`, `pump SIDE`, `move SIDE COUNT`, `deliver SIDE COUNT`,
-//!   `release_all SIDE`, `reset SIDE ID CODE`, `ping SIDE OCTETS`, `go_away SIDE`,
-//!   `change SIDE TABLE WINDOW STREAMS`: an act, and what it answers: the stream of a request, how
-//!   many octets were sent, moved or delivered, `done`, the rule by which it is refused,
-//!   `fault CODE` or `memory`. Where a refused act has changed what is seen of the ends, that is
-//!   said.
+//! - `request MESSAGE`, `respond ID MESSAGE`, `pump SIDE`, `move SIDE COUNT`,
+//!   `deliver SIDE COUNT`, `release_all SIDE`, `reset SIDE ID CODE`, `ping SIDE OCTETS`,
+//!   `go_away SIDE`, `change SIDE TABLE WINDOW STREAMS`: an act, and what it answers: the stream
+//!   of a request, the number of octets sent, moved or delivered, `done`, the rule by which it is
+//!   refused, `fault CODE` or `memory`. Where a refused act has changed what is seen of the ends,
+//!   that is said.
 //! - `settle`: both ends pump, release, move and deliver all, until they are quiet.
-//! - `quiet`: whether they are. `waits SIDE`: how many octets of an end's output wait.
-//!   `pipes SIDE`: how many are on its pipe, and `piped SIDE`: those octets, as frames.
-//! - `room SIDE ID`: how many octets an end may send on a stream, or on the connection (0).
-//! - `ends`: of each end how many messages it has accepted, how many events it has handed out, how
-//!   many octets of its output wait, how many are on its pipe, and how many it may send on the
-//!   connection, where one of these has changed since the last such command; and `quiet` where both
-//!   ends are.
+//! - `quiet`: whether they are. `waits SIDE`: the number of octets of an end's queued output.
+//!   `pipes SIDE`: the number of octets on its pipe, and `piped SIDE`: those octets, as frames.
+//! - `room SIDE ID`: the number of octets that an end may send on a stream, or on the connection
+//!   (0).
+//! - `ends`: of each end the number of messages that it has accepted, of events that it has
+//!   handed out, and of octets that are queued, that are on its pipe, and that it may send on the
+//!   connection, where one of these has changed since the last such command; and `quiet` where
+//!   both ends are.
 //! - `accepted SIDE`: the messages that an end has accepted, with their streams.
 //! - `handed SIDE`: what an end has handed out since the last such command: `interim ID`, `head ID`
 //!   and `trailers ID`, and a line for each field; `body ID OCTETS`; each with `end` after its
-//!   stream where the message is whole; `reset ID code=N ours` or `theirs`, `goaway last=N code=N`,
-//!   `unprocessed ID`, `acked`, and `pong OCTETS`.
+//!   stream where the message is complete; `reset ID code=N ours` or `theirs`,
+//!   `goaway last=N code=N`, `unprocessed ID`, `acked`, and `pong OCTETS`.
 //! - `whole SIDE ID`: whether an end has handed out on a stream all of the message that the other
 //!   has accepted for it; `no prefix` where what was handed out on some stream begins no message.
 
@@ -43,7 +44,7 @@ use h2_case::words::Words;
 use h2_case_conn::cuts::answers_of;
 use std::alloc::Global;
 
-/// The ends of a case, whose octets go whole or in pieces.
+/// The ends of a case, whose octets go all at once or in pieces.
 #[derive(Drop)]
 struct State {
     alloc: Global,
@@ -71,7 +72,7 @@ fn run_in(alloc: Global, case: &Case, is_in_pieces: bool) -> Vec<Answer> {
     answers_of(alloc, case, state)
 }
 
-// Adds what an answer is in pieces, if it is another one; whether memory was not refused.
+// Adds what an answer is in pieces, if it is another one; returns whether memory was not refused.
 fn add_other(lines: &mut String, other: Option<&Answer>) -> bool {
     match other {
         Some(Ok(other)) if other == lines => true,

@@ -11,7 +11,7 @@ pub(crate) enum Side {
 }
 
 impl Drop for Side {
-    /// Drops it by a call, so that what drops it is proved once.
+    /// It is dropped by a call, so that its drop is proved once.
     fn drop(self) {
         match self {
             Side::Client(client) => drop(client),

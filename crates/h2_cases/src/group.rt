@@ -1,4 +1,4 @@
-//! The groups of cases: what answers the commands of each.
+//! The groups of cases, and the driver of each.
 
 use crate::{location, program};
 use h2_case::case::Case;
@@ -28,11 +28,11 @@ pub(crate) enum Group {
     Message,
     /// One end of a connection.
     Conn,
-    /// A client or a server of whole messages.
+    /// A client or a server of complete messages.
     End,
     /// A client and a server that are joined by two pipes.
     Pair,
-    /// Whole connections, over links in memory.
+    /// Connections over links in memory.
     Engine,
     /// What `h2 show` prints of an input.
     Show,

@@ -1,4 +1,4 @@
-//! What a command of the program reads.
+//! The input of a command of the program.
 
 use h2_case::fields::read_text;
 use h2_case::octets::read_octets;
@@ -50,7 +50,7 @@ enum How {
 #[derive(Drop)]
 pub(crate) struct Pieces<'a> {
     octets: &'a [u8],
-    /// How many octets the next piece has at most, and each one after it.
+    /// The most octets of the next piece, and of each one after it.
     next: usize,
     others: usize,
     how: How,
@@ -67,7 +67,7 @@ impl<'a> Pieces<'a> {
         Pieces::new(octets, (1, 1), How::Single)
     }
 
-    /// Two pieces, of which the first has so many octets.
+    /// Two pieces, the first of which has `place` octets.
     pub(crate) fn cut(octets: &'a [u8], place: usize) -> Pieces<'a> {
         Pieces::new(octets, (place, usize::MAX), How::CutAfter(place))
     }

@@ -11,13 +11,13 @@ use h2_case::words::Words;
 use h2_net::target;
 use std::alloc::Global;
 
-/// What answers the commands of a case.
+/// The driver of a case's commands.
 #[derive(Drop)]
 struct Locations {
     alloc: Global,
 }
 
-// Adds what is fetched of a URL, or why none is.
+// Adds what is fetched of a URL, or why nothing is.
 fn add_target(alloc: Global, url: &[u8], text: &mut Text) {
     match target(alloc, url) {
         Ok(found) => {

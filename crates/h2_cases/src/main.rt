@@ -1,9 +1,9 @@
-//! Checks cases, which are files: what each command of a case answers, against what is wanted.
+//! Checks cases, which are files: the answer to each command of a case, against the expected one.
 //!
 //! `h2_cases FOLDER` reads the files of each group's folder below `FOLDER`, and prints a line for
 //! each group and one for all. A file has cases, which are read as [`read_cases`] says. A case
-//! that differs is printed, with what was wanted and what came. The exit status is 0 where nothing
-//! differs, and 1 where a case differs or cannot be read, or a group has no cases.
+//! that differs is printed, with what was expected and what came. The exit status is 0 where
+//! nothing differs, and 1 where a case differs or cannot be read, or a group has no cases.
 #![tactic(auto)]
 
 mod group;
@@ -60,7 +60,7 @@ fn check_group<W: Write>(
     Ok(counts)
 }
 
-/// Checks all groups below a folder, and prints how many cases there are.
+/// Checks all groups below a folder, and prints the number of cases.
 fn check_all<W: Write>(rt: &HostRuntime, folder: &str, out: &mut W) -> io::Result<bool> {
     let mut counts = Counts::default();
     for group in GROUPS {

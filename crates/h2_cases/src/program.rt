@@ -11,9 +11,9 @@
 //! - `exchange N`: the response to the POST of N octets that `h2 loop N` makes: its fields, and its
 //!   body, in which the line of the request is text.
 //!
-//! An input is read whole, in single octets, and, where it has at most 400, cut in two at each
-//! place. Octets are read as hexadecimal text with `--hex` too. Where an answer differs from that
-//! to the input read whole, it follows, after a line that says how the input was read.
+//! An input is read in one piece, in single octets, and, where it has at most 400, cut in two at
+//! each place. Octets are read as hexadecimal text with `--hex` too. Where an answer differs from
+//! that to the input read in one piece, it follows, after a line that says how the input was read.
 
 use crate::input::{Input, Pieces, Unreadable};
 use h2_case::case::{Case, CaseError};
@@ -31,10 +31,10 @@ use std::net::Net;
 /// An input of more octets is not cut at each place.
 const MOST_CUT: usize = 400;
 
-/// So many equal characters at the end of a line are printed as they are.
+/// At most this number of equal characters at the end of a line are printed as they are.
 const MOST_EQUAL: usize = 1_000;
 
-/// What a case has given so far.
+/// The state of a case.
 #[derive(Drop)]
 struct Session<'a, N: Net> {
     net: &'a N,
@@ -68,7 +68,7 @@ fn read_line(alloc: Global, words: &mut Words<'_>) -> Vec<String> {
     line
 }
 
-// Adds a line. Many equal characters at its end are so many.
+// Adds a line. More than `MOST_EQUAL` equal characters at its end are abbreviated.
 fn add_shortened(text: &mut Text, line: &str) {
     let last = line.as_bytes().last().copied().unwrap_or(0);
     let start = line.trim_end_matches(last as char);
@@ -118,8 +118,7 @@ fn add_errors(text: &mut Text, errors: &str) {
     }
 }
 
-// Runs the program, and answers its status. What its contract says is not said of this, since no
-// case needs it.
+// Runs the program, and returns its status. It has no contract, since no case needs one.
 fn run<N: Net, R: Read>(
     net: &N,
     alloc: Global,
@@ -254,7 +253,7 @@ fn add_body(text: &mut Text, body: &[u8]) {
     text.push_str("\n");
 }
 
-// Adds the response to the POST of so many octets.
+// Adds the response to a POST of `count` octets.
 fn add_exchange<N: Net>(net: &N, alloc: Global, count: u32, text: &mut Text) {
     match exchange(net, alloc, count) {
         Ok(fetched) => {
@@ -277,7 +276,7 @@ impl<N: Net> Session<'_, N> {
         }
     }
 
-    // Adds what the program answers, and keeps it.
+    // Adds the answer of the program, and keeps it.
     fn answer_line(&mut self, words: &mut Words<'_>, text: &mut Text) {
         match &self.input {
             Some(input) => add_answers(self.net, self.alloc, input, words, text),

@@ -23,9 +23,9 @@ pub enum Hint {
     ErrorCode(Code),
     /// Nothing listens at the port.
     ConnectionRefused,
-    /// The peer has reset the connection of TCP.
+    /// The peer has reset the TCP connection.
     ConnectionReset,
-    /// There is no way to the host, or it doesn't answer.
+    /// There is no route to the host, or it doesn't answer.
     HostUnreachable,
     /// Another program listens at the port.
     PortInUse,

@@ -13,7 +13,7 @@ use h2_link::read_some;
 use std::alloc::{AllocError, Global};
 use std::io::{self, BufWriter, Read, Write};
 
-/// How many octets are read at once, and buffered before they are written.
+/// The number of octets that are read at once, and buffered before they are written.
 pub const PIECE: usize = 65_536;
 
 /// A buffer for a piece: [`PIECE`] zeros.
@@ -52,7 +52,7 @@ pub fn read_next<R: Read, W: Write + Drop>(
 }
 
 // rule: show (own) Hexadecimal is read without its blanks; other text is refused
-/// Reads text to its end, and answers the octets that it gives in hexadecimal.
+/// Reads text to its end, and returns the octets that it gives in hexadecimal.
 ///
 /// # Errors
 ///

@@ -1,31 +1,22 @@
--- What a call makes of the parts of a connection, whatever log they represent.
-use Rattle.std.proofs.Common.{◌≡◌, ◌≤◌, ℕ, Bool, true, false, List, ◌∷◌, length, Some, None, Result}
-use Rattle.std.proofs.Common.{Ok, Err, inl, inr, IfOk, IfErr, OnOk, refl, sym, ap, subst, ◌∙◌}
-use Rattle.h2_wire.specs.Cutter.{CutterState, CutterLimited, saturated}
-use Rattle.h2_spec_log.specs.declared.refusal.Refusal.{Refusal}
-use Rattle.h2_spec_log.specs.declared.refusal.Refusal.TheVariants.{Memory}
-use Rattle.h2_spec_log.specs.Acts.{Values, Act, Answer, Refused, IsTypedAct, Open, SendFields}
-use Rattle.h2_spec_log.specs.Acts.{SendData, Release, ResetStream, Refuse, SendPing, SendGoAway}
-use Rattle.h2_spec_log.specs.Acts.{PutOut, ChangeSettings, AreInRange, Done}
-use Rattle.h2_spec_log.specs.Limits.{most_max_frame}
-use Rattle.h2_spec_log.specs.Log.{Log}
-use Rattle.h2_spec_log.specs.LogView.{log_view}
-use Rattle.h2_spec_log.specs.LogCalls.{MayAnswer, accepts, refuses, lacks, with_call}
-use Rattle.h2_spec_log.specs.CallRules.{refusal_of, answer_of, may_lack_memory, first_of}
-use Rattle.h2_spec_log.specs.CallRules.{conditions}
-use Rattle.h2_spec_log.specs.View.{View}
-use Rattle.h2_spec_log.proofs.StreamLemmas.{Keeps, Keeps-call}
-use Rattle.h2_spec_machine.specs.End.{End, end_view, payload_limit_of}
-use Rattle.h2_spec_machine.specs.Machine.{after_call}
-use Rattle.h2_spec_machine.specs.Represents.{Represents}
+-- The parts of a connection after a call, whatever log they represent.
+use Rattle.h2_conn.proofs.Names.{◌≡◌, ◌≤◌, ℕ, Bool, true, false, List, ◌∷◌, length, Some, None}
+use Rattle.h2_conn.proofs.Names.{Result, Ok, Err, inl, inr, IfOk, refl, sym, ap, subst, ◌∙◌}
+use Rattle.h2_conn.proofs.Names.{CutterState, CutterLimited, saturated, Refusal, Memory, Values}
+use Rattle.h2_conn.proofs.Names.{Act, Answer, Refused, Open, SendFields, SendData, Release}
+use Rattle.h2_conn.proofs.Names.{ResetStream, Refuse, SendPing, SendGoAway, PutOut, ChangeSettings}
+use Rattle.h2_conn.proofs.Names.{AreInRange, Done, most_max_frame, Log, log_view, MayAnswer}
+use Rattle.h2_conn.proofs.Names.{with_call, refusal_of, View, Keeps, End, end_view}
+use Rattle.h2_conn.proofs.Names.{payload_limit_of, after_call, Represents, views_alike}
+use Rattle.h2_conn.proofs.Names.{refusal_same, CallRefused, CallAccepted, answer_by, PartsRepresent}
+use Rattle.h2_spec_log.specs.Acts.{IsTypedAct}
+use Rattle.h2_spec_log.specs.CallRules.{may_lack_memory, answer_of, first_of, conditions}
 use Rattle.h2_laws_machine.specs.Machines.{end_after}
-use Rattle.h2_laws_machine.proofs.AlikeAnswers.{answer_alike, views_alike}
-use Rattle.h2_laws_machine.proofs.CallRefusals.{refusal_same}
+use Rattle.std.proofs.Common.{IfErr, OnOk}
+use Rattle.h2_spec_log.specs.LogCalls.{accepts, refuses, lacks}
+use Rattle.h2_spec_log.proofs.StreamLemmas.{Keeps-call}
+use Rattle.h2_laws_machine.proofs.AlikeAnswers.{answer_alike}
 use Rattle.h2_laws_machine.proofs.FreshNumbers.{calls_represent}
 use Rattle.h2_laws_machine.proofs.ReadLimits.{own_of_call}
-use Rattle.h2_core.specs.Calls.{CallRefused, CallAccepted}
-use Rattle.h2_conn.specs.Conn.{answer_by}
-use Rattle.h2_conn.specs.Inner.{PartsRepresent}
 use Rattle.h2_conn.proofs.AskLimits.{parts_kept}
 use Rattle.h2_conn.proofs.SetLimits.{has_cut_kept, parts_limited}
 use Rattle.hpack.proofs.Tests.{none_since as nothing}
@@ -183,7 +174,7 @@ accepted_answers cutter e new act answer other keeps typed is accepted values lo
     (answer_alike values e log act parts.machine (up_if_free e act other accepted.free))
     accepted.free accepted.after
 
--- What a call answers by its result, where its value is the machine's answer.
+-- A call's answer by its result, where its value is the machine's answer.
 pub answers_by : {A : Type 0} (answered : A → Answer) (result : Result A Refusal)
     (cutter : CutterState) (e new : End) (act : Act) → puts_out act ≡ false
     → changes_settings act ≡ false → IsTypedAct act
@@ -253,7 +244,7 @@ condition_answers cutter e act refusal typed why values log parts =
           (ap (λ (x : End). x.own) (refused_after e act refusal))),
     )
 
--- What is said of a value, otherwise.
+-- What is said of a value, in another form.
 pub value_as : {A : Type 0} (X Y : A → Type 0) (P : Type 0) (result : Result A Refusal)
     → ((value : A) → X value → Y value) → IfOk result (λ value. X value × P)
     → IfOk result (λ value. Y value × P)

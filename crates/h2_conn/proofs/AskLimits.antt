@@ -1,19 +1,9 @@
 -- The parts of a connection where its cutter is left as it is: the own settings of the end stay,
 -- and with them the limit of payloads that is in force.
-use Rattle.std.proofs.Common.{◌≡◌, ℕ, nat_le, if◌then◌else◌, List, length, None, ap, sym, ◌∙◌}
-use Rattle.h2_frame.specs.Frames.{Frame}
-use Rattle.h2_wire.specs.Cutter.{CutterState, CutterRepresents, saturated}
-use Rattle.h2_wire.specs.Streams.{Limits}
-use Rattle.h2_spec_log.specs.declared.role.Role.{Role}
-use Rattle.h2_spec_log.specs.Acts.{Values}
-use Rattle.h2_spec_log.specs.Settings.{is_server, payload_limit}
-use Rattle.h2_spec_log.specs.Log.{Log, acked}
-use Rattle.h2_spec_log.specs.LogSteps.{limits_from}
-use Rattle.h2_spec_log.proofs.StreamLemmas.{Keeps}
-use Rattle.h2_spec_machine.specs.End.{End, payload_limit_of}
-use Rattle.h2_spec_machine.specs.Represents.{Represents}
-use Rattle.h2_laws_machine.proofs.ReadLimits.{limit_agrees}
-use Rattle.h2_conn.specs.Inner.{PartsRepresent}
+use Rattle.h2_conn.proofs.Names.{◌≡◌, ℕ, nat_le, if◌then◌else◌, List, length, None, ap, sym, ◌∙◌}
+use Rattle.h2_conn.proofs.Names.{Frame, CutterState, CutterRepresents, saturated, Limits, Role}
+use Rattle.h2_conn.proofs.Names.{Values, is_server, payload_limit, Log, acked, limits_from, Keeps}
+use Rattle.h2_conn.proofs.Names.{End, payload_limit_of, Represents, limit_agrees, PartsRepresent}
 
 -- With the same own settings the same limit is in force.
 same_limit : (values : Values) (e other : End) (log next : Log) → Represents values e log
@@ -23,7 +13,7 @@ same_limit values e other log next represents after up going own =
     sym (limit_agrees values other next after going) ∙ ap payload_limit_of own
     ∙ limit_agrees values e log represents up
 
--- The limits to come, where so many octets were used, and this limit is in force.
+-- The limits to come, where `count` octets were used, and `limit` is in force.
 abbrev limits_by : ℕ → Limits → ℕ → Limits
 limits_by count limits limit = λ place. if nat_le place count then limits place else limit
 
@@ -38,7 +28,7 @@ same_limits log next keeps same =
     ∙ ap (λ (limits : Limits). limits_by (length log.input) limits
     (payload_limit (acked log) log.sent)) keeps.limits
 
--- A cutter represents the same stream, said otherwise.
+-- A cutter represents the same stream, in another form.
 pub cuts_same : (cutter : CutterState) (one two : Role) (limits others : Limits)
     (input after : List ℕ) (frames more : List Frame) → two ≡ one → others ≡ limits
     → after ≡ input → more ≡ frames

@@ -1,20 +1,11 @@
 -- Calls that take no memory, and how many octets are kept at most.
-use Rattle.std.proofs.Common.{◌≡◌, ◌≢◌, ◌∙◌, ◌+◌, ◌≤◌, ℕ, Bool, true, false, List}
-use Rattle.std.proofs.Common.{Option, Some, None, is_some, IsSome, Result, Err, refl, ap, sym}
-use Rattle.std.proofs.Common.{arith}
-use Rattle.h2_frame.specs.declared.code.Code.{Code}
-use Rattle.h2_spec_log.specs.declared.refusal.Refusal.{Refusal}
-use Rattle.h2_spec_log.specs.declared.refusal.Refusal.TheVariants.{Memory, Closed}
-use Rattle.h2_spec_log.specs.Acts.{Values}
-use Rattle.h2_spec_log.specs.CallRules.{returns_before_put_out, sends_no_data}
-use Rattle.h2_spec_log.specs.Log.{Log}
-use Rattle.h2_spec_log.specs.LogView.{log_view}
-use Rattle.h2_spec_log.specs.View.{View}
-use Rattle.h2_spec_machine.specs.End.{End, end_view}
-use Rattle.h2_spec_machine.specs.Represents.{Represents}
-use Rattle.h2_laws_machine.proofs.AlikeAnswers.{views_alike}
-use Rattle.h2_wire.specs.Cutter.{CutterState}
-use Rattle.h2_conn.specs.Inner.{PartsRepresent}
+use Rattle.h2_conn.proofs.Names.{◌≡◌, ◌≢◌, ◌∙◌, ◌+◌, ◌≤◌, ℕ, Bool, true, false, List, Option, Some}
+use Rattle.h2_conn.proofs.Names.{None, is_some, Result, Err, refl, ap, sym, arith, Code, Refusal}
+use Rattle.h2_conn.proofs.Names.{Memory, Values, returns_before_put_out, Log, log_view, View, End}
+use Rattle.h2_conn.proofs.Names.{end_view, Represents, views_alike, CutterState, PartsRepresent}
+use Rattle.std.proofs.Common.{IsSome}
+use Rattle.h2_spec_log.specs.declared.refusal.Refusal.TheVariants.{Closed}
+use Rattle.h2_spec_log.specs.CallRules.{sends_no_data}
 
 -- Whether credit is returned before output is put out is the same at a machine as at its log, by
 -- whether the connection has failed.

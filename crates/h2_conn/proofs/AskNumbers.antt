@@ -1,16 +1,10 @@
--- The number of the stream that a client opens next, as a connection answers it.
-use Rattle.std.proofs.Common.{◌≡◌, ℕ, false, List, Some}
-use Rattle.std.proofs.Common.{is_some, ap, sym, ◌∙◌}
-use Rattle.h2_block.specs.Grouping.{Item}
-use Rattle.h2_spec_log.specs.declared.role.Role.{Role}
-use Rattle.h2_spec_log.specs.declared.role.Role.TheVariants.{Client, Server}
-use Rattle.h2_spec_log.specs.Acts.{Values}
+-- The number of the stream that a client opens next, as a connection returns it.
+use Rattle.h2_conn.proofs.Names.{◌≡◌, ℕ, false, List, Some, is_some, ap, sym, ◌∙◌, Item, Role}
+use Rattle.h2_conn.proofs.Names.{Client, Server, Values, Log, is_server, End, Represents}
 use Rattle.h2_spec_log.specs.Items.{greatest_block}
-use Rattle.h2_spec_log.specs.Log.{Log, next_number}
-use Rattle.h2_spec_log.specs.Settings.{is_server}
+use Rattle.h2_spec_log.specs.Log.{next_number}
 use Rattle.h2_spec_log.specs.States.{openings}
-use Rattle.h2_spec_machine.specs.End.{End, number_after}
-use Rattle.h2_spec_machine.specs.Represents.{Represents}
+use Rattle.h2_spec_machine.specs.End.{number_after}
 use Rattle.h2_conn.specs.Conn.{reader_next_number}
 
 -- A client's greatest number is that of the blocks that it has sent.

@@ -1,33 +1,24 @@
--- What putting output out makes of the parts of a connection, and that its octets are the log's
--- next ones.
-use Rattle.std.proofs.Common.{◌≡◌, ℕ, zero, suc, ◌+◌, ◌++◌, min, nat_lt, Bool, true, false, ◌||◌}
-use Rattle.std.proofs.Common.{List, length, take, drop, Option, Some, None, Result, Ok, Err, inr}
-use Rattle.std.proofs.Common.{IfOk, IfErr, IsOk, is_ok, refl, sym, ap, ◌∙◌, arith}
+-- The parts of a connection after output is put out, and that its octets are the log's next ones.
+use Rattle.h2_conn.proofs.Names.{◌≡◌, ℕ, suc, ◌+◌, ◌++◌, min, nat_lt, Bool, true, false, ◌||◌, List}
+use Rattle.h2_conn.proofs.Names.{length, take, drop, Option, Some, None, Result, Ok, Err, inr, IfOk}
+use Rattle.h2_conn.proofs.Names.{refl, sym, ap, ◌∙◌, arith, Code, CutterState, Refusal, Memory}
+use Rattle.h2_conn.proofs.Names.{Values, IsTypedAct, PutOut, Count, returns_before_put_out, Log}
+use Rattle.h2_conn.proofs.Names.{log_view, End, end_view, before_put_out_at, Represents}
+use Rattle.h2_conn.proofs.Names.{waiting_alike, PutsOut, answer_by, never_refused}
+use Rattle.h2_spec_log.specs.CallRules.{may_lack_memory, encoder_after_call}
+use Rattle.h2_spec_log.specs.LogCalls.{with_call, called, before_put_out}
+use Rattle.std.proofs.Common.{zero, IfErr, IsOk, is_ok}
 use Rattle.std.proofs.lemmas.Bool.{both_ways, lt-ltb}
 use Rattle.std.proofs.lemmas.List.{drop-take}
-use Rattle.h2_frame.specs.declared.code.Code.{Code}
-use Rattle.h2_wire.specs.Cutter.{CutterState}
-use Rattle.h2_spec_log.specs.declared.refusal.Refusal.{Refusal}
-use Rattle.h2_spec_log.specs.declared.refusal.Refusal.TheVariants.{Memory}
-use Rattle.h2_spec_log.specs.Acts.{Values, IsTypedAct, PutOut, Count}
-use Rattle.h2_spec_log.specs.CallRules.{may_lack_memory, encoder_after_call, returns_before_put_out}
-use Rattle.h2_spec_log.specs.Log.{Log, released}
-use Rattle.h2_spec_log.specs.LogView.{log_view}
-use Rattle.h2_spec_log.specs.LogCalls.{called, before_put_out, with_call}
-use Rattle.h2_spec_machine.specs.End.{End, end_view}
-use Rattle.h2_spec_machine.specs.Machine.{before_put_out_at}
-use Rattle.h2_spec_machine.specs.Represents.{Represents}
-use Rattle.h2_laws_machine.proofs.AlikeAnswers.{put_out_alike, waiting_alike}
+use Rattle.h2_spec_log.specs.Log.{released}
+use Rattle.h2_laws_machine.proofs.AlikeAnswers.{put_out_alike}
 use Rattle.h2_laws_machine.proofs.CallWithoutStream.{ready_given, ready_failed_at, ready_failed}
 use Rattle.h2_laws_machine.proofs.RepresentedSteps.{up_of, called_up, ready_up}
-use Rattle.h2_core.specs.Readers.{PutsOut}
-use Rattle.h2_conn.specs.Conn.{answer_by}
 use Rattle.h2_conn.proofs.AskCalls.{PartsAnswer, refused_at, accepted_with}
 use Rattle.h2_conn.proofs.AskMemory.{returns_alike}
-use Rattle.h2_laws_machine.proofs.CallWithoutStream.{never_refused}
 
--- What waits once an end is ready to put output out is what its log has written by then, by whether
--- it has failed.
+-- What is queued once an end is ready to put output out is what its log has written by then, by
+-- whether it has failed.
 ready_waits_by : (values : Values) (e : End) (log : Log) (count given : ℕ) (failed : Option Code)
     → e.failed ≡ failed → Represents values e log
     → (before_put_out_at e).output.waiting
@@ -45,7 +36,7 @@ ready_waits_by values e log count given (Some code) failed represents =
     ∙ ap (λ (x : Log). drop log.given x.written)
     (sym (ready_failed base code (sym represents.failed ∙ failed)))
 
--- What waits then is what its log has written and not given out.
+-- What is queued then is what its log has written and not put out.
 ready_waits : (values : Values) (e : End) (log : Log) (count given : ℕ) → Represents values e log
     → (before_put_out_at e).output.waiting
     ≡ drop log.given (with_call log (PutOut count) (Count given)).written
@@ -53,7 +44,7 @@ unfolding with_call
 ready_waits values e log count given represents =
     ready_waits_by values e log count given e.failed refl represents
 
--- The octets that are given out are the next ones of the log's output.
+-- The octets that are put out are the next ones of the log's output.
 pub given_out : (values : Values) (e new : End) (log : Log) (count given : ℕ)
     (before after : List ℕ) → Represents values e log → PutsOut e count given before after new
     → after ≡ before ++ drop log.given
@@ -65,7 +56,7 @@ given_out values e new log count given before after represents puts =
     ∙ ap (λ (octets : List ℕ). before ++ octets)
     (sym (drop-take log.given given (with_call log (PutOut count) (Count given)).written))
 
--- What is said of a value, otherwise.
+-- What is said of a value, in another form.
 pub ok_as : {A : Type 0} (X Y : A → Type 0) (result : Result A Refusal)
     → ((value : A) → X value → Y value) → IfOk result X → IfOk result Y
 ok_as X Y (Ok value) says ok = says value ok
@@ -91,7 +82,7 @@ put_out_lacks_alike values e log count represents =
     ∙ ap (λ (waits : ℕ). returns_before_put_out (log_view log) || nat_lt 0 (min count waits))
     (waiting_alike values e log represents)
 
--- What it answers.
+-- The call's answer.
 pub put_out_answers : (result : Result ℕ Refusal) (cutter : CutterState) (e new : End) (count : ℕ)
     (before after : List ℕ) → IsTypedAct (PutOut count)
     → (result ≡ Err Memory → may_lack_memory (end_view e) (PutOut count) ≡ true)

@@ -1,8 +1,7 @@
--- The least active stream above a number, as a connection answers it.
-use Rattle.std.proofs.Common.{◌≡◌, ℕ, ◌<◌, ◌==◌, ◌||◌, Bool, true, false, if◌then◌else◌}
-use Rattle.std.proofs.Common.{Option, Some, None, refl, arith, is_some, IfSome}
-use Rattle.std.proofs.lemmas.Bool.Decides.{nat_tests}
-use Rattle.h2_frame.specs.declared.code.Code.{Code}
+-- The least active stream above a number, as a connection returns it.
+use Rattle.h2_conn.proofs.Names.{◌≡◌, ℕ, ◌||◌, Bool, true, false, if◌then◌else◌, Option, Some, None}
+use Rattle.h2_conn.proofs.Names.{refl, arith, is_some, IfSome, nat_tests, Code}
+use Rattle.std.proofs.Common.{◌<◌, ◌==◌}
 use Rattle.h2_streams.specs.Streams.{number_or_none}
 
 -- A number above another isn't 0.

@@ -1,25 +1,14 @@
--- What refusing a stream makes of the parts of a connection.
-use Rattle.std.proofs.Common.{◌≡◌, ℕ, not, is_some, Option, None, Result, Ok, Err, inl, inr, refl}
-use Rattle.std.proofs.Common.{sym, ap, subst, ◌∙◌}
-use Rattle.h2_frame.specs.declared.code.Code.{Code}
-use Rattle.h2_frame.specs.declared.code.Code.TheVariants.{InternalError}
-use Rattle.h2_wire.specs.Cutter.{CutterState}
-use Rattle.h2_spec_log.specs.declared.refusal.Refusal.{Refusal}
-use Rattle.h2_spec_log.specs.Acts.{Values, Act, Answer, IsTypedAct, Refuse, Done, OutOfMemory}
-use Rattle.h2_spec_log.specs.Acts.{Refused, shown}
-use Rattle.h2_spec_log.specs.CallRules.{refusal_of, refuse_fault, may_fail_for_memory}
-use Rattle.h2_spec_log.specs.Log.{Log}
-use Rattle.h2_spec_log.specs.LogView.{log_view}
-use Rattle.h2_spec_log.specs.LogCalls.{MayAnswer, fails, with_call}
-use Rattle.h2_spec_log.specs.View.{View}
-use Rattle.h2_spec_machine.specs.End.{End, end_view}
-use Rattle.h2_spec_machine.specs.Machine.{fail}
+-- The parts of a connection after a stream is refused.
+use Rattle.h2_conn.proofs.Names.{◌≡◌, ℕ, not, is_some, Option, None, Result, Ok, Err, inl, inr}
+use Rattle.h2_conn.proofs.Names.{refl, sym, ap, subst, ◌∙◌, Code, InternalError, CutterState}
+use Rattle.h2_conn.proofs.Names.{Refusal, Values, Act, Answer, IsTypedAct, Refuse, Done, Refused}
+use Rattle.h2_conn.proofs.Names.{refusal_of, Log, log_view, MayAnswer, with_call, View, End}
+use Rattle.h2_conn.proofs.Names.{end_view, fail, views_alike, refusal_same, CallRefuses, answer_by}
+use Rattle.h2_conn.proofs.Names.{PartsRepresent}
 use Rattle.h2_laws_machine.specs.Machines.{end_after}
-use Rattle.h2_laws_machine.proofs.AlikeAnswers.{views_alike}
-use Rattle.h2_laws_machine.proofs.CallRefusals.{refusal_same}
-use Rattle.h2_core.specs.Calls.{CallRefuses}
-use Rattle.h2_conn.specs.Conn.{answer_by}
-use Rattle.h2_conn.specs.Inner.{PartsRepresent}
+use Rattle.h2_spec_log.specs.Acts.{OutOfMemory, shown}
+use Rattle.h2_spec_log.specs.CallRules.{refuse_fault, may_fail_for_memory}
+use Rattle.h2_spec_log.specs.LogCalls.{fails}
 use Rattle.h2_conn.proofs.AskCalls.{PartsAnswer, accepted_answers, condition_answers, parts_called}
 use Rattle.h2_conn.proofs.AskCalls.{up_if_free}
 

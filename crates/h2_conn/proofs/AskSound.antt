@@ -1,24 +1,17 @@
 -- A call leaves the values of an end sound.
-use Rattle.std.proofs.Common.{◌≡◌, ℕ, Bool, true, false, if◌then◌else◌, None, Result, Ok, Err, inl}
-use Rattle.std.proofs.Common.{inr, IfOk, IfErr, List, OnOk, refl, sym, ap, subst, ◌∙◌}
-use Rattle.h2_spec_log.specs.declared.refusal.Refusal.{Refusal}
-use Rattle.h2_spec_log.specs.declared.refusal.Refusal.TheVariants.{Memory}
-use Rattle.h2_spec_log.specs.Acts.{Act, IsTypedAct, Refuse, PutOut}
-use Rattle.h2_spec_log.specs.CallRules.{refusal_of, returns_before_put_out}
-use Rattle.h2_spec_machine.specs.End.{End, end_view}
+use Rattle.h2_conn.proofs.Names.{◌≡◌, ℕ, Bool, true, false, if◌then◌else◌, None, Result, Ok, Err}
+use Rattle.h2_conn.proofs.Names.{inl, inr, IfOk, List, refl, sym, ap, subst, ◌∙◌, Refusal, Memory}
+use Rattle.h2_conn.proofs.Names.{Act, IsTypedAct, Refuse, PutOut, refusal_of}
+use Rattle.h2_conn.proofs.Names.{returns_before_put_out, End, end_view, holds, is_whole, counted}
+use Rattle.h2_conn.proofs.Names.{is_counted, fits, are_in_range, CallRefused, CallAccepted}
+use Rattle.h2_conn.proofs.Names.{CallRefuses, IsSoundEnd, PutsOut, never_refused}
 use Rattle.h2_spec_machine.specs.Machine.{after_call, before_put_out_at, return_credit}
+use Rattle.std.proofs.Common.{IfErr, OnOk}
 use Rattle.h2_laws_machine.proofs.BoundsOfSteps.{call_bounded}
 use Rattle.h2_laws_machine.proofs.ConservedBySteps.{call_holds}
-use Rattle.h2_laws_machine.proofs.ConservedBySteps.{holds, is_whole}
 use Rattle.h2_laws_machine.proofs.CountedBySteps.{call_counts}
-use Rattle.h2_laws_machine.proofs.CountedBySteps.{counted, is_counted}
 use Rattle.h2_laws_machine.proofs.RangesOfSteps.{call_fits}
-use Rattle.h2_laws_machine.proofs.RangesOfSteps.{fits, are_in_range}
-use Rattle.h2_core.specs.Calls.{CallRefused, CallAccepted, CallRefuses}
-use Rattle.h2_core.specs.Endpoint.{IsSoundEnd}
-use Rattle.h2_core.specs.Readers.{PutsOut}
 use Rattle.h2_conn.proofs.AskCalls.{puts_out, up_if_free}
-use Rattle.h2_laws_machine.proofs.CallWithoutStream.{never_refused}
 
 -- A call that is accepted leaves an end sound.
 pub accepted_sound : (e : End) (act : Act) → refusal_of (end_view e) act ≡ None → IsTypedAct act
@@ -50,7 +43,7 @@ was_up_refusing (Ok done) e new id code (inr (free, calm, is)) up =
 was_up_refusing (Err refusal) e new id code (why, is) up =
     ap (λ (x : End). x.failed) (sym is) ∙ up
 
--- A call leaves an end sound, whatever it answers.
+-- A call leaves an end sound, whatever it returns.
 pub sound_by : {A : Type 0} (result : Result A Refusal) (e new : End) (act : Act)
     → IsTypedAct act → IsSoundEnd e → OnOk result (CallAccepted e act new)
     → IfErr result (λ refusal. CallRefused e act refusal new) → IsSoundEnd new
@@ -91,7 +84,7 @@ pub put_out_failed : (e : End) (count : ℕ) → (after_call e (PutOut count)).f
 unfolding after_call
 put_out_failed e count = ready_same e
 
--- Putting output out leaves it whether an end has failed, whatever it answers.
+-- Putting output out leaves it whether an end has failed, whatever it returns.
 pub still_failed : (result : Result ℕ Refusal) (e new : End) (count : ℕ) (before after : List ℕ)
     → IfOk result (λ given. PutsOut e count given before after new)
     → IfErr result (λ refusal. (refusal ≡ Memory) × (after ≡ before) × (new ≡ e))

@@ -2,12 +2,12 @@
 pub mod AskLimits
 -- The parts where the limit of payloads is set.
 mod SetLimits
--- What calls make of a connection.
+-- The parts of a connection after calls.
 pub mod AskCalls
 pub mod AskSound
 pub mod AskOutput
 pub mod AskRefusing
--- What a connection answers of itself.
+-- The readers of a connection.
 pub mod AskReaders
 pub mod AskNumbers
 -- Calls that take no memory.
@@ -18,10 +18,11 @@ mod TakeFrames
 mod TakeReports
 -- Where a fault of the stream is made.
 mod TakeFaults
--- What taking octets makes of a log.
+-- Refused memory, as octets are taken.
 mod TakeMemory
 mod TakeParts
 -- The values of an end stay sound.
 mod TakeSound
 -- A new end.
 mod TakeStart
+pub mod Names

@@ -1,21 +1,11 @@
 -- The parts of a connection where its cutter is given the limit of payloads that is in force.
-use Rattle.std.proofs.Common.{◌≡◌, ◌≤◌, ℕ, nat_le, Bool, true, false, if◌then◌else◌, List, length}
-use Rattle.std.proofs.Common.{None, refl, sym, ap, subst, ◌∙◌, arith}
+use Rattle.h2_conn.proofs.Names.{◌≡◌, ◌≤◌, ℕ, nat_le, Bool, true, false, if◌then◌else◌, List}
+use Rattle.h2_conn.proofs.Names.{length, None, refl, sym, ap, subst, ◌∙◌, arith, CutterState}
+use Rattle.h2_conn.proofs.Names.{CutterRepresents, CutterLimited, saturated, body_at, Limits}
+use Rattle.h2_conn.proofs.Names.{Complete, Values, most_max_frame, is_server, payload_limit, Log}
+use Rattle.h2_conn.proofs.Names.{acked, limits_from, Keeps, End, payload_limit_of, Represents}
+use Rattle.h2_conn.proofs.Names.{limit_agrees, PartsRepresent}
 use Rattle.std.proofs.Math.Path.{fun_ext}
-use Rattle.h2_wire.specs.Cutter.{CutterState, CutterRepresents, CutterLimited, HasFrame, saturated}
-use Rattle.h2_wire.specs.Cutter.{octets_of}
-use Rattle.h2_wire.specs.Streams.{Limits}
-use Rattle.h2_wire.specs.declared.cut.Complete.{Complete}
-use Rattle.h2_spec_log.specs.Acts.{Values}
-use Rattle.h2_spec_log.specs.Limits.{most_max_frame}
-use Rattle.h2_spec_log.specs.Settings.{is_server, payload_limit}
-use Rattle.h2_spec_log.specs.Log.{Log, acked}
-use Rattle.h2_spec_log.specs.LogSteps.{limits_from}
-use Rattle.h2_spec_log.proofs.StreamLemmas.{Keeps}
-use Rattle.h2_spec_machine.specs.End.{End, payload_limit_of}
-use Rattle.h2_spec_machine.specs.Represents.{Represents}
-use Rattle.h2_laws_machine.proofs.ReadLimits.{limit_agrees}
-use Rattle.h2_conn.specs.Inner.{PartsRepresent}
 use Rattle.h2_conn.proofs.AskLimits.{cuts_same}
 
 -- A cutter that has cut the octets of a log, whatever limit it has for those to come.
@@ -93,23 +83,9 @@ has_cut_kept values cutter e log next parts keeps going =
       greatest = parts.greatest up;
     }
 
--- A frame that lies in the cutter lies there still.
-pub lies_limited : (cutter limited : CutterState) (limit : ℕ) (piece : List ℕ) (frame : Complete)
-    → CutterLimited cutter limit limited → HasFrame cutter piece frame
-    → HasFrame limited piece frame
-lies_limited cutter limited limit piece frame set has =
-    subst (λ (state : CutterState). HasFrame state piece frame) (sym set.same) (record {
-      complete = has.complete;
-      is_head = has.is_head;
-      bounded = has.bounded;
-      form = has.form;
-      sound = has.sound;
-      pad = has.pad;
-    })
-
--- Its octets are the same.
-pub octets_limited : (cutter limited : CutterState) (limit : ℕ) (piece : List ℕ) (frame : Complete)
+-- What lies there is the same.
+pub body_limited : (cutter limited : CutterState) (limit : ℕ) (piece : List ℕ) (frame : Complete)
     → CutterLimited cutter limit limited
-    → octets_of limited piece frame ≡ octets_of cutter piece frame
-octets_limited cutter limited limit piece frame set =
-    ap (λ (state : CutterState). octets_of state piece frame) set.same
+    → body_at limited piece frame ≡ body_at cutter piece frame
+body_limited cutter limited limit piece frame set =
+    ap (λ (state : CutterState). body_at state piece frame) set.same

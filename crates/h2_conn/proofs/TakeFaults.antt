@@ -1,12 +1,11 @@
 -- A fault that the cutter met, by the octets of the piece up to its place.
-use Rattle.std.proofs.Common.{◌≡◌, ℕ, ◌+◌, ◌-◌, ◌≤◌, nat_lt, Bool, true, false, List, ◌++◌, length}
-use Rattle.std.proofs.Common.{take, drop, refl, ap, sym, subst, ◌∙◌, arith, ltb-true, ltb-false}
-use Rattle.std.proofs.lemmas.List.{take-append-drop, take-append-le, length-append}
-use Rattle.std.proofs.lemmas.List.{length-take-le}
-use Rattle.std.proofs.Math.Seq.{take-append-add, take-length}
-use Rattle.h2_frame.specs.Frames.{Frame}
-use Rattle.h2_wire.specs.declared.fault.WireFault.{WireFault}
-use Rattle.h2_wire.specs.Streams.{Limits, Frames, WireFaultAt, EndsWithFault}
+use Rattle.h2_conn.proofs.Names.{◌≡◌, ℕ, ◌+◌, ◌≤◌, nat_lt, Bool, true, false, List, ◌++◌, length}
+use Rattle.h2_conn.proofs.Names.{take, drop, refl, ap, sym, subst, ◌∙◌, arith, take-append-drop}
+use Rattle.h2_conn.proofs.Names.{length-take-le, take-length, Frame, WireFault, Limits, Frames}
+use Rattle.std.proofs.Common.{◌-◌, ltb-true, ltb-false}
+use Rattle.std.proofs.lemmas.List.{take-append-le, length-append}
+use Rattle.std.proofs.Math.Seq.{take-append-add}
+use Rattle.h2_wire.specs.Streams.{WireFaultAt, EndsWithFault}
 use Rattle.h2_wire.proofs.FaultLemmas.{no_reading}
 
 -- The octets of a piece with whose last one the fault is made.

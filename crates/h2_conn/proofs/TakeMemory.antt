@@ -1,32 +1,19 @@
 -- Memory is refused for a cause: what a cutter and an end say of it, as a log does.
-use Rattle.std.proofs.Common.{◌≡◌, ◌≢◌, ◌∙◌, ◌++◌, ℕ, nat_le, List, [], true, false, None}
-use Rattle.std.proofs.Common.{Result, Err, suc, length, refl, ap, sym, arith}
-use Rattle.std.proofs.lemmas.Bool.Decides.{nat_tests}
-use Rattle.h2_frame.specs.declared.code.Code.{Code}
-use Rattle.h2_frame.specs.Frames.{Frame}
-use Rattle.h2_block.specs.Grouping.{alone, block}
+use Rattle.h2_conn.proofs.Names.{◌≡◌, ◌≢◌, ◌∙◌, ◌++◌, ℕ, nat_le, List, [], true, false, None}
+use Rattle.h2_conn.proofs.Names.{Result, Err, suc, length, refl, ap, sym, arith, nat_tests, Code}
+use Rattle.h2_conn.proofs.Names.{Frame, alone, block, WireFault, CutterState, Values, FrameStep}
+use Rattle.h2_conn.proofs.Names.{fails_with, begins_block, completes, frame_step, verdict_of, Log}
+use Rattle.h2_conn.proofs.Names.{acked, limits_from, log_view, payload_limit, Verdict, View, End}
+use Rattle.h2_conn.proofs.Names.{end_view, with_begun, Represents, step_alike, views_alike}
+use Rattle.h2_conn.proofs.Names.{PartsRepresent}
 use Rattle.h2_wire.specs.declared.cut.Advance.{Advance}
-use Rattle.h2_wire.specs.declared.fault.WireFault.{WireFault}
-use Rattle.h2_wire.specs.declared.fault.WireFault.TheVariants as faults
 use Rattle.h2_wire.specs.Streams.{GoesPastPreface}
-use Rattle.h2_wire.specs.Cutter.{CutterState, FaultsAtHead, BeginsWithFrame}
-use Rattle.h2_spec_log.specs.Acts.{Values}
-use Rattle.h2_spec_log.specs.ItemRules.{FrameStep, fails_with, begins_block, completes, frame_step}
-use Rattle.h2_spec_log.specs.ItemRules.{verdict_of}
-use Rattle.h2_spec_log.specs.Log.{Log, acked, waiting, output, unreleased}
-use Rattle.h2_spec_log.specs.LogSteps.{limits_from}
-use Rattle.h2_spec_log.specs.LogView.{log_view}
+use Rattle.h2_wire.specs.Cutter.{FaultsAtHead, BeginsWithFrame}
+use Rattle.h2_spec_log.specs.Log.{waiting, output, unreleased}
 use Rattle.h2_spec_log.specs.Memory.{KeepsOctets, cutter_of, frame_needs_memory, needs_memory}
 use Rattle.h2_spec_log.specs.Memory.{step_needs_memory}
-use Rattle.h2_spec_log.specs.Settings.{payload_limit}
-use Rattle.h2_spec_log.specs.Verdicts.{Verdict}
-use Rattle.h2_spec_log.specs.View.{View}
-use Rattle.h2_spec_machine.specs.End.{End, end_view}
-use Rattle.h2_spec_machine.specs.Machine.{with_begun}
-use Rattle.h2_spec_machine.specs.Represents.{Represents}
-use Rattle.h2_laws_machine.proofs.AlikeFrames.{step_alike, verdict_alike}
-use Rattle.h2_laws_machine.proofs.AlikeAnswers.{views_alike}
-use Rattle.h2_conn.specs.Inner.{PartsRepresent}
+use Rattle.h2_laws_machine.proofs.AlikeFrames.{verdict_alike}
+use Rattle.h2_wire.specs.declared.fault.WireFault.TheVariants as faults
 
 -- What the cutter says where memory was refused to it.
 pub record CutterLacks (cutter : CutterState) (piece : List ℕ) : Type 0 where

@@ -1,64 +1,48 @@
--- What taking octets makes of the parts of a connection: it is a step of each log that they
--- represent.
-use Rattle.std.proofs.Common.{◌≡◌, ◌≢◌, ℕ, ◌≤◌, true, List, [], ◌∷◌, ◌++◌, length, take, drop}
-use Rattle.std.proofs.Common.{Option, ◌⊎◌, inl, inr, Some, None, refl, ap, sym, subst, ◌∙◌}
-use Rattle.std.proofs.Common.{append-nil}
-use Rattle.std.proofs.lemmas.List.{take-append-drop, length-take-le}
-use Rattle.std.proofs.Math.Seq.{take-length}
-use Rattle.std.specs.Option.{option_map, MatchOption}
-use Rattle.hpack.specs.declared.types.field.Field.{Field}
-use Rattle.h2_frame.specs.declared.code.Code.{Code}
-use Rattle.h2_frame.specs.declared.code.Code.TheVariants.{InternalError}
-use Rattle.h2_frame.specs.Frames.{Frame}
-use Rattle.h2_wire.specs.declared.fault.WireFault.{WireFault}
-use Rattle.h2_wire.specs.declared.fault.WireFault.TheVariants as faults
-use Rattle.h2_wire.specs.Faults.{wire_fault_code}
-use Rattle.h2_wire.specs.Streams.{Limits, Frames}
-use Rattle.h2_wire.specs.Cutter.{CutterState, CutterRepresents, CutterContinues, CutterFaults}
-use Rattle.h2_wire.specs.Cutter.{CutterFails, CutterLimited, saturated}
-use Rattle.h2_wire.proofs.ReadingLemmas.{none_some}
-use Rattle.h2_spec_log.specs.declared.role.Role.{Role}
-use Rattle.h2_spec_log.specs.Acts.{Values}
-use Rattle.h2_spec_log.specs.Limits.{most_max_frame}
-use Rattle.h2_spec_log.specs.Events.{Event, UnprocessedEvent}
-use Rattle.h2_spec_log.specs.ItemRules.{Decoded}
-use Rattle.h2_spec_log.specs.Settings.{is_server}
-use Rattle.h2_spec_log.specs.Log.{Log, next_unprocessed}
-use Rattle.h2_spec_log.specs.LogSteps.{limits_from, used, took_part, took_frame, took_fault}
-use Rattle.h2_spec_log.specs.LogSteps.{took_none, took_out_of_memory, with_sent}
-use Rattle.h2_spec_log.specs.LogView.{log_view}
-use Rattle.h2_spec_log.specs.Memory.{credit_needs_memory}
-use Rattle.h2_spec_log.specs.View.{View}
-use Rattle.h2_spec_log.specs.Histories.{IsLog, TakesOctets, TakesFrame}
-use Rattle.h2_spec_log.specs.Histories.{IsDecodedFor, LacksMemory, to_report, to_keep, to_take}
+-- Taking octets, on the parts of a connection: it is a step of each log that they represent.
+use Rattle.h2_conn.proofs.Names.{◌≡◌, ◌≢◌, ℕ, ◌≤◌, true, List, [], ◌∷◌, ◌++◌, length, take, drop}
+use Rattle.h2_conn.proofs.Names.{Option, inl, inr, Some, None, refl, ap, sym, subst, ◌∙◌}
+use Rattle.h2_conn.proofs.Names.{take-append-drop, length-take-le, take-length, option_map, Field}
+use Rattle.h2_conn.proofs.Names.{Code, InternalError, Frame, WireFault, wire_fault_code, Limits}
+use Rattle.h2_conn.proofs.Names.{Frames, CutterState, CutterRepresents, CutterLimited, saturated}
+use Rattle.h2_conn.proofs.Names.{none_some, Role, Values, most_max_frame, Event, Decoded, is_server}
+use Rattle.h2_conn.proofs.Names.{Log, limits_from, took_frame, log_view, credit_needs_memory, View}
+use Rattle.h2_conn.proofs.Names.{IsDecodedFor, End, end_view, payload_limit_of, after_frame, fail}
+use Rattle.h2_conn.proofs.Names.{close_unprocessed, unprocessed_of_end, Represents, views_alike}
+use Rattle.h2_conn.proofs.Names.{Failed, FailsWithoutMemory, LocatedEvent, happened_value}
+use Rattle.h2_conn.proofs.Names.{PartsRepresent}
+use Rattle.h2_spec_log.specs.LogSteps.{used, with_sent, took_part, took_fault, took_none}
+use Rattle.h2_spec_log.specs.LogSteps.{took_out_of_memory}
+use Rattle.std.proofs.Common.{◌⊎◌, append-nil}
+use Rattle.std.specs.Option.{MatchOption}
+use Rattle.h2_wire.specs.Cutter.{CutterContinues, CutterFaults, CutterFails}
+use Rattle.h2_spec_log.specs.Events.{UnprocessedEvent}
+use Rattle.h2_spec_log.specs.Log.{next_unprocessed}
+use Rattle.h2_spec_log.specs.Histories.{IsLog, TakesOctets, TakesFrame, LacksMemory, to_report}
+use Rattle.h2_spec_log.specs.Histories.{to_keep, to_take}
 use Rattle.h2_spec_log.proofs.StreamLemmas.{Keeps-frame, Keeps-none}
-use Rattle.h2_spec_machine.specs.End.{End, end_view, payload_limit_of}
-use Rattle.h2_spec_machine.specs.Machine.{after_frame, fail, close_unprocessed, unprocessed_of_end}
-use Rattle.h2_spec_machine.specs.Represents.{Represents, RepresentsOutput, RepresentsStreams}
-use Rattle.h2_laws_machine.specs.Machines.{uses_part}
-use Rattle.h2_laws_machine.specs.Machines.{meets_fault as a_fault, runs_out_of_memory as no_memory}
+use Rattle.h2_spec_machine.specs.Represents.{RepresentsOutput, RepresentsStreams}
+use Rattle.h2_laws_machine.specs.Machines.{uses_part, meets_fault as a_fault}
+use Rattle.h2_laws_machine.specs.Machines.{runs_out_of_memory as no_memory}
 use Rattle.h2_laws_machine.specs.Machines.{reports_unprocessed as one_unprocessed, MayStep}
 use Rattle.h2_laws_machine.specs.Machines.{log_after, machine_after}
-use Rattle.h2_laws_machine.proofs.AlikeAnswers.{views_alike}
 use Rattle.h2_laws_machine.proofs.EveryStep.{steps_represent, frames_represent}
 use Rattle.h2_laws_machine.proofs.NextUnprocessed.{next_same}
 use Rattle.h2_laws_machine.proofs.ReadLimits.{own_of_unprocessed}
-use Rattle.h2_laws_end.specs.Takes.{TakeAnswer, Took, Failed, events_answered, MayTake}
-use Rattle.h2_laws_end.specs.Takes.{has_failed, reports_unprocessed, ends_no_frame, ends_frame}
-use Rattle.h2_laws_end.specs.Takes.{meets_fault, runs_out_of_memory}
+use Rattle.h2_laws_end.specs.Takes.{TakeAnswer, Took, events_answered, MayTake, has_failed}
+use Rattle.h2_laws_end.specs.Takes.{reports_unprocessed, ends_no_frame, ends_frame, meets_fault}
+use Rattle.h2_laws_end.specs.Takes.{runs_out_of_memory}
 use Rattle.h2_laws_end.proofs.PieceLogs.{limits_used}
 use Rattle.h2_core.specs.Failure.{FailsAlike}
-use Rattle.h2_core.specs.Frames.{FrameFails, FailsWithoutMemory, FrameLacksMemory}
-use Rattle.h2_conn.specs.declared.happened.Happened.{Happened}
-use Rattle.h2_conn.specs.Events.{happened_value}
-use Rattle.h2_conn.specs.Inner.{PartsRepresent, happened_events, FrameHappens}
+use Rattle.h2_core.specs.Frames.{FrameFails, FrameLacksMemory}
 use Rattle.h2_conn.proofs.AskLimits.{cuts_same, parts_kept}
 use Rattle.h2_conn.proofs.SetLimits.{HasCut, parts_limited}
 use Rattle.h2_conn.proofs.TakeFaults.{fault_in}
+use Rattle.h2_conn.proofs.TakeFrames.{happened_events, FrameHappens}
 use Rattle.h2_conn.proofs.TakeMemory.{CutterLacks, keeps_octets, frame_needs}
 use Rattle.h2_conn.proofs.TakeReports.{frame_reported, decoded_for}
+use Rattle.h2_wire.specs.declared.fault.WireFault.TheVariants as faults
 
--- A call of `take` may answer so, and the parts represent the log with it.
+-- A call of `take` may have this answer, and the parts represent the log with it.
 abbrev pub Takes : Values → Log → List ℕ → TakeAnswer → CutterState → End → Type 0
 Takes values log piece answer cutter e =
     (after : Log) × MayTake log piece answer after × PartsRepresent values cutter e after
@@ -196,8 +180,8 @@ read_of values cutter new e log piece count frame p up cut =
     (log.input ++ take count piece) (log.frames ++ frame ∷ []) unparsed) cut.none
     (cut_now values cutter new e log piece count frame p up cut).split
 
--- what has happened, as the event that is answered
-answered : (list : List Field) (octets : List ℕ) (happened : Option Happened)
+-- what has happened, as the event that is returned
+answered : (list : List Field) (octets : List ℕ) (happened : Option LocatedEvent)
     → events_answered (option_map (happened_value list octets) happened)
     ≡ happened_events list octets happened
 answered list octets None = refl
@@ -227,7 +211,7 @@ has_cut_frame values cutter new e log piece count frame decoded p up cut =
 -- A frame that the connection outlives, after which the cutter is given the limit in force.
 pub frame_taken : (values : Values) (cutter new limited : CutterState) (e other : End) (log : Log)
     (piece : List ℕ) (count : ℕ) (frame : Frame) (list : List Field) (octets : List ℕ)
-    (happened : Option Happened) → PartsRepresent values cutter e log → TakesOctets log
+    (happened : Option LocatedEvent) → PartsRepresent values cutter e log → TakesOctets log
     → e.failed ≡ None → IsCut cutter new piece count frame
     → FrameHappens e frame list octets happened other
     → CutterLimited new (payload_limit_of other.own) limited
@@ -280,7 +264,7 @@ frame_fails values cutter new e other log piece count frame code p takes up cut 
           (cut_end values cutter new e log piece count frame h.decoded p takes.up cut),
     )
 
--- Memory was refused with so many octets.
+-- Memory was refused with these octets.
 pub memory_refused : (values : Values) (cutter new : CutterState) (e other : End) (log : Log)
     (piece octets unused : List ℕ) (code : Code) → PartsRepresent values cutter e log
     → log.failed ≡ None → piece ≡ octets ++ unused → LacksMemory log.role log octets unused
@@ -321,13 +305,6 @@ frame_stops values cutter new e other log piece count frame code p takes up cut 
     frame_fails values cutter new e other log piece count frame code p takes up cut fails
 frame_stops values cutter new e other log piece count frame code p takes up cut (inr lacks) =
     frame_lacks values cutter new e other log piece count frame code p takes up cut lacks
-
--- A fault of a head or a payload has the code that it names.
-pub code_of : (fault : WireFault) (code : Code)
-    → (fault ≡ faults.HeadFault code) ⊎ (fault ≡ faults.PayloadFault code)
-    → wire_fault_code fault ≡ code
-code_of fault code (inl is) = ap wire_fault_code is
-code_of fault code (inr is) = ap wire_fault_code is
 
 -- A fault of the stream.
 pub fault_taken : (values : Values) (cutter new : CutterState) (e other : End) (log : Log)
@@ -373,7 +350,7 @@ first_fault : (known : Option WireFault) (Meets Stays : Type 0) → known ≡ No
 first_fault None Meets Stays none h = h
 first_fault (Some fault) Meets Stays none h = cc
 
--- A connection that has failed answers its code again.
+-- A connection that has failed returns its code again.
 pub failed_again : (values : Values) (cutter : CutterState) (e : End) (log : Log) (piece : List ℕ)
     (code : Code) → PartsRepresent values cutter e log → e.failed ≡ Some code
     → Takes values log piece (Failed code) cutter e
@@ -452,7 +429,7 @@ cut_stopped values cutter new e other log piece (faults.PayloadFault code) p tak
     (first_fault cutter.fault (CutterFaults cutter piece (faults.PayloadFault code) new)
     (new ≡ cutter) (p.cut takes.up).sound fails) failed
 
--- The event that is answered may be said in another way.
+-- The event that is returned may be given in another form.
 pub said_so : (values : Values) (log : Log) (piece : List ℕ) (count : ℕ)
     (event other : Option Event)
     (cutter : CutterState) (e : End) → event ≡ other

@@ -1,26 +1,16 @@
 -- What a log reports of a frame is what the machine that represents it does.
-use Rattle.std.proofs.Common.{◌≡◌, ℕ, List, [], ◌∷◌, ◌++◌, Option, Some, None, refl, ap, sym}
-use Rattle.std.proofs.Common.{subst, ◌∙◌}
-use Rattle.h2_frame.specs.Frames.{Frame}
-use Rattle.h2_wire.proofs.ReadingLemmas.{none_some}
-use Rattle.h2_block.specs.Grouping.{Item, alone, block}
-use Rattle.h2_spec_log.specs.Acts.{Values}
-use Rattle.h2_spec_log.specs.Events.{Event}
-use Rattle.h2_spec_log.specs.Verdicts.{Verdict, ConnectionFault, StreamFault, NoEvent, Reported}
-use Rattle.h2_spec_log.specs.ItemRules.{Decoded, FrameStep, fails_with, begins_block, completes}
-use Rattle.h2_spec_log.specs.ItemRules.{frame_step, verdict_of}
-use Rattle.h2_spec_log.specs.ItemEffects.{events_of}
-use Rattle.h2_spec_log.specs.Log.{Log}
-use Rattle.h2_spec_log.specs.LogView.{log_view}
+use Rattle.h2_conn.proofs.Names.{◌≡◌, ℕ, List, [], ◌∷◌, ◌++◌, Option, Some, None, refl, ap, sym}
+use Rattle.h2_conn.proofs.Names.{subst, ◌∙◌, Frame, none_some, Item, alone, block, Values, Event}
+use Rattle.h2_conn.proofs.Names.{Verdict, ConnectionFault, StreamFault, NoEvent, Reported, Decoded}
+use Rattle.h2_conn.proofs.Names.{FrameStep, fails_with, begins_block, completes, frame_step}
+use Rattle.h2_conn.proofs.Names.{verdict_of, events_of, Log, log_view, took_frame, IsDecodedFor}
+use Rattle.h2_conn.proofs.Names.{End, end_view, Represents, step_alike, IsDecodedBy, step_events}
+use Rattle.h2_conn.proofs.Names.{frame_events}
 use Rattle.h2_spec_log.specs.LogSteps.{used, with_verdict, with_step, with_frame}
-use Rattle.h2_spec_log.specs.LogSteps.{took_frame}
-use Rattle.h2_spec_log.specs.Histories.{IsDecodedIn, IsDecodedFor}
-use Rattle.h2_spec_machine.specs.End.{End, end_view}
-use Rattle.h2_spec_machine.specs.Represents.{Represents}
-use Rattle.h2_laws_machine.proofs.AlikeFrames.{step_alike, events_used}
+use Rattle.h2_spec_log.specs.Histories.{IsDecodedIn}
+use Rattle.h2_laws_machine.proofs.AlikeFrames.{events_used}
 use Rattle.h2_laws_machine.proofs.RecvFrames.{step_same}
 use Rattle.h2_laws_end.proofs.TakeAnswers.{reported_is, sent_reported, unreturned_reported}
-use Rattle.h2_core.specs.Frames.{IsDecodedBy, step_events, frame_events}
 
 -- Of an item the events are reported that its verdict has.
 verdict_reports : (log : Log) (decoded : Option Decoded) (item : Item) (verdict : Verdict)
@@ -42,7 +32,7 @@ verdict_reports log decoded item Reported up =
     ∙ ap (λ (r : List Event). events_of (log_view log) decoded Reported item ++ r)
     (unreturned_reported _ _ ∙ sent_reported _ _)
 
--- the events of what a frame makes of the block that has begun
+-- the events of the item that a frame completes
 abbrev log_events : Log → Option Decoded → FrameStep → List Event
 log_events log decoded (fails_with code) = []
 log_events log decoded (begins_block begun) = []

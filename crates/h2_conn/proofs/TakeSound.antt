@@ -1,34 +1,21 @@
 -- The values of an end are sound after each step that taking octets makes.
-use Rattle.std.proofs.Common.{◌≡◌, ◌≢◌, ℕ, ◌≤◌, true, List, Option, None, sym, subst}
-use Rattle.std.proofs.Common.{◌∙◌, arith, Result, Ok, Err}
+use Rattle.h2_conn.proofs.Names.{◌≡◌, ◌≢◌, ℕ, ◌≤◌, true, List, Option, None, sym, subst, ◌∙◌, arith}
+use Rattle.h2_conn.proofs.Names.{Result, Ok, Err, Code, InternalError, none_some, Field, Frame}
+use Rattle.h2_conn.proofs.Names.{block, Decoded, FrameStep, completes, frame_step}
+use Rattle.h2_conn.proofs.Names.{credit_needs_memory, End, end_view, after_frame, close_unprocessed}
+use Rattle.h2_conn.proofs.Names.{unprocessed_of_end, holds, is_whole, counted, is_counted, fits}
+use Rattle.h2_conn.proofs.Names.{are_in_range, IsSoundEnd, FrameEvent, IsDecodedBy, FrameTaken}
+use Rattle.h2_conn.proofs.Names.{FailsWithoutMemory}
 use Rattle.std.specs.Result.{OnOk, IfErr}
-use Rattle.h2_frame.specs.declared.code.Code.{Code}
-use Rattle.h2_frame.specs.declared.code.Code.TheVariants.{InternalError}
-use Rattle.h2_wire.proofs.ReadingLemmas.{none_some}
-use Rattle.hpack.specs.declared.types.field.Field.{Field}
-use Rattle.h2_frame.specs.Frames.{Frame}
 use Rattle.h2_frame.specs.Encoding.{refusal, stream_of}
-use Rattle.h2_block.specs.Grouping.{block}
 use Rattle.h2_spec_log.specs.States.{greatest_number}
-use Rattle.h2_spec_log.specs.ItemRules.{Decoded, FrameStep, completes, frame_step}
-use Rattle.h2_spec_log.specs.Memory.{credit_needs_memory}
-use Rattle.h2_spec_machine.specs.End.{End, end_view}
-use Rattle.h2_spec_machine.specs.Machine.{after_frame, close_unprocessed, unprocessed_of_end}
 use Rattle.h2_laws_machine.specs.Ranges.{IsDecodedAt}
-use Rattle.h2_laws_machine.proofs.BoundsOfSteps.{frame_bounded}
-use Rattle.h2_laws_machine.proofs.BoundsOfSteps.{is_up, is_bounded, ended_up}
-use Rattle.h2_laws_machine.proofs.ConservedBySteps.{frame_holds}
-use Rattle.h2_laws_machine.proofs.ConservedBySteps.{holds, is_whole, ended, lacks_none}
+use Rattle.h2_laws_machine.proofs.BoundsOfSteps.{frame_bounded, is_up, is_bounded, ended_up}
+use Rattle.h2_laws_machine.proofs.ConservedBySteps.{frame_holds, ended, lacks_none}
 use Rattle.h2_laws_machine.proofs.CountedBySteps.{frame_counts}
-use Rattle.h2_laws_machine.proofs.CountedBySteps.{counted, is_counted}
 use Rattle.h2_laws_machine.proofs.CountedUnprocessed.{unprocessed_counts}
-use Rattle.h2_laws_machine.proofs.RangesOfSteps.{frame_in_range}
-use Rattle.h2_laws_machine.proofs.RangesOfSteps.{fits, are_in_range, closed_fits}
-use Rattle.h2_core.specs.Endpoint.{IsSoundEnd}
-use Rattle.h2_core.specs.Frames.{IsDecodedBy, FailsWithoutMemory}
+use Rattle.h2_laws_machine.proofs.RangesOfSteps.{frame_in_range, closed_fits}
 use Rattle.h2_core.proofs.FrameWritable.{writable}
-use Rattle.h2_conn.specs.declared.happened.Happened.{Happened}
-use Rattle.h2_conn.specs.Inner.{FrameHappens}
 
 -- What was seen of a block is what it says.
 decoded_at : (e : End) (decoded : Option Decoded) (frame : Frame)
@@ -39,10 +26,10 @@ decoded_at e decoded frame says stream end octets one step is =
     subst (λ (d : Option Decoded). IsDecodedBy e d (completes (block stream end octets))) is seen
 
 -- After a frame.
-pub frame_sound : (e other : End) (frame : Frame) (list : List Field) (octets : List ℕ)
-    (happened : Option Happened) → IsSoundEnd e → e.failed ≡ None → refusal frame ≡ None
-    → FrameHappens e frame list octets happened other → IsSoundEnd other
-frame_sound e other frame list octets happened sound up good h =
+pub frame_sound : (e other : End) (frame : Frame) (list : List Field)
+    (reported : Option FrameEvent) → IsSoundEnd e → e.failed ≡ None → refusal frame ≡ None
+    → FrameTaken e frame list reported other → IsSoundEnd other
+frame_sound e other frame list reported sound up good h =
     let number = (writable frame good).stream in
     let most : stream_of frame ≤ greatest_number = omega (arith, number) in
     let after : IsSoundEnd (after_frame e h.decoded frame) =

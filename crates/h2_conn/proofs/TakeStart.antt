@@ -1,29 +1,19 @@
 -- A new end represents the log of one, and its values are sound.
-use Rattle.std.proofs.Common.{◌≡◌, ℕ, Bool, List, [], ◌∷◌, ◌++◌, refl, sym, subst, inl, inr, arith}
-use denote.Enum.Bare.{sameb}
-use Rattle.h2_wire.specs.Streams.{Limits, Frames}
-use Rattle.h2_wire.specs.Cutter.{CutterState, CutterRepresents, CutterLimited}
-use Rattle.h2_spec_log.specs.declared.role.Role.{Role}
-use Rattle.h2_spec_log.specs.declared.role.Role.TheVariants.{Client, Server}
-use Rattle.h2_spec_log.specs.contracts.role.Role.{the_type}
-use Rattle.h2_spec_log.specs.Acts.{Values, AreInRange}
-use Rattle.h2_spec_log.specs.Settings.{is_server}
+use Rattle.h2_conn.proofs.Names.{◌≡◌, ℕ, Bool, List, [], ◌∷◌, ◌++◌, refl, sym, subst, inl, inr}
+use Rattle.h2_conn.proofs.Names.{arith, Limits, Frames, CutterState, CutterRepresents}
+use Rattle.h2_conn.proofs.Names.{CutterLimited, Role, Client, Server, Values, AreInRange, is_server}
+use Rattle.h2_conn.proofs.Names.{End, payload_limit_of, Represents, is_whole, is_counted}
+use Rattle.h2_conn.proofs.Names.{are_in_range, limit_in_range, IsSoundEnd, PartsRepresent}
 use Rattle.h2_spec_log.specs.LogSteps.{with_sent}
+use denote.Enum.Bare.{sameb}
+use Rattle.h2_spec_log.specs.contracts.role.Role.{the_type}
 use Rattle.h2_spec_log.specs.LogCalls.{opened}
-use Rattle.h2_spec_machine.specs.End.{End, payload_limit_of}
 use Rattle.h2_spec_machine.specs.Machine.{new_end}
-use Rattle.h2_spec_machine.specs.Represents.{Represents}
 use Rattle.h2_laws_machine.proofs.BoundsOfSteps.{new_bounded}
 use Rattle.h2_laws_machine.proofs.ConservedBySteps.{new_holds}
-use Rattle.h2_laws_machine.proofs.ConservedBySteps.{is_whole}
 use Rattle.h2_laws_machine.proofs.CountedBySteps.{new_counts}
-use Rattle.h2_laws_machine.proofs.CountedBySteps.{is_counted}
 use Rattle.h2_laws_machine.proofs.NewEnd.{new_represents}
 use Rattle.h2_laws_machine.proofs.RangesOfSteps.{new_fits}
-use Rattle.h2_laws_machine.proofs.RangesOfSteps.{are_in_range}
-use Rattle.h2_laws_machine.proofs.ReadLimits.{limit_in_range}
-use Rattle.h2_core.specs.Endpoint.{IsSoundEnd}
-use Rattle.h2_conn.specs.Inner.{PartsRepresent}
 use Rattle.h2_conn.proofs.SetLimits.{HasCut, parts_limited}
 
 -- Whether an end is a server.

@@ -1,4 +1,4 @@
--- When a connection represents the log of an end, and what its calls make of it.
+-- When a connection represents the log of an end, and the connection after its calls.
 use Rattle.std.specs.Prelude.{◌≡◌, ℕ, ◌+◌, ◌||◌, if◌then◌else◌, List, ◌++◌, take, drop}
 use Rattle.std.specs.Prelude.{Option, Some, None, is_some, Result, Ok, Err}
 use Rattle.h2_spec_log.specs.declared.refusal.Refusal.{Refusal}
@@ -9,10 +9,10 @@ use Rattle.h2_spec_log.specs.LogCalls.{MayAnswer, with_call}
 use Rattle.h2_laws_end.specs.Takes.{MayTake}
 use Rattle.h2_core.specs.Endpoint.{end_of}
 use Rattle.h2_conn.specs.declared.conn.Conn.{Conn}
-use Rattle.h2_conn.specs.declared.event.Taken.{Taken}
-use Rattle.h2_conn.specs.declared.event.ConnFault.{ConnFault}
+use Rattle.h2_conn.specs.declared.taken.Taken.{Taken}
+use Rattle.h2_conn.specs.declared.taken.ConnFault.{ConnFault}
 use Rattle.h2_conn.specs.Inner.{PartsRepresent}
-use Rattle.h2_conn.specs.declared.happened.Progress.{Progress}
+use Rattle.h2_conn.specs.declared.taken.Progress.{Progress}
 use Rattle.h2_conn.specs.Events.{answer_taken, answer_progress, code_result}
 
 -- The connection represents the log of an end with these values of its own settings.
@@ -57,7 +57,7 @@ ConnShows old act answer new =
     → (one : Answer) × (shown one ≡ answer) × MayAnswer log act one
     × ConnRepresents values new (with_call log act one)
 
--- The octets that were given out are the next ones of the log's output.
+-- The octets that were put out are the next ones of the log's output.
 abbrev pub GivesOut : Conn → ℕ → ℕ → (before after : List ℕ) → Type 0
 GivesOut old count given before after =
     (values : Values) (log : Log) → ConnRepresents values old log

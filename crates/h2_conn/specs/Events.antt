@@ -1,43 +1,38 @@
--- What a call of `take` answers, as events and answers of a log.
+-- The results of `take`, as events and answers of a log.
 use Rattle.std.specs.Prelude.{ℕ, List, Result, Ok, Err}
+use Rattle.std.specs.Borrow.{Bor}
 use Rattle.std.specs.Option.{option_map}
 use Rattle.hpack.specs.declared.types.field.Field.{Field}
 use Rattle.h2_frame.specs.declared.code.Code.{Code}
+use Rattle.h2_wire.specs.declared.cut.Complete.{Complete}
 use Rattle.h2_spec_log.specs.Events as log
 use Rattle.h2_laws_end.specs.Takes.{TakeAnswer, Took, Failed}
-use Rattle.h2_conn.specs.declared.event.Event.{Event}
-use Rattle.h2_conn.specs.declared.event.Event.TheVariants as events
-use Rattle.h2_conn.specs.declared.event.Taken.{Taken}
-use Rattle.h2_conn.specs.declared.event.ConnFault.{ConnFault}
-use Rattle.h2_conn.specs.declared.happened.Happened.{Happened}
-use Rattle.h2_conn.specs.declared.happened.Happened.TheVariants as happenings
-use Rattle.h2_conn.specs.declared.happened.Progress.{Progress}
+use Rattle.h2_core.specs.declared.event.Event.{Event}
+use Rattle.h2_core.specs.Events.{event_value}
+use Rattle.h2_conn.specs.declared.taken.Taken.{Taken}
+use Rattle.h2_conn.specs.declared.taken.ConnFault.{ConnFault}
+use Rattle.h2_conn.specs.declared.taken.Progress.{Progress}
 
--- an event, without where its fields and octets lie
+-- what `take` reports: its fields and octets are lent
+abbrev pub LentEvent : Type 0
+LentEvent = Event (Bor (List Field)) (Bor (List ℕ))
+
+-- what `advance` reports: the fields are kept, and the octets of a body lie in that frame
+abbrev pub LocatedEvent : Type 0
+LocatedEvent = Event Unit Complete
+
 -- rule: calls (own) An event has the octets, the fields and the numbers of its frame
-abbrev pub event_value : Event → log.Event
-event_value (events.Fields id list end) = log.FieldsEvent id list.now end
-event_value (events.Data id bytes flow end) = log.DataEvent id bytes.now flow end
-event_value (events.Reset id code ours) = log.ResetEvent id code ours
-event_value (events.GoAway last code) = log.GoAwayEvent last code
-event_value (events.Unprocessed id) = log.UnprocessedEvent id
-event_value events.Acked = log.AckedEvent
-event_value (events.Pong octets) = log.PongEvent octets
+abbrev pub lent_value : LentEvent → log.Event
+lent_value event = event_value (λ fields. fields.now) (λ octets. octets.now) event
 
--- the same of what has happened, with the fields that are kept and the octets of the body
+-- what has happened, with the fields that are kept and the octets of the body
 -- rule: calls (own) An event has the octets, the fields and the numbers of its frame
-abbrev pub happened_value : List Field → List ℕ → Happened → log.Event
-happened_value list octets (happenings.Fields id end) = log.FieldsEvent id list end
-happened_value list octets (happenings.Data id frame flow end) = log.DataEvent id octets flow end
-happened_value list octets (happenings.Reset id code ours) = log.ResetEvent id code ours
-happened_value list octets (happenings.GoAway last code) = log.GoAwayEvent last code
-happened_value list octets (happenings.Unprocessed id) = log.UnprocessedEvent id
-happened_value list octets happenings.Acked = log.AckedEvent
-happened_value list octets (happenings.Pong pong) = log.PongEvent pong
+abbrev pub happened_value : List Field → List ℕ → LocatedEvent → log.Event
+happened_value list octets event = event_value (λ _. list) (λ _. octets) event
 
--- what a call answers, as an answer of a log
+-- a call's result, as an answer of a log
 abbrev pub answer_taken : Result Taken ConnFault → TakeAnswer
-answer_taken (Ok taken) = Took taken.used (option_map event_value taken.event)
+answer_taken (Ok taken) = Took taken.used (option_map lent_value taken.event)
 answer_taken (Err fault) = Failed fault.code
 
 abbrev pub answer_progress : List Field → List ℕ → Result Progress Code → TakeAnswer

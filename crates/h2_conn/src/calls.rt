@@ -2,7 +2,10 @@
 
 ghost use Rattle.std.specs.Prelude.{◌≡◌, ◌≢◌, ◌≤◌, ◌+◌, min, length, true, false, vec_len, IfOk};
 ghost use Rattle.std.specs.Prelude.{IsOk, OnErr, Err};
+ghost use Rattle.std.specs.List.{AllByRecursion};
 ghost use Rattle.std.specs.Vec.{vec_capacity};
+ghost use Rattle.hpack_text.specs.Bits.{IsOctet};
+ghost use Rattle.hpack.specs.Written.{AreOctets};
 ghost use Rattle.h2_spec_log.specs.Acts.{Open, SendFields, SendData, Release, ResetStream, Refuse};
 ghost use Rattle.h2_spec_log.specs.Acts.{SendPing, SendGoAway, ChangeSettings, PutOut};
 ghost use Rattle.h2_spec_log.specs.Acts.{Values, Number, Count, Done};
@@ -18,47 +21,53 @@ use h2_spec_log::Refusal;
 use hpack::Field;
 
 impl Conn {
-    /// Opens a stream with a field block; `end` says that nothing follows on it (END_STREAM).
-    /// Answers its number: 1, 3, 5 and so on.
+    /// Opens a stream with a field section; `end` sets END_STREAM, so that nothing follows on it.
+    /// Returns its number: 1, 3, 5 and so on.
     ///
     /// # Errors
     ///
-    /// `Closed` (C1), `TooManyStreams` (C4), `StreamsExhausted` (C5, at a server always),
-    /// `GoingAway` (C6), `OutputFull` (C7), `ListTooLarge` (C10) and `Memory` (C12), in this order.
-    /// Nothing has changed.
+    /// [`Refusal::Closed`] (C1), [`Refusal::TooManyStreams`] (C4),
+    /// [`Refusal::StreamsExhausted`] (C5, at a server always), [`Refusal::GoingAway`] (C6),
+    /// [`Refusal::OutputFull`] (C7), [`Refusal::ListTooLarge`] (C10) and [`Refusal::Memory`] (C12),
+    /// in this order. Nothing has changed.
     pub fn open(&mut self, fields: &[Field], end: bool) -> Result<u32, Refusal>
-        ensures { ConnAnswers self.old (Open fields.now end) (answer_by (λ id. Number id) result)
-            self.new }
+        ensures answers { ConnAnswers self.old (Open fields.now end)
+            (answer_by (λ id. Number id) result) self.new }
+        ensures octets { AreOctets fields.now }
     {
         self.inner.end.open(fields, end)
     }
 
-    /// Sends a further field block on a stream: a response's, or trailers.
+    /// Sends a further field section on a stream: a response's, or trailers.
     ///
     /// # Errors
     ///
-    /// `Closed` (C1), `NoSuchStream` (C2), `Ended` (C3), `OutputFull` (C7), `ListTooLarge` (C10)
-    /// and `Memory` (C12), in this order. Nothing has changed.
+    /// [`Refusal::Closed`] (C1), [`Refusal::NoSuchStream`] (C2), [`Refusal::Ended`] (C3),
+    /// [`Refusal::OutputFull`] (C7), [`Refusal::ListTooLarge`] (C10) and [`Refusal::Memory`] (C12),
+    /// in this order. Nothing has changed.
     pub fn fields(&mut self, id: u32, fields: &[Field], end: bool) -> Result<(), Refusal>
-        ensures { ConnAnswers self.old (SendFields id fields.now end)
+        ensures answers { ConnAnswers self.old (SendFields id fields.now end)
             (answer_by (λ done. Done) result) self.new }
+        ensures octets { AreOctets fields.now }
     {
         self.inner.end.send_fields(id, fields, end)
     }
 
     // contract: calls (own) A call that sends nothing takes no memory
-    /// Sends as many octets of a body as both windows let through, and 65,536 at most; answers how
-    /// many. Where all went and `end` is set, the last DATA has END_STREAM; an empty slice with
-    /// `end` sends one empty DATA.
+    /// Sends as many octets of a body as both windows let through, at most 65,536, and returns
+    /// their number. Where all were sent and `end` is set, the last DATA has END_STREAM; an empty
+    /// slice with `end` sends one empty DATA.
     ///
     /// # Errors
     ///
-    /// `Closed` (C1), `NoSuchStream` (C2), `Ended` (C3), `OutputFull` (C7) and `Memory` (C12), in
-    /// this order. Nothing has changed.
+    /// [`Refusal::Closed`] (C1), [`Refusal::NoSuchStream`] (C2), [`Refusal::Ended`] (C3),
+    /// [`Refusal::OutputFull`] (C7) and [`Refusal::Memory`] (C12), in this order. Nothing has
+    /// changed.
     pub fn data(&mut self, id: u32, octets: &[u8], end: bool) -> Result<usize, Refusal>
         ensures answers { ConnAnswers self.old (SendData id octets.now end)
             (answer_by (λ count. Count count) result) self.new }
         ensures within { IfOk result (λ count. count ≤ length octets.now) }
+        ensures octets { AllByRecursion IsOctet octets.now }
 
         // A call that sends nothing takes no memory.
         ensures nothing { (values : Values) (log : Log) → ConnRepresents values self.old log
@@ -68,13 +77,14 @@ impl Conn {
         self.inner.end.send_data(id, octets, end)
     }
 
-    /// Gives the peer as many octets of a stream's window, and of the connection's, back: of those
-    /// that were reported and are owed (RFC 9113, section 6.9).
+    /// Returns credit of `count` octets, which were reported and are owed, for a stream and the
+    /// connection (RFC 9113, section 6.9).
     ///
     /// # Errors
     ///
-    /// `Closed` (C1), `NoSuchStream` (C2), `OutputFull` (C7), `NotOwed` (C11) and `Memory` (C12),
-    /// in this order. Nothing has changed.
+    /// [`Refusal::Closed`] (C1), [`Refusal::NoSuchStream`] (C2), [`Refusal::OutputFull`] (C7),
+    /// [`Refusal::NotOwed`] (C11) and [`Refusal::Memory`] (C12), in this order. Nothing has
+    /// changed.
     pub fn release(&mut self, id: u32, count: u32) -> Result<(), Refusal>
         ensures { ConnAnswers self.old (Release id count) (answer_by (λ done. Done) result)
             self.new }
@@ -86,8 +96,9 @@ impl Conn {
     ///
     /// # Errors
     ///
-    /// `Closed` (C1), `NoSuchStream` (C2), `OutputFull` (C7), `TooManyResets` (C9) and
-    /// `Memory` (C12), in this order. Nothing has changed.
+    /// [`Refusal::Closed`] (C1), [`Refusal::NoSuchStream`] (C2), [`Refusal::OutputFull`] (C7),
+    /// [`Refusal::TooManyResets`] (C9) and [`Refusal::Memory`] (C12), in this order. Nothing has
+    /// changed.
     pub fn reset(&mut self, id: u32, code: u32) -> Result<(), Refusal>
         ensures { ConnAnswers self.old (ResetStream id code) (answer_by (λ done. Done) result)
             self.new }
@@ -98,13 +109,14 @@ impl Conn {
     // contract: calls (own) A stream that the layer above refuses is reset
     /// Resets a stream for a fault of the peer that the layer above found. With INTERNAL_ERROR (2)
     /// that layer has no memory, and the connection fails with it; it fails with ENHANCE_YOUR_CALM
-    /// where 1,000 streams were reset, or RST_STREAM would bring the waiting output above 262,144
-    /// octets, and with INTERNAL_ERROR where an allocation was refused. [`Conn::take`] then answers
-    /// the code.
+    /// where 1,000 streams were reset, or RST_STREAM would bring the queued output above 262,144
+    /// octets, and with INTERNAL_ERROR where an allocation was refused. [`Conn::take`] then
+    /// returns the code.
     ///
     /// # Errors
     ///
-    /// `Closed` (C1) and, unless the code is 2, `NoSuchStream` (C2). Nothing has changed.
+    /// [`Refusal::Closed`] (C1) and, unless the code is 2, [`Refusal::NoSuchStream`] (C2). Nothing
+    /// has changed.
     pub fn refuse(&mut self, id: u32, code: u32) -> Result<(), Refusal>
         ensures { ConnShows self.old (Refuse id code) (answer_by (λ done. Done) result) self.new }
     {
@@ -115,8 +127,8 @@ impl Conn {
     ///
     /// # Errors
     ///
-    /// `Closed` (C1), `OutputFull` (C7), `PingWaits` (C8) and `Memory` (C12), in this order.
-    /// Nothing has changed.
+    /// [`Refusal::Closed`] (C1), [`Refusal::OutputFull`] (C7), [`Refusal::PingWaits`] (C8) and
+    /// [`Refusal::Memory`] (C12), in this order. Nothing has changed.
     pub fn ping(&mut self, octets: [u8; 8]) -> Result<(), Refusal>
         ensures { ConnAnswers self.old (SendPing octets) (answer_by (λ done. Done) result)
             self.new }
@@ -124,13 +136,13 @@ impl Conn {
         self.inner.end.ping(octets)
     }
 
-    /// Says that this end takes no further streams (section 6.8): GOAWAY with the greatest that it
-    /// has processed, and NO_ERROR.
+    /// Sends GOAWAY (section 6.8) with NO_ERROR and the greatest stream that this end has
+    /// processed: it takes no further ones.
     ///
     /// # Errors
     ///
-    /// `Closed` (C1), `GoingAway` (C6), `OutputFull` (C7) and `Memory` (C12), in this order.
-    /// Nothing has changed.
+    /// [`Refusal::Closed`] (C1), [`Refusal::GoingAway`] (C6), [`Refusal::OutputFull`] (C7) and
+    /// [`Refusal::Memory`] (C12), in this order. Nothing has changed.
     pub fn go_away(&mut self) -> Result<(), Refusal>
         ensures { ConnAnswers self.old SendGoAway (answer_by (λ done. Done) result) self.new }
     {
@@ -147,9 +159,9 @@ impl Conn {
     ///
     /// # Errors
     ///
-    /// `Closed` (C1), `OutputFull` (C7), `SettingsWait` (C13) where own SETTINGS, the first
-    /// included, await their acknowledgment, and `Memory` (C12), in this order. Nothing has
-    /// changed.
+    /// [`Refusal::Closed`] (C1), [`Refusal::OutputFull`] (C7), [`Refusal::SettingsWait`] (C13)
+    /// where own SETTINGS, the first included, await their acknowledgment, and
+    /// [`Refusal::Memory`] (C12), in this order. Nothing has changed.
     pub fn change_settings(&mut self, config: Config) -> Result<(), Refusal>
         ensures { ConnAnswers self.old (ChangeSettings (values_of config))
             (answer_by (λ done. Done) result) self.new }
@@ -160,15 +172,15 @@ impl Conn {
     }
 
     // rule: calls (own) Output is given out in order and once
-    /// Appends as many octets of the output as wait, and at most `count`, to `out`, and takes them
-    /// away. Where less than the full output waits, all that is unreturned is returned first. It
-    /// works after a failure too.
+    /// Appends at most `count` octets of the queued output to `out`, removes them from the queue,
+    /// and returns their number. Where less than 65,536 octets are queued, all that is unreturned
+    /// is returned first. It works after a failure too.
     ///
     /// # Errors
     ///
-    /// `Memory` (C12). Nothing has changed. It does not come where `out` has the capacity, unless
-    /// something is returned first: while the connection is up, [`Conn::due`] is not 0, and less
-    /// than 65,536 octets wait. Then it may come even for a `count` of 0.
+    /// [`Refusal::Memory`] (C12). Nothing has changed. It does not come where `out` has the
+    /// capacity, unless something is returned first: while the connection is up, [`Conn::due`] is
+    /// not 0, and less than 65,536 octets are queued. Then it may come even for a `count` of 0.
     pub fn put_out(&mut self, count: usize, out: &mut Vec<u8>) -> Result<usize, Refusal>
         ensures answers { ConnAnswers self.old (PutOut count)
             (answer_by (λ given. Count given) result) self.new }

@@ -1,11 +1,11 @@
 //! One end of a connection.
 
-ghost use Rattle.std.specs.Prelude.{◌≡◌, ◌≢◌, ◌≤◌, ℕ, List, length, IfOk, IfErr};
+ghost use Rattle.std.specs.Prelude.{◌≡◌, ◌≢◌, ◌≤◌, ℕ, List, length, None, Some, IfOk, IfErr};
+ghost use Rattle.std.specs.Prelude.{MatchOption, IfSome, IsSome};
 ghost use Rattle.std.specs.Borrow.{sem};
 ghost use Rattle.std.specs.Io.BufRead.{Rests};
 ghost use Rattle.h2_frame.specs.declared.code.Code.TheVariants.{InternalError};
-ghost use Rattle.h2_frame.specs.Frames.{Frame, Encodes, frame_of};
-ghost use Rattle.h2_wire.specs.Cutter.{HasFrame, octets_of};
+ghost use Rattle.h2_wire.specs.Cutter.{body_at};
 ghost use Rattle.h2_flow.specs.ConfigValues.{values_of};
 ghost use Rattle.h2_spec_log.specs.declared.role.Role.TheVariants.{Client, Server};
 ghost use Rattle.h2_spec_log.specs.Acts.{Values};
@@ -15,26 +15,22 @@ ghost use Rattle.h2_laws_end.specs.Promises.{NeedsNoMemory};
 ghost use Rattle.h2_core.specs.Endpoint.{end_of};
 ghost use Rattle.h2_conn.specs.Inner.{PartsRepresent};
 ghost use Rattle.h2_conn.specs.Conn.{ConnRepresents, ConnTakes, ConnAdvances};
-ghost use Rattle.h2_conn.specs.Events.{code_result};
-ghost use Rattle.h2_conn.specs.Loans.{octets_of_body, LiesThere, IsBodyOf};
+ghost use Rattle.h2_conn.specs.Events.{code_result, happened_value, lent_value};
+ghost use Rattle.h2_conn.specs.Loans.{LiesThere, IsBodyOf, frame_in};
 ghost use Rattle.h2_conn.specs.contracts.conn.Conn.{the_row};
 
-use crate::event::{ConnFault, Event, Taken};
-use crate::happened::{Happened, Progress};
 use crate::inner::Inner;
-use h2_core::Endpoint;
+use crate::taken::{ConnFault, Progress, Taken};
+use crate::taking::take_piece;
+use h2_core::{Endpoint, Event};
 use h2_flow::Config;
-use h2_frame::FrameRef;
+use h2_frame::limits::LEAST_MAX_FRAME;
 use h2_spec_log::{Refusal, Role};
 use h2_wire::{Complete, Cutter};
 use hpack::FieldList;
 use std::alloc::Global;
 
-/// The most octets of a payload that an end reads before its first SETTINGS (RFC 9113, section
-/// 6.5.2).
-const FIRST_LIMIT: u32 = 16_384;
-
-/// One end of a connection: it takes octets and calls, and gives events and octets. It does no
+/// One end of a connection: it takes octets and calls, and returns events and octets. It does no
 /// input or output.
 #[derive(Drop)]
 pub struct Conn {
@@ -43,11 +39,11 @@ pub struct Conn {
 
 impl Conn {
     // contract: 3.4 A server sends frames at once, without a preface
-    /// A client, whose opening waits: the preface and SETTINGS (RFC 9113, section 3.4).
+    /// A client, whose opening is queued: the preface and SETTINGS (RFC 9113, section 3.4).
     ///
     /// # Errors
     ///
-    /// `Memory` (C12) where an allocation was refused.
+    /// [`Refusal::Memory`] (C12) where an allocation was refused.
     pub fn client(alloc: Global, config: Config) -> Result<Conn, Refusal>
         ensures ok { IfOk result (λ conn. ConnRepresents (values_of config) conn
             (opened Client (values_of config))) }
@@ -59,11 +55,11 @@ impl Conn {
     }
 
     // contract: 3.4 A server sends frames at once, without a preface
-    /// A server, whose opening waits: SETTINGS (section 3.4).
+    /// A server, whose opening is queued: SETTINGS (section 3.4).
     ///
     /// # Errors
     ///
-    /// `Memory` (C12) where an allocation was refused.
+    /// [`Refusal::Memory`] (C12) where an allocation was refused.
     pub fn server(alloc: Global, config: Config) -> Result<Conn, Refusal>
         ensures ok { IfOk result (λ conn. ConnRepresents (values_of config) conn
             (opened Server (values_of config))) }
@@ -77,9 +73,9 @@ impl Conn {
     // contract: 5.4 (own) A frame whole in its piece that needs no memory is never refused any
     // contract: calls (own) take uses octets up to one frame's end, and answers one event at most
     // rule: calls (own) take uses octets up to one frame's end, and answers one event at most
-    /// [`Conn::take`] without lending: what is reported is answered without its fields and octets,
-    /// which [`Conn::list`] and [`Conn::octets`] lend until the next call of `advance`, `take` or a
-    /// method that changes the connection. So a layer above can look at them and then call again.
+    /// [`Conn::take`] without lending: what is reported is returned without its fields and octets,
+    /// which [`Conn::list`] and [`Conn::octets`] lend until the next call of `advance`, `take` or
+    /// a method that changes the connection. So a layer above can read them and then call again.
     ///
     /// # Errors
     ///
@@ -97,10 +93,18 @@ impl Conn {
         ensures promised { (values : Values) (log : Log) → ConnRepresents values self.old log
             → NeedsNoMemory log piece.now → IfErr result (λ fault. fault.code ≢ InternalError) }
     {
-        match self.inner.take(piece) {
-            Ok(progress) => Ok(progress),
-            Err(code) => Err(ConnFault { code }),
+        if let Some(code) = self.inner.end.failed() {
+            return Err(ConnFault { code });
         }
+        if let Some(id) = self.inner.end.unprocessed() {
+            self.inner.end.close_unprocessed(id)?;
+            return Ok(Progress {
+                used: 0,
+                happened: Some(Event::Unprocessed { id }),
+            });
+        }
+        let progress = take_piece(&mut self.inner.cutter, &mut self.inner.end, piece)?;
+        Ok(progress)
     }
 
     // contract: calls (own) An event has the octets, the fields and the numbers of its frame
@@ -112,14 +116,15 @@ impl Conn {
     }
 
     // rule: calls (own) An event has the octets, the fields and the numbers of its frame
-    /// The octets of the body that [`Conn::advance`] has reported of this piece. It takes no
-    /// memory.
-    pub fn octets<'a>(&'a self, piece: &'a [u8], frame: Complete) -> &'a [u8]
-        requires lies { HasFrame self.now.inner.cutter piece.now frame }
-        ensures { (value : Frame) × Encodes value (octets_of self.now.inner.cutter piece.now frame)
-            × (result.now ≡ octets_of_body value) }
+    /// The octets of the body that [`Conn::advance`] has reported of this piece. `None` where the
+    /// piece, or what the connection keeps, is too short to have them. That it is the same piece
+    /// isn't checked: of another one, or after a later call of `advance` or `take`, these are
+    /// whatever octets lie at that place. It takes no memory.
+    pub fn octets<'a>(&'a self, piece: &'a [u8], body: Complete) -> Option<&'a [u8]>
+        ensures { MatchOption result (body_at self.now.inner.cutter piece.now body ≡ None)
+            (λ octets. body_at self.now.inner.cutter piece.now body ≡ Some octets.now) }
     {
-        body(self.inner.cutter.frame(piece, frame))
+        self.inner.cutter.body(piece, body)
     }
 
     // contract: 5.4 (own) A frame whole in its piece that needs no memory is never refused any
@@ -128,7 +133,7 @@ impl Conn {
     // contract: 4.2 The limit of an end is its greatest MAX_FRAME_SIZE of those in force
     // contract: calls (own) take uses octets up to one frame's end, and answers one event at most
     // rule: calls (own) take uses octets up to one frame's end, and answers one event at most
-    /// Takes octets of the piece, up to the end of one frame or else all of them, and answers what
+    /// Takes octets of the piece, up to the end of one frame or else all of them, and returns what
     /// is reported: at most one event. Call it again until the piece is used and nothing is
     /// reported: streams that the peer does not process are reported one a call, with no octets
     /// used.
@@ -151,39 +156,38 @@ impl Conn {
             → NeedsNoMemory log piece.now → IfErr result (λ fault. fault.code ≢ InternalError) }
     {
         let progress = self.advance(piece)?;
-        let Some(happened) = progress.happened else {
+        let Some(event) = progress.happened else {
             return Ok(Taken {
                 used: progress.used,
                 event: None,
             });
         };
-        let event = match happened {
-            Happened::Fields { id, end } => Event::Fields {
-                id,
-                list: self.list(),
-                end,
-            },
-            Happened::Data {
-                id,
-                frame,
-                flow,
-                end,
-            } => Event::Data {
-                id,
-                bytes: self.octets(piece, frame),
-                flow,
-                end,
-            },
-            Happened::Reset { id, code, ours } => Event::Reset { id, code, ours },
-            Happened::GoAway { last, code } => Event::GoAway { last, code },
-            Happened::Unprocessed { id } => Event::Unprocessed { id },
-            Happened::Acked => Event::Acked,
-            Happened::Pong { octets } => Event::Pong { octets },
-        };
         Ok(Taken {
             used: progress.used,
-            event: Some(event),
+            event: Some(self.lent(piece, event)),
         })
+    }
+
+    // rule: calls (own) An event has the octets, the fields and the numbers of its frame
+    /// An event that [`Conn::advance`] has reported of this piece, with what is lent.
+    fn lent<'a>(
+        &'a self,
+        piece: &'a [u8],
+        event: Event<(), Complete>,
+    ) -> Event<&'a FieldList, &'a [u8]>
+        requires { IfSome (frame_in (Some event)) (λ frame.
+            IsSome (body_at self.now.inner.cutter piece.now frame)) }
+        ensures { (octets : List ℕ) → IfSome (frame_in (Some event)) (λ frame.
+            body_at self.now.inner.cutter piece.now frame ≡ Some octets)
+            → lent_value result ≡ happened_value self.now.inner.end.list octets event }
+    {
+        match event {
+            Event::Data { bytes, .. } => match self.octets(piece, bytes) {
+                Some(octets) => event.with_parts(self.list(), octets),
+                None => unreachable!(),
+            },
+            _ => event.with_parts(self.list(), &piece[..0]),
+        }
     }
 }
 
@@ -196,18 +200,7 @@ fn new_inner(alloc: Global, role: Role, config: Config) -> Result<Inner, Refusal
     ensures err { IfErr result (λ refusal. refusal ≡ Refusal.Memory) }
 {
     let end = Endpoint::new(alloc, role, config)?;
-    let mut cutter = Cutter::new(alloc, FIRST_LIMIT, role == Role::Server);
+    let mut cutter = Cutter::new(alloc, LEAST_MAX_FRAME, role == Role::Server);
     cutter.set_limit(end.payload_limit());
     Ok(Inner { cutter, end })
-}
-
-// rule: calls (own) An event has the octets, the fields and the numbers of its frame
-/// The octets of a frame's body; only DATA has any.
-fn body<'a>(frame: FrameRef<'a>) -> &'a [u8]
-    ensures { result.now ≡ octets_of_body (frame_of frame.entry) }
-{
-    match frame {
-        FrameRef::Data { octets, .. } => octets,
-        _ => &[],
-    }
 }

@@ -7,15 +7,14 @@
 
 mod calls;
 mod conn;
-mod event;
-mod happened;
 mod inner;
+mod output;
 mod readers;
+mod taken;
 mod taking;
-mod waiting;
 
 pub use conn::Conn;
-pub use event::{ConnFault, Event, Taken};
+pub use h2_core::Event;
 pub use h2_flow::{BadConfig, Config};
 pub use h2_spec_log::{Refusal, Role};
-pub use happened::{Happened, Progress};
+pub use taken::{ConnFault, Progress, Taken};

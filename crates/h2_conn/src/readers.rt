@@ -1,6 +1,7 @@
-//! What a connection answers of itself. None of it takes memory.
+//! The readers of a connection. None of them takes memory.
 
 ghost use Rattle.std.specs.Prelude.{◌≡◌, ◌≤◌, ◌<◌, Bool, IfSome};
+ghost use Rattle.hpack.specs.Written.{AreOctets};
 ghost use Rattle.h2_spec_log.specs.Acts.{Values, Open};
 ghost use Rattle.h2_spec_log.specs.Log.{Log, active, waiting, reader_held, reader_next_live};
 ghost use Rattle.h2_spec_log.specs.LogView.{log_view};
@@ -13,8 +14,8 @@ use h2_spec_log::{Refusal, Role};
 use hpack::Field;
 
 impl Conn {
-    /// How many octets of output wait: at most 262,144, and 262,161 with the GOAWAY of a failed
-    /// connection (RFC 9113, section 10.5). It goes on once the connection has failed.
+    /// The number of octets of queued output: at most 262,144, and 262,161 with the GOAWAY of a
+    /// failed connection (RFC 9113, section 10.5). It works after a failure too.
     pub fn waiting(&self) -> usize
         ensures count { (values : Values) (log : Log) → ConnRepresents values self.now log
             → result ≡ waiting log }
@@ -25,7 +26,7 @@ impl Conn {
     }
 
     // contract: 10.5 (own) What an end holds of a stream is bounded
-    /// How many octets of a preface or a frame have come that is not complete: at most 1,048,585, a
+    /// The number of octets used of a preface or a frame that is not complete: at most 1,048,585, a
     /// head and the greatest payload that may be configured; with the default, whose payloads have
     /// 16,384 octets, at most 16,393. 0 once the connection has failed.
     pub fn held(&self) -> usize
@@ -40,9 +41,9 @@ impl Conn {
         self.inner.cutter.held()
     }
 
-    /// How many octets this end may send: on the connection where `id` is 0, else on a stream, if
-    /// it is active; below zero where settings have shifted its window so (RFC 9113, section
-    /// 6.9.2). None once the connection has failed.
+    /// The number of octets that this end may send: on the connection where `id` is 0, else on an
+    /// active stream; below zero where settings have shifted its window so (RFC 9113, section
+    /// 6.9.2). `None` for other streams, and once the connection has failed.
     pub fn room(&self, id: u32) -> Option<i64>
         ensures { (values : Values) (log : Log) → ConnRepresents values self.now log
             → result ≡ reader_room (log_view log) id }
@@ -50,8 +51,8 @@ impl Conn {
         self.inner.end.room(id)
     }
 
-    /// How many octets of a stream were reported and are not released; 0 where it is not active,
-    /// and once the connection has failed.
+    /// The number of octets of a stream that were reported and are not released; 0 where it is not
+    /// active, and once the connection has failed.
     pub fn owed(&self, id: u32) -> u32
         ensures { (values : Values) (log : Log) → ConnRepresents values self.now log
             → result ≡ reader_owed (log_view log) id }
@@ -59,8 +60,8 @@ impl Conn {
         self.inner.end.owed(id)
     }
 
-    /// How many octets of the connection's window are still to be returned: of DATA that was
-    /// discarded, and of streams that have closed. 0 once the connection has failed.
+    /// The number of octets of the connection's window that are still to be returned: of DATA that
+    /// was discarded, and of streams that have closed. 0 once the connection has failed.
     pub fn due(&self) -> u32
         ensures { (values : Values) (log : Log) → ConnRepresents values self.now log
             → result ≡ reader_due (log_view log) }
@@ -68,7 +69,8 @@ impl Conn {
         self.inner.end.due()
     }
 
-    /// The least active stream above a number; none once the connection has failed.
+    /// The least active stream above the number `above`, if there is one; `None` once the
+    /// connection has failed.
     pub fn next_live(&self, above: u32) -> Option<u32>
         ensures number { (values : Values) (log : Log) → ConnRepresents values self.now log
             → result ≡ reader_next_live log above }
@@ -77,7 +79,7 @@ impl Conn {
         self.inner.end.next_live(above)
     }
 
-    /// The code with which the connection has failed.
+    /// The code with which the connection has failed, if it has.
     pub fn failed(&self) -> Option<Code>
         ensures { (values : Values) (log : Log) → ConnRepresents values self.now log
             → result ≡ log.failed }
@@ -86,7 +88,8 @@ impl Conn {
         endpoint.failed()
     }
 
-    /// Whether a stream is active (RFC 9113, section 5.1). That does not end with the connection.
+    /// Whether a stream is active: open or half-closed (RFC 9113, section 5.1). That does not end
+    /// with the connection.
     pub fn is_active(&self, id: u32) -> bool
         ensures { (values : Values) (log : Log) → ConnRepresents values self.now log
             → result ≡ active log id }
@@ -94,8 +97,8 @@ impl Conn {
         self.inner.end.is_active(id)
     }
 
-    /// The number of the stream that a client opens next: 1, 3, 5 and so on (section 5.1.1). None
-    /// once the connection has failed, and at a server.
+    /// The number of the stream that a client opens next: 1, 3, 5 and so on (section 5.1.1).
+    /// `None` once the connection has failed, and at a server.
     pub fn next_number(&self) -> Option<u32>
         ensures { (values : Values) (log : Log) → ConnRepresents values self.now log
             → result ≡ reader_next_number log }
@@ -106,12 +109,14 @@ impl Conn {
         Some(self.inner.end.next_number())
     }
 
-    /// Why [`Conn::open`] would refuse a list of fields now: the first of `Closed` (C1),
-    /// `TooManyStreams` (C4), `StreamsExhausted` (C5, at a server always), `GoingAway` (C6),
-    /// `OutputFull` (C7) and `ListTooLarge` (C10). It says nothing of `Memory` (C12).
+    /// Why [`Conn::open`] would refuse a list of fields now: the first of [`Refusal::Closed`]
+    /// (C1), [`Refusal::TooManyStreams`] (C4), [`Refusal::StreamsExhausted`] (C5, at a server
+    /// always), [`Refusal::GoingAway`] (C6), [`Refusal::OutputFull`] (C7) and
+    /// [`Refusal::ListTooLarge`] (C10). It doesn't foresee [`Refusal::Memory`] (C12).
     pub fn refusal_to_open(&self, fields: &[Field]) -> Option<Refusal>
-        ensures { (values : Values) (log : Log) → ConnRepresents values self.now log
+        ensures refusal { (values : Values) (log : Log) → ConnRepresents values self.now log
             → (end : Bool) → result ≡ refusal_of (log_view log) (Open fields.now end) }
+        ensures octets { AreOctets fields.now }
     {
         self.inner.end.refusal_to_open(fields)
     }

@@ -1,14 +1,10 @@
 -- The first of some conditions that holds, and calls that are refused for it.
-use Rattle.std.proofs.Common.{◌≡◌, Bool, true, false, List, ◌∷◌, Option, Some, None, refl, inl, inr}
-use Rattle.std.specs.Option.{is_some, option_map}
+use Rattle.h2_core.proofs.Names.{◌≡◌, Bool, true, false, List, ◌∷◌, Option, Some, None, refl, inl}
+use Rattle.h2_core.proofs.Names.{inr, option_map, is_err, Refusal, Memory, Act, refusal_of, End}
+use Rattle.h2_core.proofs.Names.{end_view, CallRefused}
+use Rattle.h2_spec_log.specs.CallRules.{first_of}
+use Rattle.std.specs.Option.{is_some}
 use Rattle.std.specs.Prelude.{Result, Ok, Err, OnErr}
-use Rattle.std.specs.Result.{is_err}
-use Rattle.h2_spec_log.specs.declared.refusal.Refusal.{Refusal}
-use Rattle.h2_spec_log.specs.declared.refusal.Refusal.TheVariants.{Memory}
-use Rattle.h2_spec_log.specs.Acts.{Act}
-use Rattle.h2_spec_log.specs.CallRules.{first_of, refusal_of}
-use Rattle.h2_spec_machine.specs.End.{End, end_view}
-use Rattle.h2_core.specs.Calls.{CallRefused}
 
 -- It holds.
 pub holds_first : (holds : Bool) (refusal : Refusal) (conditions : List (Bool × Refusal))

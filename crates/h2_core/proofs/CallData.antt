@@ -1,15 +1,11 @@
 -- The DATA frames of a body's octets, in the order in which they are added.
-use Rattle.std.proofs.Common.{◌≡◌, ℕ, zero, suc, ◌+◌, ◌≤◌, ◌<◌, Bool, false}
-use Rattle.std.proofs.Common.{List, [], ◌∷◌, ◌++◌, length, take, drop, None, sym, ap, ◌∙◌}
-use Rattle.std.proofs.Common.{inl, inr, append-nil, append_assoc, arith, length-drop, add-one}
-use Rattle.std.proofs.lemmas.Bool.{cases_lt}
-use Rattle.h2_frame.specs.Frames.{Data}
-use Rattle.h2_frame.specs.Encoding.{encoding_of}
-use Rattle.h2_block.specs.Grouping.{Item, alone}
+use Rattle.h2_core.proofs.Names.{◌≡◌, ℕ, zero, suc, ◌+◌, ◌≤◌, ◌<◌, Bool, false, List, [], ◌∷◌, ◌++◌}
+use Rattle.h2_core.proofs.Names.{length, take, drop, None, sym, ap, ◌∙◌, inl, inr, append-nil}
+use Rattle.h2_core.proofs.Names.{append_assoc, arith, add-one, cases_lt, Data, encoding_of, Item}
+use Rattle.h2_core.proofs.Names.{alone, data_frames}
 use Rattle.h2_spec_log.specs.Items.{encoding_of_item, encoding_of_items}
-use Rattle.h2_spec_log.specs.CallRules.{data_frames}
-use Rattle.h2_spec_log.proofs.DataFrames.{frames_last as frames_one}
-use Rattle.h2_spec_log.proofs.DataFrames.{frames_more}
+use Rattle.std.proofs.Common.{length-drop}
+use Rattle.h2_spec_log.proofs.DataFrames.{frames_last as frames_one, frames_more}
 
 -- Items that follow an oldest one are written after it.
 oldest_first : (most : ℕ) (items : List Item) (item : Item)

@@ -1,11 +1,9 @@
 -- What is kept of a number that is added to the streams, and taken away again.
-use Rattle.std.proofs.Common.{◌≡◌, ℕ, ◌==◌, Bool, true, false, if◌then◌else◌, Some, None, refl, sym}
-use Rattle.std.proofs.Common.{ap, ◌∙◌}
-use Rattle.std.specs.Cmp.{nat_cmp_total}
-use Rattle.std.specs.FinMap as map
+use Rattle.h2_core.proofs.Names.{◌≡◌, ℕ, ◌==◌, Bool, true, false, if◌then◌else◌, Some, None, refl}
+use Rattle.h2_core.proofs.Names.{sym, ap, ◌∙◌, nat_cmp_total, StreamEntry, StreamMap, get_set}
+use Rattle.h2_core.proofs.Names.{get_removed}
 use Rattle.std.proofs.lemmas.Bool.{eqb-true}
-use Rattle.h2_spec_machine.specs.End.{StreamEntry, StreamMap}
-use Rattle.h2_spec_machine.proofs.SetEntries.{get_set, get_removed}
+use Rattle.std.specs.FinMap as map
 
 -- Each entry is what it was, by whether its number was added and taken away.
 entry_again : (m : StreamMap) (k : ℕ) (v : StreamEntry) (q : ℕ) (same : Bool)

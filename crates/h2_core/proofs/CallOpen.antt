@@ -1,24 +1,18 @@
--- Opening a stream: what holds where no condition refuses it, and what it makes of an end.
-use Rattle.std.proofs.Common.{◌≡◌, ℕ, ◌+◌, ◌==◌, ◌≤◌, ◌<◌, Bool, true, false, List, [], ◌∷◌}
-use Rattle.std.proofs.Common.{None, refl, ap, ◌∙◌, arith}
-use Rattle.std.specs.FinMap as map
+-- Opening a stream: what holds where no condition refuses it, and the end after it.
+use Rattle.h2_core.proofs.Names.{◌≡◌, ℕ, ◌+◌, ◌==◌, ◌≤◌, ◌<◌, Bool, true, false, List, [], ◌∷◌}
+use Rattle.h2_core.proofs.Names.{None, refl, ap, ◌∙◌, arith, Field, block_of, after_block}
+use Rattle.h2_core.proofs.Names.{list_size, block, refusal_of, is_server, StreamView, End, end_view}
+use Rattle.h2_core.proofs.Names.{active_entry, queue_output, with_encoder, new_stream, TableState}
+use Rattle.h2_spec_log.specs.CallRules.{conditions, items_of, encoder_after_call}
+use Rattle.h2_spec_machine.specs.Machine.{after_call, open_stream}
 use Rattle.std.proofs.lemmas.Bool.{ltb-false, eqb-true, or_parts}
-use Rattle.hpack.specs.declared.types.field.Field.{Field}
-use Rattle.hpack.specs.Choice.{block_of, after_block}
-use Rattle.hpack.specs.Lists.{list_size}
-use Rattle.h2_block.specs.Grouping.{block}
 use Rattle.h2_spec_log.specs.Acts.{Open}
-use Rattle.h2_spec_log.specs.CallRules.{conditions, refusal_of, items_of, encoder_after_call}
-use Rattle.h2_spec_log.specs.Settings.{is_server}
-use Rattle.h2_spec_log.specs.View.{StreamView}
-use Rattle.h2_spec_machine.specs.End.{End, end_view, active_entry, number_after}
-use Rattle.h2_spec_machine.specs.Machine.{after_call, queue_output, with_encoder, new_stream}
-use Rattle.h2_spec_machine.specs.Machine.{open_stream}
-use Rattle.h2_streams.specs.Table.{TableState}
+use Rattle.h2_spec_machine.specs.End.{number_after}
 use Rattle.h2_core.proofs.CallMaps.{remove_inserted}
 use Rattle.h2_laws_log.proofs.InvariantSends.{client_number as number_at}
 use Rattle.h2_laws_log.proofs.CallConditions.{first_none as none_first}
 use Rattle.hpack.proofs.Tests.{none_since as nothing}
+use Rattle.std.specs.FinMap as map
 
 -- What holds where no condition refuses to open a stream.
 pub record MayOpen (e : End) (fields : List Field) : Type 0 where

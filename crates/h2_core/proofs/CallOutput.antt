@@ -1,19 +1,13 @@
--- What calls add to the output.
-use Rattle.std.proofs.Common.{◌≡◌, ℕ, ◌+◌, ◌-◌, ◌*◌, ◌/◌, ◌≤◌, Bool, List, [], ◌∷◌, length, refl}
-use Rattle.std.proofs.Common.{arith}
+-- The octets that calls add to the output.
+use Rattle.h2_core.proofs.Names.{◌≡◌, ℕ, ◌+◌, ◌-◌, ◌*◌, ◌/◌, ◌≤◌, Bool, List, [], ◌∷◌, length, refl}
+use Rattle.h2_core.proofs.Names.{arith, Field, EncoderState, list_size, block_of, Frame}
+use Rattle.h2_core.proofs.Names.{encoding_of, alone, block, End}
+use Rattle.h2_spec_log.specs.Items.{encoding_of_item, encoding_of_items}
 use Rattle.std.proofs.Math.Nat.{div-mul-le_self, mul-le-mul_left}
 use Rattle.std.proofs.lemmas.Nat.{le-div}
-use Rattle.hpack.specs.declared.types.field.Field.{Field}
-use Rattle.hpack.specs.Lists.{EncoderState, list_size}
-use Rattle.hpack.specs.Choice.{block_of}
 use Rattle.hpack.proofs.RoomLemmas.{block_short, most_octets-list_size}
 use Rattle.h2_block.proofs.SpreadLengths.{length-spread_frames}
-use Rattle.h2_frame.specs.Frames.{Frame}
-use Rattle.h2_frame.specs.Encoding.{encoding_of}
-use Rattle.h2_block.specs.Grouping.{alone, block}
 use Rattle.h2_block.specs.Spread.{spread_frames, encoding_of_frames}
-use Rattle.h2_spec_log.specs.Items.{encoding_of_item, encoding_of_items}
-use Rattle.h2_spec_machine.specs.End.{End}
 
 -- an end whose output is this
 abbrev pub with_waiting : End → List ℕ → End

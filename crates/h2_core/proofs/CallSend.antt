@@ -1,21 +1,16 @@
--- Calls that send on an active stream: when none of their conditions holds, and what they make of
--- an end.
-use Rattle.std.proofs.Common.{ap, sym, ◌∙◌, suc, ◌+◌, take, add-one}
+-- Calls that send on an active stream: when none of their conditions holds, and the end after
+-- them.
+use Rattle.h2_core.proofs.Names.{ap, sym, ◌∙◌, suc, ◌+◌, take, add-one, ◌≡◌, ℕ, ◌-◌, ◌≤◌, ◌<◌, ◌==◌}
+use Rattle.h2_core.proofs.Names.{not, ◌&&◌, Bool, true, false, List, [], ◌∷◌, length, pos, ◌-ℤ◌}
+use Rattle.h2_core.proofs.Names.{Some, None, lt-leb, lt-ltb, le-ltb, Field, block_of, after_block}
+use Rattle.h2_core.proofs.Names.{list_size, Item, block, refusal_of, data_frames, StreamView, End}
+use Rattle.h2_core.proofs.Names.{end_view, stream_at, update_stream, queue_output, with_encoder}
+use Rattle.h2_spec_log.specs.CallRules.{first_of, conditions, items_of, encoder_after_call}
+use Rattle.h2_spec_log.specs.CallRules.{data_count, data_items}
+use Rattle.h2_spec_machine.specs.Machine.{after_call}
 use Rattle.std.proofs.lemmas.List.{length-take-le}
-use Rattle.std.proofs.Common.{◌≡◌, ℕ, ◌-◌, ◌≤◌, ◌<◌, ◌==◌, not, ◌&&◌, Bool, true, false, List, []}
-use Rattle.std.proofs.Common.{◌∷◌, length, pos, ◌-ℤ◌, Some, None}
-use Rattle.std.proofs.lemmas.Bool.{lt-leb, lt-ltb, le-ltb}
-use Rattle.hpack.specs.declared.types.field.Field.{Field}
-use Rattle.hpack.specs.Choice.{block_of, after_block}
-use Rattle.hpack.specs.Lists.{list_size}
-use Rattle.h2_block.specs.Grouping.{Item, block}
 use Rattle.h2_spec_log.specs.declared.refusal.Refusal.TheVariants.{ListTooLarge}
 use Rattle.h2_spec_log.specs.Acts.{SendFields, SendData}
-use Rattle.h2_spec_log.specs.CallRules.{first_of, conditions, refusal_of, data_count, data_items}
-use Rattle.h2_spec_log.specs.CallRules.{items_of, data_frames, encoder_after_call}
-use Rattle.h2_spec_log.specs.View.{StreamView}
-use Rattle.h2_spec_machine.specs.End.{End, end_view, stream_at}
-use Rattle.h2_spec_machine.specs.Machine.{after_call, update_stream, queue_output, with_encoder}
 
 -- No condition refuses fields.
 pub fields_free : (e : End) (id : ℕ) (stream : StreamView) (fields : List Field) (end : Bool)
@@ -76,7 +71,7 @@ pub data_unsent : (e : End) (id : ℕ) (stream : StreamView) (octets : List ℕ)
 unfolding after_call
 data_unsent e id stream octets end count active is none = rw (active, ← is, none)
 
--- an end with items that DATA gave, and both send windows without so many octets
+-- an end after DATA: `items` are queued, and both send windows are less by `count`
 abbrev pub after_sent : End → ℕ → StreamView → List Item → ℕ → Bool → End
 after_sent e id stream items count ends =
     update_stream
@@ -85,7 +80,7 @@ after_sent e id stream items count ends =
     })
     id (record stream { send_window = stream.send_window -ℤ pos count; ended_out = ends })
 
--- the end once so many octets are written
+-- the end once `count` octets are written
 data_sent : (e : End) (id : ℕ) (stream : StreamView) (octets : List ℕ) (end : Bool) (count : ℕ)
     → stream_at e id ≡ Some stream
     → count ≡ data_count (end_view e) (Some stream) (length octets)

@@ -1,12 +1,11 @@
 -- Send windows that octets are taken of.
-use Rattle.std.proofs.Common.{◌≡◌, ℕ, ◌≤◌, false, ℤ, pos, negsuc, ◌-ℤ◌, ap, ap₂, ◌∙◌}
-use Rattle.std.proofs.Common.{arith}
-use Rattle.std.proofs.lemmas.Int.{ints, to_z-of_z}
+use Rattle.h2_core.proofs.Names.{◌≡◌, ℕ, ◌≤◌, false, ℤ, pos, ◌-ℤ◌, ap, ap₂, ◌∙◌, arith, ints}
+use Rattle.h2_core.proofs.Names.{to_z-of_z, is_far}
+use Rattle.std.proofs.Common.{negsuc}
 use Rattle.std.specs.Int.RustNames.{FitsSigned}
 use mir.Syntax.{w64}
 use mir.Val.{to_z, of_z}
 use Rattle.h2_spec_log.specs.CallRules.{at_least_none}
-use Rattle.h2_streams.specs.Streams.{is_far}
 
 -- What a window lets through leaves it near zero.
 pub narrowed_near : (window : ℤ) (count : ℕ) → is_far window ≡ false

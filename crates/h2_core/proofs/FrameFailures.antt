@@ -1,51 +1,35 @@
 -- Items that don't fail the connection leave it up; and what stands where it fails.
-use Rattle.std.proofs.Common.{◌≡◌, ◌≢◌, ◌<◌, ◌^◌, ℕ, ◌==◌, ◌&&◌, not, Bool, true, false}
-use Rattle.std.proofs.Common.{max, if◌then◌else◌, List, [], ◌++◌, length, Option}
-use Rattle.std.proofs.Common.{Some, None, nat_lt, Err, ◌⊎◌, inl, inr, is_some, refl}
-use Rattle.std.proofs.Common.{sym, ap, subst, ◌∙◌, ◌||◌, arith}
-use Rattle.std.proofs.lemmas.Bool.{le-ltb, lt-ltb}
-use Rattle.hpack.specs.Blocks.{Block as BlockSays}
-use Rattle.hpack.specs.Lists.{NoBlock, DecoderState, HoldsList, DecodeFault, list_size}
-use Rattle.hpack.specs.declared.types.fault.Fault.{Fault as DecodingFault}
-use Rattle.hpack.specs.declared.types.fault.Fault.TheVariants as decoding
-use Rattle.hpack.specs.declared.types.field.Decoded.{Decoded as Answered}
-use Rattle.hpack.specs.declared.types.field.Decoded.TheVariants as answered
-use Rattle.hpack.specs.contracts.types.field.Decoded.{the_type}
-use denote.Enum.Bare.{sameb}
-use Rattle.h2_spec_log.specs.Limits.{max_list}
-use Rattle.hpack.specs.Tables.{Entries}
-use Rattle.hpack.specs.declared.types.field.Field.{Field}
-use Rattle.h2_frame.specs.declared.code.Code.{Code}
-use Rattle.h2_frame.specs.declared.code.Code.TheVariants.{CompressionError, InternalError}
-use Rattle.h2_frame.specs.Codes.{code_number}
-use Rattle.h2_frame.specs.Encoding.{encoding_of}
-use Rattle.h2_frame.specs.Frames.{Data, Reset, Settings, Ping, GoAway, WindowUpdate}
-use Rattle.h2_block.specs.Grouping.{Item, alone, block}
+use Rattle.h2_core.proofs.Names.{◌≡◌, ◌≢◌, ◌<◌, ◌^◌, ℕ, ◌==◌, ◌&&◌, not, Bool, true, false, max}
+use Rattle.h2_core.proofs.Names.{if◌then◌else◌, List, [], ◌++◌, length, Option, Some, None, ◌⊎◌}
+use Rattle.h2_core.proofs.Names.{inl, inr, refl, sym, ap, subst, ◌∙◌, ◌||◌, arith, le-ltb, lt-ltb}
+use Rattle.h2_core.proofs.Names.{DecoderState, list_size, sameb, max_list, Entries, Field, Code}
+use Rattle.h2_core.proofs.Names.{InternalError, code_number, encoding_of, Data, Ping, GoAway}
+use Rattle.h2_core.proofs.Names.{WindowUpdate, Item, alone, block, returns_credit, Values}
+use Rattle.h2_core.proofs.Names.{StreamView, Verdict, ConnectionFault, StreamFault, NoEvent}
+use Rattle.h2_core.proofs.Names.{Reported, Decoded, is_idle, is_at_capacity, peer_opens, End}
+use Rattle.h2_core.proofs.Names.{end_view, stream_at, after_item, return_credit, more_unreturned}
+use Rattle.h2_core.proofs.Names.{update_stream, close_stream, set_stream, widen_send_window}
+use Rattle.h2_core.proofs.Names.{receive_block, apply_own_settings, fail, narrow_recv_window}
+use Rattle.h2_core.proofs.Names.{IsSoundEnd, FailsAlike, ItemTaken, TakesItem, FailsWithoutMemory}
+use Rattle.h2_core.proofs.Names.{IsSmall, FailsBy, FrameEvent, StepError, Fault, OutOfMemory}
 use Rattle.h2_spec_log.specs.Items.{encoding_of_items, encoding_of_item}
-use Rattle.h2_spec_log.specs.CallRules.{returns_credit}
-use Rattle.h2_spec_log.specs.Acts.{Values}
-use Rattle.h2_spec_log.specs.View.{StreamView}
-use Rattle.h2_spec_log.specs.Verdicts.{Verdict, ConnectionFault, StreamFault, NoEvent, Reported}
-use Rattle.h2_spec_log.specs.ItemRules.{Decoded, is_idle, is_at_capacity, peer_opens, opened_by}
-use Rattle.h2_spec_log.specs.ItemRules.{verdict_of, verdict_by_rules, over_limits, replies_to}
-use Rattle.h2_spec_machine.specs.End.{End, end_view, stream_at}
-use Rattle.h2_spec_machine.specs.Machine.{after_item, after_verdict, after_stream_fault}
-use Rattle.h2_spec_machine.specs.Machine.{after_ignored, after_reported, add_unreturned}
-use Rattle.h2_spec_machine.specs.Machine.{return_credit, more_unreturned, update_stream}
-use Rattle.h2_spec_machine.specs.Machine.{close_stream, set_stream, widen_send_window, receive_data}
-use Rattle.h2_spec_machine.specs.Machine.{receive_block, apply_own_settings, fail, with_flow}
-use Rattle.h2_spec_machine.specs.Machine.{narrow_recv_window}
-use Rattle.h2_core.specs.Endpoint.{IsSoundEnd}
-use Rattle.h2_core.specs.Failure.{FailsAlike}
-use Rattle.h2_core.specs.Items.{ItemTaken, TakesItem}
-use Rattle.h2_core.specs.Frames.{FailsWithoutMemory}
+use Rattle.h2_spec_log.specs.ItemRules.{opened_by, verdict_of, verdict_by_rules, over_limits}
+use Rattle.h2_spec_log.specs.ItemRules.{replies_to}
+use Rattle.h2_spec_machine.specs.Machine.{after_verdict, after_stream_fault, after_ignored}
+use Rattle.h2_spec_machine.specs.Machine.{after_reported, add_unreturned, receive_data, with_flow}
+use Rattle.std.proofs.Common.{nat_lt, Err, is_some}
+use Rattle.hpack.specs.Blocks.{Block as BlockSays}
+use Rattle.hpack.specs.Lists.{NoBlock, HoldsList, DecodeFault}
+use Rattle.hpack.specs.declared.types.fault.Fault.{Fault as DecodingFault}
+use Rattle.hpack.specs.declared.types.field.Decoded.{Decoded as Answered}
+use Rattle.hpack.specs.contracts.types.field.Decoded.{the_type}
+use Rattle.h2_frame.specs.declared.code.Code.TheVariants.{CompressionError}
+use Rattle.h2_frame.specs.Frames.{Reset, Settings}
 use Rattle.h2_core.specs.Blocks.{BlockTaken, BlockFails, decode_fault_code}
-use Rattle.h2_core.specs.Stops.{IsSmall, FailsBy}
-use Rattle.h2_core.specs.declared.reader.Reported.{Reported as Answer}
-use Rattle.h2_core.specs.declared.reader.StepError.{StepError}
-use Rattle.h2_core.specs.declared.reader.StepError.TheVariants.{Fault, OutOfMemory}
 use Rattle.h2_laws_machine.proofs.TableRanges.{block_within}
 use Rattle.h2_laws_log.proofs.StreamNumbers.{number_or_none as opens_by}
+use Rattle.hpack.specs.declared.types.fault.Fault.TheVariants as decoding
+use Rattle.hpack.specs.declared.types.field.Decoded.TheVariants as answered
 
 -- Credit that is returned fails nothing.
 credit_by : (b : Bool) (e : End) (more : ℕ)
@@ -214,7 +198,7 @@ table_alike e table code last =
       waiting = refl;
     }
 
--- A block makes of an end what it makes of that with its table already, unless it fails.
+-- A block changes an end as it changes the one with its table already, unless it fails.
 block_after : (e : End) (id : ℕ) (end : Bool) (octets : List ℕ) (decoded : Decoded)
     (verdict : Verdict) → ((code : Code) → verdict ≢ ConnectionFault code)
     → after_verdict (with_table e decoded.after) (Some decoded) (block id end octets) verdict
@@ -227,7 +211,7 @@ block_after e id end octets decoded Reported goes_on = refl
 
 -- The block is taken by the end whose table is the one after it.
 pub block_taken : (e : End) (id : ℕ) (end : Bool) (octets : List ℕ) (decoded : Decoded)
-    (list : List Field) (reported : Option Answer) (new : End) → e.failed ≡ None
+    (list : List Field) (reported : Option FrameEvent) (new : End) → e.failed ≡ None
     → BlockSays e.reading.table e.own.in_force.table_limit octets decoded.fields decoded.after
     → ItemTaken (with_table e decoded.after) (Some decoded) (block id end octets) list reported new
     → BlockTaken e id end octets list reported new

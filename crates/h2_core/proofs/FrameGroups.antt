@@ -1,22 +1,21 @@
--- What a gatherer makes of a frame is the step of the rules.
-use Rattle.std.proofs.Common.{◌≡◌, ◌<◌, ◌≤◌, ◌^◌, ◌+◌, ℕ, ◌==◌, nat_lt, not, Bool, true, false}
-use Rattle.std.proofs.Common.{if◌then◌else◌, List, [], ◌∷◌, ◌++◌, length, Option, Some, None, Ok}
-use Rattle.std.proofs.Common.{inl, inr, refl, sym, ap, subst, append-nil}
-use Rattle.std.proofs.Common.{length-append, ◌⊎◌, arith, ltb-false, eqb-true}
-use Rattle.h2_frame.specs.Frames.{Frame, Data, Headers, Priority, Reset, Settings, Ping, GoAway}
-use Rattle.h2_frame.specs.Frames.{WindowUpdate, Continuation, Unknown}
-use Rattle.h2_frame.specs.Encoding.{refusal}
-use Rattle.h2_block.specs.declared.fault.BlockFault.{BlockFault}
-use Rattle.h2_block.specs.declared.fault.BlockFault.TheVariants as faults
+-- What a gatherer does with a frame is the step of the rules.
+use Rattle.h2_core.proofs.Names.{◌≡◌, ◌<◌, ◌≤◌, ◌^◌, ◌+◌, ℕ, ◌==◌, not, Bool, true, false}
+use Rattle.h2_core.proofs.Names.{if◌then◌else◌, List, [], ◌∷◌, ◌++◌, length, Option, Some, None}
+use Rattle.h2_core.proofs.Names.{inl, inr, refl, sym, ap, subst, append-nil, length-append, ◌⊎◌}
+use Rattle.h2_core.proofs.Names.{arith, Frame, Data, Headers, Priority, Ping, GoAway, WindowUpdate}
+use Rattle.h2_core.proofs.Names.{Continuation, Unknown, refusal, BlockFault, Item, alone, block}
+use Rattle.h2_core.proofs.Names.{Begun, Groups, next_fault, max_block_octets, ReportsFault}
+use Rattle.h2_core.proofs.Names.{FrameStep, fails_with, begins_block, completes}
+use Rattle.h2_block.specs.Grouping.{fault_outside, fault_inside, is_standalone, IsBegun}
+use Rattle.h2_spec_log.specs.ItemRules.{grouped}
+use Rattle.std.proofs.Common.{nat_lt, Ok, ltb-false, eqb-true}
+use Rattle.h2_frame.specs.Frames.{Reset, Settings}
 use Rattle.h2_block.specs.declared.gathered.Gathered.{Gathered}
-use Rattle.h2_block.specs.Grouping.{Item, alone, block, Begun, Groups, IsBegun}
-use Rattle.h2_block.specs.Grouping.{next_fault, fault_outside, fault_inside, is_standalone}
-use Rattle.h2_block.specs.Grouping.{max_block_octets}
-use Rattle.h2_block.specs.Gather.{GatherState, GatherContinues, gathered_items}
-use Rattle.h2_block.specs.Gather.{ReportsFault, GatherFails, GatherFaults}
+use Rattle.h2_block.specs.Gather.{GatherState, GatherContinues, gathered_items, GatherFails}
+use Rattle.h2_block.specs.Gather.{GatherFaults}
 use Rattle.h2_core.proofs.FrameWritable.{headers_number, continuation_number}
 use Rattle.h2_block.proofs.RunLemmas.{one_grouping_lem}
-use Rattle.h2_spec_log.specs.ItemRules.{FrameStep, fails_with, begins_block, completes, grouped}
+use Rattle.h2_block.specs.declared.fault.BlockFault.TheVariants as faults
 
 -- A block that has begun is within the limit.
 abbrev pub IsShort : Option Begun → Type 0
@@ -182,7 +181,7 @@ unfaulty_inside false long is = cc
 unfaulty_inside true true is = cc
 unfaulty_inside true false is = (refl, refl)
 
--- A frame without a fault makes of the block that has begun what the rules say.
+-- A frame without a fault changes the block that has begun as the rules say.
 pub step_groups : (begun : Option Begun) (frame : Frame) → next_fault begun frame ≡ None
     → AreStep (frames_begun begun ++ frame ∷ []) (grouped begun frame)
 unfolding fault_outside fault_inside grouped is_standalone
@@ -254,7 +253,7 @@ StepIs (fails_with code) items begun = ⊥
 StepIs (begins_block one) items begun = (items ≡ []) × (begun ≡ Some one)
 StepIs (completes item) items begun = (items ≡ item ∷ []) × (begun ≡ None)
 
--- The step of the rules is what the gatherer answers, and what has begun.
+-- The step of the rules is what the gatherer returns, and what has begun.
 step_is : (step : FrameStep) (frames : List Frame) (items : List Item) (begun : Option Begun)
     → AreStep frames step → Groups frames items begun → StepIs step items begun
 step_is (fails_with code) frames items begun are groups = are
@@ -270,7 +269,7 @@ gathered_step old new frame gathered h =
     step_is (grouped old.begun frame) (frames_begun old.begun ++ frame ∷ [])
     (gathered_items gathered) new.begun (step_groups old.begun frame h.faultless) h.groups
 
--- What the gatherer answers tells the step.
+-- The gatherer's result determines the step.
 pub record Begins (step : FrameStep) (begun : Option Begun) : Type 0 where
   pub one : Begun
   pub step_is : step ≡ begins_block one
@@ -370,7 +369,7 @@ block_number begun frame stream end octets good writable is =
     subst (λ (s : FrameStep). IsNumber (block_stream s)) is
     (stream_number begun frame good writable)
 
--- A call that fails lacks memory, or the frame is at fault.
+-- A call that fails was refused memory, or the frame is at fault.
 pub gather_fault : (old new : GatherState) (frame : Frame) (fault : BlockFault)
     → old.fault ≡ None → GatherFails old frame fault new
     → (fault ≡ faults.Memory) ⊎ (next_fault old.begun frame ≡ Some fault)
@@ -388,7 +387,7 @@ gather_fault old new frame faults.TooLong up h =
     rw up at h in
     inr g.faulty
 
--- The same, where it is known what was answered.
+-- The same, where the result is known.
 pub gathers_at : (old new : GatherState) (frame : Frame) (gathered other : Gathered)
     → gathered ≡ other → old.fault ≡ None → IsShort old.begun
     → ReportsFault old.begun frame (Ok gathered) → GatherContinues old frame gathered new

@@ -1,20 +1,16 @@
 -- Memory is refused to a gatherer only with a part of a field block that has no fault.
-use Rattle.std.proofs.Common.{◌≡◌, ◌+◌, ◌==◌, nat_lt, not, ◌&&◌, Bool, true, false}
-use Rattle.std.proofs.Common.{if◌then◌else◌, length, Option, Some, None, Err, refl, ap, ◌∙◌}
-use Rattle.h2_frame.specs.declared.code.Code.{Code}
-use Rattle.h2_frame.specs.Frames.{Frame, Data, Headers, Priority, Reset, Settings, Ping, GoAway}
-use Rattle.h2_frame.specs.Frames.{WindowUpdate, Continuation, Unknown}
-use Rattle.h2_block.specs.declared.fault.BlockFault.{BlockFault}
-use Rattle.h2_block.specs.declared.fault.BlockFault.TheVariants as faults
-use Rattle.h2_block.specs.Grouping.{Begun, next_fault, fault_outside, fault_inside, is_standalone}
-use Rattle.h2_block.specs.Grouping.{max_block_octets}
-use Rattle.h2_block.specs.Gather.{ReportsFault}
-use Rattle.h2_spec_log.specs.ItemRules.{grouped, may_be_first}
-use Rattle.h2_spec_machine.specs.End.{End, end_view}
-use Rattle.h2_spec_machine.specs.Machine.{with_begun}
-use Rattle.h2_core.specs.Frames.{FailsWithoutMemory, FrameLacksMemory}
-use Rattle.h2_spec_log.specs.Memory.{step_needs_memory}
+use Rattle.h2_core.proofs.Names.{◌≡◌, ◌+◌, ◌==◌, not, ◌&&◌, Bool, true, false, if◌then◌else◌}
+use Rattle.h2_core.proofs.Names.{length, Option, Some, None, refl, ap, ◌∙◌, Code, Frame, Data}
+use Rattle.h2_core.proofs.Names.{Headers, Priority, Ping, GoAway, WindowUpdate, Continuation}
+use Rattle.h2_core.proofs.Names.{Unknown, BlockFault, Begun, next_fault, max_block_octets}
+use Rattle.h2_core.proofs.Names.{ReportsFault, may_be_first, End, end_view, with_begun}
+use Rattle.h2_core.proofs.Names.{FailsWithoutMemory, FrameLacksMemory, step_needs_memory}
+use Rattle.h2_block.specs.Grouping.{fault_outside, fault_inside, is_standalone}
+use Rattle.h2_spec_log.specs.ItemRules.{grouped}
+use Rattle.std.proofs.Common.{nat_lt, Err}
+use Rattle.h2_frame.specs.Frames.{Reset, Settings}
 use Rattle.h2_core.proofs.FrameTaking.{step_grouped}
+use Rattle.h2_block.specs.declared.fault.BlockFault.TheVariants as faults
 
 -- No frame is at fault for memory.
 long_only : (b : Bool)
@@ -55,7 +51,7 @@ never_memory (Some begun) (GoAway last code debug) is = cc
 never_memory (Some begun) (WindowUpdate stream increment) is = cc
 never_memory (Some begun) (Unknown kind flags stream payload) is = cc
 
--- A frame at fault is reported, so one for which memory lacks has none.
+-- A frame at fault is reported, so one for which memory is refused has no fault.
 lacking_unfaulty : (begun : Option Begun) (frame : Frame) (fault : BlockFault)
     (found : Option BlockFault) → next_fault begun frame ≡ found → fault ≡ faults.Memory
     → ReportsFault begun frame (Err fault) → found ≡ None
@@ -93,7 +89,7 @@ part_needs e (Some begun) (GoAway last code debug) good part = cc
 part_needs e (Some begun) (WindowUpdate stream increment) good part = cc
 part_needs e (Some begun) (Unknown kind flags stream payload) good part = cc
 
--- The connection fails for a frame that the gatherer lacked memory for.
+-- The connection fails where the gatherer was refused memory for a frame.
 pub gathering_lacks : (e new : End) (frame : Frame) (fault : BlockFault) (code : Code)
     → (not e.reading.started && not (may_be_first frame)) ≡ false → fault ≡ faults.Memory
     → ReportsFault e.reading.begun frame (Err fault)

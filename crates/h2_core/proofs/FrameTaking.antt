@@ -1,34 +1,24 @@
--- What a frame makes of an end, by the step of the rules.
-use Rattle.std.proofs.Common.{◌≡◌, ◌≤◌, ℕ, not, ◌&&◌, Bool, true, false, max}
-use Rattle.std.proofs.Common.{List, length, Option, Some, None, Result, Ok}
-use Rattle.std.proofs.Common.{Err, ◌⊎◌, inl, inr, refl, sym, ap, subst, ◌∙◌, arith}
-use Rattle.hpack.specs.declared.types.field.Field.{Field}
-use Rattle.h2_frame.specs.declared.code.Code.{Code}
-use Rattle.h2_frame.specs.declared.code.Code.TheVariants.{InternalError, ProtocolError}
-use Rattle.h2_frame.specs.Frames.{Frame, Headers}
-use Rattle.h2_block.specs.declared.fault.BlockFault.{BlockFault}
-use Rattle.h2_block.specs.Gather.{block_fault_code}
-use Rattle.h2_block.specs.Grouping.{alone, block, Begun, next_fault, fault_outside}
-use Rattle.h2_block.specs.Grouping.{max_block_octets}
-use Rattle.std.proofs.lemmas.Bool.{le-ltb}
-use Rattle.h2_spec_log.specs.ItemRules.{Decoded, FrameStep, fails_with, begins_block, completes}
-use Rattle.h2_spec_log.specs.ItemRules.{grouped, frame_step, grouping_step, may_be_first}
-use Rattle.h2_spec_log.specs.ItemRules.{verdict_of, opened_by}
-use Rattle.h2_spec_machine.specs.End.{End, end_view}
-use Rattle.h2_spec_machine.specs.Machine.{with_begun, after_frame, after_step, after_item}
-use Rattle.h2_spec_machine.specs.Machine.{after_verdict, fail}
-use Rattle.h2_core.specs.Endpoint.{IsSoundEnd}
-use Rattle.h2_core.specs.Failure.{FailsAlike}
-use Rattle.h2_core.specs.Items.{ItemTaken, TakesItem, item_events}
-use Rattle.h2_core.specs.Frames.{FrameTaken, FrameFails, FrameLacksMemory, EndTakesFrame}
-use Rattle.h2_core.specs.Frames.{IsDecodedBy, step_events}
-use Rattle.h2_spec_log.specs.Memory.{needs_memory, step_needs_memory}
-use Rattle.h2_core.specs.Blocks.{TakesBlock, IsDecodedOf}
-use Rattle.h2_core.specs.Stops.{IsSmall, FailsBy}
-use Rattle.h2_core.specs.declared.reader.Reported.{Reported as Answer}
-use Rattle.h2_core.specs.declared.reader.StepError.{StepError}
-use Rattle.h2_core.specs.declared.reader.StepError.TheVariants.{Fault, OutOfMemory}
+-- The end after a frame, by the step of the rules.
+use Rattle.h2_core.proofs.Names.{◌≡◌, ◌≤◌, ℕ, not, ◌&&◌, Bool, true, false, max, List, length}
+use Rattle.h2_core.proofs.Names.{Option, Some, None, ◌⊎◌, inl, inr, refl, sym, ap, subst, ◌∙◌}
+use Rattle.h2_core.proofs.Names.{arith, Field, Code, InternalError, ProtocolError, FrameRef, Frame}
+use Rattle.h2_core.proofs.Names.{Data, Headers, Priority, Ping, GoAway, WindowUpdate, Continuation}
+use Rattle.h2_core.proofs.Names.{Unknown, frame_of, BlockFault, block_fault_code, alone, block}
+use Rattle.h2_core.proofs.Names.{Begun, next_fault, max_block_octets, le-ltb, Decoded, FrameStep}
+use Rattle.h2_core.proofs.Names.{fails_with, begins_block, completes, may_be_first, verdict_of, End}
+use Rattle.h2_core.proofs.Names.{end_view, with_begun, after_item, fail, IsSoundEnd, FailsAlike}
+use Rattle.h2_core.proofs.Names.{ItemTaken, TakesItem, item_events, FrameLacksMemory, needs_memory}
+use Rattle.h2_core.proofs.Names.{step_needs_memory, TakesBlock, IsSmall, FailsBy, FrameEvent}
+use Rattle.h2_core.proofs.Names.{StepError, Fault, OutOfMemory}
+use Rattle.h2_block.specs.Grouping.{fault_outside, is_standalone}
+use Rattle.h2_spec_log.specs.ItemRules.{grouped, opened_by, frame_step, grouping_step}
+use Rattle.h2_spec_machine.specs.Machine.{after_verdict, after_frame, after_step}
+use Rattle.std.proofs.Common.{Result, Ok, Err}
+use Rattle.h2_frame.specs.Frames.{Reset, Settings}
+use Rattle.h2_core.specs.Frames.{FrameTaken, FrameFails, EndTakesFrame, IsDecodedBy, step_events}
+use Rattle.h2_core.specs.Blocks.{IsDecodedOf}
 use Rattle.h2_core.proofs.FrameFailures.{verdict_up}
+use Rattle.h2_frame.specs.declared.frame.FrameRef.TheVariants as lent
 
 -- An end that no longer has a block which has begun is sound.
 pub begun_sound : (e : End) → IsSoundEnd e → IsSoundEnd (with_begun e None)
@@ -108,7 +98,7 @@ outside : (e : End) → e.reading.begun ≡ None → with_begun e None ≡ e
 outside e none = ap (with_begun e) (sym none)
 
 -- A frame that is an item by itself.
-pub alone_taken : (e new : End) (frame : Frame) (list : List Field) (reported : Option Answer)
+pub alone_taken : (e new : End) (frame : Frame) (list : List Field) (reported : Option FrameEvent)
     → frame_step (end_view e) frame ≡ completes (alone frame) → e.reading.begun ≡ None
     → e.failed ≡ None → ItemTaken e None (alone frame) list reported new
     → FrameTaken e frame list reported new
@@ -190,7 +180,7 @@ says_of e (Some decoded) id end octets h = h
 
 -- A frame that completes a block.
 pub block_frame : (e new : End) (frame : Frame) (id : ℕ) (end : Bool) (octets : List ℕ)
-    (list : List Field) (result : Result (Option Answer) Code)
+    (list : List Field) (result : Result (Option FrameEvent) Code)
     → frame_step (end_view e) frame ≡ completes (block id end octets)
     → TakesBlock (with_begun e None) id end octets list result new
     → EndTakesFrame e frame list result new
@@ -285,7 +275,7 @@ headers_grouped (Some begun) stream end fragment pad priority none = cc
 
 pub headers_taken : (e new : End) (frame : Frame) (stream : ℕ) (end : Bool) (fragment : List ℕ)
     (pad : Option ℕ) (priority : Option (List ℕ)) (list : List Field)
-    (result : Result (Option Answer) Code)
+    (result : Result (Option FrameEvent) Code)
     → frame ≡ Headers stream end true fragment pad priority
     → (not e.reading.started && not (may_be_first frame)) ≡ false
     → e.reading.begun ≡ None → length fragment ≤ max_block_octets
@@ -302,3 +292,48 @@ headers_taken e new frame stream end fragment pad priority list result is starte
     block_frame e new frame stream end fragment list result step
     (subst (λ (x : End). TakesBlock x stream end fragment list result new) (sym (outside e none))
     taken)
+
+-- A frame that is no part of a block, outside blocks.
+standalone_grouped : (begun : Option Begun) (frame : Frame) → begun ≡ None
+    → is_standalone frame ≡ true
+    → (next_fault begun frame ≡ None) × (grouped begun frame ≡ completes (alone frame))
+unfolding fault_outside grouped is_standalone
+standalone_grouped None (Data stream end octets pad) none single = (refl, refl)
+standalone_grouped None (Headers stream end whole fragment pad priority) none single = cc
+standalone_grouped None (Priority stream octets) none single = (refl, refl)
+standalone_grouped None (Reset stream code) none single = (refl, refl)
+standalone_grouped None (Settings ack pairs) none single = (refl, refl)
+standalone_grouped None (Ping ack octets) none single = (refl, refl)
+standalone_grouped None (GoAway last code debug) none single = (refl, refl)
+standalone_grouped None (WindowUpdate stream increment) none single = (refl, refl)
+standalone_grouped None (Continuation stream whole fragment) none single = cc
+standalone_grouped None (Unknown kind flags stream payload) none single = (refl, refl)
+standalone_grouped (Some begun) frame none single = cc
+
+pub standalone_step : (e : End) (frame : Frame)
+    → (not e.reading.started && not (may_be_first frame)) ≡ false → e.reading.begun ≡ None
+    → is_standalone frame ≡ true → frame_step (end_view e) frame ≡ completes (alone frame)
+standalone_step e frame started none single =
+    let h = standalone_grouped e.reading.begun frame none single in
+    step_grouped e frame started h.0 ∙ h.1
+
+-- All frames but HEADERS and CONTINUATION are no part of a block.
+pub other_standalone : (frame : FrameRef)
+    → ((stream : _) (end : _) (whole : _) (fragment : _) (pad : _) (priority : _)
+    → frame ≡ lent.Headers stream end whole fragment pad priority → ⊥)
+    → ((stream : _) (whole : _) (fragment : _)
+    → frame ≡ lent.Continuation stream whole fragment → ⊥)
+    → is_standalone (frame_of frame) ≡ true
+unfolding is_standalone
+other_standalone (lent.Data stream end octets pad) other last = refl
+other_standalone (lent.Headers stream end whole fragment pad priority) other last =
+    absurd (other stream end whole fragment pad priority refl)
+other_standalone (lent.Priority stream octets) other last = refl
+other_standalone (lent.Reset stream code) other last = refl
+other_standalone (lent.Settings ack pairs) other last = refl
+other_standalone (lent.Ping ack octets) other last = refl
+other_standalone (lent.GoAway last-stream code debug) other last = refl
+other_standalone (lent.WindowUpdate stream increment) other last = refl
+other_standalone (lent.Continuation stream whole fragment) other last =
+    absurd (last stream whole fragment refl)
+other_standalone (lent.Unknown kind flags stream payload) other last = refl

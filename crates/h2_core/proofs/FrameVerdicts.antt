@@ -1,51 +1,37 @@
--- What the rules make of a field block that is received, case by case.
-use Rattle.std.proofs.Common.{◌≡◌, ◌+◌, ◌-◌, ℕ, ◌%◌, ◌==◌, nat_lt, nat_le, not}
-use Rattle.std.proofs.Common.{◌&&◌, ◌||◌, Bool, true, false, if◌then◌else◌, List, [], ◌∷◌}
-use Rattle.std.proofs.Common.{length, Option, Some, None, Result, Ok, Err, is_some, refl, sym, ap}
-use Rattle.std.proofs.Common.{◌∙◌, ltb-true, eqb-true}
-use Rattle.std.proofs.lemmas.Bool.{and_parts}
-use Rattle.std.specs.FinMap as map
-use Rattle.hpack.specs.declared.types.field.Field.{Field}
-use Rattle.hpack.specs.Lists.{list_size}
-use Rattle.h2_frame.specs.declared.code.Code.{Code}
-use Rattle.h2_frame.specs.declared.code.Code.TheVariants.{ProtocolError, StreamClosed}
-use Rattle.h2_frame.specs.declared.code.Code.TheVariants.{EnhanceYourCalm}
-use Rattle.h2_frame.specs.Codes.{code_number}
-use Rattle.h2_frame.specs.Frames.{Reset as ResetFrame}
-use Rattle.h2_block.specs.Grouping.{Item, alone, block}
-use Rattle.h2_spec_log.specs.Settings.{is_server}
-use Rattle.h2_spec_log.specs.States.{State, Idle, Active, ClosedByUs, Closed}
+-- The verdict on a field block that is received, case by case.
+use Rattle.h2_core.proofs.Names.{◌≡◌, ◌+◌, ◌-◌, ℕ, ◌%◌, ◌==◌, not, ◌&&◌, ◌||◌, Bool, true, false}
+use Rattle.h2_core.proofs.Names.{if◌then◌else◌, List, [], ◌∷◌, length, Option, Some, None, refl}
+use Rattle.h2_core.proofs.Names.{sym, ap, ◌∙◌, ltb-true, and_parts, Field, list_size, Code}
+use Rattle.h2_core.proofs.Names.{ProtocolError, StreamClosed, EnhanceYourCalm, code_number, Item}
+use Rattle.h2_core.proofs.Names.{alone, block, is_server, State, Idle, Active, max_list}
+use Rattle.h2_core.proofs.Names.{max_frame_size_sent, max_output, StreamView, ended_in, Verdict}
+use Rattle.h2_core.proofs.Names.{ConnectionFault, StreamFault, NoEvent, Reported, opening_verdict}
+use Rattle.h2_core.proofs.Names.{Decoded, is_idle, is_at_capacity, is_stream_fault, peer_opens}
+use Rattle.h2_core.proofs.Names.{size-reset, End, end_view, stream_at, state_at, state_by_entry}
+use Rattle.h2_core.proofs.Names.{reset_entry, owed_entry, StreamEntry, active_entry, stream_in}
+use Rattle.h2_core.proofs.Names.{is_above_goaway, after_item, is_fresh, return_credit}
+use Rattle.h2_core.proofs.Names.{more_unreturned, reset_stream, queue_output, is_one, receive_block}
+use Rattle.h2_core.proofs.Names.{returns_credit, end_of, IsSoundEnd, ItemTaken, TakesItem}
+use Rattle.h2_core.proofs.Names.{item_events, needs_memory, FrameEvent, Endpoint, StepError, Fault}
+use Rattle.h2_core.proofs.Names.{OutOfMemory, is_over_limits, ResetsForFault}
 use Rattle.h2_spec_log.specs.Items.{stream_of_item, encoding_of_items}
-use Rattle.h2_spec_log.specs.Limits.{max_list, max_frame_size_sent, max_output, max_resets}
-use Rattle.h2_spec_log.specs.View.{StreamView, ended_in}
-use Rattle.h2_spec_log.specs.Verdicts.{Verdict, ConnectionFault, StreamFault, NoEvent}
-use Rattle.h2_spec_log.specs.Verdicts.{Reported, block_verdict, opening_verdict}
-use Rattle.h2_spec_log.specs.ItemRules.{Decoded, is_idle, is_at_capacity, is_stream_fault}
 use Rattle.h2_spec_log.specs.ItemRules.{over_limits, replies_to, verdict_by_rules, verdict_of}
-use Rattle.h2_spec_log.specs.ItemRules.{opened_by, peer_opens}
-use Rattle.h2_spec_log.specs.Events.{FieldsEvent}
+use Rattle.h2_spec_log.specs.ItemRules.{opened_by}
 use Rattle.h2_spec_log.specs.ItemEffects.{events_of}
-use Rattle.h2_laws_log.proofs.ItemSizes.{size_of, size-reset}
-use Rattle.h2_spec_machine.specs.End.{End, end_view, stream_at, state_at, state_by_entry}
-use Rattle.h2_spec_machine.specs.End.{reset_entry, owed_entry, StreamEntry, active_entry, stream_in}
-use Rattle.h2_spec_machine.specs.End.{is_above_goaway}
-use Rattle.h2_spec_machine.specs.Machine.{after_item, after_verdict, after_stream_fault}
-use Rattle.h2_spec_machine.specs.Machine.{after_ignored, after_reported, is_fresh, with_table_after}
-use Rattle.h2_spec_machine.specs.Machine.{add_unreturned, return_credit, more_unreturned, mark_used}
-use Rattle.h2_spec_machine.specs.Machine.{reset_stream, queue_output, is_one, is_calm}
-use Rattle.h2_spec_machine.specs.Machine.{receive_block}
-use Rattle.h2_spec_log.specs.CallRules.{returns_credit}
-use Rattle.h2_core.specs.Endpoint.{end_of, IsSoundEnd}
-use Rattle.h2_core.specs.Items.{ItemTaken, TakesItem, item_events}
-use Rattle.h2_spec_log.specs.Memory.{needs_memory}
-use Rattle.h2_core.specs.declared.reader.Reported.{Reported as Answer}
-use Rattle.h2_core.specs.declared.reader.Reported.TheVariants.{Reset, Fields}
-use Rattle.h2_core.specs.declared.endpoint.Endpoint.{Endpoint}
-use Rattle.h2_core.specs.declared.reader.StepError.{StepError}
-use Rattle.h2_core.specs.declared.reader.StepError.TheVariants.{Fault, OutOfMemory}
-use Rattle.h2_core.specs.Resets.{is_over_limits, ResetsForFault}
+use Rattle.h2_spec_machine.specs.Machine.{after_verdict, after_stream_fault, after_ignored}
+use Rattle.h2_spec_machine.specs.Machine.{after_reported, add_unreturned, with_table_after}
+use Rattle.h2_spec_machine.specs.Machine.{mark_used, is_calm}
+use Rattle.std.proofs.Common.{nat_lt, nat_le, Result, Ok, Err, is_some, eqb-true}
+use Rattle.h2_frame.specs.Frames.{Reset as ResetFrame}
+use Rattle.h2_spec_log.specs.States.{ClosedByUs, Closed}
+use Rattle.h2_spec_log.specs.Limits.{max_resets}
+use Rattle.h2_spec_log.specs.Verdicts.{block_verdict}
+use Rattle.h2_spec_log.specs.Events.{FieldsEvent}
+use Rattle.h2_laws_log.proofs.ItemSizes.{size_of}
+use Rattle.h2_core.specs.declared.event.Event.TheVariants.{Reset, Fields}
 use Rattle.h2_core.proofs.StepStreams.{narrow_none}
 use Rattle.h2_core.proofs.SoundFacts.{absent_above}
+use Rattle.std.specs.FinMap as map
 
 -- a block that was decoded
 abbrev pub by_block : End → ℕ → Bool → List ℕ → Decoded → Verdict
@@ -78,7 +64,7 @@ limits_leave e id end octets decoded (StreamFault code) quiet is = cc
 limits_leave e id end octets decoded NoEvent quiet is = rw is refl
 limits_leave e id end octets decoded Reported quiet is = rw is refl
 
--- the verdict of a fault of a stream
+-- the verdict of a stream error
 abbrev pub limited : Bool → Code → Verdict
 limited over code = if over then ConnectionFault EnhanceYourCalm else StreamFault code
 
@@ -88,7 +74,7 @@ limits_by_size : (resets waiting size : ℕ) (code : Code) → size ≡ 13
 unfolding over_limits
 limits_by_size resets waiting size code is = rw is refl
 
--- A fault of a stream is one within the limits.
+-- A stream error is one within the limits.
 pub limits_of_fault : (e : End) (id : ℕ) (end : Bool) (octets : List ℕ) (decoded : Decoded)
     (code : Code) → by_block e id end octets decoded ≡ StreamFault code
     → verdict_of (end_view e) (Some decoded) (block id end octets) ≡ limited (is_over_limits e) code
@@ -129,7 +115,7 @@ fresh_idle e id fresh = rw (fresh.absent, fresh.above, or_true (id % 2 == 0)) re
 pub fresh_no_stream : (e : End) (id : ℕ) → Fresh e id → stream_at e id ≡ None
 fresh_no_stream e id fresh = rw fresh.absent refl
 
--- What opens it is checked as an opening.
+-- A block on it is checked as one that opens a stream.
 pub opening_rule : (e : End) (id : ℕ) (end : Bool) (octets : List ℕ) (decoded : Decoded)
     → Fresh e id
     → by_block e id end octets decoded
@@ -155,7 +141,7 @@ pub table_same : (e : End) (id : ℕ) (end : Bool) (octets : List ℕ) (decoded 
     → decoded.after ≡ e.reading.table → with_table_after e (Some decoded) (block id end octets) ≡ e
 table_same e id end octets decoded same = rw same refl
 
--- An item whose verdict is known makes of the end what that verdict does.
+-- An item whose verdict is known changes the end as that verdict does.
 pub after_by : (e : End) (id : ℕ) (end : Bool) (octets : List ℕ) (decoded : Decoded)
     (verdict : Verdict) → verdict_of (end_view e) (Some decoded) (block id end octets) ≡ verdict
     → after_item e (Some decoded) (block id end octets)
@@ -198,7 +184,7 @@ marked_reset e id items used processed =
       };
     }) id (0 + owed_entry (map.get e.streams.entries id)) used processed
 
--- The end after a fault of a stream by a block, where its table is there already.
+-- The end after a stream error by a block, where its table is there already.
 pub after_fault : (e : End) (id : ℕ) (end : Bool) (octets : List ℕ) (decoded : Decoded)
     (code : Code) → decoded.after ≡ e.reading.table
     → after_stream_fault e (Some decoded) (block id end octets) code
@@ -212,7 +198,7 @@ after_fault e id end octets decoded code same =
     ∙ marked_reset e id (alone (ResetFrame id (code_number code)) ∷ []) (is_fresh e id)
     (is_fresh e id && is_calm code)
 
--- A fault of a stream by a block, within the limits, is answered so.
+-- A stream error by a block, within the limits, is answered so.
 pub fault_taken : (e : End) (id : ℕ) (end : Bool) (octets : List ℕ) (decoded : Decoded)
     (code : Code) (list : List Field) (new : End)
     → by_block e id end octets decoded ≡ StreamFault code
@@ -231,7 +217,7 @@ fault_taken e id end octets decoded code list new is few after =
       events = sym (events_by e id end octets decoded (StreamFault code) verdict);
     }
 
--- One that is over the limits is a fault of the connection.
+-- One that is over the limits is a connection error.
 pub fault_over : (e : End) (id : ℕ) (end : Bool) (octets : List ℕ) (decoded : Decoded)
     (code : Code) → by_block e id end octets decoded ≡ StreamFault code → is_over_limits e ≡ true
     → verdict_of (end_view e) (Some decoded) (block id end octets)
@@ -251,7 +237,7 @@ pub active_of : (e : End) (id : ℕ) (stream : StreamView) → stream_at e id �
 active_of e id stream is = active_by (map.get e.streams.entries id)
     (id % 2 == 0 || nat_lt e.streams.highest id) (is_above_goaway e id) stream is
 
--- A block on an active stream: after the peer's end, with a list that is too large, or else.
+-- A block on an active stream: half-closed (remote), with a list that is too large, or else.
 pub further_rule : (e : End) (id : ℕ) (end : Bool) (octets : List ℕ) (decoded : Decoded)
     (stream : StreamView) → stream_at e id ≡ Some stream
     → by_block e id end octets decoded
@@ -270,7 +256,7 @@ further_opens e id end octets decoded stream is =
     ap (λ (s : State). if is_idle s && peer_opens (end_view e) id && not (is_some e.goaway.sent)
     && not (is_at_capacity (end_view e)) then id else 0) (active_of e id stream is)
 
--- A fault of a stream that stops.
+-- A stream error that stops.
 pub fault_error : (one new : Endpoint) (id : ℕ) (end : Bool) (octets : List ℕ) (decoded : Decoded)
     (code : Code) (opened : ℕ) (stop : StepError) (list : List Field)
     → by_block (end_of one) id end octets decoded ≡ StreamFault code
@@ -294,7 +280,7 @@ fault_error one new id end octets decoded code opened OutOfMemory list is opens 
 
 -- One that is answered, on a number that is fresh or not.
 pub fault_answer : (one new : Endpoint) (id : ℕ) (end : Bool) (octets : List ℕ) (decoded : Decoded)
-    (code : Code) (opened : ℕ) (reported : Option Answer) (list : List Field) (fresh : Bool)
+    (code : Code) (opened : ℕ) (reported : Option FrameEvent) (list : List Field) (fresh : Bool)
     (last : End) → by_block (end_of one) id end octets decoded ≡ StreamFault code
     → is_fresh (end_of one) id ≡ fresh → decoded.after ≡ one.decoder.table
     → ResetsForFault one id code 0 opened (Ok reported) new
@@ -312,9 +298,9 @@ fault_answer one new id end octets decoded code opened reported list fresh last 
     ∙ ap (λ (b : Bool). mark_used reset id b (b && is_calm code)) (sym number)
     ∙ sym (after_fault (end_of one) id end octets decoded code same)))
 
--- A fault of a stream, on a number that isn't fresh.
+-- A stream error, on a number that isn't fresh.
 pub fault_item : (one new : Endpoint) (id : ℕ) (end : Bool) (octets : List ℕ) (decoded : Decoded)
-    (code : Code) (result : Result (Option Answer) StepError)
+    (code : Code) (result : Result (Option FrameEvent) StepError)
     → by_block (end_of one) id end octets decoded ≡ StreamFault code
     → is_fresh (end_of one) id ≡ false
     → opened_by (end_view (end_of one)) (Some decoded) (block id end octets) ≡ 0
@@ -332,7 +318,7 @@ pub reported_taken : (e : End) (id : ℕ) (end : Bool) (octets : List ℕ) (deco
     (list : List Field) (new : End) → by_block e id end octets decoded ≡ Reported
     → list ≡ decoded.fields → decoded.after ≡ e.reading.table
     → new ≡ receive_block e id end (stream_at e id)
-    → ItemTaken e (Some decoded) (block id end octets) list (Some (Fields id end)) new
+    → ItemTaken e (Some decoded) (block id end octets) list (Some (Fields id tt end)) new
 unfolding after_verdict after_reported events_of
 reported_taken e id end octets decoded list new is whole same after =
     let verdict = limits_leave e id end octets decoded Reported refl is in
@@ -420,7 +406,7 @@ idle_unopened e id idle stale =
     (is_above_goaway e id) idle) stale
     (λ opens. odd_even (id % 2) (and_parts (is_server e.role) (id % 2 == 1) opens).1)
 
--- A block on an idle number that isn't fresh, or a closed one, is a fault of the connection.
+-- A block on an idle number that isn't fresh, or a closed one, is a connection error.
 pub record Unwanted (e : End) (id : ℕ) (end : Bool) (octets : List ℕ) (decoded : Decoded)
     : Type 0 where
   pub fault : verdict_of (end_view e) (Some decoded) (block id end octets)

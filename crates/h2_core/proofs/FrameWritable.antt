@@ -1,20 +1,17 @@
 -- What a frame without a fault says of its numbers; and frames that change nothing.
-use Rattle.std.proofs.Common.{◌≡◌, ◌<◌, ◌≤◌, ◌^◌, ℕ, nat_lt, not, ◌&&◌, Bool, true, false}
-use Rattle.std.proofs.Common.{if◌then◌else◌, List, length, Option, Some, None, refl, sym, ap}
-use Rattle.std.proofs.Common.{◌∙◌, arith, ltb-false, ltb-true}
-use Rattle.hpack.specs.declared.types.field.Field.{Field}
-use Rattle.h2_frame.specs.Frames.{Frame, Data, Headers, Priority, Reset, Settings, Ping, GoAway}
-use Rattle.h2_frame.specs.Frames.{WindowUpdate, Continuation, Unknown}
-use Rattle.h2_frame.specs.Encoding.{refusal, stream_of, kind_of_frame, payload_of, has_good_values}
+use Rattle.h2_core.proofs.Names.{◌≡◌, ◌<◌, ◌≤◌, ◌^◌, ℕ, not, ◌&&◌, Bool, true, false, if◌then◌else◌}
+use Rattle.h2_core.proofs.Names.{List, length, Option, Some, None, refl, sym, ap, ◌∙◌, arith}
+use Rattle.h2_core.proofs.Names.{ltb-true, Field, Frame, Data, Headers, Priority, Ping, GoAway}
+use Rattle.h2_core.proofs.Names.{WindowUpdate, Continuation, Unknown, payload_of, alone, Verdict}
+use Rattle.h2_core.proofs.Names.{NoEvent, End, end_view, ItemTaken}
+use Rattle.h2_frame.specs.Encoding.{refusal, stream_of, kind_of_frame, has_good_values}
 use Rattle.h2_frame.specs.Heads.{fits_stream}
-use Rattle.h2_block.specs.Grouping.{alone}
 use Rattle.h2_spec_log.specs.Items.{encoding_of_items}
-use Rattle.h2_spec_log.specs.Verdicts.{Verdict, NoEvent}
 use Rattle.h2_spec_log.specs.ItemRules.{verdict_of, verdict_by_rules, over_limits, replies_to}
 use Rattle.h2_spec_log.specs.ItemEffects.{events_of}
-use Rattle.h2_spec_machine.specs.End.{End, end_view}
 use Rattle.h2_spec_machine.specs.Machine.{after_verdict, after_ignored}
-use Rattle.h2_core.specs.Items.{ItemTaken}
+use Rattle.std.proofs.Common.{nat_lt, ltb-false}
+use Rattle.h2_frame.specs.Frames.{Reset, Settings}
 
 -- The numbers of a frame that is not refused.
 pub record Writable (frame : Frame) : Type 0 where

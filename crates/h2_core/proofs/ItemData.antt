@@ -1,29 +1,19 @@
 -- DATA: its verdict, by what the code asks, and what is made of it.
-use Rattle.std.proofs.Common.{◌≡◌, ◌⊎◌, ℕ, ◌<◌, ◌≤◌, ◌+◌, true, false, ℤ, pos, ◌-ℤ◌, List}
-use Rattle.std.proofs.Common.{length, Option, Some, None, Result, Ok, Err, refl, sym, ap, ◌∙◌}
-use Rattle.std.proofs.Common.{arith, inl, inr}
-use Rattle.std.proofs.lemmas.Bool.Decides.{nat_tests}
-use Rattle.std.proofs.lemmas.Int.{ints}
-use Rattle.hpack.specs.declared.types.field.Field.{Field}
-use Rattle.h2_frame.specs.declared.code.Code.TheVariants.{ProtocolError, FlowControlError}
-use Rattle.h2_frame.specs.declared.code.Code.TheVariants.{StreamClosed}
-use Rattle.h2_frame.specs.Encoding.{payload_of}
-use Rattle.h2_block.specs.Grouping.{alone}
-use Rattle.h2_spec_log.specs.View.{StreamView, ended_in}
-use Rattle.h2_spec_log.specs.States.{State, Idle, Active, ClosedByUs, Closed}
-use Rattle.h2_spec_log.specs.Verdicts.{ConnectionFault, StreamFault, NoEvent, Reported}
+use Rattle.h2_core.proofs.Names.{◌≡◌, ◌⊎◌, ℕ, ◌<◌, ◌≤◌, ◌+◌, true, false, ℤ, pos, ◌-ℤ◌, List}
+use Rattle.h2_core.proofs.Names.{length, Option, Some, None, refl, sym, ap, ◌∙◌, arith, inl, inr}
+use Rattle.h2_core.proofs.Names.{nat_tests, ints, Field, ProtocolError, FlowControlError}
+use Rattle.h2_core.proofs.Names.{StreamClosed, payload_of, alone, StreamView, ended_in, State, Idle}
+use Rattle.h2_core.proofs.Names.{Active, ConnectionFault, StreamFault, NoEvent, Reported}
+use Rattle.h2_core.proofs.Names.{verdict_of, exceeds, returns_credit, End, end_view, state_at}
+use Rattle.h2_core.proofs.Names.{stream_at, narrow_recv_window, update_stream, FrameEvent}
+use Rattle.h2_core.proofs.Names.{StepError, frame_of_data, TakesItem}
+use Rattle.h2_spec_log.specs.ItemRules.{verdict_by_rules, replies_to, exceeds_stream}
+use Rattle.h2_spec_machine.specs.Machine.{after_reported, after_ignored}
+use Rattle.std.proofs.Common.{Result, Ok, Err}
+use Rattle.h2_spec_log.specs.States.{ClosedByUs, Closed}
 use Rattle.h2_spec_log.specs.Verdicts.{data_verdict}
-use Rattle.h2_spec_log.specs.ItemRules.{verdict_by_rules, verdict_of, replies_to, exceeds}
-use Rattle.h2_spec_log.specs.ItemRules.{exceeds_stream}
-use Rattle.h2_spec_log.specs.CallRules.{returns_credit}
-use Rattle.h2_spec_machine.specs.End.{End, end_view, state_at, stream_at}
-use Rattle.h2_spec_machine.specs.Machine.{after_reported, after_ignored, narrow_recv_window}
-use Rattle.h2_spec_machine.specs.Machine.{update_stream}
 use Rattle.h2_core.specs.declared.receive.DataFrame.{DataFrame}
-use Rattle.h2_core.specs.declared.reader.Reported.{Reported as Answer}
-use Rattle.h2_core.specs.declared.reader.StepError.{StepError}
-use Rattle.h2_core.specs.DataFrames.{frame_of_data}
-use Rattle.h2_core.specs.Items.{TakesItem, DiscardsData}
+use Rattle.h2_core.specs.Items.{DiscardsData}
 use Rattle.h2_core.proofs.ItemStatuses.{active_state}
 use Rattle.h2_core.proofs.ItemVerdicts.{quiet_verdict, fault_stands, report_stands, ignored_taken}
 use Rattle.h2_core.proofs.ItemVerdicts.{with_waiting, lacks_memory}
@@ -48,7 +38,7 @@ by_state : (e : End) (one : DataFrame) (pad : Option ℕ) (state : State) → Ha
 unfolding verdict_by_rules
 by_state e one pad state flow is = rw (flow, is) refl
 
--- On an idle stream it is a fault of the connection, and so it is on a closed one.
+-- On an idle stream it is a connection error, and so it is on a closed one.
 pub idle_data : (e : End) (one : DataFrame) (pad : Option ℕ) → HasFlow one pad
     → Idle ≡ state_at e one.stream
     → verdict_of (end_view e) None (alone (frame_of_data one pad)) ≡ ConnectionFault ProtocolError
@@ -91,7 +81,7 @@ discarded e one pad flow is few =
     (by_state e one pad ClosedByUs flow is
     ∙ rw (within_connection one.flow e.windows.recv few) refl) refl refl
 
--- After the peer's end it is a fault of the stream.
+-- On a stream that is half-closed (remote) it is a stream error.
 pub late_data : (e : End) (one : DataFrame) (pad : Option ℕ) (stream : StreamView)
     → HasFlow one pad → stream_at e one.stream ≡ Some stream → stream.ended_in ≡ true
     → one.flow ≤ e.windows.recv
@@ -101,7 +91,7 @@ late_data e one pad stream flow active ended few =
     by_state e one pad Active flow (active_state e one.stream stream active)
     ∙ rw (within_connection one.flow e.windows.recv few, active, ended) refl
 
--- What exceeds the stream's window is a fault of the connection.
+-- What exceeds the stream's window is a connection error.
 pub beyond_stream : (e : End) (one : DataFrame) (pad : Option ℕ) (stream : StreamView)
     → HasFlow one pad → stream_at e one.stream ≡ Some stream → stream.ended_in ≡ false
     → one.flow ≤ e.windows.recv → exceeds one.flow stream.recv_window ≡ true
@@ -142,7 +132,7 @@ reported_after e one pad stream window waiting flow active unended is same =
 
 -- What is discarded is taken so.
 pub discarded_taken : (e : End) (one : DataFrame) (pad : Option ℕ) (list : List Field)
-    (result : Result (Option Answer) StepError) (new : End) → HasFlow one pad
+    (result : Result (Option FrameEvent) StepError) (new : End) → HasFlow one pad
     → state_at e one.stream ≡ ClosedByUs → one.flow ≤ e.windows.recv
     → DiscardsData e one.flow result new
     → TakesItem e None (alone (frame_of_data one pad)) list result new

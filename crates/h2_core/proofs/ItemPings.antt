@@ -1,20 +1,15 @@
 -- PING: whether it is the one that is awaited, as the code asks it, and the verdict on it.
-use Rattle.std.proofs.Common.{◌≡◌, ℕ, ◌+◌, ◌<◌, ◌≤◌, ◌==◌, nat_eq, nat_lt, not, Bool, true, false}
-use Rattle.std.proofs.Common.{if◌then◌else◌, List, [], ◌∷◌, length, Option, Some, None, refl, sym}
-use Rattle.std.proofs.Common.{◌∙◌, arith}
-use Rattle.std.proofs.lemmas.Bool.Decides.{nat_tests}
+use Rattle.h2_core.proofs.Names.{◌≡◌, ℕ, ◌+◌, ◌<◌, ◌≤◌, ◌==◌, not, Bool, true, false, if◌then◌else◌}
+use Rattle.h2_core.proofs.Names.{List, [], ◌∷◌, length, Option, Some, None, refl, sym, ◌∙◌, arith}
+use Rattle.h2_core.proofs.Names.{nat_tests, EnhanceYourCalm, Ping, alone, max_frame_size_sent}
+use Rattle.h2_core.proofs.Names.{max_output, ConnectionFault, NoEvent, is_awaited_ping, End}
+use Rattle.h2_core.proofs.Names.{end_view}
+use Rattle.h2_spec_log.specs.ItemRules.{verdict_by_rules, verdict_of, over_limits, replies_to}
+use Rattle.std.proofs.Common.{nat_eq, nat_lt}
 use Rattle.std.specs.Cmp.Lexicographic.{pointwise}
 use Rattle.std.specs.Option.{option_eq}
 use Rattle.hpack.specs.Choice.{same_octets}
-use Rattle.h2_frame.specs.declared.code.Code.TheVariants.{EnhanceYourCalm}
-use Rattle.h2_frame.specs.Frames.{Ping}
-use Rattle.h2_block.specs.Grouping.{alone}
-use Rattle.h2_spec_log.specs.Limits.{max_frame_size_sent, max_output}
-use Rattle.h2_spec_log.specs.Verdicts.{ConnectionFault, NoEvent}
-use Rattle.h2_spec_log.specs.ItemRules.{is_awaited_ping, verdict_by_rules, verdict_of, over_limits}
-use Rattle.h2_spec_log.specs.ItemRules.{replies_to}
 use Rattle.h2_laws_log.proofs.ItemSizes.{size-ping}
-use Rattle.h2_spec_machine.specs.End.{End, end_view}
 use Rattle.hpack.proofs.Tests.{not_back as back}
 
 -- Numbers are compared in either order.

@@ -1,12 +1,11 @@
 -- The verdict on RST_STREAM, by the state of its stream.
-use Rattle.std.proofs.Common.{◌≡◌, ◌⊎◌, ℕ, None, refl, sym, ap, inl, inr}
-use Rattle.h2_frame.specs.declared.code.Code.TheVariants.{ProtocolError}
+use Rattle.h2_core.proofs.Names.{◌≡◌, ◌⊎◌, ℕ, None, refl, sym, ap, inl, inr, ProtocolError, alone}
+use Rattle.h2_core.proofs.Names.{State, Idle, Active, ConnectionFault, NoEvent, Reported}
+use Rattle.h2_core.proofs.Names.{verdict_of, End, end_view, state_at}
+use Rattle.h2_spec_log.specs.ItemRules.{verdict_by_rules, replies_to}
 use Rattle.h2_frame.specs.Frames.{Reset}
-use Rattle.h2_block.specs.Grouping.{alone}
-use Rattle.h2_spec_log.specs.States.{State, Idle, Active, ClosedByUs, Closed}
-use Rattle.h2_spec_log.specs.Verdicts.{ConnectionFault, NoEvent, Reported, reset_verdict}
-use Rattle.h2_spec_log.specs.ItemRules.{verdict_by_rules, verdict_of, replies_to}
-use Rattle.h2_spec_machine.specs.End.{End, end_view, state_at}
+use Rattle.h2_spec_log.specs.States.{ClosedByUs, Closed}
+use Rattle.h2_spec_log.specs.Verdicts.{reset_verdict}
 use Rattle.h2_core.proofs.ItemVerdicts.{quiet_verdict, fault_stands, report_stands}
 
 pub idle_reset : (e : End) (id code : ℕ) → Idle ≡ state_at e id

@@ -1,15 +1,14 @@
 -- What a status says of a number's state.
-use Rattle.std.proofs.Common.{◌≡◌, ◌⊎◌, ℕ, ◌%◌, ◌==◌, nat_lt, ◌||◌, Bool, Option, Some, None, refl}
-use Rattle.std.proofs.Common.{inl, inr, sym, ap, ◌∙◌}
-use Rattle.std.specs.FinMap as map
-use Rattle.h2_spec_log.specs.States as states
-use Rattle.h2_spec_log.specs.States.{State}
-use Rattle.h2_spec_log.specs.View.{StreamView}
-use Rattle.h2_spec_machine.specs.End.{StreamEntry, active_entry, reset_entry, End, stream_in}
-use Rattle.h2_spec_machine.specs.End.{stream_at, state_by_entry, state_at, is_above_goaway}
+use Rattle.h2_core.proofs.Names.{◌≡◌, ◌⊎◌, ℕ, ◌%◌, ◌==◌, ◌||◌, Bool, Option, Some, None, refl, inl}
+use Rattle.h2_core.proofs.Names.{inr, sym, ap, ◌∙◌, State, StreamView, StreamEntry, active_entry}
+use Rattle.h2_core.proofs.Names.{reset_entry, End, stream_in, stream_at, state_by_entry, state_at}
+use Rattle.h2_core.proofs.Names.{is_above_goaway}
+use Rattle.std.proofs.Common.{nat_lt}
 use Rattle.h2_core.specs.declared.status.Status.{Status}
 use Rattle.h2_core.specs.declared.status.Status.TheVariants.{ClosedByUs, Closed}
 use Rattle.h2_core.specs.Statuses.{state_of_status, stream_of_status}
+use Rattle.std.specs.FinMap as map
+use Rattle.h2_spec_log.specs.States as states
 
 -- A number with either of these two statuses is closed.
 pub closed_state : (status : Status) (state : State) → state_of_status status ≡ state

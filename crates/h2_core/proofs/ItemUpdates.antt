@@ -1,21 +1,13 @@
 -- The verdict on WINDOW_UPDATE, by what the code asks.
-use Rattle.std.proofs.Common.{◌≡◌, ◌≢◌, ℕ, ◌+◌, ◌<◌, ◌≤◌, ◌==◌, true, false}
-use Rattle.std.proofs.Common.{◌⊎◌, pos, Some, None, refl, sym, arith, ◌∙◌, inl, inr}
-use Rattle.std.proofs.lemmas.Bool.Decides.{nat_tests}
-use Rattle.std.proofs.lemmas.Int.{ints}
-use Rattle.h2_frame.specs.declared.code.Code.{Code}
-use Rattle.h2_frame.specs.declared.code.Code.TheVariants.{ProtocolError, FlowControlError}
-use Rattle.h2_frame.specs.Frames.{WindowUpdate}
-use Rattle.h2_block.specs.Grouping.{alone}
-use Rattle.h2_spec_log.specs.View.{StreamView}
-use Rattle.h2_spec_log.specs.States.{State, Idle, Active, ClosedByUs, Closed}
-use Rattle.h2_spec_log.specs.Windows.{greatest_window}
-use Rattle.h2_spec_log.specs.Verdicts.{ConnectionFault, StreamFault, NoEvent}
+use Rattle.h2_core.proofs.Names.{◌≡◌, ◌≢◌, ℕ, ◌+◌, ◌<◌, ◌≤◌, ◌==◌, true, false, ◌⊎◌, pos, Some}
+use Rattle.h2_core.proofs.Names.{None, refl, sym, arith, ◌∙◌, inl, inr, nat_tests, ints, Code}
+use Rattle.h2_core.proofs.Names.{ProtocolError, FlowControlError, WindowUpdate, alone, StreamView}
+use Rattle.h2_core.proofs.Names.{State, Idle, Active, greatest_window, ConnectionFault, StreamFault}
+use Rattle.h2_core.proofs.Names.{NoEvent, verdict_of, overflows_by, End, end_view, state_at}
+use Rattle.h2_core.proofs.Names.{stream_at, widen_send_window}
+use Rattle.h2_spec_log.specs.ItemRules.{verdict_by_rules, replies_to, overflows_stream}
+use Rattle.h2_spec_log.specs.States.{ClosedByUs, Closed}
 use Rattle.h2_spec_log.specs.Verdicts.{connection_update_verdict, update_verdict}
-use Rattle.h2_spec_log.specs.ItemRules.{verdict_by_rules, verdict_of, replies_to, overflows_by}
-use Rattle.h2_spec_log.specs.ItemRules.{overflows_stream}
-use Rattle.h2_spec_machine.specs.End.{End, end_view, state_at, stream_at}
-use Rattle.h2_spec_machine.specs.Machine.{widen_send_window}
 use Rattle.h2_core.proofs.ItemVerdicts.{quiet_verdict, fault_stands}
 use Rattle.h2_core.proofs.ItemStatuses.{active_state}
 
@@ -66,7 +58,7 @@ by_state e id increment state some is =
     let nonzero : (id == 0) ≡ false = grind (arith, nat_tests) in
     rw (nonzero, is) refl
 
--- On an idle stream it is a fault of the connection.
+-- On an idle stream it is a connection error.
 pub idle_update : (e : End) (id increment : ℕ) → id ≢ 0 → Idle ≡ state_at e id
     → verdict_of (end_view e) None (alone (WindowUpdate id increment))
     ≡ ConnectionFault ProtocolError
@@ -87,7 +79,7 @@ closed_update e id increment some (inr is) =
     quiet_verdict (end_view e) (WindowUpdate id increment) NoEvent
     (by_state e id increment Closed some is) refl refl
 
--- On an active one: no octets are a fault of the stream.
+-- On an active one: no octets are a stream error.
 pub empty_resets : (e : End) (id increment : ℕ) (stream : StreamView) (code : Code) → id ≢ 0
     → stream_at e id ≡ Some stream → increment ≡ 0 → code ≡ ProtocolError
     → verdict_by_rules (end_view e) None (alone (WindowUpdate id increment)) ≡ StreamFault code

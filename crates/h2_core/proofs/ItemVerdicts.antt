@@ -1,35 +1,21 @@
--- What a step makes of a frame alone, by its verdict.
-use Rattle.std.proofs.Common.{◌≡◌, ℕ, true, false}
-use Rattle.std.proofs.Common.{if◌then◌else◌, List, [], ◌∷◌, Some, None, Err, refl}
-use Rattle.std.proofs.Common.{ap, sym, ◌∙◌, Option, Result, Ok}
-use Rattle.hpack.specs.declared.types.field.Field.{Field}
-use Rattle.h2_frame.specs.declared.code.Code.{Code}
-use Rattle.h2_frame.specs.declared.code.Code.TheVariants.{EnhanceYourCalm}
-use Rattle.h2_frame.specs.Codes.{code_number}
-use Rattle.h2_frame.specs.Frames.{Frame, Reset as ResetFrame}
-use Rattle.h2_block.specs.Grouping.{alone}
-use Rattle.h2_spec_log.specs.Items.{encoding_of_items, stream_of_item}
-use Rattle.h2_spec_log.specs.Limits.{max_frame_size_sent}
-use Rattle.h2_spec_log.specs.Events.{Event, ResetEvent}
-use Rattle.h2_spec_log.specs.View.{View}
-use Rattle.h2_spec_log.specs.Verdicts.{Verdict, ConnectionFault, StreamFault, NoEvent, Reported}
-use Rattle.h2_spec_log.specs.ItemRules.{verdict_by_rules, verdict_of, over_limits, replies_to}
-use Rattle.h2_spec_log.specs.ItemRules.{opened_by, is_stream_fault}
+-- A step that takes a frame alone, by its verdict.
+use Rattle.h2_core.proofs.Names.{◌≡◌, ℕ, true, false, if◌then◌else◌, List, [], ◌∷◌, Some, None}
+use Rattle.h2_core.proofs.Names.{refl, ap, sym, ◌∙◌, Option, Field, Code, EnhanceYourCalm}
+use Rattle.h2_core.proofs.Names.{code_number, Frame, alone, stream_of_item, max_frame_size_sent}
+use Rattle.h2_core.proofs.Names.{View, Verdict, ConnectionFault, StreamFault, NoEvent, Reported}
+use Rattle.h2_core.proofs.Names.{verdict_by_rules, is_stream_fault, TableState, End, end_view}
+use Rattle.h2_core.proofs.Names.{after_ignored, after_reported, after_stream_fault, reset_stream}
+use Rattle.h2_core.proofs.Names.{queue_output, narrow_recv_window, size-reset, FrameEvent}
+use Rattle.h2_core.proofs.Names.{StepError, Fault, OutOfMemory, Endpoint, end_of, is_over_limits}
+use Rattle.h2_core.proofs.Names.{ResetsForFault, TakesItem, ItemTaken, needs_memory}
+use Rattle.h2_spec_log.specs.Items.{encoding_of_items}
+use Rattle.h2_spec_log.specs.ItemRules.{verdict_of, over_limits, replies_to, opened_by}
 use Rattle.h2_spec_log.specs.ItemEffects.{events_of}
-use Rattle.h2_streams.specs.Table.{TableState}
-use Rattle.h2_spec_machine.specs.End.{End, end_view}
-use Rattle.h2_spec_machine.specs.Machine.{after_verdict, after_ignored, after_reported}
-use Rattle.h2_spec_machine.specs.Machine.{after_stream_fault, reset_stream, queue_output}
-use Rattle.h2_spec_machine.specs.Machine.{narrow_recv_window}
-use Rattle.h2_laws_log.proofs.ItemSizes.{size-reset}
-use Rattle.h2_core.specs.declared.reader.Reported.{Reported as Answer}
-use Rattle.h2_core.specs.declared.reader.StepError.{StepError}
-use Rattle.h2_core.specs.declared.reader.StepError.TheVariants.{Fault, OutOfMemory}
-use Rattle.h2_core.specs.declared.endpoint.Endpoint.{Endpoint}
-use Rattle.h2_core.specs.Endpoint.{end_of}
-use Rattle.h2_core.specs.Resets.{is_over_limits, ResetsForFault}
-use Rattle.h2_core.specs.Items.{TakesItem, ItemTaken, event_of}
-use Rattle.h2_spec_log.specs.Memory.{needs_memory}
+use Rattle.h2_spec_machine.specs.Machine.{after_verdict}
+use Rattle.std.proofs.Common.{Err, Result, Ok}
+use Rattle.h2_frame.specs.Frames.{Reset as ResetFrame}
+use Rattle.h2_spec_log.specs.Events.{Event, ResetEvent}
+use Rattle.h2_core.specs.Events.{event_of}
 
 -- A verdict to which nothing is replied stands.
 pub quiet_verdict : (view : View) (frame : Frame) (verdict : Verdict)
@@ -38,7 +24,7 @@ pub quiet_verdict : (view : View) (frame : Frame) (verdict : Verdict)
 unfolding verdict_of over_limits encoding_of_items
 quiet_verdict view frame verdict is calm silent = rw (is, silent, calm) refl
 
--- A fault of the connection stands.
+-- A connection error stands.
 pub fault_stands : (view : View) (frame : Frame) (code : Code)
     → verdict_by_rules view None (alone frame) ≡ ConnectionFault code
     → verdict_of view None (alone frame) ≡ ConnectionFault code
@@ -52,7 +38,7 @@ pub report_stands : (view : View) (frame : Frame)
 unfolding replies_to
 report_stands view frame is = quiet_verdict view frame Reported is refl refl
 
--- RST_STREAM is replied to a fault of the stream where that isn't too much.
+-- RST_STREAM answers a stream error where that isn't too much.
 pub reset_verdict_is : (e : End) (frame : Frame) (code : Code)
     → verdict_by_rules (end_view e) None (alone frame) ≡ StreamFault code
     → verdict_of (end_view e) None (alone frame)
@@ -73,7 +59,7 @@ pub calm_stands : (e : End) (frame : Frame) (code : Code)
     → verdict_of (end_view e) None (alone frame) ≡ ConnectionFault EnhanceYourCalm
 calm_stands e frame code is full = rw (reset_verdict_is e frame code is, full) refl
 
--- The connection's fault is answered, and nothing has changed.
+-- The connection error is returned, and nothing has changed.
 pub fault_taken : (e : End) (frame : Frame) (code : Code) (list : List Field) (stop : StepError)
     → stop ≡ Fault code 0 → verdict_of (end_view e) None (alone frame) ≡ ConnectionFault code
     → TakesItem e None (alone frame) list (Err stop) e
@@ -101,7 +87,7 @@ ignored_taken e frame list new verdict after = record {
 }
 
 -- What is reported is taken.
-pub report_taken : (e : End) (frame : Frame) (list : List Field) (answer : Answer) (new : End)
+pub report_taken : (e : End) (frame : Frame) (list : List Field) (answer : FrameEvent) (new : End)
     → verdict_of (end_view e) None (alone frame) ≡ Reported
     → new ≡ after_reported e None (alone frame)
     → event_of list answer ∷ [] ≡ events_of (end_view e) None Reported (alone frame)
@@ -113,9 +99,9 @@ report_taken e frame list answer new verdict after events = record {
   events = rw verdict events;
 }
 
--- A fault of the stream is taken.
+-- A stream error is taken.
 pub stream_fault_taken : (e : End) (frame : Frame) (code : Code) (list : List Field)
-    (answer : Answer) (new : End)
+    (answer : FrameEvent) (new : End)
     → verdict_of (end_view e) None (alone frame) ≡ StreamFault code
     → new ≡ after_stream_fault e None (alone frame) code
     → event_of list answer ≡ ResetEvent (stream_of_item (alone frame)) (code_number code) true
@@ -127,9 +113,9 @@ stream_fault_taken e frame code list answer new verdict after event = record {
   events = rw verdict (ap (λ (one : Event). one ∷ []) event);
 }
 
--- What resetting a stream for a fault of it makes of an end, and answers.
+-- The end after a stream is reset for a fault of it, and the result.
 pub fault_item : (one new : Endpoint) (frame : Frame) (code : Code) (flow : ℕ)
-    (result : Result (Option Answer) StepError)
+    (result : Result (Option FrameEvent) StepError)
     → verdict_by_rules (end_view (end_of one)) None (alone frame) ≡ StreamFault code
     → after_stream_fault (end_of one) None (alone frame) code
     ≡ reset_stream (queue_output (narrow_recv_window (end_of one) flow)

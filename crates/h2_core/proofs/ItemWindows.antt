@@ -1,11 +1,7 @@
 -- Windows of streams in the numbers that the code keeps them in: what is near zero doesn't wrap.
-use Rattle.std.proofs.Common.{◌≡◌, ℕ, ◌<◌, ◌^◌, Bool, false, ℤ, pos, ◌+ℤ◌, ◌-ℤ◌, int_lt, arith}
-use Rattle.std.proofs.Common.{FitsSigned, to_z, of_z, w64}
-use Rattle.std.proofs.lemmas.Bool.Decides.{nat_tests}
-use Rattle.std.proofs.lemmas.Int.{ints}
-use Rattle.h2_spec_log.specs.Windows.{greatest_window}
-use Rattle.h2_spec_log.specs.ItemRules.{overflows_by, exceeds}
-use Rattle.h2_streams.specs.Streams.{is_far}
+use Rattle.h2_core.proofs.Names.{◌≡◌, ℕ, ◌<◌, ◌^◌, Bool, false, ℤ, pos, ◌+ℤ◌, ◌-ℤ◌, arith}
+use Rattle.h2_core.proofs.Names.{nat_tests, ints, greatest_window, overflows_by, exceeds, is_far}
+use Rattle.std.proofs.Common.{int_lt, FitsSigned, to_z, of_z, w64}
 
 -- A window is itself.
 pub kept_is : (window : ℤ) → is_far window ≡ false → to_z w64 (of_z w64 window) ≡ window

@@ -4,11 +4,11 @@ mod SoundFacts
 mod StepFrames
 -- Whether credit is returned.
 mod StepCredit
--- What the steps on a stream make of an end.
+-- The end after a step on a stream.
 mod StepStreams
 -- An end with a part of it changed.
 mod StepEnds
--- Why calls are refused, and what accepted calls make of an end.
+-- Why calls are refused, and the end after accepted calls.
 mod StepCalls
 -- When a layer above refuses a stream.
 mod StepRefuse
@@ -48,3 +48,4 @@ mod OwnItems
 mod OwnNumbers
 mod OwnOutput
 mod OwnSettings
+pub mod Names

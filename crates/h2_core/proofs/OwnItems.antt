@@ -1,43 +1,30 @@
 -- SETTINGS of the peer, and the acknowledgment of own ones, as items: their verdicts, and the end
 -- after them.
-use Rattle.std.proofs.Common.{◌≡◌, ◌≢◌, ℕ, zero, suc, ◌+◌, ◌==◌, ◌<◌, ◌≤◌, min, Bool, true, false}
-use Rattle.std.proofs.Common.{nat_lt, List, []}
-use Rattle.std.proofs.Common.{◌∷◌, ◌++◌, length, Option, Some, None, Err, refl, sym, ◌∙◌}
-use Rattle.std.proofs.Common.{arith}
-use Rattle.std.proofs.Common.{if◌then◌else◌, eqb}
-use Rattle.std.proofs.lemmas.Bool.{lt-ltb, le-ltb, ne_eqb}
-use Rattle.hpack.specs.declared.types.field.Field.{Field}
-use Rattle.hpack.specs.Lists.{EncoderState}
-use Rattle.h2_frame.specs.declared.code.Code.{Code}
-use Rattle.h2_frame.specs.declared.code.Code.TheVariants.{EnhanceYourCalm}
-use Rattle.h2_frame.specs.Frames.{Settings as SettingsFrame}
+use Rattle.h2_core.proofs.Names.{◌≡◌, ◌≢◌, ℕ, zero, suc, ◌+◌, ◌==◌, ◌<◌, ◌≤◌, min, Bool, true}
+use Rattle.h2_core.proofs.Names.{false, List, [], ◌∷◌, ◌++◌, length, Option, Some, None, refl, sym}
+use Rattle.h2_core.proofs.Names.{◌∙◌, arith, if◌then◌else◌, lt-ltb, le-ltb, Field, EncoderState}
+use Rattle.h2_core.proofs.Names.{Code, EnhanceYourCalm, Item, alone, Values, max_frame_size_sent}
+use Rattle.h2_core.proofs.Names.{View, ConnectionFault, NoEvent, Reported, settings_fault}
+use Rattle.h2_core.proofs.Names.{encoder_after_settings, End, end_view, after_item, first_allowed}
+use Rattle.h2_core.proofs.Names.{apply_own_settings, Endpoint, StepError, Fault, OutOfMemory}
+use Rattle.h2_core.proofs.Names.{end_of, streams_allowed_by, TakesItem, ItemTaken}
 use Rattle.h2_frame.specs.Encoding.{encoding_of, kind_of_frame, flags_of, stream_of, payload_of}
-use Rattle.h2_flow.specs.declared.settings.Settings.{Settings}
 use Rattle.h2_flow.specs.Settings.{with_value}
-use Rattle.h2_block.specs.Grouping.{Item, alone}
-use Rattle.h2_spec_log.specs.Acts.{Values}
 use Rattle.h2_spec_log.specs.Items.{encoding_of_items, encoding_of_item}
 use Rattle.h2_spec_log.specs.Settings.{value_after}
-use Rattle.h2_spec_log.specs.Limits.{max_frame_size_sent}
-use Rattle.h2_spec_log.specs.Events.{AckedEvent}
-use Rattle.h2_spec_log.specs.View.{View}
-use Rattle.h2_spec_log.specs.Verdicts.{ConnectionFault, NoEvent, Reported}
-use Rattle.h2_spec_log.specs.ItemRules.{settings_fault, verdict_of, verdict_by_rules, replies_to}
-use Rattle.h2_spec_log.specs.ItemRules.{over_limits}
+use Rattle.h2_spec_log.specs.ItemRules.{verdict_of, verdict_by_rules, replies_to, over_limits}
 use Rattle.h2_spec_log.specs.ItemRules.{opened_by}
-use Rattle.h2_spec_log.specs.ItemEffects.{encoder_after_settings, events_of}
-use Rattle.h2_spec_machine.specs.End.{End, end_view}
-use Rattle.h2_spec_machine.specs.Machine.{after_item, after_verdict, after_ignored, after_reported}
-use Rattle.h2_spec_machine.specs.Machine.{first_allowed, each_entry, shifted_entry}
-use Rattle.h2_spec_machine.specs.Machine.{apply_own_settings}
-use Rattle.h2_core.specs.declared.endpoint.Endpoint.{Endpoint}
-use Rattle.h2_core.specs.declared.reader.Reported.TheVariants.{Acked}
-use Rattle.h2_core.specs.declared.reader.StepError.{StepError}
-use Rattle.h2_core.specs.declared.reader.StepError.TheVariants.{Fault, OutOfMemory}
-use Rattle.h2_core.specs.Endpoint.{end_of, streams_allowed_by}
+use Rattle.h2_spec_log.specs.ItemEffects.{events_of}
+use Rattle.h2_spec_machine.specs.Machine.{after_verdict, after_ignored, after_reported, each_entry}
+use Rattle.h2_spec_machine.specs.Machine.{shifted_entry}
+use Rattle.h2_core.specs.Settings.{with_values, AppliesSettings}
+use Rattle.std.proofs.Common.{nat_lt, Err, eqb}
+use Rattle.std.proofs.lemmas.Bool.{ne_eqb}
+use Rattle.h2_frame.specs.Frames.{Settings as SettingsFrame}
+use Rattle.h2_flow.specs.declared.settings.Settings.{Settings}
+use Rattle.h2_spec_log.specs.Events.{AckedEvent}
+use Rattle.h2_core.specs.declared.event.Event.TheVariants.{Acked}
 use Rattle.h2_core.proofs.ItemVerdicts.{lacks_memory}
-use Rattle.h2_core.specs.Items.{TakesItem, ItemTaken}
-use Rattle.h2_core.specs.Settings.{AppliesSettings, with_values}
 
 -- An identifier above 6 is none of the six.
 other : (id known : ℕ) → known < 7
@@ -178,6 +165,11 @@ acknowledgment : (most : ℕ) → encoding_of_items most (alone (SettingsFrame t
     ≡ 0 ∷ 0 ∷ 0 ∷ 4 ∷ 1 ∷ 0 ∷ 0 ∷ 0 ∷ 0 ∷ []
 unfolding encoding_of_items encoding_of_item encoding_of kind_of_frame flags_of stream_of payload_of
 acknowledgment most = refl
+
+pub acknowledgment_octets : encoding_of (SettingsFrame true [])
+    ≡ 0 ∷ 0 ∷ 0 ∷ 4 ∷ 1 ∷ 0 ∷ 0 ∷ 0 ∷ 0 ∷ []
+unfolding encoding_of kind_of_frame flags_of stream_of payload_of
+acknowledgment_octets = refl
 
 good_verdict : (view : View) (pairs : List (ℕ × ℕ)) → settings_fault view pairs ≡ None
     → verdict_of view None (alone (SettingsFrame false pairs))

@@ -1,14 +1,10 @@
 -- The first active number above another, among entries in the order of their numbers.
-use Rattle.std.proofs.Common.{◌≡◌, ◌≢◌, ℕ, true}
-use Rattle.std.proofs.Common.{Option, Some, None}
-use Rattle.std.proofs.Common.{refl, sym}
-use Rattle.std.proofs.Common.{ap, ◌∙◌}
-use Rattle.std.specs.FinMap as map
-use Rattle.h2_spec_log.specs.declared.role.Role.{Role}
-use Rattle.h2_spec_log.specs.declared.role.Role.TheVariants.{Client, Server}
-use Rattle.h2_spec_machine.specs.End.{StreamEntry, active_entry, reset_entry, StreamMap, stream_in}
+use Rattle.h2_core.proofs.Names.{◌≡◌, ◌≢◌, ℕ, true, Option, Some, None, refl, sym, ap, ◌∙◌, Role}
+use Rattle.h2_core.proofs.Names.{Client, Server, StreamEntry, active_entry, reset_entry, StreamMap}
+use Rattle.h2_core.proofs.Names.{stream_in}
 use Rattle.h2_spec_machine.specs.Machine.{first_active, is_active_entry, unprocessed_of_end}
 use Rattle.h2_spec_machine.proofs.SortedEntries.{first_found}
+use Rattle.std.specs.FinMap as map
 
 -- An active entry has a stream.
 active_stream : (x : StreamEntry) → is_active_entry x ≡ true → stream_in (Some x) ≢ None

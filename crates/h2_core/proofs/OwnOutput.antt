@@ -1,18 +1,13 @@
--- Giving output out: what is unreturned is returned first, then the octets that wait are taken
--- away.
-use Rattle.std.proofs.Common.{◌≡◌, ℕ, ◌+◌, min, Bool, true, false, List, [], ◌∷◌, ◌++◌, length}
-use Rattle.std.proofs.Common.{take}
-use Rattle.std.proofs.Common.{drop, Result, Ok, Err, refl, arith, length-append}
-use Rattle.std.proofs.Common.{if◌then◌else◌}
-use Rattle.std.specs.Result.{OnOk, is_err}
-use Rattle.std.proofs.lemmas.List.{drop_min}
-use Rattle.h2_frame.specs.Frames.{WindowUpdate}
+-- Putting output out: what is unreturned is returned first, then the octets leave the queue.
+use Rattle.h2_core.proofs.Names.{◌≡◌, ℕ, ◌+◌, min, Bool, true, false, List, [], ◌∷◌, ◌++◌, length}
+use Rattle.h2_core.proofs.Names.{take, drop, refl, arith, length-append, if◌then◌else◌, OnOk}
+use Rattle.h2_core.proofs.Names.{is_err, WindowUpdate, alone, returns_before_put_out, End, end_view}
+use Rattle.h2_core.proofs.Names.{return_credit}
 use Rattle.h2_frame.specs.Encoding.{encoding_of, kind_of_frame, flags_of, stream_of, payload_of}
-use Rattle.h2_block.specs.Grouping.{alone}
 use Rattle.h2_spec_log.specs.Items.{encoding_of_items, encoding_of_item}
-use Rattle.h2_spec_log.specs.CallRules.{returns_before_put_out}
-use Rattle.h2_spec_machine.specs.End.{End, end_view}
-use Rattle.h2_spec_machine.specs.Machine.{after_call, before_put_out_at, return_credit}
+use Rattle.h2_spec_machine.specs.Machine.{after_call, before_put_out_at}
+use Rattle.std.proofs.Common.{Result, Ok, Err}
+use Rattle.std.proofs.lemmas.List.{drop_min}
 use Rattle.h2_core.specs.Readers.{PutsOut}
 
 -- What holds of a success holds where there is no error.
@@ -35,7 +30,7 @@ length_by e true =
     rw length-append (rw update refl)
 length_by e false = omega arith
 
--- How many octets wait once the end is ready to give output out.
+-- The number of queued octets once the end is ready to put output out.
 pub length-ready : (e : End)
     → length (before_put_out_at e).output.waiting
     ≡ length e.output.waiting + (if returns_before_put_out (end_view e) then 13 else 0)
@@ -48,7 +43,7 @@ pub waiting_ready : (e ready : End) (waiting update : ℕ) → ready ≡ before_
     → length ready.output.waiting ≡ waiting + update
 waiting_ready e ready waiting update is size more = rw (is, size, more) (length-ready e)
 
--- The first of the octets that wait are given out.
+-- The first of the queued octets are put out.
 pub given_out : (e ready new : End) (count given : ℕ) (before after : List ℕ)
     → ready ≡ before_put_out_at e → given ≡ min count (length ready.output.waiting)
     → after ≡ before ++ take given ready.output.waiting

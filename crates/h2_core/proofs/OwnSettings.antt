@@ -1,13 +1,9 @@
 -- SETTINGS of the peer, pair by pair: their fault, and the values after them.
-use Rattle.std.proofs.Common.{◌≡◌, ℕ, ◌==◌, ◌&&◌, true, false, List, [], ◌∷◌, Some, None, refl}
-use Rattle.h2_frame.specs.declared.code.Code.{Code}
-use Rattle.h2_frame.specs.declared.code.Code.TheVariants.{FlowControlError}
-use Rattle.h2_flow.specs.declared.settings.Settings.{Settings}
-use Rattle.h2_flow.specs.Settings.{with_value}
-use Rattle.h2_spec_log.specs.Settings.{peer_of, value_fault}
-use Rattle.h2_spec_log.specs.View.{View}
+use Rattle.h2_core.proofs.Names.{◌≡◌, ℕ, ◌==◌, ◌&&◌, true, false, List, [], ◌∷◌, Some, None, refl}
+use Rattle.h2_core.proofs.Names.{Code, FlowControlError, with_value, peer_of, value_fault, View}
 use Rattle.h2_spec_log.specs.ItemRules.{settings_fault}
 use Rattle.h2_core.specs.Settings.{with_values}
+use Rattle.h2_flow.specs.declared.settings.Settings.{Settings}
 
 -- A pair whose value is at fault is the first fault.
 pub value_faults : (view : View) (left pairs : List (ℕ × ℕ)) (pair : ℕ × ℕ) (code : Code)

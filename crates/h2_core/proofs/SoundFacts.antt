@@ -1,15 +1,13 @@
 -- What is known of an end whose values are sound.
-use Rattle.std.proofs.Common.{◌≡◌, ◌<◌, ◌≤◌, ◌^◌, ◌+◌, ℕ, Bool, true, false, cond, List, [], ◌∷◌}
-use Rattle.std.proofs.Common.{Option, Some, None, length, sym, ap, ◌∙◌, arith}
-use Rattle.std.proofs.lemmas.Int.{ints}
-use Rattle.std.specs.FinMap as map
+use Rattle.h2_core.proofs.Names.{◌≡◌, ◌<◌, ◌≤◌, ◌^◌, ◌+◌, ℕ, Bool, true, false, List, [], ◌∷◌}
+use Rattle.h2_core.proofs.Names.{Option, Some, None, length, sym, ap, ◌∙◌, arith, ints, StreamView}
+use Rattle.h2_core.proofs.Names.{StreamEntry, active_entry, reset_entry, End, stream_in, stream_at}
+use Rattle.h2_core.proofs.Names.{StreamIsInRange, is_far, IsSoundEnd}
+use Rattle.std.proofs.Common.{cond}
 use Rattle.std.specs.Ordering.{nat_cmp, is_eq}
-use Rattle.h2_spec_log.specs.View.{StreamView}
-use Rattle.h2_spec_machine.specs.End.{StreamEntry, active_entry, reset_entry, End, stream_in}
-use Rattle.h2_spec_machine.specs.End.{stream_at, owed_sum}
-use Rattle.h2_laws_machine.specs.Ranges.{count_active, StreamIsInRange}
-use Rattle.h2_streams.specs.Streams.{is_far}
-use Rattle.h2_core.specs.Endpoint.{IsSoundEnd}
+use Rattle.h2_spec_machine.specs.End.{owed_sum}
+use Rattle.h2_laws_machine.specs.Ranges.{count_active}
+use Rattle.std.specs.FinMap as map
 
 -- one for a stream
 abbrev one_of : Option StreamView → ℕ

@@ -1,19 +1,14 @@
--- Why calls are refused, and what accepted calls make of an end, by the tests that the code makes.
-use Rattle.std.proofs.Common.{◌≡◌, ℕ, Bool, true, false, if◌then◌else◌, List, [], ◌∷◌, Option, Some}
-use Rattle.std.proofs.Common.{None, Result, Ok, Err, inl, inr, is_some, not, refl}
-use Rattle.std.proofs.Common.{sym, ap}
-use Rattle.std.specs.Result.{OnOk, OnErr, is_err}
-use Rattle.h2_frame.specs.Frames.{Reset, Ping, GoAway}
-use Rattle.h2_block.specs.Grouping.{alone}
-use Rattle.h2_spec_log.specs.declared.refusal.Refusal.{Refusal}
-use Rattle.h2_spec_log.specs.declared.refusal.Refusal.TheVariants.{Memory}
-use Rattle.h2_spec_log.specs.View.{StreamView}
-use Rattle.h2_spec_log.specs.Acts.{Act, ResetStream, SendPing, SendGoAway}
-use Rattle.h2_spec_log.specs.CallRules.{refusal_of, first_of, is_no_stream, items_of}
-use Rattle.h2_spec_log.specs.CallRules.{encoder_after_call}
-use Rattle.h2_spec_machine.specs.End.{End, end_view, stream_at}
-use Rattle.h2_spec_machine.specs.Machine.{after_call, queue_output, reset_stream}
-use Rattle.h2_core.specs.Calls.{CallRefused}
+-- Why calls are refused, and the end after accepted calls, by the tests that the code makes.
+use Rattle.h2_core.proofs.Names.{◌≡◌, ℕ, Bool, true, false, if◌then◌else◌, List, [], ◌∷◌, Option}
+use Rattle.h2_core.proofs.Names.{Some, None, inl, inr, not, refl, sym, ap, OnOk, is_err, Ping}
+use Rattle.h2_core.proofs.Names.{GoAway, alone, Refusal, Memory, StreamView, Act, ResetStream}
+use Rattle.h2_core.proofs.Names.{SendPing, SendGoAway, refusal_of, is_no_stream, End, end_view}
+use Rattle.h2_core.proofs.Names.{stream_at, queue_output, reset_stream, CallRefused}
+use Rattle.h2_spec_log.specs.CallRules.{first_of, items_of, encoder_after_call}
+use Rattle.h2_spec_machine.specs.Machine.{after_call}
+use Rattle.std.proofs.Common.{Result, Ok, Err, is_some}
+use Rattle.std.specs.Result.{OnErr}
+use Rattle.h2_frame.specs.Frames.{Reset}
 
 -- The first condition holds.
 pub first-here : (refusal : Refusal) (others : List (Bool × Refusal)) (test : Bool) → test ≡ true
@@ -34,13 +29,13 @@ pub first-none : first_of [] ≡ None
 unfolding first_of
 first-none = refl
 
--- What holds of an answer holds where it isn't an error.
+-- What holds of a result holds where it isn't an error.
 pub at_ok : {T E : Type 0} {P : Type 0} (answer : Result T E) → is_err answer ≡ false
     → OnOk answer P → P
 at_ok (Ok value) is h = h
 at_ok (Err error) is h = cc
 
--- What holds of an error holds where the answer is one.
+-- What holds of an error holds where the result is one.
 pub at_err : {T E : Type 0} {P : Type 0} (answer : Result T E) → is_err answer ≡ true
     → OnErr answer P → P
 at_err (Ok value) is h = cc
@@ -55,7 +50,7 @@ pub some-stream : (e : End) (id : ℕ) (stream : StreamView) → Some stream ≡
 some-stream e id stream is =
     ap (λ (stream : Option StreamView). not (is_some stream)) (sym is)
 
--- A call is refused by a condition, or for want of memory.
+-- A call is refused by a condition, or for lack of memory.
 pub refused : (e : End) (act : Act) (refusal : Refusal) (new : End)
     → refusal_of (end_view e) act ≡ Some refusal → new ≡ e → CallRefused e act refusal new
 refused e act refusal new why same = record { why = inl why; same = same }
@@ -64,14 +59,14 @@ pub without_memory : (e : End) (act : Act) (new : End) → refusal_of (end_view 
     → new ≡ e → CallRefused e act Memory new
 without_memory e act new free same = record { why = inr (refl, free); same = same }
 
--- What PING makes of an end.
+-- The end after PING.
 pub after-ping : (e : End) (octets : List ℕ)
     → after_call e (SendPing octets)
     ≡ record (queue_output e (alone (Ping false octets) ∷ [])) { ping = Some octets }
 unfolding after_call items_of encoder_after_call
 after-ping e octets = refl
 
--- What GOAWAY makes of an end.
+-- The end after GOAWAY.
 pub after-goaway : (e : End)
     → after_call e SendGoAway
     ≡ record (queue_output e (alone (GoAway e.streams.last_processed 0 []) ∷ [])) {
@@ -80,7 +75,7 @@ pub after-goaway : (e : End)
 unfolding after_call items_of encoder_after_call
 after-goaway e = refl
 
--- What a reset makes of an end.
+-- The end after a reset.
 pub after-reset : (e : End) (id code : ℕ)
     → after_call e (ResetStream id code)
     ≡ reset_stream (queue_output e (alone (Reset id code) ∷ [])) id 0

@@ -1,11 +1,10 @@
--- Whether credit is returned, by what more is unreturned and how much output waits.
-use Rattle.std.proofs.Common.{◌≡◌, ℕ, ◌<◌, ◌≤◌, Bool, true, false, if◌then◌else◌, length, ap, arith}
-use Rattle.std.proofs.lemmas.Bool.Decides.{nat_tests}
-use Rattle.h2_spec_log.specs.CallRules.{returns_credit}
-use Rattle.h2_spec_machine.specs.End.{End}
-use Rattle.h2_spec_machine.specs.Machine.{return_credit, more_unreturned, add_unreturned}
+-- Whether credit is returned, by how much more is unreturned and how much output is queued.
+use Rattle.h2_core.proofs.Names.{◌≡◌, ℕ, ◌<◌, ◌≤◌, Bool, true, false, if◌then◌else◌, length, ap}
+use Rattle.h2_core.proofs.Names.{arith, nat_tests, returns_credit, End, return_credit}
+use Rattle.h2_core.proofs.Names.{more_unreturned}
+use Rattle.h2_spec_machine.specs.Machine.{add_unreturned}
 
--- It is, where there is more and less than the full output waits.
+-- It is, where there is more, and less than 65,536 octets are queued.
 pub returned : (more : ℕ) (e : End) → 0 < more → length e.output.waiting < 65536
     → add_unreturned more e ≡ return_credit (more_unreturned e more)
 unfolding add_unreturned
@@ -14,7 +13,7 @@ returned more e some few =
     ap (λ (b : Bool). if b then return_credit (more_unreturned e more) else more_unreturned e more)
     test
 
--- It isn't, where the full output waits.
+-- It isn't, where 65,536 octets or more are queued.
 pub kept_when_full : (more : ℕ) (e : End) → 65536 ≤ length e.output.waiting
     → add_unreturned more e ≡ more_unreturned e more
 unfolding add_unreturned

@@ -1,11 +1,6 @@
--- An end with a part of it changed: its table, or the output that waits.
-use Rattle.std.proofs.Common.{◌≡◌, ℕ, List, [], ◌∷◌, ◌++◌, sym, ap, ◌∙◌}
-use Rattle.h2_block.specs.Grouping.{alone}
-use Rattle.h2_frame.specs.Frames.{Frame}
-use Rattle.h2_frame.specs.Encoding.{encoding_of}
-use Rattle.h2_spec_log.specs.Items.{encoding_of_items}
-use Rattle.h2_spec_machine.specs.End.{End}
-use Rattle.h2_streams.specs.Table.{TableState}
+-- An end with a part of it changed: its table, or the queued output.
+use Rattle.h2_core.proofs.Names.{◌≡◌, ℕ, List, [], ◌∷◌, ◌++◌, sym, ap, ◌∙◌, alone, Frame}
+use Rattle.h2_core.proofs.Names.{encoding_of, encoding_of_items, End, TableState}
 use Rattle.h2_core.proofs.StepFrames.{one-item}
 
 -- an end whose table is this one

@@ -1,14 +1,13 @@
 -- Short frames that an end writes: they can be written, how long they are, and their octets as
 -- those of an item.
-use Rattle.std.proofs.Common.{◌≡◌, ℕ, ◌<◌, ◌≤◌, ◌^◌, List, [], ◌∷◌, length, None, refl, nat_lt}
-use Rattle.std.proofs.Common.{Bool, true, arith, rules}
-use Rattle.std.proofs.lemmas.Bool.Decides.{nat_tests}
-use Rattle.h2_frame.specs.Frames.{Frame, Reset, Ping, WindowUpdate}
+use Rattle.h2_core.proofs.Names.{◌≡◌, ℕ, ◌<◌, ◌≤◌, ◌^◌, List, [], ◌∷◌, length, None, refl, Bool}
+use Rattle.h2_core.proofs.Names.{true, arith, rules, nat_tests, Frame, Ping, WindowUpdate, alone}
 use Rattle.h2_frame.specs.Heads.{fits_stream}
 use Rattle.h2_frame.specs.Encoding.{encoding_of, kind_of_frame, flags_of, stream_of, payload_of}
 use Rattle.h2_frame.specs.Encoding.{has_good_values, refusal}
-use Rattle.h2_block.specs.Grouping.{alone}
 use Rattle.h2_spec_log.specs.Items.{encoding_of_item, encoding_of_items}
+use Rattle.std.proofs.Common.{nat_lt}
+use Rattle.h2_frame.specs.Frames.{Reset}
 
 -- A frame as the one item has its octets.
 pub one-item : (most : ℕ) (frame : Frame)

@@ -1,17 +1,14 @@
--- When a layer above refuses a stream: the condition of the call, and what it makes of an end.
-use Rattle.std.proofs.Common.{◌≡◌, ◌≢◌, ℕ, ◌+◌, ◌==◌, Bool, true, false, ◌&&◌, ◌||◌, not, nat_lt}
-use Rattle.std.proofs.Common.{if◌then◌else◌}
-use Rattle.std.proofs.Common.{[], ◌∷◌, length, Some, None, is_some, ap, ap₂, ◌∙◌}
-use Rattle.std.proofs.Common.{eq-eqb, ne_eqb, nat_le}
-use Rattle.h2_frame.specs.declared.code.Code.TheVariants.{InternalError, EnhanceYourCalm}
+-- When a layer above refuses a stream: the condition of the call, and the end after it.
+use Rattle.h2_core.proofs.Names.{◌≡◌, ◌≢◌, ℕ, ◌+◌, ◌==◌, Bool, true, false, ◌&&◌, ◌||◌, not}
+use Rattle.h2_core.proofs.Names.{if◌then◌else◌, [], ◌∷◌, length, Some, None, ap, ap₂, ◌∙◌}
+use Rattle.h2_core.proofs.Names.{InternalError, EnhanceYourCalm, alone, refusal_of, is_no_stream}
+use Rattle.h2_core.proofs.Names.{End, end_view, queue_output, reset_stream, fail}
+use Rattle.h2_spec_log.specs.CallRules.{conditions, refuse_fault}
+use Rattle.h2_spec_machine.specs.Machine.{after_call, after_refuse}
+use Rattle.std.proofs.Common.{nat_lt, is_some, eq-eqb, ne_eqb, nat_le}
 use Rattle.h2_frame.specs.Frames.{Reset}
-use Rattle.h2_block.specs.Grouping.{alone}
 use Rattle.h2_spec_log.specs.declared.refusal.Refusal.TheVariants.{Closed, NoSuchStream}
 use Rattle.h2_spec_log.specs.Acts.{Refuse}
-use Rattle.h2_spec_log.specs.CallRules.{refusal_of, conditions, is_no_stream, refuse_fault}
-use Rattle.h2_spec_machine.specs.End.{End, end_view}
-use Rattle.h2_spec_machine.specs.Machine.{after_call, after_refuse, queue_output, reset_stream}
-use Rattle.h2_spec_machine.specs.Machine.{fail}
 use Rattle.h2_core.proofs.StepCalls.{first-here, first-later, first-none}
 use Rattle.hpack.proofs.Tests.{and_false as and-false}
 

@@ -1,29 +1,20 @@
--- Octets that are released: the conditions of the call, and what it makes of an end.
-use Rattle.std.proofs.Common.{◌≡◌, ℕ, ◌+◌, ◌-◌, ◌==◌, ◌<◌, ◌≤◌, ◌^◌, Bool, true, false, ◌||◌}
+-- Octets that are released: the conditions of the call, and the end after it.
+use Rattle.h2_core.proofs.Names.{◌≡◌, ℕ, ◌+◌, ◌-◌, ◌==◌, ◌<◌, ◌≤◌, ◌^◌, Bool, true, false, ◌||◌}
+use Rattle.h2_core.proofs.Names.{if◌then◌else◌, ℤ, pos, ◌+ℤ◌, List, [], ◌∷◌, ◌++◌, Option, Some}
+use Rattle.h2_core.proofs.Names.{None, ◌⊎◌, not, subst, refl, sym, ap, ap₂, ◌∙◌, inl, inr}
+use Rattle.h2_core.proofs.Names.{append_assoc, arith, cases_lt, nat_tests, ints, to_z-of_z}
+use Rattle.h2_core.proofs.Names.{WindowUpdate, encoding_of, alone, Release, StreamView, ended_in}
+use Rattle.h2_core.proofs.Names.{owed_on, active_entry, End, end_view, stream_in, stream_at}
+use Rattle.h2_core.proofs.Names.{queue_output, StreamIsInRange, is_far, IsSoundEnd}
+use Rattle.h2_spec_log.specs.CallRules.{items_of, encoder_after_call, is_not_owed}
+use Rattle.h2_spec_log.specs.Items.{encoding_of_item, encoding_of_items}
+use Rattle.h2_spec_machine.specs.Machine.{after_call, after_release}
 use Rattle.std.proofs.Common.{nat_lt}
-use Rattle.std.proofs.Common.{if◌then◌else◌, ℤ, pos, ◌+ℤ◌, List, [], ◌∷◌, ◌++◌, Option, Some, None}
-use Rattle.std.proofs.Common.{◌⊎◌, not, subst, refl, sym, ap, ap₂, ◌∙◌, inl, inr, append_assoc}
-use Rattle.std.proofs.Common.{arith}
-use Rattle.std.proofs.lemmas.Bool.{cases_lt}
-use Rattle.std.proofs.lemmas.Bool.Decides.{nat_tests}
-use Rattle.std.proofs.lemmas.Int.{ints, to_z-of_z}
 use Rattle.std.specs.Int.RustNames.{FitsSigned}
 use mir.Syntax.{w64}
 use mir.Val.{to_z, of_z}
-use Rattle.std.specs.FinMap as map
-use Rattle.h2_frame.specs.Frames.{WindowUpdate}
-use Rattle.h2_frame.specs.Encoding.{encoding_of}
-use Rattle.h2_block.specs.Grouping.{alone}
-use Rattle.h2_spec_log.specs.Acts.{Release}
-use Rattle.h2_spec_log.specs.CallRules.{is_not_owed, items_of, encoder_after_call}
-use Rattle.h2_spec_log.specs.Items.{encoding_of_item, encoding_of_items}
-use Rattle.h2_spec_log.specs.View.{StreamView, ended_in, owed_on}
-use Rattle.h2_spec_machine.specs.End.{active_entry, End, end_view, stream_in, stream_at}
-use Rattle.h2_spec_machine.specs.Machine.{after_call, after_release, queue_output}
-use Rattle.h2_laws_machine.specs.Ranges.{StreamIsInRange}
-use Rattle.h2_streams.specs.Streams.{is_far}
-use Rattle.h2_core.specs.Endpoint.{IsSoundEnd}
 use Rattle.h2_core.proofs.SoundFacts.{absent_above, highest_small}
+use Rattle.std.specs.FinMap as map
 
 -- No octets are released, or more than are owed.
 pub owed-not : (e : End) (id count : ℕ) (stream : StreamView) → Some stream ≡ stream_at e id
@@ -136,7 +127,7 @@ released_by e id count stream ended =
     ++ encoding_of_items (end_view e).max_payload (alone (WindowUpdate 0 count)
     ∷ (if ended then [] else alone (WindowUpdate id count) ∷ [])))
 
--- What the call makes of an end.
+-- The end after the call.
 after-release : (e : End) (id count : ℕ) (stream : StreamView) → stream_at e id ≡ Some stream
     → after_call e (Release id count) ≡ released_by e id count stream stream.ended_in
 unfolding after_call items_of encoder_after_call

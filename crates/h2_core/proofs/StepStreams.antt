@@ -1,14 +1,12 @@
--- What the steps on a stream make of an end, by the stream that is active.
-use Rattle.std.proofs.Common.{◌≡◌, ℕ, ◌+◌, ◌-◌, ◌==◌, Bool, true, false, ◌&&◌, if◌then◌else◌}
-use Rattle.std.proofs.Common.{Option, Some, None, is_some, refl, sym, ap, ap₂, ◌∙◌, arith}
-use Rattle.std.specs.Cmp.{nat_cmp_total}
+-- The end after a step on a stream, by the stream that is active.
+use Rattle.h2_core.proofs.Names.{◌≡◌, ℕ, ◌+◌, ◌-◌, ◌==◌, Bool, true, false, ◌&&◌, if◌then◌else◌}
+use Rattle.h2_core.proofs.Names.{Option, Some, None, refl, sym, ap, ap₂, ◌∙◌, arith, nat_cmp_total}
+use Rattle.h2_core.proofs.Names.{StreamView, StreamEntry, active_entry, reset_entry, StreamMap, End}
+use Rattle.h2_core.proofs.Names.{stream_in, stream_at, owed_entry, add_unreturned, close_stream}
+use Rattle.h2_core.proofs.Names.{reset_stream, update_stream, get_set, get_removed, get_set_same}
+use Rattle.h2_core.proofs.Names.{set_stream, is_one, narrow_recv_window}
+use Rattle.std.proofs.Common.{is_some}
 use Rattle.std.specs.FinMap as map
-use Rattle.h2_spec_log.specs.View.{StreamView}
-use Rattle.h2_spec_machine.specs.End.{StreamEntry, active_entry, reset_entry, StreamMap, End}
-use Rattle.h2_spec_machine.specs.End.{stream_in, stream_at, owed_entry}
-use Rattle.h2_spec_machine.specs.Machine.{add_unreturned, close_stream, reset_stream, update_stream}
-use Rattle.h2_spec_machine.proofs.SetEntries.{get_set, get_removed, get_set_same}
-use Rattle.h2_spec_machine.specs.Machine.{set_stream, is_one, narrow_recv_window}
 
 -- what a stream owes, where there is one
 abbrev owed_of : Option StreamView → ℕ

@@ -1,4 +1,4 @@
--- What steps make of a field block that is received.
+-- What steps do with a field block that is received.
 use Rattle.std.specs.Prelude.{◌≡◌, ◌⊎◌, ℕ, Bool, false, List, nat_lt}
 use Rattle.std.specs.Prelude.{Option, Some, None, Result, Ok, Err}
 use Rattle.hpack.specs.declared.types.field.Field.{Field}
@@ -14,25 +14,24 @@ use Rattle.h2_spec_log.specs.Limits.{max_list}
 use Rattle.h2_spec_machine.specs.End.{End}
 use Rattle.h2_spec_machine.specs.Machine.{after_item}
 use Rattle.h2_core.specs.declared.endpoint.Endpoint.{Endpoint}
-use Rattle.h2_core.specs.declared.reader.Reported.{Reported}
-use Rattle.h2_core.specs.declared.reader.StepError.{StepError}
+use Rattle.h2_core.specs.declared.step_error.StepError.{StepError}
 use Rattle.h2_core.specs.Endpoint.{end_of}
+use Rattle.h2_core.specs.Events.{FrameEvent}
 use Rattle.h2_core.specs.Failure.{FailsAlike}
 use Rattle.h2_core.specs.Items.{TakesItem, events_reported, item_events}
 use Rattle.h2_core.specs.Frames.{FailsWithoutMemory}
 
 -- A block was decoded, and what it decodes to is the end's table and, unless it is too large, its
 -- list: whatever that is, the step takes the block so.
-abbrev pub TakesDecoded : Endpoint → ℕ → Bool → Bool → Result (Option Reported) StepError → Endpoint
-    → Type 0
+abbrev pub TakesDecoded : Endpoint → ℕ → Bool → Bool → Result (Option FrameEvent) StepError
+    → Endpoint → Type 0
 TakesDecoded one id end too_large result new =
     (decoded : Decoded) (octets : List ℕ) → decoded.after ≡ one.decoder.table
     → nat_lt max_list (list_size decoded.fields) ≡ too_large
     → (too_large ≡ false → one.list ≡ decoded.fields)
     → TakesItem (end_of one) (Some decoded) (block id end octets) new.list result (end_of new)
 
--- What was seen of the block is what it says at the end's table and limit, or nothing where it says
--- nothing.
+-- `decoded` is what the block says at the end's table and limit, or nothing where it says nothing.
 abbrev pub IsDecodedOf : End → List ℕ → Option Decoded → Type 0
 IsDecodedOf e octets None = NoBlock e.reading.table e.own.in_force.table_limit octets
 IsDecodedOf e octets (Some decoded) =
@@ -46,9 +45,9 @@ decode_fault_code faults.Compression = CompressionError
 decode_fault_code faults.Memory = InternalError
 decode_fault_code faults.Failed = InternalError
 
--- The end is the machine after the block, and answers what is reported of it.
+-- The end is the machine after the block, and what is reported of the block is returned.
 pub record BlockTaken (e : End) (id : ℕ) (end : Bool) (octets : List ℕ) (list : List Field)
-    (reported : Option Reported) (new : End) : Type 0 where
+    (reported : Option FrameEvent) (new : End) : Type 0 where
   pub decoded : Option Decoded
   pub says : IsDecodedOf e octets decoded
   pub after : new ≡ after_item e decoded (block id end octets)
@@ -63,8 +62,8 @@ pub record BlockFails (e : End) (id : ℕ) (end : Bool) (octets : List ℕ) (cod
   pub fails : (after_item e decoded (block id end octets)).failed ≡ Some code
   pub after : FailsAlike (after_item e decoded (block id end octets)) new
 
--- what a complete block makes of an end
-abbrev pub TakesBlock : End → ℕ → Bool → List ℕ → List Field → Result (Option Reported) Code → End
+-- the result of a complete block, and the end after it
+abbrev pub TakesBlock : End → ℕ → Bool → List ℕ → List Field → Result (Option FrameEvent) Code → End
     → Type 0
 TakesBlock e id end octets list (Ok reported) new = BlockTaken e id end octets list reported new
 TakesBlock e id end octets list (Err code) new =

@@ -1,4 +1,4 @@
--- What a call makes of an end, and when it is refused.
+-- The end after a call, and when a call is refused.
 use Rattle.std.specs.Prelude.{◌≡◌, ◌⊎◌, ℕ, not, nat_le, is_some, [], ◌∷◌, length, None, Some}
 use Rattle.std.specs.Prelude.{Result, Ok, Err, ◌≤◌, ◌-◌, ◌^◌, min, Bool, List}
 use Rattle.hpack.specs.declared.types.field.Field.{Field}
@@ -30,8 +30,8 @@ pub record CallAccepted (e : End) (act : Act) (new : End) : Type 0 where
   pub free : refusal_of (end_view e) act ≡ None
   pub after : new ≡ after_call e act
 
--- Why nothing may be sent on a stream: the connection has failed, the stream isn't active, this end
--- has ended it, or too much output waits; the first of these.
+-- Why nothing may be sent on a stream: the connection has failed, the stream isn't active, it is
+-- half-closed (local), or too much output is queued; the first of these.
 abbrev pub NotSendable : Endpoint → ℕ → Refusal → Type 0
 NotSendable one id refusal = first_of (
     (is_some one.failed, Closed) ∷
@@ -40,7 +40,7 @@ NotSendable one id refusal = first_of (
     ∷ (nat_le full_output (length one.output.waiting), OutputFull) ∷ []
     ) ≡ Some refusal
 
--- What `refuse` makes of an end: it is refused; or it is accepted; or the stream was to be reset,
+-- The end after `refuse`: the call is refused; or it is accepted; or the stream was to be reset,
 -- an allocation was refused, and the connection fails.
 -- rule: 5.4 (own) Being out of memory hides no other fault of the connection
 abbrev pub CallRefuses : End → ℕ → ℕ → Result Unit Refusal → End → Type 0
@@ -55,7 +55,7 @@ CallRefuses e id code (Err refusal) new =
 abbrev pub IsSizeOf : ℕ → List Field → Type 0
 IsSizeOf size fields = size ≡ min (list_size fields) (2 ^ 64 - 1)
 
--- A list's field block takes so many octets at most in frames, at any encoder, whatever greatest
+-- A list's field block takes at most `room` octets in frames, at any encoder, whatever greatest
 -- payload the peer reads.
 abbrev pub FramesFit : List Field → ℕ → Type 0
 FramesFit fields room = (most : ℕ) (encoder : EncoderState) (id : ℕ) (end : Bool) → 16384 ≤ most

@@ -7,8 +7,8 @@ use Rattle.h2_laws_machine.specs.Bounds.{IsBounded, KeepsConnectionWindow}
 use Rattle.h2_laws_machine.specs.Ranges.{ValuesAreInRange, CountsEntries}
 use Rattle.h2_core.specs.declared.endpoint.Endpoint.{Endpoint}
 
--- how many streams a client may have active: 100 before the server's first SETTINGS, then the
--- number that these name, and 1,000 where they name none; never above 1,000
+-- the number of streams that a client may have active: 100 before the server's first SETTINGS,
+-- then the number that these name, and 1,000 where they name none; never above 1,000
 abbrev pub streams_allowed_by : Bool → Option ℕ → ℕ
 streams_allowed_by false named = 100
 streams_allowed_by true None = 1000

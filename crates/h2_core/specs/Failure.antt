@@ -1,9 +1,9 @@
--- What stands after the connection has failed.
+-- What counts of an end after the connection has failed.
 use Rattle.std.specs.Prelude.{◌≡◌, ◌≢◌, None}
 use Rattle.h2_spec_machine.specs.End.{End}
 
--- The connection has failed, and of what counts then both ends have the same: the code, the output,
--- the streams and the windows. What was read last, and the rest that no call looks at any more, may
+-- The connection has failed, and of what counts then both ends have the same: the code, the
+-- output, the streams and the windows. What was read last, and what no call reads any more, may
 -- differ.
 pub record FailsAlike (e other : End) : Type 0 where
   pub down : e.failed ≢ None

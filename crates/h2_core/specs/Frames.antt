@@ -1,4 +1,4 @@
--- What a call that takes a frame makes of an end, and what it answers.
+-- The end after a call that takes a frame, and the call's result.
 use Rattle.std.specs.Prelude.{not, ◌&&◌, true, false}
 use Rattle.std.specs.Prelude.{◌≡◌, ◌⊎◌, List, [], Option, Some, None, Result, Ok, Err}
 use Rattle.hpack.specs.Blocks.{Block}
@@ -15,12 +15,12 @@ use Rattle.h2_spec_log.specs.Memory.{step_needs_memory}
 use Rattle.h2_spec_machine.specs.End.{End, end_view}
 use Rattle.h2_spec_machine.specs.Machine.{after_frame, with_begun, fail}
 use Rattle.h2_core.specs.declared.endpoint.Endpoint.{Endpoint}
-use Rattle.h2_core.specs.declared.reader.Reported.{Reported}
+use Rattle.h2_core.specs.Events.{FrameEvent}
 use Rattle.h2_core.specs.Failure.{FailsAlike}
 use Rattle.h2_core.specs.Items.{events_reported, item_events}
 
--- What was seen of the field block that a frame completes is what it says at the end's table and
--- limit; nothing was seen where it says nothing. Nothing is decoded of anything else.
+-- `decoded` is what the field block that a frame completes says at the end's table and limit, or
+-- nothing where it says nothing. Nothing is decoded of anything else.
 abbrev pub IsDecodedBy : End → Option Decoded → FrameStep → Type 0
 IsDecodedBy e None (completes (block stream end octets)) =
     NoBlock e.reading.table e.own.in_force.table_limit octets
@@ -39,8 +39,9 @@ step_events e decoded (completes item) = item_events (with_begun e None) decoded
 abbrev pub frame_events : End → Option Decoded → Frame → List Event
 frame_events e decoded frame = step_events e decoded (frame_step (end_view e) frame)
 
--- The end is the machine after the frame, hasn't failed, and answers what is reported of it.
-pub record FrameTaken (e : End) (frame : Frame) (list : List Field) (reported : Option Reported)
+-- The end is the machine after the frame, hasn't failed, and what is reported of the frame is
+-- returned.
+pub record FrameTaken (e : End) (frame : Frame) (list : List Field) (reported : Option FrameEvent)
     (new : End) : Type 0 where
   pub decoded : Option Decoded
   pub says : IsDecodedBy e decoded (frame_step (end_view e) frame)
@@ -67,8 +68,8 @@ pub record FrameLacksMemory (e : End) (frame : Frame) (code : Code) (new : End) 
       ≡ true
   pub fails : FailsWithoutMemory e code new
 
--- what a call that takes a frame makes of an end
-abbrev pub EndTakesFrame : End → Frame → List Field → Result (Option Reported) Code → End → Type 0
+-- the result of a call that takes a frame, and the end after it
+abbrev pub EndTakesFrame : End → Frame → List Field → Result (Option FrameEvent) Code → End → Type 0
 EndTakesFrame e frame list (Ok reported) new = FrameTaken e frame list reported new
 EndTakesFrame e frame list (Err code) new =
     FrameFails e frame code new ⊎ FrameLacksMemory e frame code new

@@ -1,11 +1,10 @@
--- What a step makes of an item that is received, and what it answers.
+-- The end after a step that takes an item, and the step's result.
 use Rattle.std.specs.Prelude.{◌≡◌, ◌≢◌, ℕ, true, List, [], ◌∷◌, Option, Some, None}
 use Rattle.std.specs.Prelude.{Result, Ok, Err, length}
 use Rattle.hpack.specs.declared.types.field.Field.{Field}
 use Rattle.h2_frame.specs.declared.code.Code.{Code}
 use Rattle.h2_block.specs.Grouping.{Item}
-use Rattle.h2_spec_log.specs.Events.{Event, FieldsEvent, DataEvent, ResetEvent, GoAwayEvent}
-use Rattle.h2_spec_log.specs.Events.{AckedEvent, PongEvent}
+use Rattle.h2_spec_log.specs.Events.{Event}
 use Rattle.h2_spec_log.specs.Verdicts.{ConnectionFault}
 use Rattle.h2_spec_log.specs.ItemRules.{Decoded, verdict_of, opened_by}
 use Rattle.h2_spec_log.specs.ItemEffects.{events_of}
@@ -13,22 +12,12 @@ use Rattle.h2_spec_log.specs.CallRules.{returns_credit}
 use Rattle.h2_spec_log.specs.Memory.{needs_memory}
 use Rattle.h2_spec_machine.specs.End.{End, end_view}
 use Rattle.h2_spec_machine.specs.Machine.{after_item, add_unreturned, narrow_recv_window}
-use Rattle.h2_core.specs.declared.reader.Reported.{Reported}
-use Rattle.h2_core.specs.declared.reader.Reported.TheVariants.{Fields, Data, Reset, GoAway, Acked}
-use Rattle.h2_core.specs.declared.reader.Reported.TheVariants.{Pong}
-use Rattle.h2_core.specs.declared.reader.StepError.{StepError}
-use Rattle.h2_core.specs.declared.reader.StepError.TheVariants.{Fault, OutOfMemory}
+use Rattle.h2_core.specs.declared.step_error.StepError.{StepError}
+use Rattle.h2_core.specs.declared.step_error.StepError.TheVariants.{Fault, OutOfMemory}
+use Rattle.h2_core.specs.Events.{FrameEvent, event_of}
 
--- what is reported, as an event; the fields are those of the list that the end keeps
-abbrev pub event_of : List Field → Reported → Event
-event_of list (Fields id end) = FieldsEvent id list end
-event_of list (Data id octets flow end) = DataEvent id octets.now flow end
-event_of list (Reset id code ours) = ResetEvent id code ours
-event_of list (GoAway last code) = GoAwayEvent last code
-event_of list Acked = AckedEvent
-event_of list (Pong octets) = PongEvent octets
-
-abbrev pub events_reported : List Field → Option Reported → List Event
+-- what is reported of a frame, as events; the fields are those of the list that the end keeps
+abbrev pub events_reported : List Field → Option FrameEvent → List Event
 events_reported list None = []
 events_reported list (Some reported) = event_of list reported ∷ []
 
@@ -38,16 +27,17 @@ item_events e decoded item = events_of (end_view e) decoded (verdict_of (end_vie
     item
 
 -- The item's verdict isn't that the connection fails; the end is the machine after the item, and
--- what is reported of the item is answered.
+-- what is reported of the item is returned.
 pub record ItemTaken (e : End) (decoded : Option Decoded) (item : Item) (list : List Field)
-    (reported : Option Reported) (new : End) : Type 0 where
+    (reported : Option FrameEvent) (new : End) : Type 0 where
   pub goes_on : (code : Code) → verdict_of (end_view e) decoded item ≢ ConnectionFault code
   pub after : new ≡ after_item e decoded item
   pub events : events_reported list reported ≡ item_events e decoded item
 
--- What a step makes of an item. One that is at fault, or out of memory, has changed nothing.
-abbrev pub TakesItem : End → Option Decoded → Item → List Field → Result (Option Reported) StepError
-    → End → Type 0
+-- The end after a step that takes an item. A step that stops, for a fault or for refused memory,
+-- has changed nothing.
+abbrev pub TakesItem : End → Option Decoded → Item → List Field
+    → Result (Option FrameEvent) StepError → End → Type 0
 TakesItem e decoded item list (Ok reported) new = ItemTaken e decoded item list reported new
 TakesItem e decoded item list (Err (Fault code opened)) new =
     (verdict_of (end_view e) decoded item ≡ ConnectionFault code)
@@ -55,9 +45,9 @@ TakesItem e decoded item list (Err (Fault code opened)) new =
 TakesItem e decoded item list (Err OutOfMemory) new =
     (needs_memory (end_view e) (verdict_of (end_view e) decoded item) item ≡ true) × (new ≡ e)
 
--- DATA of so many octets was discarded, on a stream that this end has closed; or memory was
--- refused for the credit that is returned, and nothing has changed.
-abbrev pub DiscardsData : End → ℕ → Result (Option Reported) StepError → End → Type 0
+-- DATA of `flow` octets was discarded, on a stream that this end has closed; or memory was refused
+-- for the credit that is returned, and nothing has changed.
+abbrev pub DiscardsData : End → ℕ → Result (Option FrameEvent) StepError → End → Type 0
 DiscardsData e flow (Ok reported) new =
     (reported ≡ None) × (new ≡ add_unreturned flow (narrow_recv_window e flow))
 DiscardsData e flow (Err stop) new =

@@ -1,5 +1,6 @@
 pub mod DataFrames
 pub mod Endpoint
+pub mod Events
 pub mod Failure
 pub mod Items
 pub mod Frames

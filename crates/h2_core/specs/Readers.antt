@@ -1,4 +1,4 @@
--- What an end answers of itself, and what giving output out does.
+-- The readers of an end, and putting output out.
 use Rattle.std.specs.Prelude.{◌≡◌, ℕ, ◌==◌, ◌++◌, if◌then◌else◌, ℤ, pos, List, take, Option, Some}
 use Rattle.std.specs.Prelude.{None, is_some}
 use Rattle.std.specs.Option.{option_map}
@@ -8,7 +8,7 @@ use Rattle.h2_spec_log.specs.CallRules.{answer_of}
 use Rattle.h2_spec_machine.specs.End.{End, end_view, stream_at}
 use Rattle.h2_spec_machine.specs.Machine.{after_call, before_put_out_at}
 
--- how many octets may be sent on the connection (0) or a stream
+-- the number of octets that may be sent on the connection (0) or a stream
 -- rule: calls (own) An end answers of its state, and of little once it has failed
 abbrev pub room_of : End → ℕ → Option ℤ
 room_of e id =
@@ -21,7 +21,7 @@ room_of e id =
 abbrev pub owed_of : End → ℕ → ℕ
 owed_of e id = if is_some e.failed then 0 else owed_on (stream_at e id)
 
--- So many octets were given out: the first of those that wait, once what is unreturned was
+-- `given` octets were put out: the first of the queued output, once what is unreturned was
 -- returned.
 pub record PutsOut (e : End) (count given : ℕ) (before after : List ℕ) (new : End) : Type 0 where
   pub answer : Count given ≡ answer_of (end_view e) (PutOut count)

@@ -1,4 +1,4 @@
--- What a fault of a stream makes of an end.
+-- The end after a stream error.
 use Rattle.std.specs.Prelude.{◌≡◌, ℕ, ◌+◌, ◌||◌, Bool, true, false, nat_le, nat_lt, length, [], ◌∷◌}
 use Rattle.std.specs.Prelude.{Option, Some, Result, Ok, Err}
 use Rattle.h2_frame.specs.declared.code.Code.{Code}
@@ -10,11 +10,11 @@ use Rattle.h2_spec_log.specs.Limits.{max_resets, max_output}
 use Rattle.h2_spec_machine.specs.End.{End}
 use Rattle.h2_spec_machine.specs.Machine.{reset_stream, queue_output, narrow_recv_window}
 use Rattle.h2_core.specs.declared.endpoint.Endpoint.{Endpoint}
-use Rattle.h2_core.specs.declared.reader.Reported.{Reported}
-use Rattle.h2_core.specs.declared.reader.Reported.TheVariants.{Reset}
-use Rattle.h2_core.specs.declared.reader.StepError.{StepError}
-use Rattle.h2_core.specs.declared.reader.StepError.TheVariants.{Fault, OutOfMemory}
+use Rattle.h2_core.specs.declared.event.Event.TheVariants.{Reset}
+use Rattle.h2_core.specs.declared.step_error.StepError.{StepError}
+use Rattle.h2_core.specs.declared.step_error.StepError.TheVariants.{Fault, OutOfMemory}
 use Rattle.h2_core.specs.Endpoint.{end_of}
+use Rattle.h2_core.specs.Events.{FrameEvent}
 
 -- Whether a further RST_STREAM is more than an end sends.
 abbrev pub is_over_limits : End → Bool
@@ -26,7 +26,7 @@ is_over_limits e =
 -- memory was refused, and nothing has changed.
 -- rule: 5.4 (own) Only blocks, replies, resets and returned credit take memory
 abbrev pub ResetsForFault : Endpoint → ℕ → Code → (flow opened : ℕ)
-    → Result (Option Reported) StepError → Endpoint → Type 0
+    → Result (Option FrameEvent) StepError → Endpoint → Type 0
 ResetsForFault one id code flow opened (Ok reported) new =
     (is_over_limits (end_of one) ≡ false) × (reported ≡ Some (Reset id (code_number code) true))
     × (end_of new ≡ reset_stream (queue_output (narrow_recv_window (end_of one) flow)

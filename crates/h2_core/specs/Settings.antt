@@ -8,8 +8,8 @@ use Rattle.h2_spec_machine.specs.End.{end_view, any_above}
 use Rattle.h2_streams.specs.Streams.{is_above_by_shift}
 use Rattle.h2_streams.specs.Table.{TableState}
 use Rattle.h2_core.specs.declared.endpoint.Endpoint.{Endpoint}
-use Rattle.h2_core.specs.declared.reader.StepError.{StepError}
-use Rattle.h2_core.specs.declared.reader.StepError.TheVariants.{Fault, OutOfMemory}
+use Rattle.h2_core.specs.declared.step_error.StepError.{StepError}
+use Rattle.h2_core.specs.declared.step_error.StepError.TheVariants.{Fault, OutOfMemory}
 use Rattle.h2_core.specs.Endpoint.{end_of}
 
 -- settings with these values, in order

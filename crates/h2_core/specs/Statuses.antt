@@ -1,4 +1,4 @@
--- What an end knows of a number.
+-- What an end knows of a stream's number.
 use Rattle.std.specs.Prelude.{Option, Some, None}
 use Rattle.h2_spec_log.specs.States as states
 use Rattle.h2_spec_log.specs.View.{StreamView}

@@ -4,8 +4,8 @@ use Rattle.h2_frame.specs.declared.code.Code.{Code}
 use Rattle.h2_frame.specs.declared.code.Code.TheVariants.{InternalError}
 use Rattle.h2_spec_machine.specs.End.{End}
 use Rattle.h2_spec_machine.specs.Machine.{fail}
-use Rattle.h2_core.specs.declared.reader.StepError.{StepError}
-use Rattle.h2_core.specs.declared.reader.StepError.TheVariants.{Fault, OutOfMemory}
+use Rattle.h2_core.specs.declared.step_error.StepError.{StepError}
+use Rattle.h2_core.specs.declared.step_error.StepError.TheVariants.{Fault, OutOfMemory}
 
 -- The stream that a frame at fault opens has a number of 31 bits.
 abbrev pub IsSmall : StepError → Type 0

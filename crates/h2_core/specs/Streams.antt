@@ -1,4 +1,4 @@
--- What a step on a stream asks of it.
+-- What a step on a stream requires of it.
 use Rattle.std.specs.Prelude.{◌≡◌, ◌<◌, ◌^◌, ℕ, ◌+◌, ◌&&◌, Bool, false, Option, Some, None}
 use Rattle.h2_flow.specs.declared.stream_state.StreamState.{StreamState}
 use Rattle.h2_streams.specs.Streams.{is_far}
@@ -10,7 +10,7 @@ pub record IsNear (stream : Stream) : Type 0 where
   pub send : is_far stream.send_window ≡ false
   pub recv : is_far stream.recv_window ≡ false
 
--- so much more of the connection's window can be returned
+-- `more` octets of the connection's window can be returned as well
 abbrev pub WindowHolds : Endpoint → ℕ → Type 0
 WindowHolds one more = one.recv_window + (one.unreturned + more) < 2 ^ 31
 

@@ -23,12 +23,14 @@ ghost use Rattle.h2_core.specs.Endpoint.{end_of, IsSoundEnd};
 ghost use Rattle.h2_core.specs.Calls.{CallRefused, CallAccepted, NotSendable, FramesFit, IsSizeOf};
 
 use crate::endpoint::Endpoint;
-use crate::limits::{
-    FIRST_ACTIVE, FULL_OUTPUT, GREATEST, HEAD, LEAST_FRAME, MAX_ACTIVE, MAX_DATA, MAX_LIST,
-    MAX_PAYLOAD, SMALL_FRAME,
-};
+use crate::sizes::SMALL_FRAME;
 use h2_block::spread;
 use h2_flow::StreamState;
+use h2_frame::HEAD_LEN;
+use h2_frame::limits::{
+    FULL_OUTPUT, GREATEST_STREAM, LEAST_MAX_FRAME, LEAST_MAX_STREAMS, MAX_DATA, MAX_FRAME_SENT,
+    MAX_LIST, MOST_MAX_STREAMS,
+};
 use h2_output::Output;
 use h2_spec_log::{Refusal, Role};
 use h2_streams::Stream;
@@ -43,13 +45,15 @@ impl Endpoint {
     // contract: 6.8 No stream is opened after GOAWAY was received
     // contract: 10.5 (own) An own list above 65,536 octets is refused
     // contract: calls (own) A call does what it says, or is refused for its first condition
-    /// Opens a stream with a field block; `end` says that nothing follows (END_STREAM). Answers its
-    /// number: 1, 3, 5 and so on.
+    /// Opens a stream with a field section; `end` sets END_STREAM, so that nothing follows on it.
+    /// Returns its number: 1, 3, 5 and so on.
     ///
     /// # Errors
     ///
-    /// C1, C4, C5 (at a server always), C6, C7, C10, and C12 where an allocation was refused, in
-    /// this order. Nothing has changed.
+    /// [`Refusal::Closed`] (C1), [`Refusal::TooManyStreams`] (C4),
+    /// [`Refusal::StreamsExhausted`] (C5, at a server always), [`Refusal::GoingAway`] (C6),
+    /// [`Refusal::OutputFull`] (C7), [`Refusal::ListTooLarge`] (C10), and [`Refusal::Memory`] (C12)
+    /// where an allocation was refused, in this order. Nothing has changed.
     pub fn open(&mut self, fields: &[Field], end: bool) -> Result<u32, Refusal>
         requires sound { self.old.failed ≡ None → IsSoundEnd (end_of self.old) }
         ensures ok { IfOk result (λ id. (id ≡ (end_view (end_of self.old)).next_number)
@@ -78,12 +82,15 @@ impl Endpoint {
         Ok(id)
     }
 
-    /// Why a list of fields opens no stream now: the first of C1, C4, C5 (at a server always), C6,
-    /// C7 and C10 that holds. It takes no memory.
+    /// Why a list of fields opens no stream now: the first of [`Refusal::Closed`] (C1),
+    /// [`Refusal::TooManyStreams`] (C4), [`Refusal::StreamsExhausted`] (C5, at a server always),
+    /// [`Refusal::GoingAway`] (C6), [`Refusal::OutputFull`] (C7) and
+    /// [`Refusal::ListTooLarge`] (C10) that holds. It takes no memory.
     pub fn refusal_to_open(&self, fields: &[Field]) -> Option<Refusal>
         requires sound { self.now.failed ≡ None → IsSoundEnd (end_of self.now) }
-        ensures { (end : Bool)
+        ensures refusal { (end : Bool)
             → result ≡ refusal_of (end_view (end_of self.now)) (Open fields.now end) }
+        ensures octets { AreOctets fields.now }
     {
         self.refusal_of_open(list_size(fields))
     }
@@ -92,11 +99,13 @@ impl Endpoint {
     // contract: 10.5 (own) An own list above 65,536 octets is refused
     // rule: 10.5 (own) An own list above 65,536 octets is refused
     // contract: calls (own) A call does what it says, or is refused for its first condition
-    /// Sends a further field block on a stream: a response's, or trailers.
+    /// Sends a further field section on a stream: a response's, or trailers.
     ///
     /// # Errors
     ///
-    /// C1, C2, C3, C7, C10 and C12, in this order. Nothing has changed.
+    /// [`Refusal::Closed`] (C1), [`Refusal::NoSuchStream`] (C2), [`Refusal::Ended`] (C3),
+    /// [`Refusal::OutputFull`] (C7), [`Refusal::ListTooLarge`] (C10) and [`Refusal::Memory`] (C12),
+    /// in this order. Nothing has changed.
     pub fn send_fields(&mut self, id: u32, fields: &[Field], end: bool) -> Result<(), Refusal>
         requires sound { self.old.failed ≡ None → IsSoundEnd (end_of self.old) }
         ensures ok { OnOk result (CallAccepted (end_of self.old) (SendFields id fields.now end)
@@ -123,13 +132,15 @@ impl Endpoint {
     // rule: 6.9.1 DATA is sent within both windows
     // contract: calls (own) A call does what it says, or is refused for its first condition
     // rule: calls (own) A call that sends nothing takes no memory
-    /// Sends as many octets of a body as both windows let through, and 65,536 at most; answers how
-    /// many. Where all went and `end` is set, the last DATA has END_STREAM; an empty slice with
-    /// `end` sends one empty DATA.
+    /// Sends as many octets of a body as both windows let through, at most 65,536, and returns
+    /// their number. Where all were sent and `end` is set, the last DATA has END_STREAM; an empty
+    /// slice with `end` sends one empty DATA.
     ///
     /// # Errors
     ///
-    /// C1, C2, C3, C7 and C12, in this order. Nothing has changed.
+    /// [`Refusal::Closed`] (C1), [`Refusal::NoSuchStream`] (C2), [`Refusal::Ended`] (C3),
+    /// [`Refusal::OutputFull`] (C7) and [`Refusal::Memory`] (C12), in this order. Nothing has
+    /// changed.
     pub fn send_data(&mut self, id: u32, octets: &[u8], end: bool) -> Result<usize, Refusal>
         requires sound { self.old.failed ≡ None → IsSoundEnd (end_of self.old) }
         ensures closed { IsSome self.old.failed → result ≡ Err Refusal.Closed }
@@ -146,7 +157,7 @@ impl Endpoint {
         if sends_nothing(octets, end, count) {
             return Ok(0);
         }
-        let room = count + HEAD * (1 + count / LEAST_FRAME as usize) + SMALL_FRAME;
+        let room = count + HEAD_LEN * (1 + count / LEAST_MAX_FRAME as usize) + SMALL_FRAME;
         if self.output.reserve(room).is_err() {
             return Err(Refusal::Memory);
         }
@@ -157,7 +168,7 @@ impl Endpoint {
 
     // rule: 5.1 Each frame is sent only in states that allow it
     // rule: calls (own) A call does what it says, or is refused for its first condition
-    /// The stream, if something may be sent on it.
+    /// The stream, if it may be sent on.
     fn sendable(&self, id: u32) -> Result<Stream, Refusal>
         ensures ok { IfOk result (λ stream. (self.now.failed ≡ None)
             × (stream_at (end_of self.now) id ≡ Some (stream_view stream))
@@ -182,7 +193,7 @@ impl Endpoint {
     }
 
     // rule: 6.9.1 DATA is sent within both windows
-    /// How many octets of so many may be sent on a stream now.
+    /// The number of octets, of `count`, that may be sent on a stream now.
     fn sendable_octets(&self, stream: &Stream, count: usize) -> usize
         requires { is_far stream.now.send_window ≡ false }
         ensures { result ≡ data_count (end_view (end_of self.now)) (Some (stream_view stream.now))
@@ -284,14 +295,17 @@ impl Endpoint {
     }
 
     // rule: 4.2 (own) Payloads of at most 65,536 octets are sent, where the peer reads them
-    /// The most octets of a payload that are sent now: as many as the peer reads, and 65,536 at
-    /// most (section 4.2).
+    /// The greatest payload that is sent now, in octets: what the peer reads, and 65,536 at most
+    /// (section 4.2).
     fn most_octets(&self) -> usize
         ensures value { result ≡ (end_view (end_of self.now)).max_payload }
         ensures least { 16384 ≤ result }
         ensures small { result ≤ 65536 }
     {
-        self.peer.max_frame_size.max(LEAST_FRAME).min(MAX_PAYLOAD) as usize
+        self.peer
+            .max_frame_size
+            .max(LEAST_MAX_FRAME)
+            .min(MAX_FRAME_SENT) as usize
     }
 
     // rule: 5.1.1 When the numbers of 31 bits are used up no stream is opened
@@ -299,7 +313,7 @@ impl Endpoint {
     // rule: 6.8 No stream is opened after GOAWAY was received
     // rule: 10.5 (own) An own list above 65,536 octets is refused
     // rule: calls (own) A call does what it says, or is refused for its first condition
-    /// Why a stream cannot be opened with a list of this size, out of memory put aside.
+    /// Why a stream cannot be opened with a list of this size, refused memory aside.
     fn refusal_of_open(&self, size: usize) -> Option<Refusal>
         requires { self.now.failed ≡ None → self.now.highest < 2 ^ 31 }
         ensures { (fields : List Field) (end : Bool) → IsSizeOf size fields
@@ -338,7 +352,7 @@ impl Endpoint {
         ensures { result ≡ has_no_number (end_view (end_of self.now)) }
     {
         match self.role {
-            Role::Client => self.next_number() > GREATEST,
+            Role::Client => self.next_number() > GREATEST_STREAM,
             Role::Server => true,
         }
     }
@@ -351,16 +365,16 @@ impl Endpoint {
     }
 
     // rule: 5.1.2 A client has at most as many active streams as the server allows
-    /// How many streams of its own a client may have active (RFC 9113, section 5.1.2).
+    /// The number of streams that a client may have active (RFC 9113, section 5.1.2).
     pub(crate) fn streams_allowed(&self) -> u32
         ensures { result ≡ (end_of self.now).peer.max_streams }
     {
         if !self.started {
-            return FIRST_ACTIVE;
+            return LEAST_MAX_STREAMS;
         }
         match self.peer.max_concurrent_streams {
-            Some(count) => count.min(MAX_ACTIVE),
-            None => MAX_ACTIVE,
+            Some(count) => count.min(MOST_MAX_STREAMS),
+            None => MOST_MAX_STREAMS,
         }
     }
 
@@ -378,23 +392,23 @@ impl Endpoint {
     }
 }
 
-/// Whether a call sends nothing: it may send none of the octets, and it isn't that there are none
-/// and the stream ends.
+/// Whether a call sends nothing: no octet may be sent, and it isn't an empty slice that ends the
+/// stream.
 fn sends_nothing(octets: &[u8], end: bool, count: usize) -> bool
     ensures { result ≡ (count == 0 && not (length octets.now == 0 && end)) }
 {
     count == 0 && !(octets.is_empty() && end)
 }
 
-/// The most octets of a field block's frames, by the size of its list: where the peer reads no more
-/// than any peer does.
+/// The most octets that a field block's frames have, by the size of its list, with payloads of
+/// 16,384 octets, which every peer reads.
 fn frames_room(size: usize) -> usize
     requires { size ≤ max_list }
     ensures enough { (fields : List Field) → list_size fields ≡ size → FramesFit fields result }
     ensures small { result < 2 ^ 17 }
 {
     let octets = size + 12;
-    octets + HEAD * (1 + octets / LEAST_FRAME as usize)
+    octets + HEAD_LEN * (1 + octets / LEAST_MAX_FRAME as usize)
 }
 
 /// Encodes a field block, whose frames have payloads of `most` octets at most, and `room` octets

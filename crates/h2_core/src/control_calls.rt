@@ -9,8 +9,9 @@ ghost use Rattle.h2_core.specs.Endpoint.{end_of, IsSoundEnd};
 ghost use Rattle.h2_core.specs.Calls.{CallRefused, CallAccepted, CallRefuses};
 
 use crate::endpoint::Endpoint;
-use crate::limits::{FULL_OUTPUT, MAX_RESETS, SMALL_FRAME};
-use crate::reader::StepError;
+use crate::sizes::SMALL_FRAME;
+use crate::step_error::StepError;
+use h2_frame::limits::{FULL_OUTPUT, MAX_RESETS};
 use h2_frame::{Code, FrameRef};
 use h2_spec_log::Refusal;
 
@@ -21,12 +22,14 @@ impl Endpoint {
     // contract: 6.9 Nothing of the window of the connection is lost
     // contract: 6.9 What a stream owes is returned when it is released or over
     // rule: 6.9 What a stream owes is returned when it is released or over
-    /// Returns credit of so many octets for a stream and the connection: of those that were
-    /// reported and are owed.
+    /// Returns credit of `count` octets, which were reported and are owed, for a stream and the
+    /// connection.
     ///
     /// # Errors
     ///
-    /// C1, C2, C7, C11 and C12, in this order. Nothing has changed.
+    /// [`Refusal::Closed`] (C1), [`Refusal::NoSuchStream`] (C2), [`Refusal::OutputFull`] (C7),
+    /// [`Refusal::NotOwed`] (C11) and [`Refusal::Memory`] (C12), in this order. Nothing has
+    /// changed.
     pub fn release(&mut self, id: u32, count: u32) -> Result<(), Refusal>
         requires sound { self.old.failed ≡ None → IsSoundEnd (end_of self.old) }
         ensures ok { OnOk result (CallAccepted (end_of self.old) (Release id count)
@@ -69,7 +72,9 @@ impl Endpoint {
     ///
     /// # Errors
     ///
-    /// C1, C2, C7, C9 and C12, in this order. Nothing has changed.
+    /// [`Refusal::Closed`] (C1), [`Refusal::NoSuchStream`] (C2), [`Refusal::OutputFull`] (C7),
+    /// [`Refusal::TooManyResets`] (C9) and [`Refusal::Memory`] (C12), in this order. Nothing has
+    /// changed.
     pub fn reset(&mut self, id: u32, code: u32) -> Result<(), Refusal>
         requires sound { self.old.failed ≡ None → IsSoundEnd (end_of self.old) }
         ensures ok { OnOk result (CallAccepted (end_of self.old) (ResetStream id code)
@@ -96,12 +101,13 @@ impl Endpoint {
     // rule: calls (own) A stream that the layer above refuses is reset
     /// Resets a stream for a fault of the peer that the layer above found. With INTERNAL_ERROR (2)
     /// that layer has no memory, and the connection fails with it; it fails with ENHANCE_YOUR_CALM
-    /// where 1,000 streams were reset, or RST_STREAM would bring the waiting output above 262,144
+    /// where 1,000 streams were reset, or RST_STREAM would bring the queued output above 262,144
     /// octets, and with INTERNAL_ERROR where an allocation was refused.
     ///
     /// # Errors
     ///
-    /// C1 and, unless the code is 2, C2. Nothing has changed.
+    /// [`Refusal::Closed`] (C1) and, unless the code is 2, [`Refusal::NoSuchStream`] (C2). Nothing
+    /// has changed.
     pub fn refuse(&mut self, id: u32, code: u32) -> Result<(), Refusal>
         requires sound { self.old.failed ≡ None → IsSoundEnd (end_of self.old) }
         ensures { CallRefuses (end_of self.old) id code result (end_of self.new) }
@@ -131,7 +137,8 @@ impl Endpoint {
     ///
     /// # Errors
     ///
-    /// C1, C7, C8 and C12, in this order. Nothing has changed.
+    /// [`Refusal::Closed`] (C1), [`Refusal::OutputFull`] (C7), [`Refusal::PingWaits`] (C8) and
+    /// [`Refusal::Memory`] (C12), in this order. Nothing has changed.
     pub fn ping(&mut self, octets: [u8; 8]) -> Result<(), Refusal>
         ensures ok { OnOk result (CallAccepted (end_of self.old) (SendPing octets)
             (end_of self.new)) }
@@ -153,12 +160,13 @@ impl Endpoint {
 
     // contract: 6.8 An own GOAWAY is sent once, with the greatest stream processed
     // rule: 6.8 An own GOAWAY is sent once, with the greatest stream processed
-    /// Says that this end takes no further streams (section 6.8): GOAWAY with the greatest that it
-    /// has processed, and NO_ERROR.
+    /// Sends GOAWAY (section 6.8) with NO_ERROR and the greatest stream that this end has
+    /// processed: it takes no further ones.
     ///
     /// # Errors
     ///
-    /// C1, C6, C7 and C12, in this order. Nothing has changed.
+    /// [`Refusal::Closed`] (C1), [`Refusal::GoingAway`] (C6), [`Refusal::OutputFull`] (C7) and
+    /// [`Refusal::Memory`] (C12), in this order. Nothing has changed.
     pub fn go_away(&mut self) -> Result<(), Refusal>
         requires sound { self.old.failed ≡ None → IsSoundEnd (end_of self.old) }
         ensures ok { OnOk result (CallAccepted (end_of self.old) SendGoAway (end_of self.new)) }
@@ -196,7 +204,7 @@ impl Endpoint {
     }
 
     // rule: calls (own) A call does what it says, or is refused for its first condition
-    /// C7: too much output waits.
+    /// C7: too much output is queued.
     pub(crate) fn check_room(&self) -> Result<(), Refusal>
         ensures ok { OnOk result (nat_le full_output (length self.now.output.waiting) ≡ false) }
         ensures err { IfErr result (λ refusal. (refusal ≡ Refusal.OutputFull)

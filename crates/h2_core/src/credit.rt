@@ -1,14 +1,14 @@
-//! Credit that is returned to the peer (RFC 9113, section 6.9), and failing.
+//! Credit that is returned to the peer (RFC 9113, section 6.9), and failing (section 5.4.1).
 
 ghost use Rattle.std.specs.Prelude.{◌≡◌, ◌+◌, ◌≤◌, ◌<◌, ◌^◌, Some, None, nat_lt, length, true};
 ghost use Rattle.h2_spec_log.specs.CallRules.{returns_credit};
 ghost use Rattle.h2_spec_machine.specs.Machine.{return_credit, add_unreturned, fail};
 ghost use Rattle.h2_spec_machine.specs.End.{End};
-ghost use Rattle.h2_core.specs.Endpoint.{end_of};
+ghost use Rattle.h2_core.specs.Endpoint.{end_of, IsSoundEnd};
 ghost use Rattle.h2_core.specs.Failure.{FailsAlike};
 
 use crate::endpoint::Endpoint;
-use crate::limits::FULL_OUTPUT;
+use h2_frame::limits::FULL_OUTPUT;
 use h2_frame::{Code, FrameRef};
 
 impl Endpoint {
@@ -30,9 +30,9 @@ impl Endpoint {
     }
 
     // rule: 6.9 Nothing of the window of the connection is lost
-    /// So many octets more of the connection's window will not be released: they are returned, with
-    /// all that is unreturned, where there are some and less than the full output waits. There is
-    /// room for a WINDOW_UPDATE then.
+    /// `more` octets of the connection's window will not be released: unless that is 0, or 65,536
+    /// octets or more are queued, they are returned, with all that is unreturned. There is room
+    /// for a WINDOW_UPDATE then.
     pub(crate) fn add_unreturned(&mut self, more: u32)
         requires up { self.old.failed ≡ None }
         requires room { returns_credit more (length self.old.output.waiting) ≡ true
@@ -48,7 +48,7 @@ impl Endpoint {
     }
 
     // rule: 5.4.1 A connection error is answered by GOAWAY, and nothing is sent after
-    /// The connection fails: GOAWAY follows what waits. It takes no memory.
+    /// The connection fails: GOAWAY follows the queued output. It takes no memory.
     pub(crate) fn fail(&mut self, code: Code, last: u32)
         requires up { self.old.failed ≡ None }
         requires number { last < 2 ^ 31 }
@@ -56,5 +56,15 @@ impl Endpoint {
     {
         self.failed = Some(code);
         self.output.end_with_goaway(last, code.number());
+    }
+
+    // contract: 5.4.1 A connection error is answered by GOAWAY, and nothing is sent after
+    /// The cutter has met a fault, or memory was refused to it: the connection fails with the code.
+    pub fn fail_with(&mut self, code: Code)
+        requires sound { IsSoundEnd (end_of self.old) }
+        requires up { self.old.failed ≡ None }
+        ensures { end_of self.new ≡ fail code self.old.last_processed (end_of self.old) }
+    {
+        self.fail(code, self.last_processed);
     }
 }

@@ -1,4 +1,4 @@
-//! What an end keeps.
+//! The state of an end.
 
 ghost use Rattle.std.specs.Prelude.{◌≡◌, None, false};
 
@@ -27,48 +27,48 @@ pub struct Endpoint {
     pub(crate) list: FieldList,
     /// The streams.
     pub(crate) streams: StreamTable,
-    /// How many of them are active.
+    /// The number of active streams.
     pub(crate) active_count: u32,
     /// The greatest number that was used.
     pub(crate) highest: u32,
     /// The greatest number of a peer's stream that was processed.
     pub(crate) last_processed: u32,
-    /// How many streams this end has reset.
+    /// The number of streams that this end has reset.
     pub(crate) resets: u32,
-    /// How many octets this end may send on the connection.
+    /// The octets that this end may send on the connection (section 6.9).
     pub(crate) send_window: u32,
-    /// How many the peer may send.
+    /// The octets that the peer may send on it.
     pub(crate) recv_window: u32,
-    /// How many octets of the connection's window are still to be returned.
+    /// The octets of the connection's window that are still to be returned.
     pub(crate) unreturned: u32,
     /// The peer's settings.
     pub(crate) peer: Settings,
-    /// How many streams of the peer's may be active at once.
+    /// The number of the peer's streams that may be active at once.
     pub(crate) max_streams: u32,
-    /// The most octets of a payload that may be read, by the own settings in force.
+    /// The greatest payload that may be read, in octets, by this end's settings in force.
     pub(crate) max_frame: u32,
     /// Own settings that await their acknowledgment.
     pub(crate) awaited: Option<Config>,
     /// The last stream of this end's GOAWAY.
     pub(crate) goaway_sent: Option<u32>,
-    /// The least last stream of the peer's.
+    /// The least last stream of the peer's GOAWAY frames.
     pub(crate) goaway_received: Option<u32>,
     /// The octets of an own PING that awaits its answer.
     pub(crate) ping: Option<[u8; 8]>,
     /// The encoder of field blocks, with the own header table.
     pub(crate) encoder: Encoder,
-    /// A field block as it is encoded.
+    /// The field block that is being encoded.
     pub(crate) block: Vec<u8>,
-    /// Its frames.
+    /// The frames of that block.
     pub(crate) block_frames: Vec<u8>,
-    /// The output that waits.
+    /// The queued output.
     pub(crate) output: Output,
     // As long as the connection has not failed, its parts have not.
     ghost gathers: { failed ≡ None → gather.fault ≡ None },
     ghost decodes: { failed ≡ None → decoder.failed ≡ false },
     ghost writes: { failed ≡ None → output.ended ≡ false },
     // The peer's initial window is the one that the streams have, and before its first SETTINGS it
-    // has not said how many streams it takes.
+    // has not limited the number of streams.
     ghost initial: { peer.initial_window_size ≡ streams.send_initial },
     ghost unsaid: { started ≡ false → peer.max_concurrent_streams ≡ None },
 }

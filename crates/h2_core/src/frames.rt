@@ -1,7 +1,7 @@
 //! Frames that are received: the first must be SETTINGS, then field blocks are gathered (RFC 9113,
 //! sections 3.4 and 6.10).
 
-ghost use Rattle.std.specs.Prelude.{◌≡◌, None, true, not, ◌&&◌};
+ghost use Rattle.std.specs.Prelude.{◌≡◌, None, true, false, not, ◌&&◌};
 ghost use Rattle.h2_spec_log.specs.ItemRules.{may_be_first};
 ghost use Rattle.h2_frame.specs.Frames.{frame_of};
 ghost use Rattle.h2_frame.specs.Encoding.{refusal};
@@ -12,10 +12,11 @@ ghost use Rattle.h2_core.specs.Items.{TakesItem};
 ghost use Rattle.h2_core.specs.Stops.{FailsBy, IsSmall};
 
 use crate::endpoint::Endpoint;
-use crate::limits::MAX_BLOCK;
-use crate::reader::{Reported, StepError};
-use crate::receive::DataFrame;
+use crate::event::Event;
+use crate::receive::{DataFrame, flow_of};
+use crate::step_error::StepError;
 use h2_block::Gathered;
+use h2_frame::limits::MAX_BLOCK;
 use h2_frame::{Code, FrameRef};
 
 impl Endpoint {
@@ -36,15 +37,19 @@ impl Endpoint {
     // contract: 7 A received code is any number of 32 bits, and an unknown one does nothing
     // contract: 6.9.3 Until a lower own window is acknowledged the one before it holds
     /// Takes the next frame, one that has come without a fault: the numbers of its stream, of a
-    /// last stream and of an increment have 31 bits, and its payload's length 24.
+    /// last stream and of an increment have 31 bits, and its payload's length 24. Where fields are
+    /// reported, [`Endpoint::fields`] lends them until the next frame.
     ///
     /// # Errors
     ///
     /// The code with which the connection has failed; GOAWAY with it is the last frame of the
-    /// output. INTERNAL_ERROR says that an allocation was refused: to a part of a field block, or
-    /// to another frame that takes memory, and never in place of a fault of the connection, but of
-    /// one that a field block makes once it is decoded.
-    pub fn take_frame<'a>(&mut self, frame: FrameRef<'a>) -> Result<Option<Reported<'a>>, Code>
+    /// output. INTERNAL_ERROR says that an allocation was refused, for a part of a field block or
+    /// for another frame that takes memory. It never replaces a connection error, except one that
+    /// a field block makes once it is decoded.
+    pub fn take_frame<'a>(
+        &mut self,
+        frame: FrameRef<'a>,
+    ) -> Result<Option<Event<(), &'a [u8]>>, Code>
         requires sound { IsSoundEnd (end_of self.old) }
         requires up { self.old.failed ≡ None }
         requires good { refusal (frame_of frame) ≡ None }
@@ -54,6 +59,9 @@ impl Endpoint {
         if self.is_too_early(frame) {
             return Err(self.fail_by(StepError::fault(Code::ProtocolError)));
         }
+        if self.gather.is_inside() {
+            return self.gather_frame(frame);
+        }
         match frame {
             FrameRef::Headers {
                 stream,
@@ -61,10 +69,18 @@ impl Endpoint {
                 whole,
                 fragment,
                 ..
-            } if whole && !self.gather.is_inside() && fragment.len() <= MAX_BLOCK => {
-                self.take_block(stream, end, fragment)
+            } => {
+                if whole && fragment.len() <= MAX_BLOCK {
+                    self.take_block(stream, end, fragment)
+                } else {
+                    self.gather_frame(frame)
+                }
             }
-            _ => self.gather_frame(frame),
+            FrameRef::Continuation { .. } => self.gather_frame(frame),
+            _ => match self.take_alone(frame) {
+                Ok(event) => Ok(event),
+                Err(stop) => Err(self.fail_by(stop)),
+            },
         }
     }
 
@@ -82,18 +98,21 @@ impl Endpoint {
     }
 
     // rule: 6.10 Inside a block any frame but its CONTINUATION is PROTOCOL_ERROR
-    /// A frame that is not a complete block by itself: it is gathered, or passes on.
-    fn gather_frame<'a>(&mut self, frame: FrameRef<'a>) -> Result<Option<Reported<'a>>, Code>
+    /// A frame inside a block, or one that begins or is to continue one: it is gathered.
+    fn gather_frame<'a>(&mut self, frame: FrameRef<'a>) -> Result<Option<Event<(), &'a [u8]>>, Code>
         requires sound { IsSoundEnd (end_of self.old) }
         requires up { self.old.failed ≡ None }
         requires good { refusal (frame_of frame) ≡ None }
         requires started { IsStarted self.old (frame_of frame) }
+        requires part { self.old.gather.begun ≡ None → is_standalone (frame_of frame) ≡ false }
         ensures { EndTakesFrame (end_of self.old) (frame_of frame.entry) self.new.list result
             (end_of self.new) }
     {
         let gathered = match self.gather.take(frame) {
             Ok(gathered) => gathered,
             Err(fault) => {
+                // `fail` may not be called here: the gatherer has failed, and until the end has
+                // failed too its ghost field `gathers` does not hold, which a call would need.
                 let code = fault.code();
                 self.failed = Some(code);
                 self.output
@@ -103,10 +122,7 @@ impl Endpoint {
         };
         match gathered {
             Gathered::More => Ok(None),
-            Gathered::Pass(frame) => match self.take_alone(frame) {
-                Ok(reported) => Ok(reported),
-                Err(stop) => Err(self.fail_by(stop)),
-            },
+            Gathered::Pass(_) => unreachable!(),
             Gathered::Block {
                 stream,
                 end,
@@ -122,7 +138,10 @@ impl Endpoint {
     // rule: 5.4 (own) Only blocks, replies, resets and returned credit take memory
     // rule: 6.1 The complete payload of DATA, padding included, counts for windows
     /// A frame that is no part of a block, outside blocks.
-    fn take_alone<'a>(&mut self, frame: FrameRef<'a>) -> Result<Option<Reported<'a>>, StepError>
+    fn take_alone<'a>(
+        &mut self,
+        frame: FrameRef<'a>,
+    ) -> Result<Option<Event<(), &'a [u8]>>, StepError>
         requires sound { IsSoundEnd (end_of self.old) }
         requires up { self.old.failed ≡ None }
         requires good { refusal (frame_of frame) ≡ None }
@@ -135,12 +154,12 @@ impl Endpoint {
                 stream,
                 end,
                 octets,
-                ..
+                pad,
             } => self.take_data(DataFrame {
                 stream,
                 end,
                 octets,
-                flow: frame.payload_len() as u32,
+                flow: flow_of(octets, pad),
             }),
             FrameRef::Reset { stream, code } => self.take_reset(stream, code),
             FrameRef::Settings { ack: false, pairs } => self.take_settings(pairs),
@@ -159,7 +178,7 @@ impl Endpoint {
     }
 
     // rule: 5.4.1 A connection error is answered by GOAWAY, and nothing is sent after
-    /// The connection fails for this cause, and its code is answered.
+    /// Fails the connection for this cause, and returns the code.
     pub(crate) fn fail_by(&mut self, stop: StepError) -> Code
         requires sound { IsSoundEnd (end_of self.old) }
         requires up { self.old.failed ≡ None }

@@ -11,10 +11,10 @@ ghost use Rattle.h2_spec_machine.specs.Machine.{new_end};
 ghost use Rattle.h2_core.specs.Endpoint.{end_of};
 
 use crate::endpoint::Endpoint;
-use crate::limits::{FIRST_WINDOW, LEAST_FRAME};
 use crate::settings_frame::add_opening_settings;
 use h2_block::Gather;
 use h2_flow::{Config, Settings};
+use h2_frame::limits::{FIRST_TABLE, FIRST_WINDOW, LEAST_MAX_FRAME};
 use h2_output::Output;
 use h2_spec_log::{Refusal, Role};
 use h2_streams::StreamTable;
@@ -27,19 +27,16 @@ const PREFACE: [u8; 24] = *b"PRI * HTTP/2.0\r\n\r\nSM\r\n\r\n";
 /// The octets of the first SETTINGS, at most: a head and five pairs.
 const OPENING_SETTINGS: usize = 39;
 
-/// The octets of a header table at first (RFC 9113, section 6.5.2).
-const FIRST_TABLE: u32 = 4_096;
-
 impl Endpoint {
     // contract: 3.4 Both ends begin with SETTINGS
     // rule: 3.4 Both ends begin with SETTINGS
     // contract: 6.5.2 A client sends ENABLE_PUSH 0, and a server sends no ENABLE_PUSH
-    /// A new end, whose opening waits: at a client the preface, and SETTINGS (RFC 9113, section
-    /// 3.4).
+    /// A new end, whose opening is queued: at a client the preface, and SETTINGS (RFC 9113,
+    /// section 3.4).
     ///
     /// # Errors
     ///
-    /// C12 where an allocation was refused.
+    /// [`Refusal::Memory`] (C12) where an allocation was refused.
     pub fn new(alloc: Global, role: Role, config: Config) -> Result<Endpoint, Refusal>
         ensures ok { IfOk result (λ one. end_of one ≡ new_end role (values_of config)) }
         ensures err { IfErr result (λ refusal. refusal ≡ Refusal.Memory) }
@@ -70,7 +67,7 @@ impl Endpoint {
             unreturned: 0,
             peer: Settings::first(),
             max_streams: config.max_streams(),
-            max_frame: LEAST_FRAME,
+            max_frame: LEAST_MAX_FRAME,
             awaited: Some(config),
             goaway_sent: None,
             goaway_received: None,

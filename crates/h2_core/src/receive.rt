@@ -5,7 +5,7 @@ ghost use Rattle.std.specs.Prelude.{true, false};
 ghost use Rattle.std.specs.Option.{option_map};
 ghost use Rattle.h2_block.specs.Grouping.{alone};
 ghost use Rattle.h2_frame.specs.Frames.{Reset as ResetFrame, Ping, GoAway as GoAwayFrame};
-ghost use Rattle.h2_frame.specs.Encoding.{payload_of};
+ghost use Rattle.h2_frame.specs.Encoding.{payload_of, padded};
 ghost use Rattle.h2_spec_log.specs.ItemRules.{exceeds};
 ghost use Rattle.h2_streams.specs.Streams.{stream_view};
 ghost use Rattle.h2_spec_machine.specs.End.{stream_at};
@@ -14,10 +14,11 @@ ghost use Rattle.h2_core.specs.Items.{TakesItem, DiscardsData};
 ghost use Rattle.h2_core.specs.DataFrames.{frame_of_data};
 
 use crate::endpoint::Endpoint;
-use crate::limits::MAX_OUTPUT;
-use crate::reader::{Reported, StepError};
+use crate::event::Event;
 use crate::status::Status;
+use crate::step_error::StepError;
 use crate::stream_steps::{reserve_credit, reserve_if_over};
+use h2_frame::limits::MAX_OUTPUT;
 use h2_frame::{Code, FrameRef};
 use h2_streams::Stream;
 
@@ -41,11 +42,11 @@ impl Endpoint {
     // rule: 6.9.1 DATA above the connection's window is FLOW_CONTROL_ERROR
     // rule: 6.9.1 DATA above its stream's window is FLOW_CONTROL_ERROR (scope: own)
     /// DATA (section 6.1): it takes of both windows; on a stream that this end has closed it is
-    /// discarded, and after the peer's end it is a fault of the stream.
+    /// discarded, and on one that is half-closed (remote) it is a stream error.
     pub(crate) fn take_data<'a>(
         &mut self,
         frame: DataFrame<'a>,
-    ) -> Result<Option<Reported<'a>>, StepError>
+    ) -> Result<Option<Event<(), &'a [u8]>>, StepError>
         requires sound { IsSoundEnd (end_of self.old) }
         requires up { self.old.failed ≡ None }
         requires number { (1 ≤ frame.stream) × (frame.stream < 2 ^ 31) }
@@ -77,12 +78,12 @@ impl Endpoint {
     }
 
     // rule: 6.1 The complete payload of DATA, padding included, counts for windows
-    /// DATA within both windows on an active stream that the peer has not ended.
+    /// DATA within both windows on a stream that is open or half-closed (local).
     fn accept_data<'a>(
         &mut self,
         frame: DataFrame<'a>,
         stream: Stream,
-    ) -> Result<Option<Reported<'a>>, StepError>
+    ) -> Result<Option<Event<(), &'a [u8]>>, StepError>
         requires sound { IsSoundEnd (end_of self.old) }
         requires up { self.old.failed ≡ None }
         requires active { stream_at (end_of self.old) frame.stream ≡ Some (stream_view stream) }
@@ -101,9 +102,9 @@ impl Endpoint {
         reserve_if_over(&mut self.output, changed)?;
         self.recv_window -= frame.flow;
         self.update_stream(frame.stream, changed);
-        Ok(Some(Reported::Data {
+        Ok(Some(Event::Data {
             id: frame.stream,
-            octets: frame.octets,
+            bytes: frame.octets,
             flow: frame.flow,
             end: frame.end,
         }))
@@ -111,7 +112,7 @@ impl Endpoint {
 
     // rule: 5.1 DATA on a stream that this end has reset counts for the connection
     /// DATA on a stream that this end has closed: it is discarded, and its flow is unreturned.
-    fn discard_data<'a>(&mut self, flow: u32) -> Result<Option<Reported<'a>>, StepError>
+    fn discard_data<'a>(&mut self, flow: u32) -> Result<Option<Event<(), &'a [u8]>>, StepError>
         requires sound { IsSoundEnd (end_of self.old) }
         requires up { self.old.failed ≡ None }
         requires connection { flow ≤ self.old.recv_window }
@@ -134,7 +135,7 @@ impl Endpoint {
         &mut self,
         id: u32,
         code: u32,
-    ) -> Result<Option<Reported<'a>>, StepError>
+    ) -> Result<Option<Event<(), &'a [u8]>>, StepError>
         requires sound { IsSoundEnd (end_of self.old) }
         requires up { self.old.failed ≡ None }
         ensures { TakesItem (end_of self.old) None (alone (ResetFrame id code)) self.new.list
@@ -146,7 +147,7 @@ impl Endpoint {
             Status::Active(stream) => {
                 reserve_credit(&mut self.output, stream.owed)?;
                 self.close_stream(id, stream);
-                Ok(Some(Reported::Reset {
+                Ok(Some(Event::Reset {
                     id,
                     code,
                     ours: false,
@@ -161,7 +162,7 @@ impl Endpoint {
     pub(crate) fn take_ping<'a>(
         &mut self,
         octets: [u8; 8],
-    ) -> Result<Option<Reported<'a>>, StepError>
+    ) -> Result<Option<Event<(), &'a [u8]>>, StepError>
         requires up { self.old.failed ≡ None }
         ensures { TakesItem (end_of self.old) None (alone (Ping false octets)) self.new.list result
             (end_of self.new) }
@@ -179,7 +180,7 @@ impl Endpoint {
     pub(crate) fn take_pong<'a>(
         &mut self,
         octets: [u8; 8],
-    ) -> Result<Option<Reported<'a>>, StepError>
+    ) -> Result<Option<Event<(), &'a [u8]>>, StepError>
         requires up { self.old.failed ≡ None }
         ensures { TakesItem (end_of self.old) None (alone (Ping true octets)) self.new.list result
             (end_of self.new) }
@@ -188,7 +189,7 @@ impl Endpoint {
             return Ok(None);
         }
         self.ping = None;
-        Ok(Some(Reported::Pong { octets }))
+        Ok(Some(Event::Pong { octets }))
     }
 
     // rule: 6.8 The last stream of GOAWAY never grows: the least so far is reported
@@ -198,7 +199,7 @@ impl Endpoint {
         &mut self,
         last: u32,
         code: u32,
-    ) -> Result<Option<Reported<'a>>, StepError>
+    ) -> Result<Option<Event<(), &'a [u8]>>, StepError>
         requires up { self.old.failed ≡ None }
         ensures { (debug : List ℕ) → TakesItem (end_of self.old) None
             (alone (GoAwayFrame last code debug)) self.new.list result (end_of self.new) }
@@ -208,12 +209,24 @@ impl Endpoint {
             None => last,
         };
         self.goaway_received = Some(least);
-        Ok(Some(Reported::GoAway { last: least, code }))
+        Ok(Some(Event::GoAway { last: least, code }))
+    }
+}
+
+// rule: 6.1 The complete payload of DATA, padding included, counts for windows
+/// What DATA takes of the windows: its octets, and with padding that and the pad length too.
+pub(crate) fn flow_of(octets: &[u8], pad: Option<u8>) -> u32
+    requires { length (padded octets.now pad) < 2 ^ 24 }
+    ensures { result ≡ length (padded octets.now pad) }
+{
+    match pad {
+        Some(count) => 1 + octets.len() as u32 + u32::from(count),
+        None => octets.len() as u32,
     }
 }
 
 // rule: 6.9.1 DATA of no octets is within any window
-/// Whether DATA of so many octets exceeds a window; of none it exceeds none (section 6.9.1).
+/// Whether DATA of `flow` octets exceeds a window; of none it exceeds none (section 6.9.1).
 fn exceeds(flow: u32, window: i64) -> bool
     ensures { result ≡ exceeds flow window }
 {

@@ -10,12 +10,13 @@ ghost use Rattle.h2_core.specs.Endpoint.{end_of, IsSoundEnd};
 ghost use Rattle.h2_core.specs.Blocks.{TakesBlock, TakesDecoded, decode_fault_code};
 
 use crate::endpoint::Endpoint;
-use crate::limits::MAX_LIST;
-use crate::reader::{Reported, StepError};
+use crate::event::Event;
 use crate::status::Status;
+use crate::step_error::StepError;
 use crate::stream_steps::reserve_if_over;
 use h2_flow::StreamState;
 use h2_frame::Code;
+use h2_frame::limits::MAX_LIST;
 use h2_streams::Stream;
 use hpack::{Decoded, Fault};
 
@@ -33,7 +34,7 @@ impl Endpoint {
         id: u32,
         end: bool,
         octets: &[u8],
-    ) -> Result<Option<Reported<'a>>, Code>
+    ) -> Result<Option<Event<(), &'a [u8]>>, Code>
         requires sound { IsSoundEnd (end_of self.old) }
         requires up { self.old.failed ≡ None }
         requires outside { self.old.gather.begun ≡ None }
@@ -44,6 +45,8 @@ impl Endpoint {
         let decoded = match self.decoder.decode_into(octets, MAX_LIST, &mut self.list) {
             Ok(decoded) => decoded,
             Err(fault) => {
+                // `fail` may not be called here: the decoder has failed, and until the end has
+                // failed too its ghost field `decodes` does not hold, which a call would need.
                 let code = code_of_fault(fault);
                 self.failed = Some(code);
                 self.output
@@ -71,7 +74,7 @@ impl Endpoint {
         id: u32,
         end: bool,
         too_large: bool,
-    ) -> Result<Option<Reported<'a>>, StepError>
+    ) -> Result<Option<Event<(), &'a [u8]>>, StepError>
         requires sound { IsSoundEnd (end_of self.old) }
         requires up { self.old.failed ≡ None }
         requires number { (1 ≤ id) × (id < 2 ^ 31) }
@@ -96,7 +99,7 @@ impl Endpoint {
         end: bool,
         too_large: bool,
         stream: Stream,
-    ) -> Result<Option<Reported<'a>>, StepError>
+    ) -> Result<Option<Event<(), &'a [u8]>>, StepError>
         requires sound { IsSoundEnd (end_of self.old) }
         requires up { self.old.failed ≡ None }
         requires number { (1 ≤ id) × (id < 2 ^ 31) }
@@ -115,7 +118,7 @@ impl Endpoint {
         changed.state.ended_in = end;
         reserve_if_over(&mut self.output, changed)?;
         self.update_stream(id, changed);
-        Ok(Some(Reported::Fields { id, end }))
+        Ok(Some(Event::Fields { id, list: (), end }))
     }
 
     // rule: 5.1.1 A stream that is opened closes all lower idle ones
@@ -129,7 +132,7 @@ impl Endpoint {
         id: u32,
         end: bool,
         too_large: bool,
-    ) -> Result<Option<Reported<'a>>, StepError>
+    ) -> Result<Option<Event<(), &'a [u8]>>, StepError>
         requires sound { IsSoundEnd (end_of self.old) }
         requires up { self.old.failed ≡ None }
         requires number { (1 ≤ id) × (id < 2 ^ 31) }
@@ -158,12 +161,12 @@ impl Endpoint {
         self.active_count += 1;
         self.highest = id;
         self.last_processed = id;
-        Ok(Some(Reported::Fields { id, end }))
+        Ok(Some(Event::Fields { id, list: (), end }))
     }
 
     // rule: 6.9.2 A new stream has its initial windows
     // contract: 6.9.2 A new stream has its initial windows
-    /// A stream that is opened now, with these sides.
+    /// A new stream in this state.
     pub(crate) fn new_stream(&self, state: StreamState) -> Stream
         ensures { stream_view result
             ≡ new_stream (end_of self.now) state.ended_in state.ended_out }

@@ -14,14 +14,16 @@ ghost use Rattle.h2_core.specs.Items.{TakesItem};
 ghost use Rattle.h2_core.specs.Settings.{AppliesSettings, KnowsGreatest};
 
 use crate::endpoint::Endpoint;
-use crate::limits::{GREATEST, HEAD, MAX_OUTPUT};
-use crate::reader::{Reported, StepError};
+use crate::event::Event;
+use crate::settings_frame::add_settings;
+use crate::step_error::StepError;
 use h2_flow::Settings;
-use h2_frame::{Code, Pairs};
+use h2_frame::limits::{GREATEST_WINDOW, MAX_OUTPUT};
+use h2_frame::{Code, HEAD_LEN, Pairs};
 use h2_spec_log::Role;
 use hpack::Encoder;
 
-/// The most octets of header table that this end's encoder takes (own).
+/// The greatest dynamic table that this end's encoder uses, in octets (own).
 const MAX_ENCODER_TABLE: u32 = 4_096;
 
 impl Endpoint {
@@ -35,7 +37,7 @@ impl Endpoint {
     pub(crate) fn take_settings<'a>(
         &mut self,
         pairs: Pairs<'_>,
-    ) -> Result<Option<Reported<'a>>, StepError>
+    ) -> Result<Option<Event<(), &'a [u8]>>, StepError>
         requires sound { IsSoundEnd (end_of self.old) }
         requires up { self.old.failed ≡ None }
         ensures { TakesItem (end_of self.old) None
@@ -43,12 +45,12 @@ impl Endpoint {
             (end_of self.new) }
     {
         let settings = self.settings_after(pairs)?;
-        if self.output.len() + HEAD > MAX_OUTPUT {
+        if self.output.len() + HEAD_LEN > MAX_OUTPUT {
             return Err(StepError::fault(Code::EnhanceYourCalm));
         }
-        self.output.reserve(HEAD)?;
+        self.output.reserve(HEAD_LEN)?;
         limit_encoder(&mut self.encoder, pairs);
-        self.output.add_octets(&ACKNOWLEDGMENT);
+        add_settings(&mut self.output, true, &[]);
         self.streams.set_send_initial(settings.initial_window_size);
         self.peer = settings;
         self.started = true;
@@ -110,7 +112,9 @@ impl Endpoint {
     // rule: 6.5.3 An acknowledgment that is awaited is reported, others are ignored
     // rule: 6.9.3 Until a lower own window is acknowledged the one before it holds
     /// The acknowledgment of own SETTINGS: those that await it come into force (section 6.5.3).
-    pub(crate) fn take_acknowledgment<'a>(&mut self) -> Result<Option<Reported<'a>>, StepError>
+    pub(crate) fn take_acknowledgment<'a>(
+        &mut self,
+    ) -> Result<Option<Event<(), &'a [u8]>>, StepError>
         requires sound { IsSoundEnd (end_of self.old) }
         requires up { self.old.failed ≡ None }
         ensures { (pairs : List (ℕ × ℕ)) → TakesItem (end_of self.old) None
@@ -124,12 +128,9 @@ impl Endpoint {
         self.max_streams = config.max_streams();
         self.max_frame = config.max_frame();
         self.awaited = None;
-        Ok(Some(Reported::Acked))
+        Ok(Some(Event::Acked))
     }
 }
-
-/// The acknowledgment of SETTINGS (section 6.5).
-const ACKNOWLEDGMENT: [u8; HEAD] = [0, 0, 0, 4, 1, 0, 0, 0, 0];
 
 /// Each value 1, in order, sets the encoder's limit (RFC 7541, section 4.2).
 fn limit_encoder(encoder: &mut Encoder, pairs: Pairs<'_>)
@@ -148,7 +149,7 @@ fn is_above(greatest: Option<i64>, old: u32, new: u32) -> bool
     ensures { result ≡ is_above_by_shift old new greatest }
 {
     match greatest {
-        Some(window) => window > i64::from(GREATEST) + i64::from(old) - i64::from(new),
+        Some(window) => window > i64::from(GREATEST_WINDOW) + i64::from(old) - i64::from(new),
         None => false,
     }
 }

@@ -1,4 +1,4 @@
-//! WINDOW_UPDATE that is received (RFC 9113, section 6.9), and the faults that reset a stream.
+//! WINDOW_UPDATE that is received (RFC 9113, section 6.9), and stream errors (section 5.4.2).
 
 ghost use Rattle.std.specs.Prelude.{◌≡◌, ◌||◌, ◌+◌, ◌<◌, ◌^◌, nat_le, nat_lt, None, Some};
 ghost use Rattle.std.specs.Prelude.{◌≤◌};
@@ -13,10 +13,12 @@ ghost use Rattle.h2_core.specs.Items.{TakesItem};
 ghost use Rattle.h2_core.specs.Resets.{is_over_limits, ResetsForFault};
 
 use crate::endpoint::Endpoint;
-use crate::limits::{GREATEST, MAX_OUTPUT, MAX_RESETS, SMALL_FRAME};
-use crate::reader::{Reported, StepError};
+use crate::event::Event;
+use crate::sizes::SMALL_FRAME;
 use crate::status::Status;
+use crate::step_error::StepError;
 use h2_frame::Code;
+use h2_frame::limits::{GREATEST_WINDOW, MAX_OUTPUT, MAX_RESETS};
 use h2_streams::Stream;
 
 impl Endpoint {
@@ -29,7 +31,7 @@ impl Endpoint {
         &mut self,
         id: u32,
         increment: u32,
-    ) -> Result<Option<Reported<'a>>, StepError>
+    ) -> Result<Option<Event<(), &'a [u8]>>, StepError>
         requires sound { IsSoundEnd (end_of self.old) }
         requires up { self.old.failed ≡ None }
         requires number { id < 2 ^ 31 }
@@ -50,7 +52,10 @@ impl Endpoint {
     // rule: 6.9 An increment of 0 on the connection is PROTOCOL_ERROR
     // rule: 6.9.1 The connection's window above 2^31-1 is FLOW_CONTROL_ERROR
     /// No octets are a fault, and so is a window above 2<sup>31</sup> - 1.
-    fn widen_connection<'a>(&mut self, increment: u32) -> Result<Option<Reported<'a>>, StepError>
+    fn widen_connection<'a>(
+        &mut self,
+        increment: u32,
+    ) -> Result<Option<Event<(), &'a [u8]>>, StepError>
         requires sound { IsSoundEnd (end_of self.old) }
         requires up { self.old.failed ≡ None }
         requires increment { increment < 2 ^ 31 }
@@ -60,7 +65,7 @@ impl Endpoint {
         if increment == 0 {
             return Err(StepError::fault(Code::ProtocolError));
         }
-        if increment > GREATEST - self.send_window {
+        if increment > GREATEST_WINDOW - self.send_window {
             return Err(StepError::fault(Code::FlowControlError));
         }
         self.send_window += increment;
@@ -69,13 +74,13 @@ impl Endpoint {
 
     // rule: 6.9 An increment of 0 on a stream is a stream error PROTOCOL_ERROR
     // rule: 6.9.1 A stream's window above 2^31-1 is a stream error FLOW_CONTROL_ERROR
-    /// On an active stream both are faults of the stream.
+    /// On an active stream both are stream errors.
     fn widen_stream<'a>(
         &mut self,
         id: u32,
         increment: u32,
         stream: Stream,
-    ) -> Result<Option<Reported<'a>>, StepError>
+    ) -> Result<Option<Event<(), &'a [u8]>>, StepError>
         requires sound { IsSoundEnd (end_of self.old) }
         requires up { self.old.failed ≡ None }
         requires number { (1 ≤ id) × (id < 2 ^ 31) }
@@ -87,7 +92,7 @@ impl Endpoint {
         let window = stream.send_window + i64::from(increment);
         let code = if increment == 0 {
             Code::ProtocolError
-        } else if window > i64::from(GREATEST) {
+        } else if window > i64::from(GREATEST_WINDOW) {
             Code::FlowControlError
         } else {
             let mut changed = stream;
@@ -99,9 +104,9 @@ impl Endpoint {
     }
 
     // rule: 5.4 (own) Being out of memory hides no other fault of the connection
-    /// A fault of a stream: it is reset with the code, and what it owes is unreturned. An item at
-    /// fault has taken `flow` octets of the connection's window, which are unreturned too, and
-    /// opens the stream `opened`, or none (0).
+    /// A stream error: it is reset with the code, and what it owes is unreturned. An item at fault
+    /// has taken `flow` octets of the connection's window, which are unreturned too, and opens the
+    /// stream `opened`, or none (0).
     pub(crate) fn reset_for_fault<'a>(
         &mut self,
         id: u32,
@@ -109,7 +114,7 @@ impl Endpoint {
         code: Code,
         flow: u32,
         opened: u32,
-    ) -> Result<Option<Reported<'a>>, StepError>
+    ) -> Result<Option<Event<(), &'a [u8]>>, StepError>
         requires sound { IsSoundEnd (end_of self.old) }
         requires up { self.old.failed ≡ None }
         requires number { (1 ≤ id) × (id < 2 ^ 31) }
@@ -129,7 +134,7 @@ impl Endpoint {
             self.recv_window += flow;
             return Err(StepError::OutOfMemory);
         }
-        Ok(Some(Reported::Reset {
+        Ok(Some(Event::Reset {
             id,
             code,
             ours: true,
@@ -139,7 +144,7 @@ impl Endpoint {
     // rule: 10.5 (own) An end that resets 1,001 streams ends with ENHANCE_YOUR_CALM
     // rule: 10.5 (own) Replies above 262,144 waiting octets are ENHANCE_YOUR_CALM
     /// Whether a further RST_STREAM is more than this end sends: the 1,001st reset, or octets that
-    /// would bring the waiting output above its limit (own; section 10.5).
+    /// would bring the queued output above its limit (own; section 10.5).
     pub(crate) fn is_over_limits(&self) -> bool
         ensures { result ≡ is_over_limits (end_of self.now) }
     {

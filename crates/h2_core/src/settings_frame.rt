@@ -1,8 +1,7 @@
 //! Own SETTINGS (RFC 9113, section 6.5).
 
-ghost use Rattle.std.specs.Prelude.{◌≡◌, ◌≤◌, ◌<◌, ◌^◌, ◌+◌, ◌*◌, ◌++◌, [], ◌∷◌, length, false};
+ghost use Rattle.std.specs.Prelude.{◌≡◌, ◌≤◌, ◌+◌, ◌*◌, ◌++◌, length, false};
 ghost use Rattle.std.specs.Prelude.{OnOk, IfErr};
-ghost use Rattle.byteorder.specs.Endian.{big_bytes};
 ghost use Rattle.h2_frame.specs.Frames.{Settings};
 ghost use Rattle.h2_frame.specs.Encoding.{encoding_of, pair_octets};
 ghost use Rattle.h2_flow.specs.ConfigValues.{values_of};
@@ -12,9 +11,10 @@ ghost use Rattle.h2_core.specs.Endpoint.{end_of, IsSoundEnd};
 ghost use Rattle.h2_core.specs.Calls.{CallRefused, CallAccepted};
 
 use crate::endpoint::Endpoint;
-use crate::limits::{HEAD, LEAST_FRAME, MAX_LIST};
 use byteorder::{BigEndian, ByteOrder};
 use h2_flow::Config;
+use h2_frame::limits::{LEAST_MAX_FRAME, MAX_LIST};
+use h2_frame::{Head, Kind};
 use h2_output::Output;
 use h2_spec_log::{Refusal, Role};
 
@@ -27,8 +27,8 @@ const MAX_SETTINGS: usize = 33;
 // rule: 3.4 Both ends begin with SETTINGS
 // rule: 6.5.2 A client sends ENABLE_PUSH 0, and a server sends no ENABLE_PUSH
 // rule: 6.5.2 (own) MAX_FRAME_SIZE is sent where it differs from the value sent last
-/// Adds an end's first SETTINGS, for which there is room: a client says that it takes no push, both
-/// say how large a list may be. It takes no memory.
+/// Adds an end's first SETTINGS, for which there is room: a client disables push, both limit the
+/// size of a field list. It takes no memory.
 pub(crate) fn add_opening_settings(output: &mut Output, role: Role, config: Config)
     requires up { output.old.ended ≡ false }
     requires room { 39 ≤ output.old.spare }
@@ -44,38 +44,34 @@ pub(crate) fn add_opening_settings(output: &mut Output, role: Role, config: Conf
     let window = (4, config.initial_window());
     let frame = (5, config.max_frame());
     let list = (6, MAX_LIST);
-    if config.max_frame() == LEAST_FRAME {
-        add_settings(output, &[limit, second, window, list]);
+    if config.max_frame() == LEAST_MAX_FRAME {
+        add_settings(output, false, &[limit, second, window, list]);
     } else {
-        add_settings(output, &[limit, second, window, frame, list]);
+        add_settings(output, false, &[limit, second, window, frame, list]);
     }
 }
 
 // rule: 3.4 Both ends begin with SETTINGS
-/// Adds own SETTINGS with these pairs, for which there is room. It takes no memory.
-fn add_settings(output: &mut Output, pairs: &[(u16, u32)])
+/// Adds SETTINGS with these pairs, or with ACK and none, for which there is room. It takes no
+/// memory.
+pub(crate) fn add_settings(output: &mut Output, ack: bool, pairs: &[(u16, u32)])
     requires up { output.old.ended ≡ false }
     requires few { length pairs.now ≤ 5 }
     requires room { 9 + 6 * length pairs.now ≤ output.old.spare }
     ensures waiting { output.new.waiting
-        ≡ output.old.waiting ++ encoding_of (Settings false pairs.now) }
+        ≡ output.old.waiting ++ encoding_of (Settings ack pairs.now) }
     ensures ended { output.new.ended ≡ false }
 {
-    output.add_octets(&settings_head((PAIR * pairs.len()) as u32));
+    let head = Head {
+        length: (PAIR * pairs.len()) as u32,
+        kind: Kind::Settings,
+        flags: u8::from(ack),
+        stream: 0,
+    };
+    output.add_octets(&head.octets());
     for pair in pairs {
         output.add_octets(&pair_octets(*pair));
     }
-}
-
-/// The head of SETTINGS with so many octets of pairs (sections 4.1 and 6.5).
-fn settings_head(length: u32) -> [u8; HEAD]
-    requires { length < 2 ^ 24 }
-    ensures { result ≡ big_bytes 3 length ++ (4 ∷ 0 ∷ 0 ∷ 0 ∷ 0 ∷ 0 ∷ []) }
-{
-    let mut head = [0; HEAD];
-    BigEndian::write_u24(&mut head, length);
-    head[3] = 4;
-    head
 }
 
 /// The octets of a pair: 16 bits of identifier and 32 of value (section 6.5.1).
@@ -97,8 +93,9 @@ impl Endpoint {
     ///
     /// # Errors
     ///
-    /// C1, C7, C13 where own SETTINGS, the first included, await their acknowledgment, and C12, in
-    /// this order. Nothing has changed.
+    /// [`Refusal::Closed`] (C1), [`Refusal::OutputFull`] (C7), [`Refusal::SettingsWait`] (C13)
+    /// where own SETTINGS, the first included, await their acknowledgment, and
+    /// [`Refusal::Memory`] (C12), in this order. Nothing has changed.
     pub fn change_settings(&mut self, config: Config) -> Result<(), Refusal>
         ensures ok { OnOk result (CallAccepted (end_of self.old)
             (ChangeSettings (values_of config)) (end_of self.new)) }
@@ -135,9 +132,9 @@ fn add_changed_settings(output: &mut Output, role: Role, written: u32, config: C
     let window = (4, config.initial_window());
     let frame = (5, config.max_frame());
     match (role, config.max_frame() == written) {
-        (Role::Client, true) => add_settings(output, &[limit, window]),
-        (Role::Client, false) => add_settings(output, &[limit, window, frame]),
-        (Role::Server, true) => add_settings(output, &[limit, streams, window]),
-        (Role::Server, false) => add_settings(output, &[limit, streams, window, frame]),
+        (Role::Client, true) => add_settings(output, false, &[limit, window]),
+        (Role::Client, false) => add_settings(output, false, &[limit, window, frame]),
+        (Role::Server, true) => add_settings(output, false, &[limit, streams, window]),
+        (Role::Server, false) => add_settings(output, false, &[limit, streams, window, frame]),
     }
 }

@@ -1,4 +1,4 @@
-//! What becomes of a stream: it is changed, over, or reset (RFC 9113, section 5.1).
+//! Steps on a stream: it is changed, over, or reset (RFC 9113, section 5.1).
 
 ghost use Rattle.std.specs.Prelude.{◌≡◌, ◌≢◌, ◌+◌, ◌≤◌, ◌<◌, ◌^◌, [], ◌∷◌};
 ghost use Rattle.std.specs.Prelude.{None, Some, OnOk, OnErr, true, length};
@@ -14,8 +14,9 @@ ghost use Rattle.h2_core.specs.Endpoint.{end_of};
 ghost use Rattle.h2_core.specs.Streams.{IsNear, WindowHolds, both_ended, owed_by};
 
 use crate::endpoint::Endpoint;
-use crate::limits::{FULL_OUTPUT, SMALL_FRAME};
+use crate::sizes::SMALL_FRAME;
 use h2_frame::FrameRef;
+use h2_frame::limits::FULL_OUTPUT;
 use h2_output::Output;
 use h2_streams::Stream;
 use std::alloc::AllocError;
@@ -63,8 +64,8 @@ impl Endpoint {
 
     // rule: 5.4.2 A stream error is answered by RST_STREAM with its code, and reported
     // rule: 5.4.2 RST_STREAM is not answered by RST_STREAM, nor sent twice
-    /// A number is reset: RST_STREAM joins the output, what an active stream with it owes, and so
-    /// much more, is unreturned.
+    /// A number is reset: RST_STREAM joins the output, and what an active stream with it owes, and
+    /// `more` octets, are unreturned.
     ///
     /// # Errors
     ///
@@ -122,8 +123,8 @@ pub(crate) fn reserve_if_over(output: &mut Output, stream: Stream) -> Result<(),
 }
 
 // rule: 5.4 (own) Only blocks, replies, resets and returned credit take memory
-/// Makes room for a WINDOW_UPDATE where so many octets more of the connection's window are returned
-/// at once.
+/// Makes room for a WINDOW_UPDATE where `more` octets of the connection's window are returned at
+/// once.
 ///
 /// # Errors
 ///

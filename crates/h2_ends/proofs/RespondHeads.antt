@@ -1,14 +1,17 @@
 -- What `respond` may answer, by what an end keeps of the stream.
-use Rattle.h2_ends.proofs.Names.{◌≡◌, ◌≢◌, ◌⊎◌, ℕ, true, false, Some, None, refl, ◌∙◌, inl, inr}
+use Rattle.h2_ends.proofs.Names.{◌≡◌, ◌≢◌, ◌⊎◌, ℕ, true, false, Some, None, refl, sym, ◌∙◌, inl}
 use Rattle.h2_ends.proofs.Names.{both_ways, Refusal, Client, Server, Values, SendFields, Done}
 use Rattle.h2_ends.proofs.Names.{is_too_large, active, MayAnswer, IsOver, Malformed, SentMessage}
 use Rattle.h2_ends.proofs.Names.{trailer_fields, broken_by_response, End, Outgoing, Stream, EndLog}
 use Rattle.h2_ends.proofs.Names.{message_for, end_with_message, IsAsked, is_head_alone}
-use Rattle.h2_ends.proofs.Names.{RefusesMessage, IsUnchanged, EndRepresents, IsStream, kept_at}
+use Rattle.h2_ends.proofs.Names.{RefusesMessage, IsUnchanged, EndRepresents, IsStream, kept_at, inr}
 use Rattle.h2_ends.specs.EndCalls.{MayRespond, IsNotAsked, broken_by_answer}
 use Rattle.h2_ends.specs.Represents.{IsKept, IsOutgoing}
 use Rattle.std.specs.Prelude.{Ok, Err}
+use denote.Enum.Bare.{sameb}
+use Rattle.h2_spec_log.specs.contracts.role.Role.{the_type}
 use Rattle.h2_ends.proofs.RequestHeads.{server_reads}
+use Rattle.h2_ends.proofs.RequestSends.{is_server_by}
 use Rattle.h2_ends.specs.declared.outgoing.Outgoing.TheVariants as outgoings
 use Rattle.h2_ends.specs.declared.refusal.EndRefusal.TheVariants as refusals
 
@@ -25,13 +28,6 @@ pub client_asked : (end : EndLog) (id : ℕ) (message : SentMessage) → end.log
 unfolding IsNotAsked MayRespond
 client_asked end id message client = (inr (inr client), refl)
 
--- What is kept is kept of an active stream.
-pub active_stream : (values : Values) (old : End) (end : EndLog) (id : ℕ) (stream : Stream)
-    → Some stream ≡ kept_at id old.streams.entries → EndRepresents values old end
-    → active end.log id ≡ true
-active_stream values old end id stream was is =
-    is.active id (λ none. let wrong = was ∙ none in cc)
-
 -- What is kept of a stream that is active at a server.
 kept_stream : (end : EndLog) (id : ℕ) (stream : Stream) → active end.log id ≡ true
     → IsOver end.log id ⊎ IsKept end id (Some stream) → IsStream end id stream
@@ -39,11 +35,14 @@ unfolding IsKept
 kept_stream end id stream alive (inl past) = absurd (both_ways _ past.not_active alive)
 kept_stream end id stream alive (inr kept) = kept
 
-pub asked_stream : (end : EndLog) (id : ℕ) (stream : Stream) → active end.log id ≡ true
-    → end.log.role ≡ Server → IsOver end.log id ⊎ IsKept end id (Some stream)
-    → IsAsked end id × IsStream end id stream
-asked_stream end id stream alive server is =
-    let kept = kept_stream end id stream alive is in
+-- What is kept is kept of an active stream, on which a request was handed out.
+pub asked_here : (values : Values) (now : End) (end : EndLog) (id : ℕ) (stream : Stream)
+    → Some stream ≡ kept_at id now.streams.entries → EndRepresents values now end
+    → sameb the_type now.role Client ≡ false → IsAsked end id × IsStream end id stream
+asked_here values now end id stream was is other =
+    let alive = is.active id (λ none. let wrong = was ∙ none in cc) in
+    let kept = kept_stream end id stream alive (rw (← was) at (is.streams.streams id)) in
+    let server = sym is.streams.role ∙ is_server_by now.role other in
     (record { active = alive; handed = kept.asked server; server = server }, kept)
 
 -- E4, where a message is kept of it.

@@ -2,7 +2,7 @@
 use Rattle.h2_ends.proofs.Names.{◌≡◌, inl, inr, ℕ, ◌+◌, ◌<◌, ◌≤◌, ◌^◌, Bool, true, false, List}
 use Rattle.h2_ends.proofs.Names.{length, take, drop, length-drop, ◌-◌, Vec, Global, Option, Some}
 use Rattle.h2_ends.proofs.Names.{None, min, refl, sym, ap, ◌∙◌, subst, arith, take-length}
-use Rattle.h2_ends.proofs.Names.{AllByRecursion, Field, AreOctets, Role, Refusal, Values, Act}
+use Rattle.h2_ends.proofs.Names.{AllByRecursion, Field, Role, Refusal, Values, Act}
 use Rattle.h2_ends.proofs.Names.{Answer, SendFields, SendData, Count, Done, Refused, Conn}
 use Rattle.h2_ends.proofs.Names.{ConnAnswers, Stream, Waiting, Spans, Sent, Stuck, SendState}
 use Rattle.h2_ends.proofs.Names.{EndLog, end_after_call, IsStopped, Sends}
@@ -64,11 +64,6 @@ pub typed_data : (id : ℕ) (octets : List ℕ) (end : Bool) → id < 2 ^ 32
     → AllByRecursion IsOctet octets → IsTypedAct (SendData id octets end)
 unfolding IsTypedAct
 typed_data id octets end low are = (low, are)
-
-pub typed_fields : (id : ℕ) (checked fields : List Field) (end : Bool) → id < 2 ^ 32
-    → checked ≡ fields → AreOctets checked → IsTypedAct (SendFields id fields end)
-unfolding IsTypedAct
-typed_fields id checked fields end low same are = (low, subst AreOctets same are)
 
 module _ (values : Values) (start : EndLog) (role : Role) (spans : Spans)
     (keeps : ℕ → Option Stream) (id : ℕ) (stream : Stream) (sum : ℕ) (now : Conn) (after : EndLog)

@@ -1,27 +1,24 @@
 -- What an end hands out of what its connection has reported.
 use Rattle.h2_ends.proofs.Names.{◌≡◌, ℕ, Bool, true, false, List, [], Some, None, refl, sym, ap}
-use Rattle.h2_ends.proofs.Names.{◌∙◌, both_ways, eq-eqb, Field, Frame, InternalError, Server}
-use Rattle.h2_ends.proofs.Names.{Values, Answer, Refuse, Event, FieldsEvent, DataEvent, ResetEvent}
-use Rattle.h2_ends.proofs.Names.{Log, MayAnswer, with_call, MayTake, Took, fields_in_use}
-use Rattle.h2_ends.proofs.Names.{data_in_use, log_after_take, Place, Part, FieldsPart, OctetsPart}
-use Rattle.h2_ends.proofs.Names.{End, EndLog, Handed, BodyHanded, Passed, EndAnswer, EndTook}
-use Rattle.h2_ends.proofs.Names.{EndFailed, parts_on, handed_at, EndMayTake, IsReadableWith}
-use Rattle.h2_ends.proofs.Names.{end_with_log, end_with_handed, passes, hands_out, refusal_fails}
-use Rattle.h2_ends.proofs.Names.{Span, EndRepresents, InSpan, IsReadOn, MustRefuse, HasReported}
+use Rattle.h2_ends.proofs.Names.{◌∙◌, both_ways, eq-eqb, Field, InternalError, Server, Values}
+use Rattle.h2_ends.proofs.Names.{Answer, Refuse, Event, FieldsEvent, DataEvent, ResetEvent, Log}
+use Rattle.h2_ends.proofs.Names.{MayAnswer, with_call, MayTake, Took, fields_in_use, data_in_use}
+use Rattle.h2_ends.proofs.Names.{log_after_take, Place, Part, FieldsPart, OctetsPart, End, EndLog}
+use Rattle.h2_ends.proofs.Names.{Handed, BodyHanded, Passed, EndAnswer, EndTook, EndFailed}
+use Rattle.h2_ends.proofs.Names.{parts_on, EndMayTake, IsReadableWith, end_with_log}
+use Rattle.h2_ends.proofs.Names.{end_with_handed, passes, hands_out, refusal_fails, Span}
+use Rattle.h2_ends.proofs.Names.{EndRepresents, InSpan, IsReadOn, MustRefuse, HasReported}
 use Rattle.h2_ends.proofs.Names.{code_unread}
 use Rattle.h2_laws_pair.specs.Tokens.{tokens_of_event}
-use Rattle.h2_ends.specs.Ends.{reads_on, handed_as, part_of_event, tokens_of_part}
-use Rattle.h2_ends.specs.Loans.{BodyLiesIn}
+use Rattle.h2_ends.specs.Ends.{reads_on, handed_as, handed_at, part_of_event, tokens_of_part}
+use Rattle.h2_ends.specs.Loans.{BodyLiesIn, handed_value, located_at}
 use Rattle.h2_ends.specs.Taking.{ReadsFields, ReadsData, AnswersRefusal, IsRead, IsResetBy}
 use Rattle.h2_ends.specs.Taking.{answer_of_report}
 use Rattle.h2_laws_end.specs.Activity.{take_has_fields, take_has_data, take_may_close}
 use Rattle.h2_laws_end.specs.Activity.{event_may_close}
 use Rattle.std.proofs.Common.{Ok, Err, Result, IfOk}
-use Rattle.h2_frame.specs.Frames.{Encodes}
-use Rattle.h2_frame.proofs.FrameLemmas.{one_frame_lem}
-use Rattle.h2_conn.specs.Loans.{octets_of_body}
-use Rattle.h2_conn.specs.declared.event.ConnFault.{ConnFault}
-use Rattle.h2_ends.specs.declared.taking.HandedOut.{HandedOut}
+use Rattle.h2_conn.specs.declared.taken.ConnFault.{ConnFault}
+use Rattle.h2_ends.specs.EndEvents.{LocatedPart}
 use Rattle.h2_ends.specs.declared.taking.Unread.{Unread}
 use Rattle.h2_ends.specs.EndTakes.{refuses, runs_out_of_memory}
 use Rattle.h2_laws_pair.proofs.StepUnprocessed.{role_by_take as take_role}
@@ -31,6 +28,7 @@ use Rattle.h2_ends.proofs.TakeInStep.{differs, passed_over, read_on, reported_wi
 use Rattle.h2_ends.proofs.TakeRefusing.{memory_fails}
 use Rattle.h2_laws_end.proofs.ActivityOpened.{active_by_fields}
 use Rattle.h2_ends.specs.declared.taking.Unread.TheVariants as unreads
+use Rattle.h2_message.specs.declared.reading.Place.TheVariants as places
 
 -- The end may answer so, and represents what has happened then.
 abbrev pub Hands : Values → EndLog → List ℕ → EndAnswer → End → Type 0
@@ -129,7 +127,7 @@ up_after log after piece count event may =
 -- One of a part that can't be read is refused.
 pub part_refused : (values : Values) (now new : End) (end : EndLog) (piece : List ℕ) (count : ℕ)
     (event : Event) (log : Log) (id : ℕ) (part : Part × Bool) (list : List Field)
-    (octets : List ℕ) (one : Answer) (result : Result HandedOut ConnFault)
+    (octets : List ℕ) (one : Answer) (result : Result LocatedPart ConnFault)
     → HasReported values now end piece count event log → part_of_event event ≡ Some (id, part)
     → (IsReadableWith (end_with_log end log) id part → ⊥) → MayAnswer log (Refuse id 1) one
     → AnswersRefusal values
@@ -161,7 +159,7 @@ part_refused values now new end piece count event log id part list octets one (E
 -- Where memory was refused to the first field block at a server, the connection has failed.
 pub part_lacks : (values : Values) (now new : End) (end : EndLog) (piece : List ℕ)
     (count id : ℕ) (list : List Field) (last : Bool) (log : Log) (fields : List Field)
-    (octets : List ℕ) (one : Answer) (result : Result HandedOut ConnFault)
+    (octets : List ℕ) (one : Answer) (result : Result LocatedPart ConnFault)
     → HasReported values now end piece count (FieldsEvent id list last) log
     → IsReadableWith (end_with_log end log) id (FieldsPart list, last) → log.role ≡ Server
     → parts_on id end.handed ≡ [] → MayAnswer log (Refuse id 2) one
@@ -199,23 +197,41 @@ event_passed values now new end piece count event log reported none is = (
   passed_over values new (end_with_log end log) event is,
 )
 
+-- A part at its place is handed out with the fields that are kept, and no octets lie there.
+handed_located : (place : Place) (id : ℕ) (list : List Field) (last : Bool) (octets : List ℕ)
+    → handed_value list octets (located_at place id last) ≡ handed_at place id list last
+unfolding handed_at
+handed_located places.Interim id list last octets = refl
+handed_located places.Head id list last octets = refl
+handed_located places.Trailers id list last octets = refl
+
+pub part_lies : (end : End) (piece : List ℕ) (place : Place) (id : ℕ) (last : Bool)
+    → BodyLiesIn end piece (Some (located_at place id last))
+unfolding BodyLiesIn
+part_lies end piece places.Interim id last = tt
+part_lies end piece places.Head id last = tt
+part_lies end piece places.Trailers id last = tt
+
 -- A field block that was read.
 pub fields_handed : (values : Values) (now new : End) (end : EndLog) (piece : List ℕ)
     (count id : ℕ) (list : List Field) (last : Bool) (place : Place) (log : Log)
     → HasReported values now end piece count (FieldsEvent id list last) log
     → ReadsFields values (end_with_log end log) id list last (Ok place) new
-    → (fields : List Field) → fields ≡ list
-    → Hands values end piece (EndTook count (Some (handed_at place id fields last))) new
+    → (fields : List Field) (octets : List ℕ) → fields ≡ list
+    → Hands values end piece
+    (EndTook count (Some (handed_value fields octets (located_at place id last)))) new
 unfolding ReadsFields handed_as part_of_event
-fields_handed values now new end piece count id list last place log reported read fields same =
+fields_handed values now new end piece count id list last place log reported read fields octets
+    same =
     part_handed values now new end piece count (FieldsEvent id list last) log id
-    (FieldsPart list, last) (handed_at place id fields last) reported refl read.0
-    (rw same (ap (λ (at : Place). handed_at at id list last) read.1))
+    (FieldsPart list, last) (handed_value fields octets (located_at place id last)) reported refl
+    read.0 (rw same (handed_located place id list last octets
+    ∙ ap (λ (at : Place). handed_at at id list last) read.1))
 
 -- One that wasn't is refused.
 pub fields_not_handed : (values : Values) (now mid new : End) (end : EndLog) (piece : List ℕ)
     (count id : ℕ) (list : List Field) (last : Bool) (unread : Unread) (log : Log)
-    (fields : List Field) (octets : List ℕ) (result : Result HandedOut ConnFault)
+    (fields : List Field) (octets : List ℕ) (result : Result LocatedPart ConnFault)
     → HasReported values now end piece count (FieldsEvent id list last) log
     → ReadsFields values (end_with_log end log) id list last (Err unread) mid
     → (MustRefuse values mid (end_with_log end log) id
@@ -251,7 +267,7 @@ data_handed values now new end piece count id octets flow last log reported read
 -- Those that weren't are refused.
 pub data_not_handed : (values : Values) (now mid new : End) (end : EndLog) (piece : List ℕ)
     (count id : ℕ) (body : List ℕ) (flow : ℕ) (last : Bool) (log : Log)
-    (fields : List Field) (octets : List ℕ) (result : Result HandedOut ConnFault)
+    (fields : List Field) (octets : List ℕ) (result : Result LocatedPart ConnFault)
     → HasReported values now end piece count (DataEvent id body flow last) log
     → ReadsData values (end_with_log end log) id body last false mid
     → (MustRefuse values mid (end_with_log end log) id
@@ -268,15 +284,8 @@ data_not_handed values now mid new end piece count id body flow last log fields 
     (OctetsPart body, last) fields octets made.0 result reported refl read.0 made.1 made.2 is
 
 -- Where a stream was reset nothing is lent.
-pub reset_lies : (end : End) (piece : List ℕ) (id code : ℕ) (result : Result HandedOut ConnFault)
+pub reset_lies : (end : End) (piece : List ℕ) (id code : ℕ) (result : Result LocatedPart ConnFault)
     → IsResetBy id code result → IfOk result (λ handed. BodyLiesIn end piece (Some handed))
 unfolding BodyLiesIn
 reset_lies end piece id code (Ok handed) is = rw is tt
 reset_lies end piece id code (Err fault) is = tt
-
--- The octets of a body are those of its frame, which is one.
-pub same_body : (bytes octets lent : List ℕ) (value other : Frame) → Encodes value bytes
-    → Encodes other bytes → octets ≡ octets_of_body value → lent ≡ octets_of_body other
-    → octets ≡ lent
-same_body bytes octets lent value other encodes again is lent_is =
-    is ∙ ap octets_of_body (one_frame_lem value other bytes encodes again) ∙ sym lent_is

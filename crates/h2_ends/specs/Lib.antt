@@ -2,6 +2,7 @@ pub mod EndCalls
 pub mod EndTakes
 pub mod Quiet
 pub mod Ends
+pub mod EndEvents
 pub mod Loans
 pub mod Represents
 pub mod Pumping

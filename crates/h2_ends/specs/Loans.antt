@@ -1,30 +1,27 @@
 -- What is handed out, before it is lent, and where the octets of a body lie.
-use Rattle.std.specs.Prelude.{◌≡◌, ℕ, List, Option, Some, Result, Ok, Err, option_map}
+use Rattle.std.specs.Prelude.{◌≡◌, ℕ, Bool, List, Option, Some, Result, Ok, Err, IsSome}
+use Rattle.std.specs.Prelude.{option_map}
 use Rattle.hpack.specs.declared.types.field.Field.{Field}
-use Rattle.h2_frame.specs.Frames.{Frame, Encodes}
-use Rattle.h2_wire.specs.Cutter.{HasFrame, octets_of}
-use Rattle.h2_spec_log.specs.Events as log
-use Rattle.h2_conn.specs.declared.event.ConnFault.{ConnFault}
-use Rattle.h2_conn.specs.Loans.{octets_of_body}
+use Rattle.h2_wire.specs.Cutter.{body_at}
+use Rattle.h2_conn.specs.declared.taken.ConnFault.{ConnFault}
+use Rattle.h2_message.specs.declared.reading.Place.{Place}
+use Rattle.h2_message.specs.declared.reading.Place.TheVariants as places
 use Rattle.h2_ends.specs.declared.end.End.{End}
-use Rattle.h2_ends.specs.declared.taking.HandedOut.{HandedOut}
-use Rattle.h2_ends.specs.declared.taking.HandedOut.TheVariants as parts
 use Rattle.h2_ends.specs.declared.taking.EndProgress.{EndProgress}
-use Rattle.h2_ends.specs.declared.event.EndEvent.{EndEvent}
 use Rattle.h2_ends.specs.declared.event.EndEvent.TheVariants as events
 use Rattle.h2_ends.specs.declared.event.EndTaken.{EndTaken}
-use Rattle.h2_ends.specs.Ends.{Handed, InterimHanded, HeadHanded, BodyHanded, TrailersHanded}
-use Rattle.h2_ends.specs.Ends.{Passed, handed_at, EndAnswer, EndTook, EndFailed}
+use Rattle.h2_ends.specs.Ends.{Handed, EndAnswer, EndTook, EndFailed}
+use Rattle.h2_ends.specs.EndEvents.{end_event_value, LentPart, LocatedPart}
+
+-- a part of a message at this place, whose fields are kept
+abbrev pub located_at : Place → ℕ → (end : Bool) → LocatedPart
+located_at places.Interim id end = events.Interim id tt
+located_at places.Head id end = events.Head id tt end
+located_at places.Trailers id end = events.Trailers id tt
 
 -- what is handed out, with the fields that are kept and the octets of the body
-abbrev pub handed_value : List Field → List ℕ → HandedOut → Handed
-handed_value list octets (parts.Fields id place end) = handed_at place id list end
-handed_value list octets (parts.Body id frame end) = BodyHanded id octets end
-handed_value list octets (parts.Reset id code ours) = Passed (log.ResetEvent id code ours)
-handed_value list octets (parts.GoAway last code) = Passed (log.GoAwayEvent last code)
-handed_value list octets (parts.Unprocessed id) = Passed (log.UnprocessedEvent id)
-handed_value list octets parts.Acked = Passed log.AckedEvent
-handed_value list octets (parts.Pong pong) = Passed (log.PongEvent pong)
+abbrev pub handed_value : List Field → List ℕ → LocatedPart → Handed
+handed_value list octets handed = end_event_value (λ _. list) (λ _. octets) handed
 
 -- what a call answers before anything is lent
 abbrev pub answer_handed : List Field → List ℕ → Result EndProgress ConnFault → EndAnswer
@@ -33,36 +30,28 @@ answer_handed list octets (Ok progress) =
 answer_handed list octets (Err fault) = EndFailed fault.code
 
 -- an event, without where its fields and octets lie
-abbrev pub event_handed : EndEvent → Handed
-event_handed (events.Interim id list) = InterimHanded id list.now
-event_handed (events.Head id list end) = HeadHanded id list.now end
-event_handed (events.Body id bytes end) = BodyHanded id bytes.now end
-event_handed (events.Trailers id list) = TrailersHanded id list.now
-event_handed (events.Reset id code ours) = Passed (log.ResetEvent id code ours)
-event_handed (events.Unprocessed id) = Passed (log.UnprocessedEvent id)
-event_handed (events.GoAway last code) = Passed (log.GoAwayEvent last code)
-event_handed events.Acked = Passed log.AckedEvent
-event_handed (events.Pong octets) = Passed (log.PongEvent octets)
+abbrev pub event_handed : LentPart → Handed
+event_handed event = end_event_value (λ fields. fields.now) (λ octets. octets.now) event
 
 -- what a call answers
 abbrev pub answer_of_taken : Result EndTaken ConnFault → EndAnswer
 answer_of_taken (Ok taken) = EndTook taken.used (option_map event_handed taken.event)
 answer_of_taken (Err fault) = EndFailed fault.code
 
--- The frame of a body that is handed out lies in the connection or the piece.
-unfoldable pub BodyLiesIn : End → List ℕ → Option HandedOut → Type 0
-BodyLiesIn end piece (Some (parts.Body id frame ends)) = HasFrame end.conn.inner.cutter piece frame
+-- The octets of a body that is handed out lie in the connection or the piece.
+unfoldable pub BodyLiesIn : End → List ℕ → Option LocatedPart → Type 0
+BodyLiesIn end piece (Some (events.Body id frame ends)) =
+    IsSome (body_at end.conn.inner.cutter piece frame)
 BodyLiesIn end piece _ = Unit {0}
 
 unfoldable pub BodyLiesThere : End → List ℕ → Result EndProgress ConnFault → Type 0
 BodyLiesThere end piece (Ok progress) = BodyLiesIn end piece progress.handed
 BodyLiesThere end piece (Err fault) = Unit {0}
 
--- The octets of a body that is handed out are those of the frame that lies there.
-unfoldable pub IsBodyIn : End → List ℕ → List ℕ → Option HandedOut → Type 0
-IsBodyIn end piece octets (Some (parts.Body id frame ends)) =
-    (value : Frame) × Encodes value (octets_of end.conn.inner.cutter piece frame)
-    × (octets ≡ octets_of_body value)
+-- The octets of a body that is handed out are those that lie there.
+unfoldable pub IsBodyIn : End → List ℕ → List ℕ → Option LocatedPart → Type 0
+IsBodyIn end piece octets (Some (events.Body id frame ends)) =
+    body_at end.conn.inner.cutter piece frame ≡ Some octets
 IsBodyIn end piece octets _ = Unit {0}
 
 unfoldable pub IsBodyHanded : End → List ℕ → List ℕ → Result EndProgress ConnFault → Type 0

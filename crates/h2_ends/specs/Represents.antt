@@ -31,7 +31,7 @@ use Rattle.h2_ends.specs.declared.outgoing.Stream.{Stream}
 use Rattle.h2_ends.specs.declared.span.Span.{Span}
 use Rattle.h2_ends.specs.declared.span.Spans.{Spans}
 use Rattle.h2_ends.specs.declared.taking.EndProgress.{EndProgress}
-use Rattle.h2_conn.specs.declared.event.ConnFault.{ConnFault}
+use Rattle.h2_conn.specs.declared.taken.ConnFault.{ConnFault}
 use Rattle.h2_ends.specs.Ends.{EndLog, message_for, parts_on, reads_on, tokens_said, tokens_out}
 use Rattle.h2_ends.specs.Ends.{tokens_handed}
 use Rattle.h2_ends.specs.EndTakes.{EndMayTake, end_with_log}

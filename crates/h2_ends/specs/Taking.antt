@@ -1,10 +1,9 @@
 -- How a part of a message is read, and how a stream is refused, at an end whose connection has
 -- taken octets.
 use Rattle.std.specs.Prelude.{◌≡◌, ◌≢◌, ◌⊎◌, ◌++◌, ℕ, Bool, true, false, List, [], Some, None}
-use Rattle.std.specs.Prelude.{IfSome, IfOk, Result, Ok, Err}
+use Rattle.std.specs.Prelude.{IfSome, IsSome, IfOk, Result, Ok, Err}
 use Rattle.hpack.specs.declared.types.field.Field.{Field}
-use Rattle.h2_frame.specs.Frames.{Frame, Encodes}
-use Rattle.h2_wire.specs.Cutter.{HasFrame, octets_of}
+use Rattle.h2_wire.specs.Cutter.{body_at}
 use Rattle.h2_spec_log.specs.declared.role.Role.{Role}
 use Rattle.h2_spec_log.specs.declared.role.Role.TheVariants.{Server}
 use Rattle.h2_spec_log.specs.Acts.{Values}
@@ -13,21 +12,20 @@ use Rattle.h2_spec_log.specs.Histories.{IsLog}
 use Rattle.h2_spec_log.specs.Log.{Log, active}
 use Rattle.h2_laws_end.specs.Over.{IsOver, is_number_used}
 use Rattle.h2_laws_end.specs.Takes.{MayTake, Took}
-use Rattle.h2_conn.specs.declared.event.ConnFault.{ConnFault}
-use Rattle.h2_conn.specs.declared.happened.Happened.{Happened}
-use Rattle.h2_conn.specs.Events.{happened_value}
-use Rattle.h2_conn.specs.Loans.{frame_in, octets_of_body}
+use Rattle.h2_conn.specs.declared.taken.ConnFault.{ConnFault}
+use Rattle.h2_conn.specs.Events.{LocatedEvent, happened_value}
+use Rattle.h2_conn.specs.Loans.{frame_in}
 use Rattle.h2_message.specs.declared.reading.Place.{Place}
 use Rattle.h2_message.specs.Reading.{Part, FieldsPart, OctetsPart}
 use Rattle.h2_message.specs.Phases.{place_after}
 use Rattle.h2_laws_pair.specs.Tokens.{tokens_heard, IsPrefixOfTokens}
 use Rattle.h2_ends.specs.declared.end.End.{End}
-use Rattle.h2_ends.specs.declared.taking.HandedOut.{HandedOut}
-use Rattle.h2_ends.specs.declared.taking.HandedOut.TheVariants as parts
+use Rattle.h2_ends.specs.declared.event.EndEvent.TheVariants as events
 use Rattle.h2_ends.specs.declared.taking.Unread.{Unread}
 use Rattle.h2_ends.specs.declared.taking.Unread.TheVariants as unreads
 use Rattle.h2_ends.specs.Ends.{EndLog, EndAnswer, EndTook, EndFailed, parts_on, reads_on, handed_as}
 use Rattle.h2_ends.specs.EndTakes.{EndMayTake, IsReadableWith, end_with_log, end_with_handed}
+use Rattle.h2_ends.specs.EndEvents.{LocatedPart}
 use Rattle.h2_ends.specs.Loans.{handed_value}
 use Rattle.h2_ends.specs.Ends.{tokens_handed, tokens_of_part}
 use Rattle.h2_ends.specs.Represents.{RepresentsMessages, EndRepresents, IsKept, kept_at, IsInStep}
@@ -105,15 +103,15 @@ code_unread unreads.Malformed = 1
 code_unread unreads.OutOfMemory = 2
 
 -- Once the connection was asked to refuse a stream, it is answered whether it has failed.
-unfoldable pub AnswersRefusal : Values → EndLog → Result HandedOut ConnFault → End → Type 0
+unfoldable pub AnswersRefusal : Values → EndLog → Result LocatedPart ConnFault → End → Type 0
 AnswersRefusal values happened (Ok handed) new =
     (happened.log.failed ≡ None) × EndRepresents values new happened
 AnswersRefusal values happened (Err fault) new =
     (happened.log.failed ≡ Some fault.code) × EndRepresents values new happened
 
 -- If it hasn't, that this end has reset the stream.
-abbrev pub IsResetBy : (id code : ℕ) → Result HandedOut ConnFault → Type 0
-IsResetBy id code result = IfOk result (λ handed. handed ≡ parts.Reset id code true)
+abbrev pub IsResetBy : (id code : ℕ) → Result LocatedPart ConnFault → Type 0
+IsResetBy id code result = IfOk result (λ handed. handed ≡ events.Reset id code true)
 
 -- The connection has taken octets and reports this event; of the streams is kept what was, in step
 -- with what had happened before.
@@ -128,25 +126,25 @@ pub record HasReported (values : Values) (now : End) (end : EndLog) (piece : Lis
   pub active : (i : ℕ) → KeepsActive end.log (kept_at i now.streams.entries) i
 
 -- what is answered of a report
-abbrev pub answer_of_report : List Field → List ℕ → ℕ → Result HandedOut ConnFault → EndAnswer
+abbrev pub answer_of_report : List Field → List ℕ → ℕ → Result LocatedPart ConnFault → EndAnswer
 answer_of_report list octets count (Ok handed) =
     EndTook count (Some (handed_value list octets handed))
 answer_of_report list octets count (Err fault) = EndFailed fault.code
 
--- The frame of a body that is reported lies in the connection or the piece.
-abbrev pub LiesHere : End → List ℕ → Happened → Type 0
+-- The octets of a body that is reported lie in the connection or the piece.
+abbrev pub LiesHere : End → List ℕ → LocatedEvent → Type 0
 LiesHere end piece happened =
-    IfSome (frame_in (Some happened)) (HasFrame end.conn.inner.cutter piece)
+    IfSome (frame_in (Some happened)) (λ frame. IsSome (body_at end.conn.inner.cutter piece frame))
 
--- The octets of a body that is reported are those of the frame that lies there.
-abbrev pub IsBodyHere : End → List ℕ → List ℕ → Happened → Type 0
+-- The octets of a body that is reported are those that lie there.
+abbrev pub IsBodyHere : End → List ℕ → List ℕ → LocatedEvent → Type 0
 IsBodyHere end piece octets happened =
     IfSome (frame_in (Some happened))
-    (λ frame. (value : Frame) × Encodes value (octets_of end.conn.inner.cutter piece frame)
-    × (octets ≡ octets_of_body value))
+    (λ frame. body_at end.conn.inner.cutter piece frame ≡ Some octets)
 
 -- Of what is reported, with the octets of its body, the end makes an answer of `take`.
-abbrev pub EndHands : End → List ℕ → Happened → (octets : List ℕ) → Result HandedOut ConnFault
+abbrev pub EndHands : End → List ℕ → LocatedEvent → (octets : List ℕ)
+    → Result LocatedPart ConnFault
     → End → Type 0
 EndHands old piece happened octets result new =
     (body : List ℕ) × IsBodyHere old piece body happened

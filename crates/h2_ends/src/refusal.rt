@@ -1,11 +1,14 @@
 //! Why a call of a client or a server is refused.
 
+ghost use Rattle.std.specs.Prelude.{◌≡◌};
+
 use h2_message::Malformed;
 use h2_spec_log::Refusal;
 use thiserror::Error;
 
-/// Why a call was refused. E3 and E4 come first, then E1, then E2. Nothing has changed, unless the
-/// call says otherwise.
+/// Why a call was refused. [`EndRefusal::NotAsked`] (E3) and [`EndRefusal::Answered`] (E4) come
+/// first, then [`EndRefusal::BadMessage`] (E1), then [`EndRefusal::Conn`] (E2). Nothing has
+/// changed, unless the call says otherwise.
 #[derive(Clone, Copy, Debug, PartialEq, Eq, Hash, Error)]
 pub enum EndRefusal {
     /// E1: the message breaks a rule, this one first.
@@ -20,4 +23,14 @@ pub enum EndRefusal {
     /// E4: a response was given for the stream already.
     #[error("E4 Answered: the request has its answer already")]
     Answered,
+}
+
+impl From<Refusal> for EndRefusal {
+    ghost use Rattle.h2_ends.specs.declared.refusal.EndRefusal.TheVariants.{Conn};
+
+    ghost from_gives = { λ refusal made. made ≡ Conn refusal };
+
+    fn from(refusal: Refusal) -> EndRefusal {
+        EndRefusal::Conn(refusal)
+    }
 }

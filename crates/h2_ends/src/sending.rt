@@ -18,7 +18,6 @@ use crate::end::End;
 use crate::outgoing::{Outgoing, Stream, Waiting};
 use crate::refusal::EndRefusal;
 use crate::span::Span;
-use crate::typed::{check_fields, check_octets};
 use h2_conn::{Conn, Refusal};
 use h2_message::{Message, Reading, Reads, asks_head, check_request, check_response};
 use h2_spec_log::Role;
@@ -53,7 +52,7 @@ impl End {
                 self.give(id, message);
                 Ok(id)
             }
-            Err(refusal) => Err((message, EndRefusal::Conn(refusal))),
+            Err(refusal) => Err((message, refusal.into())),
         }
     }
 
@@ -65,10 +64,8 @@ impl End {
     {
         if let Some(trailers) = large_trailers(message) {
             // The connection refuses them, and says whether something else comes first.
-            check_fields(trailers);
             return self.conn.open(trailers, true);
         }
-        check_fields(&message.head);
         let Some(id) = self.conn.next_number() else {
             return self.conn.open(&message.head, true);
         };
@@ -124,10 +121,8 @@ impl End {
         if let Err(rule) = check_response(message, stream.reading.asks_head()) {
             return Err(EndRefusal::BadMessage(rule));
         }
-        match send_head(&mut self.conn, id, message) {
-            Ok(()) => Ok(()),
-            Err(refusal) => Err(EndRefusal::Conn(refusal)),
-        }
+        send_head(&mut self.conn, id, message)?;
+        Ok(())
     }
 
     // rule: 8.1 (own) A request is refused for a rule, or as its head is, or sent
@@ -157,12 +152,11 @@ impl End {
         let mut last = self.spans.waiting.first.saturating_sub(1);
         while let Some(id) = next_in(&self.conn, self.spans.waiting, last) {
             last = id;
-            match self.pump_stream(id, &mut count) {
-                Ok(SendState::Idle) => {}
-                Ok(SendState::Sent) => self.forget_if_over(id),
-                Ok(SendState::Stuck) => left = left.with(id),
-                Ok(SendState::Full) => return Ok(count),
-                Err(refusal) => return Err(EndRefusal::Conn(refusal)),
+            match self.pump_stream(id, &mut count)? {
+                SendState::Idle => {}
+                SendState::Sent => self.forget_if_over(id),
+                SendState::Stuck => left = left.with(id),
+                SendState::Full => return Ok(count),
             }
         }
         self.spans.waiting = left;
@@ -207,10 +201,7 @@ impl End {
             if owed == 0 {
                 continue;
             }
-            match self.conn.release(id, owed) {
-                Ok(()) => {}
-                Err(refusal) => return Err(EndRefusal::Conn(refusal)),
-            }
+            self.conn.release(id, owed)?;
         }
         self.spans.owing = Span::none();
         Ok(())
@@ -240,14 +231,8 @@ fn send_head(conn: &mut Conn, id: u32, message: &Message) -> Result<(), Refusal>
         → SendsHead values log id (message_value message.now) result conn.new }
 {
     match large_trailers(message) {
-        Some(trailers) => {
-            check_fields(trailers);
-            conn.fields(id, trailers, true)
-        }
-        None => {
-            check_fields(&message.head);
-            conn.fields(id, &message.head, is_head_alone(message))
-        }
+        Some(trailers) => conn.fields(id, trailers, true),
+        None => conn.fields(id, &message.head, is_head_alone(message)),
     }
 }
 
@@ -278,7 +263,6 @@ fn send(
 {
     while waiting.sent < waiting.body.len() {
         let rest = &waiting.body[waiting.sent..];
-        check_octets(rest);
         match conn.data(id, rest, waiting.trailers.is_none()) {
             Ok(0) => return Ok(SendState::Stuck),
             Ok(sent) => {
@@ -292,7 +276,6 @@ fn send(
     let Some(trailers) = &waiting.trailers else {
         return Ok(SendState::Sent);
     };
-    check_fields(trailers);
     match conn.fields(id, trailers, true) {
         Ok(()) => Ok(SendState::Sent),
         Err(refusal) => stopped_by(refusal),

@@ -36,16 +36,14 @@ impl Server {
     ///
     /// # Errors
     ///
-    /// `Conn` (E2) with `Memory` (C12) where an allocation was refused.
+    /// [`EndRefusal::Conn`] (E2) with [`Refusal::Memory`] (C12) where an allocation was refused.
     pub fn new(alloc: Global, config: Config) -> Result<Server, EndRefusal>
         ensures ok { IfOk result (λ server. EndRepresents (values_of config) server.end
             (new_end_log roles.Server (values_of config))) }
         ensures err { IfErr result (λ refusal. refusal ≡ EndRefusal.Conn Refusal.Memory) }
     {
-        match End::new(alloc, Role::Server, config) {
-            Ok(end) => Ok(Server { end }),
-            Err(refusal) => Err(EndRefusal::Conn(refusal)),
-        }
+        let end = End::new(alloc, Role::Server, config)?;
+        Ok(Server { end })
     }
 
     /// The connection, for what it answers of itself.
@@ -63,11 +61,12 @@ impl Server {
     ///
     /// # Errors
     ///
-    /// The message is handed back with `NotAsked` (E3) where the stream isn't active or no request
-    /// on it was handed out, else with `Answered` (E4) where it has its response, else with
-    /// `BadMessage` (E1) where the message breaks a rule, else with `Conn` (E2) and the first of
-    /// `Closed` (C1), `OutputFull` (C7), `ListTooLarge` (C10, of the trailers too) and
-    /// `Memory` (C12). Nothing has changed.
+    /// The message is handed back with [`EndRefusal::NotAsked`] (E3) where the stream isn't active
+    /// or no request on it was handed out, else with [`EndRefusal::Answered`] (E4) where it has its
+    /// response, else with [`EndRefusal::BadMessage`] (E1) where the message breaks a rule, else
+    /// with [`EndRefusal::Conn`] (E2) and the first of [`Refusal::Closed`] (C1),
+    /// [`Refusal::OutputFull`] (C7), [`Refusal::ListTooLarge`] (C10, of the trailers too) and
+    /// [`Refusal::Memory`] (C12). Nothing has changed.
     pub fn respond(&mut self, id: u32, message: Message) -> Result<(), (Message, EndRefusal)>
         ensures { EndResponds self.old.end id (message_value message) result self.new.end }
     {
@@ -83,8 +82,8 @@ impl Server {
     ///
     /// # Errors
     ///
-    /// `Conn` (E2) with `Closed` (C1), and with `Memory` (C12): what was sent stays sent, and the
-    /// rest waits.
+    /// [`EndRefusal::Conn`] (E2) with [`Refusal::Closed`] (C1), and with [`Refusal::Memory`] (C12):
+    /// what was sent stays sent, and the rest waits.
     pub fn pump(&mut self) -> Result<usize, EndRefusal>
         ensures { EndPumps self.old.end result self.new.end }
     {
@@ -96,8 +95,8 @@ impl Server {
     ///
     /// # Errors
     ///
-    /// `Conn` (E2) with `Closed` (C1), `OutputFull` (C7) or `Memory` (C12); what was released stays
-    /// released, and the rest is owed.
+    /// [`EndRefusal::Conn`] (E2) with [`Refusal::Closed`] (C1), [`Refusal::OutputFull`] (C7) or
+    /// [`Refusal::Memory`] (C12); what was released stays released, and the rest is owed.
     pub fn release_all(&mut self) -> Result<(), EndRefusal>
         ensures { EndReleases self.old.end result self.new.end }
     {
@@ -108,8 +107,9 @@ impl Server {
     ///
     /// # Errors
     ///
-    /// `Closed` (C1), `NoSuchStream` (C2), `OutputFull` (C7), `TooManyResets` (C9) and
-    /// `Memory` (C12), in this order. Nothing has changed.
+    /// [`Refusal::Closed`] (C1), [`Refusal::NoSuchStream`] (C2), [`Refusal::OutputFull`] (C7),
+    /// [`Refusal::TooManyResets`] (C9) and [`Refusal::Memory`] (C12), in this order. Nothing has
+    /// changed.
     pub fn reset(&mut self, id: u32, code: u32) -> Result<(), Refusal>
         ensures { EndAnswers self.old.end (ResetStream id code) (answer_by (λ done. Done) result)
             self.new.end }
@@ -121,8 +121,8 @@ impl Server {
     ///
     /// # Errors
     ///
-    /// `Closed` (C1), `OutputFull` (C7), `PingWaits` (C8) and `Memory` (C12), in this order.
-    /// Nothing has changed.
+    /// [`Refusal::Closed`] (C1), [`Refusal::OutputFull`] (C7), [`Refusal::PingWaits`] (C8) and
+    /// [`Refusal::Memory`] (C12), in this order. Nothing has changed.
     pub fn ping(&mut self, octets: [u8; 8]) -> Result<(), Refusal>
         ensures { EndAnswers self.old.end (SendPing octets) (answer_by (λ done. Done) result)
             self.new.end }
@@ -134,8 +134,8 @@ impl Server {
     ///
     /// # Errors
     ///
-    /// `Closed` (C1), `GoingAway` (C6), `OutputFull` (C7) and `Memory` (C12), in this order.
-    /// Nothing has changed.
+    /// [`Refusal::Closed`] (C1), [`Refusal::GoingAway`] (C6), [`Refusal::OutputFull`] (C7) and
+    /// [`Refusal::Memory`] (C12), in this order. Nothing has changed.
     pub fn go_away(&mut self) -> Result<(), Refusal>
         ensures { EndAnswers self.old.end SendGoAway (answer_by (λ done. Done) result)
             self.new.end }
@@ -147,8 +147,8 @@ impl Server {
     ///
     /// # Errors
     ///
-    /// `Closed` (C1), `OutputFull` (C7), `SettingsWait` (C13) and `Memory` (C12), in this order.
-    /// Nothing has changed.
+    /// [`Refusal::Closed`] (C1), [`Refusal::OutputFull`] (C7), [`Refusal::SettingsWait`] (C13) and
+    /// [`Refusal::Memory`] (C12), in this order. Nothing has changed.
     pub fn change_settings(&mut self, config: Config) -> Result<(), Refusal>
         ensures { EndAnswers self.old.end (ChangeSettings (values_of config))
             (answer_by (λ done. Done) result) self.new.end }
@@ -174,7 +174,7 @@ impl Server {
     ///
     /// # Errors
     ///
-    /// `Memory` (C12), as of [`Conn::put_out`]. Nothing has changed.
+    /// [`Refusal::Memory`] (C12), as of [`Conn::put_out`]. Nothing has changed.
     pub fn put_out(&mut self, count: usize, out: &mut Vec<u8>) -> Result<usize, Refusal>
         ensures answers { EndAnswers self.old.end (PutOut count)
             (answer_by (λ given. Count given) result) self.new.end }

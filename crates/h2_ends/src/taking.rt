@@ -4,10 +4,10 @@ ghost use Rattle.std.specs.Prelude.{◌≡◌, ℕ, ◌≤◌, false, List, Some
 ghost use Rattle.h2_spec_log.specs.Acts.{Values, Answer, Refuse};
 ghost use Rattle.h2_spec_log.specs.LogCalls.{MayAnswer, with_call};
 ghost use Rattle.h2_message.specs.Reading.{FieldsPart, OctetsPart};
-ghost use Rattle.h2_ends.specs.Ends.{EndLog, handed_at};
+ghost use Rattle.h2_ends.specs.Ends.{EndLog};
 ghost use Rattle.h2_ends.specs.EndTakes.{end_with_log};
 ghost use Rattle.h2_ends.specs.Loans.{BodyLiesIn, BodyLiesThere, IsBodyIn, IsBodyHanded};
-ghost use Rattle.h2_ends.specs.Loans.{answer_of_taken, answer_handed, handed_value, event_handed};
+ghost use Rattle.h2_ends.specs.Loans.{answer_of_taken, answer_handed, located_at};
 ghost use Rattle.h2_ends.specs.Represents.{EndAdvances, EndRepresents, RepresentsBut};
 ghost use Rattle.h2_ends.specs.Represents.{KeepsActive, kept_at};
 ghost use Rattle.h2_ends.specs.Taking.{IsReadOn, MustRefuse, ReadsFields, ReadsData, code_unread};
@@ -16,33 +16,19 @@ ghost use Rattle.h2_ends.specs.Taking.{AnswersRefusal, IsResetBy, LiesHere, EndH
 use crate::end::End;
 use crate::event::{EndEvent, EndTaken};
 use crate::outgoing::{Outgoing, Stream};
-use h2_conn::{ConnFault, Happened};
+use h2_conn::{ConnFault, Event};
 use h2_frame::Code;
 use h2_message::{Place, Reading};
 use h2_wire::Complete;
-use hpack::FieldList;
-
-/// What is handed out, without the fields, and with the frame of DATA in place of its octets.
-#[derive(Clone, Copy, Debug)]
-pub(crate) enum HandedOut {
-    /// A field block, which is this part of a message.
-    Fields { id: u32, place: Place, end: bool },
-    /// Octets of a body.
-    Body { id: u32, frame: Complete, end: bool },
-    Reset { id: u32, code: u32, ours: bool },
-    GoAway { last: u32, code: u32 },
-    Unprocessed { id: u32 },
-    Acked,
-    Pong { octets: [u8; 8] },
-}
 
 /// What one call made of its piece.
 #[derive(Clone, Copy, Debug)]
 pub(crate) struct EndProgress {
     /// How many octets were used.
     pub(crate) used: usize,
-    /// What is handed out.
-    pub(crate) handed: Option<HandedOut>,
+    /// What is handed out: the connection keeps the fields, and says where the octets of a body
+    /// lie.
+    pub(crate) handed: Option<EndEvent<(), Complete>>,
 }
 
 /// Why a part of a message isn't handed out.
@@ -89,7 +75,11 @@ impl End {
     // rule: 8.1 (own) What is handed out of a stream is what was reported, in order
     /// Hands out what the connection has reported, unless it is a part of a message that cannot be
     /// read.
-    fn hand_out(&mut self, piece: &[u8], happened: Happened) -> Result<HandedOut, ConnFault>
+    fn hand_out(
+        &mut self,
+        piece: &[u8],
+        happened: Event<(), Complete>,
+    ) -> Result<EndEvent<(), Complete>, ConnFault>
         requires lies { LiesHere self.old piece.now happened }
         ensures lies { IfOk result (λ handed. BodyLiesIn self.new piece.now (Some handed)) }
         ensures hands { (octets : List ℕ)
@@ -97,29 +87,32 @@ impl End {
             → EndHands self.old piece.now happened octets result self.new }
     {
         match happened {
-            Happened::Fields { id, end } => match self.read_fields(id, end) {
-                Ok(place) => Ok(HandedOut::Fields { id, place, end }),
+            Event::Fields { id, end, .. } => match self.read_fields(id, end) {
+                Ok(place) => Ok(part_at(id, place, end)),
                 Err(unread) => self.refuse(id, unread),
             },
-            Happened::Data { id, frame, end, .. } => {
+            Event::Data { id, bytes, end, .. } => {
                 self.spans.owing = self.spans.owing.with(id);
-                let count = self.conn.octets(piece, frame).len();
+                let Some(octets) = self.conn.octets(piece, bytes) else {
+                    unreachable!()
+                };
+                let count = octets.len();
                 if self.read_data(id, count, end) {
-                    return Ok(HandedOut::Body { id, frame, end });
+                    return Ok(EndEvent::Body { id, bytes, end });
                 }
                 self.refuse(id, Unread::Malformed)
             }
-            Happened::Reset { id, code, ours } => {
+            Event::Reset { id, code, ours } => {
                 self.forget_if_over(id);
-                Ok(HandedOut::Reset { id, code, ours })
+                Ok(EndEvent::Reset { id, code, ours })
             }
-            Happened::Unprocessed { id } => {
+            Event::Unprocessed { id } => {
                 self.forget_if_over(id);
-                Ok(HandedOut::Unprocessed { id })
+                Ok(EndEvent::Unprocessed { id })
             }
-            Happened::GoAway { last, code } => Ok(HandedOut::GoAway { last, code }),
-            Happened::Acked => Ok(HandedOut::Acked),
-            Happened::Pong { octets } => Ok(HandedOut::Pong { octets }),
+            Event::GoAway { last, code } => Ok(EndEvent::GoAway { last, code }),
+            Event::Acked => Ok(EndEvent::Acked),
+            Event::Pong { octets } => Ok(EndEvent::Pong { octets }),
         }
     }
 
@@ -203,7 +196,7 @@ impl End {
     // rule: 8.1 (own) A server without memory for a first block fails with INTERNAL_ERROR
     /// Refuses a stream whose part of a message isn't handed out: this end resets it; or the
     /// connection fails.
-    fn refuse(&mut self, id: u32, unread: Unread) -> Result<HandedOut, ConnFault>
+    fn refuse(&mut self, id: u32, unread: Unread) -> Result<EndEvent<(), Complete>, ConnFault>
         ensures resets { IsResetBy id (code_unread unread) result }
         ensures answers { (values : Values) (end : EndLog) → MustRefuse values self.old end id
             → (refused : Answer)
@@ -218,7 +211,7 @@ impl End {
         self.forget_if_over(id);
         match self.conn.failed() {
             Some(code) => Err(ConnFault { code }),
-            None => Ok(HandedOut::Reset {
+            None => Ok(EndEvent::Reset {
                 id,
                 code,
                 ours: true,
@@ -227,53 +220,39 @@ impl End {
     }
 }
 
-/// Lends what was handed out of this piece.
+// rule: 8.1 (own) What is handed out of a stream is what was reported, in order
+/// Lends the fields, or the octets, of what was handed out of this piece.
 pub(crate) fn lend<'a>(end: &'a End, piece: &'a [u8], progress: EndProgress) -> EndTaken<'a>
     requires lies { BodyLiesIn end.now piece.now progress.handed }
     ensures { (octets : List ℕ) × IsBodyIn end.now piece.now octets progress.handed
         × (answer_of_taken (Ok result)
         ≡ answer_handed end.now.conn.inner.end.list octets (Ok progress)) }
 {
-    let event = match progress.handed {
-        None => None,
-        Some(handed) => Some(lend_event(end, piece, handed)),
+    let used = progress.used;
+    let Some(handed) = progress.handed else {
+        return EndTaken { used, event: None };
+    };
+    let octets = match handed {
+        EndEvent::Body { bytes, .. } => match end.conn.octets(piece, bytes) {
+            Some(octets) => octets,
+            None => unreachable!(),
+        },
+        _ => &[],
     };
     EndTaken {
-        used: progress.used,
-        event,
+        used,
+        event: Some(handed.with_parts(end.conn.list(), octets)),
     }
 }
 
 // rule: 8.1 (own) What is handed out of a stream is what was reported, in order
-/// Lends the fields, or the octets, of an event.
-fn lend_event<'a>(from: &'a End, piece: &'a [u8], handed: HandedOut) -> EndEvent<'a>
-    requires lies { BodyLiesIn from.now piece.now (Some handed) }
-    ensures { (octets : List ℕ) × IsBodyIn from.now piece.now octets (Some handed)
-        × (event_handed result ≡ handed_value from.now.conn.inner.end.list octets handed) }
-{
-    match handed {
-        HandedOut::Fields { id, place, end } => lend_fields(from.conn.list(), id, place, end),
-        HandedOut::Body { id, frame, end } => EndEvent::Body {
-            id,
-            bytes: from.conn.octets(piece, frame),
-            end,
-        },
-        HandedOut::Reset { id, code, ours } => EndEvent::Reset { id, code, ours },
-        HandedOut::GoAway { last, code } => EndEvent::GoAway { last, code },
-        HandedOut::Unprocessed { id } => EndEvent::Unprocessed { id },
-        HandedOut::Acked => EndEvent::Acked,
-        HandedOut::Pong { octets } => EndEvent::Pong { octets },
-    }
-}
-
-// rule: 8.1 (own) What is handed out of a stream is what was reported, in order
-/// Lends the fields of a part of a message.
-fn lend_fields(list: &FieldList, id: u32, place: Place, end: bool) -> EndEvent<'_>
-    ensures { event_handed result ≡ handed_at place id list.now end }
+/// A part of a message at this place, whose fields the connection keeps.
+fn part_at(id: u32, place: Place, end: bool) -> EndEvent<(), Complete>
+    ensures { result ≡ located_at place id end }
 {
     match place {
-        Place::Interim => EndEvent::Interim { id, list },
-        Place::Head => EndEvent::Head { id, list, end },
-        Place::Trailers => EndEvent::Trailers { id, list },
+        Place::Interim => EndEvent::Interim { id, list: () },
+        Place::Head => EndEvent::Head { id, list: (), end },
+        Place::Trailers => EndEvent::Trailers { id, list: () },
     }
 }

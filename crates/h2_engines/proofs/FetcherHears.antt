@@ -3,7 +3,7 @@ use Rattle.h2_engines.proofs.Names.{◌≡◌, ℕ, Bool, true, false, List, [],
 use Rattle.h2_engines.proofs.Names.{None, Ok, Err, refl, sym, ap, ◌∙◌, subst, inl, inr, Field}
 use Rattle.h2_engines.proofs.Names.{Client, ResetEvent, is_server, ConnFault, Reads, Responses}
 use Rattle.h2_engines.proofs.Names.{Place, Part, FieldsPart, OctetsPart, IsReadable, place_after}
-use Rattle.h2_engines.proofs.Names.{End, EndEvent, EndTaken, EndLog, EndTook, EndFailed, Handed}
+use Rattle.h2_engines.proofs.Names.{End, LentPart, EndTaken, EndLog, EndTook, EndFailed, Handed}
 use Rattle.h2_engines.proofs.Names.{Passed, event_handed, EndTakes, LinkError, message_for, part_on}
 use Rattle.h2_engines.proofs.Names.{Coming, Next, ClientHears, NotesPart, HasCome, error_with}
 use Rattle.h2_ends.specs.Ends.{handed_as, handed_at, parts_on, reads_on, asked_head}
@@ -106,7 +106,7 @@ not_done false is done = cc
 
 -- A part was noted: the fetch goes on, or the response is whole.
 pub heard_part : (old new : End) (id : ℕ) (before coming : Coming) (piece : List ℕ)
-    (taken : EndTaken) (event : EndEvent) (whole : Bool) (next : Next)
+    (taken : EndTaken) (event : LentPart) (whole : Bool) (next : Next)
     → taken.event ≡ Some event → next ≡ (if whole then goes.Whole else goes.Again)
     → NotesPart id before coming (event_handed event) whole → EndTakes old piece (Ok taken) new
     → ClientHears old new id before coming piece
@@ -133,7 +133,7 @@ heard_part old new id before coming piece taken event whole next some goes_on no
 
 -- The fetch ends, since the stream is over, since there is no memory, or with the connection.
 pub heard_error : (old new : End) (id : ℕ) (before coming : Coming) (piece : List ℕ)
-    (taken : EndTaken) (event : EndEvent) (error : LinkError) → taken.event ≡ Some event
+    (taken : EndTaken) (event : LentPart) (error : LinkError) → taken.event ≡ Some event
     → ErrsFetching (EndTook taken.used (Some (event_handed event))) id error
     → EndTakes old piece (Ok taken) new
     → ClientHears old new id before coming piece (Err error)

@@ -1,7 +1,7 @@
 -- The names of std and of the crates below that several proofs cite, passed on from one place.
 pub use Rattle.h2_block.specs.Grouping.{alone}
 pub use Rattle.h2_conn.specs.Conn.{ConnRepresents, GivesOut}
-pub use Rattle.h2_conn.specs.declared.event.ConnFault.{ConnFault}
+pub use Rattle.h2_conn.specs.declared.taken.ConnFault.{ConnFault}
 pub use Rattle.h2_laws_end.proofs.Failures.{items_failed}
 pub use Rattle.h2_laws_end.proofs.TakeAnswers.{log_after_take}
 pub use Rattle.h2_laws_end.specs.Takes.{ends_frame, ends_no_frame, Failed, MayTake, meets_fault}
@@ -21,7 +21,7 @@ pub use Rattle.h2_ends.specs.Ends.{Passed, reads_on, tokens_given, TrailersHande
 pub use Rattle.h2_ends.specs.Loans.{event_handed}
 pub use Rattle.h2_ends.specs.Represents.{EndAnswers, EndRepresents, EndTakes, new_end_log}
 pub use Rattle.h2_ends.specs.declared.end.End.{End}
-pub use Rattle.h2_ends.specs.declared.event.EndEvent.{EndEvent}
+pub use Rattle.h2_ends.specs.EndEvents.{LentPart}
 pub use Rattle.h2_ends.specs.declared.event.EndTaken.{EndTaken}
 pub use Rattle.h2_ends.specs.declared.refusal.EndRefusal.{EndRefusal}
 pub use Rattle.h2_engines.specs.Answers.{answer_to, answer_with, body_in, body_of_parts}

@@ -1,11 +1,11 @@
 -- What is nothing of a request is noted as nothing.
-use Rattle.h2_engines.proofs.Names.{◌≡◌, ℕ, Bool, List, Bor, refl, Field, EndEvent, event_handed}
+use Rattle.h2_engines.proofs.Names.{◌≡◌, ℕ, Bool, List, Bor, refl, Field, LentPart, event_handed}
 use Rattle.h2_engines.specs.PartialMessages.{NotesHanded}
 use Rattle.h2_engines.specs.declared.request.Requests.{Requests}
 use Rattle.h2_ends.specs.declared.event.EndEvent.TheVariants as events
 use Rattle.h2_engines.specs.declared.request.Next.TheVariants as nexts
 
-pub notes_other : (old : Requests) (event : EndEvent)
+pub notes_other : (old : Requests) (event : LentPart)
     → ((id : ℕ) (list : Bor (List Field)) (last : Bool) → event ≡ events.Head id list last → ⊥)
     → ((id : ℕ) (bytes : Bor (List ℕ)) (last : Bool) → event ≡ events.Body id bytes last → ⊥)
     → ((id : ℕ) (list : Bor (List Field)) → event ≡ events.Trailers id list → ⊥)

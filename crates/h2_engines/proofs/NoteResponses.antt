@@ -1,6 +1,6 @@
 -- What is noted of a response, part by part.
 use Rattle.h2_engines.proofs.Names.{◌≡◌, ℕ, Bool, false, List, [], ◌∷◌, Bor, refl, ap, ne_eqb}
-use Rattle.h2_engines.proofs.Names.{Field, Part, EndEvent, event_handed, Coming, NotesPart}
+use Rattle.h2_engines.proofs.Names.{Field, Part, LentPart, event_handed, Coming, NotesPart}
 use Rattle.h2_engines.proofs.Names.{notes_nothing}
 use Rattle.h2_ends.specs.Ends.{part_on}
 use Rattle.std.proofs.Common.{if◌then◌else◌}
@@ -14,7 +14,7 @@ other_stream stream id part other =
     ap (λ (b : Bool). if b then part ∷ [] else []) (ne_eqb stream id other)
 
 -- What is no part of a message is none of the response.
-pub other_event : (id : ℕ) (old : Coming) (event : EndEvent)
+pub other_event : (id : ℕ) (old : Coming) (event : LentPart)
     → ((stream : ℕ) (list : Bor (List Field)) → event ≡ events.Interim stream list → ⊥)
     → ((stream : ℕ) (list : Bor (List Field)) (last : Bool) → event ≡ events.Head stream list last
     → ⊥)

@@ -1,6 +1,6 @@
 -- What a call of `take` has made of a piece, and of what is kept of requests.
 use Rattle.h2_engines.proofs.Names.{◌≡◌, ℕ, Bool, true, false, List, length, Option, Some, None, Ok}
-use Rattle.h2_engines.proofs.Names.{Err, refl, inl, inr, ResetEvent, ConnFault, End, EndEvent}
+use Rattle.h2_engines.proofs.Names.{Err, refl, inl, inr, ResetEvent, ConnFault, End, LentPart}
 use Rattle.h2_engines.proofs.Names.{EndTaken, Handed, HeadHanded, BodyHanded, TrailersHanded}
 use Rattle.h2_engines.proofs.Names.{Passed, event_handed, EndTakes, Next, Request, request_at}
 use Rattle.h2_engines.proofs.Names.{ServerHears, error_with}
@@ -64,7 +64,7 @@ hears_nothing old new requests piece taken next none which done takes values end
 
 -- Something was, and is kept.
 pub hears_event : (old new : End) (requests kept : Requests) (piece : List ℕ) (taken : EndTaken)
-    (event : EndEvent) (next : Next) → taken.event ≡ Some event
+    (event : LentPart) (next : Next) → taken.event ≡ Some event
     → NotesHanded requests kept (event_handed event) next → EndTakes old piece (Ok taken) new
     → ServerHears old new requests kept piece (Ok (record { used = taken.used; next = next }))
 unfolding HeardSo NotesTaken

@@ -28,10 +28,7 @@ pub(crate) fn room_for_input(alloc: Global) -> Result<Vec<u8>, LinkError>
     ensures ok { IfOk result (λ room. length room.items ≡ 16384) }
     ensures err { IfErr result (λ error. error ≡ LinkError.Memory) }
 {
-    match vec![in alloc; 0u8; PIECE] {
-        Ok(room) => Ok(room),
-        Err(_) => Err(LinkError::Memory),
-    }
+    Ok(vec![in alloc; 0u8; PIECE]?)
 }
 
 /// Where octets are handed over, this stands for a link: nothing is read of it, and nothing written

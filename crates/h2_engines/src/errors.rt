@@ -1,6 +1,6 @@
 //! How a connection over a link ends, by what a call of its end has answered.
 
-ghost use Rattle.std.specs.Prelude.{◌≡◌};
+ghost use Rattle.std.specs.Prelude.{◌≡◌, Ok, Err, IfOk, IfErr};
 ghost use Rattle.h2_engines.specs.Failures.{IsOfCall, IsOfServer, error_after};
 ghost use Rattle.h2_engines.specs.ServerSteps.{error_with};
 
@@ -33,5 +33,18 @@ pub(crate) fn error_of_refusal(refusal: EndRefusal) -> LinkError
     match refusal {
         EndRefusal::Conn(Refusal::Memory) => LinkError::Memory,
         _ => LinkError::NoProgress,
+    }
+}
+
+/// What a call of an end has answered; or, where it was refused, how the connection ends.
+pub(crate) fn unless_refused<T, E: Into<EndRefusal>>(answer: Result<T, E>) -> Result<T, LinkError>
+    ensures ok { IfOk result (λ value. answer ≡ Ok value) }
+    ensures err { IfErr result (λ error. (refused : E) × (refusal : EndRefusal)
+        × (answer ≡ Err refused) × E.converts refused refusal × (error ≡ error_after refusal)) }
+    ensures kind { IfErr result IsOfCall }
+{
+    match answer {
+        Ok(value) => Ok(value),
+        Err(refused) => Err(error_of_refusal(refused.into())),
     }
 }

@@ -17,12 +17,9 @@ use crate::errors::{error_of_code, error_of_refusal};
 use crate::machine::{Heard, Machine, put_out, take_all};
 use crate::request::Next;
 use h2_conn::Conn;
-use h2_ends::{Client, Config, EndEvent, EndRefusal, Field, Message, Refusal};
+use h2_ends::{Client, Code, Config, EndEvent, EndRefusal, Field, FieldList, Message, Refusal};
 use h2_link::LinkError;
 use std::alloc::{AllocError, Global};
-
-/// REFUSED_STREAM (RFC 9113, section 7): what a request that was not processed ends with.
-const REFUSED_STREAM: u32 = 7;
 
 /// A response that has come whole.
 #[derive(Debug, Drop)]
@@ -63,7 +60,12 @@ impl Coming {
     // rule: engines (own) A response that is fetched is the message handed out, whole
     /// Keeps what was handed out of the response on a stream, and says whether that is whole.
     /// Memory is refused only for a part of a message.
-    fn note(&mut self, alloc: Global, stream: u32, event: EndEvent<'_>) -> Result<bool, AllocError>
+    fn note(
+        &mut self,
+        alloc: Global,
+        stream: u32,
+        event: EndEvent<&FieldList, &[u8]>,
+    ) -> Result<bool, AllocError>
         ensures notes { IfOk result (λ whole. NotesPart stream self.old self.new
             (event_handed event.entry) whole) }
         ensures err { OnErr result (DropsStream (event_handed event.entry) stream → ⊥) }
@@ -280,19 +282,13 @@ pub(crate) fn hear(
                     Err(LinkError::Reset(code))
                 }
                 Some(EndEvent::Unprocessed { id }) if id == stream => {
-                    Err(LinkError::Reset(REFUSED_STREAM))
+                    Err(LinkError::Reset(Code::RefusedStream.number()))
                 }
-                Some(event) => match coming.note(alloc, stream, event) {
-                    Ok(true) => Ok(Heard {
-                        used,
-                        next: Next::Whole,
-                    }),
-                    Ok(false) => Ok(Heard {
-                        used,
-                        next: Next::Again,
-                    }),
-                    Err(_) => Err(LinkError::Memory),
-                },
+                Some(event) => {
+                    let is_whole = coming.note(alloc, stream, event)?;
+                    let next = if is_whole { Next::Whole } else { Next::Again };
+                    Ok(Heard { used, next })
+                }
             }
         }
         Err(fault) => Err(error_of_code(fault.code)),

@@ -14,15 +14,13 @@ ghost use Rattle.h2_engines.specs.ServerSteps.{PumpsSome};
 ghost use Rattle.h2_engines.specs.WithoutLink.{SendsWaiting};
 
 use crate::copies::room_for_input;
-use crate::errors::error_of_refusal;
+use crate::errors::{error_of_refusal, unless_refused};
 use crate::request::Next;
 use h2_conn::Conn;
 use h2_ends::{EndRefusal, Refusal};
+use h2_frame::limits::FULL_OUTPUT;
 use h2_link::{Link, LinkError, write_all};
 use std::alloc::Global;
-
-/// So much output waits that the connection takes no more (own).
-const FULL_OUTPUT: usize = 65_536;
 
 /// What a machine made of a piece.
 #[derive(Drop)]
@@ -86,10 +84,8 @@ fn pump<M: Machine>(machine: &mut M) -> Result<(), LinkError>
     ensures kept { (M.held machine.new).kept ≡ (M.held machine.old).kept }
     ensures err { IfErr result IsOfCall }
 {
-    match machine.pump() {
-        Ok(_) => Ok(()),
-        Err(refusal) => Err(error_of_refusal(refusal)),
-    }
+    unless_refused(machine.pump())?;
+    Ok(())
 }
 
 // rule: engines (own) Over a link input is used in order and all output is written
@@ -106,11 +102,11 @@ fn write_out<M: Machine, L: Link>(machine: &mut M, link: &mut L) -> Result<(), L
 {
     for _ in 0..u64::MAX {
         let mut output = Vec::new(machine.alloc());
-        match machine.give_out(usize::MAX, &mut output) {
-            Ok(0) => return Ok(()),
-            Ok(_) => write_all(link, &output)?,
-            Err(refusal) => return Err(error_of_refusal(EndRefusal::Conn(refusal))),
+        let count = unless_refused(machine.give_out(usize::MAX, &mut output))?;
+        if count == 0 {
+            return Ok(());
         }
+        write_all(link, &output)?;
     }
     Err(LinkError::NoProgress)
 }
@@ -226,11 +222,11 @@ pub(crate) fn drive<M: Machine, L: Link>(machine: &mut M, link: &mut L) -> Resul
             send_waiting(machine)?;
             continue;
         }
-        let is_whole = match link.read(&mut input) {
-            Ok(0) => return Ok(false),
-            Ok(count) => take_all(machine, link, true, &input[..count])?,
-            Err(_) => return Err(LinkError::Device),
-        };
+        let count = link.read(&mut input)?;
+        if count == 0 {
+            return Ok(false);
+        }
+        let is_whole = take_all(machine, link, true, &input[..count])?;
         if is_whole {
             return Ok(true);
         }
@@ -268,8 +264,6 @@ pub(crate) fn put_out<M: Machine>(
     ensures err { IfErr result IsOfCall }
 {
     send_waiting(machine)?;
-    match machine.give_out(count, out) {
-        Ok(given) => Ok(given),
-        Err(refusal) => Err(error_of_refusal(EndRefusal::Conn(refusal))),
-    }
+    let given = unless_refused(machine.give_out(count, out))?;
+    Ok(given)
 }

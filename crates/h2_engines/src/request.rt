@@ -114,7 +114,7 @@ impl Requests {
     /// # Errors
     ///
     /// [`AllocError`] where an allocation was refused.
-    pub(crate) fn note(&mut self, event: EndEvent<'_>) -> Result<Next, AllocError>
+    pub(crate) fn note(&mut self, event: EndEvent<&FieldList, &[u8]>) -> Result<Next, AllocError>
         ensures { IfOk result (λ next. NotesHanded self.old self.new (event_handed event.entry)
             next) }
     {

@@ -78,10 +78,10 @@ impl Responder {
                         };
                         Ok(Heard { used, next })
                     }
-                    Some(event) => match self.requests.note(event) {
-                        Ok(next) => Ok(Heard { used, next }),
-                        Err(_) => Err(LinkError::Memory),
-                    },
+                    Some(event) => {
+                        let next = self.requests.note(event)?;
+                        Ok(Heard { used, next })
+                    }
                 }
             }
             Err(fault) => Err(error_of_code(fault.code)),
@@ -101,9 +101,7 @@ impl Responder {
         let Some(answered) = self.answered.checked_add(1) else {
             return Err(LinkError::NoProgress);
         };
-        let Ok(message) = request.into_answer(self.alloc) else {
-            return Err(LinkError::Memory);
-        };
+        let message = request.into_answer(self.alloc)?;
         match self.server.respond(id, message) {
             Ok(()) => {
                 self.answered = answered;

@@ -1,4 +1,4 @@
--- What handing pieces to an end makes of it, and what that reports of the octets.
+-- An end after pieces were handed to it, and what that reports of the octets.
 use Rattle.std.proofs.Common.{◌≡◌, ◌≢◌, ℕ, List, [], ◌∷◌, ◌++◌, take, drop, Option, Some, None}
 use Rattle.std.proofs.Common.{Result, Ok, Err, IfOk, IfSome, refl, sym, subst, append-nil}
 use Rattle.std.proofs.Common.{arith}

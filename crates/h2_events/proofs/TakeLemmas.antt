@@ -9,11 +9,10 @@ use Rattle.h2_cli.specs.declared.failure.Failure.TheVariants as failures
 use Rattle.h2_laws_end.specs.Takes.{Took, Failed, MayTake, TakeAnswer}
 use Rattle.h2_laws_end.specs.Replays.{TakesAll, is_done, goes_on, has_fault, IsCalledAgain}
 use Rattle.h2_conn.specs.declared.conn.Conn.{Conn}
-use Rattle.h2_conn.specs.declared.event.Event.{Event}
-use Rattle.h2_conn.specs.declared.event.Taken.{Taken}
-use Rattle.h2_conn.specs.declared.event.ConnFault.{ConnFault}
+use Rattle.h2_conn.specs.declared.taken.Taken.{Taken}
+use Rattle.h2_conn.specs.declared.taken.ConnFault.{ConnFault}
 use Rattle.h2_conn.specs.Conn.{ConnTakes}
-use Rattle.h2_conn.specs.Events.{event_value}
+use Rattle.h2_conn.specs.Events.{LentEvent, lent_value}
 use Rattle.h2_events.specs.declared.replayer.ReplayError.{ReplayError}
 use Rattle.h2_events.specs.declared.replayer.ReplayError.TheVariants as errors
 use Rattle.h2_events.specs.Replayer.{HandsPiece, TakesPrefix, ReportsCode, ReplayErrorReports}
@@ -32,31 +31,31 @@ used_within piece done used within unused =
 -- a call after which `take` is called again
 goes_on_after : (old now new : Conn) (piece : List ℕ) (done : ℕ) (taken : Taken)
     → TakesPrefix old piece done now → ConnTakes now (left piece done) (Ok taken) new
-    → IsCalledAgain (drop done piece) taken.used (option_map event_value taken.event)
+    → IsCalledAgain (drop done piece) taken.used (option_map lent_value taken.event)
     → TakesPrefix old piece (done + taken.used) new
 goes_on_after old now new piece done taken before call again values log represents =
     let (between, same, continues) = before values log represents in
     let (next, may, after_it) = call values between same in
-    let answer = Took taken.used (option_map event_value taken.event) in
+    let answer = Took taken.used (option_map lent_value taken.event) in
     let whole : MayTake between (drop done piece) answer next =
     subst (λ (octets : List ℕ). MayTake between octets answer next) (take_rest piece done) may in (
       next,
       after_it,
       λ fault after more. continues fault after (goes_on (drop done piece) taken.used
-          (option_map event_value taken.event) fault whole again
+          (option_map lent_value taken.event) fault whole again
           (subst (λ (octets : List ℕ). TakesAll next octets fault after)
           (sym (drop-drop taken.used done piece)) more)),
     )
 
 -- after an event
 pub goes_on_after_event : (old now new : Conn) (piece : List ℕ) (done : ℕ) (taken : Taken)
-    (event : Event) → TakesPrefix old piece done now
+    (event : LentEvent) → TakesPrefix old piece done now
     → ConnTakes now (left piece done) (Ok taken) new → taken.event ≡ Some event
     → TakesPrefix old piece (done + taken.used) new
 goes_on_after_event old now new piece done taken event before call reported =
     goes_on_after old now new piece done taken before call
-    (inr (λ none. some_none (event_value event)
-    (sym (ap (option_map event_value) reported) ∙ none)))
+    (inr (λ none. some_none (lent_value event)
+    (sym (ap (option_map lent_value) reported) ∙ none)))
   where
     some_none : {A : Type 0} (value : A) → Some value ≡ None → ⊥
     some_none value is = cc
@@ -82,7 +81,7 @@ all_taken old now new piece done taken before call silent whole values log repre
     let count : taken.used ≡ length (drop done piece) =
     simp length-drop (omega (arith, whole)) in
     let answer : TakeAnswer = Took (length (drop done piece)) None in
-    let said : Took taken.used (option_map event_value taken.event) ≡ answer =
+    let said : Took taken.used (option_map lent_value taken.event) ≡ answer =
     rw (count, silent) refl in
     let may_so : MayTake between (left piece done) answer next =
     subst (λ (answered : TakeAnswer). MayTake between (left piece done) answered next) said may in

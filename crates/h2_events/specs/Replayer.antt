@@ -1,4 +1,4 @@
--- What handing a piece to an end makes of it.
+-- An end after a piece was handed to it.
 use Rattle.std.specs.Prelude.{◌≡◌, ◌≢◌, ℕ, List, map, drop, Option, Some, None}
 use Rattle.h2_frame.specs.declared.code.Code.{Code}
 use Rattle.h2_frame.specs.declared.code.Code.TheVariants.{InternalError}

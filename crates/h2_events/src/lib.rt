@@ -1,5 +1,5 @@
-//! What one end of a connection makes of an input, as lines of text: a line an event, the fault
-//! that ends the connection, and the octets that the end gives out.
+//! An input of one end of a connection, as lines of text: a line for each event, the fault that
+//! ends the connection, and the octets that the end puts out.
 //!
 //! [`replay_input`] reads from any reader and prints to any writer, so tests run it in memory;
 //! [`write_event`] prints the lines of one event.

@@ -1,9 +1,9 @@
-//! Events, and the octets that an end gives out, as lines of text.
+//! Events, and the octets that an end puts out, as lines of text.
 
 ghost use Rattle.std.specs.Prelude.{◌≢◌, Err, Some, flat_map, OnOk};
 ghost use Rattle.std.specs.Io.KnownBytes.{Appends};
 ghost use Rattle.h2_spec_log.specs.Events.{PongEvent};
-ghost use Rattle.h2_conn.specs.Events.{event_value};
+ghost use Rattle.h2_conn.specs.Events.{lent_value};
 ghost use Rattle.h2_show.specs.Lines.{field_line};
 ghost use Rattle.h2_events.specs.EventLines.{event_lines, end_word};
 
@@ -24,9 +24,9 @@ use std::io::{self, Write};
 ///
 /// Those of the writer.
 #[tactic(auto, unfolding(crate::specs::EventLines::event_lines))]
-pub fn write_event<W: Write>(event: Event<'_>, out: &mut W) -> io::Result<()>
+pub fn write_event<W: Write>(event: Event<&FieldList, &[u8]>, out: &mut W) -> io::Result<()>
     ensures { OnOk result (Appends (W.contents out.old) (W.contents out.new)
-        (event_lines (event_value event.entry))) }
+        (event_lines (lent_value event.entry))) }
 {
     match event {
         Event::Fields { id, list, end } => {
@@ -97,7 +97,7 @@ fn write_pong<W: Write>(octets: [u8; 8], out: &mut W) -> io::Result<()>
 }
 
 // rule (contract): replay (own) Each event has a line, written with its piece
-/// Prints the line of all the output that waits: it is put out a piece at a time.
+/// Prints the line of all queued output, which is put out a piece at a time.
 pub(crate) fn write_out<W: Write>(
     alloc: Global,
     conn: &mut Conn,

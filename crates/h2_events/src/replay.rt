@@ -33,10 +33,10 @@ struct Ended {
 // contract: replay (own) The status is 0 only where an end took the whole input
 // rule: replay (own) The status is 0 only where an end took the whole input
 // contract: replay (own) The status is 1 only where that end has failed
-/// Replays the input: hands its octets to one end of a connection, which is new and has the default
-/// configuration, and prints a line for each event, the fields of a block under its line; then a
-/// line for the fault with which the connection fails, if it does; and then the octets that the end
-/// gives out, which are put out once the input is used.
+/// Replays the input: hands its octets to one end of a connection, which is new and has the
+/// default configuration, and prints a line for each event, the fields of a block under its line;
+/// then a line for the fault with which the connection fails, if it does; and then the octets that
+/// the end puts out, which are put out once the input is used.
 ///
 /// Of a reader whose octets are known, in whatever pieces it gives them, [`Status::Good`] comes
 /// only where the end took all of them and hasn't failed; and [`Status::Fault`] only where it has

@@ -85,6 +85,8 @@ pub fn read_payload<'a>(head: &Head, payload: &'a [u8]) -> Result<FrameRef<'a>, 
 
 // rule: 4.1 Flags that the type does not define are ignored when received
 // rule: 5.5 A frame of an unknown type passes as it is, and an end ignores it
+// rule: 6.1 With PADDED, DATA has a pad length, data and padding
+// rule: 6.1 END_STREAM of DATA ends the stream of the sender
 // rule: 6.4 RST_STREAM is read with its code of 32 bits
 // rule: 6.5 ACK of SETTINGS and PING is read from its bit
 // rule: 6.8 GOAWAY has a reserved bit, a last stream, a code and debug data
@@ -105,7 +107,12 @@ pub fn payload_frame<'a>(head: &Head, pad: Option<u8>, payload: &'a [u8]) -> Fra
     let stream = head.stream;
     let ack = head.flags & ACK != 0;
     match head.kind {
-        Kind::Data => data(head, pad, payload),
+        Kind::Data => FrameRef::Data {
+            stream,
+            end: head.flags & END_STREAM != 0,
+            octets: without_padding(pad, payload),
+            pad,
+        },
         Kind::Headers => headers(head, pad, payload),
         Kind::Priority => FrameRef::Priority {
             stream,
@@ -145,26 +152,6 @@ pub fn payload_frame<'a>(head: &Head, pad: Option<u8>, payload: &'a [u8]) -> Fra
             stream,
             payload,
         },
-    }
-}
-
-// rule: 6.1 With PADDED, DATA has a pad length, data and padding
-// rule: 6.1 END_STREAM of DATA ends the stream of the sender
-// The frame of DATA whose payload has no fault.
-#[tactic(auto, unfolding(crate::proofs::Rules::payload_rules))]
-fn data<'a>(head: &Head, pad: Option<u8>, payload: &'a [u8]) -> FrameRef<'a>
-    requires kind { head.now.kind ≡ Kind.Data }
-    requires form { form_fault head.now ≡ None }
-    requires complete { length payload.now ≡ head.now.length }
-    requires sound { fault_of_payload head.now payload.now ≡ None }
-    requires pad { pad ≡ pad_of head.now payload.now }
-    ensures { Carries head.now payload.now (frame_of result) }
-{
-    FrameRef::Data {
-        stream: head.stream,
-        end: head.flags & END_STREAM != 0,
-        octets: without_padding(pad, payload),
-        pad,
     }
 }
 

@@ -6,8 +6,8 @@ use Rattle.h2_joined.proofs.Names.{EndRepresents, Side, Store, Joined, AreStored
 use Rattle.h2_joined.proofs.Names.{HasRoomForEvent, KeepsMore, events_kept, KeepsHanded, end_at}
 use Rattle.h2_joined.proofs.Names.{kept_of, ChangesOnly, IsKeptAt, TakesNext}
 use Rattle.std.proofs.Common.{◌≡◌, ℕ, Bool, false, List, reverse, Some, None, option_map}
-use Rattle.h2_conn.specs.declared.event.ConnFault.{ConnFault}
-use Rattle.h2_ends.specs.declared.event.EndEvent.{EndEvent}
+use Rattle.h2_conn.specs.declared.taken.ConnFault.{ConnFault}
+use Rattle.h2_ends.specs.EndEvents.{LentPart}
 use Rattle.h2_ends.specs.declared.event.EndTaken.{EndTaken}
 use Rattle.h2_ends.specs.Represents.{EndTakes}
 use Rattle.h2_joined.specs.declared.octets.Taking.{Taking}
@@ -55,7 +55,7 @@ took_nothing old new store piece taken none takes values end represents =
 
 -- Where something is, that is kept.
 pub took_event : (old new : End) (store new_store : Store) (piece : List ℕ) (taken : EndTaken)
-    (event : EndEvent) → taken.event ≡ Some event
+    (event : LentPart) → taken.event ≡ Some event
     → (HasRoomForEvent store → Fits (event_handed event) → AreStored store
     → KeepsMore store (event_handed event) new_store)
     → EndTakes old piece (Ok taken) new
@@ -113,21 +113,6 @@ roomy side old mid made values end makes keeps =
           keeps.represents;
       handed = same_handed (kept_of side old).handed (kept_of side mid).handed end.handed
           makes.items keeps.handed;
-    }
-
--- Memory was refused to make it: no call is made.
-pub next_stopped : (side : Side) (old new : Joined) (piece : List ℕ) (made : Bool)
-    → MakesRoom side old made new → TakesNext side old piece nexts.Stopped new
-next_stopped side old new piece made makes =
-    record {
-      within = tt;
-      only = makes.only;
-      takes = λ values end keeps. record {
-        after = end;
-        goes_on = refl;
-        accepted = refl;
-        kept = roomy side old new made values end makes keeps;
-      };
     }
 
 module _ (side : Side) (old mid new : Joined) (piece : List ℕ) (made : Bool)

@@ -7,9 +7,8 @@ use Rattle.h2_joined.proofs.Names.{MayAnswer, with_call, log_after_take, Took, F
 use Rattle.h2_joined.proofs.Names.{SentMessage, is_head_alone, EndRefusal, EndLog, EndAnswer}
 use Rattle.h2_joined.proofs.Names.{EndFailed, EndMayTake, hands_nothing, hands_out, refusal_fails}
 use Rattle.h2_joined.proofs.Names.{runs_out_of_memory, memory_fails, Side, Acted, Doing, JointEnd}
-use Rattle.h2_joined.proofs.Names.{Made, Delivery, Whole, Fails, Stops, IsDelivered, MayDo}
-use Rattle.h2_joined.proofs.Names.{IsControlCall, IsJoint, IsNextAct, MemorySufficed, acted_by}
-use Rattle.h2_joined.proofs.Names.{acted_as}
+use Rattle.h2_joined.proofs.Names.{Made, Delivery, Fails, IsDelivered, MayDo, IsControlCall}
+use Rattle.h2_joined.proofs.Names.{IsJoint, IsNextAct, MemorySufficed, acted_by, acted_as}
 use Rattle.h2_ends.specs.EndCalls.{MayRequest, MayRespond}
 use Rattle.std.proofs.Common.{◌≡◌, ◌≢◌, ℕ, List, Some}
 use Rattle.h2_laws_end.specs.Takes.{Failed}

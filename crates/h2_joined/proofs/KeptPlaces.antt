@@ -9,7 +9,7 @@ use Rattle.std.proofs.Common.{◌≡◌, ℕ, zero, List, get_or, Some, length-d
 use Rattle.std.specs.Option.{option_map}
 use Rattle.std.proofs.lemmas.List.{take-append-le}
 use Rattle.std.proofs.lemmas.Option.{slice_get-map, slice_get-get_or}
-use Rattle.h2_joined.specs.declared.store.EventPlace.TheVariants as places
+use Rattle.h2_ends.specs.declared.event.EndEvent.TheVariants as places
 
 -- The item at a place of a list, with what is made of it.
 pub made_at : {A B : Type 0} (f : A → B) (items : List A) (i : ℕ) (other : A) → i < length items

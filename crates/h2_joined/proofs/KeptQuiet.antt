@@ -50,24 +50,6 @@ waits_for_server joined to_server counts some client_values server_values made c
           (counts server.incoming is.server_kept.incoming) some quiet.to_server),
     )
 
--- A delivery to the client has stopped,
-pub stopped_at_client : (joined : Joined) → joined.at_client.unfinished ≡ true
-    → TellsBoth joined false
-stopped_at_client joined stopped client_values server_values made client server is = (
-  λ never. absurd (both_ways false refl never),
-  λ quiet. absurd (both_ways client.unfinished quiet.finished_client
-      (sym is.client_kept.unfinished ∙ stopped)),
-)
-
--- or one to the server.
-pub stopped_at_server : (joined : Joined) → joined.at_server.unfinished ≡ true
-    → TellsBoth joined false
-stopped_at_server joined stopped client_values server_values made client server is = (
-  λ never. absurd (both_ways false refl never),
-  λ quiet. absurd (both_ways server.unfinished quiet.finished_server
-      (sym is.server_kept.unfinished ∙ stopped)),
-)
-
 pub busy_client : (joined : Joined) (one : Bool) → TellsQuiet joined.client.end one
     → one ≡ false → TellsBoth joined one
 busy_client joined one tells busy client_values server_values made client server is = (

@@ -15,7 +15,7 @@ use Rattle.std.proofs.lemmas.List.Sums.{sum_by-cons}
 use Rattle.std.specs.Vec.{vec_len, vec_capacity}
 use Rattle.h2_joined.proofs.KeptPlaces.{fields_more, events_more, fields_within, events_within}
 use Rattle.h2_laws_pair.proofs.Lists.{all_both as all_joined}
-use Rattle.h2_joined.specs.declared.store.EventPlace.TheVariants as places
+use Rattle.h2_ends.specs.declared.event.EndEvent.TheVariants as places
 
 -- The same items are the same events, wherever they lie.
 same_events : (old new : Store) → KeepsItems old new → events_kept new ≡ events_kept old

@@ -44,14 +44,13 @@ pub use Rattle.h2_joined.specs.Kept.{KeepsEnd, KeepsHanded, kept_of, made, Makes
 pub use Rattle.h2_joined.specs.Runs.{MakesAll}
 pub use Rattle.h2_joined.specs.Stored.{AreStored, event_kept, events_kept, Fits, HasRoomForEvent}
 pub use Rattle.h2_joined.specs.Stored.{IsEventPlace, IsFieldPlace, IsSpan, KeepsMore, part_of}
-pub use Rattle.h2_joined.specs.Stored.{stored_field, stored_fields}
+pub use Rattle.h2_joined.specs.Stored.{stored_field, stored_fields, EventPlace}
 pub use Rattle.h2_joined.specs.declared.act.Acted.{Acted}
 pub use Rattle.h2_joined.specs.declared.act.Side.{Side}
 pub use Rattle.h2_joined.specs.declared.joined.Joined.{Joined}
 pub use Rattle.h2_joined.specs.declared.kept.Accepted.{Accepted}
 pub use Rattle.h2_joined.specs.declared.kept.Kept.{Kept}
 pub use Rattle.h2_joined.specs.declared.pipe.Pipe.{Pipe}
-pub use Rattle.h2_joined.specs.declared.store.EventPlace.{EventPlace}
 pub use Rattle.h2_joined.specs.declared.store.FieldPlace.{FieldPlace}
 pub use Rattle.h2_joined.specs.declared.store.Span.{Span}
 pub use Rattle.h2_joined.specs.declared.store.Store.{Store}

@@ -20,24 +20,24 @@ use Rattle.h2_joined.specs.Joints.{Delivery, Whole, Fails, Stops, IsDelivered}
 use Rattle.h2_joined.specs.Stored.{HasRoomForEvent, KeepsItems}
 use Rattle.h2_joined.specs.Kept.{KeepsHanded, end_at, kept_of, other_side}
 
--- what a call of `take` answered, where this was handed out
+-- the answer of a call of `take`, with this event
 abbrev pub end_answer : Taking → Option Handed → EndAnswer
 end_answer (takings.Took used hands) handed = EndTook used handed
 end_answer (takings.Failed code) handed = EndFailed code
 
--- It says whether something was handed out.
+-- It says whether there was an event.
 abbrev pub SaysHanded : Taking → Option Handed → Type 0
 SaysHanded (takings.Took used true) handed = handed ≢ None
 SaysHanded (takings.Took used false) handed = handed ≡ None
 SaysHanded (takings.Failed code) handed = handed ≡ None
 
--- So many octets of the piece were used at most.
+-- At most `size` octets of the piece were used.
 abbrev pub UsesWithin : Taking → ℕ → Type 0
 UsesWithin (takings.Took used hands) size = used ≤ size
 UsesWithin (takings.Failed code) size = Unit {0}
 
--- The call of `take` may have this answer, the end represents what has happened then, and what was
--- handed out is kept, where there was room for whatever may be.
+-- The call of `take` may have this answer, the end represents what has happened then, and its event
+-- is kept, where there was room for the largest one.
 pub record IsTaken (values : Values) (end : EndLog) (store : Store) (piece : List ℕ)
     (taking : Taking) (new : End) (new_store : Store) : Type 0 where
   pub after : EndLog
@@ -54,7 +54,7 @@ TakesOnce old store piece taking new new_store =
     (values : Values) (end : EndLog) → EndRepresents values old end
     → IsTaken values end store piece taking new new_store
 
--- Only this end has changed, and of what is kept of it what was handed out.
+-- Only this end has changed, and of what is kept of it only the events.
 pub record ChangesOnly (side : Side) (old new : Joined) : Type 0 where
   pub other_end : end_at (other_side side) new ≡ end_at (other_side side) old
   pub other_kept : kept_of (other_side side) new ≡ kept_of (other_side side) old
@@ -70,7 +70,7 @@ pub record TookAt (side : Side) (old : Joined) (piece : List ℕ) (taking : Taki
       (end_at side new) (kept_of side new).handed
   pub only : ChangesOnly side old new
 
--- Room was made for whatever a call at an end may hand out, or memory was refused.
+-- Room was made for the largest event of a call at an end, or memory was refused.
 pub record MakesRoom (side : Side) (old : Joined) (made : Bool) (new : Joined) : Type 0 where
   pub room : made ≡ true → HasRoomForEvent (kept_of side new).handed
   pub items : KeepsItems (kept_of side old).handed (kept_of side new).handed
@@ -93,14 +93,14 @@ DeliveryGoesOn end piece nexts.Whole after =
 DeliveryGoesOn end piece (nexts.Failed code) after = EndMayTake end piece (EndFailed code) after
 DeliveryGoesOn end piece nexts.Stopped after = after ≡ end
 
--- So many octets of the piece were used at most.
+-- At most `size` octets of the piece were used.
 abbrev pub GoesWithin : Next → ℕ → Type 0
 GoesWithin (nexts.Again used) size = used ≤ size
 GoesWithin nexts.Whole size = Unit {0}
 GoesWithin (nexts.Failed code) size = Unit {0}
 GoesWithin nexts.Stopped size = Unit {0}
 
--- Whatever has happened at the end: it goes on so, and nothing is lost.
+-- Whatever has happened at the end: the delivery goes on in this way, and nothing is lost.
 pub record TakesNextOf (values : Values) (side : Side) (end : EndLog) (piece : List ℕ)
     (next : Next) (new : Joined) : Type 0 where
   pub after : EndLog
@@ -122,14 +122,14 @@ delivery_of delivered.Whole octets = Whole
 delivery_of (delivered.Failed code) octets = Fails code
 delivery_of (delivered.Stopped used) octets = Stops (drop used octets)
 
--- So many octets were used at most.
+-- At most `size` octets were used.
 abbrev pub EndsWithin : Delivered → ℕ → Type 0
 EndsWithin delivered.Whole size = Unit {0}
 EndsWithin (delivered.Failed code) size = Unit {0}
 EndsWithin (delivered.Stopped used) size = used ≤ size
 
--- Octets were delivered to an end at which this had happened: the delivery has ended so, and what
--- has happened at the end now is what is kept of it.
+-- Octets were delivered to an end at which this had happened: the delivery has ended in this way,
+-- and what has happened at the end now is what is kept of it.
 pub record TakesOctetsOf (values : Values) (side : Side) (end : EndLog) (octets : List ℕ)
     (end_of_it : Delivered) (new : Joined) : Type 0 where
   pub after : EndLog

@@ -11,7 +11,7 @@ use Rattle.h2_joined.specs.declared.act.Acted.TheVariants.{Done}
 use Rattle.h2_joined.specs.Joints.{Calls, JointEnd, Made}
 
 -- Both ends are quiet, both pipes are empty, and the last delivery to either end has not stopped:
--- so what an end has to hand out it has handed out.
+-- so all that was received was handed out.
 -- rule: joined (own) Two joined ends are quiet where both are, and both pipes are empty
 pub record AreQuiet (client server : JointEnd) : Type 0 where
   pub quiet_client : IsQuietEnd client.happened

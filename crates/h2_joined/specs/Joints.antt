@@ -43,26 +43,26 @@ pub data Doing : Type 0 where
 pub record JointEnd : Type 0 where
   -- what has happened at the end
   pub happened : EndLog
-  -- octets that the other end gave out and that weren't delivered yet, the first one first
+  -- octets that the other end has sent and that weren't delivered yet, in order
   pub incoming : List ℕ
-  -- Whether the last delivery to it has stopped, so that it may have something to hand out still.
+  -- Whether the last delivery to it has stopped, so that there may be more events of its octets.
   pub unfinished : Bool
 
--- a new end, to which no octets lead yet
+-- a new end, with an empty pipe
 abbrev pub new_joint_end : Role → Values → JointEnd
 new_joint_end role values =
     record { happened = new_end_log role values; incoming = []; unfinished = false }
 
--- the end once this has happened at it
+-- the end with this as what has happened at it
 abbrev pub with_happened : JointEnd → EndLog → JointEnd
 with_happened one happened = record one { happened = happened }
 
--- the end once a call of its connection was answered
+-- the end after a call of its connection, with its answer in the log
 abbrev pub with_answer : JointEnd → Act → Answer → JointEnd
 with_answer one act answer =
     with_happened one (end_with_log one.happened (with_call one.happened.log act answer))
 
--- the other end once the call has put octets on the pipe to it
+-- the other end after the call has put octets on the pipe to it
 -- rule: joined (own) Output is put on the pipe to the other end, as much as is asked
 abbrev pub with_given : (other one : JointEnd) → Act → Answer → JointEnd
 with_given other one act answer = record other {
@@ -70,12 +70,12 @@ with_given other one act answer = record other {
       ++ given_since one.happened.log (with_call one.happened.log act answer);
 }
 
--- what is answered, by what a call of the end has answered
+-- the result of an act, by that of a call of the end
 abbrev pub acted_by : {A : Type 0} → (A → Acted) → Result A EndRefusal → Acted
 acted_by done (Ok value) = done value
 acted_by done (Err refusal) = acted.Refused refusal
 
--- what is answered, by what a call of the connection has answered
+-- the result of an act, by the answer of a call of the connection
 abbrev pub acted_as : Answer → Acted
 acted_as (Number id) = acted.Id id
 acted_as (Count count) = acted.Count count
@@ -91,22 +91,22 @@ IsControlCall SendGoAway = Unit {0}
 IsControlCall (ChangeSettings values) = Unit {0}
 IsControlCall act = ⊥
 
--- how it ends that octets are delivered
+-- how a delivery ends
 pub data Delivery : Type 0 where
   -- all of them were used
   Whole : Delivery
   -- the connection has failed
   Fails : (code : Code) → Delivery
-  -- there was no room for what a call may hand out, or no call is left; these octets were not used
+  -- there was no room for an event, or no call is left; these octets were not used
   Stops : (unused : List ℕ) → Delivery
 
 -- how many calls of `take` a delivery makes at most: more than any can need
 abbrev pub most_calls : ℕ
 most_calls = 2 ^ 64 - 1
 
--- Octets are handed to `take` until they are used and nothing is handed out, or the connection has
--- failed; or it stops before a call, since there is no room for what that may hand out, or since so
--- many calls were made that no other is. `calls` is how many were made before.
+-- Octets are given to `take` until they are used and it returns no event, or the connection has
+-- failed; or the delivery stops before a call, since there is no room for an event, or since
+-- `most_calls` calls were made. `calls` is how many were made before.
 -- rule: joined (own) The first octets of a pipe are given to its end
 -- rule: joined (own) A delivery without memory stops before a call and loses nothing
 pub data IsDelivered : (calls : ℕ) → EndLog → List ℕ → Delivery → EndLog → Type 0 where
@@ -125,9 +125,9 @@ pub data IsDelivered : (calls : ℕ) → EndLog → List ℕ → Delivery → En
   stops : {end : EndLog} → (calls : ℕ) (octets : List ℕ)
       → IsDelivered calls end octets (Stops octets) end
 
--- What may be answered where something is done with one end, and what has happened at both then.
--- It is what the end answers to the call; and where memory was refused to copy a message or to make
--- room for what may be handed out, that.
+-- The results that an act on one end may have, and what has happened at both ends then. The result
+-- is that of the call of the end, or `Memory` where memory was refused to copy a message or to make
+-- room for an event.
 -- rule: joined (own) An act is the call of its name at its end
 -- rule: joined (own) Output is put on the pipe to the other end, as much as is asked
 -- rule: joined (own) The first octets of a pipe are given to its end
@@ -165,10 +165,10 @@ pub data MayDo (one other : JointEnd) : Doing → Acted → (new_one new_other :
         → IsDelivered 0 one.happened (take count one.incoming) (Fails code) after
         → MayDo one other (Delivers count) (acted.Failed code)
         (record { happened = after; incoming = drop count one.incoming; unfinished = false }) other
-    -- none is taken
+    -- no octets are delivered
     has_failed : (count : ℕ) (code : Code) → one.happened.log.failed ≡ Some code
         → MayDo one other (Delivers count) (acted.Failed code) one other
-    -- what was used is off the pipe, the other octets stay on it, and later acts are made as ever
+    -- the octets that were used are off the pipe, the others stay on it, and later acts are allowed
     delivery_stops : (count : ℕ) (unused : List ℕ) (after : EndLog)
         → one.happened.log.failed ≡ None
         → IsDelivered 0 one.happened (take count one.incoming) (Stops unused) after
@@ -183,13 +183,13 @@ pub data MayDo (one other : JointEnd) : Doing → Acted → (new_one new_other :
     no_copy_of_a_response : (id : ℕ) (message : SentMessage)
         → MayDo one other (Responds id message) acted.Memory one other
 
--- an act: what was done with which end, and what was answered
+-- an act with its result: what was done with which end, and what came of it
 pub record Made : Type 0 where
   pub side : Side
   pub doing : Doing
   pub acted : Acted
 
--- One act more at two ends, with its answer, and what has happened at both then.
+-- One act more at two ends, with its result, and what has happened at both then.
 -- rule: joined (own) An act is the call of its name at its end
 pub data IsNextAct (client server : JointEnd) : Made → (new_client new_server : JointEnd) → Type 0
   where

@@ -53,11 +53,11 @@ doing_of (acts.Ping side octets) = Calls (log.SendPing octets)
 doing_of (acts.GoAway side) = Calls log.SendGoAway
 doing_of (acts.ChangeSettings side config) = Calls (log.ChangeSettings (values_of config))
 
--- what was done with an end, and what was answered
+-- what was done with an end, with its result
 abbrev pub made : Side → Doing → Acted → Made
 made side doing acted = record { side = side; doing = doing; acted = acted }
 
--- an act with its answer
+-- an act with its result
 abbrev pub made_of : JointAct → Acted → Made
 made_of act acted = made (side_of act) (doing_of act) acted
 
@@ -94,7 +94,7 @@ pub record JoinedRepresents (client_values server_values : Values) (joined : Joi
   pub client_kept : KeepsEnd joined.at_client client
   pub server_kept : KeepsEnd joined.at_server server
 
--- Whatever acts were made and whatever has happened: the act may have this answer now, and the two
+-- Whatever acts were made and whatever has happened: the act may have this result now, and the two
 -- ends represent what has happened then.
 abbrev pub MakesAct : (old : Joined) → Made → (new : Joined) → Type 0
 MakesAct old act new =

@@ -76,20 +76,20 @@ pub record HasHeadline (joined : Joined) (made : List Made) (client server : Joi
     pub keep_windows : KeepWindowsThroughout made client server
     pub whole : AreQuiet client server → AreWhole joined made client
 
--- an act without its answer
+-- an act without its result
 abbrev pub act_made : Made → Side × Doing
 act_made made = (made.side, made.doing)
 
 abbrev pub joint_act_value : JointAct → Side × Doing
 joint_act_value act = (side_of act, doing_of act)
 
--- The act answered neither `Memory` nor a refusal with C12.
+-- The result is neither `Memory` nor a refusal with C12.
 pub record GotMemory (answer : Acted) : Type 0 where
   pub act : answer ≢ acted.Memory
   pub call : answer ≢ acted.Refused (Conn Memory)
 
--- More acts were made, in order, and this has happened at the two ends then: each has an answer,
--- and goes on after a refused one.
+-- More acts were made, in order, and this has happened at the two ends then. After a refused act
+-- the next one is made.
 -- rule: joined (own) An act is the call of its name at its end
 pub record MoreActs (client_values server_values : Values) (joined : Joined) (before : List Made)
     (acts : List JointAct) : Type 0 where
@@ -119,7 +119,7 @@ StopsAtAct old acts new =
     × (GotMemory last.acted → ⊥) × AllByRecursion (λ act. GotMemory act.acted) others)
 
 -- The acts were made, in order, on a new client and a new server with these values, and none
--- answered `Memory`, or was refused with C12.
+-- returned `Memory`, or was refused with C12.
 pub record RunsActs (client_values server_values : Values) (acts : List JointAct)
     (joined : Joined) : Type 0 where
   pub made : List Made

@@ -2,20 +2,19 @@
 -- and what a store is once one event more is kept.
 use Rattle.std.specs.Prelude.{map, ◌≡◌, ℕ, ◌+◌, ◌-◌, ◌≤◌, List, [], ◌∷◌, ◌++◌, length, take, drop}
 use Rattle.std.specs.List.{AllByRecursion}
+use Rattle.std.specs.Borrow.{Bor}
 use Rattle.std.specs.Vec.{vec_len, vec_capacity}
 use Rattle.hpack.specs.declared.types.field.Field.{Field}
 use Rattle.hpack.specs.Lists.{list_size}
-use Rattle.h2_spec_log.specs.Events as events
+use Rattle.h2_ends.specs.declared.event.EndEvent.{EndEvent}
+use Rattle.h2_ends.specs.declared.event.EndEvent.TheVariants as places
 use Rattle.h2_ends.specs.Ends.{Handed, InterimHanded, HeadHanded, BodyHanded, TrailersHanded}
 use Rattle.h2_ends.specs.Ends.{Passed}
+use Rattle.h2_ends.specs.EndEvents.{end_event_value}
 use Rattle.h2_joined.specs.declared.store.Span.{Span}
 use Rattle.h2_joined.specs.declared.store.FieldPlace.{FieldPlace}
-use Rattle.h2_joined.specs.declared.store.EventPlace.{EventPlace}
-use Rattle.h2_joined.specs.declared.store.EventPlace.TheVariants as places
 use Rattle.h2_joined.specs.declared.store.Store.{Store}
 use Rattle.h2_joined.specs.declared.events.KeptFields.{KeptFields}
-use Rattle.h2_joined.specs.declared.events.JointEvent.{JointEvent}
-use Rattle.h2_joined.specs.declared.events.JointEvent.TheVariants as kept
 
 -- the items of a span
 abbrev pub part_of : {A : Type 0} → List A → Span → List A
@@ -33,38 +32,33 @@ stored_field octets place = record {
 abbrev pub stored_fields : List ℕ → List FieldPlace → List Field
 stored_fields octets places = map (stored_field octets) places
 
+-- an event, with where its fields are among the fields, and its octets among the octets
+abbrev pub EventPlace : Type 0
+EventPlace = EndEvent Span Span
+
 -- the event at a place
 -- rule: joined (own) Accepted messages, what was handed out, octets on a pipe are kept
 unfoldable pub event_kept : List ℕ → List FieldPlace → EventPlace → Handed
-event_kept octets fields (places.Interim id list) =
-    InterimHanded id (stored_fields octets (part_of fields list))
-event_kept octets fields (places.Head id list end) =
-    HeadHanded id (stored_fields octets (part_of fields list)) end
-event_kept octets fields (places.Body id part end) = BodyHanded id (part_of octets part) end
-event_kept octets fields (places.Trailers id list) =
-    TrailersHanded id (stored_fields octets (part_of fields list))
-event_kept octets fields (places.Reset id code ours) = Passed (events.ResetEvent id code ours)
-event_kept octets fields (places.Unprocessed id) = Passed (events.UnprocessedEvent id)
-event_kept octets fields (places.GoAway last code) = Passed (events.GoAwayEvent last code)
-event_kept octets fields places.Acked = Passed events.AckedEvent
-event_kept octets fields (places.Pong pong) = Passed (events.PongEvent pong)
+event_kept octets fields place =
+    end_event_value (λ list. stored_fields octets (part_of fields list))
+    (λ part. part_of octets part) place
 
 -- the events that are kept, the first one first
 -- rule: joined (own) Accepted messages, what was handed out, octets on a pipe are kept
 abbrev pub events_kept : Store → List Handed
 events_kept store = map (event_kept store.octets.items store.fields.items) store.events.items
 
--- The span is among so many items.
+-- The span is within `count` items.
 pub record IsSpan (count : ℕ) (span : Span) : Type 0 where
   pub ordered : span.start ≤ span.end
   pub within : span.end ≤ count
 
--- A field lies among so many octets.
+-- A field lies within this many octets.
 pub record IsFieldPlace (octets : ℕ) (place : FieldPlace) : Type 0 where
   pub name : IsSpan octets place.name
   pub value : IsSpan octets place.value
 
--- An event lies among so many octets and fields.
+-- An event lies within this many octets and fields.
 unfoldable pub IsEventPlace : (octets fields : ℕ) → EventPlace → Type 0
 IsEventPlace octets fields (places.Interim id list) = IsSpan fields list
 IsEventPlace octets fields (places.Head id list end) = IsSpan fields list
@@ -88,34 +82,26 @@ fields_kept list = stored_fields list.octets.now list.places.now
 
 -- an event that is lent
 -- rule: joined (own) Accepted messages, what was handed out, octets on a pipe are kept
-abbrev pub joint_event_value : JointEvent → Handed
-joint_event_value (kept.Interim id list) = InterimHanded id (fields_kept list)
-joint_event_value (kept.Head id list end) = HeadHanded id (fields_kept list) end
-joint_event_value (kept.Body id octets end) = BodyHanded id octets.now end
-joint_event_value (kept.Trailers id list) = TrailersHanded id (fields_kept list)
-joint_event_value (kept.Reset id code ours) = Passed (events.ResetEvent id code ours)
-joint_event_value (kept.Unprocessed id) = Passed (events.UnprocessedEvent id)
-joint_event_value (kept.GoAway last code) = Passed (events.GoAwayEvent last code)
-joint_event_value kept.Acked = Passed events.AckedEvent
-joint_event_value (kept.Pong octets) = Passed (events.PongEvent octets)
+abbrev pub joint_event_value : EndEvent KeptFields (Bor (List ℕ)) → Handed
+joint_event_value event = end_event_value fields_kept (λ octets. octets.now) event
 
 -- the greatest number of octets, and of fields, that one event has: the size of a list, in which
 -- each field counts 32 octets more than it has, is 65,536 at most
 abbrev pub most_event_octets : ℕ
 most_event_octets = 65536
 
--- see `most_octets`: 65,536 octets, by 32 for each field
+-- see `most_event_octets`: 65,536 octets, by 32 for each field
 abbrev pub most_fields : ℕ
 most_fields = 2048
 
--- There is room for whatever a call may hand out.
+-- There is room for the largest event of a call.
 -- rule: joined (own) A delivery without memory stops before a call and loses nothing
 pub record HasRoomForEvent (store : Store) : Type 0 where
   pub events : vec_len store.events + 1 ≤ vec_capacity store.events
   pub fields : vec_len store.fields + most_fields ≤ vec_capacity store.fields
   pub octets : vec_len store.octets + most_event_octets ≤ vec_capacity store.octets
 
--- Such room is enough for what was handed out.
+-- Such room is enough for this event.
 unfoldable pub Fits : Handed → Type 0
 Fits (InterimHanded id list) = list_size list ≤ most_event_octets
 Fits (HeadHanded id list end) = list_size list ≤ most_event_octets
@@ -188,7 +174,7 @@ pub record IsPlaced (old : Store) (handed : Handed) (place : EventPlace) (new : 
     pub within : IsEventPlace (length new.octets.items) (length new.fields.items) place
 
 -- What keeping the fields and the octets of an event makes of a store, in which no event is new:
--- with room for whatever may be handed out, the place is that of the event.
+-- with room for the largest event, the place is that of this one.
 pub record PlacesEvent (old : Store) (handed : Handed) (place : EventPlace) (new : Store) : Type 0
   where
     pub events : new.events ≡ old.events

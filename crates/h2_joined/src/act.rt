@@ -1,4 +1,4 @@
-//! What is done with two joined ends, and what is answered.
+//! Acts on two joined ends, and their results.
 
 use h2_ends::{Code, Config, EndRefusal, Message};
 
@@ -25,20 +25,19 @@ pub enum JointAct {
     },
     /// An end sends what windows let through: [`Client::pump`](h2_ends::Client::pump).
     Pump(Side),
-    /// At most so many octets of an end's output are put on the pipe to the other end.
+    /// Octets of an end's output are put on the pipe to the other end.
     Move {
         /// The end whose output it is.
         from: Side,
-        /// How many octets, if as many wait.
+        /// How many octets at most: all, if the output has fewer.
         count: usize,
     },
-    /// At most so many octets of the pipe to an end are given to it:
-    /// [`Client::take`](h2_ends::Client::take) is called until they are used and nothing is handed
-    /// out.
+    /// Octets of the pipe to an end are given to it: [`Client::take`](h2_ends::Client::take) is
+    /// called until it has used them and returns no event.
     Deliver {
         /// The end that takes them.
         to: Side,
-        /// How many octets, if as many are there.
+        /// How many octets at most: all, if the pipe has fewer.
         count: usize,
     },
     /// An end returns the credit that it owes:
@@ -50,7 +49,7 @@ pub enum JointAct {
         side: Side,
         /// The stream.
         id: u32,
-        /// Why, by its number.
+        /// The error code (section 7).
         code: u32,
     },
     /// An end sends PING: [`Client::ping`](h2_ends::Client::ping).
@@ -72,13 +71,13 @@ pub enum JointAct {
     },
 }
 
-/// What an act answers.
+/// The result of an act.
 #[derive(Clone, Copy, Debug, PartialEq, Eq)]
 pub enum Acted {
     /// A Request was sent on this stream.
     Id(u32),
-    /// A Pump sent so many octets of bodies, a Move put so many on the pipe, a Deliver delivered so
-    /// many.
+    /// How many octets a Pump has sent of bodies, a Move has put on the pipe, or a Deliver has
+    /// delivered.
     Count(usize),
     /// A Respond, ReleaseAll, Reset, Ping, GoAway or ChangeSettings was done.
     Done,
@@ -87,9 +86,9 @@ pub enum Acted {
     /// The end has failed with this code as a Deliver handed it octets, or had failed before.
     Failed(Code),
     /// Memory was refused. Of a Request or Respond: to copy its message; nothing has changed. Of a
-    /// Deliver: to make room for what a call of `take` may hand out. It stopped before that call:
-    /// what was used before is off the pipe, and what was handed out is kept; nothing is lost, and
-    /// the same Deliver, made again, goes on where this one stopped. A Deliver that called `take`
-    /// 2^64 - 1 times, as none does, would stop so.
+    /// Deliver: to make room for the event of one more call of `take`. It stopped before that call:
+    /// the octets that were used are off the pipe, and the events are kept; nothing is lost, and
+    /// the same Deliver, made again, continues where this one stopped. A Deliver that called `take`
+    /// 2^64 - 1 times, as none does, would stop in the same way.
     Memory,
 }

@@ -122,7 +122,7 @@ impl Joined {
     }
 }
 
-/// The answer of a pump.
+/// The result of a pump.
 fn counted(outcome: Result<usize, EndRefusal>) -> Acted
     ensures { result ≡ acted_by acted.Count outcome }
 {
@@ -132,7 +132,7 @@ fn counted(outcome: Result<usize, EndRefusal>) -> Acted
     }
 }
 
-/// The answer once all that is owed was released.
+/// The result of a `release_all`.
 fn released(outcome: Result<(), EndRefusal>) -> Acted
     ensures { result ≡ acted_by (λ done. acted.Done) outcome }
 {
@@ -142,7 +142,7 @@ fn released(outcome: Result<(), EndRefusal>) -> Acted
     }
 }
 
-/// The answer of a call of the connection that says nothing but that it is done.
+/// The result of a call of the connection that returns no value.
 fn done(outcome: Result<(), Refusal>) -> Acted
     ensures { result ≡ acted_as (answer_by (λ done. Done) outcome) }
 {

@@ -4,8 +4,8 @@ ghost use Rattle.std.specs.Prelude.{◌≡◌, ◌==◌, ◌≤◌, length, slic
 ghost use Rattle.h2_joined.specs.Stored.{event_kept, joint_event_value, events_kept, fields_kept};
 ghost use Rattle.h2_joined.specs.Stored.{part_of};
 
-use crate::store::{EventPlace, FieldPlace, Span, Store, fields_at, octets_at};
-use h2_ends::FieldRef;
+use crate::store::{FieldPlace, Span, Store, fields_at, octets_at};
+use h2_ends::{EndEvent, FieldRef};
 use std::fmt;
 
 /// The fields of a head or of trailers that were handed out.
@@ -64,71 +64,6 @@ impl fmt::Debug for KeptFields<'_> {
     }
 }
 
-/// What an end has handed out: an [`EndEvent`](h2_ends::EndEvent) that is kept, lent.
-#[derive(Clone, Copy, Debug)]
-pub enum JointEvent<'a> {
-    /// The head of an interim response has come (1xx; RFC 9113, section 8.1).
-    Interim {
-        /// The stream.
-        id: u32,
-        /// Its fields, in order.
-        list: KeptFields<'a>,
-    },
-    /// The head of a message has come.
-    Head {
-        /// The stream.
-        id: u32,
-        /// Its fields, in order.
-        list: KeptFields<'a>,
-        /// Whether the message is whole.
-        end: bool,
-    },
-    /// Octets of a body have come.
-    Body {
-        /// The stream.
-        id: u32,
-        /// The octets; there may be none.
-        bytes: &'a [u8],
-        /// Whether the message is whole.
-        end: bool,
-    },
-    /// Trailers have come: the message is whole.
-    Trailers {
-        /// The stream.
-        id: u32,
-        /// Its fields, in order.
-        list: KeptFields<'a>,
-    },
-    /// A stream is over before its messages are (section 6.4).
-    Reset {
-        /// The stream.
-        id: u32,
-        /// Why, by its number.
-        code: u32,
-        /// Whether this end has reset it.
-        ours: bool,
-    },
-    /// The peer has not processed this request, and will not (section 6.8).
-    Unprocessed {
-        /// The stream.
-        id: u32,
-    },
-    /// The peer takes no streams above this one (section 6.8).
-    GoAway {
-        /// The least last stream that it has named.
-        last: u32,
-        /// Why, by its number.
-        code: u32,
-    },
-    /// The peer has applied this end's settings (section 6.5.3).
-    Acked,
-    /// The peer has answered this end's PING (section 6.7).
-    Pong {
-        /// The octets of the PING.
-        octets: [u8; 8],
-    },
-}
-
 /// What an end has handed out, in order, lent.
 #[derive(Clone, Copy)]
 pub struct HandedEvents<'a> {
@@ -153,7 +88,7 @@ impl<'a> HandedEvents<'a> {
     // contract: joined (own) Accepted messages, what was handed out, octets on a pipe are kept
     // rule: joined (own) Accepted messages, what was handed out, octets on a pipe are kept
     /// An event, by its place: 0 is the first.
-    pub fn get(&self, place: usize) -> Option<JointEvent<'a>>
+    pub fn get(&self, place: usize) -> Option<EndEvent<KeptFields<'a>, &'a [u8]>>
         ensures { MatchOption result (length (events_kept self.now.store.now) ≤ place)
             (λ event. slice_get (events_kept self.now.store.now) place
             ≡ Some (joint_event_value event)) }
@@ -179,34 +114,34 @@ impl fmt::Debug for HandedEvents<'_> {
 
 // rule: joined (own) Accepted messages, what was handed out, octets on a pipe are kept
 /// The event at a place of a store.
-fn lend(store: &Store, place: EventPlace) -> JointEvent<'_>
+fn lend(store: &Store, place: EndEvent<Span, Span>) -> EndEvent<KeptFields<'_>, &[u8]>
     ensures { joint_event_value result
         ≡ event_kept store.now.octets.items store.now.fields.items place }
 {
     match place {
-        EventPlace::Interim { id, list } => JointEvent::Interim {
+        EndEvent::Interim { id, list } => EndEvent::Interim {
             id,
             list: lend_fields(store, list),
         },
-        EventPlace::Head { id, list, end } => JointEvent::Head {
+        EndEvent::Head { id, list, end } => EndEvent::Head {
             id,
             list: lend_fields(store, list),
             end,
         },
-        EventPlace::Body { id, octets, end } => JointEvent::Body {
+        EndEvent::Body { id, bytes, end } => EndEvent::Body {
             id,
-            bytes: octets_at(&store.octets, octets),
+            bytes: octets_at(&store.octets, bytes),
             end,
         },
-        EventPlace::Trailers { id, list } => JointEvent::Trailers {
+        EndEvent::Trailers { id, list } => EndEvent::Trailers {
             id,
             list: lend_fields(store, list),
         },
-        EventPlace::Reset { id, code, ours } => JointEvent::Reset { id, code, ours },
-        EventPlace::Unprocessed { id } => JointEvent::Unprocessed { id },
-        EventPlace::GoAway { last, code } => JointEvent::GoAway { last, code },
-        EventPlace::Acked => JointEvent::Acked,
-        EventPlace::Pong { octets } => JointEvent::Pong { octets },
+        EndEvent::Reset { id, code, ours } => EndEvent::Reset { id, code, ours },
+        EndEvent::Unprocessed { id } => EndEvent::Unprocessed { id },
+        EndEvent::GoAway { last, code } => EndEvent::GoAway { last, code },
+        EndEvent::Acked => EndEvent::Acked,
+        EndEvent::Pong { octets } => EndEvent::Pong { octets },
     }
 }
 

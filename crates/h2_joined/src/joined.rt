@@ -56,16 +56,16 @@ impl Joined {
     // contract: joined (own) The first octets of a pipe are given to its end
     // contract: joined (own) Accepted messages, what was handed out, octets on a pipe are kept
     // contract: joined (own) A delivery without memory stops before a call and loses nothing
-    /// Makes an act, and says what came of it: what the end answers to the call of its name; for
+    /// Makes an act, and returns its result: that of the end's call of the same name; for
     /// [`JointAct::Move`] and [`JointAct::Deliver`] how many octets were moved and delivered. A
-    /// refused act has changed nothing, but for what a `release_all` or a `pump` has done before it
-    /// was refused.
+    /// refused act has changed nothing, except what a `release_all` or a `pump` did before it was
+    /// refused.
     ///
-    /// A delivery makes room for whatever a call of `take` may hand out, and then calls it. Where
-    /// memory is refused it stops before that call and answers [`Acted::Memory`]: what was used is
-    /// off the pipe, what was handed out is kept, the other octets stay on the pipe, and the same
-    /// act goes on from there. Octets that were delivered to an end that fails are off the pipe; to
-    /// an end that has failed none are delivered.
+    /// A delivery makes room for the largest event that a call of `take` can return, and then calls
+    /// it. Where memory is refused it stops before that call and returns [`Acted::Memory`]: the
+    /// octets that were used are off the pipe, the events are kept, the other octets stay on the
+    /// pipe, and the same act continues from there. Octets that were delivered to an end that fails
+    /// are off the pipe; to an end that has failed none are delivered.
     pub fn act(&mut self, act: &JointAct) -> Acted
         ensures { MakesAct self.old (made_of act.now result) self.new }
     {
@@ -85,8 +85,8 @@ impl Joined {
 
     // rule: joined (own) Two joined ends are quiet where both are, and both pipes are empty
     /// Whether nothing is under way between the two ends, and neither has anything to do: both are
-    /// quiet ([`Client::is_quiet`]), both pipes are empty, and the last delivery to either end has
-    /// not answered [`Acted::Memory`]: all was handed out. An end that has failed is not quiet.
+    /// quiet ([`Client::is_quiet`]), both pipes are empty, and the last delivery to either end did
+    /// not return [`Acted::Memory`]: all was handed out. An end that has failed is not quiet.
     pub fn quiet(&self) -> bool
         ensures { (client_values server_values : Values) (made : List Made)
             (client server : JointEnd)

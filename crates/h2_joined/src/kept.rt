@@ -13,7 +13,6 @@ ghost use Rattle.h2_joined.specs.Kept.{KeepsEnd};
 use crate::pipe::Pipe;
 use crate::store::Store;
 use h2_ends::{Field, Message};
-use hpack::list_size;
 use std::alloc::{AllocError, Global};
 
 /// What is kept of an end.
@@ -25,7 +24,7 @@ pub(crate) struct Kept {
     pub(crate) accepted: Vec<Accepted>,
     /// What it has handed out, in order.
     pub(crate) handed: Store,
-    /// Whether the last delivery to it has stopped: it may have something to hand out still.
+    /// Whether the last delivery to it has stopped: there may be more events of its octets.
     pub(crate) unfinished: bool,
 }
 
@@ -65,14 +64,32 @@ pub struct Accepted {
     pub message: Message,
 }
 
-/// A copy of fields.
+/// A field of copies of a name and a value, which are octets, as those of slices are.
+fn copy_field(
+    alloc: Global,
+    name: &[u8],
+    value: &[u8],
+    sensitive: bool,
+) -> Result<Field, AllocError>
+    ensures same { IfOk result (λ copy. copy ≡ record {
+      name = name.now;
+      value = value.now;
+      sensitive = sensitive;
+    }) }
+    ensures octets { IfOk result (λ copy. AreOctets (copy ∷ [])) }
+{
+    Field::copy_of(alloc, name, value, sensitive)
+}
+
+/// A copy of fields. Their names and values are octets.
 fn copy_fields(alloc: Global, fields: &[Field]) -> Result<Vec<Field>, AllocError>
     ensures same { IfOk result (λ copy. copy.items ≡ fields.now) }
+    ensures octets { IfOk result (λ copy. AreOctets copy.items) }
 {
     let mut copy = Vec::new(alloc);
     for field in fields {
         let (name, value) = (field.name.as_slice(), field.value.as_slice());
-        copy.push(Field::copy_of(alloc, name, value, field.sensitive)?)?;
+        copy.push(copy_field(alloc, name, value, field.sensitive)?)?;
     }
     Ok(copy)
 }
@@ -80,7 +97,8 @@ fn copy_fields(alloc: Global, fields: &[Field]) -> Result<Vec<Field>, AllocError
 // rule: joined (own) Accepted messages, what was handed out, octets on a pipe are kept
 /// A copy of a message.
 fn copy_message(alloc: Global, message: &Message) -> Result<Message, AllocError>
-    ensures { IfOk result (λ copy. message_value copy ≡ message_value message.now) }
+    ensures same { IfOk result (λ copy. message_value copy ≡ message_value message.now) }
+    ensures octets { IfOk result (λ copy. AreOctets (message_value copy).head) }
 {
     let trailers = match &message.trailers {
         Some(fields) => Some(copy_fields(alloc, fields)?),
@@ -93,14 +111,11 @@ fn copy_message(alloc: Global, message: &Message) -> Result<Message, AllocError>
     })
 }
 
-/// Two copies of a message: one for the end, and one that is kept. Its names and values are octets,
-/// which contracts speak of.
+/// Two copies of a message: one for the end, and one that is kept.
 pub(crate) fn copy_twice(alloc: Global, message: &Message) -> Result<(Message, Message), AllocError>
     ensures given { IfOk result (λ copies. message_value copies.0 ≡ message_value message.now) }
     ensures kept { IfOk result (λ copies. message_value copies.1 ≡ message_value message.now) }
-    ensures typed { AreOctets (message_value message.now).head }
+    ensures octets { IfOk result (λ copies. AreOctets (message_value message.now).head) }
 {
-    // Its contract says that names and values are octets; the sum is not used.
-    let _size = list_size(&message.head);
     Ok((copy_message(alloc, message)?, copy_message(alloc, message)?))
 }

@@ -18,10 +18,10 @@ mod running;
 mod store;
 
 pub use act::{Acted, JointAct, Side};
-pub use events::{HandedEvents, JointEvent, KeptFields};
+pub use events::{HandedEvents, KeptFields};
 pub use h2_ends::{
-    BadConfig, Client, Code, Config, Conn, EndRefusal, Field, FieldRef, Malformed, Message,
-    Refusal, Server,
+    BadConfig, Client, Code, Config, Conn, EndEvent, EndRefusal, Field, FieldRef, Malformed,
+    Message, Refusal, Server,
 };
 pub use joined::Joined;
 pub use kept::Accepted;

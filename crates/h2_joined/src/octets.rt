@@ -18,7 +18,7 @@ use std::mem;
 /// What a call of `take` made of a piece.
 #[derive(Clone, Copy)]
 pub(crate) enum Taking {
-    /// So many octets were used, and whether something was handed out, which is kept.
+    /// How many octets were used, and whether there was an event, which is kept.
     Took { used: usize, hands: bool },
     /// The connection has failed.
     Failed { code: Code },
@@ -27,7 +27,7 @@ pub(crate) enum Taking {
 /// How a delivery goes on after a call of `take`.
 #[derive(Clone, Copy)]
 pub(crate) enum Next {
-    /// With the octets after so many.
+    /// This many octets were used: with those that follow.
     Again(usize),
     /// It is over: all octets were used.
     Whole,
@@ -44,7 +44,7 @@ pub(crate) enum Delivered {
     Whole,
     /// The connection has failed.
     Failed(Code),
-    /// Memory was refused, once so many octets were used.
+    /// Memory was refused, after this many octets were used.
     Stopped(usize),
 }
 
@@ -119,7 +119,7 @@ impl Joined {
     }
 
     // rule: joined (own) The first octets of a pipe are given to its end
-    /// Hands octets to `take` until they are used and nothing is handed out, or the connection has
+    /// Gives octets to `take` until they are used and it returns no event, or the connection has
     /// failed, or memory was refused.
     fn take_all(&mut self, to: Side, octets: &[u8]) -> Delivered
         ensures { TakesDelivery to self.old octets.now result self.new }
@@ -138,7 +138,7 @@ impl Joined {
 
     // rule: joined (own) The first octets of a pipe are given to its end
     // rule: joined (own) A delivery without memory stops before a call and loses nothing
-    /// Makes room for what `take` may hand out, calls it once, and keeps what was handed out.
+    /// Makes room for an event, calls `take` once, and keeps its event.
     fn take_next(&mut self, to: Side, piece: &[u8]) -> Next
         ensures { TakesNext to self.old piece.now result self.new }
     {
@@ -160,8 +160,8 @@ impl Joined {
     }
 
     // rule: joined (own) A delivery without memory stops before a call and loses nothing
-    /// Makes room for whatever `take` of an end may hand out, and answers whether there was memory
-    /// for it.
+    /// Makes room for the largest event that `take` of an end can return, and returns whether
+    /// there was memory for it.
     fn make_room(&mut self, to: Side) -> bool
         ensures { MakesRoom to self.old result self.new }
     {
@@ -171,7 +171,7 @@ impl Joined {
         }
     }
 
-    /// Calls `take` of an end once, and keeps what was handed out.
+    /// Calls `take` of an end once, and keeps its event.
     fn take_once(&mut self, to: Side, piece: &[u8]) -> Taking
         ensures { TookAt to self.old piece.now result self.new }
     {
@@ -182,7 +182,7 @@ impl Joined {
     }
 }
 
-/// The answer once octets were put on a pipe.
+/// The result of a move.
 fn moved(outcome: Result<usize, Refusal>) -> Acted
     ensures { result ≡ acted_as (answer_by (λ given. log.Count given) outcome) }
 {
@@ -193,7 +193,7 @@ fn moved(outcome: Result<usize, Refusal>) -> Acted
 }
 
 // rule: joined (own) Accepted messages, what was handed out, octets on a pipe are kept
-/// Calls `take` of a client once, and keeps what was handed out.
+/// Calls `take` of a client once, and keeps its event.
 fn client_takes(client: &mut Client, store: &mut Store, piece: &[u8]) -> Taking
     ensures within { UsesWithin result (length piece.now) }
     ensures takes { TakesOnce client.old.end store.old piece.now result client.new.end store.new }
@@ -214,7 +214,7 @@ fn client_takes(client: &mut Client, store: &mut Store, piece: &[u8]) -> Taking
 }
 
 // rule: joined (own) Accepted messages, what was handed out, octets on a pipe are kept
-/// Calls `take` of a server once, and keeps what was handed out.
+/// Calls `take` of a server once, and keeps its event.
 fn server_takes(server: &mut Server, store: &mut Store, piece: &[u8]) -> Taking
     ensures within { UsesWithin result (length piece.now) }
     ensures takes { TakesOnce server.old.end store.old piece.now result server.new.end store.new }

@@ -1,4 +1,4 @@
-//! A pipe: octets that one end gave out and that the other has not taken yet.
+//! A pipe: octets that one end has sent and that the other has not received yet.
 
 ghost use Rattle.std.specs.Prelude.{◌≡◌, ◌≤◌, ◌*◌, ℕ, List, [], take, drop, length};
 ghost use Rattle.h2_joined.specs.Kept.{HoldsOctets};
@@ -32,7 +32,7 @@ impl Pipe {
         self.octets.len().saturating_sub(self.used)
     }
 
-    /// The first of them, and at most so many.
+    /// The first of them, at most `count`.
     pub(crate) fn first(&self, count: usize) -> &[u8]
         ensures { (octets : List ℕ) → HoldsOctets self.now octets
             → result.now ≡ take count octets }
@@ -43,8 +43,8 @@ impl Pipe {
     }
 
     // rule: joined (own) The first octets of a pipe are given to its end
-    /// Takes the first of them away. Those that were delivered are dropped once they are half of
-    /// all: so it never holds more than twice the octets that were not delivered.
+    /// Marks the first `count` of them as delivered. Delivered octets are dropped once they are
+    /// half of all: so the pipe never holds more than twice the octets that were not delivered.
     pub(crate) fn deliver(&mut self, count: usize)
         ensures holds { (octets : List ℕ) → HoldsOctets self.old octets
             → HoldsOctets self.new (drop count octets) }

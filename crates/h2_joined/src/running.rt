@@ -33,14 +33,14 @@ pub fn headline()
 // contract: joined (own) What one end has handed out is a prefix of what the other accepted
 // rule: joined (own) What one end has handed out is a prefix of what the other accepted
 /// Makes the acts, in order, on a new client and a new server. An act that is refused is an act
-/// like any other, unless it is with `Memory` (C12). The [`headline`] holds of the two ends then.
-/// That a connection has failed with INTERNAL_ERROR, since memory was refused as it took octets, is
-/// no error here: [`Conn::failed`](h2_ends::Conn::failed) says so.
+/// like any other, unless it is with [`Refusal::Memory`] (C12). The [`headline`] holds of the two
+/// ends then. That a connection has failed with INTERNAL_ERROR, since memory was refused as it took
+/// octets, is no error here: [`Conn::failed`](h2_ends::Conn::failed) says so.
 ///
 /// # Errors
 ///
-/// [`AllocError`] where memory was refused to make the two ends, or an act answered
-/// [`Acted::Memory`] or was refused with `Memory` (C12).
+/// [`AllocError`] where memory was refused to make the two ends, or an act returned
+/// [`Acted::Memory`] or was refused with [`Refusal::Memory`] (C12).
 pub fn run(
     alloc: Global,
     client: Config,
@@ -57,12 +57,12 @@ pub fn run(
 impl Joined {
     // contract: joined (own) An act is the call of its name at its end
     /// Makes the acts, in order. An act that is refused is an act like any other, and the next one
-    /// is made after it, unless it is refused with `Memory` (C12).
+    /// is made after it, unless it is refused with [`Refusal::Memory`] (C12).
     ///
     /// # Errors
     ///
-    /// [`AllocError`] where an act answered [`Acted::Memory`], or was refused with `Memory` (C12):
-    /// the acts up to that one were made, and no other.
+    /// [`AllocError`] where an act returned [`Acted::Memory`], or was refused with
+    /// [`Refusal::Memory`] (C12): the acts up to that one were made, and no other.
     pub fn act_all(&mut self, acts: &[JointAct]) -> Result<(), AllocError>
         ensures ok { OnOk result (MakesAll self.old acts.now self.new) }
         ensures err { OnErr result (StopsAtAct self.old acts.now self.new) }
@@ -76,7 +76,7 @@ impl Joined {
     }
 }
 
-/// Whether an act answered that memory was refused.
+/// Whether an act was refused memory.
 fn was_refused_memory(acted: Acted) -> bool
     ensures { (result ≡ false) ↔ GotMemory acted }
 {

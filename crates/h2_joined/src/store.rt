@@ -31,25 +31,11 @@ pub(crate) struct FieldPlace {
     pub(crate) sensitive: bool,
 }
 
-/// An event, with where its fields are among the fields, or its octets among the octets.
-#[derive(Clone, Copy)]
-pub(crate) enum EventPlace {
-    Interim { id: u32, list: Span },
-    Head { id: u32, list: Span, end: bool },
-    Body { id: u32, octets: Span, end: bool },
-    Trailers { id: u32, list: Span },
-    Reset { id: u32, code: u32, ours: bool },
-    Unprocessed { id: u32 },
-    GoAway { last: u32, code: u32 },
-    Acked,
-    Pong { octets: [u8; 8] },
-}
-
 /// What an end has handed out, in order.
 #[derive(Drop)]
 pub(crate) struct Store {
-    /// The events.
-    pub(crate) events: Vec<EventPlace>,
+    /// The events, with where their fields are among the fields, and their octets among the octets.
+    pub(crate) events: Vec<EndEvent<Span, Span>>,
     /// The fields of all of them.
     pub(crate) fields: Vec<FieldPlace>,
     /// The octets of all fields and bodies.
@@ -70,8 +56,8 @@ impl Store {
     }
 
     // rule: joined (own) A delivery without memory stops before a call and loses nothing
-    /// Makes room for whatever a call of `take` may hand out, and answers whether there was memory
-    /// for it.
+    /// Makes room for the largest event that a call of `take` can return, and returns whether there
+    /// was memory for it.
     pub(crate) fn make_room(&mut self) -> bool
         ensures items { KeepsItems self.old self.new }
         ensures room { result ≡ true → HasRoomForEvent self.new }
@@ -87,7 +73,7 @@ impl Store {
 
     // rule: joined (own) Accepted messages, what was handed out, octets on a pipe are kept
     /// Keeps an event, for which there is room: so nothing of it is refused.
-    pub(crate) fn keep(&mut self, event: EndEvent<'_>)
+    pub(crate) fn keep(&mut self, event: EndEvent<&FieldList, &[u8]>)
         ensures { HasRoomForEvent self.old → Fits (event_handed event.entry) → AreStored self.old
             → KeepsMore self.old (event_handed event.entry) self.new }
     {
@@ -96,38 +82,38 @@ impl Store {
     }
 
     // rule: joined (own) Accepted messages, what was handed out, octets on a pipe are kept
-    /// Keeps the fields and the octets of an event, and answers its place.
-    fn place_of(&mut self, event: EndEvent<'_>) -> EventPlace
+    /// Keeps the fields and the octets of an event, and returns its place.
+    fn place_of(&mut self, event: EndEvent<&FieldList, &[u8]>) -> EndEvent<Span, Span>
         ensures { PlacesEvent self.old (event_handed event.entry) result self.new }
     {
         match event {
-            EndEvent::Interim { id, list } => EventPlace::Interim {
+            EndEvent::Interim { id, list } => EndEvent::Interim {
                 id,
                 list: self.keep_list(list),
             },
-            EndEvent::Head { id, list, end } => EventPlace::Head {
+            EndEvent::Head { id, list, end } => EndEvent::Head {
                 id,
                 list: self.keep_list(list),
                 end,
             },
-            EndEvent::Body { id, bytes, end } => EventPlace::Body {
+            EndEvent::Body { id, bytes, end } => EndEvent::Body {
                 id,
-                octets: self.keep_octets(bytes),
+                bytes: self.keep_octets(bytes),
                 end,
             },
-            EndEvent::Trailers { id, list } => EventPlace::Trailers {
+            EndEvent::Trailers { id, list } => EndEvent::Trailers {
                 id,
                 list: self.keep_list(list),
             },
-            EndEvent::Reset { id, code, ours } => EventPlace::Reset { id, code, ours },
-            EndEvent::Unprocessed { id } => EventPlace::Unprocessed { id },
-            EndEvent::GoAway { last, code } => EventPlace::GoAway { last, code },
-            EndEvent::Acked => EventPlace::Acked,
-            EndEvent::Pong { octets } => EventPlace::Pong { octets },
+            EndEvent::Reset { id, code, ours } => EndEvent::Reset { id, code, ours },
+            EndEvent::Unprocessed { id } => EndEvent::Unprocessed { id },
+            EndEvent::GoAway { last, code } => EndEvent::GoAway { last, code },
+            EndEvent::Acked => EndEvent::Acked,
+            EndEvent::Pong { octets } => EndEvent::Pong { octets },
         }
     }
 
-    /// Keeps the fields of a list, and answers where they are.
+    /// Keeps the fields of a list, and returns where they are.
     fn keep_list(&mut self, list: &FieldList) -> Span
         ensures { KeepsList self.old list.now result self.new }
     {
@@ -162,7 +148,7 @@ impl Store {
         });
     }
 
-    /// Keeps octets, and answers where they are.
+    /// Keeps octets, and returns where they are.
     fn keep_octets(&mut self, octets: &[u8]) -> Span
         ensures { StoresOctets self.old octets.now result self.new }
     {

@@ -1,28 +1,22 @@
 -- Calls leave a stream active, unless they end or reset it; they make one active only where they
 -- answer its number; and one that is refused isn't active afterwards.
-use Rattle.h2_laws_end.proofs.Names.{◌≡◌, ◌≢◌, ℕ, ◌≤◌, ◌==◌, not, Bool, true, false, List, [], ◌∷◌}
-use Rattle.h2_laws_end.proofs.Names.{◌++◌, Option, Some, None, refl, sym, ap, ◌∙◌, arith, subst}
-use Rattle.h2_laws_end.proofs.Names.{list_any, both_ways, and_left, or_left, eq-eqb, ne_eqb}
-use Rattle.h2_laws_end.proofs.Names.{false_from_ne_true, and_parts, list_any-append, Field, Code}
-use Rattle.h2_laws_end.proofs.Names.{InternalError, code_number, GoAway, Reset, none_some, Item}
-use Rattle.h2_laws_end.proofs.Names.{alone, Role, Server, Refusal, Values, Act, Answer, Open}
-use Rattle.h2_laws_end.proofs.Names.{SendFields, SendData, Release, ResetStream, Refuse, SendPing}
-use Rattle.h2_laws_end.proofs.Names.{SendGoAway, ChangeSettings, Number, Count, Done, Event}
-use Rattle.h2_laws_end.proofs.Names.{is_active, Log, active, View, ended_in, log_view, refusal_of}
-use Rattle.h2_laws_end.proofs.Names.{MayAnswer, accepts, refuses, lacks, fails, IsLog, any_after}
-use Rattle.h2_laws_end.proofs.Names.{active_parts, active_used, lasts_parts}
 use Rattle.std.specs.Option.{is_some}
 use Rattle.h2_spec_log.specs.declared.refusal.Refusal.TheVariants.{NoSuchStream, Closed}
-use Rattle.h2_spec_log.specs.Items.{resets}
-use Rattle.h2_spec_log.specs.Events.{greatest_processed}
 use Rattle.h2_spec_log.specs.States.{when}
-use Rattle.h2_spec_log.specs.Log.{last_processed}
 use Rattle.h2_spec_log.specs.View.{StreamView}
 use Rattle.h2_spec_log.specs.LogView.{stream_of_log}
-use Rattle.h2_spec_log.specs.CallRules.{items_of, conditions, first_of, may_lack_memory}
-use Rattle.h2_spec_log.specs.LogCalls.{with_call}
-use Rattle.h2_laws_log.proofs.LogViewLemmas.{last_is}
+use Rattle.h2_spec_log.specs.CallRules.{first_of, may_lack_memory}
 use Rattle.h2_laws_end.specs.Activity.{call_may_close}
+use Rattle.h2_laws_end.proofs.Names
+use Names.{◌≡◌, ◌≢◌, ℕ, ◌≤◌, ◌==◌, not, Bool, true, false, List, [], ◌∷◌, ◌++◌, Option, Some, None}
+use Names.{refl, sym, ap, ◌∙◌, arith, subst, list_any, both_ways, and_left, or_left, eq-eqb, ne_eqb}
+use Names.{false_from_ne_true, and_parts, list_any-append, Field, Code, InternalError, code_number}
+use Names.{GoAway, Reset, none_some, Item, alone, Role, Server, Refusal, Values, Act, Answer, Open}
+use Names.{SendFields, SendData, Release, ResetStream, Refuse, SendPing, SendGoAway, ChangeSettings}
+use Names.{Number, Count, Done, Event, is_active, Log, active, View, ended_in, log_view, refusal_of}
+use Names.{MayAnswer, accepts, refuses, lacks, fails, IsLog, any_after, active_parts, active_used}
+use Names.{lasts_parts, resets, greatest_processed, last_processed, items_of, conditions, with_call}
+use Names.{last_is}
 use Rattle.h2_laws_end.proofs.OverCalls.{items_no_block, opens_other}
 use Rattle.h2_laws_end.proofs.OverLists.{IsInactive, inactive_sent}
 use Rattle.h2_laws_end.proofs.OverNumbers.{fields_active}
@@ -94,8 +88,7 @@ pub active_by_call : (role : Role) (values : Values) (log : Log) (act : Act) (an
 active_by_call role values log act answer i is may alive none =
     let low = active_low role values log i is alive in
     stays_by log (with_call log act answer) act answer i (call_after log act answer may) alive
-    (items_harmless log.role i (log_view log) act answer none
-    (opens_other log i act answer may
+    (items_harmless log.role i (log_view log) act answer none (opens_other log i act answer may
     (active_used log.role i log.received log.sent log.reported alive)) low) low
 
 -- A stream that isn't active is so after a call only if the call answers its number.
@@ -129,8 +122,7 @@ refusal_resets log after id code (was_broken fault adds failed) up =
     none_some fault (sym up ∙ failed)
 refusal_resets log after id code (was_accepted credit is_credit none is adds) up =
     let reset = alone (Reset id code) ∷ [] in
-    let here : list_any (resets id) reset ≡ true =
-    or_left (id == id) false (eq-eqb id id refl) in
+    let here : list_any (resets id) reset ≡ true = or_left (id == id) false (eq-eqb id id refl) in
     let there : list_any (resets id) ((credit ++ reset) ++ log.sent) ≡ true =
     list_any-append (resets id) (credit ++ reset) log.sent
     ∙ or_left _ (list_any (resets id) log.sent) (any_after (resets id) credit reset here) in

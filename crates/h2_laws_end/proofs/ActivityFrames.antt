@@ -1,21 +1,15 @@
 -- What a frame makes of the streams that are active: which it may close, and which it may open.
-use Rattle.h2_laws_end.proofs.Names.{◌≡◌, ◌⊎◌, ℕ, ◌≤◌, ◌==◌, Bool, true, false, List, [], ◌∷◌, ◌++◌}
-use Rattle.h2_laws_end.proofs.Names.{Option, refl, sym, ap, ◌∙◌, inl, inr, arith, subst, list_any}
-use Rattle.h2_laws_end.proofs.Names.{both_ways, or_cases, or_parts, or_from, or_left, cases_Bool}
-use Rattle.h2_laws_end.proofs.Names.{eqb-true, eq-eqb, false_from_ne_true, list_any-append, Field}
-use Rattle.h2_laws_end.proofs.Names.{Code, code_number, GoAway, Reset, Item, alone, block, Role}
-use Rattle.h2_laws_end.proofs.Names.{Client, Server, is_goaway_below, Event, FieldsEvent, openings}
-use Rattle.h2_laws_end.proofs.Names.{is_active, Log, active, log_view, Verdict, ConnectionFault}
-use Rattle.h2_laws_end.proofs.Names.{StreamFault, NoEvent, Reported, Decoded, verdict_of, any_after}
-use Rattle.h2_laws_end.proofs.Names.{active_before, active_parts, none_both, IsCredit}
-use Rattle.std.proofs.lemmas.Bool.{or_right}
-use Rattle.h2_spec_log.specs.Items.{is_block_on, resets, stream_of_item}
-use Rattle.h2_spec_log.specs.States.{is_above, is_closed_by_us}
-use Rattle.h2_spec_log.specs.Log.{last_processed}
-use Rattle.h2_spec_log.specs.ItemRules.{replies_to, is_stream_fault}
-use Rattle.h2_spec_log.specs.ItemEffects.{events_of, decoded_fields}
-use Rattle.h2_laws_log.proofs.ItemLists.{goaway_no_block, replies_no_block}
-use Rattle.h2_laws_end.specs.Activity.{event_may_close}
+use Rattle.h2_spec_log.specs.ItemEffects.{decoded_fields}
+use Rattle.h2_laws_end.proofs.Names
+use Names.{◌≡◌, ◌⊎◌, ℕ, ◌≤◌, ◌==◌, Bool, true, false, List, [], ◌∷◌, ◌++◌, Option, refl, sym, ap}
+use Names.{◌∙◌, inl, inr, arith, subst, list_any, both_ways, or_cases, or_parts, or_from, or_left}
+use Names.{cases_Bool, eqb-true, eq-eqb, false_from_ne_true, list_any-append, Field, Code}
+use Names.{code_number, GoAway, Reset, Item, alone, block, Role, Client, Server, is_goaway_below}
+use Names.{Event, FieldsEvent, openings, is_active, Log, active, log_view, Verdict, ConnectionFault}
+use Names.{StreamFault, NoEvent, Reported, Decoded, verdict_of, any_after, active_before}
+use Names.{active_parts, none_both, IsCredit, or_right, is_block_on, resets, stream_of_item}
+use Names.{is_above, is_closed_by_us, last_processed, replies_to, is_stream_fault, events_of}
+use Names.{goaway_no_block, replies_no_block, event_may_close}
 use Rattle.h2_laws_end.proofs.ReadVerdicts.{Says, says_of}
 use Rattle.h2_laws_end.proofs.ReadingRules.{IsFaulty, IsUnreported, IsSaid, LogIsLow, rules_say}
 use Rattle.h2_laws_end.proofs.ActivityItems.{closes, closes_own, silent_keeps, reported_closes}
@@ -77,8 +71,7 @@ frame_keeps_active before after decoded i (has_broken code last up adds failed) 
     ) refl
 frame_keeps_active before after decoded i
     (has_read item verdict credit is on is_credit adds failed) alive low none =
-    let kept = item_keeps before decoded item verdict i is on alive
-    (none failed _ adds.reported) in
+    let kept = item_keeps before decoded item verdict i is on alive (none failed _ adds.reported) in
     let both = or_parts _ _ kept.0 in
     active_added before after (item ∷ []) _ _ i adds
     ∙ stays_active before.role i (item ∷ []) (credit ++ replies_to verdict item)
@@ -167,15 +160,14 @@ fields_reported : (before after : Log) (decoded : Option Decoded) (item : Item) 
     → after.reported ≡ events_of (log_view before) decoded Reported item ++ before.reported
     → after.failed ≡ before.failed → HasFields before after i
 unfolding is_block_on events_of
-fields_reported before after decoded (block stream end octets) i is reported failed =
-    record {
-      fields = decoded_fields decoded;
-      end = end;
-      one = reported
-          ∙ ap (λ (j : ℕ). FieldsEvent j (decoded_fields decoded) end ∷ before.reported)
-          (eqb-true stream i is);
-      same = failed;
-    }
+fields_reported before after decoded (block stream end octets) i is reported failed = record {
+  fields = decoded_fields decoded;
+  end = end;
+  one = reported
+      ∙ ap (λ (j : ℕ). FieldsEvent j (decoded_fields decoded) end ∷ before.reported)
+      (eqb-true stream i is);
+  same = failed;
+}
 fields_reported before after decoded (alone frame) i is reported failed =
     absurd (both_ways false refl is)
 

@@ -1,24 +1,16 @@
 -- What the verdict on an item says of the stream that it ends, resets or opens, and of what is
 -- reported of it.
-use Rattle.h2_laws_end.proofs.Names.{◌≡◌, ℕ, ◌==◌, ◌&&◌, Bool, true, false, List, [], ◌∷◌, Option}
-use Rattle.h2_laws_end.proofs.Names.{Some, None, refl, sym, ◌∙◌, inl, inr, subst, list_any}
-use Rattle.h2_laws_end.proofs.Names.{both_ways, or_cases, or_left, and_parts, eqb-true}
-use Rattle.h2_laws_end.proofs.Names.{false_from_ne_true, Code, Data, Reset, Item, alone, block}
-use Rattle.h2_laws_end.proofs.Names.{State, Idle, Active, ClosedByUs, Closed, is_used, Log, active}
-use Rattle.h2_laws_end.proofs.Names.{state, View, log_view, Verdict, ConnectionFault, NoEvent}
-use Rattle.h2_laws_end.proofs.Names.{Reported, Decoded, peer_opens, verdict_of, active_used}
-use Rattle.h2_laws_end.proofs.Names.{state_is_active, used_more, used_here, is_number_used}
-use Rattle.std.proofs.Common.{◌||◌}
-use Rattle.h2_frame.specs.Encoding.{stream_of}
-use Rattle.h2_spec_log.specs.Items.{ends, resets, stream_of_item}
 use Rattle.h2_spec_log.specs.Events.{reports_unprocessed}
-use Rattle.h2_spec_log.specs.States.{state_by}
 use Rattle.h2_spec_log.specs.Log.{goaway_written}
-use Rattle.h2_spec_log.specs.ItemRules.{verdict_by_rules}
-use Rattle.h2_spec_log.specs.ItemEffects.{events_of}
 use Rattle.h2_laws_log.proofs.ReaderStates.{state_active}
-use Rattle.h2_laws_log.proofs.ReplyInvariant.{idle_unused}
-use Rattle.h2_laws_end.specs.Activity.{event_may_close}
+use Rattle.h2_laws_end.proofs.Names
+use Names.{◌≡◌, ℕ, ◌==◌, ◌&&◌, Bool, true, false, List, [], ◌∷◌, Option, Some, None, refl, sym, ◌∙◌}
+use Names.{inl, inr, subst, list_any, both_ways, or_cases, or_left, and_parts, eqb-true}
+use Names.{false_from_ne_true, Code, Data, Reset, Item, alone, block, State, Idle, Active}
+use Names.{ClosedByUs, Closed, is_used, Log, active, state, View, log_view, Verdict}
+use Names.{ConnectionFault, NoEvent, Reported, Decoded, peer_opens, verdict_of, active_used}
+use Names.{state_is_active, used_more, used_here, is_number_used, ◌||◌, stream_of, ends, resets}
+use Names.{stream_of_item, state_by, verdict_by_rules, events_of, idle_unused, event_may_close}
 use Rattle.h2_laws_end.proofs.ReadVerdicts.{Says, says_data, says_of, says_block, says_reset}
 use Rattle.h2_laws_end.proofs.ReadingRules.{IsFaulty}
 
@@ -83,8 +75,7 @@ silent_keeps log decoded item i is alive =
     let own = closes_own i item closed in
     let here : state log (stream_of_item item) ≡ Active =
     subst (λ (j : ℕ). state log j ≡ Active) (sym own) (active_state log i alive) in
-    subst (Says (Unit {0}) ⊥ (Unit {0})) is
-    (says_of (Unit {0}) ⊥ (Unit {0}) log decoded item
+    subst (Says (Unit {0}) ⊥ (Unit {0})) is (says_of (Unit {0}) ⊥ (Unit {0}) log decoded item
     (active_reported log decoded item here i closed)))
 
 -- What is reported of an item that closes a stream may close it.
@@ -166,11 +157,9 @@ pub unused_kept : (log : Log) (decoded : Option Decoded) (item : Item) (verdict 
 unused_kept log decoded item verdict i is on unused =
     false_from_ne_true _ (λ closed.
     let says = says_of _ _ _ log decoded item (used_reported log decoded item i closed) in
-    let here : IsFaulty log item =
-    said_of (IsFaulty log item) verdict on
+    let here : IsFaulty log item = said_of (IsFaulty log item) verdict on
     (subst (Says (IsFaulty log item) (IsFaulty log item) (IsFaulty log item)) is says) in
-    both_ways _ unused
-    (subst (λ (j : ℕ). is_used log.role j (item ∷ log.received) log.sent ≡ true)
+    both_ways _ unused (subst (λ (j : ℕ). is_used log.role j (item ∷ log.received) log.sent ≡ true)
     (closes_own i item closed) here))
 
 -- A block that is reported, of a stream that isn't active, is one that the peer opens, where no

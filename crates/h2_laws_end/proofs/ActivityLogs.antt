@@ -1,22 +1,18 @@
 -- What holds of every log: of a number that wasn't used nothing was read or reported; and at a
 -- server each active stream was processed.
-use Rattle.h2_laws_end.proofs.Names.{◌≡◌, ◌≢◌, ℕ, ◌≤◌, true, false, List, [], ◌∷◌, ◌++◌, Option}
-use Rattle.h2_laws_end.proofs.Names.{None, refl, sym, ◌∙◌, inl, inr, arith, subst, list_any}
-use Rattle.h2_laws_end.proofs.Names.{both_ways, or_parts, or_from, eqb-true, false_from_ne_true}
-use Rattle.h2_laws_end.proofs.Names.{Code, InternalError, wire_fault_code, Item, Role, Client}
-use Rattle.h2_laws_end.proofs.Names.{Server, Values, Act, Answer, ends, resets, Event}
-use Rattle.h2_laws_end.proofs.Names.{UnprocessedEvent, is_used, is_active, Log, active}
-use Rattle.h2_laws_end.proofs.Names.{next_unprocessed, log_view, Verdict, ConnectionFault, Decoded}
-use Rattle.h2_laws_end.proofs.Names.{replies_to, verdict_of, events_of, took_none, IsLog, begins}
-use Rattle.h2_laws_end.proofs.Names.{took_some, took_one, met_fault, ran_out_of_memory}
-use Rattle.h2_laws_end.proofs.Names.{reported_one, called_one, active_parts, active_used, used_more}
-use Rattle.h2_laws_end.proofs.Names.{none_both}
-use Rattle.h2_spec_log.specs.Events.{reports_unprocessed, greatest_processed, processed_by}
-use Rattle.h2_spec_log.specs.LogSteps.{used, with_sent}
-use Rattle.h2_spec_log.specs.LogCalls.{opened}
+use Rattle.h2_spec_log.specs.Events.{reports_unprocessed}
 use Rattle.h2_laws_log.proofs.NextStreams.{next_is_active}
 use Rattle.h2_laws_log.proofs.LogHistory.{processed_after}
 use Rattle.h2_laws_end.specs.Over.{is_number_used as was_used}
+use Rattle.h2_laws_end.proofs.Names
+use Names.{◌≡◌, ◌≢◌, ℕ, ◌≤◌, true, false, List, [], ◌∷◌, ◌++◌, Option, None, refl, sym, ◌∙◌, inl}
+use Names.{inr, arith, subst, list_any, both_ways, or_parts, or_from, eqb-true, false_from_ne_true}
+use Names.{Code, InternalError, wire_fault_code, Item, Role, Client, Server, Values, Act, Answer}
+use Names.{ends, resets, Event, UnprocessedEvent, is_used, is_active, Log, active, next_unprocessed}
+use Names.{log_view, Verdict, ConnectionFault, Decoded, replies_to, verdict_of, events_of}
+use Names.{took_none, IsLog, begins, took_some, took_one, met_fault, ran_out_of_memory}
+use Names.{reported_one, called_one, active_parts, active_used, used_more, none_both}
+use Names.{greatest_processed, processed_by, used, with_sent, opened}
 use Rattle.h2_laws_end.proofs.ReadingCalls.{log_read}
 use Rattle.h2_laws_end.proofs.ReadingRules.{LogIsLow}
 use Rattle.h2_laws_end.proofs.ActivityFrames.{was_active, frame_opens, HasFields}
@@ -95,10 +91,8 @@ known_read before after decoded item verdict credit i is on adds low known =
     record {
       unreset = λ now. rw (adds.received) (or_from _ _ (kept now).1 (known.unreset (unused now)));
       unended = λ now. rw (adds.received) (or_from _ _ (kept now).0 (known.unended (unused now)));
-      unnamed = λ now. rw (adds.reported)
-          (none_both (reports_unprocessed i) _ before.reported
-          (events_name_none (log_view before) decoded verdict item i)
-          (known.unnamed (unused now)));
+      unnamed = λ now. rw (adds.reported) (none_both (reports_unprocessed i) _ before.reported
+          (events_name_none (log_view before) decoded verdict item i) (known.unnamed (unused now)));
       processed = low;
     }
 
@@ -152,13 +146,12 @@ none_first Client i sent server alive = cc
 
 known_first : (role : Role) (values : Values) (i : ℕ) → LogIsKnown i (opened role values)
 unfolding opened with_sent
-known_first role values i =
-    record {
-      unreset = λ unused. refl;
-      unended = λ unused. refl;
-      unnamed = λ unused. refl;
-      processed = λ server alive. absurd (none_first role i _ server alive);
-    }
+known_first role values i = record {
+  unreset = λ unused. refl;
+  unended = λ unused. refl;
+  unnamed = λ unused. refl;
+  processed = λ server alive. absurd (none_first role i _ server alive);
+}
 
 -- Every log.
 pub known_of_logs : (role : Role) (values : Values) (log : Log) → IsLog role values log → (i : ℕ)

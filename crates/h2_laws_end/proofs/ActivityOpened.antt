@@ -1,26 +1,21 @@
 -- A stream is active once a call has answered its number; or, where it wasn't active, once fields
 -- of it were reported: at a server.
-use Rattle.h2_laws_end.proofs.Names.{◌≡◌, ℕ, ◌%◌, ◌==◌, Bool, true, false, List, [], ◌∷◌, ◌++◌}
-use Rattle.h2_laws_end.proofs.Names.{Option, Some, refl, sym, ◌∙◌, subst, list_any, both_ways}
-use Rattle.h2_laws_end.proofs.Names.{or_from, and_left, and_parts, false_from_ne_true}
-use Rattle.h2_laws_end.proofs.Names.{append_cancel_right, Field, Code, Data, Item, alone, block}
-use Rattle.h2_laws_end.proofs.Names.{Role, Client, Server, Values, Open, Number, is_block_on, ends}
-use Rattle.h2_laws_end.proofs.Names.{resets, is_goaway_below, Event, FieldsEvent, is_active, Log}
-use Rattle.h2_laws_end.proofs.Names.{active, log_view, Verdict, ConnectionFault, Reported, Decoded}
-use Rattle.h2_laws_end.proofs.Names.{replies_to, verdict_of, answer_of, MayAnswer, accepts, refuses}
-use Rattle.h2_laws_end.proofs.Names.{lacks, fails, with_call, AllowedHistory, IsLog, stream_of_log}
-use Rattle.h2_laws_end.proofs.Names.{written_is_allowed, grows_call, none_both, is_number_used}
-use Rattle.h2_laws_end.proofs.Names.{MayTake, Took, has_failed, ends_no_frame, ends_frame}
-use Rattle.h2_laws_end.proofs.Names.{meets_fault, runs_out_of_memory, IsCredit}
 use Rattle.h2_spec_log.specs.Events.{reports_unprocessed}
-use Rattle.h2_spec_log.specs.States.{is_above, is_used}
-use Rattle.h2_spec_log.specs.ItemEffects.{events_of}
-use Rattle.h2_spec_log.specs.CallRules.{items_of}
 use Rattle.h2_laws_log.proofs.OpenedStreams.{block_first, block_resets, ends_used, no_goaway_below}
 use Rattle.h2_laws_log.proofs.OpenedStreams.{open_at_server, server_of}
-use Rattle.h2_laws_log.proofs.ReaderStates.{active_from, lasts_from}
 use Rattle.h2_laws_log.proofs.ReplyInvariant.{resets_used}
 use Rattle.h2_laws_end.specs.Takes.{reports_unprocessed as named_one}
+use Rattle.h2_laws_end.proofs.Names
+use Names.{◌≡◌, ℕ, ◌%◌, ◌==◌, Bool, true, false, List, [], ◌∷◌, ◌++◌, Option, Some, refl, sym, ◌∙◌}
+use Names.{subst, list_any, both_ways, or_from, and_left, and_parts, false_from_ne_true}
+use Names.{append_cancel_right, Field, Code, Data, Item, alone, block, Role, Client, Server, Values}
+use Names.{Open, Number, is_block_on, ends, resets, is_goaway_below, Event, FieldsEvent, is_active}
+use Names.{Log, active, log_view, Verdict, ConnectionFault, Reported, Decoded, replies_to}
+use Names.{verdict_of, answer_of, MayAnswer, accepts, refuses, lacks, fails, with_call}
+use Names.{AllowedHistory, IsLog, stream_of_log, written_is_allowed, grows_call, none_both}
+use Names.{is_number_used, MayTake, Took, has_failed, ends_no_frame, ends_frame, meets_fault}
+use Names.{runs_out_of_memory, IsCredit, is_above, is_used, events_of, items_of, active_from}
+use Names.{lasts_from}
 use Rattle.h2_laws_end.proofs.OverNumbers.{opened_is_new, block_there}
 use Rattle.h2_laws_end.proofs.ActivityFrames.{active_added}
 use Rattle.h2_laws_end.proofs.ActivityItems.{new_reported, events_name_none}
@@ -134,14 +129,11 @@ block_opens before after decoded i end octets credit is is_credit adds inactive 
           ∙ open_at_server before.role i (item ∷ before.received) (items ++ before.sent) _ server
           (and_parts _ _ new.0).1 (block_first i end octets before.received)
           (none_both (is_goaway_below i) items before.sent
-          (none_below before.role i items server harmless)
-          (no_goaway_below i before.sent new.1))
+          (none_below before.role i items server harmless) (no_goaway_below i before.sent new.1))
           (none_both (ends i) items before.sent (none_ends before.role i items harmless)
-          unsaid.unended)
-          (or_from _ _ (block_resets i i end octets) (known.unreset new.2))
+          unsaid.unended) (or_from _ _ (block_resets i i end octets) (known.unreset new.2))
           (none_both (resets i) items before.sent (none_resets before.role i items harmless)
-          unsaid.unreset)
-          (none_both (reports_unprocessed i)
+          unsaid.unreset) (none_both (reports_unprocessed i)
           (events_of (log_view before) decoded Reported item) before.reported
           (events_name_none (log_view before) decoded Reported item i) (known.unnamed new.2)),
     )

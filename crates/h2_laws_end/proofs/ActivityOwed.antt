@@ -1,29 +1,19 @@
 -- Where nothing is owed on a stream, nothing is after a call, nor after a call of `take` that
 -- reports no octets of it.
-use Rattle.h2_laws_end.proofs.Names.{◌≡◌, ℕ, ◌+◌, ◌-◌, ◌≤◌, true, false, List, [], ◌∷◌, ◌++◌}
-use Rattle.h2_laws_end.proofs.Names.{Option, Some, None, refl, sym, ap, ◌∙◌, inl, inr, arith, subst}
-use Rattle.h2_laws_end.proofs.Names.{both_ways, cases_Bool, false_from_ne_true, append_cancel_right}
-use Rattle.h2_laws_end.proofs.Names.{Code, InternalError, Frame, wire_fault_code, none_some, Item}
-use Rattle.h2_laws_end.proofs.Names.{Role, Values, Act, Answer, Open, Number, Event, DataEvent}
-use Rattle.h2_laws_end.proofs.Names.{UnprocessedEvent, Log, active, next_unprocessed, Decoded}
-use Rattle.h2_laws_end.proofs.Names.{with_failure, took_frame, took_none, MayAnswer, accepts}
-use Rattle.h2_laws_end.proofs.Names.{refuses, lacks, fails, with_call, IsLog, none_holds}
-use Rattle.h2_laws_end.proofs.Names.{history_of, active_before, holds_failure, unreleased_is}
-use Rattle.h2_laws_end.proofs.Names.{TakeAnswer, MayTake, Took, Failed, events_answered}
-use Rattle.h2_laws_end.proofs.Names.{AnswersFrame, has_failed, ends_no_frame, ends_frame}
-use Rattle.h2_laws_end.proofs.Names.{meets_fault, runs_out_of_memory}
-use Rattle.h2_spec_log.specs.Events.{flow_on, reported_total}
-use Rattle.h2_spec_log.specs.Log.{owed, released, unreleased}
-use Rattle.h2_spec_log.specs.CallRules.{conditions}
-use Rattle.h2_spec_log.specs.LogSteps.{used}
-use Rattle.h2_laws_log.proofs.PartsStay.{SameCalls, calls_written, calls_read, call_calls}
-use Rattle.hpack.proofs.Tests.{none_since}
-use Rattle.h2_laws_log.proofs.InvariantLogs.{log_represents}
-use Rattle.h2_laws_log.proofs.LogHistory.{reported_append}
-use Rattle.h2_laws_log.proofs.LogInvariant.{Good}
-use Rattle.h2_laws_log.proofs.GrowthBySteps.{holds_frame, holds_none, holds_used}
+use Rattle.h2_laws_log.proofs.PartsStay.{SameCalls, calls_written, calls_read}
 use Rattle.h2_laws_end.specs.Takes.{reports_unprocessed as named_one}
 use Rattle.h2_laws_end.specs.Activity.{take_has_data}
+use Rattle.h2_laws_end.proofs.Names
+use Names.{◌≡◌, ℕ, ◌+◌, ◌-◌, ◌≤◌, true, false, List, [], ◌∷◌, ◌++◌, Option, Some, None, refl, sym}
+use Names.{ap, ◌∙◌, inl, inr, arith, subst, both_ways, cases_Bool, false_from_ne_true}
+use Names.{append_cancel_right, Code, InternalError, Frame, wire_fault_code, none_some, Item, Role}
+use Names.{Values, Act, Answer, Open, Number, Event, DataEvent, UnprocessedEvent, Log, active}
+use Names.{next_unprocessed, Decoded, with_failure, took_frame, took_none, MayAnswer, accepts}
+use Names.{refuses, lacks, fails, with_call, IsLog, none_holds, history_of, active_before}
+use Names.{holds_failure, unreleased_is, TakeAnswer, MayTake, Took, Failed, events_answered}
+use Names.{AnswersFrame, has_failed, ends_no_frame, ends_frame, meets_fault, runs_out_of_memory}
+use Names.{flow_on, reported_total, owed, released, unreleased, conditions, used, call_calls}
+use Names.{none_since, log_represents, reported_append, Good, holds_frame, holds_none, holds_used}
 use Rattle.h2_laws_end.proofs.OverRoom.{released_more, owed_inactive, owed_active, owed_none}
 use Rattle.h2_laws_end.proofs.ActivityCalls.{inactive_by_call}
 use Rattle.h2_laws_end.proofs.ActivityFrames.{active_added}
@@ -96,8 +86,7 @@ call_releases log act answer i = rw (call_calls log act answer)
 -- Only a call that opens a stream answers a number, as long as the connection is up.
 number_up : (log : Log) (act : Act) (i : ℕ) → MayAnswer log act (Number i) → log.failed ≡ None
 unfolding conditions
-number_up log (Open fields end) i (accepts none is) =
-    none_since log.failed (none_holds _ none).0
+number_up log (Open fields end) i (accepts none is) = none_since log.failed (none_holds _ none).0
 number_up log act i (accepts none is) = cc
 number_up log act i (refuses refusal holds is) = cc
 number_up log act i (lacks none may is) = cc
@@ -201,8 +190,7 @@ frame_quiet : (before after : Log) (count i : ℕ) (answer : TakeAnswer) → bef
     → after.reported ≡ events ++ before.reported → reported_total (flow_on i) events ≡ 0
 frame_quiet before after count i (Took n event) up answers none same events is =
     subst (λ (line : List Event). reported_total (flow_on i) line ≡ 0)
-    (append_cancel_right _ _ before.reported (sym answers.2 ∙ is))
-    (answered_quiet i n event none)
+    (append_cancel_right _ _ before.reported (sym answers.2 ∙ is)) (answered_quiet i n event none)
 frame_quiet before after count i (Failed code) up answers none same events is =
     none_some code (sym up ∙ sym same ∙ answers)
 

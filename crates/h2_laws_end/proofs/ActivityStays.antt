@@ -1,20 +1,14 @@
 -- What keeps a stream active: what is read, written and reported neither ends it, nor resets it,
 -- nor is a GOAWAY with a last stream below it, nor names it unprocessed.
-use Rattle.h2_laws_end.proofs.Names.{◌≡◌, ℕ, ◌≤◌, ◌==◌, ◌&&◌, Bool, true, false, if◌then◌else◌}
-use Rattle.h2_laws_end.proofs.Names.{List, [], ◌∷◌, ◌++◌, length, None, refl, ◌∙◌, inl, inr, arith}
-use Rattle.h2_laws_end.proofs.Names.{list_any, AllByRecursion, or_from, false_from_ne_true}
-use Rattle.h2_laws_end.proofs.Names.{list_any-append, code_number, Data, Reset, Settings, Ping}
-use Rattle.h2_laws_end.proofs.Names.{GoAway, WindowUpdate, Item, alone, block, Role, Client, Server}
-use Rattle.h2_laws_end.proofs.Names.{is_block_on, stream_of_item, Event, openings, is_active}
-use Rattle.h2_laws_end.proofs.Names.{Verdict, ConnectionFault, StreamFault, NoEvent, Reported}
-use Rattle.h2_laws_end.proofs.Names.{data_items, any_after, active_parts, lasts_parts, none_both}
-use Rattle.h2_laws_end.proofs.Names.{IsCredit}
-use Rattle.std.proofs.lemmas.Bool.{and_right, ltb-true}
-use Rattle.h2_spec_log.specs.Items.{ends, resets, is_goaway_below}
 use Rattle.h2_spec_log.specs.Events.{reports_unprocessed}
-use Rattle.h2_spec_log.specs.States.{is_above}
-use Rattle.h2_spec_log.specs.ItemRules.{replies_to, is_stream_fault}
-use Rattle.h2_laws_log.proofs.ReaderStates.{active_from, lasts_from}
+use Rattle.h2_laws_end.proofs.Names
+use Names.{◌≡◌, ℕ, ◌≤◌, ◌==◌, ◌&&◌, Bool, true, false, if◌then◌else◌, List, [], ◌∷◌, ◌++◌, length}
+use Names.{None, refl, ◌∙◌, inl, inr, arith, list_any, AllByRecursion, or_from, false_from_ne_true}
+use Names.{list_any-append, code_number, Data, Reset, Settings, Ping, GoAway, WindowUpdate, Item}
+use Names.{alone, block, Role, Client, Server, is_block_on, stream_of_item, Event, openings}
+use Names.{is_active, Verdict, ConnectionFault, StreamFault, NoEvent, Reported, data_items}
+use Names.{any_after, active_parts, lasts_parts, none_both, IsCredit, and_right, ltb-true, ends}
+use Names.{resets, is_goaway_below, is_above, replies_to, is_stream_fault, active_from, lasts_from}
 use Rattle.h2_laws_end.proofs.DataItems.{body_all, all_of_both}
 
 -- An item that is written doesn't close the stream.
@@ -56,15 +50,14 @@ harmless_reset role i id code is =
 pub harmless_goaway : (role : Role) (i last code : ℕ) → (role ≡ Server → i ≤ last)
     → IsHarmless role i (alone (GoAway last code []))
 unfolding ends resets is_goaway_below
-harmless_goaway role i last code low =
-    record {
-      ends_not = refl;
-      resets_not = refl;
-      below_not = λ server. false_from_ne_true _ (λ below.
-          let less = ltb-true last i below in
-          let most = low server in
-          absurd (omega (arith, less, most)));
-    }
+harmless_goaway role i last code low = record {
+  ends_not = refl;
+  resets_not = refl;
+  below_not = λ server. false_from_ne_true _ (λ below.
+      let less = ltb-true last i below in
+      let most = low server in
+      absurd (omega (arith, less, most)));
+}
 
 -- WINDOW_UPDATE, SETTINGS and PING.
 harmless_update : (role : Role) (i id count : ℕ)
@@ -128,8 +121,7 @@ harmless_replies role i Reported item other = tt
 pub none_ends : (role : Role) (i : ℕ) (items : List Item) → AreHarmless role i items
     → list_any (ends i) items ≡ false
 none_ends role i [] are = refl
-none_ends role i (item ∷ items) are =
-    or_from _ _ are.0.ends_not (none_ends role i items are.1)
+none_ends role i (item ∷ items) are = or_from _ _ are.0.ends_not (none_ends role i items are.1)
 
 pub none_resets : (role : Role) (i : ℕ) (items : List Item) → AreHarmless role i items
     → list_any (resets i) items ≡ false
@@ -157,8 +149,7 @@ pub opened_after : (role : Role) (i : ℕ) (reads items received sent : List Ite
     → list_any (is_block_on i) (openings role received sent) ≡ true
     → list_any (is_block_on i) (openings role (reads ++ received) (items ++ sent)) ≡ true
 opened_after Client i reads items received sent here = any_after (is_block_on i) items sent here
-opened_after Server i reads items received sent here =
-    any_after (is_block_on i) reads received here
+opened_after Server i reads items received sent here = any_after (is_block_on i) reads received here
 
 -- Two ends aren't both, where the one isn't new and the other isn't either.
 not_both : (p : Item → Bool) (reads received items sent : List Item)

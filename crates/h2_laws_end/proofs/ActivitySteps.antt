@@ -1,21 +1,15 @@
 -- What each step puts before what was read, written and reported, and what it says of it.
-use Rattle.h2_laws_end.proofs.Names.{◌≡◌, ◌≤◌, ℕ, ◌+◌, List, [], ◌∷◌, ◌++◌, Option, Some, None}
-use Rattle.h2_laws_end.proofs.Names.{refl, sym, ap, ◌∙◌, inl, inr, arith, append_assoc, subst, Code}
-use Rattle.h2_laws_end.proofs.Names.{InternalError, code_number, Frame, GoAway, WindowUpdate, Item}
-use Rattle.h2_laws_end.proofs.Names.{alone, Refusal, Event, UnprocessedEvent, Act, Answer, Refuse}
-use Rattle.h2_laws_end.proofs.Names.{Done, OutOfMemory, Refused, In, Log, next_unprocessed}
-use Rattle.h2_laws_end.proofs.Names.{log_view, Verdict, ConnectionFault, StreamFault, NoEvent}
-use Rattle.h2_laws_end.proofs.Names.{Reported, Decoded, FrameStep, fails_with, begins_block}
-use Rattle.h2_laws_end.proofs.Names.{completes, frame_step, replies_to, verdict_of, events_of}
-use Rattle.h2_laws_end.proofs.Names.{refusal_of, answer_of, items_of, refuse_fault, read}
-use Rattle.h2_laws_end.proofs.Names.{with_unreturned, with_failure, limits_from, took_frame}
-use Rattle.h2_laws_end.proofs.Names.{took_none, MayAnswer, accepts, refuses, lacks, fails}
-use Rattle.h2_laws_end.proofs.Names.{credit_cases, grows_call, IsCredit}
-use Rattle.h2_spec_log.specs.declared.refusal.Refusal.TheVariants.{Memory}
-use Rattle.h2_spec_log.specs.Log.{last_processed}
-use Rattle.h2_spec_log.specs.LogSteps.{used, with_sent, with_reported, with_verdict, with_step}
-use Rattle.h2_spec_log.specs.LogSteps.{with_frame}
-use Rattle.h2_spec_log.specs.LogCalls.{refused_with, with_call}
+use Rattle.h2_laws_end.proofs.Names
+use Names.{◌≡◌, ◌≤◌, ℕ, ◌+◌, List, [], ◌∷◌, ◌++◌, Option, Some, None, refl, sym, ap, ◌∙◌, inl, inr}
+use Names.{arith, append_assoc, subst, Code, InternalError, code_number, Frame, GoAway}
+use Names.{WindowUpdate, Item, alone, Refusal, Event, UnprocessedEvent, Act, Answer, Refuse, Done}
+use Names.{OutOfMemory, Refused, In, Log, next_unprocessed, log_view, Verdict, ConnectionFault}
+use Names.{StreamFault, NoEvent, Reported, Decoded, FrameStep, fails_with, begins_block, completes}
+use Names.{frame_step, replies_to, verdict_of, events_of, refusal_of, answer_of, items_of}
+use Names.{refuse_fault, read, with_unreturned, with_failure, limits_from, took_frame, took_none}
+use Names.{MayAnswer, accepts, refuses, lacks, fails, credit_cases, grows_call, IsCredit, Memory}
+use Names.{last_processed, used, with_sent, with_reported, with_verdict, with_step, with_frame}
+use Names.{refused_with, with_call}
 use Rattle.h2_laws_end.proofs.Failures.{sent_failed, reported_failed, unreturned_failed}
 use Rattle.h2_laws_end.proofs.WrittenSteps.{call_writes}
 
@@ -30,8 +24,7 @@ pub record Adds (before after : Log) (reads items : List Item) (events : List Ev
 sent_adds : (log : Log) (items : List Item) → Adds log (with_sent log items) [] items []
 unfolding with_sent
 sent_adds log [] = record { role = refl; received = refl; sent = refl; reported = refl }
-sent_adds log (item ∷ items) =
-    record { role = refl; received = refl; sent = refl; reported = refl }
+sent_adds log (item ∷ items) = record { role = refl; received = refl; sent = refl; reported = refl }
 
 -- Events are reported.
 reported_adds : (log : Log) (events : List Event) → Adds log (with_reported log events) [] [] events
@@ -50,13 +43,11 @@ pub record AddsCredit (before after : Log) : Type 0 where
 unreturned_adds : (more : ℕ) (log : Log) → AddsCredit log (with_unreturned more log)
 unfolding with_sent
 unreturned_adds more log =
-    credit_cases (AddsCredit log) more log
-    (λ returns. record {
+    credit_cases (AddsCredit log) more log (λ returns. record {
       credit = alone (WindowUpdate 0 (log.unreturned + more)) ∷ [];
       is_credit = inr (log.unreturned + more, refl);
       adds = record { role = refl; received = refl; sent = refl; reported = refl };
-    })
-    (λ keeps. record {
+    }) (λ keeps. record {
       credit = [];
       is_credit = inl refl;
       adds = record { role = refl; received = refl; sent = refl; reported = refl };
@@ -111,8 +102,7 @@ replied_adds log decoded item more replies events =
             ∙ ap (λ (items : List Item). due.credit ++ items) replied.sent
             ∙ sym (append_assoc due.credit replies log.sent);
         reported = reported.reported
-            ∙ ap (λ (before : List Event). events ++ before)
-            (due.adds.reported ∙ replied.reported);
+            ∙ ap (λ (before : List Event). events ++ before) (due.adds.reported ∙ replied.reported);
       },
     )
 
@@ -158,15 +148,14 @@ step_after log decoded (completes item) =
 
 -- The log in which the octets of a frame were used, as the item that it completes finds it.
 abbrev pub frame_used : Log → List ℕ → Frame → Log
-frame_used log octets frame =
-    record log {
-      input = log.input ++ octets;
-      limits = limits_from log;
-      unparsed = [];
-      turns = In octets ∷ log.turns;
-      frames = log.frames ++ frame ∷ [];
-      begun = None;
-    }
+frame_used log octets frame = record log {
+  input = log.input ++ octets;
+  limits = limits_from log;
+  unparsed = [];
+  turns = In octets ∷ log.turns;
+  frames = log.frames ++ frame ∷ [];
+  begun = None;
+}
 
 -- A frame.
 pub frame_after : (log : Log) (octets : List ℕ) (decoded : Option Decoded) (frame : Frame)
@@ -231,8 +220,7 @@ accepted_after : (log : Log) (act : Act)
 accepted_after log act none up =
     let writes = call_writes log act (answer_of (log_view log) act) refl up in
     let grows = grows_call log act (answer_of (log_view log) act) in
-    was_accepted writes.credit writes.is_credit none refl
-    (record {
+    was_accepted writes.credit writes.is_credit none refl (record {
       role = grows.role;
       received = grows.received;
       sent = writes.sent ∙ sym (append_assoc writes.credit _ log.sent);
@@ -279,8 +267,6 @@ broken_after log act =
 pub call_after : (log : Log) (act : Act) (answer : Answer) → MayAnswer log act answer
     → AfterCall log act answer (with_call log act answer)
 call_after log act answer (accepts none same) = rw same (answered_after log act none)
-call_after log act answer (refuses refusal condition same) =
-    rw same (refusal_after log act refusal)
-call_after log act answer (lacks none may same) =
-    rw same (refusal_after log act Memory)
+call_after log act answer (refuses refusal condition same) = rw same (refusal_after log act refusal)
+call_after log act answer (lacks none may same) = rw same (refusal_after log act Memory)
 call_after log act answer (fails none may same) = rw same (broken_after log act)

@@ -1,19 +1,16 @@
 -- A call of `take` leaves a stream active, unless what it answers says that it may be closed; and
 -- it makes one active only where it reports fields of it.
-use Rattle.h2_laws_end.proofs.Names.{◌≡◌, ◌⊎◌, ℕ, ◌≤◌, Bool, true, false, List, [], ◌∷◌, ◌++◌}
-use Rattle.h2_laws_end.proofs.Names.{Option, Some, None, refl, sym, ◌∙◌, inl, inr, subst, list_any}
-use Rattle.h2_laws_end.proofs.Names.{both_ways, or_from, eq-eqb, false_from_ne_true}
-use Rattle.h2_laws_end.proofs.Names.{append_cancel_right, Field, Code, InternalError}
-use Rattle.h2_laws_end.proofs.Names.{wire_fault_code, none_some, Role, Server, Values, Event}
-use Rattle.h2_laws_end.proofs.Names.{FieldsEvent, UnprocessedEvent, Log, active, next_unprocessed}
-use Rattle.h2_laws_end.proofs.Names.{with_failure, took_none, IsLog, TakeAnswer, MayTake, Took}
-use Rattle.h2_laws_end.proofs.Names.{Failed, events_answered, AnswersFrame, has_failed}
-use Rattle.h2_laws_end.proofs.Names.{ends_no_frame, ends_frame, meets_fault, runs_out_of_memory}
 use Rattle.h2_spec_log.specs.Events.{reports_unprocessed}
-use Rattle.h2_spec_log.specs.Log.{last_processed}
-use Rattle.h2_spec_log.specs.LogSteps.{used, with_sent}
 use Rattle.h2_laws_end.specs.Takes.{reports_unprocessed as named_one}
-use Rattle.h2_laws_end.specs.Activity.{event_may_close, take_may_close, take_has_fields}
+use Rattle.h2_laws_end.specs.Activity.{take_may_close, take_has_fields}
+use Rattle.h2_laws_end.proofs.Names
+use Names.{◌≡◌, ◌⊎◌, ℕ, ◌≤◌, Bool, true, false, List, [], ◌∷◌, ◌++◌, Option, Some, None, refl, sym}
+use Names.{◌∙◌, inl, inr, subst, list_any, both_ways, or_from, eq-eqb, false_from_ne_true}
+use Names.{append_cancel_right, Field, Code, InternalError, wire_fault_code, none_some, Role}
+use Names.{Server, Values, Event, FieldsEvent, UnprocessedEvent, Log, active, next_unprocessed}
+use Names.{with_failure, took_none, IsLog, TakeAnswer, MayTake, Took, Failed, events_answered}
+use Names.{AnswersFrame, has_failed, ends_no_frame, ends_frame, meets_fault, runs_out_of_memory}
+use Names.{last_processed, used, with_sent, event_may_close}
 use Rattle.h2_laws_end.proofs.ReadingCalls.{log_read}
 use Rattle.h2_laws_end.proofs.ReadingRules.{LogIsLow}
 use Rattle.h2_laws_end.proofs.ActivityCalls.{active_low}
@@ -85,8 +82,7 @@ unfolding take_may_close last_processed
 active_by_take role values log after piece answer i is (has_failed code failed answers same) alive
     none = rw same alive
 active_by_take role values log after piece answer i is (named_one up some answers same) alive none =
-    let other : take_may_close i
-    (Took 0 (Some (UnprocessedEvent (next_unprocessed log)))) ≡ false =
+    let other : take_may_close i (Took 0 (Some (UnprocessedEvent (next_unprocessed log)))) ≡ false =
     subst (λ (one : TakeAnswer). take_may_close i one ≡ false) answers none in
     rw same (none_keeps log i alive other)
 active_by_take role values log after piece answer i is
@@ -96,8 +92,7 @@ active_by_take role values log after piece answer i is
 active_by_take role values log after piece answer i is
     (ends_frame takes octets unused joined frame decoded framed sees same answers) alive none =
     frame_keeps_active (frame_used log octets frame) after decoded i
-    (rw same (frame_after log octets decoded frame)) alive
-    (active_low role values log i is alive)
+    (rw same (frame_after log octets decoded frame)) alive (active_low role values log i is alive)
     (frame_says (frame_used log octets frame) after _ i answer takes.up answers none)
 active_by_take role values log after piece answer i is
     (meets_fault takes octets unused joined fault at answers same) alive none =

@@ -1,23 +1,19 @@
 -- Logs that are the same but for their turns and for the limits of payloads: what they read and are
 -- asked makes of them logs that are the same but for these.
-use Rattle.h2_laws_end.proofs.Names.{◌≡◌, ℕ, ◌+◌, max, List, [], ◌∷◌, ◌++◌, Option, Some, None}
-use Rattle.h2_laws_end.proofs.Names.{refl, sym, ap, ap₂, ◌∙◌, Code, InternalError, Frame, Item}
-use Rattle.h2_laws_end.proofs.Names.{stream_of_item, Event, UnprocessedEvent, Act, Answer, Refuse}
-use Rattle.h2_laws_end.proofs.Names.{PutOut, Count, OutOfMemory, Refused, Log, View, log_view}
-use Rattle.h2_laws_end.proofs.Names.{Verdict, ConnectionFault, StreamFault, NoEvent, Reported}
-use Rattle.h2_laws_end.proofs.Names.{Decoded, FrameStep, fails_with, begins_block, completes}
-use Rattle.h2_laws_end.proofs.Names.{frame_step, replies_to, verdict_of, events_of, read}
-use Rattle.h2_laws_end.proofs.Names.{with_failure, took_none, items_of, refuse_fault, called}
-use Rattle.h2_spec_log.specs.Log.{last_processed, waiting, output, unreleased, next_number}
-use Rattle.h2_spec_log.specs.Log.{active_count, max_streams, next_unprocessed}
-use Rattle.h2_spec_log.specs.LogView.{overflows}
-use Rattle.h2_spec_log.specs.ItemRules.{opened_by}
 use Rattle.h2_spec_log.specs.ItemEffects.{discarded_flow}
-use Rattle.h2_spec_log.specs.LogSteps.{with_sent, with_reported, owed_at_close, with_unreturned}
-use Rattle.h2_spec_log.specs.LogSteps.{with_verdict, with_item, with_step, with_frame}
+use Rattle.h2_spec_log.specs.LogSteps.{owed_at_close}
 use Rattle.h2_spec_log.specs.CallRules.{stream_of_act, returns_before_put_out, returns_credit}
-use Rattle.h2_spec_log.specs.LogCalls.{with_items, refused_with, before_put_out, with_call}
 use Rattle.h2_laws_log.proofs.CreditCases.{both_by}
+use Rattle.h2_laws_end.proofs.Names
+use Names.{◌≡◌, ℕ, ◌+◌, max, List, [], ◌∷◌, ◌++◌, Option, Some, None, refl, sym, ap, ap₂, ◌∙◌, Code}
+use Names.{InternalError, Frame, Item, stream_of_item, Event, UnprocessedEvent, Act, Answer, Refuse}
+use Names.{PutOut, Count, OutOfMemory, Refused, Log, View, log_view, Verdict, ConnectionFault}
+use Names.{StreamFault, NoEvent, Reported, Decoded, FrameStep, fails_with, begins_block, completes}
+use Names.{frame_step, replies_to, verdict_of, events_of, read, with_failure, took_none, items_of}
+use Names.{refuse_fault, called, last_processed, waiting, output, unreleased, next_number}
+use Names.{active_count, max_streams, next_unprocessed, overflows, opened_by, with_sent}
+use Names.{with_reported, with_unreturned, with_verdict, with_item, with_step, with_frame}
+use Names.{with_items, refused_with, before_put_out, with_call}
 
 -- a log without its turns, whose payloads may always have 16,384 octets
 abbrev pub bare : Log → Log
@@ -162,8 +158,7 @@ verdict_same log other decoded item (ConnectionFault code) same =
     (ap (λ (view : View). opened_by view decoded item) (view_same log other same))) same
 verdict_same log other decoded item (StreamFault code) same =
     replied_same log other decoded item (StreamFault code) same
-verdict_same log other decoded item NoEvent same =
-    replied_same log other decoded item NoEvent same
+verdict_same log other decoded item NoEvent same = replied_same log other decoded item NoEvent same
 verdict_same log other decoded item Reported same =
     replied_same log other decoded item Reported same
 

@@ -1,16 +1,11 @@
 -- The stream of a field block is that of the frame that ends it.
-use Rattle.h2_laws_end.proofs.Names.{◌≡◌, ℕ, ◌==◌, nat_lt, ◌&&◌, ◌⊎◌, not, max, Bool, true, false}
-use Rattle.h2_laws_end.proofs.Names.{if◌then◌else◌, Option, Some, None, refl, sym, ◌∙◌, inl, inr}
-use Rattle.h2_laws_end.proofs.Names.{arith, eqb-true, ltb-false, Code, ProtocolError, Frame}
-use Rattle.h2_laws_end.proofs.Names.{Headers, Continuation, BlockFault, Item, alone, block, Begun}
-use Rattle.h2_laws_end.proofs.Names.{next_fault, View, Decoded, FrameStep, fails_with, begins_block}
-use Rattle.h2_laws_end.proofs.Names.{completes}
-use Rattle.std.proofs.lemmas.Bool.{ltb-true}
-use Rattle.h2_frame.specs.Encoding.{stream_of}
-use Rattle.h2_block.specs.declared.fault.BlockFault.TheVariants.{Interrupted}
-use Rattle.h2_block.specs.Grouping.{fault_inside}
 use Rattle.h2_block.proofs.GroupLemmas.{none_some}
-use Rattle.h2_spec_log.specs.ItemRules.{grouped, grouping_step, frame_step, may_be_first, opened_by}
+use Rattle.h2_laws_end.proofs.Names
+use Names.{◌≡◌, ℕ, ◌==◌, nat_lt, ◌&&◌, ◌⊎◌, not, max, Bool, true, false, if◌then◌else◌, Option}
+use Names.{Some, None, refl, sym, ◌∙◌, inl, inr, arith, eqb-true, ltb-false, Code, ProtocolError}
+use Names.{Frame, Headers, Continuation, BlockFault, Item, alone, block, Begun, next_fault, View}
+use Names.{Decoded, FrameStep, fails_with, begins_block, completes, ltb-true, stream_of}
+use Names.{Interrupted, fault_inside, grouped, grouping_step, frame_step, may_be_first, opened_by}
 
 -- An item that is a block is on the frame's stream.
 abbrev pub IsItemOn : Frame → Item → Type 0

@@ -3,11 +3,7 @@
 use Rattle.h2_laws_end.proofs.Names.{◌≡◌, ℕ, zero, suc, ◌≤◌, ◌==◌, ◌&&◌, Bool, false, List, [], ◌∷◌}
 use Rattle.h2_laws_end.proofs.Names.{◌++◌, length, take, drop, None, refl, arith, AllByRecursion}
 use Rattle.h2_laws_end.proofs.Names.{list_any, cond_both, or_from, leb-false, Data, Item, alone}
-use Rattle.h2_laws_end.proofs.Names.{not}
-use Rattle.std.proofs.lemmas.Bool.{leb-true}
-use Rattle.std.proofs.lemmas.List.{length-take-le}
-use Rattle.h2_spec_log.specs.CallRules.{data_frames, data_items}
-use Rattle.std.proofs.Common.{nat_le}
+use Rattle.h2_laws_end.proofs.Names.{not, leb-true, length-take-le, data_frames, data_items, nat_le}
 
 -- All of two lists.
 pub all_of_both : (P : Item → Type 0) (one other : List Item) → AllByRecursion P one

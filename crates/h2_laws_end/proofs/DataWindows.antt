@@ -1,24 +1,16 @@
 -- The send windows after DATA: none is negative.
-use Rattle.h2_laws_end.proofs.Names.{◌≡◌, ℕ, zero, suc, ◌+◌, ◌-◌, ◌≤◌, ◌<◌, ◌==◌, ◌&&◌, Bool, true}
-use Rattle.h2_laws_end.proofs.Names.{false, if◌then◌else◌, List, [], ◌∷◌, ◌++◌, length, take, drop}
-use Rattle.h2_laws_end.proofs.Names.{None, pos, ◌-ℤ◌, refl, sym, ◌∙◌, inl, inr, arith, ap, ap₂}
-use Rattle.h2_laws_end.proofs.Names.{ints, leb-false, cond_both, eqb-true, and_parts, nat_tests}
-use Rattle.h2_laws_end.proofs.Names.{Data, WindowUpdate, Item, alone, SendData, Count, Log, active}
-use Rattle.h2_laws_end.proofs.Names.{max_payload_sent, log_view, answer_of, refusal_of, called}
-use Rattle.h2_laws_end.proofs.Names.{none_holds, stream_is_active, total-append, total_none}
-use Rattle.h2_laws_end.proofs.Names.{IsCredit, most_between}
-use Rattle.std.proofs.Common.{min, length-drop}
-use Rattle.std.specs.Prelude.{int_lt}
-use Rattle.std.proofs.lemmas.List.{length-take-le}
-use Rattle.h2_frame.specs.Encoding.{payload_of}
-use Rattle.h2_spec_log.specs.Items.{data_on, data_of, total}
-use Rattle.h2_spec_log.specs.Windows.{given_on, given_on_connection, connection_send_window}
+use Rattle.std.proofs.Common.{length-drop}
+use Rattle.h2_spec_log.specs.Windows.{connection_send_window}
 use Rattle.h2_spec_log.specs.Limits.{max_data}
-use Rattle.h2_spec_log.specs.Log.{send_window}
-use Rattle.h2_spec_log.specs.CallRules.{data_frames, data_items, items_of, conditions}
-use Rattle.h2_spec_log.specs.LogCalls.{with_items, with_call}
-use Rattle.h2_laws_log.proofs.LogViewLemmas.{count_by_sums}
-use Rattle.h2_laws_log.proofs.ReplyInvariant.{chosen_low}
+use Rattle.h2_laws_end.proofs.Names
+use Names.{◌≡◌, ℕ, zero, suc, ◌+◌, ◌-◌, ◌≤◌, ◌<◌, ◌==◌, ◌&&◌, Bool, true, false, if◌then◌else◌}
+use Names.{List, [], ◌∷◌, ◌++◌, length, take, drop, None, pos, ◌-ℤ◌, refl, sym, ◌∙◌, inl, inr}
+use Names.{arith, ap, ap₂, ints, leb-false, cond_both, eqb-true, and_parts, nat_tests, Data}
+use Names.{WindowUpdate, Item, alone, SendData, Count, Log, active, max_payload_sent, log_view}
+use Names.{answer_of, refusal_of, called, none_holds, stream_is_active, total-append, total_none}
+use Names.{IsCredit, most_between, min, int_lt, length-take-le, payload_of, data_on, data_of, total}
+use Names.{given_on, given_on_connection, send_window, data_frames, data_items, items_of}
+use Names.{conditions, with_items, with_call, count_by_sums, chosen_low}
 use Rattle.h2_laws_end.proofs.ReceiveWindows.{total_one}
 use Rattle.h2_laws_end.proofs.WrittenSteps.{Puts, puts_items}
 
@@ -130,8 +122,7 @@ update_of n = refl
 pub count_fits : (n count given sent_on all sent_of : ℕ) → 0 < n
     → min count (min (min (given - sent_on) (all - sent_of)) max_data) ≡ n
     → (n ≤ count) × (sent_on + n ≤ given) × (sent_of + n ≤ all)
-count_fits n count given sent_on all sent_of some is =
-    (omega arith, omega arith, omega arith)
+count_fits n count given sent_on all sent_of some is = (omega arith, omega arith, omega arith)
 
 -- What a call that sends DATA has written, and credit.
 data_puts : (log : Log) (id count : ℕ) (octets : List ℕ) (end : Bool)

@@ -1,30 +1,21 @@
 -- What an end that has failed has written last: GOAWAY with its code, and nothing after it.
-use Rattle.h2_laws_end.proofs.Names.{◌≡◌, ◌≤◌, ℕ, ◌&&◌, not, max, Bool, true, false, List, [], ◌∷◌}
-use Rattle.h2_laws_end.proofs.Names.{◌++◌, Option, Some, None, refl, sym, ap, ◌∙◌, inl, inr, arith}
-use Rattle.h2_laws_end.proofs.Names.{subst, ◌+◌, both_ways, Code, InternalError, Frame}
-use Rattle.h2_laws_end.proofs.Names.{wire_fault_code, none_some, one_code, Item, Role, Event}
-use Rattle.h2_laws_end.proofs.Names.{Values, Act, Answer, Refuse, PutOut, Count, OutOfMemory}
-use Rattle.h2_laws_end.proofs.Names.{Refused, Log, Verdict, ConnectionFault, View, log_view}
-use Rattle.h2_laws_end.proofs.Names.{Decoded, FrameStep, fails_with, begins_block, completes}
-use Rattle.h2_laws_end.proofs.Names.{frame_step, refusal_of, refuse_fault, with_unreturned}
-use Rattle.h2_laws_end.proofs.Names.{with_failure, called, MayAnswer, accepts, refuses, lacks}
-use Rattle.h2_laws_end.proofs.Names.{fails, IsLog, begins, took_some, took_one, met_fault}
-use Rattle.h2_laws_end.proofs.Names.{ran_out_of_memory, reported_one, called_one, put_out_cases}
-use Rattle.h2_laws_end.proofs.Names.{none_holds, holds_unreturned}
 use Rattle.std.proofs.Common.{is_some}
-use Rattle.h2_frame.specs.Encoding.{stream_of}
-use Rattle.h2_spec_log.specs.declared.refusal.Refusal.TheVariants.{Memory}
-use Rattle.h2_spec_log.specs.Items.{encoding_of_item, encoding_of_items}
-use Rattle.h2_spec_log.specs.Log.{last_processed}
-use Rattle.h2_spec_log.specs.ItemRules.{opened_by}
-use Rattle.h2_spec_log.specs.CallRules.{conditions, has_failed, may_fail_for_memory}
-use Rattle.h2_spec_log.specs.LogSteps.{used, with_sent, with_reported, with_verdict, with_step}
-use Rattle.h2_spec_log.specs.LogSteps.{with_frame}
-use Rattle.h2_spec_log.specs.LogCalls.{with_items, refused_with, with_call, opened}
-use Rattle.h2_laws_log.proofs.PartsStay.{SamePart, stays_written}
-use Rattle.h2_laws_log.proofs.GrowthBySteps.{HoldsOfWrites, holds_sent, holds_sent_unreturned}
-use Rattle.h2_laws_log.proofs.GrowthBySteps.{holds_items, holds_ready}
+use Rattle.h2_spec_log.specs.Items.{encoding_of_item}
+use Rattle.h2_spec_log.specs.CallRules.{has_failed, may_fail_for_memory}
+use Rattle.h2_laws_log.proofs.GrowthBySteps.{holds_sent_unreturned, holds_items, holds_ready}
 use Rattle.h2_laws_end.specs.Failures.{EndsInGoAway, IsLastStream}
+use Rattle.h2_laws_end.proofs.Names
+use Names.{◌≡◌, ◌≤◌, ℕ, ◌&&◌, not, max, Bool, true, false, List, [], ◌∷◌, ◌++◌, Option, Some, None}
+use Names.{refl, sym, ap, ◌∙◌, inl, inr, arith, subst, ◌+◌, both_ways, Code, InternalError, Frame}
+use Names.{wire_fault_code, none_some, one_code, Item, Role, Event, Values, Act, Answer, Refuse}
+use Names.{PutOut, Count, OutOfMemory, Refused, Log, Verdict, ConnectionFault, View, log_view}
+use Names.{Decoded, FrameStep, fails_with, begins_block, completes, frame_step, refusal_of}
+use Names.{refuse_fault, with_unreturned, with_failure, called, MayAnswer, accepts, refuses, lacks}
+use Names.{fails, IsLog, begins, took_some, took_one, met_fault, ran_out_of_memory, reported_one}
+use Names.{called_one, put_out_cases, none_holds, holds_unreturned, stream_of, Memory}
+use Names.{encoding_of_items, last_processed, opened_by, conditions, used, with_sent, with_reported}
+use Names.{with_verdict, with_step, with_frame, with_items, refused_with, with_call, opened}
+use Names.{SamePart, stays_written, HoldsOfWrites, holds_sent}
 use Rattle.h2_laws_end.proofs.BlockStreams.{IsItemOn, IsStepOn, step_on, opened_on, greater_is}
 
 -- The second log has failed with the code of the first, or neither has failed.
@@ -145,8 +136,7 @@ refused_ends : (log : Log) (act : Act) (answer : Answer) (fault : Option Code)
     → EndsInGoAway (refused_with log act answer fault) code
 unfolding refused_with last_processed
 refused_ends log act answer (Some fault) up code is =
-    fails_ends fault (last_processed log) (called log act answer) (at_most _)
-    (inl refl) code is
+    fails_ends fault (last_processed log) (called log act answer) (at_most _) (inl refl) code is
 refused_ends log act answer None up code is =
     still_up log.failed _ code up (items_failed log act answer) is
 
@@ -184,15 +174,14 @@ only_put_out view act failed none = absurd (both_ways _ (none_holds _ none).0 fa
 
 -- The output stays the same where a call is refused.
 same_called : (log : Log) (act : Act) (answer : Answer) → SameOutput log (called log act answer)
-same_called log act answer =
-    record {
-      role = refl;
-      frames = refl;
-      sent = refl;
-      written = refl;
-      reported = refl;
-      failed = refl;
-    }
+same_called log act answer = record {
+  role = refl;
+  frames = refl;
+  sent = refl;
+  written = refl;
+  reported = refl;
+  failed = refl;
+}
 
 -- what is no condition, where the first of two isn't
 no_return : (failed : Option Code) (code : Code) (b : Bool) → failed ≡ Some code
@@ -236,16 +225,15 @@ same_output log code act answer failed (fails none may is) =
 ends_still : (old new : Log) (code : Code) → SameOutput old new → EndsInGoAway old code
     → EndsInGoAway new code
 unfolding last_processed
-ends_still old new code same ends =
-    record {
-      last = ends.last;
-      earlier = ends.earlier;
-      prefix = ends.prefix;
-      newest = same.sent ∙ ends.newest;
-      processed = rw (same.role, same.reported) ends.processed;
-      exact = rw (same.role, same.reported, same.frames) ends.exact;
-      written = same.written ∙ ends.written;
-    }
+ends_still old new code same ends = record {
+  last = ends.last;
+  earlier = ends.earlier;
+  prefix = ends.prefix;
+  newest = same.sent ∙ ends.newest;
+  processed = rw (same.role, same.reported) ends.processed;
+  exact = rw (same.role, same.reported, same.frames) ends.exact;
+  written = same.written ∙ ends.written;
+}
 
 -- After a call, by whether the connection had failed.
 called_ends : (log : Log) (act : Act) (answer : Answer) (before : Option Code)
@@ -272,8 +260,7 @@ failed_last role values _ code (begins in_range) is = none_some code is
 failed_last role values _ code (took_some {log = log} before takes octets unparsed read) is =
     still_up log.failed _ code takes.up (used_up log octets unparsed) is
 failed_last role values _ code (took_one {log = log} before takes octets frame decoded read sees)
-    is =
-    frame_ends (used log octets []) decoded frame (used_up log octets [] ∙ takes.up) code is
+    is = frame_ends (used log octets []) decoded frame (used_up log octets [] ∙ takes.up) code is
 failed_last role values _ code (met_fault {log = log} before takes octets fault at) is =
     fails_ends (wire_fault_code fault) _ (used log octets []) (at_most _) (inl refl) code is
 failed_last role values _ code (ran_out_of_memory {log = log} before up octets may) is =

@@ -1,22 +1,17 @@
 -- The codes with which an item's stream is at fault.
-use Rattle.h2_laws_end.proofs.Names.{ℕ, ◌==◌, Bool, true, false, if◌then◌else◌, Option, Some, None}
-use Rattle.h2_laws_end.proofs.Names.{List, [], ◌∷◌, refl, arith, ◌≢◌, ap, Code, ProtocolError}
-use Rattle.h2_laws_end.proofs.Names.{InternalError, Data, Reset, Settings, Ping, WindowUpdate, Item}
-use Rattle.h2_laws_end.proofs.Names.{alone, block, State, Idle, Active, ClosedByUs, Closed, View}
-use Rattle.h2_laws_end.proofs.Names.{Verdict, ConnectionFault, StreamFault, NoEvent, Reported}
-use Rattle.h2_laws_end.proofs.Names.{Decoded, verdict_of_fault, verdict_of, cond_both, Role, nat_lt}
-use Rattle.h2_laws_end.proofs.Names.{◌&&◌, ◌^◌, ◌-◌, is_server}
 use Rattle.std.specs.List.{Contains}
-use Rattle.h2_frame.specs.declared.code.Code.TheVariants.{FlowControlError, StreamClosed}
-use Rattle.h2_frame.specs.declared.code.Code.TheVariants.{RefusedStream, EnhanceYourCalm}
-use Rattle.h2_spec_log.specs.Verdicts.{data_verdict, reset_verdict, connection_update_verdict}
-use Rattle.h2_spec_log.specs.Verdicts.{update_verdict, block_verdict, opening_verdict}
-use Rattle.h2_spec_log.specs.ItemRules.{verdict_by_rules, settings_fault, is_awaited_ping}
+use Rattle.h2_frame.specs.declared.code.Code.TheVariants.{StreamClosed, RefusedStream}
 use Rattle.h2_spec_log.specs.ItemRules.{first_fault}
-use Rattle.h2_laws_end.specs.Readings.{fault_codes}
 use Rattle.h2_spec_log.specs.Settings.{value_fault, peer_of}
+use Rattle.h2_laws_end.proofs.Names
+use Names.{ℕ, ◌==◌, Bool, true, false, if◌then◌else◌, Option, Some, None, List, [], ◌∷◌, refl}
+use Names.{arith, ◌≢◌, ap, Code, ProtocolError, InternalError, Data, Reset, Settings, Ping}
+use Names.{WindowUpdate, Item, alone, block, State, Idle, Active, ClosedByUs, Closed, View, Verdict}
+use Names.{ConnectionFault, StreamFault, NoEvent, Reported, Decoded, verdict_of_fault, verdict_of}
+use Names.{cond_both, Role, nat_lt, ◌&&◌, ◌^◌, ◌-◌, is_server, FlowControlError, EnhanceYourCalm}
+use Names.{data_verdict, reset_verdict, connection_update_verdict, update_verdict, block_verdict}
+use Names.{opening_verdict, verdict_by_rules, settings_fault, is_awaited_ping, fault_codes, ◌||◌}
 use Rattle.h2_laws_end.proofs.ReadVerdicts.{by_limits}
-use Rattle.std.proofs.Common.{◌||◌}
 
 -- A fault of the stream has one of these codes, and one of the connection has not INTERNAL_ERROR.
 abbrev pub HasCode : List Code → Verdict → Type 0

@@ -66,8 +66,7 @@ frames_begin : (limits : Limits) (preceding : ℕ) (frames more : List Frame) (b
     → AreFrames limits preceding (frames ++ more) body
     → (first others : List ℕ) × (body ≡ first ++ others) × AreFrames limits preceding frames first
 frames_begin limits preceding [] more body framed = ([], body, refl, refl)
-frames_begin limits preceding (frame ∷ frames) more body
-    (first, following, split, sound, framed) =
+frames_begin limits preceding (frame ∷ frames) more body (first, following, split, sound, framed) =
     let begin = frames_begin limits (preceding + length first) frames more following framed in (
       first ++ begin.0,
       begin.1,

@@ -1,24 +1,18 @@
 -- The items that were read are the frames, grouped.
-use Rattle.h2_laws_end.proofs.Names.{◌≡◌, ℕ, ◌&&◌, not, Bool, true, false, if◌then◌else◌, List, []}
-use Rattle.h2_laws_end.proofs.Names.{◌∷◌, ◌++◌, Option, Some, None, refl, sym, ap, ◌∙◌, arith}
-use Rattle.h2_laws_end.proofs.Names.{subst, append-nil, Code, ProtocolError, InternalError, Frame}
-use Rattle.h2_laws_end.proofs.Names.{Headers, Continuation, wire_fault_code, BlockFault, Item}
-use Rattle.h2_laws_end.proofs.Names.{Begun, Groups, next_fault, Role, Event, Values, Log, Verdict}
-use Rattle.h2_laws_end.proofs.Names.{ConnectionFault, log_view, Decoded, FrameStep, fails_with}
-use Rattle.h2_laws_end.proofs.Names.{begins_block, completes, read, with_unreturned, with_failure}
-use Rattle.h2_laws_end.proofs.Names.{IsLog, begins, took_some, took_one, met_fault}
-use Rattle.h2_laws_end.proofs.Names.{ran_out_of_memory, reported_one, called_one}
-use Rattle.h2_block.specs.declared.fault.BlockFault.TheVariants.{Interrupted, Stray}
-use Rattle.h2_block.specs.Grouping.{fault_outside, fault_inside}
-use Rattle.h2_block.specs.Gather.{block_fault_code}
+use Rattle.h2_block.specs.declared.fault.BlockFault.TheVariants.{Stray}
 use Rattle.h2_block.proofs.GroupLemmas.{step_items, step_begun, none_some, Groups-step}
-use Rattle.h2_spec_log.specs.ItemRules.{frame_step, grouping_step, grouped, may_be_first}
-use Rattle.h2_spec_log.specs.LogSteps.{used, with_sent, with_reported, with_verdict, with_step}
-use Rattle.h2_spec_log.specs.LogSteps.{with_frame}
-use Rattle.h2_spec_log.specs.LogCalls.{opened}
-use Rattle.h2_laws_log.specs.Sending.{oldest_first}
 use Rattle.h2_laws_log.proofs.LogGrowth.{fails_down}
 use Rattle.h2_laws_end.specs.Grouped.{AreGrouped}
+use Rattle.h2_laws_end.proofs.Names
+use Names.{◌≡◌, ℕ, ◌&&◌, not, Bool, true, false, if◌then◌else◌, List, [], ◌∷◌, ◌++◌, Option, Some}
+use Names.{None, refl, sym, ap, ◌∙◌, arith, subst, append-nil, Code, ProtocolError, InternalError}
+use Names.{Frame, Headers, Continuation, wire_fault_code, BlockFault, Item, Begun, Groups}
+use Names.{next_fault, Role, Event, Values, Log, Verdict, ConnectionFault, log_view, Decoded}
+use Names.{FrameStep, fails_with, begins_block, completes, read, with_unreturned, with_failure}
+use Names.{IsLog, begins, took_some, took_one, met_fault, ran_out_of_memory, reported_one}
+use Names.{called_one, Interrupted, fault_outside, fault_inside, block_fault_code, frame_step}
+use Names.{grouping_step, grouped, may_be_first, used, with_sent, with_reported, with_verdict}
+use Names.{with_step, with_frame, opened, oldest_first}
 use Rattle.h2_laws_end.proofs.Failures.{used_up}
 use Rattle.h2_laws_end.proofs.Unread.{ReadsNothing, reads_twice, reads_reported, reads_unreturned}
 use Rattle.h2_laws_end.proofs.Unread.{wrote_reads, reads_fails, reads_call, reads_unprocessed}
@@ -43,16 +37,15 @@ grouped_makes (Some begun) frame sound = none_some Interrupted (sym sound)
 
 -- A log all of whose frames group.
 grouped_up : (log : Log) → Groups log.frames (oldest_first log.received) log.begun → AreGrouped log
-grouped_up log groups =
-    record {
-      preceding = log.frames;
-      last = [];
-      begun = log.begun;
-      joined = sym (append-nil log.frames);
-      one = omega arith;
-      groups = groups;
-      up = λ up. (refl, refl);
-    }
+grouped_up log groups = record {
+  preceding = log.frames;
+  last = [];
+  begun = log.begun;
+  joined = sym (append-nil log.frames);
+  one = omega arith;
+  groups = groups;
+  up = λ up. (refl, refl);
+}
 
 -- All frames of a log that hasn't failed group.
 pub groups_now : (log : Log) → AreGrouped log → log.failed ≡ None
@@ -70,31 +63,29 @@ groups_now log are up =
 grouped_down : (old new : Log) (frame : Frame) → new.frames ≡ old.frames ++ frame ∷ []
     → new.received ≡ old.received → Groups old.frames (oldest_first old.received) old.begun
     → (new.failed ≡ None → ⊥) → AreGrouped new
-grouped_down old new frame frames received groups down =
-    record {
-      preceding = old.frames;
-      last = frame ∷ [];
-      begun = old.begun;
-      joined = frames;
-      one = omega arith;
-      groups = subst (λ (items : List Item). Groups old.frames (oldest_first items) old.begun)
-          (sym received) groups;
-      up = λ up. absurd (down up);
-    }
+grouped_down old new frame frames received groups down = record {
+  preceding = old.frames;
+  last = frame ∷ [];
+  begun = old.begun;
+  joined = frames;
+  one = omega arith;
+  groups = subst (λ (items : List Item). Groups old.frames (oldest_first items) old.begun)
+      (sym received) groups;
+  up = λ up. absurd (down up);
+}
 
 -- Where nothing is read, a log still groups.
 grouped_still : (old new : Log) → ReadsNothing old new → AreGrouped old → AreGrouped new
-grouped_still old new none are =
-    record {
-      preceding = are.preceding;
-      last = are.last;
-      begun = are.begun;
-      joined = none.frames ∙ are.joined;
-      one = are.one;
-      groups = subst (λ (items : List Item). Groups are.preceding (oldest_first items) are.begun)
-          (sym none.received) are.groups;
-      up = λ up. let before = are.up (none.up up) in (before.0, none.begun ∙ before.1);
-    }
+grouped_still old new none are = record {
+  preceding = are.preceding;
+  last = are.last;
+  begun = are.begun;
+  joined = none.frames ∙ are.joined;
+  one = are.one;
+  groups = subst (λ (items : List Item). Groups are.preceding (oldest_first items) are.begun)
+      (sym none.received) are.groups;
+  up = λ up. let before = are.up (none.up up) in (before.0, none.begun ∙ before.1);
+}
 
 -- The log with one more frame fails.
 grouped_fails : (old log : Log) (frame : Frame) (code : Code) (last : ℕ)
@@ -187,16 +178,15 @@ grouped_frame log decoded frame before =
 grouped_used : (log : Log) (octets unparsed : List ℕ) → AreGrouped log
     → AreGrouped (used log octets unparsed)
 unfolding used
-grouped_used log octets unparsed are =
-    record {
-      preceding = are.preceding;
-      last = are.last;
-      begun = are.begun;
-      joined = are.joined;
-      one = are.one;
-      groups = are.groups;
-      up = are.up;
-    }
+grouped_used log octets unparsed are = record {
+  preceding = are.preceding;
+  last = are.last;
+  begun = are.begun;
+  joined = are.joined;
+  one = are.one;
+  groups = are.groups;
+  up = are.up;
+}
 
 -- A new end has none.
 grouped_opened : (role : Role) (values : Values) → AreGrouped (opened role values)

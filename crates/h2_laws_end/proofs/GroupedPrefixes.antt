@@ -1,10 +1,9 @@
 -- A prefix of frames that group groups to the first of their items, and a block that has begun.
-use Rattle.std.proofs.Common.{◌≡◌, ℕ, ◌+◌, ◌≤◌, Bool, false, List, [], ◌∷◌, ◌++◌, length, Option}
-use Rattle.std.proofs.Common.{None, Some, refl, sym, ap, ◌∙◌, arith, inl, inr, append_assoc}
-use Rattle.std.proofs.Common.{length-append}
-use Rattle.h2_frame.specs.Frames.{Frame, Headers}
-use Rattle.h2_block.specs.Grouping.{Item, alone, block, Begun, max_block_octets, AreContinuations}
-use Rattle.h2_block.specs.Grouping.{IsBegun, IsItem, AreItems, IsLeft, Groups}
+use Rattle.h2_block.specs.Grouping.{AreContinuations, IsBegun, IsItem, AreItems, IsLeft}
+use Rattle.h2_laws_end.proofs.Names.{◌≡◌, ℕ, ◌+◌, ◌≤◌, Bool, false, List, [], ◌∷◌, ◌++◌, length}
+use Rattle.h2_laws_end.proofs.Names.{Option, None, Some, refl, sym, ap, ◌∙◌, arith, inl, inr}
+use Rattle.h2_laws_end.proofs.Names.{append_assoc, length-append, Frame, Headers, Item, alone}
+use Rattle.h2_laws_end.proofs.Names.{block, Begun, max_block_octets, Groups}
 use Rattle.h2_laws_end.proofs.Overlaps.{overlap}
 
 -- A prefix of CONTINUATIONs.
@@ -31,39 +30,37 @@ pub record GroupedPrefix (frames : List Frame) (items : List Item) : Type 0 wher
 
 -- No frames.
 no_frames : (items : List Item) → GroupedPrefix [] items
-no_frames items =
-    record {
-      first = [];
-      later = items;
-      begun = None;
-      items_are = refl;
-      groups = record {
-        complete = [];
-        left = [];
-        joined = refl;
-        grouped = refl;
-        unfinished = refl;
-      };
-    }
+no_frames items = record {
+  first = [];
+  later = items;
+  begun = None;
+  items_are = refl;
+  groups = record {
+    complete = [];
+    left = [];
+    joined = refl;
+    grouped = refl;
+    unfinished = refl;
+  };
+}
 
 -- A block that has begun, before all items.
 begun_only : (begun : Begun) (frames : List Frame) (items : List Item)
     → IsBegun begun.stream begun.end begun.octets frames
     → length begun.octets ≤ max_block_octets → GroupedPrefix frames items
-begun_only begun frames items is within =
-    record {
-      first = [];
-      later = items;
-      begun = Some begun;
-      items_are = refl;
-      groups = record {
-        complete = [];
-        left = frames;
-        joined = refl;
-        grouped = refl;
-        unfinished = (is, within);
-      };
-    }
+begun_only begun frames items is within = record {
+  first = [];
+  later = items;
+  begun = Some begun;
+  items_are = refl;
+  groups = record {
+    complete = [];
+    left = frames;
+    joined = refl;
+    grouped = refl;
+    unfinished = (is, within);
+  };
+}
 
 -- The first of octets are no more.
 no_more : (octets part left : List ℕ) → octets ≡ part ++ left → length octets ≤ max_block_octets
@@ -93,8 +90,7 @@ begun_prefix stream end octets (frame ∷ frames) more items is within =
     let opened : frame ≡ Headers stream end false is.fragment is.pad is.priority =
     (let e = is.opened in cc) in
     let following : frames ++ more ≡ is.following = (let e = is.opened in cc) in
-    let prefix = continued_prefix stream frames more is.others
-    (rw (← following) at is.continued) in
+    let prefix = continued_prefix stream frames more is.others (rw (← following) at is.continued) in
     begun_only (record { stream = stream; end = end; octets = is.fragment ++ prefix.0 })
     (frame ∷ frames) items (record {
       fragment = is.fragment;
@@ -150,21 +146,20 @@ item_prefix (block stream end octets) whole frames between next items (inr ended
 one_before : (item : Item) (items : List Item) (frames whole between : List Frame)
     → IsItem item whole → frames ≡ whole ++ between → GroupedPrefix between items
     → GroupedPrefix frames (item ∷ items)
-one_before item items frames whole between is split others =
-    record {
-      first = item ∷ others.first;
-      later = others.later;
-      begun = others.begun;
-      items_are = ap (λ (line : List Item). item ∷ line) others.items_are;
-      groups = record {
-        complete = whole ++ others.groups.complete;
-        left = others.groups.left;
-        joined = split ∙ ap (λ (line : List Frame). whole ++ line) others.groups.joined
-            ∙ sym (append_assoc whole others.groups.complete others.groups.left);
-        grouped = (whole, others.groups.complete, refl, is, others.groups.grouped);
-        unfinished = others.groups.unfinished;
-      };
-    }
+one_before item items frames whole between is split others = record {
+  first = item ∷ others.first;
+  later = others.later;
+  begun = others.begun;
+  items_are = ap (λ (line : List Item). item ∷ line) others.items_are;
+  groups = record {
+    complete = whole ++ others.groups.complete;
+    left = others.groups.left;
+    joined = split ∙ ap (λ (line : List Frame). whole ++ line) others.groups.joined
+        ∙ sym (append_assoc whole others.groups.complete others.groups.left);
+    grouped = (whole, others.groups.complete, refl, is, others.groups.grouped);
+    unfinished = others.groups.unfinished;
+  };
+}
 
 -- A prefix of what is left.
 left_prefix : (begun : Option Begun) (left frames more : List Frame) → IsLeft begun left

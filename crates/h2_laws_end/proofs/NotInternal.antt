@@ -1,15 +1,12 @@
 -- No rule has the code INTERNAL_ERROR: an end fails with it only where memory was refused.
-use Rattle.h2_laws_end.proofs.Names.{◌≡◌, ◌≢◌, ◌∙◌, ℕ, Bool, true, false, if◌then◌else◌, List, []}
-use Rattle.h2_laws_end.proofs.Names.{◌∷◌, Option, Some, None, length, nat_lt, sym, ap, refl, ◌==◌}
-use Rattle.h2_laws_end.proofs.Names.{◌+◌, ◌++◌, not, subst, InternalError, Frame, Headers}
-use Rattle.h2_laws_end.proofs.Names.{Continuation, BlockFault, Item, Begun, next_fault, none_some}
-use Rattle.h2_laws_end.proofs.Names.{one_code, Verdict, ConnectionFault, View, Decoded, FrameStep}
-use Rattle.h2_laws_end.proofs.Names.{fails_with, begins_block, completes, verdict_of, Log, log_view}
-use Rattle.h2_laws_end.proofs.Names.{took_frame, cond_both, fault_codes, ProtocolError}
-use Rattle.h2_block.specs.Grouping.{fault_outside, fault_inside, max_block_octets}
-use Rattle.h2_block.specs.Gather.{block_fault_code}
-use Rattle.h2_spec_log.specs.ItemRules.{grouped, grouping_step, frame_step}
-use Rattle.h2_spec_log.specs.LogSteps.{used, with_verdict, with_step, with_frame}
+use Rattle.h2_laws_end.proofs.Names
+use Names.{◌≡◌, ◌≢◌, ◌∙◌, ℕ, Bool, true, false, if◌then◌else◌, List, [], ◌∷◌, Option, Some, None}
+use Names.{length, nat_lt, sym, ap, refl, ◌==◌, ◌+◌, ◌++◌, not, subst, InternalError, Frame}
+use Names.{Headers, Continuation, BlockFault, Item, Begun, next_fault, none_some, one_code, Verdict}
+use Names.{ConnectionFault, View, Decoded, FrameStep, fails_with, begins_block, completes}
+use Names.{verdict_of, Log, log_view, took_frame, cond_both, fault_codes, ProtocolError}
+use Names.{fault_outside, fault_inside, max_block_octets, block_fault_code, grouped, grouping_step}
+use Names.{frame_step, used, with_verdict, with_step, with_frame}
 use Rattle.h2_laws_end.proofs.Failures.{replied_failed, still_up}
 use Rattle.h2_laws_end.proofs.FaultCodes.{HasCode, verdict_coded}
 use Rattle.h2_block.specs.declared.fault.BlockFault.TheVariants as faults

@@ -1,20 +1,18 @@
 -- Where memory isn't refused, what a call of `take` answers and the log after it follow from the
 -- log and the piece.
-use Rattle.h2_laws_end.proofs.Names.{◌≡◌, ◌≢◌, ℕ, List, [], ◌++◌, length, Option, Some, None, refl}
-use Rattle.h2_laws_end.proofs.Names.{sym, ap, ◌∙◌, subst, append_assoc, Code, Frame, WireFault}
-use Rattle.h2_laws_end.proofs.Names.{EndsWithFault, wire_fault_code, none_some, one_code}
-use Rattle.h2_laws_end.proofs.Names.{one_reading_lem, Event, UnprocessedEvent, is_server, Log}
-use Rattle.h2_laws_end.proofs.Names.{next_unprocessed, log_view, Decoded, frame_step, limits_from}
-use Rattle.h2_laws_end.proofs.Names.{took_frame, took_fault, took_none, IsDecodedFor, TakeAnswer}
-use Rattle.h2_laws_end.proofs.Names.{Took, Failed, events_answered, AnswersFrame, MayTake}
-use Rattle.h2_laws_end.proofs.Names.{has_failed, reports_unprocessed, ends_no_frame, ends_frame}
-use Rattle.h2_laws_end.proofs.Names.{meets_fault, runs_out_of_memory}
 use Rattle.std.proofs.Math.Seq.{take-length}
-use Rattle.h2_wire.proofs.ReadingLemmas.{same_prefix, same_following}
 use Rattle.h2_wire.proofs.FaultLemmas.{one_making, no_reading}
 use Rattle.h2_spec_log.specs.LogSteps.{took_part}
-use Rattle.h2_spec_log.specs.Histories.{TakesOctets, TakesPart, TakesFrame, TakesFault}
 use Rattle.h2_laws_end.specs.Takes.{HadMemory}
+use Rattle.h2_laws_end.proofs.Names
+use Names.{◌≡◌, ◌≢◌, ℕ, List, [], ◌++◌, length, Option, Some, None, refl, sym, ap, ◌∙◌, subst}
+use Names.{append_assoc, Code, Frame, WireFault, EndsWithFault, wire_fault_code, none_some}
+use Names.{one_code, one_reading_lem, Event, UnprocessedEvent, is_server, Log, next_unprocessed}
+use Names.{log_view, Decoded, frame_step, limits_from, took_frame, took_fault, took_none}
+use Names.{IsDecodedFor, TakeAnswer, Took, Failed, events_answered, AnswersFrame, MayTake}
+use Names.{has_failed, reports_unprocessed, ends_no_frame, ends_frame, meets_fault}
+use Names.{runs_out_of_memory, same_prefix, same_following, TakesOctets, TakesPart, TakesFrame}
+use Names.{TakesFault}
 use Rattle.h2_laws_end.proofs.FrameEnds.{same_piece, no_frame_in, no_frame_at_fault}
 use Rattle.h2_laws_end.proofs.Runs.{one_last, one_seen}
 use Rattle.h2_laws_end.proofs.TakeAnswers.{failed_take}
@@ -36,10 +34,8 @@ one_answer log after count (Took n event) (Took m other) is again =
     ap (λ (n : ℕ). Took n event) (is.0 ∙ sym again.0)
     ∙ ap (λ (event : Option Event). Took m event) (one_event event other log.reported
     (sym is.2 ∙ again.2))
-one_answer log after count (Took n event) (Failed code) is again =
-    none_some code (sym is.1 ∙ again)
-one_answer log after count (Failed code) (Took n event) is again =
-    none_some code (sym again.1 ∙ is)
+one_answer log after count (Took n event) (Failed code) is again = none_some code (sym is.1 ∙ again)
+one_answer log after count (Failed code) (Took n event) is again = none_some code (sym again.1 ∙ is)
 one_answer log after count (Failed code) (Failed other) is again =
     ap Failed (one_code code other (sym is ∙ again))
 
@@ -181,8 +177,7 @@ after_unprocessed log after other piece answer answered up some answers same
     (ends_frame takes octets unused joined frame decoded framed sees is says) had =
     absurd (some takes.all_reported)
 after_unprocessed log after other piece answer answered up some answers same
-    (meets_fault takes octets unused joined fault at says is) had =
-    absurd (some takes.all_reported)
+    (meets_fault takes octets unused joined fault at says is) had = absurd (some takes.all_reported)
 after_unprocessed log after other piece answer answered up some answers same
     (runs_out_of_memory still octets unused joined may says is) had = absurd had
 

@@ -1,14 +1,11 @@
 -- What calls write on streams that are over: no block.
-use Rattle.h2_laws_end.proofs.Names.{◌≡◌, ℕ, ◌==◌, Bool, true, false, if◌then◌else◌, List, [], ◌∷◌}
-use Rattle.h2_laws_end.proofs.Names.{◌++◌, refl, inl, inr, arith, list_any, both_ways, or_from}
-use Rattle.h2_laws_end.proofs.Names.{ne_eqb, false_from_ne_true, Field, WindowUpdate, Item, alone}
-use Rattle.h2_laws_end.proofs.Names.{Act, Answer, Open, SendFields, SendData, Release, ResetStream}
-use Rattle.h2_laws_end.proofs.Names.{Refuse, SendPing, SendGoAway, ChangeSettings, Number, Count}
-use Rattle.h2_laws_end.proofs.Names.{Done, Log, View, ended_in, log_view, data_items, MayAnswer}
-use Rattle.h2_laws_end.proofs.Names.{with_call, grows_call, any_either, used_more, is_number_used}
-use Rattle.h2_laws_end.proofs.Names.{IsOver}
-use Rattle.h2_spec_log.specs.Items.{is_block_on}
-use Rattle.h2_spec_log.specs.CallRules.{items_of}
+use Rattle.h2_laws_end.proofs.Names
+use Names.{◌≡◌, ℕ, ◌==◌, Bool, true, false, if◌then◌else◌, List, [], ◌∷◌, ◌++◌, refl, inl, inr}
+use Names.{arith, list_any, both_ways, or_from, ne_eqb, false_from_ne_true, Field, WindowUpdate}
+use Names.{Item, alone, Act, Answer, Open, SendFields, SendData, Release, ResetStream, Refuse}
+use Names.{SendPing, SendGoAway, ChangeSettings, Number, Count, Done, Log, View, ended_in, log_view}
+use Names.{data_items, MayAnswer, with_call, grows_call, any_either, used_more, is_number_used}
+use Names.{IsOver, is_block_on, items_of}
 use Rattle.h2_laws_end.proofs.OverLists.{IsPast, past_sent}
 use Rattle.h2_laws_end.proofs.OverNumbers.{open_answer, fields_active, used_below}
 use Rattle.h2_laws_end.proofs.OverSteps.{Holds, call_keeps}
@@ -93,8 +90,7 @@ over_of log i past = record { was_used = past.was_used; not_active = past.not_ac
 pub over_by_call : (log : Log) (act : Act) (answer : Answer) (i : ℕ) → MayAnswer log act answer
     → IsOver log i → IsOver (with_call log act answer) i
 over_by_call log act answer i may over =
-    over_of (with_call log act answer) i
-    (call_keeps i (IsPast i) (past_sent i) log act answer
+    over_of (with_call log act answer) i (call_keeps i (IsPast i) (past_sent i) log act answer
     (items_no_block i (log_view log) act answer
     (opens_other log i act answer may over.was_used) (writes_other log i act answer may over))
     (past_of log i over))

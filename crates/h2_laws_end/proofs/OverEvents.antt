@@ -1,15 +1,13 @@
 -- Fields and octets are reported of streams that aren't over, and that are used from then on.
-use Rattle.h2_laws_end.proofs.Names.{◌≡◌, ℕ, suc, Bool, true, List, [], ◌∷◌, ◌++◌, length, Option}
-use Rattle.h2_laws_end.proofs.Names.{Some, sym, ap, ◌∙◌, arith, subst, refl, Field, Data, Reset}
-use Rattle.h2_laws_end.proofs.Names.{Settings, Ping, GoAway, Item, alone, block, Event, FieldsEvent}
-use Rattle.h2_laws_end.proofs.Names.{DataEvent, UnprocessedEvent, Log, next_unprocessed, View}
-use Rattle.h2_laws_end.proofs.Names.{log_view, with_sent, with_unreturned, Verdict, ConnectionFault}
-use Rattle.h2_laws_end.proofs.Names.{StreamFault, NoEvent, Reported, Decoded, used_more, IsOver}
-use Rattle.h2_laws_end.proofs.Names.{MayTake, Took, has_failed, reports_unprocessed, ends_no_frame}
-use Rattle.h2_laws_end.proofs.Names.{ends_frame, meets_fault, runs_out_of_memory, Code}
-use Rattle.h2_spec_log.specs.LogSteps.{with_reported}
-use Rattle.h2_spec_log.specs.ItemEffects.{events_of}
 use Rattle.h2_laws_end.specs.Over.{is_number_used as was_used}
+use Rattle.h2_laws_end.proofs.Names
+use Names.{◌≡◌, ℕ, suc, Bool, true, List, [], ◌∷◌, ◌++◌, length, Option, Some, sym, ap, ◌∙◌, arith}
+use Names.{subst, refl, Field, Data, Reset, Settings, Ping, GoAway, Item, alone, block, Event}
+use Names.{FieldsEvent, DataEvent, UnprocessedEvent, Log, next_unprocessed, View, log_view}
+use Names.{with_sent, with_unreturned, Verdict, ConnectionFault, StreamFault, NoEvent, Reported}
+use Names.{Decoded, used_more, IsOver, MayTake, Took, has_failed, reports_unprocessed}
+use Names.{ends_no_frame, ends_frame, meets_fault, runs_out_of_memory, Code, with_reported}
+use Names.{events_of}
 use Rattle.h2_laws_end.proofs.OverCalls.{past_of}
 use Rattle.h2_laws_end.proofs.OverLists.{IsPast, WasUsed}
 use Rattle.h2_laws_end.proofs.OverReads.{OfMessage, IsInUse, in_use_by_rules}

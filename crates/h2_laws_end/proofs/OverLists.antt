@@ -4,8 +4,7 @@ use Rattle.h2_laws_end.proofs.Names.{◌≡◌, ℕ, Bool, true, false, List, []
 use Rattle.h2_laws_end.proofs.Names.{list_any, both_ways, or_from, false_from_ne_true, Item, Role}
 use Rattle.h2_laws_end.proofs.Names.{Client, Server, is_block_on, Event, openings, is_used}
 use Rattle.h2_laws_end.proofs.Names.{is_active, any_either, active_before, active_parts}
-use Rattle.h2_laws_end.proofs.Names.{lasts_parts, used_more}
-use Rattle.h2_spec_log.specs.States.{is_closed_by_us}
+use Rattle.h2_laws_end.proofs.Names.{lasts_parts, used_more, is_closed_by_us}
 
 -- The stream is over.
 pub record IsPast (i : ℕ) (role : Role) (received sent : List Item)
@@ -97,29 +96,26 @@ inactive_by i role received sent reported item false is closed before =
 pub past_sent : (i : ℕ) (role : Role) (received sent : List Item) (reported : List Event)
     (items : List Item) → list_any (is_block_on i) items ≡ false
     → IsPast i role received sent reported → IsPast i role received (items ++ sent) reported
-past_sent i role received sent reported items none past =
-    record {
-      was_used = used_more role i [] items received sent past.was_used;
-      not_active = inactive_sent i role received sent reported items none past.not_active;
-    }
+past_sent i role received sent reported items none past = record {
+  was_used = used_more role i [] items received sent past.was_used;
+  not_active = inactive_sent i role received sent reported items none past.not_active;
+}
 
 -- after events,
 pub past_reported : (i : ℕ) (role : Role) (received sent : List Item)
     (reported events : List Event) → IsPast i role received sent reported
     → IsPast i role received sent (events ++ reported)
-past_reported i role received sent reported events past =
-    record {
-      was_used = past.was_used;
-      not_active = inactive_reported i role received sent reported events past.not_active;
-    }
+past_reported i role received sent reported events past = record {
+  was_used = past.was_used;
+  not_active = inactive_reported i role received sent reported events past.not_active;
+}
 
 -- and after an item that is read, on which a block is no opening.
 pub past_read : (i : ℕ) (role : Role) (received sent : List Item) (reported : List Event)
     (item : Item) → (is_block_on i item ≡ true → is_closed_by_us role i sent ≡ true)
     → IsPast i role received sent reported → IsPast i role (item ∷ received) sent reported
-past_read i role received sent reported item closed past =
-    record {
-      was_used = used_more role i (item ∷ []) [] received sent past.was_used;
-      not_active = inactive_by i role received sent reported item (is_block_on i item) refl closed
-          past.not_active;
-    }
+past_read i role received sent reported item closed past = record {
+  was_used = used_more role i (item ∷ []) [] received sent past.was_used;
+  not_active = inactive_by i role received sent reported item (is_block_on i item) refl closed
+      past.not_active;
+}

@@ -1,22 +1,18 @@
 -- The numbers of streams that calls open: each is the next one, which is above all that were used.
-use Rattle.h2_laws_end.proofs.Names.{◌≡◌, ℕ, ◌≤◌, ◌<◌, ◌+◌, ◌%◌, ◌==◌, Bool, true, false}
-use Rattle.h2_laws_end.proofs.Names.{if◌then◌else◌, List, ◌∷◌, ◌++◌, refl, sym, ap, ◌∙◌, arith}
-use Rattle.h2_laws_end.proofs.Names.{subst, list_any, or_left, and_parts, eqb-true, eq-eqb}
-use Rattle.h2_laws_end.proofs.Names.{false_from_ne_true, Field, Item, block, Role, Client, Server}
-use Rattle.h2_laws_end.proofs.Names.{Values, Open, SendFields, Number, Done, is_server, Log, active}
-use Rattle.h2_laws_end.proofs.Names.{MayAnswer, accepts, refuses, lacks, fails, with_call}
-use Rattle.h2_laws_end.proofs.Names.{AllowedHistory, IsLog, stream_of_log, none_holds}
-use Rattle.h2_laws_end.proofs.Names.{written_is_allowed, any_after, grows_call, stream_is_active}
-use Rattle.h2_laws_end.proofs.Names.{is_number_used}
 use Rattle.std.proofs.lemmas.Bool.{and_from}
-use Rattle.h2_spec_log.specs.Items.{is_block_on, greatest_block}
-use Rattle.h2_spec_log.specs.States.{is_used}
-use Rattle.h2_spec_log.specs.Log.{next_number}
-use Rattle.h2_spec_log.specs.CallRules.{conditions, items_of}
+use Rattle.h2_spec_log.specs.Items.{greatest_block}
 use Rattle.h2_laws_log.proofs.CallConditions.{neither_one}
 use Rattle.h2_laws_log.proofs.ReaderStates.{opens_here}
-use Rattle.h2_laws_log.proofs.StreamNumbers.{next_odd, opens_low}
+use Rattle.h2_laws_log.proofs.StreamNumbers.{opens_low}
 use Rattle.h2_laws_log.proofs.InvariantSends.{client_since}
+use Rattle.h2_laws_end.proofs.Names
+use Names.{◌≡◌, ℕ, ◌≤◌, ◌<◌, ◌+◌, ◌%◌, ◌==◌, Bool, true, false, if◌then◌else◌, List, ◌∷◌, ◌++◌}
+use Names.{refl, sym, ap, ◌∙◌, arith, subst, list_any, or_left, and_parts, eqb-true, eq-eqb}
+use Names.{false_from_ne_true, Field, Item, block, Role, Client, Server, Values, Open, SendFields}
+use Names.{Number, Done, is_server, Log, active, MayAnswer, accepts, refuses, lacks, fails}
+use Names.{with_call, AllowedHistory, IsLog, stream_of_log, none_holds, written_is_allowed}
+use Names.{any_after, grows_call, stream_is_active, is_number_used, is_block_on, is_used}
+use Names.{next_number, conditions, items_of, next_odd}
 use Rattle.h2_laws_end.proofs.WrittenSteps.{call_writes}
 
 -- The number that a client's call answers.
@@ -45,8 +41,7 @@ open_answer log fields end id (fails none may is) = cc
 pub fields_active : (log : Log) (id : ℕ) (fields : List Field) (end : Bool)
     → MayAnswer log (SendFields id fields end) Done → active log id ≡ true
 unfolding conditions
-fields_active log id fields end (accepts none is) =
-    stream_is_active log id (none_holds _ none).1.0
+fields_active log id fields end (accepts none is) = stream_is_active log id (none_holds _ none).1.0
 fields_active log id fields end (refuses refusal holds is) = cc
 fields_active log id fields end (lacks none may is) = cc
 fields_active log id fields end (fails none may is) = cc
@@ -86,8 +81,7 @@ pub block_there : (i : ℕ) (end : Bool) (octets : List ℕ) (credit sent : List
     → list_any (is_block_on i) (credit ++ (block i end octets ∷ sent)) ≡ true
 unfolding is_block_on
 block_there i end octets credit sent =
-    any_after (is_block_on i) credit (block i end octets ∷ sent)
-    (or_left _ _ (eq-eqb i i refl))
+    any_after (is_block_on i) credit (block i end octets ∷ sent) (or_left _ _ (eq-eqb i i refl))
 
 -- After a call that opens a stream, its number is used.
 opened_used : (log : Log) (fields : List Field) (end : Bool) (id : ℕ) → log.role ≡ Client

@@ -1,14 +1,12 @@
 -- What reading leaves of numbers that were used and of streams that are over; and of which streams
 -- fields and octets are reported.
+use Rattle.h2_laws_log.proofs.ReaderStates.{not_idle}
 use Rattle.h2_laws_end.proofs.Names.{◌≡◌, ℕ, Bool, true, List, [], ◌∷◌, Option, Some, None, refl}
 use Rattle.h2_laws_end.proofs.Names.{sym, subst, both_ways, eqb-true, Data, Item, alone, block}
 use Rattle.h2_laws_end.proofs.Names.{Idle, Active, Log, state, log_view, Decoded, peer_opens}
 use Rattle.h2_laws_end.proofs.Names.{active_used, state_is_active, used_more, used_here}
 use Rattle.h2_laws_end.proofs.Names.{closed_by_us_is, is_number_used, IsOver, TakeAnswer, MayTake}
-use Rattle.h2_spec_log.specs.Items.{is_block_on}
-use Rattle.h2_spec_log.specs.States.{is_closed_by_us}
-use Rattle.h2_spec_log.specs.ItemRules.{verdict_by_rules}
-use Rattle.h2_laws_log.proofs.ReaderStates.{not_idle}
+use Rattle.h2_laws_end.proofs.Names.{is_block_on, is_closed_by_us, verdict_by_rules}
 use Rattle.h2_laws_end.proofs.OverCalls.{past_of, over_of}
 use Rattle.h2_laws_end.proofs.OverLists.{IsPast, WasUsed, past_sent, past_reported, past_read}
 use Rattle.h2_laws_end.proofs.OverSteps.{Holds, HoldsRead, take_keeps}
@@ -25,8 +23,7 @@ past_not_active log i past active = both_ways _ past.not_active (state_is_active
 other_read : (i : ℕ) (log : Log) (item : Item) → (is_block_on i item ≡ true → ⊥)
     → Holds (IsPast i) log → IsPast i log.role (item ∷ log.received) log.sent log.reported
 other_read i log item other past =
-    past_read i log.role log.received log.sent log.reported item
-    (λ here. absurd (other here)) past
+    past_read i log.role log.received log.sent log.reported item (λ here. absurd (other here)) past
 
 -- The stream of a block is over where it is this one.
 block_past : (i : ℕ) (log : Log) (stream : ℕ) (end : Bool) (octets : List ℕ)
@@ -82,8 +79,7 @@ pub used_by_take : (log after : Log) (piece : List ℕ) (answer : TakeAnswer) (i
 used_by_take log after piece answer i may was =
     take_keeps i (WasUsed i)
     (λ role received sent reported items none was. used_more role i [] items received sent was)
-    (λ role received sent reported events was. was) (used_by_rules i) log after piece answer may
-    was
+    (λ role received sent reported events was. was) (used_by_rules i) log after piece answer may was
 
 -- The item is neither a block nor DATA, or this holds of its stream.
 abbrev pub OfMessage : (ℕ → Type 0) → Item → Type 0

@@ -1,20 +1,13 @@
 -- What calls leave of windows, and of what is owed.
-use Rattle.h2_laws_end.proofs.Names.{◌≡◌, ℕ, ◌-◌, ◌≤◌, nat_lt, ◌&&◌, Bool, true, false}
-use Rattle.h2_laws_end.proofs.Names.{if◌then◌else◌, List, ◌∷◌, ◌++◌, pos, ◌-ℤ◌, refl, sym, ◌∙◌, inl}
-use Rattle.h2_laws_end.proofs.Names.{inr, arith, list_any, ints, and_left, ltb-false, cases_Bool}
-use Rattle.h2_laws_end.proofs.Names.{nat_tests, Item, Act, Answer, Release, Done, is_block_on}
-use Rattle.h2_laws_end.proofs.Names.{data_on, Log, active, log_view, items_of, with_call}
-use Rattle.h2_laws_end.proofs.Names.{grows_call, unreleased_is}
-use Rattle.std.specs.Prelude.{int_lt}
-use Rattle.std.proofs.lemmas.Bool.{and_cases, and_right, le-ltb}
-use Rattle.h2_spec_log.specs.Events.{flow_on, reported_total}
-use Rattle.h2_spec_log.specs.Items.{data_of, total}
-use Rattle.h2_spec_log.specs.Windows.{given_on, given_on_connection}
-use Rattle.h2_spec_log.specs.Log.{owed, released, unreleased}
-use Rattle.h2_laws_log.proofs.ItemLists.{total_after}
-use Rattle.h2_laws_log.proofs.ReleasedCredit.{released_here}
-use Rattle.h2_laws_log.proofs.PartsStay.{call_calls}
+use Rattle.std.proofs.lemmas.Bool.{and_cases}
 use Rattle.h2_laws_end.specs.Over.{has_room}
+use Rattle.h2_laws_end.proofs.Names
+use Names.{◌≡◌, ℕ, ◌-◌, ◌≤◌, nat_lt, ◌&&◌, Bool, true, false, if◌then◌else◌, List, ◌∷◌, ◌++◌, pos}
+use Names.{◌-ℤ◌, refl, sym, ◌∙◌, inl, inr, arith, list_any, ints, and_left, ltb-false, cases_Bool}
+use Names.{nat_tests, Item, Act, Answer, Release, Done, is_block_on, data_on, Log, active, log_view}
+use Names.{items_of, with_call, grows_call, unreleased_is, int_lt, and_right, le-ltb, flow_on}
+use Names.{reported_total, data_of, total, given_on, given_on_connection, owed, released}
+use Names.{unreleased, total_after, released_here, call_calls}
 use Rattle.h2_laws_end.proofs.OverCalls.{items_no_block}
 use Rattle.h2_laws_end.proofs.OverLists.{IsInactive, inactive_sent}
 use Rattle.h2_laws_end.proofs.OverSteps.{call_keeps}
@@ -102,8 +95,7 @@ left_after log id count i answer =
     rw (
       (grows_call log (Release id count) answer).reported,
       call_calls log (Release id count) answer,
-    )
-    refl
+    ) refl
 
 -- Once all that is owed was released, nothing is.
 pub none_owed : (log : Log) (id : ℕ)

@@ -1,19 +1,14 @@
 -- What items without a block on a stream keep, and events, and items that are read by their
 -- verdicts, a call of `take` keeps, and any other that writes no such block.
-use Rattle.h2_laws_end.proofs.Names.{◌≡◌, ℕ, ◌+◌, false, List, [], ◌∷◌, ◌++◌, Option, Some, None}
-use Rattle.h2_laws_end.proofs.Names.{refl, inl, inr, subst, list_any, Code, InternalError}
-use Rattle.h2_laws_end.proofs.Names.{code_number, WindowUpdate, wire_fault_code, Item, alone, Role}
-use Rattle.h2_laws_end.proofs.Names.{Event, Act, Answer, Refuse, PutOut, Count, OutOfMemory}
-use Rattle.h2_laws_end.proofs.Names.{Refused, Log, log_view, Verdict, Decoded, verdict_by_rules}
-use Rattle.h2_laws_end.proofs.Names.{items_of, with_unreturned, with_failure, took_none, called}
-use Rattle.h2_laws_end.proofs.Names.{credit_cases, put_out_cases, TakeAnswer, MayTake, has_failed}
-use Rattle.h2_laws_end.proofs.Names.{reports_unprocessed, ends_no_frame, ends_frame, meets_fault}
-use Rattle.h2_laws_end.proofs.Names.{runs_out_of_memory, IsCredit, none_both, GoAway}
-use Rattle.h2_laws_end.proofs.Names.{UnprocessedEvent, next_unprocessed}
-use Rattle.h2_spec_log.specs.Items.{is_block_on}
-use Rattle.h2_spec_log.specs.LogSteps.{with_sent}
-use Rattle.h2_spec_log.specs.LogCalls.{with_items, refused_with, before_put_out, with_call}
-use Rattle.h2_laws_log.proofs.ItemLists.{goaway_no_block, replies_no_block}
+use Rattle.h2_laws_end.proofs.Names
+use Names.{◌≡◌, ℕ, ◌+◌, false, List, [], ◌∷◌, ◌++◌, Option, Some, None, refl, inl, inr, subst}
+use Names.{list_any, Code, InternalError, code_number, WindowUpdate, wire_fault_code, Item, alone}
+use Names.{Role, Event, Act, Answer, Refuse, PutOut, Count, OutOfMemory, Refused, Log, log_view}
+use Names.{Verdict, Decoded, verdict_by_rules, items_of, with_unreturned, with_failure, took_none}
+use Names.{called, credit_cases, put_out_cases, TakeAnswer, MayTake, has_failed}
+use Names.{reports_unprocessed, ends_no_frame, ends_frame, meets_fault, runs_out_of_memory}
+use Names.{IsCredit, none_both, GoAway, UnprocessedEvent, next_unprocessed, is_block_on, with_sent}
+use Names.{with_items, refused_with, before_put_out, with_call, goaway_no_block, replies_no_block}
 use Rattle.h2_laws_end.proofs.ReadVerdicts.{Says, says_of, says_one}
 use Rattle.h2_laws_end.proofs.ActivitySteps.{AfterFrame, stays_same, has_broken, has_read}
 use Rattle.h2_laws_end.proofs.ActivitySteps.{frame_used, frame_after, part_after, fault_after}

@@ -1,20 +1,15 @@
 -- Pieces of octets, octet by octet.
-use Rattle.h2_laws_end.proofs.Names.{◌≡◌, ℕ, false, true, List, [], ◌∷◌, ◌++◌, length, Option, None}
-use Rattle.h2_laws_end.proofs.Names.{Some, refl, sym, ap, ◌∙◌, subst, append_assoc, append-nil}
-use Rattle.h2_laws_end.proofs.Names.{take, InternalError, Frame, WireFault, wire_fault_code, Limits}
-use Rattle.h2_laws_end.proofs.Names.{Frames, WireFaultAt, EndsWithFault, one_reading_lem, alone}
-use Rattle.h2_laws_end.proofs.Names.{block, Role, Values, is_server, Log, View, log_view, Decoded}
-use Rattle.h2_laws_end.proofs.Names.{FrameStep, fails_with, begins_block, completes, frame_step}
-use Rattle.h2_laws_end.proofs.Names.{limits_from, took_frame, took_fault, took_out_of_memory}
-use Rattle.h2_laws_end.proofs.Names.{IsDecodedIn, IsDecodedFor, Mark, Octet, without_turns}
-use Rattle.h2_laws_end.proofs.Names.{AreSameButTurns}
 use Rattle.std.proofs.Common.{map as each}
 use Rattle.std.proofs.Math.Seq.{take-append_seam}
-use Rattle.h2_spec_log.specs.Log.{last_processed, waiting, output, unreleased, next_number}
-use Rattle.h2_spec_log.specs.Log.{active_count, max_streams}
-use Rattle.h2_spec_log.specs.LogView.{overflows}
-use Rattle.h2_spec_log.specs.LogSteps.{used}
 use Rattle.h2_laws_end.specs.Scripts.{OutOfMemory}
+use Rattle.h2_laws_end.proofs.Names
+use Names.{◌≡◌, ℕ, false, true, List, [], ◌∷◌, ◌++◌, length, Option, None, Some, refl, sym, ap, ◌∙◌}
+use Names.{subst, append_assoc, append-nil, take, InternalError, Frame, WireFault, wire_fault_code}
+use Names.{Limits, Frames, WireFaultAt, EndsWithFault, one_reading_lem, alone, block, Role, Values}
+use Names.{is_server, Log, View, log_view, Decoded, FrameStep, fails_with, begins_block, completes}
+use Names.{frame_step, limits_from, took_frame, took_fault, took_out_of_memory, IsDecodedIn}
+use Names.{IsDecodedFor, Mark, Octet, without_turns, AreSameButTurns, last_processed, waiting}
+use Names.{output, unreleased, next_number, active_count, max_streams, overflows, used}
 use Rattle.h2_laws_end.proofs.PieceLogs.{limits_without, limits_used, frame_alike, failure_alike}
 use Rattle.h2_laws_end.proofs.PieceLogs.{used_none, used_twice, used_without}
 use Rattle.h2_laws_end.proofs.PieceParts.{no_frame_in_prefix, no_frame_before_last}
@@ -158,8 +153,7 @@ pub frame_run : (role : Role) (values : Values) (limits : Limits) (init : List �
     (without_turns (took_frame log (init ++ last ∷ []) decoded frame))
 frame_run role values limits init last marks log frame decoded run read ends sees =
     let left = no_frame_before_last (is_server role) limits log.frames frame log.input init
-    log.unparsed last read.read
-    (subst (λ (input : List ℕ). Frames (is_server role) limits input
+    log.unparsed last read.read (subst (λ (input : List ℕ). Frames (is_server role) limits input
     (log.frames ++ frame ∷ []) []) (sym (append_assoc log.input init (last ∷ []))) ends) in
     let next = used log init left.0 in
     let ends_now : Frames (is_server role) limits (next.input ++ last ∷ [])
@@ -237,8 +231,7 @@ pub lost_run : (role : Role) (values : Values) (limits : Limits) (init : List �
     (without_turns (took_out_of_memory log (init ++ last ∷ [])))
 lost_run role values limits init last marks log frame run read ends =
     let left = no_frame_before_last (is_server role) limits log.frames frame log.input init
-    log.unparsed last read.read
-    (subst (λ (input : List ℕ). Frames (is_server role) limits input
+    log.unparsed last read.read (subst (λ (input : List ℕ). Frames (is_server role) limits input
     (log.frames ++ frame ∷ []) []) (sym (append_assoc log.input init (last ∷ []))) ends) in
     subst (λ (line : List Mark). Run role values (OutOfMemory true ∷ line)
     (without_turns (took_out_of_memory log (init ++ last ∷ []))))

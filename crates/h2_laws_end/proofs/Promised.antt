@@ -1,18 +1,16 @@
 -- Frames for which no memory is refused.
-use Rattle.h2_laws_end.proofs.Names.{◌≡◌, ◌≢◌, ◌∙◌, ℕ, true, false, List, ◌++◌, ◌+◌, Option, Some}
-use Rattle.h2_laws_end.proofs.Names.{None, refl, sym, ap, InternalError, Frame, Data, Ping}
-use Rattle.h2_laws_end.proofs.Names.{WindowUpdate, Headers, Continuation, none_some, BlockFault}
-use Rattle.h2_laws_end.proofs.Names.{alone, Begun, next_fault, Log, log_view, NoEvent, Reported}
-use Rattle.h2_laws_end.proofs.Names.{View, TakeAnswer, Failed, MayTake, has_failed}
-use Rattle.h2_laws_end.proofs.Names.{reports_unprocessed, ends_no_frame, ends_frame, meets_fault}
-use Rattle.h2_laws_end.proofs.Names.{runs_out_of_memory, cond_both, not, ◌&&◌, ProtocolError}
-use Rattle.h2_laws_end.proofs.Names.{fails_with}
 use Rattle.h2_frame.specs.Frames.{Priority, Unknown}
-use Rattle.h2_spec_log.specs.ItemRules.{grouped, grouping_step, frame_step, verdict_of}
-use Rattle.h2_spec_log.specs.ItemRules.{verdict_by_rules, may_be_first}
-use Rattle.h2_spec_log.specs.Histories.{LacksMemory, to_report, to_keep, to_take}
+use Rattle.h2_spec_log.specs.Histories.{LacksMemory}
 use Rattle.h2_spec_log.specs.Memory.{frame_needs_memory, needs_memory, step_needs_memory}
 use Rattle.h2_laws_end.specs.Promises.{NeedsNoMemory, IsFree}
+use Rattle.h2_laws_end.proofs.Names
+use Names.{◌≡◌, ◌≢◌, ◌∙◌, ℕ, true, false, List, ◌++◌, ◌+◌, Option, Some, None, refl, sym, ap}
+use Names.{InternalError, Frame, Data, Ping, WindowUpdate, Headers, Continuation, none_some}
+use Names.{BlockFault, alone, Begun, next_fault, Log, log_view, NoEvent, Reported, View, TakeAnswer}
+use Names.{Failed, MayTake, has_failed, reports_unprocessed, ends_no_frame, ends_frame, meets_fault}
+use Names.{runs_out_of_memory, cond_both, not, ◌&&◌, ProtocolError, fails_with, grouped}
+use Names.{grouping_step, frame_step, verdict_of, verdict_by_rules, may_be_first, to_report}
+use Names.{to_keep, to_take}
 use Rattle.h2_laws_end.proofs.NotInternal.{frame_up}
 use Rattle.h2_laws_end.proofs.OneTake.{frame_fault, same_ends}
 use Rattle.h2_laws_end.proofs.ReadVerdicts.{by_limits}
@@ -95,6 +93,5 @@ unfolding frame_step
 free_frame log frame free =
     cond_both (not (log_view log).started && not (may_be_first frame)) (fails_with ProtocolError) _
     (λ step. step_needs_memory (log_view (record log { begun = None })) step ≡ false)
-    (λ stray. refl)
-    (λ comes. grouping_free (log_view (record log { begun = None })) log.begun frame
+    (λ stray. refl) (λ comes. grouping_free (log_view (record log { begun = None })) log.begun frame
     (next_fault log.begun frame) free)

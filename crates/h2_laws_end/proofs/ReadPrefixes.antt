@@ -2,9 +2,8 @@
 -- partial frame.
 use Rattle.h2_laws_end.proofs.Names.{◌≡◌, ◌⊎◌, ℕ, ◌+◌, Bool, List, [], ◌∷◌, ◌++◌, length, refl, sym}
 use Rattle.h2_laws_end.proofs.Names.{ap, ◌∙◌, arith, inl, inr, append_assoc, length-append, head_of}
-use Rattle.h2_laws_end.proofs.Names.{Frame, expected_preface, Limits, Frames}
-use Rattle.h2_frame.proofs.HeadLemmas.{head_of-append}
-use Rattle.h2_wire.specs.Streams.{IsFrame, AreFrames, IsPartial}
+use Rattle.h2_laws_end.proofs.Names.{Frame, expected_preface, Limits, Frames, head_of-append}
+use Rattle.h2_laws_end.proofs.Names.{IsFrame, AreFrames, IsPartial}
 use Rattle.h2_laws_end.proofs.Overlaps.{overlap}
 
 -- A prefix of a partial frame is partial.

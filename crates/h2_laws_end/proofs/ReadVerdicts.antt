@@ -1,11 +1,10 @@
 -- What a verdict on an item says of the item's stream.
-use Rattle.h2_laws_end.proofs.Names.{◌≡◌, Bool, true, false, Option, refl, Code, Item, Verdict}
-use Rattle.h2_laws_end.proofs.Names.{ConnectionFault, StreamFault, NoEvent, Reported, State, Idle}
-use Rattle.h2_laws_end.proofs.Names.{Active, ClosedByUs, Closed, Log, log_view, Decoded}
-use Rattle.h2_laws_end.proofs.Names.{verdict_by_rules, cond_both, View}
-use Rattle.h2_frame.specs.declared.code.Code.TheVariants.{EnhanceYourCalm}
-use Rattle.h2_spec_log.specs.Verdicts.{data_verdict, opening_verdict, block_verdict, reset_verdict}
-use Rattle.h2_spec_log.specs.ItemRules.{over_limits, verdict_of}
+use Rattle.h2_spec_log.specs.ItemRules.{over_limits}
+use Rattle.h2_laws_end.proofs.Names
+use Names.{◌≡◌, Bool, true, false, Option, refl, Code, Item, Verdict, ConnectionFault, StreamFault}
+use Names.{NoEvent, Reported, State, Idle, Active, ClosedByUs, Closed, Log, log_view, Decoded}
+use Names.{verdict_by_rules, cond_both, View, EnhanceYourCalm, data_verdict, opening_verdict}
+use Names.{block_verdict, reset_verdict, verdict_of}
 pub use Rattle.h2_laws_log.proofs.LogViewLemmas.{closed_by_us_is}
 
 -- what holds of a stream's fault, of an item of which nothing is reported, and of one that is
@@ -27,8 +26,7 @@ by_limits P view decoded item calm is = cond_both _ _ _ P (λ over. calm) (λ wi
 pub says_of : (F S T : Type 0) (log : Log) (decoded : Option Decoded) (item : Item)
     → Says F S T (verdict_by_rules (log_view log) decoded item)
     → Says F S T (verdict_of (log_view log) decoded item)
-says_of F S T log decoded item says =
-    by_limits (Says F S T) (log_view log) decoded item tt says
+says_of F S T log decoded item says = by_limits (Says F S T) (log_view log) decoded item tt says
 
 -- The verdict on DATA says this.
 pub says_data : (F S T : Type 0) (state : State) (passes ended above : Bool) → (state ≡ Active → F)

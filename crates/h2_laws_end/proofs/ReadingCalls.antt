@@ -1,16 +1,11 @@
 -- What every log has read, and what was reported of it: calls; and so every log.
+use Rattle.h2_laws_end.specs.Readings.{HasReadings}
+use Rattle.h2_laws_log.proofs.NoGoAways.{items_none}
 use Rattle.h2_laws_end.proofs.Names.{false, [], refl, both_ways, Role, Values, Act, SendGoAway, Log}
 use Rattle.h2_laws_end.proofs.Names.{log_view, answer_of, called, IsLog, IsPendingInvariant}
-use Rattle.h2_laws_end.proofs.Names.{pending_by_logs}
-use Rattle.h2_spec_log.specs.Items.{is_goaway}
-use Rattle.h2_spec_log.specs.Events.{greatest_processed}
-use Rattle.h2_spec_log.specs.Log.{last_processed}
-use Rattle.h2_spec_log.specs.CallRules.{items_of}
-use Rattle.h2_spec_log.specs.LogSteps.{with_sent}
-use Rattle.h2_spec_log.specs.LogCalls.{opened}
-use Rattle.h2_laws_end.specs.Readings.{items_read, events_read, events_of_items, HasReadings}
-use Rattle.h2_laws_log.proofs.NoGoAways.{items_none}
-use Rattle.h2_laws_log.proofs.LogViewLemmas.{last_is}
+use Rattle.h2_laws_end.proofs.Names.{pending_by_logs, is_goaway, greatest_processed, last_processed}
+use Rattle.h2_laws_end.proofs.Names.{items_of, with_sent, opened, items_read, events_read}
+use Rattle.h2_laws_end.proofs.Names.{events_of_items, last_is}
 use Rattle.h2_laws_end.proofs.Readings.{LogIsRead, PendingRead, wrote_goaway, named, wrote_keeps}
 use Rattle.h2_laws_end.proofs.Readings.{failure_keeps, replied_read}
 use Rattle.h2_laws_end.proofs.ReadingRules.{some_above}
@@ -31,39 +26,36 @@ call_keeps log act are =
 -- A new log.
 begins_read : (role : Role) (values : Values) → LogIsRead (opened role values)
 unfolding opened with_sent items_read events_read events_of_items is_goaway greatest_processed
-begins_read role values =
-    record {
-      readings = [];
-      items = refl;
-      events = refl;
-      each = refl;
-      decoded_in = refl;
-      low = λ up server i some unused.
-          (some_above i some, λ goaway. absurd (both_ways false refl goaway));
-    }
+begins_read role values = record {
+  readings = [];
+  items = refl;
+  events = refl;
+  each = refl;
+  decoded_in = refl;
+  low = λ up server i some unused.
+      (some_above i some, λ goaway. absurd (both_ways false refl goaway));
+}
 
 -- Each change keeps it.
 read_kept : (role : Role) (values : Values) → IsPendingInvariant role values PendingRead
 unfolding is_goaway
-read_kept role values =
-    record {
-      opening = λ in_range. begins_read role values;
-      used = λ log octets unparsed are. are;
-      framed = λ log frames are. are;
-      begun = λ log begun begins are. are;
-      complete = λ log are. are;
-      replied = replied_read role values;
-      named = λ log is up some.
-          named log.role log.received log.sent log.reported log.table log.failed _;
-      reported = λ log event events may are. are;
-      unreturned = λ events log count are. are;
-      returned = λ events log returns. wrote_keeps events (record log { unreturned = 0 }) _
-          refl;
-      failed = λ log code last names. failure_keeps code last log;
-      sent = λ log act accepted. call_keeps log act;
-      called = λ log act answer is none are. are;
-      given = λ log more are. are;
-    }
+read_kept role values = record {
+  opening = λ in_range. begins_read role values;
+  used = λ log octets unparsed are. are;
+  framed = λ log frames are. are;
+  begun = λ log begun begins are. are;
+  complete = λ log are. are;
+  replied = replied_read role values;
+  named = λ log is up some.
+      named log.role log.received log.sent log.reported log.table log.failed _;
+  reported = λ log event events may are. are;
+  unreturned = λ events log count are. are;
+  returned = λ events log returns. wrote_keeps events (record log { unreturned = 0 }) _ refl;
+  failed = λ log code last names. failure_keeps code last log;
+  sent = λ log act accepted. call_keeps log act;
+  called = λ log act answer is none are. are;
+  given = λ log more are. are;
+}
 
 -- Every log.
 pub log_read : (role : Role) (values : Values) (log : Log) → IsLog role values log → LogIsRead log

@@ -1,33 +1,21 @@
 -- What the verdict on an item says of what is reported of it.
-use Rattle.h2_laws_end.proofs.Names.{◌≡◌, ◌≢◌, ℕ, zero, suc, ◌<◌, ◌==◌, ◌%◌, ◌&&◌, max, Bool, true}
-use Rattle.h2_laws_end.proofs.Names.{false, if◌then◌else◌, List, [], ◌∷◌, Option, Some, None, refl}
-use Rattle.h2_laws_end.proofs.Names.{inl, inr, arith, list_any, both_ways, or_parts, or_cases}
-use Rattle.h2_laws_end.proofs.Names.{and_parts, leb-false, Code, ProtocolError, code_number, Data}
-use Rattle.h2_laws_end.proofs.Names.{Reset, Settings, Ping, GoAway, WindowUpdate, Item, alone}
-use Rattle.h2_laws_end.proofs.Names.{block, Role, Client, Server, is_goaway, is_goaway_below, Event}
-use Rattle.h2_laws_end.proofs.Names.{is_server, State, Active, ClosedByUs, Closed, Log, active}
-use Rattle.h2_laws_end.proofs.Names.{state, log_view, Verdict, ConnectionFault, StreamFault}
-use Rattle.h2_laws_end.proofs.Names.{NoEvent, Reported, Decoded, peer_opens, verdict_of_fault}
-use Rattle.h2_laws_end.proofs.Names.{settings_fault, completes, IsDecodedIn, active_used}
-use Rattle.h2_laws_end.proofs.Names.{state_is_active, used_more, used_here, closed_by_us_is}
-use Rattle.h2_laws_end.proofs.Names.{fault_codes}
-use Rattle.std.proofs.Common.{nat_le}
-use Rattle.std.proofs.lemmas.Bool.{or_right, leb-true}
-use Rattle.h2_frame.specs.declared.code.Code.TheVariants.{FlowControlError}
-use Rattle.h2_frame.specs.Encoding.{stream_of}
-use Rattle.h2_spec_log.specs.Items.{opens_from, stream_of_item}
-use Rattle.h2_spec_log.specs.Events.{processed_by, greatest_processed}
-use Rattle.h2_spec_log.specs.States.{state_by, is_used, is_above, is_closed_by_us}
 use Rattle.h2_spec_log.specs.Log.{settings_wait}
-use Rattle.h2_spec_log.specs.Verdicts.{connection_update_verdict, update_verdict}
-use Rattle.h2_spec_log.specs.ItemRules.{is_awaited_ping, verdict_by_rules}
-use Rattle.h2_spec_log.specs.ItemEffects.{events_of}
-use Rattle.h2_laws_log.proofs.ReplyInvariant.{idle_unused}
 use Rattle.h2_laws_log.proofs.InvariantCalls.{odd_some}
-use Rattle.h2_laws_log.proofs.RulesByTests.{second_false}
-use Rattle.h2_laws_end.specs.Readings.{ItemRead, its_fields, its_octets, its_reset, its_fault}
-use Rattle.h2_laws_end.specs.Readings.{its_goaway, its_acknowledgment, its_pong, MayBeSilent}
-use Rattle.h2_laws_end.specs.Readings.{AreEventsOf}
+use Rattle.h2_laws_end.specs.Readings.{its_fields, its_octets, its_reset, its_fault, its_goaway}
+use Rattle.h2_laws_end.specs.Readings.{its_acknowledgment, MayBeSilent}
+use Rattle.h2_laws_end.proofs.Names
+use Names.{◌≡◌, ◌≢◌, ℕ, zero, suc, ◌<◌, ◌==◌, ◌%◌, ◌&&◌, max, Bool, true, false, if◌then◌else◌}
+use Names.{List, [], ◌∷◌, Option, Some, None, refl, inl, inr, arith, list_any, both_ways, or_parts}
+use Names.{or_cases, and_parts, leb-false, Code, ProtocolError, code_number, Data, Reset, Settings}
+use Names.{Ping, GoAway, WindowUpdate, Item, alone, block, Role, Client, Server, is_goaway}
+use Names.{is_goaway_below, Event, is_server, State, Active, ClosedByUs, Closed, Log, active, state}
+use Names.{log_view, Verdict, ConnectionFault, StreamFault, NoEvent, Reported, Decoded, peer_opens}
+use Names.{verdict_of_fault, settings_fault, completes, IsDecodedIn, active_used, state_is_active}
+use Names.{used_more, used_here, closed_by_us_is, fault_codes, nat_le, or_right, leb-true}
+use Names.{FlowControlError, stream_of, opens_from, stream_of_item, processed_by}
+use Names.{greatest_processed, state_by, is_used, is_above, is_closed_by_us}
+use Names.{connection_update_verdict, update_verdict, is_awaited_ping, verdict_by_rules, events_of}
+use Names.{idle_unused, second_false, ItemRead, its_pong, AreEventsOf}
 use Rattle.h2_laws_end.proofs.FaultCodes.{HasCode}
 use Rattle.h2_laws_end.proofs.GoAwaysRead.{IsTypedGoAway, least_reported}
 use Rattle.h2_laws_end.proofs.ReadVerdicts.{Says, says_data, says_any, says_block, says_reset}
@@ -46,8 +34,7 @@ LogIsLow log = IsLow log.role log.received log.sent log.reported
 
 -- A stream at fault is used.
 abbrev pub IsFaulty : Log → Item → Type 0
-IsFaulty log item =
-    is_used log.role (stream_of_item item) (item ∷ log.received) log.sent ≡ true
+IsFaulty log item = is_used log.role (stream_of_item item) (item ∷ log.received) log.sent ≡ true
 
 -- An item of which nothing need be reported.
 abbrev pub IsUnreported : Log → Item → Type 0
@@ -147,18 +134,15 @@ pub rules_say : (log : Log) (decoded : Option Decoded) (item : Item) → LogIsLo
 unfolding verdict_by_rules stream_of_item stream_of
 rules_say log None (block stream end octets) low = tt
 rules_say log (Some decoded) (block stream end octets) low =
-    says_block (IsFaulty log (block stream end octets))
-    (IsUnreported log (block stream end octets))
+    says_block (IsFaulty log (block stream end octets)) (IsUnreported log (block stream end octets))
     (IsSaid log (block stream end octets)) (state log stream) (peer_opens (log_view log) stream)
-    _ _ _ _
-    (λ idle opens.
+    _ _ _ _ (λ idle opens.
     let used = used_here log.role stream end octets log.received log.sent opens in
     let closed = idle_after_goaway log.role stream log.received log.sent log.reported low
     (idle_unused _ _ _ idle) opens in
     (used, closed, λ stays. used))
     (λ is. let used = active_faults log (block stream end octets) stream
-    (state_is_active _ _ _ is) in (used, used))
-    (λ is. closed_by_us_is _ _ _ is)
+    (state_is_active _ _ _ is) in (used, used)) (λ is. closed_by_us_is _ _ _ is)
 rules_say log decoded (alone (Data stream end octets pad)) low =
     says_data (IsFaulty log (alone (Data stream end octets pad)))
     (is_closed_by_us log.role stream log.sent ≡ true) (Unit {0}) (state log stream) _ _ _
@@ -196,14 +180,13 @@ rules_see log (Some decoded) (alone frame) = says_any (Unit {0}) _ tt
 
 -- what is read of an item, by its verdict
 abbrev pub reading_of : Log → Option Decoded → Item → Verdict → ItemRead
-reading_of log decoded item verdict =
-    record {
-      item = item;
-      sent = log.sent;
-      reported = log.reported;
-      decoded = decoded;
-      events = events_of (log_view log) decoded verdict item;
-    }
+reading_of log decoded item verdict = record {
+  item = item;
+  sent = log.sent;
+  reported = log.reported;
+  decoded = decoded;
+  events = events_of (log_view log) decoded verdict item;
+}
 
 -- A used number isn't nothing.
 pub used_some : (role : Role) (i : ℕ) (received sent : List Item)
@@ -231,8 +214,7 @@ events_said log None (block stream end octets) Reported none sees seen coded typ
 events_said log (Some decoded) (block stream end octets) Reported none sees seen coded typed says =
     its_fields stream end octets decoded
 events_said log decoded (alone (Data stream end octets pad)) Reported none sees
-    seen coded typed says =
-    rw sees (its_octets stream end octets pad)
+    seen coded typed says = rw sees (its_octets stream end octets pad)
 events_said log decoded (alone (Reset stream code)) Reported none sees seen coded typed says =
     rw sees (its_reset stream code)
 events_said log decoded (alone (Settings ack pairs)) Reported none sees seen coded typed says =

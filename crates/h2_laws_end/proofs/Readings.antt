@@ -1,23 +1,18 @@
 -- What every log has read, and what was reported of it.
-use Rattle.h2_laws_end.proofs.Names.{◌≡◌, ℕ, ◌<◌, true, false, List, [], ◌∷◌, ◌++◌, Option, Some}
-use Rattle.h2_laws_end.proofs.Names.{None, refl, sym, ap, ◌∙◌, inl, inr, arith, append_assoc, subst}
-use Rattle.h2_laws_end.proofs.Names.{list_any, both_ways, or_parts, or_left, lt-ltb, Code}
-use Rattle.h2_laws_end.proofs.Names.{code_number, GoAway, Item, alone, block, Role, Server}
-use Rattle.h2_laws_end.proofs.Names.{is_goaway, Event, UnprocessedEvent, Log, log_view, Verdict}
-use Rattle.h2_laws_end.proofs.Names.{ConnectionFault, Decoded, replies_to, completes, events_of}
-use Rattle.h2_laws_end.proofs.Names.{read, with_failure, IsDecodedIn, Values, any_after}
-use Rattle.h2_laws_end.proofs.Names.{comes_as_before, any_either, Replies, fault_codes, comes_fit}
 use Rattle.hpack.specs.Tables.{Entries}
-use Rattle.h2_spec_log.specs.Items.{opens_from, is_goaway_below}
-use Rattle.h2_spec_log.specs.Events.{processed_by, greatest_processed}
 use Rattle.h2_spec_log.specs.ItemEffects.{table_after}
-use Rattle.h2_spec_log.specs.LogSteps.{with_sent, used}
 use Rattle.h2_laws_log.proofs.ItemsThatCome.{comes_up, comes_decoded}
 use Rattle.h2_laws_log.proofs.NoGoAways.{replies_none}
-use Rattle.h2_laws_end.specs.Readings.{ItemRead, IsEventOf, its_pong, AreEventsOf, DecodesTo}
-use Rattle.h2_laws_end.specs.Readings.{AreDecoded, items_read, events_read, events_of_items}
-use Rattle.h2_laws_end.specs.Readings.{AreReadings}
-use Rattle.h2_laws_end.specs.Replies.{replies_owed, replies_among}
+use Rattle.h2_laws_end.specs.Readings.{IsEventOf, DecodesTo, AreDecoded, AreReadings}
+use Rattle.h2_laws_end.proofs.Names
+use Names.{◌≡◌, ℕ, ◌<◌, true, false, List, [], ◌∷◌, ◌++◌, Option, Some, None, refl, sym, ap, ◌∙◌}
+use Names.{inl, inr, arith, append_assoc, subst, list_any, both_ways, or_parts, or_left, lt-ltb}
+use Names.{Code, code_number, GoAway, Item, alone, block, Role, Server, is_goaway, Event}
+use Names.{UnprocessedEvent, Log, log_view, Verdict, ConnectionFault, Decoded, replies_to}
+use Names.{completes, events_of, read, with_failure, IsDecodedIn, Values, any_after}
+use Names.{comes_as_before, any_either, Replies, fault_codes, comes_fit, opens_from}
+use Names.{is_goaway_below, processed_by, greatest_processed, with_sent, used, ItemRead, its_pong}
+use Names.{AreEventsOf, items_read, events_read, events_of_items, replies_owed, replies_among}
 use Rattle.h2_laws_end.proofs.FaultCodes.{HasCode, verdict_coded}
 use Rattle.h2_laws_end.proofs.GoAwaysRead.{IsTypedGoAway, item_typed}
 use Rattle.h2_laws_end.proofs.Replies.{replies_of_logs}
@@ -85,37 +80,35 @@ wrote : (role : Role) (received items sent : List Item) (reported : List Event) 
     (failed : Option Code) → list_any is_goaway items ≡ false
     → AreRead role received sent reported table failed
     → AreRead role received (items ++ sent) reported table failed
-wrote role received items sent reported table failed none are =
-    record {
-      readings = are.readings;
-      items = are.items;
-      events = are.events;
-      each = readings_more role items sent [] reported are.readings none_later are.each;
-      decoded_in = are.decoded_in;
-      low = λ up server i some unused.
-          let old = are.low up server i some unused in (
-            old.0,
-            λ goaway. elim (any_either is_goaway items sent goaway) [
-              | inl here ↦ absurd (both_ways _ none here)
-              | inr before ↦ any_after (is_goaway_below i) items sent (old.1 before)
-            ],
-          );
-    }
+wrote role received items sent reported table failed none are = record {
+  readings = are.readings;
+  items = are.items;
+  events = are.events;
+  each = readings_more role items sent [] reported are.readings none_later are.each;
+  decoded_in = are.decoded_in;
+  low = λ up server i some unused.
+      let old = are.low up server i some unused in (
+        old.0,
+        λ goaway. elim (any_either is_goaway items sent goaway) [
+          | inl here ↦ absurd (both_ways _ none here)
+          | inr before ↦ any_after (is_goaway_below i) items sent (old.1 before)
+        ],
+      );
+}
 
 -- The GOAWAY of a failure keeps it.
 wrote_failure : (role : Role) (received items sent : List Item) (reported : List Event)
     (table : Entries) (failed : Option Code) (code : Code)
     → AreRead role received sent reported table failed
     → AreRead role received (items ++ sent) reported table (Some code)
-wrote_failure role received items sent reported table failed code are =
-    record {
-      readings = are.readings;
-      items = are.items;
-      events = are.events;
-      each = readings_more role items sent [] reported are.readings none_later are.each;
-      decoded_in = are.decoded_in;
-      low = λ up. absurd (cc);
-    }
+wrote_failure role received items sent reported table failed code are = record {
+  readings = are.readings;
+  items = are.items;
+  events = are.events;
+  each = readings_more role items sent [] reported are.readings none_later are.each;
+  decoded_in = are.decoded_in;
+  low = λ up. absurd (cc);
+}
 
 -- GOAWAY's last stream is below what is above it.
 goaway_here : (i last code : ℕ) (sent : List Item) → last < i
@@ -129,35 +122,33 @@ pub wrote_goaway : (role : Role) (received sent : List Item) (reported : List Ev
     ≡ greatest_processed reported)
     → AreRead role received sent reported table failed
     → AreRead role received (alone (GoAway last 0 []) ∷ sent) reported table failed
-wrote_goaway role received sent reported table failed last is are =
-    record {
-      readings = are.readings;
-      items = are.items;
-      events = are.events;
-      each = readings_more role (alone (GoAway last 0 []) ∷ []) sent [] reported are.readings
-          none_later are.each;
-      decoded_in = are.decoded_in;
-      low = λ up server i some unused.
-          let old = are.low up server i some unused in
-          (old.0, λ goaway. goaway_here i last 0 sent (omega (arith, old.0, is server)));
-    }
+wrote_goaway role received sent reported table failed last is are = record {
+  readings = are.readings;
+  items = are.items;
+  events = are.events;
+  each = readings_more role (alone (GoAway last 0 []) ∷ []) sent [] reported are.readings
+      none_later are.each;
+  decoded_in = are.decoded_in;
+  low = λ up server i some unused.
+      let old = are.low up server i some unused in
+      (old.0, λ goaway. goaway_here i last 0 sent (omega (arith, old.0, is server)));
+}
 
 -- A stream that is reported as unprocessed keeps it.
 pub named : (role : Role) (received sent : List Item) (reported : List Event) (table : Entries)
     (failed : Option Code) (id : ℕ) → AreRead role received sent reported table failed
     → AreRead role received sent (UnprocessedEvent id ∷ reported) table failed
 unfolding events_of_items greatest_processed processed_by
-named role received sent reported table failed id are =
-    record {
-      readings = are.readings;
-      items = are.items;
-      events = are.events;
-      each = readings_more role [] sent (UnprocessedEvent id ∷ []) reported are.readings
-          refl are.each;
-      decoded_in = are.decoded_in;
-      low = λ up server i some unused.
-          let old = are.low up server i some unused in (omega (arith, old.0), old.1);
-    }
+named role received sent reported table failed id are = record {
+  readings = are.readings;
+  items = are.items;
+  events = are.events;
+  each = readings_more role [] sent (UnprocessedEvent id ∷ []) reported are.readings
+      refl are.each;
+  decoded_in = are.decoded_in;
+  low = λ up server i some unused.
+      let old = are.low up server i some unused in (omega (arith, old.0), old.1);
+}
 
 -- An event of an item is none of those that follow a GOAWAY.
 event_stays : (received : List Item) (item : Item) (decoded : Option Decoded) (event : Event)
@@ -262,8 +253,7 @@ replied_read role values log decoded item verdict replies are =
     let comes = replies.comes in
     let typed = item_typed item (comes_fit role values log decoded item comes) in
     let replied = comes_as_before comes (λ next. replies_among next.sent
-    ≡ replies_owed next.received) (replies_of_logs role values
-    comes.before comes.is) in
+    ≡ replies_owed next.received) (replies_of_logs role values comes.before comes.is) in
     let up = comes_up comes in
     wrote_keeps _ (read log decoded item) (replies_to verdict item) (replies_none verdict item)
     (item_read log decoded item verdict replies.up (comes_decoded comes)

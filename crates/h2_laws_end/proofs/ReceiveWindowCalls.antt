@@ -1,32 +1,23 @@
 -- What keeps a stream's receive window, and what is owed of it, in step: calls; and so every log.
-use Rattle.h2_laws_end.proofs.Names.{◌≡◌, ◌≢◌, ℕ, ◌+◌, ◌-◌, ◌≤◌, ◌==◌, Bool, true, false, List, []}
-use Rattle.h2_laws_end.proofs.Names.{◌∷◌, None, pos, ◌-ℤ◌, refl, sym, ap, ◌∙◌, inl, inr, arith}
-use Rattle.h2_laws_end.proofs.Names.{list_any, both_ways, ne_eqb, cases_eq, ltb-false, ints, Item}
-use Rattle.h2_laws_end.proofs.Names.{Role, ends, UnprocessedEvent, Values, Act, Answer, SendData}
-use Rattle.h2_laws_end.proofs.Names.{Release, Done, first_window, Log, acked, active}
-use Rattle.h2_laws_end.proofs.Names.{next_unprocessed, max_payload_sent, ended_in, log_view}
-use Rattle.h2_laws_end.proofs.Names.{refusal_of, answer_of, read, called, IsLog, active_parts}
-use Rattle.h2_laws_end.proofs.Names.{history_of, none_holds, stream_is_active, unreleased_is}
-use Rattle.h2_laws_end.proofs.Names.{IsPendingInvariant, pending_by_logs, total_none}
-use Rattle.std.proofs.Common.{◌+ℤ◌}
-use Rattle.h2_spec_log.specs.Items.{total, increment_on, is_block_on}
-use Rattle.h2_spec_log.specs.Events.{flow_on, reported_total}
-use Rattle.h2_spec_log.specs.States.{is_active}
-use Rattle.h2_spec_log.specs.Settings.{own_value}
 use Rattle.h2_spec_log.specs.Windows.{granted_on}
-use Rattle.h2_spec_log.specs.Log.{owed, recv_window, released, unreleased}
-use Rattle.h2_spec_log.specs.View.{owed_on}
-use Rattle.h2_spec_log.specs.CallRules.{conditions, items_of}
-use Rattle.h2_spec_log.specs.LogSteps.{with_sent}
-use Rattle.h2_spec_log.specs.LogCalls.{opened}
-use Rattle.h2_laws_log.proofs.InvariantSteps.{update_elsewhere}
+use Rattle.h2_spec_log.specs.Log.{recv_window}
 use Rattle.h2_laws_log.proofs.CallConditions.{neither_other}
-use Rattle.h2_laws_log.proofs.InvariantCalls.{active_some, released_none}
-use Rattle.h2_laws_log.proofs.LogViewLemmas.{stream_there, owed_there}
+use Rattle.h2_laws_log.proofs.InvariantCalls.{released_none}
+use Rattle.h2_laws_log.proofs.LogViewLemmas.{stream_there}
 use Rattle.h2_laws_log.proofs.DataOfCalls.{none_of_items}
-use Rattle.h2_laws_log.proofs.ReleasedCredit.{updates, gives_elsewhere, released_here}
+use Rattle.h2_laws_log.proofs.ReleasedCredit.{updates, gives_elsewhere}
 use Rattle.h2_laws_log.proofs.AllowedHistories.{increment_here}
 use Rattle.h2_laws_log.proofs.InvariantSends.{data_gives}
+use Rattle.h2_laws_end.proofs.Names
+use Names.{◌≡◌, ◌≢◌, ℕ, ◌+◌, ◌-◌, ◌≤◌, ◌==◌, Bool, true, false, List, [], ◌∷◌, None, pos, ◌-ℤ◌}
+use Names.{refl, sym, ap, ◌∙◌, inl, inr, arith, list_any, both_ways, ne_eqb, cases_eq, ltb-false}
+use Names.{ints, Item, Role, ends, UnprocessedEvent, Values, Act, Answer, SendData, Release, Done}
+use Names.{first_window, Log, acked, active, next_unprocessed, max_payload_sent, ended_in, log_view}
+use Names.{refusal_of, answer_of, read, called, IsLog, active_parts, history_of, none_holds}
+use Names.{stream_is_active, unreleased_is, IsPendingInvariant, pending_by_logs, total_none, ◌+ℤ◌}
+use Names.{total, increment_on, is_block_on, flow_on, reported_total, is_active, own_value, owed}
+use Names.{released, unreleased, owed_on, conditions, items_of, with_sent, opened, update_elsewhere}
+use Names.{active_some, owed_there, released_here}
 use Rattle.h2_laws_end.proofs.ReceiveWindows.{IsAccounted, Steps, step_keeps, quiet_steps}
 use Rattle.h2_laws_end.proofs.ReceiveWindows.{give_accounted, failure_keeps, flow_none}
 use Rattle.h2_laws_end.proofs.ReceiveWindows.{PendingAccounted, quiet_keeps, sent_accounted}
@@ -84,8 +75,7 @@ release_here log i count some before alive much =
             omega (
               arith,
               more,
-              updates_here i count (ended_in ((log_view log).stream i)) some
-                  same,
+              updates_here i count (ended_in ((log_view log).stream i)) some same,
             ),
             flow_none i ∙ sym (total_none _),
           );
@@ -97,8 +87,7 @@ release_steps : (log : Log) (id count i : ℕ) → i ≢ 0 → IsAccounted (hist
     → Steps (history_of log) i [] (updates id count (ended_in ((log_view log).stream id))) []
     ((Release id count, Done) ∷ log.calls)
 release_steps log id count i some before alive much = elim (cases_eq id i) [
-  | inl same ↦ rw same (release_here log i count some before (rw (← same) alive)
-      (rw (← same) much))
+  | inl same ↦ rw same (release_here log i count some before (rw (← same) alive) (rw (← same) much))
   | inr other ↦ call_steps log i _ _ before (updates_there id i count _ some other)
       (released_there id i count log.calls other)
 ]
@@ -127,43 +116,40 @@ accepted_steps log act i some before none = call_steps log i _ _ before refl ref
 begins_accounted : (role : Role) (values : Values) (i : ℕ)
     → IsAccounted (history_of (opened role values)) i
 unfolding opened with_sent total reported_total released increment_on is_active is_block_on
-begins_accounted role values i =
-    record {
-      within = omega arith;
-      unopened = λ none. (refl, refl);
-      unread = λ none unclosed. refl;
-      whole = λ active goes. (refl, refl);
-    }
+begins_accounted role values i = record {
+  within = omega arith;
+  unopened = λ none. (refl, refl);
+  unread = λ none unclosed. refl;
+  whole = λ active goes. (refl, refl);
+}
 
 -- Each change keeps it.
 accounted_kept : (role : Role) (values : Values) (i : ℕ) → i ≢ 0
     → IsPendingInvariant role values (PendingAccounted i)
 unfolding with_sent reported_total flow_on
-accounted_kept role values i some =
-    record {
-      opening = λ in_range. begins_accounted role values i;
-      used = λ log octets unparsed before. before;
-      framed = λ log frames before. before;
-      begun = λ log begun begins before. before;
-      complete = λ log before. before;
-      replied = replied_keeps role values i;
-      named = λ log is up next before.
-          quiet_keeps (history_of log) i (UnprocessedEvent (next_unprocessed log) ∷ []) log.calls
-          log.unreturned before refl refl;
-      reported = λ log event events may before. before;
-      unreturned = λ events log count before.
-          quiet_keeps _ i [] log.calls count before refl refl;
-      returned = λ events log returns. give_accounted _ i some;
-      failed = λ log code last names. failure_keeps code last log i;
-      sent = λ log act accepted before.
-          sent_accounted i [] (called log act (answer_of (log_view log) act)) _
-          (step_keeps (history_of log) i [] _ [] _ log.unreturned before
-          (accepted_steps log act i some before accepted.none));
-      called = λ log act answer is none before.
-          quiet_keeps (history_of log) i [] _ log.unreturned before refl
-          (released_none i act answer log.calls none);
-      given = λ log more before. before;
-    }
+accounted_kept role values i some = record {
+  opening = λ in_range. begins_accounted role values i;
+  used = λ log octets unparsed before. before;
+  framed = λ log frames before. before;
+  begun = λ log begun begins before. before;
+  complete = λ log before. before;
+  replied = replied_keeps role values i;
+  named = λ log is up next before.
+      quiet_keeps (history_of log) i (UnprocessedEvent (next_unprocessed log) ∷ []) log.calls
+      log.unreturned before refl refl;
+  reported = λ log event events may before. before;
+  unreturned = λ events log count before. quiet_keeps _ i [] log.calls count before refl refl;
+  returned = λ events log returns. give_accounted _ i some;
+  failed = λ log code last names. failure_keeps code last log i;
+  sent = λ log act accepted before.
+      sent_accounted i [] (called log act (answer_of (log_view log) act)) _
+      (step_keeps (history_of log) i [] _ [] _ log.unreturned before
+      (accepted_steps log act i some before accepted.none));
+  called = λ log act answer is none before.
+      quiet_keeps (history_of log) i [] _ log.unreturned before refl
+      (released_none i act answer log.calls none);
+  given = λ log more before. before;
+}
 
 -- It stands of every log.
 pub log_accounted : (role : Role) (values : Values) (log : Log) (i : ℕ) → i ≢ 0

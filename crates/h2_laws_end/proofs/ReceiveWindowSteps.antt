@@ -1,20 +1,15 @@
 -- What keeps a stream's receive window, and what is owed of it, in step: items that are read, and
 -- calls.
-use Rattle.h2_laws_end.proofs.Names.{◌≡◌, ℕ, Bool, true, false, List, [], ◌∷◌, ◌++◌, length, Option}
-use Rattle.h2_laws_end.proofs.Names.{refl, ◌∙◌, inl, inr, arith, subst, both_ways, or_left, eq-eqb}
-use Rattle.h2_laws_end.proofs.Names.{ne_eqb, cases_eq, Code, code_number, Data, Reset, Settings}
-use Rattle.h2_laws_end.proofs.Names.{Ping, payload_of, Item, alone, block, Role, Event, DataEvent}
-use Rattle.h2_laws_end.proofs.Names.{Log, active, state, log_view, Verdict, ConnectionFault}
-use Rattle.h2_laws_end.proofs.Names.{StreamFault, NoEvent, Reported, Decoded, read, with_sent}
-use Rattle.h2_laws_end.proofs.Names.{Values, active_parts, state_is_active, history_of, Replies}
-use Rattle.h2_laws_end.proofs.Names.{total_none, closed_by_us_is}
-use Rattle.h2_frame.specs.Encoding.{stream_of}
-use Rattle.h2_spec_log.specs.Items.{total, increment_on, data_on, resets, stream_of_item}
-use Rattle.h2_spec_log.specs.Events.{ResetEvent, flow_on, reported_total}
-use Rattle.h2_spec_log.specs.States.{is_closed_by_us}
-use Rattle.h2_spec_log.specs.ItemRules.{replies_to, verdict_by_rules}
-use Rattle.h2_spec_log.specs.ItemEffects.{events_of}
-use Rattle.h2_laws_log.proofs.LogHistory.{History}
+use Rattle.h2_spec_log.specs.Events.{ResetEvent}
+use Rattle.h2_laws_end.proofs.Names
+use Names.{◌≡◌, ℕ, Bool, true, false, List, [], ◌∷◌, ◌++◌, length, Option, refl, ◌∙◌, inl, inr}
+use Names.{arith, subst, both_ways, or_left, eq-eqb, ne_eqb, cases_eq, Code, code_number, Data}
+use Names.{Reset, Settings, Ping, payload_of, Item, alone, block, Role, Event, DataEvent, Log}
+use Names.{active, state, log_view, Verdict, ConnectionFault, StreamFault, NoEvent, Reported}
+use Names.{Decoded, read, with_sent, Values, active_parts, state_is_active, history_of, Replies}
+use Names.{total_none, closed_by_us_is, stream_of, total, increment_on, data_on, resets}
+use Names.{stream_of_item, flow_on, reported_total, is_closed_by_us, replies_to, verdict_by_rules}
+use Names.{events_of, History}
 use Rattle.h2_laws_end.proofs.ReadVerdicts.{Says, says_of, says_data, says_nothing}
 use Rattle.h2_laws_end.proofs.ReceiveWindows.{IsAccounted, Steps, opened_in, quiet_steps}
 use Rattle.h2_laws_end.proofs.ReceiveWindows.{active_unclosed, total_one, flow_none}
@@ -79,14 +74,13 @@ closed_steps : (v : History) (i : ℕ) (reads items : List Item) (events : List 
     → IsAccounted v i → is_closed_by_us v.role i (items ++ v.sent) ≡ true
     → total (increment_on i) items ≡ 0 → reported_total (flow_on i) events ≡ 0
     → Steps v i reads items events v.calls
-closed_steps v i reads items events before closed gives flows =
-    record {
-      within = omega (arith, before.within);
-      unopened = λ was none. (flows, gives);
-      unread = λ none unclosed. absurd (both_ways _ unclosed closed);
-      whole = λ active goes. absurd (both_ways _ (active_unclosed v.role i (reads ++ v.received)
-          (items ++ v.sent) (events ++ v.reported) active) closed);
-    }
+closed_steps v i reads items events before closed gives flows = record {
+  within = omega (arith, before.within);
+  unopened = λ was none. (flows, gives);
+  unread = λ none unclosed. absurd (both_ways _ unclosed closed);
+  whole = λ active goes. absurd (both_ways _ (active_unclosed v.role i (reads ++ v.received)
+      (items ++ v.sent) (events ++ v.reported) active) closed);
+}
 
 -- A stream that is reset is closed by this end.
 pub reset_closed : (role : Role) (i code : ℕ) (sent : List Item)

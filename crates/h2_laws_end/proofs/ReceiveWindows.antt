@@ -1,21 +1,16 @@
 -- On an active stream that the peer hasn't ended, all DATA was reported, and what was released was
 -- returned.
-use Rattle.h2_laws_end.proofs.Names.{◌≡◌, ◌≢◌, ℕ, ◌+◌, ◌≤◌, Bool, true, false, List, [], ◌∷◌, ◌++◌}
-use Rattle.h2_laws_end.proofs.Names.{refl, inl, inr, arith, subst, sym, list_any, or_parts, or_from}
-use Rattle.h2_laws_end.proofs.Names.{cases_Bool, Code, code_number, GoAway, WindowUpdate, Item}
-use Rattle.h2_laws_end.proofs.Names.{alone, Role, Client, Server, data_on, is_block_on, ends}
-use Rattle.h2_laws_end.proofs.Names.{resets, Event, Act, Answer, openings, is_active, Log, active}
-use Rattle.h2_laws_end.proofs.Names.{with_sent, with_failure, total_none, total-append}
-use Rattle.h2_laws_end.proofs.Names.{active_parts, lasts_parts, history_of, active_before}
-use Rattle.h2_spec_log.specs.Items.{total, increment_on}
-use Rattle.h2_spec_log.specs.Events.{flow_on, reported_total}
-use Rattle.h2_spec_log.specs.States.{is_closed_by_us}
-use Rattle.h2_spec_log.specs.Log.{released}
 use Rattle.h2_laws_log.proofs.ItemLists.{none_after}
-use Rattle.h2_laws_log.proofs.LogHistory.{History, active_in_view, moved, give, wrote_view}
-use Rattle.h2_laws_log.proofs.LogHistory.{fails_view, reported_append}
+use Rattle.h2_laws_log.proofs.LogHistory.{active_in_view, moved, give, wrote_view, fails_view}
 use Rattle.h2_laws_log.proofs.LogInvariant.{above_before}
-use Rattle.h2_laws_log.proofs.InvariantSteps.{update_elsewhere}
+use Rattle.h2_laws_end.proofs.Names
+use Names.{◌≡◌, ◌≢◌, ℕ, ◌+◌, ◌≤◌, Bool, true, false, List, [], ◌∷◌, ◌++◌, refl, inl, inr, arith}
+use Names.{subst, sym, list_any, or_parts, or_from, cases_Bool, Code, code_number, GoAway}
+use Names.{WindowUpdate, Item, alone, Role, Client, Server, data_on, is_block_on, ends, resets}
+use Names.{Event, Act, Answer, openings, is_active, Log, active, with_sent, with_failure}
+use Names.{total_none, total-append, active_parts, lasts_parts, history_of, active_before, total}
+use Names.{increment_on, flow_on, reported_total, is_closed_by_us, released, History}
+use Names.{reported_append, update_elsewhere}
 
 -- Whether the stream was opened.
 abbrev pub opened_in : History → ℕ → Bool
@@ -96,60 +91,58 @@ pub step_keeps : (v : History) (i : ℕ) (reads items : List Item) (events : Lis
     (calls : List (Act × Answer)) (unreturned : ℕ) → IsAccounted v i
     → Steps v i reads items events calls
     → IsAccounted (moved v reads items events calls unreturned) i
-step_keeps v i reads items events calls unreturned before step =
-    record {
-      within = omega (arith, step.within, reported_append (flow_on i) events v.reported);
-      unopened = λ none.
-          let was = unopened_before i v.role reads items v.received v.sent none in
-          let old = before.unopened was in
-          let new = step.unopened was none in (
-            omega (arith, old.0, new.0, reported_append (flow_on i) events v.reported),
-            omega (arith, old.1, new.1, total-append (increment_on i) items v.sent),
-          );
-      unread = λ none unclosed.
-          let was = unopened_before i v.role reads items v.received v.sent none in
-          omega (
-            arith,
-            before.unread was (closed_before v.role i items v.sent unclosed),
-            step.unread was unclosed,
-            total-append (data_on i) reads v.received,
-          );
-      whole = λ active goes.
-          let new = step.whole active goes in
-          let flows = reported_append (flow_on i) events v.reported in
-          let gives = total-append (increment_on i) items v.sent in
-          let comes = total-append (data_on i) reads v.received in
-          elim (cases_Bool (opened_in v i)) [
-            | inl was ↦
-                let old = before.whole (active_before v.role i reads items v.received v.sent events
-                v.reported active was) (none_after (ends i) reads v.received goes) in (
-                  omega (arith, old.0, new.0, gives),
-                  omega (arith, old.1, new.1, flows, comes),
-                )
-            | inr none ↦
-                let old = before.unopened none in
-                let unread =
-                before.unread none (closed_before v.role i items v.sent (active_unclosed
-                v.role i (reads ++ v.received) (items ++ v.sent) (events ++ v.reported) active)) in
-                let calls_none = none_released _ _ before.within old.0 in (
-                  omega (arith, old.1, new.0, gives, calls_none),
-                  omega (arith, old.0, new.1, flows, comes, unread),
-                )
-          ];
-    }
+step_keeps v i reads items events calls unreturned before step = record {
+  within = omega (arith, step.within, reported_append (flow_on i) events v.reported);
+  unopened = λ none.
+      let was = unopened_before i v.role reads items v.received v.sent none in
+      let old = before.unopened was in
+      let new = step.unopened was none in (
+        omega (arith, old.0, new.0, reported_append (flow_on i) events v.reported),
+        omega (arith, old.1, new.1, total-append (increment_on i) items v.sent),
+      );
+  unread = λ none unclosed.
+      let was = unopened_before i v.role reads items v.received v.sent none in
+      omega (
+        arith,
+        before.unread was (closed_before v.role i items v.sent unclosed),
+        step.unread was unclosed,
+        total-append (data_on i) reads v.received,
+      );
+  whole = λ active goes.
+      let new = step.whole active goes in
+      let flows = reported_append (flow_on i) events v.reported in
+      let gives = total-append (increment_on i) items v.sent in
+      let comes = total-append (data_on i) reads v.received in
+      elim (cases_Bool (opened_in v i)) [
+        | inl was ↦
+            let old = before.whole (active_before v.role i reads items v.received v.sent events
+            v.reported active was) (none_after (ends i) reads v.received goes) in (
+              omega (arith, old.0, new.0, gives),
+              omega (arith, old.1, new.1, flows, comes),
+            )
+        | inr none ↦
+            let old = before.unopened none in
+            let unread =
+            before.unread none (closed_before v.role i items v.sent (active_unclosed
+            v.role i (reads ++ v.received) (items ++ v.sent) (events ++ v.reported) active)) in
+            let calls_none = none_released _ _ before.within old.0 in (
+              omega (arith, old.1, new.0, gives, calls_none),
+              omega (arith, old.0, new.1, flows, comes, unread),
+            )
+      ];
+}
 
 -- A step that has nothing to do with the stream's octets.
 pub quiet_steps : (v : History) (i : ℕ) (reads items : List Item) (events : List Event)
     (calls : List (Act × Answer)) → IsAccounted v i → total (data_on i) reads ≡ 0
     → total (increment_on i) items ≡ 0 → reported_total (flow_on i) events ≡ 0
     → released i calls ≡ released i v.calls → Steps v i reads items events calls
-quiet_steps v i reads items events calls before comes gives flows same =
-    record {
-      within = omega (arith, before.within, same);
-      unopened = λ was none. (flows, gives);
-      unread = λ none unclosed. comes;
-      whole = λ active goes. (omega (arith, gives, same), omega (arith, comes, flows));
-    }
+quiet_steps v i reads items events calls before comes gives flows same = record {
+  within = omega (arith, before.within, same);
+  unopened = λ was none. (flows, gives);
+  unread = λ none unclosed. comes;
+  whole = λ active goes. (omega (arith, gives, same), omega (arith, comes, flows));
+}
 
 -- A total of one item.
 pub total_one : (f : Item → ℕ) (item : Item) → f item ≡ 0 → total f (item ∷ []) ≡ 0

@@ -1,14 +1,13 @@
 -- The log of a replay comes about, and its turns tell of the acts.
+use Rattle.h2_spec_log.specs.Acts.{shown}
+use Rattle.h2_laws_end.specs.Replays.{Make, starts, acts_of_turns, Between, InTake, next_phase}
+use Rattle.h2_laws_end.specs.Replays.{script_phase}
 use Rattle.h2_laws_end.proofs.Names.{◌≡◌, ℕ, Bool, false, List, [], ◌∷◌, ◌++◌, drop, Option, refl}
 use Rattle.h2_laws_end.proofs.Names.{sym, ap, subst, ◌∙◌, append_assoc, both_ways}
 use Rattle.h2_laws_end.proofs.Names.{append_cancel_right, Code, Role, Values, Act, Answer, Turn, In}
 use Rattle.h2_laws_end.proofs.Names.{Out, Happened, TakeCalled, TakeAnswered, Log, with_call, IsLog}
-use Rattle.h2_laws_end.proofs.Names.{begins, called_one}
-use Rattle.h2_spec_log.specs.Acts.{shown, Called, Answered}
-use Rattle.h2_spec_log.specs.LogCalls.{opened}
-use Rattle.h2_laws_end.specs.Replays.{ReplayAct, Take, Make, TakesAll, is_done, goes_on, has_fault}
-use Rattle.h2_laws_end.specs.Replays.{IsReplay, starts, takes, calls, acts_of_turns, Between}
-use Rattle.h2_laws_end.specs.Replays.{InTake, next_phase, script_phase}
+use Rattle.h2_laws_end.proofs.Names.{begins, called_one, Called, Answered, opened, ReplayAct, Take}
+use Rattle.h2_laws_end.proofs.Names.{TakesAll, is_done, goes_on, has_fault, IsReplay, takes, calls}
 use Rattle.h2_laws_end.proofs.TakeAnswers.{take_closed}
 use Rattle.h2_laws_end.proofs.TurnsAdded.{AllPass, Adds, is_output, is_of_take, adds_twice}
 use Rattle.h2_laws_end.proofs.TurnsAdded.{adds_call, adds_take}
@@ -32,8 +31,7 @@ pub replay_closed : (role : Role) (values : Values) (acts : List ReplayAct) (log
 replay_closed role values _ _ _ (starts in_range) = begins in_range
 replay_closed role values _ _ _
     (takes {acts = acts} {log = log} {after = after} {turns = turns} is octets fault all news
-    joined) =
-    all_closed role values log after octets fault
+    joined) = all_closed role values log after octets fault
     (replay_closed role values acts log turns is) all
 replay_closed role values _ _ _
     (calls {acts = acts} {log = log} {turns = turns} is act answer typed may news joined) =
@@ -108,11 +106,9 @@ unfolding acts_of_turns opened
 replay_acts role values _ _ _ (starts in_range) = refl
 replay_acts role values _ _ _
     (takes {acts = acts} {log = log} {after = after} {turns = turns} is octets fault all news
-    joined) =
-    acts_of_take news (TakeCalled octets ∷ turns)
+    joined) = acts_of_take news (TakeCalled octets ∷ turns)
     (news_pass is_of_take log after news (adds_all log after octets fault all) joined)
-    ∙ ap (λ (acts : List ReplayAct). Take octets ∷ acts)
-    (replay_acts role values acts log turns is)
+    ∙ ap (λ (acts : List ReplayAct). Take octets ∷ acts) (replay_acts role values acts log turns is)
 replay_acts role values _ _ _
     (calls {acts = acts} {log = log} {turns = turns} is act answer typed may news joined) =
     acts_of_call act answer news turns (news_called log act answer news joined)
@@ -125,8 +121,7 @@ unfolding script_phase next_phase
 phase_of_take [] turns pass is = is
 phase_of_take (In octets ∷ news) turns pass is = rw (phase_of_take news turns pass.1 is) refl
 phase_of_take (Out octets ∷ news) turns pass is = rw (phase_of_take news turns pass.1 is) refl
-phase_of_take (Happened event ∷ news) turns pass is =
-    rw (phase_of_take news turns pass.1 is) refl
+phase_of_take (Happened event ∷ news) turns pass is = rw (phase_of_take news turns pass.1 is) refl
 phase_of_take (turn ∷ news) turns pass is = absurd (both_ways false refl pass.0)
 
 -- Output after an answer stands between acts.
@@ -134,8 +129,7 @@ phase_of_output : (news turns : List Turn) → AllPass is_output news
     → script_phase turns ≡ Between → script_phase (news ++ turns) ≡ Between
 unfolding script_phase next_phase
 phase_of_output [] turns pass is = is
-phase_of_output (Out octets ∷ news) turns pass is =
-    rw (phase_of_output news turns pass.1 is) refl
+phase_of_output (Out octets ∷ news) turns pass is = rw (phase_of_output news turns pass.1 is) refl
 phase_of_output (turn ∷ news) turns pass is = absurd (both_ways false refl pass.0)
 
 -- Octets that are handed to `take`, and what happens, and its answer.
@@ -169,8 +163,7 @@ unfolding script_phase next_phase opened
 replay_answers role values _ _ _ (starts in_range) = refl
 replay_answers role values _ _ _
     (takes {acts = acts} {log = log} {after = after} {turns = turns} is octets fault all news
-    joined) =
-    phase_of_taking octets fault news turns
+    joined) = phase_of_taking octets fault news turns
     (news_pass is_of_take log after news (adds_all log after octets fault all) joined)
     (replay_answers role values acts log turns is)
 replay_answers role values _ _ _

@@ -1,18 +1,16 @@
 -- The turns of a replay tell of the octets used, of those written and of the events of its log; and
 -- the octets used are those of the acts, up to a failure.
+use Rattle.std.proofs.Math.Seq.{drop-append_seam}
+use Rattle.std.proofs.lemmas.List.{length-append}
+use Rattle.h2_laws_log.specs.Turns.{octets_in, octets_out, events_in}
+use Rattle.h2_laws_log.proofs.TurnsOfLogs.{turns_report}
+use Rattle.h2_laws_end.specs.Replays.{starts, octets_of_acts}
 use Rattle.h2_laws_end.proofs.Names.{◌≡◌, ℕ, List, [], ◌∷◌, ◌++◌, length, drop, Option, Some, None}
 use Rattle.h2_laws_end.proofs.Names.{refl, sym, ap, ◌∙◌, append_assoc, append-nil, arith, Code}
 use Rattle.h2_laws_end.proofs.Names.{none_some, Role, Event, Values, Turn, In, Out, Happened}
 use Rattle.h2_laws_end.proofs.Names.{TakeCalled, TakeAnswered, Log, grows_call, Took, Failed}
-use Rattle.std.proofs.Math.Seq.{drop-append_seam}
-use Rattle.std.proofs.lemmas.List.{length-append}
-use Rattle.h2_spec_log.specs.LogSteps.{with_sent}
-use Rattle.h2_spec_log.specs.LogCalls.{opened}
-use Rattle.h2_spec_log.proofs.StreamLemmas.{Keeps-call}
-use Rattle.h2_laws_log.specs.Turns.{octets_in, octets_out, events_in}
-use Rattle.h2_laws_log.proofs.TurnsOfLogs.{turns_report}
-use Rattle.h2_laws_end.specs.Replays.{ReplayAct, Take, TakesAll, is_done, goes_on, has_fault}
-use Rattle.h2_laws_end.specs.Replays.{IsReplay, starts, takes, calls, octets_of_acts}
+use Rattle.h2_laws_end.proofs.Names.{with_sent, opened, Keeps-call, ReplayAct, Take, TakesAll}
+use Rattle.h2_laws_end.proofs.Names.{is_done, goes_on, has_fault, IsReplay, takes, calls}
 use Rattle.h2_laws_end.proofs.ReplayedLogs.{replay_closed}
 use Rattle.h2_laws_end.proofs.TakeAnswers.{log_after_take, failed_take}
 
@@ -52,12 +50,11 @@ more_events (turn ∷ news) turns others same = more_events news turns others sa
 -- The same turns after them, of all that is told.
 more_after : (news turns others : List Turn) → FollowsAlike turns others
     → FollowsAlike (news ++ turns) (news ++ others)
-more_after news turns others same =
-    record {
-      input = more_in news turns others same.input;
-      output = more_out news turns others same.output;
-      events = more_events news turns others same.events;
-    }
+more_after news turns others same = record {
+  input = more_in news turns others same.input;
+  output = more_out news turns others same.output;
+  events = more_events news turns others same.events;
+}
 
 -- The turns around what happens inside of `take` tell of nothing else.
 around_recorded : (octets : List ℕ) (fault : Option Code) (news turns others : List Turn)
@@ -77,8 +74,7 @@ replay_same role values _ _ _ (starts in_range) =
     record { input = refl; output = refl; events = refl }
 replay_same role values _ _ _
     (takes {acts = acts} {log = log} {after = after} {turns = turns} is octets fault all news
-    joined) =
-    rw joined (around_recorded octets fault news turns log.turns
+    joined) = rw joined (around_recorded octets fault news turns log.turns
     (replay_same role values acts log turns is))
 replay_same role values _ _ _
     (calls {acts = acts} {log = log} {turns = turns} is act answer typed may news joined) =
@@ -214,8 +210,7 @@ replay_uses role values _ _ _ (starts in_range) =
     record { unused = []; joined = refl; all = λ up. refl }
 replay_uses role values _ _ _
     (takes {acts = acts} {log = log} {after = after} {turns = turns} is octets fault all news
-    joined) =
-    take_uses acts log after octets fault log.failed refl all
+    joined) = take_uses acts log after octets fault log.failed refl all
     (replay_uses role values acts log turns is)
 replay_uses role values _ _ _
     (calls {acts = acts} {log = log} {turns = turns} is act answer typed may news joined) =
@@ -223,8 +218,7 @@ replay_uses role values _ _ _
     record {
       unused = before.unused;
       joined = before.joined
-          ∙ ap (λ (line : List ℕ). line ++ before.unused)
-          (sym (Keeps-call log act answer).input);
+          ∙ ap (λ (line : List ℕ). line ++ before.unused) (sym (Keeps-call log act answer).input);
       all = λ up. before.all ((grows_call log act answer).up up);
     }
 

@@ -1,19 +1,14 @@
 -- Each SETTINGS and each PING that was read is replied to once, and nothing else is.
-use Rattle.h2_laws_end.proofs.Names.{◌≡◌, ℕ, Bool, true, false, if◌then◌else◌, List, [], ◌∷◌, ◌++◌}
-use Rattle.h2_laws_end.proofs.Names.{Option, Some, None, refl, sym, ap, ◌∙◌, append_assoc, subst}
-use Rattle.h2_laws_end.proofs.Names.{Code, Settings, Ping, WindowUpdate, Item, alone, Role, Values}
-use Rattle.h2_laws_end.proofs.Names.{Act, Answer, Open, SendFields, SendData, Release, ResetStream}
-use Rattle.h2_laws_end.proofs.Names.{Refuse, SendPing, SendGoAway, ChangeSettings, Number, Count}
-use Rattle.h2_laws_end.proofs.Names.{Done, Log, Verdict, ConnectionFault, StreamFault, NoEvent}
-use Rattle.h2_laws_end.proofs.Names.{Reported, View, ended_in, log_view, Decoded, verdict_of_fault}
-use Rattle.h2_laws_end.proofs.Names.{settings_fault, verdict_of, read, called, IsLog, data_items}
-use Rattle.h2_laws_end.proofs.Names.{answer_of, IsLogInvariant, kept_by_logs, AllByRecursion}
-use Rattle.h2_spec_log.specs.ItemRules.{replies_to, verdict_by_rules}
-use Rattle.h2_spec_log.specs.LogSteps.{with_sent}
-use Rattle.h2_spec_log.specs.LogCalls.{opened}
-use Rattle.h2_spec_log.specs.CallRules.{items_of}
+use Rattle.h2_laws_end.proofs.Names
+use Names.{◌≡◌, ℕ, Bool, true, false, if◌then◌else◌, List, [], ◌∷◌, ◌++◌, Option, Some, None, refl}
+use Names.{sym, ap, ◌∙◌, append_assoc, subst, Code, Settings, Ping, WindowUpdate, Item, alone, Role}
+use Names.{Values, Act, Answer, Open, SendFields, SendData, Release, ResetStream, Refuse, SendPing}
+use Names.{SendGoAway, ChangeSettings, Number, Count, Done, Log, Verdict, ConnectionFault}
+use Names.{StreamFault, NoEvent, Reported, View, ended_in, log_view, Decoded, verdict_of_fault}
+use Names.{settings_fault, verdict_of, read, called, IsLog, data_items, answer_of, IsLogInvariant}
+use Names.{kept_by_logs, AllByRecursion, replies_to, verdict_by_rules, with_sent, opened, items_of}
+use Names.{replies_owed, replies_among}
 use Rattle.h2_laws_end.proofs.Unread.{wrote_reads}
-use Rattle.h2_laws_end.specs.Replies.{replies_owed, replies_among}
 use Rattle.h2_laws_end.proofs.ReadVerdicts.{by_limits}
 use Rattle.h2_laws_end.proofs.DataItems.{body_all}
 
@@ -117,8 +112,7 @@ unfolding verdict_by_rules replies_to replies_among replies_owed
 replied_by_rules view decoded (alone (Settings false pairs)) =
     settings_replied (settings_fault view pairs) pairs
 replied_by_rules view decoded (alone (Ping false octets)) = refl
-replied_by_rules view decoded item =
-    none_due (verdict_by_rules view decoded item) item refl refl
+replied_by_rules view decoded item = none_due (verdict_by_rules view decoded item) item refl refl
 
 -- And so by the limits.
 replied : (view : View) (decoded : Option Decoded) (item : Item)
@@ -144,32 +138,31 @@ replies_written log items replies among =
 -- Each change of a log keeps it.
 replies_kept : (role : Role) (values : Values) → IsLogInvariant role values HasReplies
 unfolding opened with_sent replies_among replies_owed
-replies_kept role values =
-    record {
-      opening = λ in_range. refl;
-      used = λ log octets unparsed is. is;
-      framed = λ log frames is. is;
-      begun = λ log begun is. is;
-      replied = λ log decoded item verdict replies is.
-          let base = read log decoded item in
-          let due = due_of verdict item replies.up (subst (λ (v : Verdict). IsRepliedTo v item)
-          replies.is (replied (log_view log) decoded item)) in
-          replies_written base (replies_to verdict item) _ due
-          ∙ rw is (sym (due_first item log.received))
-          ∙ ap replies_owed (sym (wrote_reads base (replies_to verdict item)).2);
-      reported = λ log event events may is. is;
-      unreturned = λ log count is. is;
-      returned = λ log returns is. is;
-      failed = λ log code last names is. is;
-      sent = λ log act accepted is.
-          let answer = answer_of (log_view log) act in
-          let items = items_of (log_view log) act answer in
-          replies_written (called log act answer) items []
-          (call_replies (log_view log) act answer) ∙ is
-          ∙ ap replies_owed (sym (wrote_reads (called log act answer) items).2);
-      called = λ log act answer is_log none is. is;
-      given = λ log more is. is;
-    }
+replies_kept role values = record {
+  opening = λ in_range. refl;
+  used = λ log octets unparsed is. is;
+  framed = λ log frames is. is;
+  begun = λ log begun is. is;
+  replied = λ log decoded item verdict replies is.
+      let base = read log decoded item in
+      let due = due_of verdict item replies.up (subst (λ (v : Verdict). IsRepliedTo v item)
+      replies.is (replied (log_view log) decoded item)) in
+      replies_written base (replies_to verdict item) _ due
+      ∙ rw is (sym (due_first item log.received))
+      ∙ ap replies_owed (sym (wrote_reads base (replies_to verdict item)).2);
+  reported = λ log event events may is. is;
+  unreturned = λ log count is. is;
+  returned = λ log returns is. is;
+  failed = λ log code last names is. is;
+  sent = λ log act accepted is.
+      let answer = answer_of (log_view log) act in
+      let items = items_of (log_view log) act answer in
+      replies_written (called log act answer) items []
+      (call_replies (log_view log) act answer) ∙ is
+      ∙ ap replies_owed (sym (wrote_reads (called log act answer) items).2);
+  called = λ log act answer is_log none is. is;
+  given = λ log more is. is;
+}
 
 -- Every log.
 pub replies_of_logs : (role : Role) (values : Values) (log : Log) → IsLog role values log

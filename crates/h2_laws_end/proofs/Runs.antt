@@ -1,19 +1,16 @@
 -- What happened to an end, one mark after another, each octet by itself: its log is determined by
 -- its marks.
-use Rattle.h2_laws_end.proofs.Names.{◌≡◌, ℕ, true, false, List, [], ◌∷◌, ◌++◌, length, Option, None}
-use Rattle.h2_laws_end.proofs.Names.{Some, refl, sym, ap, ap₂, ◌∙◌, arith, subst, append-nil}
-use Rattle.h2_laws_end.proofs.Names.{length-append, Frame, WireFault, Limits, Frames, WireFaultAt}
-use Rattle.h2_laws_end.proofs.Names.{one_reading_lem, block, Role, Values, is_server, Log, log_view}
-use Rattle.h2_laws_end.proofs.Names.{Decoded, FrameStep, completes, frame_step, limits_from}
-use Rattle.h2_laws_end.proofs.Names.{took_frame, took_fault, took_out_of_memory, took_none}
-use Rattle.h2_laws_end.proofs.Names.{with_call, IsDecodedIn, IsDecodedFor, Mark, Octet}
-use Rattle.h2_laws_end.proofs.Names.{without_turns}
 use Rattle.hpack.proofs.BlockLemmas.{one_block_lem}
 use Rattle.h2_wire.proofs.FaultLemmas.{one_fault_lem, no_reading_lem}
-use Rattle.h2_spec_log.specs.LogSteps.{used}
-use Rattle.h2_spec_log.specs.LogCalls.{opened}
 use Rattle.h2_spec_log.specs.Histories.{IsDecoded}
-use Rattle.h2_laws_end.specs.Scripts.{Call, Unprocessed, OutOfMemory}
+use Rattle.h2_laws_end.specs.Scripts.{OutOfMemory}
+use Rattle.h2_laws_end.proofs.Names
+use Names.{◌≡◌, ℕ, true, false, List, [], ◌∷◌, ◌++◌, length, Option, None, Some, refl, sym, ap, ap₂}
+use Names.{◌∙◌, arith, subst, append-nil, length-append, Frame, WireFault, Limits, Frames}
+use Names.{WireFaultAt, one_reading_lem, block, Role, Values, is_server, Log, log_view, Decoded}
+use Names.{FrameStep, completes, frame_step, limits_from, took_frame, took_fault}
+use Names.{took_out_of_memory, took_none, with_call, IsDecodedIn, IsDecodedFor, Mark, Octet}
+use Names.{without_turns, used, opened, Call, Unprocessed}
 
 -- The log after an octet that was used: no frame ended with it, or one did, or it made a fault.
 pub data Uses (role : Role) (octet : ℕ) (before log : Log) : Type 0 where
@@ -152,8 +149,7 @@ pub one_run : (role : Role) (values : Values) (marks : List Mark) (log other : L
     → Run role values marks log → Run role values marks other → log ≡ other
 one_run role values [] log other is same = is ∙ sym same
 one_run role values (Octet octet ∷ marks) log other (before, run, uses) (earlier, rerun, again) =
-    one_use role octet before log other uses
-    (subst (λ (one : Log). Uses role octet one other)
+    one_use role octet before log other uses (subst (λ (one : Log). Uses role octet one other)
     (sym (one_run role values marks before earlier run rerun)) again)
 one_run role values (Call act answer ∷ marks) log other (before, run, is) (earlier, rerun, same) =
     is ∙ ap (λ (one : Log). without_turns (with_call one act answer))

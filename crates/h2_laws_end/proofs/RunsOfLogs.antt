@@ -1,15 +1,13 @@
 -- However octets were cut into pieces, a log is one that its script makes octet by octet.
-use Rattle.h2_laws_end.proofs.Names.{◌≡◌, ℕ, true, false, List, [], ◌∷◌, ◌++◌, length, Option, None}
-use Rattle.h2_laws_end.proofs.Names.{refl, sym, ap, ◌∙◌, subst, inl, inr, append-nil, Frame}
-use Rattle.h2_laws_end.proofs.Names.{WireFault, Limits, Frames, WireFaultAt, Role, Values}
-use Rattle.h2_laws_end.proofs.Names.{is_server, Log, Decoded, limits_from, took_frame, took_fault}
-use Rattle.h2_laws_end.proofs.Names.{took_out_of_memory, IsLog, begins, took_some, took_one}
-use Rattle.h2_laws_end.proofs.Names.{met_fault, ran_out_of_memory, reported_one, called_one}
-use Rattle.h2_laws_end.proofs.Names.{IsDecodedFor, stream_of_log, Mark, Octet, without_turns}
-use Rattle.h2_laws_end.proofs.Names.{AreSameButTurns}
 use Rattle.std.proofs.Common.{map as each}
-use Rattle.h2_spec_log.specs.Histories.{MayRunOutOfMemory, to_report, to_keep, to_take}
-use Rattle.h2_laws_end.specs.Scripts.{Call, Unprocessed, OutOfMemory, script_of, is_in_frame}
+use Rattle.h2_laws_end.specs.Scripts.{OutOfMemory, script_of, is_in_frame}
+use Rattle.h2_laws_end.proofs.Names
+use Names.{◌≡◌, ℕ, true, false, List, [], ◌∷◌, ◌++◌, length, Option, None, refl, sym, ap, ◌∙◌}
+use Names.{subst, inl, inr, append-nil, Frame, WireFault, Limits, Frames, WireFaultAt, Role, Values}
+use Names.{is_server, Log, Decoded, limits_from, took_frame, took_fault, took_out_of_memory, IsLog}
+use Names.{begins, took_some, took_one, met_fault, ran_out_of_memory, reported_one, called_one}
+use Names.{IsDecodedFor, stream_of_log, Mark, Octet, without_turns, AreSameButTurns}
+use Names.{MayRunOutOfMemory, to_report, to_keep, to_take, Call, Unprocessed}
 use Rattle.h2_laws_end.proofs.PieceLogs.{read_here, alike_without, none_alike, call_alike}
 use Rattle.h2_laws_end.proofs.PieceParts.{last_or}
 use Rattle.h2_laws_end.proofs.PieceRuns.{back, IsReadOf, parts_run, frame_run, fault_run, lost_run}
@@ -25,11 +23,10 @@ back_after (mark ∷ marks) newer older = back_after marks newer (mark ∷ older
 -- The frames of a log that hasn't failed are those of its octets.
 log_read : (role : Role) (values : Values) (log : Log) → IsLog role values log → log.failed ≡ None
     → IsReadOf role (limits_from log) log
-log_read role values log is up =
-    record {
-      own = refl;
-      read = read_here (is_server role) log ((stream_of_log role values log is).framed up);
-    }
+log_read role values log is up = record {
+  own = refl;
+  read = read_here (is_server role) log ((stream_of_log role values log is).framed up);
+}
 
 -- Octets with whose last a frame ends.
 frame_piece : (role : Role) (values : Values) (limits : Limits) (octets : List ℕ)

@@ -1,31 +1,21 @@
 -- What an end has written can be sent: what every log has for that, and what an end reads.
-use Rattle.h2_laws_end.proofs.Names.{◌≡◌, ◌≢◌, ℕ, ◌+◌, ◌^◌, ◌≤◌, ◌<◌, ◌==◌, nat_lt, Bool, true}
-use Rattle.h2_laws_end.proofs.Names.{false, List, [], ◌∷◌, ◌++◌, length, Option, Some, None, refl}
-use Rattle.h2_laws_end.proofs.Names.{inl, inr, arith, subst, AllByRecursion, ltb-false, lt-ltb}
-use Rattle.h2_laws_end.proofs.Names.{cases_eq, Code, code_number, Data, Settings, Ping, GoAway}
-use Rattle.h2_laws_end.proofs.Names.{WindowUpdate, payload_of, Item, alone, block, Role}
-use Rattle.h2_laws_end.proofs.Names.{increment_on, stream_of_item, Event, is_server, State, Idle}
-use Rattle.h2_laws_end.proofs.Names.{Active, ClosedByUs, Closed, Log, max_payload_sent}
-use Rattle.h2_laws_end.proofs.Names.{max_payload_sent_by, View, log_view, Verdict, ConnectionFault}
-use Rattle.h2_laws_end.proofs.Names.{StreamFault, NoEvent, Reported, Decoded, verdict_by_rules}
-use Rattle.h2_laws_end.proofs.Names.{read, with_failure, AllowedHistory, Values, most_between}
-use Rattle.h2_laws_end.proofs.Names.{IsSendable, AreSendable, comes_as_before, Replies, IsFitItem}
-use Rattle.h2_laws_end.proofs.Names.{comes_fit}
 use Rattle.std.proofs.Common.{map as each}
-use Rattle.h2_spec_log.specs.Items.{total, data_of}
-use Rattle.h2_spec_log.specs.Events.{processed_by, greatest_processed}
 use Rattle.h2_spec_log.specs.Windows.{granted_on_connection, passes}
-use Rattle.h2_spec_log.specs.Log.{last_processed}
-use Rattle.h2_spec_log.specs.Verdicts.{data_verdict}
-use Rattle.h2_spec_log.specs.ItemRules.{replies_to, opened_by}
-use Rattle.h2_spec_log.specs.ItemEffects.{events_of}
-use Rattle.h2_spec_log.specs.LogSteps.{with_sent, with_credit_returned, used}
 use Rattle.h2_spec_log.specs.Allowed.{starts, reads, writes}
-use Rattle.h2_spec_log.specs.CallRules.{opening_pairs}
-use Rattle.h2_laws_log.proofs.ItemLists.{total_after}
+use Rattle.h2_laws_end.proofs.Names
+use Names.{◌≡◌, ◌≢◌, ℕ, ◌+◌, ◌^◌, ◌≤◌, ◌<◌, ◌==◌, nat_lt, Bool, true, false, List, [], ◌∷◌, ◌++◌}
+use Names.{length, Option, Some, None, refl, inl, inr, arith, subst, AllByRecursion, ltb-false}
+use Names.{lt-ltb, cases_eq, Code, code_number, Data, Settings, Ping, GoAway, WindowUpdate}
+use Names.{payload_of, Item, alone, block, Role, increment_on, stream_of_item, Event, is_server}
+use Names.{State, Idle, Active, ClosedByUs, Closed, Log, max_payload_sent, max_payload_sent_by}
+use Names.{View, log_view, Verdict, ConnectionFault, StreamFault, NoEvent, Reported, Decoded}
+use Names.{verdict_by_rules, read, with_failure, AllowedHistory, Values, most_between, IsSendable}
+use Names.{AreSendable, comes_as_before, Replies, IsFitItem, comes_fit, total, data_of}
+use Names.{processed_by, greatest_processed, last_processed, data_verdict, replies_to, opened_by}
+use Names.{events_of, with_sent, with_credit_returned, used, opening_pairs, total_after}
+use Names.{second_false}
 use Rattle.h2_laws_end.proofs.ReadingCalls.{log_read}
 use Rattle.h2_laws_log.proofs.LogViewLemmas.{data_by_sums}
-use Rattle.h2_laws_log.proofs.RulesByTests.{second_false}
 use Rattle.h2_laws_end.proofs.ReadVerdicts.{Says, says_of, says_any, says_one}
 use Rattle.h2_laws_end.proofs.ReadingRules.{IsUnreported, LogIsLow, IsFaulty, IsSaid, rules_say}
 use Rattle.h2_laws_end.proofs.ReadingRules.{used_some, some_above, named_by}
@@ -61,14 +51,13 @@ wrote_fit : (most : ℕ) (payloads : List ℕ) (received items sent : List Item)
     (reported : List Event) → AllByRecursion (IsSendable most) items
     → AreFit payloads received sent reported
     → AreFit (each (λ one. most) items ++ payloads) received (items ++ sent) reported
-wrote_fit most payloads received items sent reported all are =
-    record {
-      sent_all = both_sendable (each (λ one. most) items) payloads items sent
-          (are_sendable most items all) are.sent_all;
-      received_all = are.received_all;
-      processed = are.processed;
-      credit = omega (arith, are.credit, total_after (increment_on 0) items sent);
-    }
+wrote_fit most payloads received items sent reported all are = record {
+  sent_all = both_sendable (each (λ one. most) items) payloads items sent
+      (are_sendable most items all) are.sent_all;
+  received_all = are.received_all;
+  processed = are.processed;
+  credit = omega (arith, are.credit, total_after (increment_on 0) items sent);
+}
 
 pub wrote_keeps : (events : List Event) (log : Log) (items : List Item)
     → AllByRecursion (IsSendable (max_payload_sent log)) items → PendingFit events log
@@ -126,8 +115,7 @@ returned_fit role events log are allowed =
     (λ pairs wrong. cc)) in
     wrote_fit (max_payload_sent log) log.payloads log.received
     (alone (WindowUpdate 0 log.unreturned) ∷ []) log.sent (events ++ log.reported) (
-      update_low role log.unreturned log.received log.sent allowed
-          now.credit,
+      update_low role log.unreturned log.received log.sent allowed now.credit,
       tt,
     ) now
 
@@ -212,8 +200,7 @@ processed_fit : (log : Log) (decoded : Option Decoded) (item : Item) (verdict : 
 unfolding events_of greatest_processed processed_by
 processed_fit log decoded item (StreamFault code) fit =
     named_by (code_number code == 11) (stream_of_item item) (2 ^ 31) (stream_low item fit)
-processed_fit log decoded (block stream end octets) Reported fit =
-    named_by true stream (2 ^ 31) fit
+processed_fit log decoded (block stream end octets) Reported fit = named_by true stream (2 ^ 31) fit
 processed_fit log decoded (alone (Data stream end octets pad)) Reported fit = omega arith
 processed_fit log decoded item verdict fit = omega arith
 
@@ -241,14 +228,13 @@ replies_sendable most log NoEvent (alone frame) may fit says = tt
 item_read : (log : Log) (decoded : Option Decoded) (item : Item) (verdict : Verdict)
     → IsFitItem item → IsWithin log item → LogIsFit log
     → PendingFit (events_of (log_view log) decoded verdict item) (read log decoded item)
-item_read log decoded item verdict fit is_within are =
-    record {
-      sent_all = are.sent_all;
-      received_all = (fit, are.received_all);
-      processed = processed_append (events_of (log_view log) decoded verdict item) log.reported
-          (2 ^ 31) (processed_fit log decoded item verdict fit) are.processed;
-      credit = credit_after log item is_within are.credit;
-    }
+item_read log decoded item verdict fit is_within are = record {
+  sent_all = are.sent_all;
+  received_all = (fit, are.received_all);
+  processed = processed_append (events_of (log_view log) decoded verdict item) log.reported
+      (2 ^ 31) (processed_fit log decoded item verdict fit) are.processed;
+  credit = credit_after log item is_within are.credit;
+}
 
 -- An item that comes and is no fault of the connection.
 pub replied_fit : (role : Role) (values : Values) (log : Log) (decoded : Option Decoded)

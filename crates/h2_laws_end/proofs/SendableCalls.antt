@@ -1,4 +1,11 @@
 -- What an end has written can be sent: calls, and so every log.
+use Rattle.hpack.specs.Lists.{list_size}
+use Rattle.h2_spec_log.specs.Acts.{IsTypedAct}
+use Rattle.h2_laws_log.proofs.BlockSizes.{block_is_gathered}
+use Rattle.h2_laws_log.proofs.LogInvariant.{Represents}
+use Rattle.h2_laws_log.proofs.CallConditions.{and_other}
+use Rattle.h2_laws_log.proofs.InvariantCalls.{no_fault}
+use Rattle.h2_laws_log.proofs.PayloadOrigins.{payloads_between}
 use Rattle.h2_laws_end.proofs.Names.{◌≡◌, ℕ, suc, ◌^◌, ◌≤◌, ◌<◌, ◌==◌, nat_lt, Bool, true, false}
 use Rattle.h2_laws_end.proofs.Names.{if◌then◌else◌, List, [], ◌∷◌, None, refl, inl, inr, arith}
 use Rattle.h2_laws_end.proofs.Names.{AllByRecursion, list_any, both_ways, or_parts, or_cases}
@@ -12,30 +19,13 @@ use Rattle.h2_laws_end.proofs.Names.{data_items, called, IsLog, AllowedHistory, 
 use Rattle.h2_laws_end.proofs.Names.{IsSendable, AreSendable, active_parts, history_of}
 use Rattle.h2_laws_end.proofs.Names.{stream_is_active, none_holds, written_is_allowed}
 use Rattle.h2_laws_end.proofs.Names.{pending_by_logs, IsPendingInvariant, comes_as_before}
-use Rattle.h2_laws_end.proofs.Names.{unreleased_is, IsFitItem, comes_fit}
-use Rattle.std.proofs.Common.{◌||◌}
-use Rattle.hpack.specs.Lists.{list_size}
-use Rattle.hpack.specs.Choice.{block_of}
-use Rattle.h2_spec_log.specs.Items.{is_block_on, total}
-use Rattle.h2_spec_log.specs.Events.{greatest_processed, processed_by}
-use Rattle.h2_spec_log.specs.Acts.{AreInRange, IsTypedAct}
-use Rattle.h2_spec_log.specs.States.{greatest_number}
-use Rattle.h2_spec_log.specs.Log.{next_number, last_processed, unreleased}
-use Rattle.h2_spec_log.specs.View.{owed_on}
-use Rattle.h2_spec_log.specs.Limits.{max_list}
-use Rattle.h2_spec_log.specs.CallRules.{conditions, items_of, refuse_fault}
-use Rattle.h2_spec_log.specs.LogSteps.{with_sent, used}
-use Rattle.h2_spec_log.specs.LogCalls.{opened}
-use Rattle.h2_laws_log.proofs.BlockSizes.{block_is_gathered}
-use Rattle.h2_laws_log.proofs.StreamNumbers.{next_odd}
-use Rattle.h2_laws_log.proofs.LogInvariant.{Good, Represents}
-use Rattle.h2_laws_log.proofs.LogViewLemmas.{owed_there}
-use Rattle.h2_laws_log.proofs.CallConditions.{and_other}
-use Rattle.hpack.proofs.Tests.{none_since}
-use Rattle.h2_laws_log.proofs.InvariantCalls.{active_some, no_fault}
-use Rattle.h2_laws_log.proofs.InvariantLogs.{log_represents}
-use Rattle.h2_laws_log.proofs.PayloadOrigins.{payloads_between}
-use Rattle.h2_laws_log.proofs.PayloadsOfLogs.{written_by_payloads}
+use Rattle.h2_laws_end.proofs.Names.{unreleased_is, IsFitItem, comes_fit, ◌||◌, block_of}
+use Rattle.h2_laws_end.proofs.Names.{is_block_on, total, greatest_processed, processed_by}
+use Rattle.h2_laws_end.proofs.Names.{AreInRange, greatest_number, next_number, last_processed}
+use Rattle.h2_laws_end.proofs.Names.{unreleased, owed_on, max_list, conditions, items_of}
+use Rattle.h2_laws_end.proofs.Names.{refuse_fault, with_sent, used, opened, next_odd, Good}
+use Rattle.h2_laws_end.proofs.Names.{owed_there, none_since, active_some, log_represents}
+use Rattle.h2_laws_end.proofs.Names.{written_by_payloads}
 use Rattle.h2_laws_end.proofs.SendableItems.{IsPayload, reset_sendable, update_sendable}
 use Rattle.h2_laws_end.proofs.SendableItems.{goaway_sendable, ping_sendable, opening_sendable}
 use Rattle.h2_laws_end.proofs.SendableItems.{change_sendable, data_items_sendable, all_sendable}
@@ -247,25 +237,22 @@ accepted_sendable role log (ChangeSettings values) represents typed none up are 
 -- A new log.
 begins_fit : (role : Role) (values : Values) → AreInRange values → LogIsFit (opened role values)
 unfolding opened with_sent total greatest_processed
-begins_fit role values ok =
-    record {
-      sent_all =
-          (opening_sendable (max_payload_sent_by []) role values (most_between []) ok, tt);
-      received_all = tt;
-      processed = omega arith;
-      credit = omega arith;
-    }
+begins_fit role values ok = record {
+  sent_all = (opening_sendable (max_payload_sent_by []) role values (most_between []) ok, tt);
+  received_all = tt;
+  processed = omega arith;
+  credit = omega arith;
+}
 
 -- A stream that is reported as unprocessed.
 named_fit : (log : Log) (id : ℕ) → LogIsFit log → PendingFit (UnprocessedEvent id ∷ []) log
 unfolding greatest_processed processed_by
-named_fit log id are =
-    record {
-      sent_all = are.sent_all;
-      received_all = are.received_all;
-      processed = omega (arith, are.processed);
-      credit = are.credit;
-    }
+named_fit log id are = record {
+  sent_all = are.sent_all;
+  received_all = are.received_all;
+  processed = omega (arith, are.processed);
+  credit = are.credit;
+}
 
 -- The last stream of a failure's GOAWAY.
 names_low : (role : Role) (values : Values) (log : Log) (last : ℕ) → NamesLast role values log last
@@ -282,34 +269,33 @@ names_low role values log _ (of_fault decoded item code comes is) are =
 fit_kept : (role : Role) (values : Values)
     → IsPendingInvariant role values (λ events log. LogIsAllowed role log → PendingFit events log)
 unfolding used with_sent
-fit_kept role values =
-    record {
-      opening = λ in_range allowed. begins_fit role values in_range;
-      used = λ log octets unparsed are. are;
-      framed = λ log frames are. are;
-      begun = λ log begun begins are. are;
-      complete = λ log are. are;
-      replied = λ log decoded item verdict replies are allowed.
-          replied_fit role values log decoded item verdict replies
-          (are (comes_as_before replies.comes (LogIsAllowed role)
-          (written_is_allowed role values replies.comes.before replies.comes.is)));
-      named = λ log is up some are allowed. named_fit log _ (are allowed);
-      reported = λ log event events may are. are;
-      unreturned = λ events log count are. are;
-      returned = λ events log returns. returned_fit role events log;
-      failed = λ log code last names are allowed.
-          let before = are (allowed_before role log.received _ _ log.sent allowed refl
-          (λ pairs wrong. cc)) in
-          failure_keeps code last log (names_low role values log last names before) before;
-      sent = λ log act accepted are allowed.
-          let represents = log_represents role values log accepted.is in
-          let before = are (written_is_allowed role values log accepted.is) in
-          wrote_keeps [] (called log act (answer_of (log_view log) act)) _
-          (accepted_sendable role log act represents accepted.typed accepted.none accepted.up
-          before) before;
-      called = λ log act answer is none are. are;
-      given = λ log more are. are;
-    }
+fit_kept role values = record {
+  opening = λ in_range allowed. begins_fit role values in_range;
+  used = λ log octets unparsed are. are;
+  framed = λ log frames are. are;
+  begun = λ log begun begins are. are;
+  complete = λ log are. are;
+  replied = λ log decoded item verdict replies are allowed.
+      replied_fit role values log decoded item verdict replies
+      (are (comes_as_before replies.comes (LogIsAllowed role)
+      (written_is_allowed role values replies.comes.before replies.comes.is)));
+  named = λ log is up some are allowed. named_fit log _ (are allowed);
+  reported = λ log event events may are. are;
+  unreturned = λ events log count are. are;
+  returned = λ events log returns. returned_fit role events log;
+  failed = λ log code last names are allowed.
+      let before = are (allowed_before role log.received _ _ log.sent allowed refl
+      (λ pairs wrong. cc)) in
+      failure_keeps code last log (names_low role values log last names before) before;
+  sent = λ log act accepted are allowed.
+      let represents = log_represents role values log accepted.is in
+      let before = are (written_is_allowed role values log accepted.is) in
+      wrote_keeps [] (called log act (answer_of (log_view log) act)) _
+      (accepted_sendable role log act represents accepted.typed accepted.none accepted.up
+      before) before;
+  called = λ log act answer is none are. are;
+  given = λ log more are. are;
+}
 
 -- Every log.
 log_fit : (role : Role) (values : Values) (log : Log) → IsLog role values log → LogIsFit log

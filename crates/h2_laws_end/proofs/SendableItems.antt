@@ -1,20 +1,16 @@
 -- Which items can be sent; and what is known of those that were read.
-use Rattle.h2_laws_end.proofs.Names.{◌≡◌, ℕ, ◌^◌, ◌≤◌, ◌<◌, ◌==◌, Bool, true, false, if◌then◌else◌}
-use Rattle.h2_laws_end.proofs.Names.{List, [], ◌∷◌, ◌++◌, length, None, refl, arith, AllByRecursion}
-use Rattle.h2_laws_end.proofs.Names.{lt-ltb, Code, code_number, Frame, Data, Reset, Settings, Ping}
-use Rattle.h2_laws_end.proofs.Names.{GoAway, WindowUpdate, Item, alone, block, max_frame_size_sent}
-use Rattle.h2_laws_end.proofs.Names.{Role, Client, Server, Values, data_items, IsSendable}
-use Rattle.h2_laws_end.proofs.Names.{AreSendable}
 use Rattle.std.proofs.Common.{map as each}
-use Rattle.std.proofs.lemmas.Bool.{le-ltb}
 use Rattle.h2_frame.specs.Heads.{fits_stream}
-use Rattle.h2_frame.specs.Encoding.{payload_of, stream_of, kind_of_frame, has_good_values, refusal}
-use Rattle.h2_frame.specs.Encoding.{IsTyped}
+use Rattle.h2_frame.specs.Encoding.{kind_of_frame, has_good_values, refusal, IsTyped}
 use Rattle.h2_block.specs.Grouping.{is_standalone}
-use Rattle.h2_spec_log.specs.Limits.{max_list}
-use Rattle.h2_spec_log.specs.Acts.{AreInRange}
-use Rattle.h2_spec_log.specs.CallRules.{opening_pairs, changed_pairs, with_max_frame}
+use Rattle.h2_spec_log.specs.CallRules.{changed_pairs, with_max_frame}
 use Rattle.h2_laws_log.proofs.ItemSizes.{size_of, size-frame, size-opening, size-change}
+use Rattle.h2_laws_end.proofs.Names
+use Names.{◌≡◌, ℕ, ◌^◌, ◌≤◌, ◌<◌, ◌==◌, Bool, true, false, if◌then◌else◌, List, [], ◌∷◌, ◌++◌}
+use Names.{length, None, refl, arith, AllByRecursion, lt-ltb, Code, code_number, Frame, Data, Reset}
+use Names.{Settings, Ping, GoAway, WindowUpdate, Item, alone, block, max_frame_size_sent, Role}
+use Names.{Client, Server, Values, data_items, IsSendable, AreSendable, le-ltb, payload_of}
+use Names.{stream_of, max_list, AreInRange, opening_pairs}
 use Rattle.h2_laws_end.proofs.DataItems.{body_all}
 use Rattle.h2_frame.specs.declared.code.Code.TheVariants as codes
 
@@ -122,8 +118,7 @@ frame_fits written values pairs ok others =
 
 -- The number of streams fits.
 streams_fit : (values : Values) → AreInRange values → PairFits (3, values.max_streams)
-streams_fit values ok =
-    pair_fits 3 values.max_streams (omega arith) (omega (arith, ok.max_streams))
+streams_fit values ok = pair_fits 3 values.max_streams (omega arith) (omega (arith, ok.max_streams))
 
 -- The pairs of an opening fit.
 opening_fits : (role : Role) (values : Values) → AreInRange values

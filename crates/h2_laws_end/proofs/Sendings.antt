@@ -1,23 +1,18 @@
 -- The field blocks that an end has written are what its encoder makes of the lists of its calls.
-use Rattle.h2_laws_end.proofs.Names.{◌≡◌, ℕ, Bool, true, false, if◌then◌else◌, List, [], ◌∷◌, ◌++◌}
-use Rattle.h2_laws_end.proofs.Names.{Option, refl, subst, list_any, both_ways, or_parts, Field}
-use Rattle.h2_laws_end.proofs.Names.{Code, Settings, WindowUpdate, Item, alone, block, Role}
-use Rattle.h2_laws_end.proofs.Names.{Refusal, Values, Act, Answer, Open, SendFields, SendData}
-use Rattle.h2_laws_end.proofs.Names.{Release, Refuse, PutOut, Count, Done, OutOfMemory, Refused}
-use Rattle.h2_laws_end.proofs.Names.{Log, max_payload_sent, log_view, ended_in, Verdict}
-use Rattle.h2_laws_end.proofs.Names.{ConnectionFault, StreamFault, NoEvent, Reported, Decoded}
-use Rattle.h2_laws_end.proofs.Names.{answer_of, data_items, read, called, IsLog, IsLogInvariant}
-use Rattle.h2_laws_end.proofs.Names.{kept_by_logs}
 use Rattle.hpack.specs.Lists.{EncoderState}
-use Rattle.hpack.specs.Choice.{block_of, after_block}
-use Rattle.h2_spec_log.specs.ItemRules.{replies_to}
-use Rattle.h2_spec_log.specs.CallRules.{opening_pairs, items_of, encoder_after_call}
-use Rattle.h2_spec_log.specs.LogSteps.{with_sent}
-use Rattle.h2_spec_log.specs.LogCalls.{opened}
-use Rattle.h2_laws_log.proofs.LogInduction.{WritesNone, refused, no_memory, fails_instead, puts_out}
-use Rattle.h2_laws_end.specs.Sendings.{lists_accepted, settings_received, changes_encoder}
-use Rattle.h2_laws_end.specs.Sendings.{EncodesInOrder, sent_nothing, sent_acknowledgment}
-use Rattle.h2_laws_end.specs.Sendings.{sent_block, sent_other}
+use Rattle.hpack.specs.Choice.{after_block}
+use Rattle.h2_spec_log.specs.CallRules.{encoder_after_call}
+use Rattle.h2_laws_end.specs.Sendings.{lists_accepted, settings_received, EncodesInOrder}
+use Rattle.h2_laws_end.specs.Sendings.{sent_nothing, sent_acknowledgment, sent_block, sent_other}
+use Rattle.h2_laws_end.proofs.Names
+use Names.{◌≡◌, ℕ, Bool, true, false, if◌then◌else◌, List, [], ◌∷◌, ◌++◌, Option, refl, subst}
+use Names.{list_any, both_ways, or_parts, Field, Code, Settings, WindowUpdate, Item, alone, block}
+use Names.{Role, Refusal, Values, Act, Answer, Open, SendFields, SendData, Release, Refuse, PutOut}
+use Names.{Count, Done, OutOfMemory, Refused, Log, max_payload_sent, log_view, ended_in, Verdict}
+use Names.{ConnectionFault, StreamFault, NoEvent, Reported, Decoded, answer_of, data_items, read}
+use Names.{called, IsLog, IsLogInvariant, kept_by_logs, block_of, replies_to, opening_pairs}
+use Names.{items_of, with_sent, opened, WritesNone, refused, no_memory, fails_instead, puts_out}
+use Names.{changes_encoder}
 use Rattle.h2_laws_end.proofs.SettingsApplied.{is_settings, replies_stay, IsApplied}
 use Rattle.h2_laws_end.proofs.SettingsApplied.{verdict_applied}
 use Rattle.h2_laws_end.proofs.DataItems.{body_all, none_of_all}
@@ -170,8 +165,7 @@ silent_call log _ _ (refused act refusal) is =
 silent_call log _ _ (no_memory act) is =
     let same = failed_lists act log.calls log.encoder in
     quiet_called log act OutOfMemory same.0 same.1 is
-silent_call log _ _ (fails_instead id code) is =
-    quiet_called log (Refuse id code) Done refl refl is
+silent_call log _ _ (fails_instead id code) is = quiet_called log (Refuse id code) Done refl refl is
 silent_call log _ _ (puts_out count given) is =
     quiet_called log (PutOut count) (Count given) refl refl is
 
@@ -184,26 +178,24 @@ begins_sent role values =
 -- Each change of a log keeps it.
 keeps_sent : (role : Role) (values : Values) → IsLogInvariant role values LogIsSent
 unfolding changes_encoder
-keeps_sent role values =
-    record {
-      opening = λ in_range. begins_sent role values;
-      used = λ log octets unparsed is. is;
-      framed = λ log frames is. is;
-      begun = λ log begun is. is;
-      replied = λ log decoded item verdict replies is.
-          replied_keeps log decoded item verdict replies.up
-          (subst (λ (v : Verdict). IsApplied v item) replies.is
-          (verdict_applied (log_view log) decoded item)) is;
-      reported = λ log event events may is. is;
-      unreturned = λ log count is. is;
-      returned = λ log returns is. wrote_keeps (record log { unreturned = 0 }) _ refl is;
-      failed = λ log code last names is. wrote_keeps log _ refl is;
-      sent = λ log act accepted is. accepted_keeps log act is;
-      called = λ log act answer is_log none is. silent_call log act answer none is;
-      given = λ log more is. is;
-    }
+keeps_sent role values = record {
+  opening = λ in_range. begins_sent role values;
+  used = λ log octets unparsed is. is;
+  framed = λ log frames is. is;
+  begun = λ log begun is. is;
+  replied = λ log decoded item verdict replies is.
+      replied_keeps log decoded item verdict replies.up
+      (subst (λ (v : Verdict). IsApplied v item) replies.is
+      (verdict_applied (log_view log) decoded item)) is;
+  reported = λ log event events may is. is;
+  unreturned = λ log count is. is;
+  returned = λ log returns is. wrote_keeps (record log { unreturned = 0 }) _ refl is;
+  failed = λ log code last names is. wrote_keeps log _ refl is;
+  sent = λ log act accepted is. accepted_keeps log act is;
+  called = λ log act answer is_log none is. silent_call log act answer none is;
+  given = λ log more is. is;
+}
 
 -- Every log.
 pub log_sent : (role : Role) (values : Values) (log : Log) → IsLog role values log → LogIsSent log
-log_sent role values log is =
-    kept_by_logs role values LogIsSent (keeps_sent role values) log is
+log_sent role values log is = kept_by_logs role values LogIsSent (keeps_sent role values) log is

@@ -3,9 +3,8 @@
 use Rattle.h2_laws_end.proofs.Names.{◌≡◌, Bool, true, false, Option, Some, None, refl, list_any}
 use Rattle.h2_laws_end.proofs.Names.{both_ways, Code, Settings, Ping, Item, alone, View, Verdict}
 use Rattle.h2_laws_end.proofs.Names.{ConnectionFault, StreamFault, NoEvent, Reported, Decoded}
-use Rattle.h2_laws_end.proofs.Names.{verdict_of_fault, settings_fault, verdict_of}
-use Rattle.h2_spec_log.specs.ItemRules.{replies_to, verdict_by_rules}
-use Rattle.h2_laws_end.specs.Sendings.{changes_encoder}
+use Rattle.h2_laws_end.proofs.Names.{verdict_of_fault, settings_fault, verdict_of, replies_to}
+use Rattle.h2_laws_end.proofs.Names.{verdict_by_rules, changes_encoder}
 use Rattle.h2_laws_end.proofs.ReadVerdicts.{by_limits}
 
 -- Whether an item is SETTINGS to be acknowledged.

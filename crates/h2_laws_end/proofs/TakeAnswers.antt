@@ -1,23 +1,16 @@
 -- What a call of `take` answers, and the log after it.
-use Rattle.h2_laws_end.proofs.Names.{◌≡◌, ◌⊎◌, ℕ, List, [], ◌∷◌, ◌++◌, length, Option, Some, None}
-use Rattle.h2_laws_end.proofs.Names.{refl, sym, ap, ◌∙◌, subst, inl, inr, append-nil, Code, Frame}
-use Rattle.h2_laws_end.proofs.Names.{Data, Reset, Settings, Ping, GoAway, none_some, one_code, Item}
-use Rattle.h2_laws_end.proofs.Names.{alone, block, Role, Event, UnprocessedEvent, Values, Log}
-use Rattle.h2_laws_end.proofs.Names.{next_unprocessed, View, log_view, Verdict, StreamFault}
-use Rattle.h2_laws_end.proofs.Names.{Reported, Decoded, with_unreturned, took_frame, took_none}
-use Rattle.h2_laws_end.proofs.Names.{IsLog, took_some, took_one, met_fault, ran_out_of_memory}
-use Rattle.h2_laws_end.proofs.Names.{reported_one, IsDecodedFor, stream_of_log, holds_unreturned}
-use Rattle.h2_laws_end.proofs.Names.{TakeAnswer, Took, Failed, events_answered, MayTake, has_failed}
-use Rattle.h2_laws_end.proofs.Names.{reports_unprocessed, ends_no_frame, ends_frame, meets_fault}
-use Rattle.h2_laws_end.proofs.Names.{runs_out_of_memory}
-use Rattle.h2_spec_log.specs.ItemEffects.{events_of}
-use Rattle.h2_spec_log.specs.LogSteps.{used, with_sent, with_reported}
-use Rattle.h2_spec_log.specs.Histories.{TakesOctets, TakesPart, TakesFrame, TakesFault}
-use Rattle.h2_spec_log.specs.Histories.{MayRunOutOfMemory}
-use Rattle.h2_spec_log.proofs.StreamLemmas.{Keeps-frame, Keeps-none}
-use Rattle.h2_laws_log.proofs.PartsStay.{SamePart, stays_written}
-use Rattle.h2_laws_log.proofs.GrowthBySteps.{HoldsOfWrites, holds_sent}
 use Rattle.h2_laws_end.specs.Takes.{AfterTake}
+use Rattle.h2_laws_end.proofs.Names
+use Names.{◌≡◌, ◌⊎◌, ℕ, List, [], ◌∷◌, ◌++◌, length, Option, Some, None, refl, sym, ap, ◌∙◌, subst}
+use Names.{inl, inr, append-nil, Code, Frame, Data, Reset, Settings, Ping, GoAway, none_some}
+use Names.{one_code, Item, alone, block, Role, Event, UnprocessedEvent, Values, Log}
+use Names.{next_unprocessed, View, log_view, Verdict, StreamFault, Reported, Decoded}
+use Names.{with_unreturned, took_frame, took_none, IsLog, took_some, took_one, met_fault}
+use Names.{ran_out_of_memory, reported_one, IsDecodedFor, stream_of_log, holds_unreturned}
+use Names.{TakeAnswer, Took, Failed, events_answered, MayTake, has_failed, reports_unprocessed}
+use Names.{ends_no_frame, ends_frame, meets_fault, runs_out_of_memory, events_of, used, with_sent}
+use Names.{with_reported, TakesOctets, TakesPart, TakesFrame, TakesFault, MayRunOutOfMemory}
+use Names.{Keeps-frame, Keeps-none, SamePart, stays_written, HoldsOfWrites, holds_sent}
 use Rattle.h2_laws_end.proofs.Failures.{reported_failed, unreturned_failed}
 use Rattle.h2_laws_end.proofs.ActivitySteps.{AfterFrame, stays_same, has_broken, has_read}
 use Rattle.h2_laws_end.proofs.ActivitySteps.{frame_used, frame_after}
@@ -26,12 +19,10 @@ use Rattle.h2_laws_end.proofs.ActivitySteps.{frame_used, frame_after}
 pub take_closed : (role : Role) (values : Values) (log after : Log) (piece : List ℕ)
     (answer : TakeAnswer) → IsLog role values log → MayTake log piece answer after
     → IsLog role values after
-take_closed role values log after piece answer is (has_failed code failed answers same) =
-    rw same is
+take_closed role values log after piece answer is (has_failed code failed answers same) = rw same is
 take_closed role values log after piece answer is (reports_unprocessed up some answers same) =
     rw same (reported_one is up some)
-take_closed role values log after piece answer is
-    (ends_no_frame takes unparsed part answers same) =
+take_closed role values log after piece answer is (ends_no_frame takes unparsed part answers same) =
     let own = (stream_of_log role values log is).role in
     rw same (took_some is takes piece unparsed
     (subst (λ (r : Role). TakesPart r log piece unparsed) own part))
@@ -103,8 +94,7 @@ after_answers before after decoded up (stays_same adds failed) =
     inr (None, failed ∙ up, adds.reported)
 after_answers before after decoded up (has_broken code last most adds failed) =
     inl (code, failed, adds.reported)
-after_answers before after decoded up
-    (has_read item verdict credit is on is_credit adds failed) =
+after_answers before after decoded up (has_read item verdict credit is on is_credit adds failed) =
     let one = one_event_of (log_view before) decoded verdict item in
     let reported = ap (λ (events : List Event). events ++ before.reported) one.1 in
     inr (one.0, failed ∙ up, adds.reported ∙ reported)
@@ -218,5 +208,4 @@ failed_take log after piece answer code down
     (meets_fault may_take octets unused joined fault at answers same) =
     none_some code (sym may_take.up ∙ down)
 failed_take log after piece answer code down
-    (runs_out_of_memory up octets unused joined may answers same) =
-    none_some code (sym up ∙ down)
+    (runs_out_of_memory up octets unused joined may answers same) = none_some code (sym up ∙ down)

@@ -1,15 +1,12 @@
 -- The turns that `take` and the other calls add to a log.
-use Rattle.h2_laws_end.proofs.Names.{◌≡◌, ℕ, Bool, true, false, List, [], ◌∷◌, ◌++◌, refl, sym, ap}
-use Rattle.h2_laws_end.proofs.Names.{◌∙◌, append_assoc, Code, Event, Act, Answer, Turn, In, Out}
-use Rattle.h2_laws_end.proofs.Names.{Happened, TakeCalled, TakeAnswered, Log, with_failure, called}
-use Rattle.h2_laws_end.proofs.Names.{with_call, holds_failure, TakeAnswer, MayTake, has_failed}
-use Rattle.h2_laws_end.proofs.Names.{reports_unprocessed, ends_no_frame, ends_frame, meets_fault}
-use Rattle.h2_laws_end.proofs.Names.{runs_out_of_memory}
 use Rattle.std.proofs.Common.{map}
-use Rattle.h2_spec_log.specs.Acts.{Called, Answered}
-use Rattle.h2_spec_log.specs.LogSteps.{used}
-use Rattle.h2_laws_log.proofs.GrowthBySteps.{HoldsOfFailures, HoldsOfReads, holds_call, holds_used}
-use Rattle.h2_laws_log.proofs.GrowthBySteps.{holds_frame, holds_none}
+use Rattle.h2_laws_log.proofs.GrowthBySteps.{HoldsOfFailures, HoldsOfReads}
+use Rattle.h2_laws_end.proofs.Names
+use Names.{◌≡◌, ℕ, Bool, true, false, List, [], ◌∷◌, ◌++◌, refl, sym, ap, ◌∙◌, append_assoc, Code}
+use Names.{Event, Act, Answer, Turn, In, Out, Happened, TakeCalled, TakeAnswered, Log, with_failure}
+use Names.{called, with_call, holds_failure, TakeAnswer, MayTake, has_failed, reports_unprocessed}
+use Names.{ends_no_frame, ends_frame, meets_fault, runs_out_of_memory, Called, Answered, used}
+use Names.{holds_call, holds_used, holds_frame, holds_none}
 
 -- All turns pass.
 abbrev pub AllPass : (Turn → Bool) → List Turn → Type 0
@@ -56,27 +53,25 @@ adds_one p turn log next same passes =
 -- One step after another.
 pub adds_twice : (p : Turn → Bool) (one two three : Log) → Adds p one two → Adds p two three
     → Adds p one three
-adds_twice p one two three a b =
-    record {
-      news = b.news ++ a.news;
-      turns = b.turns ∙ ap (λ (turns : List Turn). b.news ++ turns) a.turns
-          ∙ sym (append_assoc b.news a.news one.turns);
-      pass = both_pass p b.news a.news b.pass a.pass;
-    }
+adds_twice p one two three a b = record {
+  news = b.news ++ a.news;
+  turns = b.turns ∙ ap (λ (turns : List Turn). b.news ++ turns) a.turns
+      ∙ sym (append_assoc b.news a.news one.turns);
+  pass = both_pass p b.news a.news b.pass a.pass;
+}
 
 -- Where output passes, what is written adds turns that pass.
 adds_written : (p : Turn → Bool) → ((octets : List ℕ) → p (Out octets) ≡ true)
     → HoldsOfFailures (Adds p)
-adds_written p outs =
-    record {
-      writes = record {
-        none = λ log. adds_none p log log refl;
-        twice = λ one two three a b. adds_twice p one two three a b;
-        sent = λ log item items. adds_one p (Out _) log _ refl (outs _);
-        unreturned = λ log count. adds_none p log _ refl;
-      };
-      failed = λ log code. adds_none p log _ refl;
-    }
+adds_written p outs = record {
+  writes = record {
+    none = λ log. adds_none p log log refl;
+    twice = λ one two three a b. adds_twice p one two three a b;
+    sent = λ log item items. adds_one p (Out _) log _ refl (outs _);
+    unreturned = λ log count. adds_none p log _ refl;
+  };
+  failed = λ log code. adds_none p log _ refl;
+}
 
 -- After a call and its answer stands output alone.
 pub adds_call : (log : Log) (act : Act) (answer : Answer)
@@ -94,19 +89,18 @@ events_pass (event ∷ events) = (refl, events_pass events)
 
 -- So do all steps of `take`.
 adds_read : HoldsOfReads (Adds is_of_take)
-adds_read =
-    record {
-      failures = adds_written is_of_take (λ octets. refl);
-      used = λ log octets unparsed. adds_one is_of_take (In octets) log _ refl refl;
-      framed = λ log frames. adds_none is_of_take log _ refl;
-      begun = λ log begun. adds_none is_of_take log _ refl;
-      read = λ log decoded item. adds_none is_of_take log _ refl;
-      reported = λ log event events. record {
-        news = map Happened (event ∷ events);
-        turns = refl;
-        pass = events_pass (event ∷ events);
-      };
-    }
+adds_read = record {
+  failures = adds_written is_of_take (λ octets. refl);
+  used = λ log octets unparsed. adds_one is_of_take (In octets) log _ refl refl;
+  framed = λ log frames. adds_none is_of_take log _ refl;
+  begun = λ log begun. adds_none is_of_take log _ refl;
+  read = λ log decoded item. adds_none is_of_take log _ refl;
+  reported = λ log event events. record {
+    news = map Happened (event ∷ events);
+    turns = refl;
+    pass = events_pass (event ∷ events);
+  };
+}
 
 -- Octets are used, and the connection fails.
 adds_fault : (log : Log) (octets : List ℕ) (code : Code) (last : ℕ)

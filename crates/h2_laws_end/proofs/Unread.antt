@@ -1,11 +1,10 @@
 -- What a log keeps where nothing is read: calls, failures, and streams that are reported as
 -- unprocessed change nothing of what was read.
+use Rattle.h2_laws_log.proofs.GrowthBySteps.{HoldsOfCalls}
 use Rattle.h2_laws_end.proofs.Names.{◌≡◌, ℕ, List, [], ◌∷◌, ◌++◌, None, refl, sym, ◌∙◌, Code, Item}
 use Rattle.h2_laws_end.proofs.Names.{Event, Act, Answer, Log, with_unreturned, with_failure}
 use Rattle.h2_laws_end.proofs.Names.{took_none, called, with_call, none_some, holds_unreturned}
-use Rattle.h2_laws_end.proofs.Names.{holds_failure}
-use Rattle.h2_spec_log.specs.LogSteps.{with_sent, with_reported}
-use Rattle.h2_laws_log.proofs.GrowthBySteps.{HoldsOfCalls, holds_call}
+use Rattle.h2_laws_end.proofs.Names.{holds_failure, with_sent, with_reported, holds_call}
 
 -- The second log has read what the first has, and is up only where the first is.
 pub record ReadsNothing (old new : Log) : Type 0 where
@@ -27,34 +26,32 @@ reads_twice one two three a b = record {
 -- A change of none of these reads nothing.
 reads_none : (old new : Log) → new.frames ≡ old.frames → new.begun ≡ old.begun
     → new.received ≡ old.received → new.failed ≡ old.failed → ReadsNothing old new
-reads_none old new frames begun received failed =
-    record {
-      frames = frames;
-      begun = begun;
-      received = received;
-      up = λ up. sym failed ∙ up;
-    }
+reads_none old new frames begun received failed = record {
+  frames = frames;
+  begun = begun;
+  received = received;
+  up = λ up. sym failed ∙ up;
+}
 
 -- Each change of a log by a call reads nothing.
 reads_by_calls : HoldsOfCalls ReadsNothing
-reads_by_calls =
-    record {
-      failures = record {
-        writes = record {
-          none = λ log. reads_none log log refl refl refl refl;
-          twice = reads_twice;
-          sent = λ log item items. reads_none log _ refl refl refl refl;
-          unreturned = λ log count. reads_none log _ refl refl refl refl;
-        };
-        failed = λ log code. record {
-          frames = refl;
-          begun = refl;
-          received = refl;
-          up = λ up. none_some code (sym up);
-        };
-      };
-      given = λ log more. reads_none log _ refl refl refl refl;
-    }
+reads_by_calls = record {
+  failures = record {
+    writes = record {
+      none = λ log. reads_none log log refl refl refl refl;
+      twice = reads_twice;
+      sent = λ log item items. reads_none log _ refl refl refl refl;
+      unreturned = λ log count. reads_none log _ refl refl refl refl;
+    };
+    failed = λ log code. record {
+      frames = refl;
+      begun = refl;
+      received = refl;
+      up = λ up. none_some code (sym up);
+    };
+  };
+  given = λ log more. reads_none log _ refl refl refl refl;
+}
 
 -- Events are reported.
 pub reads_reported : (log : Log) (events : List Event) → ReadsNothing log (with_reported log events)

@@ -1,33 +1,24 @@
 -- No DATA that an end writes passes its windows, the newest by all that was read; and calls of
 -- `data` alone write any.
-use Rattle.h2_laws_end.proofs.Names.{◌≡◌, ◌≢◌, ◌⊎◌, ℕ, ◌+◌, ◌≤◌, ◌<◌, ◌==◌, Bool, true, false}
-use Rattle.h2_laws_end.proofs.Names.{if◌then◌else◌, List, [], ◌∷◌, ◌++◌, length, Option, None, refl}
-use Rattle.h2_laws_end.proofs.Names.{sym, ap, ◌∙◌, inl, inr, arith, subst, eqb-true, eq-eqb, Data}
-use Rattle.h2_laws_end.proofs.Names.{Settings, Ping, WindowUpdate, payload_of, Code, Item, alone}
-use Rattle.h2_laws_end.proofs.Names.{block, Role, Refusal, increment_on, Values, Act, Answer}
-use Rattle.h2_laws_end.proofs.Names.{SendData, Release, PutOut, Refused, OutOfMemory, first_window}
-use Rattle.h2_laws_end.proofs.Names.{Log, max_payload_sent, log_view, ended_in, Verdict}
-use Rattle.h2_laws_end.proofs.Names.{ConnectionFault, StreamFault, NoEvent, Reported, answer_of}
-use Rattle.h2_laws_end.proofs.Names.{refusal_of, read, called, IsLog, most_between}
-use Rattle.h2_laws_end.proofs.Names.{written_is_allowed, total_none, IsLogInvariant, kept_by_logs}
-use Rattle.h2_laws_end.proofs.Names.{total-append}
-use Rattle.h2_spec_log.specs.Items.{data_on, data_of, total}
 use Rattle.h2_spec_log.specs.Settings.{one_settings}
-use Rattle.h2_spec_log.specs.Windows.{given_on, given_on_connection}
-use Rattle.h2_spec_log.specs.ItemRules.{replies_to}
-use Rattle.h2_spec_log.specs.CallRules.{items_of, data_count}
-use Rattle.h2_spec_log.specs.LogSteps.{with_sent}
-use Rattle.h2_spec_log.specs.LogCalls.{opened}
+use Rattle.h2_spec_log.specs.CallRules.{data_count}
 use Rattle.h2_spec_log.specs.Allowed.{Origin, IsOpening}
 use Rattle.h2_laws_log.proofs.AllowedHistories.{origin_lem}
 use Rattle.h2_laws_log.proofs.InvariantReads.{Fits, Resets, Reports, verdict_fits}
 use Rattle.h2_laws_log.proofs.ItemLists.{total_one}
-use Rattle.h2_laws_log.proofs.LogInduction.{WritesNone, refused, no_memory, fails_instead, puts_out}
-use Rattle.h2_laws_log.proofs.LogViewLemmas.{count_by_sums}
-use Rattle.h2_laws_log.proofs.ReplyInvariant.{chosen_low}
 use Rattle.h2_laws_log.proofs.SettingsLists.{value_kept}
 use Rattle.h2_laws_end.specs.WithinWindows.{IsWithinWindows, NoDataPassesWindows, octets_by_calls}
 use Rattle.h2_laws_end.specs.WithinWindows.{NewestFits, KeepsWindows}
+use Rattle.h2_laws_end.proofs.Names
+use Names.{◌≡◌, ◌≢◌, ◌⊎◌, ℕ, ◌+◌, ◌≤◌, ◌<◌, ◌==◌, Bool, true, false, if◌then◌else◌, List, [], ◌∷◌}
+use Names.{◌++◌, length, Option, None, refl, sym, ap, ◌∙◌, inl, inr, arith, subst, eqb-true, eq-eqb}
+use Names.{Data, Settings, Ping, WindowUpdate, payload_of, Code, Item, alone, block, Role, Refusal}
+use Names.{increment_on, Values, Act, Answer, SendData, Release, PutOut, Refused, OutOfMemory}
+use Names.{first_window, Log, max_payload_sent, log_view, ended_in, Verdict, ConnectionFault}
+use Names.{StreamFault, NoEvent, Reported, answer_of, refusal_of, read, called, IsLog, most_between}
+use Names.{written_is_allowed, total_none, IsLogInvariant, kept_by_logs, total-append, data_on}
+use Names.{data_of, total, given_on, given_on_connection, replies_to, items_of, with_sent, opened}
+use Names.{WritesNone, refused, no_memory, fails_instead, puts_out, count_by_sums, chosen_low}
 use Rattle.h2_laws_end.proofs.DataWindows.{count_fits, data_active, not_negative, taken_of_stream}
 use Rattle.h2_laws_end.proofs.DataWindows.{taken_of_all}
 
@@ -142,25 +133,23 @@ sent_takes i log (item ∷ items) is = total-append (data_on i) (item ∷ items)
 takes_by_calls : (role : Role) (values : Values) (i : ℕ)
     → IsLogInvariant role values (IsOfCalls i)
 unfolding opened with_sent total data_on octets_by_calls
-takes_by_calls role values i =
-    record {
-      opening = λ in_range. refl;
-      used = λ log octets unparsed is. is;
-      framed = λ log frames is. is;
-      begun = λ log begun is. is;
-      replied = λ log decoded item verdict replies is.
-          sent_takes i (read log decoded item) (replies_to verdict item)
-          (omega (arith, is, replies_take i verdict item));
-      reported = λ log event events may is. is;
-      unreturned = λ log count is. is;
-      returned = λ log returns is. omega (arith, is);
-      failed = λ log code last names is. omega (arith, is);
-      sent = λ log act accepted is.
-          sent_takes i (called log act (answer_of (log_view log) act)) _
-          (omega (arith, is, call_takes i log act accepted.none));
-      called = λ log act answer is_log none is. is ∙ sym (none_writes i act answer log.calls none);
-      given = λ log more is. is;
-    }
+takes_by_calls role values i = record {
+  opening = λ in_range. refl;
+  used = λ log octets unparsed is. is;
+  framed = λ log frames is. is;
+  begun = λ log begun is. is;
+  replied = λ log decoded item verdict replies is.
+      sent_takes i (read log decoded item) (replies_to verdict item)
+      (omega (arith, is, replies_take i verdict item));
+  reported = λ log event events may is. is;
+  unreturned = λ log count is. is;
+  returned = λ log returns is. omega (arith, is);
+  failed = λ log code last names is. omega (arith, is);
+  sent = λ log act accepted is. sent_takes i (called log act (answer_of (log_view log) act)) _
+      (omega (arith, is, call_takes i log act accepted.none));
+  called = λ log act answer is_log none is. is ∙ sym (none_writes i act answer log.calls none);
+  given = λ log more is. is;
+}
 
 -- No more is taken than was given, of a stream and of the connection.
 abbrev TakesNoMore : ℕ → List Item → List Item → Type 0
@@ -216,8 +205,7 @@ reply_newest : (log : Log) (verdict : Verdict) (item : Item)
 unfolding replies_to data_of one_settings
 reply_newest log (ConnectionFault code) item up fits is = absurd (up code refl)
 reply_newest log (StreamFault code) item up fits is = quiet_newest _ log.sent _ refl
-reply_newest log NoEvent (alone (Settings false pairs)) up fits is =
-    quiet_newest _ log.sent _ refl
+reply_newest log NoEvent (alone (Settings false pairs)) up fits is = quiet_newest _ log.sent _ refl
 reply_newest log NoEvent (alone (Ping false octets)) up fits is = quiet_newest _ log.sent _ refl
 reply_newest log Reported (alone (Settings false pairs)) up fits is = absurd (cc)
 reply_newest log verdict item up fits is = read_newest log.received log.sent item refl is
@@ -269,14 +257,11 @@ call_newest log (SendData id octets end) none is =
     in
     together_newest log.received log.sent _ id count
     (λ i. taken_of_stream i most id octets end count (omega (arith, some.0))
-    (omega (arith, by_sums)))
-    (omega (arith, all))
-    (λ goes.
+    (omega (arith, by_sums))) (omega (arith, all)) (λ goes.
     let fits = count_fits count (length octets) (given_on id log.received)
     (total (data_on id) log.sent) (given_on_connection log.received) (total data_of log.sent) goes
     (sym by_sums) in
-    (fits.1, fits.2))
-    is
+    (fits.1, fits.2)) is
 call_newest log (Release id count) none is = quiet_newest log.received _ _ refl
 call_newest log (PutOut count) none is = is
 call_newest log act none is = quiet_newest log.received log.sent _ refl
@@ -296,27 +281,25 @@ sent_newest log (item ∷ items) is = is
 newest_takes_no_more : (role : Role) (values : Values)
     → IsLogInvariant role values NewestOfLogFits
 unfolding opened with_sent data_of
-newest_takes_no_more role values =
-    record {
-      opening = λ in_range. quiet_newest [] [] _ refl;
-      used = λ log octets unparsed is. is;
-      framed = λ log frames is. is;
-      begun = λ log begun is. is;
-      replied = λ log decoded item verdict replies is.
-          sent_newest (read log decoded item) (replies_to verdict item)
-          (reply_newest log verdict item replies.up
-          (subst (Fits (Resets log item) (Reports log item)) replies.is
-          (verdict_fits log decoded item)) is);
-      reported = λ log event events may is. is;
-      unreturned = λ log count is. is;
-      returned = λ log returns is. quiet_newest log.received log.sent _ refl;
-      failed = λ log code last names is. quiet_newest log.received log.sent _ refl;
-      sent = λ log act accepted is.
-          sent_newest (called log act (answer_of (log_view log) act)) _
-          (call_newest log act accepted.none is);
-      called = λ log act answer is_log none is. is;
-      given = λ log more is. is;
-    }
+newest_takes_no_more role values = record {
+  opening = λ in_range. quiet_newest [] [] _ refl;
+  used = λ log octets unparsed is. is;
+  framed = λ log frames is. is;
+  begun = λ log begun is. is;
+  replied = λ log decoded item verdict replies is.
+      sent_newest (read log decoded item) (replies_to verdict item)
+      (reply_newest log verdict item replies.up
+      (subst (Fits (Resets log item) (Reports log item)) replies.is
+      (verdict_fits log decoded item)) is);
+  reported = λ log event events may is. is;
+  unreturned = λ log count is. is;
+  returned = λ log returns is. quiet_newest log.received log.sent _ refl;
+  failed = λ log code last names is. quiet_newest log.received log.sent _ refl;
+  sent = λ log act accepted is. sent_newest (called log act (answer_of (log_view log) act)) _
+      (call_newest log act accepted.none is);
+  called = λ log act answer is_log none is. is;
+  given = λ log more is. is;
+}
 
 -- In every log the newest DATA fits, by all that was read.
 newest_fits : (role : Role) (values : Values) (log : Log) → IsLog role values log → NewestFits log
@@ -328,9 +311,8 @@ newest_fits role values log is before i end octets pad line some =
 -- Every log keeps its windows.
 pub keeps_windows : (role : Role) (values : Values) (log : Log) → IsLog role values log
     → KeepsWindows log
-keeps_windows role values log is =
-    record {
-      within = no_data_passes role values log is;
-      newest = newest_fits role values log is;
-      by_calls = λ i. kept_by_logs role values (IsOfCalls i) (takes_by_calls role values i) log is;
-    }
+keeps_windows role values log is = record {
+  within = no_data_passes role values log is;
+  newest = newest_fits role values log is;
+  by_calls = λ i. kept_by_logs role values (IsOfCalls i) (takes_by_calls role values i) log is;
+}

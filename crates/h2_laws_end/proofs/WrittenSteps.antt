@@ -1,18 +1,14 @@
 -- What each step writes: what is owed, and credit.
-use Rattle.h2_laws_end.proofs.Names.{◌≡◌, ℕ, List, [], ◌∷◌, ◌++◌, Option, None, refl, sym, ap, ◌∙◌}
-use Rattle.h2_laws_end.proofs.Names.{inl, inr, append_assoc, append-nil, subst, ◌+◌, Code}
-use Rattle.h2_laws_end.proofs.Names.{WindowUpdate, Item, alone, Event, Act, Answer, Refuse, PutOut}
-use Rattle.h2_laws_end.proofs.Names.{Count, Done, Log, max_payload_sent, max_payload_sent_by}
-use Rattle.h2_laws_end.proofs.Names.{log_view, Verdict, ConnectionFault, Decoded, replies_to}
-use Rattle.h2_laws_end.proofs.Names.{verdict_of, answer_of, refuse_fault, read, with_unreturned}
-use Rattle.h2_laws_end.proofs.Names.{called, credit_cases, put_out_cases, IsCredit}
-use Rattle.h2_spec_log.specs.Items.{encoding_of_items}
-use Rattle.h2_spec_log.specs.CallRules.{items_of}
-use Rattle.h2_spec_log.specs.LogSteps.{with_sent, with_reported, with_item, with_credit_returned}
-use Rattle.h2_spec_log.specs.LogSteps.{with_verdict}
-use Rattle.h2_spec_log.specs.LogCalls.{with_items, refused_with, with_call}
 use Rattle.h2_laws_log.proofs.TurnsOfLogs.{written_after}
 use Rattle.h2_laws_end.specs.Written.{Writes}
+use Rattle.h2_laws_end.proofs.Names
+use Names.{◌≡◌, ℕ, List, [], ◌∷◌, ◌++◌, Option, None, refl, sym, ap, ◌∙◌, inl, inr, append_assoc}
+use Names.{append-nil, subst, ◌+◌, Code, WindowUpdate, Item, alone, Event, Act, Answer, Refuse}
+use Names.{PutOut, Count, Done, Log, max_payload_sent, max_payload_sent_by, log_view, Verdict}
+use Names.{ConnectionFault, Decoded, replies_to, verdict_of, answer_of, refuse_fault, read}
+use Names.{with_unreturned, called, credit_cases, put_out_cases, IsCredit, encoding_of_items}
+use Names.{items_of, with_sent, with_reported, with_item, with_credit_returned, with_verdict}
+use Names.{with_items, refused_with, with_call}
 
 -- These items were written, and nothing was read.
 pub record Puts (before after : Log) (items : List Item) : Type 0 where
@@ -25,12 +21,11 @@ pub record Puts (before after : Log) (items : List Item) : Type 0 where
 puts_none : (before after : Log) → after.received ≡ before.received → after.sent ≡ before.sent
     → after.written ≡ before.written → Puts before after []
 unfolding encoding_of_items
-puts_none before after received sent written =
-    record {
-      received = received;
-      sent = sent;
-      written = written ∙ sym (append-nil before.written);
-    }
+puts_none before after received sent written = record {
+  received = received;
+  sent = sent;
+  written = written ∙ sym (append-nil before.written);
+}
 
 -- One step after another.
 puts_twice : (one two three : Log) (older newer : List Item) → Puts one two older
@@ -71,15 +66,14 @@ credit_none log next received sent written =
 -- What is unreturned is returned.
 credit_returned : (log other : Log) → other.received ≡ log.received → other.sent ≡ log.sent
     → other.written ≡ log.written → PutsCredit log (with_credit_returned other)
-credit_returned log other received sent written =
-    record {
-      items = alone (WindowUpdate 0 other.unreturned) ∷ [];
-      is_credit = inr (other.unreturned, refl);
-      puts = puts_twice log (record other { unreturned = 0 }) (with_credit_returned other) []
-          (alone (WindowUpdate 0 other.unreturned) ∷ [])
-          (puts_none log (record other { unreturned = 0 }) received sent written)
-          (puts_sent (record other { unreturned = 0 }) _);
-    }
+credit_returned log other received sent written = record {
+  items = alone (WindowUpdate 0 other.unreturned) ∷ [];
+  is_credit = inr (other.unreturned, refl);
+  puts = puts_twice log (record other { unreturned = 0 }) (with_credit_returned other) []
+      (alone (WindowUpdate 0 other.unreturned) ∷ [])
+      (puts_none log (record other { unreturned = 0 }) received sent written)
+      (puts_sent (record other { unreturned = 0 }) _);
+}
 
 -- What is unreturned is added.
 credit_of : (more : ℕ) (log : Log) → PutsCredit log (with_unreturned more log)
@@ -98,49 +92,44 @@ puts_items log base items more received sent written =
     let credit = credit_of more (with_sent base items) in (
       credit,
       puts_twice log (with_sent base items) (with_unreturned more (with_sent base items)) items
-          credit.items
-          (record {
+          credit.items (record {
             received = (puts_sent base items).received ∙ received;
             sent = (puts_sent base items).sent ∙ ap (λ (older : List Item). items ++ older) sent;
             written = (puts_sent base items).written ∙ ap (λ (octets : List ℕ). octets
                 ++ encoding_of_items (max_payload_sent (with_sent base items)) items) written;
-          })
-          credit.puts,
+          }) credit.puts,
     )
 
 -- What was written is the items, and credit after them.
 writes_last : (before after : Log) (items : List Item) (credit : List Item) → IsCredit credit
     → Puts before after (credit ++ items) → Writes before after items
-writes_last before after items credit is puts =
-    record {
-      credit = credit;
-      is_credit = is;
-      sent = puts.sent ∙ append_assoc credit items before.sent;
-      written = puts.written;
-    }
+writes_last before after items credit is puts = record {
+  credit = credit;
+  is_credit = is;
+  sent = puts.sent ∙ append_assoc credit items before.sent;
+  written = puts.written;
+}
 
 -- It is credit alone.
 writes_credit : (before after : Log) → PutsCredit before after → Writes before after []
-writes_credit before after credit =
-    record {
-      credit = credit.items;
-      is_credit = credit.is_credit;
-      sent = credit.puts.sent;
-      written = credit.puts.written ∙ ap (λ (items : List Item). before.written
-          ++ encoding_of_items (max_payload_sent after) items) (sym (append-nil credit.items));
-    }
+writes_credit before after credit = record {
+  credit = credit.items;
+  is_credit = credit.is_credit;
+  sent = credit.puts.sent;
+  written = credit.puts.written ∙ ap (λ (items : List Item). before.written
+      ++ encoding_of_items (max_payload_sent after) items) (sym (append-nil credit.items));
+}
 
 -- The same from another log with the same output.
 writes_from : (log base after : Log) (items : List Item) → base.sent ≡ log.sent
     → base.written ≡ log.written → Writes base after items → Writes log after items
-writes_from log base after items sent written writes =
-    record {
-      credit = writes.credit;
-      is_credit = writes.is_credit;
-      sent = writes.sent ∙ ap (λ (older : List Item). writes.credit ++ (items ++ older)) sent;
-      written = writes.written ∙ ap (λ (octets : List ℕ). octets
-          ++ encoding_of_items (max_payload_sent after) (writes.credit ++ items)) written;
-    }
+writes_from log base after items sent written writes = record {
+  credit = writes.credit;
+  is_credit = writes.is_credit;
+  sent = writes.sent ∙ ap (λ (older : List Item). writes.credit ++ (items ++ older)) sent;
+  written = writes.written ∙ ap (λ (octets : List ℕ). octets
+      ++ encoding_of_items (max_payload_sent after) (writes.credit ++ items)) written;
+}
 
 -- Items are written, and then credit, whatever was read.
 writes_items : (log base : Log) (items : List Item) (more : ℕ) → base.sent ≡ log.sent
@@ -193,13 +182,12 @@ reported_writes : (before log : Log) (events : List Event) (items : List Item)
     → Writes before log items → Writes before (with_reported log events) items
 unfolding with_reported
 reported_writes before log [] items writes = writes
-reported_writes before log (event ∷ events) items writes =
-    record {
-      credit = writes.credit;
-      is_credit = writes.is_credit;
-      sent = writes.sent;
-      written = writes.written;
-    }
+reported_writes before log (event ∷ events) items writes = record {
+  credit = writes.credit;
+  is_credit = writes.is_credit;
+  sent = writes.sent;
+  written = writes.written;
+}
 
 -- What is replied to an item is written, by the verdict.
 verdict_writes : (log : Log) (decoded : Option Decoded) (item : Item) (verdict : Verdict)

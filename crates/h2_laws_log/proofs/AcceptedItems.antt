@@ -1,22 +1,18 @@
 -- PING, GOAWAY, RST_STREAM, acknowledgments, later blocks, DATA and WINDOW_UPDATE that an end may
 -- write are no fault for its reader.
-use Rattle.std.proofs.Common.{◌≡◌, ◌⊎◌, ◌≢◌, ℕ, zero, suc, ◌+◌, ◌≤◌, ◌<◌, nat_lt, Bool, true, false}
-use Rattle.std.proofs.Common.{if◌then◌else◌, List, [], ◌++◌, length, Option, None, Some, refl, ◌∙◌}
-use Rattle.std.proofs.Common.{inl, inr, arith}
-use Rattle.h2_spec_log.specs.Windows.{first_window, greatest_window, given_on, given_on_connection}
-use Rattle.h2_spec_log.specs.Windows.{granted_on, granted_on_connection, passes, is_above_greatest}
-use Rattle.h2_spec_log.specs.ItemRules.{peer_opens}
-use Rattle.h2_laws_log.proofs.Names.{ap, lt-ltb, le-ltb, ne_eqb, and_left, and_right, list_size}
-use Rattle.h2_laws_log.proofs.Names.{Data, Reset, Settings, Ping, GoAway, WindowUpdate, payload_of}
-use Rattle.h2_laws_log.proofs.Names.{Item, alone, block, Role, ends, total, data_of, data_on}
-use Rattle.h2_laws_log.proofs.Names.{increment_on, settings_count, one_ack, value_read, own_value}
-use Rattle.h2_laws_log.proofs.Names.{State, Idle, Active, ClosedByUs, Closed, is_used, is_active}
-use Rattle.h2_laws_log.proofs.Names.{is_closed_by_us, Log, acked, state, settings_wait}
-use Rattle.h2_laws_log.proofs.Names.{goaway_written, log_view, Reported, NoEvent, is_fault}
-use Rattle.h2_laws_log.proofs.Names.{reset_verdict, block_verdict, data_verdict, update_verdict}
-use Rattle.h2_laws_log.proofs.Names.{connection_update_verdict, Decoded, verdict_by_rules, max_list}
-use Rattle.h2_laws_log.proofs.Names.{HasAcknowledged, MayContinue, MaySendData, MayReset}
-use Rattle.h2_laws_log.proofs.Names.{MayUpdateWindow, AllowedHistory, IsReader, list_any}
+use Rattle.h2_laws_log.proofs.Names
+use Names.{ap, lt-ltb, le-ltb, ne_eqb, and_left, and_right, list_size, Data, Reset, Settings, Ping}
+use Names.{GoAway, WindowUpdate, payload_of, Item, alone, block, Role, ends, total, data_of}
+use Names.{data_on, increment_on, settings_count, one_ack, value_read, own_value, State, Idle}
+use Names.{Active, ClosedByUs, Closed, is_used, is_active, is_closed_by_us, Log, acked, state}
+use Names.{settings_wait, goaway_written, log_view, Reported, NoEvent, is_fault, reset_verdict}
+use Names.{block_verdict, data_verdict, update_verdict, connection_update_verdict, Decoded}
+use Names.{verdict_by_rules, max_list, HasAcknowledged, MayContinue, MaySendData, MayReset}
+use Names.{MayUpdateWindow, AllowedHistory, IsReader, list_any, ◌≡◌, ◌⊎◌, ◌≢◌, ℕ, zero, suc, ◌+◌}
+use Names.{◌≤◌, ◌<◌, nat_lt, Bool, true, false, if◌then◌else◌, List, [], ◌++◌, length, Option, None}
+use Names.{Some, refl, ◌∙◌, inl, inr, arith, first_window, greatest_window, given_on}
+use Names.{given_on_connection, granted_on, granted_on_connection, passes, is_above_greatest}
+use Names.{peer_opens}
 use Rattle.h2_laws_log.proofs.LogViewLemmas.{data_by_sums, update_by_sums, block_by_items}
 use Rattle.h2_laws_log.proofs.ItemLists.{settings_after, total_after}
 use Rattle.h2_laws_log.proofs.ReaderStates.{active_used, used_after, not_idle, goes_on_state}

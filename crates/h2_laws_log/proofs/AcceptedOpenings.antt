@@ -1,17 +1,14 @@
 -- Blocks with which a client may open streams are no fault for its server.
-use Rattle.std.proofs.Common.{◌≡◌, ℕ, ◌+◌, ◌%◌, ◌≤◌, ◌<◌, ◌==◌, ◌&&◌, nat_lt, nat_le, max, Bool}
-use Rattle.std.proofs.Common.{true, false, if◌then◌else◌, List, [], ◌∷◌, ◌++◌, Some, refl, sym, ◌∙◌}
-use Rattle.std.proofs.Common.{inl, inr, arith}
-use Rattle.h2_spec_log.specs.ItemRules.{peer_opens, is_at_capacity}
-use Rattle.h2_laws_log.proofs.Names.{ap, list_any, cases_eq, le-ltb, lt-leb, eq-eqb, ne_eqb}
-use Rattle.h2_laws_log.proofs.Names.{and_right, or_from, list_size, Item, alone, block, Role}
-use Rattle.h2_laws_log.proofs.Names.{Client, Server, ends, opens_from, greatest_block, Event}
-use Rattle.h2_laws_log.proofs.Names.{is_server, settings_count, value_read, own_value, State, Idle}
-use Rattle.h2_laws_log.proofs.Names.{is_used, is_active, stream_state, count_below, Log, acked}
-use Rattle.h2_laws_log.proofs.Names.{state, goaway_written, max_streams, active_count, allowed_by}
-use Rattle.h2_laws_log.proofs.Names.{is_fault, block_verdict, opening_verdict, Decoded}
-use Rattle.h2_laws_log.proofs.Names.{verdict_by_rules, log_view, max_list, HasAcknowledged, MayOpen}
-use Rattle.h2_laws_log.proofs.Names.{AllowedHistory, IsReader, active_by_items}
+use Rattle.h2_laws_log.proofs.Names
+use Names.{ap, list_any, cases_eq, le-ltb, lt-leb, eq-eqb, ne_eqb, and_right, or_from, list_size}
+use Names.{Item, alone, block, Role, Client, Server, ends, opens_from, greatest_block, Event}
+use Names.{is_server, settings_count, value_read, own_value, State, Idle, is_used, is_active}
+use Names.{stream_state, count_below, Log, acked, state, goaway_written, max_streams, active_count}
+use Names.{allowed_by, is_fault, block_verdict, opening_verdict, Decoded, verdict_by_rules}
+use Names.{log_view, max_list, HasAcknowledged, MayOpen, AllowedHistory, IsReader, active_by_items}
+use Names.{◌≡◌, ℕ, ◌+◌, ◌%◌, ◌≤◌, ◌<◌, ◌==◌, ◌&&◌, nat_lt, nat_le, max, Bool, true, false}
+use Names.{if◌then◌else◌, List, [], ◌∷◌, ◌++◌, Some, refl, sym, ◌∙◌, inl, inr, arith, peer_opens}
+use Names.{is_at_capacity}
 use Rattle.h2_laws_log.proofs.LogViewLemmas.{block_by_items}
 use Rattle.h2_laws_log.proofs.ItemLists.{count_below_more}
 use Rattle.h2_laws_log.proofs.ReaderStates.{active_back}

@@ -1,15 +1,13 @@
 -- SETTINGS that an end may write are no fault for its reader.
-use Rattle.std.proofs.Common.{◌≡◌, ◌≢◌, ℕ, ◌+◌, ◌≤◌, ◌==◌, ◌&&◌, Bool, true, false, if◌then◌else◌}
-use Rattle.std.proofs.Common.{List, [], ◌∷◌, Option, None, refl, inl, inr, arith}
-use Rattle.h2_spec_log.specs.Windows.{greatest_window, is_above_greatest}
 use Rattle.h2_spec_log.specs.Limits.{least_max_frame, most_max_frame}
-use Rattle.h2_laws_log.proofs.Names.{cases_Bool, le-ltb, and_left, and_right, or_from, Code}
-use Rattle.h2_laws_log.proofs.Names.{Settings, Item, alone, block, Role, Client, Server, Values}
-use Rattle.h2_laws_log.proofs.Names.{AreInRange, total, data_on, increment_on, peer_of, value_fault}
-use Rattle.h2_laws_log.proofs.Names.{value_read, any_block, openings, Log, active, is_fault}
-use Rattle.h2_laws_log.proofs.Names.{max_list, verdict_by_rules, settings_fault, verdict_of_fault}
-use Rattle.h2_laws_log.proofs.Names.{overflows, log_view, opening_pairs, changed_pairs}
-use Rattle.h2_laws_log.proofs.Names.{with_max_frame, MayChangeSettings, AllowedHistory, IsReader}
+use Rattle.h2_laws_log.proofs.Names
+use Names.{cases_Bool, le-ltb, and_left, and_right, or_from, Code, Settings, Item, alone, block}
+use Names.{Role, Client, Server, Values, AreInRange, total, data_on, increment_on, peer_of}
+use Names.{value_fault, value_read, any_block, openings, Log, active, is_fault, max_list}
+use Names.{verdict_by_rules, settings_fault, verdict_of_fault, overflows, log_view, opening_pairs}
+use Names.{changed_pairs, with_max_frame, MayChangeSettings, AllowedHistory, IsReader, ◌≡◌, ◌≢◌, ℕ}
+use Names.{◌+◌, ◌≤◌, ◌==◌, ◌&&◌, Bool, true, false, if◌then◌else◌, List, [], ◌∷◌, Option, None}
+use Names.{refl, inl, inr, arith, greatest_window, is_above_greatest}
 use Rattle.h2_laws_log.proofs.InvariantCalls.{active_some}
 use Rattle.h2_laws_log.proofs.ItemLists.{total_after}
 use Rattle.h2_laws_log.proofs.AllowedHistories.{increments_read}

@@ -1,11 +1,10 @@
 -- What an end may write is no fault for its reader: all of it at once.
-use Rattle.std.proofs.Common.{◌≡◌, ◌⊎◌, ℕ, zero, suc, ◌≤◌, Bool, true, false, List, Option, None}
-use Rattle.std.proofs.Common.{Some, inl, inr, arith}
-use Rattle.h2_laws_log.proofs.Names.{list_size, Data, Reset, Settings, Ping, GoAway, WindowUpdate}
-use Rattle.h2_laws_log.proofs.Names.{Item, alone, block, Role, Log, is_fault, log_view, Decoded}
-use Rattle.h2_laws_log.proofs.Names.{verdict_by_rules, max_list, HasAcknowledged, MayContinue}
-use Rattle.h2_laws_log.proofs.Names.{MayOpen, MayUpdateWindow, Allowed, AllowedHistory, IsReader}
 use Rattle.h2_laws_log.specs.Accepting.{IsDecodable}
+use Rattle.h2_laws_log.proofs.Names
+use Names.{list_size, Data, Reset, Settings, Ping, GoAway, WindowUpdate, Item, alone, block, Role}
+use Names.{Log, is_fault, log_view, Decoded, verdict_by_rules, max_list, HasAcknowledged}
+use Names.{MayContinue, MayOpen, MayUpdateWindow, Allowed, AllowedHistory, IsReader, ◌≡◌, ◌⊎◌, ℕ}
+use Names.{zero, suc, ◌≤◌, Bool, true, false, List, Option, None, Some, inl, inr, arith}
 use Rattle.h2_laws_log.proofs.AcceptedItems.{ping_lem, goaway_lem, reset_lem, acknowledgment_sound}
 use Rattle.h2_laws_log.proofs.AcceptedItems.{block_lem, data_lem, update_lem, connection_update_lem}
 use Rattle.h2_laws_log.proofs.AcceptedSettings.{settings_lem}

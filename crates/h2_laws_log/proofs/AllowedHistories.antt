@@ -1,13 +1,11 @@
 -- The lists of what an end has read and written.
-use Rattle.std.proofs.Common.{◌≡◌, ◌⊎◌, ◌≢◌, ℕ, ◌+◌, ◌≤◌, false, List, [], ◌∷◌, ◌++◌, refl, inl}
-use Rattle.std.proofs.Common.{inr, arith}
-use Rattle.h2_spec_log.specs.Windows.{first_window, greatest_window}
 use Rattle.h2_spec_log.specs.Allowed.{Origin, IsOpening}
-use Rattle.h2_laws_log.proofs.Names.{ap, cases_eq, eq-eqb, ne_eqb, Settings, WindowUpdate, Item}
-use Rattle.h2_laws_log.proofs.Names.{alone, block, Role, Client, Server, Values, AreInRange, total}
-use Rattle.h2_laws_log.proofs.Names.{data_on, increment_on, value_read, value_after, settings_count}
-use Rattle.h2_laws_log.proofs.Names.{own_value, max_list, opening_pairs, changed_pairs, Allowed}
-use Rattle.h2_laws_log.proofs.Names.{AllowedHistory, starts, reads, writes}
+use Rattle.h2_laws_log.proofs.Names
+use Names.{ap, cases_eq, eq-eqb, ne_eqb, Settings, WindowUpdate, Item, alone, block, Role, Client}
+use Names.{Server, Values, AreInRange, total, data_on, increment_on, value_read, value_after}
+use Names.{settings_count, own_value, max_list, opening_pairs, changed_pairs, Allowed}
+use Names.{AllowedHistory, starts, reads, writes, ◌≡◌, ◌⊎◌, ◌≢◌, ℕ, ◌+◌, ◌≤◌, false, List, [], ◌∷◌}
+use Names.{◌++◌, refl, inl, inr, arith, first_window, greatest_window}
 use Rattle.h2_laws_log.proofs.SettingsLists.{settings_or, value_kept, value_changed, value_named}
 use Rattle.h2_laws_log.proofs.SettingsLists.{settings_one, count_next, count_none, own_next}
 use Rattle.h2_laws_log.proofs.SettingsLists.{own_of_all}
@@ -164,8 +162,7 @@ pub wrote_front : (role : Role) (received more sent all : List Item)
 wrote_front role _ [] sent _ (starts values ok) line = inr ([], rw (← line) (starts values ok))
 wrote_front role _ (first ∷ []) sent _ (starts values ok) line = inl (cc)
 wrote_front role _ (first ∷ (second ∷ more)) sent _ (starts values ok) line = absurd (cc)
-wrote_front role _ more sent all
-    (reads {received = received} item with_sent) line =
+wrote_front role _ more sent all (reads {received = received} item with_sent) line =
     wrote_front role received more sent all with_sent line
 wrote_front role received [] sent _ (writes {sent = before} item with_sent allowed) line = inr
     (received, rw (← line) (writes item with_sent allowed))

@@ -28,8 +28,7 @@ unfolding first_of
 none_holds [] is = tt
 none_holds ((b, refusal) ∷ conditions) is = (
   first_false_by b refusal (first_of conditions) is,
-  none_holds conditions (others_by b refusal
-      (first_of conditions) is),
+  none_holds conditions (others_by b refusal (first_of conditions) is),
 )
 
 -- Where neither of two tests holds, the one doesn't.

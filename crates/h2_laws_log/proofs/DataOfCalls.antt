@@ -1,16 +1,14 @@
 -- The DATA of one call: one after another, each within what was given.
-use Rattle.std.proofs.Common.{◌≡◌, ◌≢◌, ℕ, zero, suc, ◌+◌, ◌-◌, min, ◌≤◌, ◌<◌, ◌==◌, ◌&&◌, not}
-use Rattle.std.proofs.Common.{nat_le, Bool, true, false, if◌then◌else◌, List, [], ◌∷◌, ◌++◌, length}
-use Rattle.std.proofs.Common.{take, drop, Option, None, refl, ◌∙◌, arith, append_assoc}
+use Rattle.std.proofs.Common.{append_assoc}
 use Rattle.std.proofs.lemmas.List.{length-take-le}
-use Rattle.h2_spec_log.specs.Windows.{given_on, given_on_connection}
-use Rattle.h2_laws_log.proofs.Names.{length-drop, list_any, or_from, and_right, leb-true, leb-false}
-use Rattle.h2_laws_log.proofs.Names.{eq-eqb, Data, payload_of, Item, alone, Role, Client, Server}
-use Rattle.h2_laws_log.proofs.Names.{is_block_on, ends, resets, is_goaway_below, total, data_on}
-use Rattle.h2_laws_log.proofs.Names.{data_of, one_ack, openings, is_above, Log, active}
-use Rattle.h2_laws_log.proofs.Names.{max_payload_sent, max_payload_sent_by, log_view, max_data}
-use Rattle.h2_laws_log.proofs.Names.{data_count, data_frames, data_items, HasAcknowledged}
-use Rattle.h2_laws_log.proofs.Names.{MayContinue, AllowedHistory, writes}
+use Rattle.h2_laws_log.proofs.Names
+use Names.{length-drop, list_any, or_from, and_right, leb-true, leb-false, eq-eqb, Data, payload_of}
+use Names.{Item, alone, Role, Client, Server, is_block_on, ends, resets, is_goaway_below, total}
+use Names.{data_on, data_of, one_ack, openings, is_above, Log, active, max_payload_sent}
+use Names.{max_payload_sent_by, log_view, max_data, data_count, data_frames, data_items}
+use Names.{HasAcknowledged, MayContinue, AllowedHistory, writes, ◌≡◌, ◌≢◌, ℕ, zero, suc, ◌+◌, ◌-◌}
+use Names.{min, ◌≤◌, ◌<◌, ◌==◌, ◌&&◌, not, nat_le, Bool, true, false, if◌then◌else◌, List, [], ◌∷◌}
+use Names.{◌++◌, length, take, drop, Option, None, refl, ◌∙◌, arith, given_on, given_on_connection}
 use Rattle.h2_laws_log.proofs.ItemLists.{total_one}
 use Rattle.h2_laws_log.proofs.WindowsOfTwoEnds.{total-append}
 use Rattle.h2_laws_log.proofs.LogViewLemmas.{count_by_sums}

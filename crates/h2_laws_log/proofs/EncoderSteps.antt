@@ -1,13 +1,11 @@
 -- The encoder of a log: what each step makes of it and of what was read.
-use Rattle.std.proofs.Common.{◌≡◌, ℕ, ◌==◌, min, Bool, true, false, if◌then◌else◌, List, [], ◌∷◌}
-use Rattle.std.proofs.Common.{Option, refl, ◌∙◌, arith}
-use Rattle.hpack.proofs.WrittenBlocks.{block_goes_on}
-use Rattle.h2_spec_log.specs.ItemEffects.{encoder_after_settings}
 use Rattle.h2_spec_log.specs.CallRules.{encoder_after_call}
-use Rattle.h2_laws_log.proofs.Names.{EncoderState, after_block, IsValidEncoder, after_limit}
-use Rattle.h2_laws_log.proofs.Names.{limit_preserves, Headers, Settings, Item, alone, block, Event}
-use Rattle.h2_laws_log.proofs.Names.{Act, Answer, Open, SendFields, Number, Done, value_read}
-use Rattle.h2_laws_log.proofs.Names.{value_after, Log, Decoded, read, with_sent, with_reported}
+use Rattle.h2_laws_log.proofs.Names
+use Names.{EncoderState, after_block, IsValidEncoder, after_limit, limit_preserves, Headers}
+use Names.{Settings, Item, alone, block, Event, Act, Answer, Open, SendFields, Number, Done}
+use Names.{value_read, value_after, Log, Decoded, read, with_sent, with_reported, ◌≡◌, ℕ, ◌==◌, min}
+use Names.{Bool, true, false, if◌then◌else◌, List, [], ◌∷◌, Option, refl, ◌∙◌, arith, block_goes_on}
+use Names.{encoder_after_settings}
 
 -- An encoder writes blocks, and its limit is the value that was read last, 4,096 at most.
 pub record IsLimited (encoder : EncoderState) (received : List Item) : Type 0 where
@@ -39,8 +37,7 @@ pair_limited : (encoder : EncoderState) (before id value : ℕ) (b : Bool) → I
     × ((if b then after_limit encoder (min value 4096) else encoder).limit
     ≡ min (if b then value else before) 4096)
 pair_limited encoder before id value true writing is = (
-  limit_preserves encoder (min value 4096)
-      (omega arith) writing,
+  limit_preserves encoder (min value 4096) (omega arith) writing,
   refl,
 )
 pair_limited encoder before id value false writing is = (writing, is)
@@ -67,11 +64,10 @@ read_limited log decoded (alone (Settings false pairs)) is =
       writing = both.0;
       limit = both.1;
     }
-read_limited log decoded (alone
-    (Headers stream end whole fragment pad priority)) is = record {
-      writing = is.writing;
-      limit = is.limit;
-    }
+read_limited log decoded (alone (Headers stream end whole fragment pad priority)) is = record {
+  writing = is.writing;
+  limit = is.limit;
+}
 read_limited log decoded
     (block stream end octets) is = record { writing = is.writing; limit = is.limit }
 read_limited log decoded (alone frame) is = record { writing = is.writing; limit = is.limit }

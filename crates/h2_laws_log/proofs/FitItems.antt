@@ -1,21 +1,19 @@
 -- Frames and items that come are fit: their numbers are those that their octets can hold.
-use Rattle.std.proofs.Common.{◌≡◌, ℕ, ◌+◌, ◌^◌, ◌<◌, ◌&&◌, not, Bool, true, false, if◌then◌else◌}
-use Rattle.std.proofs.Common.{List, [], ◌∷◌, ◌++◌, length, Option, Some, None, ◌∙◌, inl, inr, arith}
 use Rattle.h2_frame.specs.Heads.{head_of}
 use Rattle.h2_frame.specs.Frames.{Priority, Unknown, Encodes}
 use Rattle.h2_block.specs.declared.fault.BlockFault.{BlockFault}
 use Rattle.h2_spec_log.specs.ItemRules.{may_be_first, grouped, grouping_step}
-use Rattle.h2_spec_log.specs.Histories.{TakesFrame}
 use Rattle.h2_wire.proofs.ReadingLemmas.{some_frames as frames_some}
 use Rattle.h2_frame.proofs.HeadLemmas.{stream-head_of as head_low}
-use Rattle.h2_frame.specs.declared.code.Code.TheVariants as codes
-use Rattle.h2_laws_log.proofs.Names.{ap, subst, Code, Frame, Data, Headers, Reset, Settings, Ping}
-use Rattle.h2_laws_log.proofs.Names.{GoAway, WindowUpdate, Continuation, stream_of, Limits}
-use Rattle.h2_laws_log.proofs.Names.{AreFrames, Frames, Item, alone, block, Begun, next_fault, Role}
-use Rattle.h2_laws_log.proofs.Names.{stream_of_item, Values, View, FrameStep, fails_with}
-use Rattle.h2_laws_log.proofs.Names.{begins_block, completes, frame_step, Decoded, answer_of}
-use Rattle.h2_laws_log.proofs.Names.{opened, called, used, with_sent, read, Log, log_view, IsLog}
+use Rattle.h2_laws_log.proofs.Names
+use Names.{ap, subst, Code, Frame, Data, Headers, Reset, Settings, Ping, GoAway, WindowUpdate}
+use Names.{Continuation, stream_of, Limits, AreFrames, Frames, Item, alone, block, Begun}
+use Names.{next_fault, Role, stream_of_item, Values, View, FrameStep, fails_with, begins_block}
+use Names.{completes, frame_step, Decoded, answer_of, opened, called, used, with_sent, read, Log}
+use Names.{log_view, IsLog, ◌≡◌, ℕ, ◌+◌, ◌^◌, ◌<◌, ◌&&◌, not, Bool, true, false, if◌then◌else◌}
+use Names.{List, [], ◌∷◌, ◌++◌, length, Option, Some, None, ◌∙◌, inl, inr, arith, TakesFrame}
 use Rattle.h2_laws_log.proofs.LogInduction.{IsPendingInvariant, pending_by_logs, Comes}
+use Rattle.h2_frame.specs.declared.code.Code.TheVariants as codes
 
 -- What is known of a frame that was read: its stream has 31 bits, and so has the last stream of
 -- GOAWAY; and a PING has eight octets.
@@ -116,27 +114,26 @@ step_fit view frame fit before =
 begun_kept : (role : Role) (values : Values)
     → IsPendingInvariant role values (λ events log. IsFitBegun log.begun)
 unfolding opened with_sent used
-begun_kept role values =
-    record {
-      opening = λ in_range. tt;
-      used = λ log octets unparsed fit. fit;
-      framed = λ log frames fit. fit;
-      begun = λ log begun begins fit. subst IsFitStep begins.step (step_fit (log_view
-          (used begins.before begins.octets [])) begins.frame
-          (taken_fit _ _ _ begins.before.frames begins.frame [] begins.framed)
-          (subst IsFitBegun begins.same fit));
-      complete = λ log fit. tt;
-      replied = λ log decoded item verdict replies fit. sent_begun (read log decoded item) _ fit;
-      named = λ log is up some fit. fit;
-      reported = λ log event events may fit. fit;
-      unreturned = λ events log count fit. fit;
-      returned = λ events log returns fit. fit;
-      failed = λ log code last names fit. fit;
-      sent = λ log act accepted fit.
-          sent_begun (called log act (answer_of (log_view log) act)) _ fit;
-      called = λ log act answer is none fit. fit;
-      given = λ log more fit. fit;
-    }
+begun_kept role values = record {
+  opening = λ in_range. tt;
+  used = λ log octets unparsed fit. fit;
+  framed = λ log frames fit. fit;
+  begun = λ log begun begins fit. subst IsFitStep begins.step (step_fit (log_view
+      (used begins.before begins.octets [])) begins.frame
+      (taken_fit _ _ _ begins.before.frames begins.frame [] begins.framed)
+      (subst IsFitBegun begins.same fit));
+  complete = λ log fit. tt;
+  replied = λ log decoded item verdict replies fit. sent_begun (read log decoded item) _ fit;
+  named = λ log is up some fit. fit;
+  reported = λ log event events may fit. fit;
+  unreturned = λ events log count fit. fit;
+  returned = λ events log returns fit. fit;
+  failed = λ log code last names fit. fit;
+  sent = λ log act accepted fit.
+      sent_begun (called log act (answer_of (log_view log) act)) _ fit;
+  called = λ log act answer is none fit. fit;
+  given = λ log more fit. fit;
+}
   where
     sent_begun : (log : Log) (items : List Item) → IsFitBegun log.begun
         → IsFitBegun (with_sent log items).begun

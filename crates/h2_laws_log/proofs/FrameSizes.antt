@@ -1,15 +1,13 @@
 -- The SETTINGS_MAX_FRAME_SIZE that an end has received is 16,384 at least: a lower one is a fault,
 -- and isn't among what was received.
-use Rattle.std.proofs.Common.{◌≡◌, ℕ, ◌≤◌, ◌==◌, nat_lt, ◌&&◌, ◌||◌, Bool, true, false}
-use Rattle.std.proofs.Common.{if◌then◌else◌, List, [], ◌∷◌, Option, Some, None, refl, sym, arith}
-use Rattle.h2_frame.specs.declared.code.Code.TheVariants.{ProtocolError, FlowControlError}
-use Rattle.h2_spec_log.specs.ItemRules.{first_fault, over_limits}
-use Rattle.h2_laws_log.proofs.Names.{subst, or_parts, ltb-false, Code, EnhanceYourCalm, Settings}
-use Rattle.h2_laws_log.proofs.Names.{Item, alone, block, Role, Values, value_fault, value_after}
-use Rattle.h2_laws_log.proofs.Names.{value_read, Log, max_payload_sent, max_payload_sent_by}
-use Rattle.h2_laws_log.proofs.Names.{log_view, Verdict, ConnectionFault, Decoded, settings_fault}
-use Rattle.h2_laws_log.proofs.Names.{verdict_by_rules, verdict_of, verdict_of_fault, read}
-use Rattle.h2_laws_log.proofs.Names.{with_sent, opened, called, IsLog, answer_of}
+use Rattle.h2_spec_log.specs.ItemRules.{first_fault}
+use Rattle.h2_laws_log.proofs.Names
+use Names.{subst, or_parts, ltb-false, Code, EnhanceYourCalm, Settings, Item, alone, block, Role}
+use Names.{Values, value_fault, value_after, value_read, Log, max_payload_sent, max_payload_sent_by}
+use Names.{log_view, Verdict, ConnectionFault, Decoded, settings_fault, verdict_by_rules}
+use Names.{verdict_of, verdict_of_fault, read, with_sent, opened, called, IsLog, answer_of, ◌≡◌, ℕ}
+use Names.{◌≤◌, ◌==◌, nat_lt, ◌&&◌, ◌||◌, Bool, true, false, if◌then◌else◌, List, [], ◌∷◌, Option}
+use Names.{Some, None, refl, sym, arith, ProtocolError, FlowControlError, over_limits}
 use Rattle.h2_laws_log.proofs.LogInduction.{IsLogInvariant, kept_by_logs}
 use Rattle.h2_laws_log.proofs.LogGrowth.{Grows, grows_wrote}
 
@@ -82,26 +80,25 @@ grown_enough old new grows enough =
 enough_kept : (role : Role) (values : Values)
     → IsLogInvariant role values (λ log. IsEnough log.received)
 unfolding opened with_sent value_read verdict_of over_limits
-enough_kept role values =
-    record {
-      opening = λ in_range. omega arith;
-      used = λ log octets unparsed enough. enough;
-      framed = λ log frames enough. enough;
-      begun = λ log begun enough. enough;
-      replied = λ log decoded item verdict replies enough.
-          grown_enough (read log decoded item) _ (grows_wrote (read log decoded item) _)
-          (item_enough log decoded item verdict (within_limits _ _ verdict replies.is
-          replies.up) replies.up enough);
-      reported = λ log event events may enough. enough;
-      unreturned = λ log count enough. enough;
-      returned = λ log returns enough. enough;
-      failed = λ log code last names enough. enough;
-      sent = λ log act accepted enough.
-          let base = called log act (answer_of (log_view log) act) in
-          grown_enough base _ (grows_wrote base _) enough;
-      called = λ log act answer is none enough. enough;
-      given = λ log more enough. enough;
-    }
+enough_kept role values = record {
+  opening = λ in_range. omega arith;
+  used = λ log octets unparsed enough. enough;
+  framed = λ log frames enough. enough;
+  begun = λ log begun enough. enough;
+  replied = λ log decoded item verdict replies enough.
+      grown_enough (read log decoded item) _ (grows_wrote (read log decoded item) _)
+      (item_enough log decoded item verdict (within_limits _ _ verdict replies.is
+      replies.up) replies.up enough);
+  reported = λ log event events may enough. enough;
+  unreturned = λ log count enough. enough;
+  returned = λ log returns enough. enough;
+  failed = λ log code last names enough. enough;
+  sent = λ log act accepted enough.
+      let base = called log act (answer_of (log_view log) act) in
+      grown_enough base _ (grows_wrote base _) enough;
+  called = λ log act answer is none enough. enough;
+  given = λ log more enough. enough;
+}
 
 -- It is enough in every log that comes about.
 frame_size_enough : (role : Role) (values : Values) (log : Log) → IsLog role values log

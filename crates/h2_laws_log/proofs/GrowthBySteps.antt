@@ -1,17 +1,15 @@
 -- A relation of two logs holds between the log before a step and the log after it, where it holds
 -- of a log and itself, of each small change, and of one change after another.
-use Rattle.std.proofs.Common.{map as each, ◌≢◌, ℕ, ◌+◌, List, [], ◌∷◌, ◌++◌, Option, Some, None}
-use Rattle.std.proofs.Common.{refl}
-use Rattle.h2_laws_log.proofs.Names.{Code, InternalError, Frame, Item, Begun, encoding_of_items}
-use Rattle.h2_laws_log.proofs.Names.{Event, Act, Answer, Refuse, PutOut, Number, Count, Done}
-use Rattle.h2_laws_log.proofs.Names.{OutOfMemory, Refused, In, Out, Happened, Log, max_payload_sent}
-use Rattle.h2_laws_log.proofs.Names.{log_view, Verdict, ConnectionFault, StreamFault, NoEvent}
-use Rattle.h2_laws_log.proofs.Names.{Reported, Decoded, FrameStep, fails_with, begins_block}
-use Rattle.h2_laws_log.proofs.Names.{completes, frame_step, replies_to, events_of, items_of, read}
-use Rattle.h2_laws_log.proofs.Names.{used, limits_from, with_sent, with_reported, with_unreturned}
-use Rattle.h2_laws_log.proofs.Names.{with_credit_returned, with_failure, with_verdict, with_step}
-use Rattle.h2_laws_log.proofs.Names.{with_frame, took_none, called, with_items, refused_with}
-use Rattle.h2_laws_log.proofs.Names.{before_put_out, with_call}
+use Rattle.std.proofs.Common.{map as each}
+use Rattle.h2_laws_log.proofs.Names
+use Names.{Code, InternalError, Frame, Item, Begun, encoding_of_items, Event, Act, Answer, Refuse}
+use Names.{PutOut, Number, Count, Done, OutOfMemory, Refused, In, Out, Happened, Log}
+use Names.{max_payload_sent, log_view, Verdict, ConnectionFault, StreamFault, NoEvent, Reported}
+use Names.{Decoded, FrameStep, fails_with, begins_block, completes, frame_step, replies_to}
+use Names.{events_of, items_of, read, used, limits_from, with_sent, with_reported, with_unreturned}
+use Names.{with_credit_returned, with_failure, with_verdict, with_step, with_frame, took_none}
+use Names.{called, with_items, refused_with, before_put_out, with_call, ◌≢◌, ℕ, ◌+◌, List, [], ◌∷◌}
+use Names.{◌++◌, Option, Some, None, refl}
 use Rattle.h2_laws_log.proofs.CreditCases.{credit_cases, put_out_cases}
 
 -- R holds where more is sent, and credit becomes due and is returned.

@@ -1,20 +1,17 @@
 -- The invariant of a log holds after a call, other than those that send fields and bodies.
-use Rattle.std.proofs.Common.{◌≡◌, ◌≢◌, ℕ, zero, suc, zero-add, ◌==◌, ◌%◌, nat_lt, Bool, true}
-use Rattle.std.proofs.Common.{false, if◌then◌else◌, List, [], ◌∷◌, ◌++◌, Option, None, Some, refl}
-use Rattle.std.proofs.Common.{sym, ◌∙◌, arith}
 use Rattle.h2_spec_log.specs.Log.{newest_ping, ping_waits}
-use Rattle.h2_spec_log.specs.CallRules.{may_fail_for_memory, refuse_fault}
-use Rattle.h2_laws_log.proofs.Names.{is_some, both_ways, and_parts, ltb-true, ltb-false, not-true}
-use Rattle.h2_laws_log.proofs.Names.{Code, InternalError, EnhanceYourCalm, Reset, Settings, Ping}
-use Rattle.h2_laws_log.proofs.Names.{GoAway, Item, alone, Role, Refusal, total, increment_on}
-use Rattle.h2_laws_log.proofs.Names.{one_ping, one_answer, value_read, settings_count, one_ack}
-use Rattle.h2_laws_log.proofs.Names.{reported_total, one_pong, Values, AreInRange, Act, Answer}
-use Rattle.h2_laws_log.proofs.Names.{Release, ResetStream, Refuse, SendPing, SendGoAway, PutOut}
-use Rattle.h2_laws_log.proofs.Names.{ChangeSettings, Count, Done, OutOfMemory, Refused, Log, active}
-use Rattle.h2_laws_log.proofs.Names.{released, acked, last_processed, log_view, conditions}
-use Rattle.h2_laws_log.proofs.Names.{refusal_of, items_of, stream_of_act, changed_pairs, with_sent}
-use Rattle.h2_laws_log.proofs.Names.{with_reported, owed_at_close, called, with_items, refused_with}
-use Rattle.h2_laws_log.proofs.Names.{with_call, AllowedHistory, writes, active_by_items, none_since}
+use Rattle.h2_spec_log.specs.CallRules.{may_fail_for_memory}
+use Rattle.h2_laws_log.proofs.Names
+use Names.{is_some, both_ways, and_parts, ltb-true, ltb-false, not-true, Code, InternalError}
+use Names.{EnhanceYourCalm, Reset, Settings, Ping, GoAway, Item, alone, Role, Refusal, total}
+use Names.{increment_on, one_ping, one_answer, value_read, settings_count, one_ack, reported_total}
+use Names.{one_pong, Values, AreInRange, Act, Answer, Release, ResetStream, Refuse, SendPing}
+use Names.{SendGoAway, PutOut, ChangeSettings, Count, Done, OutOfMemory, Refused, Log, active}
+use Names.{released, acked, last_processed, log_view, conditions, refusal_of, items_of}
+use Names.{stream_of_act, changed_pairs, with_sent, with_reported, owed_at_close, called}
+use Names.{with_items, refused_with, with_call, AllowedHistory, writes, active_by_items, none_since}
+use Names.{◌≡◌, ◌≢◌, ℕ, zero, suc, zero-add, ◌==◌, ◌%◌, nat_lt, Bool, true, false, if◌then◌else◌}
+use Names.{List, [], ◌∷◌, ◌++◌, Option, None, Some, refl, sym, ◌∙◌, arith, refuse_fault}
 use Rattle.h2_laws_log.proofs.CallConditions.{first_none, none_holds, and_other}
 use Rattle.h2_laws_log.proofs.CreditCases.{put_out_cases}
 use Rattle.h2_laws_log.proofs.InvariantSteps.{give_represents, fails_represents, last_low}
@@ -48,23 +45,22 @@ pub writes_only : (v : History) (i : ℕ) (items : List Item) (calls : List (Act
     → released j calls ≡ released j v.calls)
     → Moves v i [] items [] calls 0
 unfolding total settings_count reported_total
-writes_only v i items calls with_sent acks answers gives same =
-    record {
-      with_sent = with_sent;
-      returned = omega (arith, acks);
-      answered = omega (arith, answers);
-      acked = omega arith;
-      ponged = omega arith;
-      named = λ j some. absurd (both_ways false refl some);
-      gave = λ j some. omega (arith, gives j, same j);
-      reported_read = λ j. omega arith;
-      reported_open = λ j some. absurd (some refl);
-      elsewhere = λ j other. refl;
-      kept = λ j. omega (arith, same j);
-      out = omega (arith, same i, gives 0);
-      out_active = λ some. absurd (some (gives 0));
-      fits = omega arith;
-    }
+writes_only v i items calls with_sent acks answers gives same = record {
+  with_sent = with_sent;
+  returned = omega (arith, acks);
+  answered = omega (arith, answers);
+  acked = omega arith;
+  ponged = omega arith;
+  named = λ j some. absurd (both_ways false refl some);
+  gave = λ j some. omega (arith, gives j, same j);
+  reported_read = λ j. omega arith;
+  reported_open = λ j some. absurd (some refl);
+  elsewhere = λ j other. refl;
+  kept = λ j. omega (arith, same j);
+  out = omega (arith, same i, gives 0);
+  out_active = λ some. absurd (some (gives 0));
+  fits = omega arith;
+}
 
 -- The same of one item.
 pub writes_one : (v : History) (i : ℕ) (item : Item) (calls : List (Act × Answer))

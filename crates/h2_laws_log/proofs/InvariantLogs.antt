@@ -1,19 +1,15 @@
 -- The invariant of every log that comes about.
-use Rattle.std.proofs.Common.{◌≡◌, ◌≢◌, ℕ, zero, suc, zero-add, ◌-◌, ◌≤◌, Bool, true, false}
-use Rattle.std.proofs.Common.{if◌then◌else◌, List, [], ◌∷◌, None, refl, sym, arith}
-use Rattle.h2_wire.specs.Faults.{wire_fault_code}
-use Rattle.h2_spec_log.specs.Histories.{begins, took_some, took_one, met_fault, ran_out_of_memory}
-use Rattle.h2_spec_log.specs.Histories.{reported_one, called_one}
-use Rattle.h2_laws_log.proofs.Names.{list_any, both_ways, InternalError, Role, total, increment_on}
-use Rattle.h2_laws_log.proofs.Names.{one_answer, is_goaway, settings_count, one_ack}
-use Rattle.h2_laws_log.proofs.Names.{UnprocessedEvent, flow_on, reported_total, one_acked, one_pong}
-use Rattle.h2_laws_log.proofs.Names.{Values, AreInRange, Act, Answer, IsTypedAct, Open, SendFields}
-use Rattle.h2_laws_log.proofs.Names.{SendData, Release, ResetStream, Refuse, SendPing, SendGoAway}
-use Rattle.h2_laws_log.proofs.Names.{PutOut, ChangeSettings, Log, released, last_processed}
-use Rattle.h2_laws_log.proofs.Names.{least_goaway, next_unprocessed, with_sent, with_reported}
-use Rattle.h2_laws_log.proofs.Names.{owed_at_close, took_none, used, opened, with_call, MayAnswer}
-use Rattle.h2_laws_log.proofs.Names.{accepts, refuses, lacks, fails, refusal_of, answer_of}
-use Rattle.h2_laws_log.proofs.Names.{log_view, IsLog, AllowedHistory, starts, sum_below}
+use Rattle.h2_laws_log.proofs.Names
+use Names.{list_any, both_ways, InternalError, Role, total, increment_on, one_answer, is_goaway}
+use Names.{settings_count, one_ack, UnprocessedEvent, flow_on, reported_total, one_acked, one_pong}
+use Names.{Values, AreInRange, Act, Answer, IsTypedAct, Open, SendFields, SendData, Release}
+use Names.{ResetStream, Refuse, SendPing, SendGoAway, PutOut, ChangeSettings, Log, released}
+use Names.{last_processed, least_goaway, next_unprocessed, with_sent, with_reported, owed_at_close}
+use Names.{took_none, used, opened, with_call, MayAnswer, accepts, refuses, lacks, fails}
+use Names.{refusal_of, answer_of, log_view, IsLog, AllowedHistory, starts, sum_below, ◌≡◌, ◌≢◌, ℕ}
+use Names.{zero, suc, zero-add, ◌-◌, ◌≤◌, Bool, true, false, if◌then◌else◌, List, [], ◌∷◌, None}
+use Names.{refl, sym, arith, wire_fault_code, begins, took_some, took_one, met_fault}
+use Names.{ran_out_of_memory, reported_one, called_one}
 use Rattle.h2_laws_log.proofs.FitItems.{completed_fit, stream_low}
 use Rattle.h2_laws_log.proofs.InvariantCalls.{refused_represents, reset_represents}
 use Rattle.h2_laws_log.proofs.InvariantCalls.{refuse_represents, failed_represents, ping_represents}
@@ -32,23 +28,22 @@ use Rattle.h2_laws_log.proofs.StreamNumbers.{next_left}
 unprocessed_moves : (v : History) (n : ℕ) → AllowedHistory v.role v.received v.sent
     → list_any is_goaway v.received ≡ true → Moves v n [] [] (UnprocessedEvent n ∷ []) v.calls 0
 unfolding total reported_total settings_count one_acked one_pong flow_on
-unprocessed_moves v n with_sent left =
-    record {
-      with_sent = with_sent;
-      returned = refl;
-      answered = refl;
-      acked = omega arith;
-      ponged = omega arith;
-      named = λ j some. left;
-      gave = λ j some. omega arith;
-      reported_read = λ j. omega arith;
-      reported_open = λ j some. absurd (some refl);
-      elsewhere = λ j other. refl;
-      kept = λ j. omega arith;
-      out = omega arith;
-      out_active = λ some. absurd (some refl);
-      fits = omega arith;
-    }
+unprocessed_moves v n with_sent left = record {
+  with_sent = with_sent;
+  returned = refl;
+  answered = refl;
+  acked = omega arith;
+  ponged = omega arith;
+  named = λ j some. left;
+  gave = λ j some. omega arith;
+  reported_read = λ j. omega arith;
+  reported_open = λ j some. absurd (some refl);
+  elsewhere = λ j other. refl;
+  kept = λ j. omega arith;
+  out = omega arith;
+  out_active = λ some. absurd (some refl);
+  fits = omega arith;
+}
 
 -- The invariant holds after a stream that was reported as unprocessed.
 unprocessed_represents : (role : Role) (log : Log) → Represents role (history_of log)
@@ -80,8 +75,7 @@ accepted_represents role log (Release id count) answer represents fit typed none
     (release_represents role log id count represents none)
 accepted_represents role log (ResetStream id code) answer represents fit typed none is = rw is
     (reset_represents role log id code represents none)
-accepted_represents role log
-    (Refuse id code) answer represents fit typed none is =
+accepted_represents role log (Refuse id code) answer represents fit typed none is =
     refuse_represents role log id code answer represents fit none is
 accepted_represents role log (SendPing octets) answer represents fit typed none is = rw is
     (ping_represents role log octets represents none)
@@ -127,27 +121,26 @@ begins_represents : (role : Role) (values : Values) → AreInRange values
     → Represents role (history_of (opened role values))
 unfolding opened with_sent total settings_count reported_total released one_ack one_answer
     increment_on
-begins_represents role values ok =
-    record {
-      own = refl;
-      with_sent = starts values ok;
-      good = λ up. record {
-        returned = refl;
-        answered = refl;
-        acked = omega arith;
-        ponged = omega arith;
-        named = λ i some. absurd (both_ways false refl some);
-        gave = λ i some. omega arith;
-        reported_read = λ i. omega arith;
-        opened = λ i none. refl;
-        whole = λ n. omega (
-          arith,
-          sum_less n (λ j. 0) (owes (history_of (opened role values)))
-              (λ j below. first_owes role values j),
-          none_owed n,
-        );
-      };
-    }
+begins_represents role values ok = record {
+  own = refl;
+  with_sent = starts values ok;
+  good = λ up. record {
+    returned = refl;
+    answered = refl;
+    acked = omega arith;
+    ponged = omega arith;
+    named = λ i some. absurd (both_ways false refl some);
+    gave = λ i some. omega arith;
+    reported_read = λ i. omega arith;
+    opened = λ i none. refl;
+    whole = λ n. omega (
+      arith,
+      sum_less n (λ j. 0) (owes (history_of (opened role values)))
+          (λ j below. first_owes role values j),
+      none_owed n,
+    );
+  };
+}
 
 -- octets that were used fail nothing
 used_up : (log : Log) (octets unparsed : List ℕ) → log.failed ≡ None
@@ -181,8 +174,7 @@ log_represents role values _ (ran_out_of_memory {log = log} is up octets may) =
     fails_represents role InternalError _ (used log octets []) (rw (used_view log octets [])
     (log_represents role values log is)) (used_up log octets [] up)
     (used_low log octets (numbers_fit role values log is up))
-log_represents role values _
-    (reported_one {log = log} is up some) = unprocessed_represents role log
+log_represents role values _ (reported_one {log = log} is up some) = unprocessed_represents role log
     (log_represents role values log is) up some
 log_represents role values _
     (called_one {log = log} is act answer typed may) = call_represents role log act answer

@@ -1,24 +1,19 @@
 -- The invariant of a log holds after what an end takes.
-use Rattle.std.proofs.Common.{◌≡◌, ◌⊎◌, ℕ, ◌≤◌, ◌==◌, Bool, true, false, if◌then◌else◌, List, []}
-use Rattle.std.proofs.Common.{◌∷◌, ◌++◌, Option, None, Some, refl, inl, inr, arith}
-use Rattle.h2_frame.specs.declared.code.Code.TheVariants.{ProtocolError, FlowControlError}
 use Rattle.h2_spec_log.specs.Events.{FieldsEvent, AckedEvent, PongEvent}
-use Rattle.h2_spec_log.specs.ItemRules.{peer_opens, over_limits}
 use Rattle.h2_spec_log.specs.ItemEffects.{decoded_fields, discarded_flow}
-use Rattle.h2_laws_log.proofs.Names.{both_ways, and_parts, not-true, Code, EnhanceYourCalm, Frame}
-use Rattle.h2_laws_log.proofs.Names.{Data, Reset, Settings, Ping, GoAway, WindowUpdate, stream_of}
-use Rattle.h2_laws_log.proofs.Names.{Item, alone, block, Role, stream_of_item, data_of, one_ping}
-use Rattle.h2_laws_log.proofs.Names.{one_answer, one_settings, one_ack, ResetEvent, flow_on}
-use Rattle.h2_laws_log.proofs.Names.{one_acked, one_pong, reports_unprocessed, State, Idle, Active}
-use Rattle.h2_laws_log.proofs.Names.{ClosedByUs, greatest_number, Log, active, state, settings_wait}
-use Rattle.h2_laws_log.proofs.Names.{goaway_written, last_processed, least_goaway, code_number}
-use Rattle.h2_laws_log.proofs.Names.{Verdict, ConnectionFault, StreamFault, NoEvent, Reported}
-use Rattle.h2_laws_log.proofs.Names.{data_verdict, reset_verdict, connection_update_verdict}
-use Rattle.h2_laws_log.proofs.Names.{update_verdict, block_verdict, opening_verdict, Decoded}
-use Rattle.h2_laws_log.proofs.Names.{replies_to, opened_by, settings_fault, verdict_of_fault}
-use Rattle.h2_laws_log.proofs.Names.{verdict_by_rules, verdict_of, FrameStep, fails_with}
-use Rattle.h2_laws_log.proofs.Names.{begins_block, completes, frame_step, events_of, log_view, read}
-use Rattle.h2_laws_log.proofs.Names.{with_verdict, with_step, with_frame, AllowedHistory, MayReset}
+use Rattle.h2_laws_log.proofs.Names
+use Names.{both_ways, and_parts, not-true, Code, EnhanceYourCalm, Frame, Data, Reset, Settings}
+use Names.{Ping, GoAway, WindowUpdate, stream_of, Item, alone, block, Role, stream_of_item, data_of}
+use Names.{one_ping, one_answer, one_settings, one_ack, ResetEvent, flow_on, one_acked, one_pong}
+use Names.{reports_unprocessed, State, Idle, Active, ClosedByUs, greatest_number, Log, active}
+use Names.{state, settings_wait, goaway_written, last_processed, least_goaway, code_number, Verdict}
+use Names.{ConnectionFault, StreamFault, NoEvent, Reported, data_verdict, reset_verdict}
+use Names.{connection_update_verdict, update_verdict, block_verdict, opening_verdict, Decoded}
+use Names.{replies_to, opened_by, settings_fault, verdict_of_fault, verdict_by_rules, verdict_of}
+use Names.{FrameStep, fails_with, begins_block, completes, frame_step, events_of, log_view, read}
+use Names.{with_verdict, with_step, with_frame, AllowedHistory, MayReset, ◌≡◌, ◌⊎◌, ℕ, ◌≤◌, ◌==◌}
+use Names.{Bool, true, false, if◌then◌else◌, List, [], ◌∷◌, ◌++◌, Option, None, Some, refl, inl}
+use Names.{inr, arith, ProtocolError, FlowControlError, peer_opens, over_limits}
 use Rattle.h2_laws_log.proofs.ReaderStates.{state_is_active}
 use Rattle.h2_laws_log.proofs.LogHistory.{history_of}
 use Rattle.h2_laws_log.proofs.LogInvariant.{Good, Represents, NumbersFit, Moves}

@@ -1,18 +1,15 @@
 -- The invariant of a log holds after a call that sends fields or a body.
-use Rattle.std.proofs.Common.{◌≡◌, ℕ, ◌+◌, ◌≤◌, ◌<◌, nat_lt, Bool, true, false, if◌then◌else◌, List}
-use Rattle.std.proofs.Common.{[], ◌∷◌, length, None, refl, sym, ◌∙◌, inl, inr, arith}
-use Rattle.hpack.specs.declared.types.field.Field.{Field}
-use Rattle.h2_laws_log.proofs.Names.{list_any, is_some, both_ways, or_parts, ltb-false, leb-false}
-use Rattle.h2_laws_log.proofs.Names.{false_from_ne_true, list_size, block_of, Data, Item, alone}
-use Rattle.h2_laws_log.proofs.Names.{block, Role, Client, Server, increment_on, one_answer, ends}
-use Rattle.h2_laws_log.proofs.Names.{is_goaway, greatest_block, one_ack, is_server, Act, Answer}
-use Rattle.h2_laws_log.proofs.Names.{Open, SendFields, SendData, Number, Count, Done, openings}
-use Rattle.h2_laws_log.proofs.Names.{count_below, greatest_number, Log, active, active_count}
-use Rattle.h2_laws_log.proofs.Names.{released, next_number, allowed_by, streams_allowed}
-use Rattle.h2_laws_log.proofs.Names.{goaway_written, goaway_read, least_goaway, max_payload_sent}
-use Rattle.h2_laws_log.proofs.Names.{log_view, conditions, refusal_of, items_of, stream_of_act}
-use Rattle.h2_laws_log.proofs.Names.{data_items, with_sent, max_list, with_call, AllowedHistory}
-use Rattle.h2_laws_log.proofs.Names.{writes, MayContinue, active_by_items, none_since}
+use Rattle.h2_laws_log.proofs.Names
+use Names.{list_any, is_some, both_ways, or_parts, ltb-false, leb-false, false_from_ne_true}
+use Names.{list_size, block_of, Data, Item, alone, block, Role, Client, Server, increment_on}
+use Names.{one_answer, ends, is_goaway, greatest_block, one_ack, is_server, Act, Answer, Open}
+use Names.{SendFields, SendData, Number, Count, Done, openings, count_below, greatest_number, Log}
+use Names.{active, active_count, released, next_number, allowed_by, streams_allowed, goaway_written}
+use Names.{goaway_read, least_goaway, max_payload_sent, log_view, conditions, refusal_of, items_of}
+use Names.{stream_of_act, data_items, with_sent, max_list, with_call, AllowedHistory, writes}
+use Names.{MayContinue, active_by_items, none_since, ◌≡◌, ℕ, ◌+◌, ◌≤◌, ◌<◌, nat_lt, Bool, true}
+use Names.{false, if◌then◌else◌, List, [], ◌∷◌, length, None, refl, sym, ◌∙◌, inl, inr, arith}
+use Names.{Field}
 use Rattle.h2_laws_log.proofs.BlockSizes.{block_is_gathered}
 use Rattle.h2_laws_log.proofs.CallConditions.{none_holds, and_other}
 use Rattle.h2_laws_log.proofs.DataOfCalls.{count_of, data_ack, none_of_items, data_items_written}

@@ -1,13 +1,11 @@
 -- The invariant of a log holds after each way of going on.
-use Rattle.std.proofs.Common.{◌≡◌, ◌≢◌, ℕ, ◌+◌, ◌-◌, ◌≤◌, ◌&&◌, nat_lt, Bool, true, false, List, []}
-use Rattle.std.proofs.Common.{◌∷◌, None, refl, sym, ◌∙◌, inl, arith}
-use Rattle.h2_laws_log.proofs.Names.{ap, list_any, and_parts, ltb-true, ne_eqb, Code, GoAway}
-use Rattle.h2_laws_log.proofs.Names.{WindowUpdate, Item, alone, Role, Client, Server, total}
-use Rattle.h2_laws_log.proofs.Names.{increment_on, one_answer, is_block_on, one_ack, Event, flow_on}
-use Rattle.h2_laws_log.proofs.Names.{reported_total, Act, Answer, openings, Log, last_processed}
-use Rattle.h2_laws_log.proofs.Names.{least_goaway, released, waiting, code_number, with_sent}
-use Rattle.h2_laws_log.proofs.Names.{with_reported, with_unreturned, with_failure, owed_at_close}
-use Rattle.h2_laws_log.proofs.Names.{full_output, writes, sum_below}
+use Rattle.h2_laws_log.proofs.Names
+use Names.{ap, list_any, and_parts, ltb-true, ne_eqb, Code, GoAway, WindowUpdate, Item, alone, Role}
+use Names.{Client, Server, total, increment_on, one_answer, is_block_on, one_ack, Event, flow_on}
+use Names.{reported_total, Act, Answer, openings, Log, last_processed, least_goaway, released}
+use Names.{waiting, code_number, with_sent, with_reported, with_unreturned, with_failure}
+use Names.{owed_at_close, full_output, writes, sum_below, ◌≡◌, ◌≢◌, ℕ, ◌+◌, ◌-◌, ◌≤◌, ◌&&◌, nat_lt}
+use Names.{Bool, true, false, List, [], ◌∷◌, None, refl, sym, ◌∙◌, inl, arith}
 use Rattle.h2_laws_log.proofs.ReaderStates.{active_parts}
 use Rattle.h2_laws_log.proofs.LogHistory.{History, history_of, left, active_in_view, owes, owing}
 use Rattle.h2_laws_log.proofs.LogHistory.{moved, give, given_by, wrote_view, reports_view}
@@ -56,21 +54,20 @@ owes_given v j =
 -- What is good stays so where what is due is returned.
 give_good : (v : History) → Good v → Good (give v)
 unfolding total one_ack one_answer
-give_good v good =
-    record {
-      returned = omega (arith, good.returned);
-      answered = omega (arith, good.answered);
-      acked = good.acked;
-      ponged = good.ponged;
-      named = good.named;
-      gave = λ i some. omega (arith, update_elsewhere i v.unreturned some, good.gave i some);
-      reported_read = good.reported_read;
-      opened = λ i none. good.opened i (opened_given v.role i v.unreturned v.received v.sent none);
-      whole = λ n.
-          let less : sum_below n (owes (give v)) ≤ sum_below n (owes v) = sum_less n (owes v)
-          (owes (give v)) (λ j below. owes_given v j) in
-          omega (arith, less, good.whole n, update_here v.unreturned);
-    }
+give_good v good = record {
+  returned = omega (arith, good.returned);
+  answered = omega (arith, good.answered);
+  acked = good.acked;
+  ponged = good.ponged;
+  named = good.named;
+  gave = λ i some. omega (arith, update_elsewhere i v.unreturned some, good.gave i some);
+  reported_read = good.reported_read;
+  opened = λ i none. good.opened i (opened_given v.role i v.unreturned v.received v.sent none);
+  whole = λ n.
+      let less : sum_below n (owes (give v)) ≤ sum_below n (owes v) = sum_less n (owes v)
+      (owes (give v)) (λ j below. owes_given v j) in
+      omega (arith, less, good.whole n, update_here v.unreturned);
+}
 
 -- What is due may be returned, where it isn't nothing.
 pub give_represents : (role : Role) (v : History) → Represents role v → v.failed ≡ None
@@ -121,33 +118,31 @@ owes_recalled v calls j same = rw same (omega arith)
 recalled_good : (v : History) (calls : List (Act × Answer)) → ((j : ℕ) → released j calls
     ≡ released j v.calls) → Good v
     → Good (record v { calls = calls })
-recalled_good v calls same good =
-    record {
-      returned = good.returned;
-      answered = good.answered;
-      acked = good.acked;
-      ponged = good.ponged;
-      named = good.named;
-      gave = λ i some. rw (same i) (good.gave i some);
-      reported_read = good.reported_read;
-      opened = good.opened;
-      whole = λ n.
-          let less : sum_below n (owes (record v { calls = calls })) ≤ sum_below n
-          (owes v) = sum_less n (owes v) (owes (record v { calls = calls }))
-          (λ j below. owes_recalled v calls j (same j)) in
-          omega (arith, less, good.whole n);
-    }
+recalled_good v calls same good = record {
+  returned = good.returned;
+  answered = good.answered;
+  acked = good.acked;
+  ponged = good.ponged;
+  named = good.named;
+  gave = λ i some. rw (same i) (good.gave i some);
+  reported_read = good.reported_read;
+  opened = good.opened;
+  whole = λ n.
+      let less : sum_below n (owes (record v { calls = calls })) ≤ sum_below n
+      (owes v) = sum_less n (owes v) (owes (record v { calls = calls }))
+      (λ j below. owes_recalled v calls j (same j)) in
+      omega (arith, less, good.whole n);
+}
 
 -- A call that releases nothing changes nothing.
 pub recalled_represents : (role : Role) (v : History) (calls : List (Act × Answer)) → ((j : ℕ)
     → released j calls ≡ released j v.calls) → Represents role v
     → Represents role (record v { calls = calls })
-recalled_represents role v calls same represents =
-    record {
-      own = represents.own;
-      with_sent = represents.with_sent;
-      good = λ up. recalled_good v calls same (represents.good up);
-    }
+recalled_represents role v calls same represents = record {
+  own = represents.own;
+  with_sent = represents.with_sent;
+  good = λ up. recalled_good v calls same (represents.good up);
+}
 
 -- What is due may be returned after a step, before its events.
 reported_given : (role : Role) (v : History) (reads items : List Item) (events : List Event)

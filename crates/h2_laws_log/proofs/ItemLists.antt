@@ -1,10 +1,9 @@
 -- Lists of items, newest first: what more items at the front change.
-use Rattle.std.proofs.Common.{◌≡◌, ℕ, zero, suc, ◌+◌, ◌≤◌, Bool, true, false, if◌then◌else◌, List}
-use Rattle.std.proofs.Common.{[], ◌∷◌, ◌++◌, refl, arith}
 use Rattle.h2_laws_log.proofs.Names.{list_any, or_right, false_from_ne_true, both_ways, Item, alone}
 use Rattle.h2_laws_log.proofs.Names.{total, is_goaway, is_goaway_below, is_block_on, settings_count}
 use Rattle.h2_laws_log.proofs.Names.{count_below, Verdict, NoEvent, replies_to, GoAway, Settings}
-use Rattle.h2_laws_log.proofs.Names.{Ping}
+use Rattle.h2_laws_log.proofs.Names.{Ping, ◌≡◌, ℕ, zero, suc, ◌+◌, ◌≤◌, Bool, true, false}
+use Rattle.h2_laws_log.proofs.Names.{if◌then◌else◌, List, [], ◌∷◌, ◌++◌, refl, arith}
 
 -- What some item of a list passes, some item of a longer list passes.
 pub any_after : {X : Type 0} (p : X → Bool) → (more xs : List X) → list_any p xs ≡ true

@@ -17,15 +17,14 @@ pub record Grows (old new : Log) : Type 0 where
 -- A log that changes none of these grows by nothing.
 grows_none : (old new : Log) → new.role ≡ old.role → new.received ≡ old.received
     → new.reported ≡ old.reported → new.sent ≡ old.sent → new.failed ≡ old.failed → Grows old new
-grows_none old new role received reported sent failed =
-    record {
-      role = role;
-      received = received;
-      reported = reported;
-      items = [];
-      sent = sent;
-      up = λ up. sym failed ∙ up;
-    }
+grows_none old new role received reported sent failed = record {
+  role = role;
+  received = received;
+  reported = reported;
+  items = [];
+  sent = sent;
+  up = λ up. sym failed ∙ up;
+}
 
 -- one step after another
 pub grows_twice : (one two three : Log) → Grows one two → Grows two three → Grows one three
@@ -43,15 +42,14 @@ grows_twice one two three a b = record {
 pub grows_wrote : (log : Log) (items : List Item) → Grows log (with_sent log items)
 unfolding with_sent
 grows_wrote log [] = grows_none log log refl refl refl refl refl
-grows_wrote log
-    (item ∷ items) = record {
-      role = refl;
-      received = refl;
-      reported = refl;
-      items = item ∷ items;
-      sent = refl;
-      up = λ h. h;
-    }
+grows_wrote log (item ∷ items) = record {
+  role = refl;
+  received = refl;
+  reported = refl;
+  items = item ∷ items;
+  sent = refl;
+  up = λ h. h;
+}
 
 -- A connection that fails isn't up.
 pub fails_down : (code : Code) (last : ℕ) (log : Log) → (with_failure code last log).failed
@@ -61,26 +59,25 @@ fails_down code last log is = let wrong : Some code ≡ None = is in cc
 -- Each change of a log by a call makes it grow.
 grows_by_calls : HoldsOfCalls Grows
 unfolding with_sent
-grows_by_calls =
-    record {
-      failures = record {
-        writes = record {
-          none = λ log. grows_none log log refl refl refl refl refl;
-          twice = grows_twice;
-          sent = λ log item items. grows_wrote log (item ∷ items);
-          unreturned = λ log count. grows_none log _ refl refl refl refl refl;
-        };
-        failed = λ log code. record {
-          role = refl;
-          received = refl;
-          reported = refl;
-          items = [];
-          sent = refl;
-          up = λ up. absurd (fails_down code 0 log up);
-        };
-      };
-      given = λ log more. grows_none log _ refl refl refl refl refl;
-    }
+grows_by_calls = record {
+  failures = record {
+    writes = record {
+      none = λ log. grows_none log log refl refl refl refl refl;
+      twice = grows_twice;
+      sent = λ log item items. grows_wrote log (item ∷ items);
+      unreturned = λ log count. grows_none log _ refl refl refl refl refl;
+    };
+    failed = λ log code. record {
+      role = refl;
+      received = refl;
+      reported = refl;
+      items = [];
+      sent = refl;
+      up = λ up. absurd (fails_down code 0 log up);
+    };
+  };
+  given = λ log more. grows_none log _ refl refl refl refl refl;
+}
 
 -- What is due is settled.
 pub grows_with_unreturned : (more : ℕ) (log : Log) → Grows log (with_unreturned more log)

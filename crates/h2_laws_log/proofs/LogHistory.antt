@@ -1,14 +1,13 @@
 -- What of a log matters to what it may write, and what more at the front of its lists changes.
-use Rattle.std.proofs.Common.{◌≡◌, ◌⊎◌, ◌≢◌, ℕ, zero, suc, zero-add, suc-add, ◌+◌, ◌-◌, ◌≤◌, ◌<◌}
-use Rattle.std.proofs.Common.{◌&&◌, not, nat_lt, Bool, true, if◌then◌else◌, List, [], ◌∷◌, ◌++◌}
-use Rattle.std.proofs.Common.{Option, Some, refl, inl, inr, arith, false}
-use Rattle.h2_laws_log.proofs.Names.{list_any, or_cases, or_left, or_right, cases_eq, or_from}
-use Rattle.h2_laws_log.proofs.Names.{or_parts, Code, GoAway, WindowUpdate, Item, alone, Role}
-use Rattle.h2_laws_log.proofs.Names.{settings_count, Event, flow_on, reported_total}
-use Rattle.h2_laws_log.proofs.Names.{greatest_processed, Act, Answer, is_active, Log, released}
-use Rattle.h2_laws_log.proofs.Names.{unreleased, waiting, code_number, with_sent, with_reported}
-use Rattle.h2_laws_log.proofs.Names.{with_unreturned, with_failure, owed_at_close, used}
-use Rattle.h2_laws_log.proofs.Names.{full_output, returns_credit, sum_below}
+use Rattle.std.proofs.Common.{suc-add}
+use Rattle.h2_laws_log.proofs.Names
+use Names.{list_any, or_cases, or_left, or_right, cases_eq, or_from, or_parts, Code, GoAway}
+use Names.{WindowUpdate, Item, alone, Role, settings_count, Event, flow_on, reported_total}
+use Names.{greatest_processed, Act, Answer, is_active, Log, released, unreleased, waiting}
+use Names.{code_number, with_sent, with_reported, with_unreturned, with_failure, owed_at_close}
+use Names.{used, full_output, returns_credit, sum_below, ◌≡◌, ◌⊎◌, ◌≢◌, ℕ, zero, suc, zero-add, ◌+◌}
+use Names.{◌-◌, ◌≤◌, ◌<◌, ◌&&◌, not, nat_lt, Bool, true, if◌then◌else◌, List, [], ◌∷◌, ◌++◌, Option}
+use Names.{Some, refl, inl, inr, arith, false}
 use Rattle.h2_laws_log.proofs.CreditCases.{both_by}
 
 -- what of a log matters to what it may write
@@ -23,16 +22,15 @@ pub record History : Type 0 where
 
 -- the view of a log
 abbrev pub history_of : Log → History
-history_of log =
-    record {
-      role = log.role;
-      received = log.received;
-      sent = log.sent;
-      reported = log.reported;
-      calls = log.calls;
-      unreturned = log.unreturned;
-      failed = log.failed;
-    }
+history_of log = record {
+  role = log.role;
+  received = log.received;
+  sent = log.sent;
+  reported = log.reported;
+  calls = log.calls;
+  unreturned = log.unreturned;
+  failed = log.failed;
+}
 
 -- the flow of a stream that was reported and wasn't released
 unfoldable pub left : History → ℕ → ℕ
@@ -54,16 +52,15 @@ owing before after i = if active_in_view before i && not
 -- the view with more that was read, written and reported, and with other calls and dues
 abbrev pub moved : History → (reads items : List Item) → List Event → List (Act × Answer) → ℕ
     → History
-moved v reads items events calls unreturned =
-    record {
-      role = v.role;
-      received = reads ++ v.received;
-      sent = items ++ v.sent;
-      reported = events ++ v.reported;
-      calls = calls;
-      unreturned = unreturned;
-      failed = v.failed;
-    }
+moved v reads items events calls unreturned = record {
+  role = v.role;
+  received = reads ++ v.received;
+  sent = items ++ v.sent;
+  reported = events ++ v.reported;
+  calls = calls;
+  unreturned = unreturned;
+  failed = v.failed;
+}
 
 -- all that is due is returned
 abbrev pub give : History → History

@@ -1,13 +1,8 @@
 -- What a new end's log has, and each small change of a log keeps, every log has that comes about:
 -- of a log alone, or of a log with the events that are still to be reported of it. Of each change
 -- its record says where what is read, sent and reported comes from.
-use Rattle.std.proofs.Common.{map as each, ◌≡◌, ◌≢◌, ◌<◌, ◌≤◌, ℕ, ◌+◌, nat_lt, not, max, true, List}
-use Rattle.std.proofs.Common.{[], ◌∷◌, ◌++◌, Option, Some, None, is_some, refl, arith}
-use Rattle.h2_wire.specs.Faults.{wire_fault_code}
-use Rattle.h2_spec_log.specs.CallRules.{refuse_fault}
-use Rattle.h2_spec_log.specs.Histories.{begins, took_some, took_one, met_fault, ran_out_of_memory}
-use Rattle.h2_spec_log.specs.Histories.{reported_one, called_one, TakesOctets, TakesFrame}
-use Rattle.h2_spec_log.specs.Histories.{IsDecodedFor}
+use Rattle.std.proofs.Common.{map as each, is_some}
+use Rattle.h2_spec_log.specs.Histories.{TakesOctets, IsDecodedFor}
 use Rattle.h2_laws_log.proofs.Names.{and_parts, ltb-true, Code, InternalError, Frame, Item, Begun}
 use Rattle.h2_laws_log.proofs.Names.{Role, Refusal, Event, UnprocessedEvent, Values, AreInRange}
 use Rattle.h2_laws_log.proofs.Names.{Act, Answer, IsTypedAct, Refuse, PutOut, Count, Done}
@@ -21,6 +16,10 @@ use Rattle.h2_laws_log.proofs.Names.{limits_from, with_sent, with_reported, with
 use Rattle.h2_laws_log.proofs.Names.{with_credit_returned, with_failure, with_verdict, with_step}
 use Rattle.h2_laws_log.proofs.Names.{with_frame, opened, called, with_items, refused_with}
 use Rattle.h2_laws_log.proofs.Names.{with_call, MayAnswer, accepts, refuses, lacks, fails, IsLog}
+use Rattle.h2_laws_log.proofs.Names.{◌≡◌, ◌≢◌, ◌<◌, ◌≤◌, ℕ, ◌+◌, nat_lt, not, max, true, List, []}
+use Rattle.h2_laws_log.proofs.Names.{◌∷◌, ◌++◌, Option, Some, None, refl, arith, wire_fault_code}
+use Rattle.h2_laws_log.proofs.Names.{refuse_fault, begins, took_some, took_one, met_fault}
+use Rattle.h2_laws_log.proofs.Names.{ran_out_of_memory, reported_one, called_one, TakesFrame}
 use Rattle.h2_laws_log.proofs.CreditCases.{credit_cases, put_out_cases}
 use Rattle.h2_laws_log.proofs.LogGrowth.{Grows, grows_twice, grows_wrote, grows_with_unreturned}
 

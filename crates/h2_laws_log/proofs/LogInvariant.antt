@@ -1,15 +1,13 @@
 -- The invariant of every log: what was written was allowed, and, as long as the connection hasn't
 -- failed, what keeps the next writing allowed.
-use Rattle.std.proofs.Common.{◌≡◌, ◌⊎◌, ◌≢◌, ℕ, zero, suc, ◌+◌, ◌-◌, ◌≤◌, ◌&&◌, not, Bool, true}
-use Rattle.std.proofs.Common.{false, if◌then◌else◌, List, ◌++◌, None, refl, inl, inr, arith}
-use Rattle.h2_laws_log.proofs.Names.{list_any, both_ways, cases_eq, cases_Bool, Item, Role, Client}
-use Rattle.h2_laws_log.proofs.Names.{Server, total, increment_on, data_on, data_of, one_ping}
-use Rattle.h2_laws_log.proofs.Names.{one_answer, is_goaway, is_block_on, ends, resets}
-use Rattle.h2_laws_log.proofs.Names.{is_goaway_below, is_server, settings_count, one_ack, Event}
-use Rattle.h2_laws_log.proofs.Names.{flow_on, reported_total, one_acked, one_pong}
-use Rattle.h2_laws_log.proofs.Names.{greatest_processed, reports_unprocessed, Act, Answer}
-use Rattle.h2_laws_log.proofs.Names.{is_active, is_used, openings, is_above, least_goaway, released}
-use Rattle.h2_laws_log.proofs.Names.{HasAcknowledged, AllowedHistory, sum_below}
+use Rattle.h2_laws_log.proofs.Names
+use Names.{list_any, both_ways, cases_eq, cases_Bool, Item, Role, Client, Server, total}
+use Names.{increment_on, data_on, data_of, one_ping, one_answer, is_goaway, is_block_on, ends}
+use Names.{resets, is_goaway_below, is_server, settings_count, one_ack, Event, flow_on}
+use Names.{reported_total, one_acked, one_pong, greatest_processed, reports_unprocessed, Act}
+use Names.{Answer, is_active, is_used, openings, is_above, least_goaway, released, HasAcknowledged}
+use Names.{AllowedHistory, sum_below, ◌≡◌, ◌⊎◌, ◌≢◌, ℕ, zero, suc, ◌+◌, ◌-◌, ◌≤◌, ◌&&◌, not, Bool}
+use Names.{true, false, if◌then◌else◌, List, ◌++◌, None, refl, inl, inr, arith}
 use Rattle.h2_laws_log.proofs.ItemLists.{none_after, any_after}
 use Rattle.h2_laws_log.proofs.WindowsOfTwoEnds.{total-append}
 use Rattle.h2_laws_log.proofs.ReaderStates.{active_parts, active_by_parts, lasts_parts}
@@ -227,30 +225,29 @@ step_good : (v : History) (i : ℕ) (reads items : List Item) (events : List Eve
     → Moves v i reads items events calls discarded → unreturned
     ≡ v.unreturned + (discarded + owing v (moved v reads items events calls unreturned) i)
     → Good (moved v reads items events calls unreturned)
-step_good v i reads items events calls discarded unreturned good moves is =
-    record {
-      returned = omega (arith, total-append, settings_append);
-      answered = omega (arith, total-append);
-      acked = omega (arith, reported_append, total-append);
-      ponged = omega (arith, reported_append, total-append);
-      named = λ j with_reported. elim (any_either
-          (reports_unprocessed j) events v.reported with_reported) [
-            | inl now ↦ moves.named j now
-            | inr before ↦ any_after is_goaway reads v.received (good.named j before)
-          ];
-      gave = λ j some. omega (arith, total-append, moves.gave j some, good.gave j some);
-      reported_read = λ j.
-          omega (arith, reported_append, total-append, moves.reported_read j, good.reported_read j);
-      opened = λ j none.
-          let before = openings_before (is_block_on j) v.role reads items v.received v.sent none in
-          omega (
-            arith,
-            reported_append (flow_on j) events v.reported,
-            good.opened j before,
-            none_reported _ _ (moves.reported_open j) before,
-          );
-      whole = whole_after v i reads items events calls discarded unreturned good moves is;
-    }
+step_good v i reads items events calls discarded unreturned good moves is = record {
+  returned = omega (arith, total-append, settings_append);
+  answered = omega (arith, total-append);
+  acked = omega (arith, reported_append, total-append);
+  ponged = omega (arith, reported_append, total-append);
+  named = λ j with_reported. elim (any_either
+      (reports_unprocessed j) events v.reported with_reported) [
+        | inl now ↦ moves.named j now
+        | inr before ↦ any_after is_goaway reads v.received (good.named j before)
+      ];
+  gave = λ j some. omega (arith, total-append, moves.gave j some, good.gave j some);
+  reported_read = λ j.
+      omega (arith, reported_append, total-append, moves.reported_read j, good.reported_read j);
+  opened = λ j none.
+      let before = openings_before (is_block_on j) v.role reads items v.received v.sent none in
+      omega (
+        arith,
+        reported_append (flow_on j) events v.reported,
+        good.opened j before,
+        none_reported _ _ (moves.reported_open j) before,
+      );
+  whole = whole_after v i reads items events calls discarded unreturned good moves is;
+}
 
 -- The invariant holds after a step keeps what.
 pub step_represents : (role : Role) (v : History) (i : ℕ) (reads items : List Item)

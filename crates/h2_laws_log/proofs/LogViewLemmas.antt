@@ -1,26 +1,22 @@
 -- The rules over the view of a log, by what was read and written in all. Where a stream isn't
 -- active the rules ask nothing of it.
-use Rattle.std.proofs.Common.{◌≡◌, ℕ, ◌+◌, ◌-◌, min, not, Bool, true, false, if◌then◌else◌, ◌&&◌}
-use Rattle.std.proofs.Common.{◌==◌, nat_lt, ℤ, pos, negsuc, ◌+ℤ◌, ◌-ℤ◌, List, Option, Some, length}
-use Rattle.std.proofs.Common.{refl, ap₂, ◌∙◌, arith, ◌≤◌}
+use Rattle.std.proofs.Common.{ℤ, negsuc, ap₂}
 use Rattle.std.specs.Prelude.{int_lt}
-use Rattle.h2_spec_log.specs.Windows.{greatest_window, given_on, given_on_connection, granted_on}
-use Rattle.h2_spec_log.specs.Windows.{granted_on_connection, connection_send_window, passes}
-use Rattle.h2_spec_log.specs.Windows.{is_above_greatest}
 use Rattle.h2_spec_log.specs.View.{ended_out}
-use Rattle.h2_spec_log.specs.ItemRules.{exceeds_stream, overflows_stream, peer_opens}
-use Rattle.h2_spec_log.specs.ItemRules.{is_at_capacity}
-use Rattle.h2_spec_log.specs.CallRules.{is_no_stream, at_least_none}
-use Rattle.h2_laws_log.proofs.Names.{subst, ap, is_some, list_any, ints, both_ways, nat_tests}
-use Rattle.h2_laws_log.proofs.Names.{list_size, Data, WindowUpdate, Reset, payload_of, alone, block}
-use Rattle.h2_laws_log.proofs.Names.{Item, data_on, data_of, ends, total, State, Idle, Active}
-use Rattle.h2_laws_log.proofs.Names.{ClosedByUs, Closed, when, state_by, greatest_number, is_above}
-use Rattle.h2_laws_log.proofs.Names.{max_list, max_data, StreamView, ended_in, owed_on, Log, acked}
-use Rattle.h2_laws_log.proofs.Names.{state, active, send_window, unreleased, goaway_written}
-use Rattle.h2_laws_log.proofs.Names.{stream_of_log, log_view, data_verdict, update_verdict}
-use Rattle.h2_laws_log.proofs.Names.{connection_update_verdict, block_verdict, Verdict, Reported}
-use Rattle.h2_laws_log.proofs.Names.{Decoded, verdict_by_rules, data_count, least_last, events_of}
-use Rattle.h2_laws_log.proofs.Names.{Role, Client, Server, is_server, reports_unprocessed}
+use Rattle.h2_spec_log.specs.ItemRules.{exceeds_stream, overflows_stream}
+use Rattle.h2_spec_log.specs.CallRules.{is_no_stream}
+use Rattle.h2_laws_log.proofs.Names
+use Names.{subst, ap, is_some, list_any, ints, both_ways, nat_tests, list_size, Data, WindowUpdate}
+use Names.{Reset, payload_of, alone, block, Item, data_on, data_of, ends, total, State, Idle}
+use Names.{Active, ClosedByUs, Closed, when, state_by, greatest_number, is_above, max_list}
+use Names.{max_data, StreamView, ended_in, owed_on, Log, acked, state, active, send_window}
+use Names.{unreleased, goaway_written, stream_of_log, log_view, data_verdict, update_verdict}
+use Names.{connection_update_verdict, block_verdict, Verdict, Reported, Decoded, verdict_by_rules}
+use Names.{data_count, least_last, events_of, Role, Client, Server, is_server, reports_unprocessed}
+use Names.{◌≡◌, ℕ, ◌+◌, ◌-◌, min, not, Bool, true, false, if◌then◌else◌, ◌&&◌, ◌==◌, nat_lt, pos}
+use Names.{◌+ℤ◌, ◌-ℤ◌, List, Option, Some, length, refl, ◌∙◌, arith, ◌≤◌, greatest_window, given_on}
+use Names.{given_on_connection, granted_on, granted_on_connection, connection_send_window, passes}
+use Names.{is_above_greatest, peer_opens, is_at_capacity, at_least_none}
 use Rattle.h2_laws_log.proofs.ReaderStates.{state_is_active}
 
 -- Whether there is one is the test.

@@ -1,11 +1,10 @@
 -- Replies are no GOAWAY, nor are the items of any call but the one that sends it.
-use Rattle.std.proofs.Common.{◌≡◌, ◌≢◌, ℕ, zero, suc, ◌==◌, nat_le, ◌&&◌, not, Bool, true, false}
-use Rattle.std.proofs.Common.{if◌then◌else◌, List, [], ◌∷◌, length, take, drop, refl, ◌∙◌}
 use Rattle.std.proofs.lemmas.List.Folds.{list_any-append}
-use Rattle.h2_laws_log.proofs.Names.{list_any, or_from, WindowUpdate, Settings, Ping, Item, alone}
-use Rattle.h2_laws_log.proofs.Names.{is_goaway, Act, SendData, Release, SendGoAway, ended_in, View}
-use Rattle.h2_laws_log.proofs.Names.{items_of, answer_of, data_items, data_frames, Verdict, NoEvent}
-use Rattle.h2_laws_log.proofs.Names.{replies_to}
+use Rattle.h2_laws_log.proofs.Names
+use Names.{list_any, or_from, WindowUpdate, Settings, Ping, Item, alone, is_goaway, Act, SendData}
+use Names.{Release, SendGoAway, ended_in, View, items_of, answer_of, data_items, data_frames}
+use Names.{Verdict, NoEvent, replies_to, ◌≡◌, ◌≢◌, ℕ, zero, suc, ◌==◌, nat_le, ◌&&◌, not, Bool}
+use Names.{true, false, if◌then◌else◌, List, [], ◌∷◌, length, take, drop, refl, ◌∙◌}
 
 -- No reply is a GOAWAY.
 pub replies_none : (v : Verdict) (item : Item) → list_any is_goaway (replies_to v item) ≡ false

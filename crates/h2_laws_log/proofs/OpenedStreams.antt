@@ -1,16 +1,13 @@
 -- A number on which this end has sent END_STREAM is used, and a server's stream is active once the
 -- block that opens it has come: so it may be reset then.
-use Rattle.std.proofs.Common.{◌≡◌, ◌⊎◌, ℕ, ◌%◌, ◌==◌, ◌&&◌, Bool, true, false, List, [], ◌∷◌, refl}
-use Rattle.std.proofs.Common.{inl, inr}
-use Rattle.h2_spec_log.specs.ItemRules.{peer_opens}
-use Rattle.h2_laws_log.proofs.Names.{subst, list_any, both_ways, or_cases, or_parts, or_from}
-use Rattle.h2_laws_log.proofs.Names.{or_left, and_parts, and_right, eqb-true, eq-eqb}
-use Rattle.h2_laws_log.proofs.Names.{false_from_ne_true, Data, Settings, Item, alone, block, Role}
-use Rattle.h2_laws_log.proofs.Names.{Client, Server, is_block_on, ends, resets, is_goaway}
-use Rattle.h2_laws_log.proofs.Names.{is_goaway_below, is_server, Event, reports_unprocessed, Idle}
-use Rattle.h2_laws_log.proofs.Names.{is_above, is_active, is_used, Log, state, goaway_written}
-use Rattle.h2_laws_log.proofs.Names.{log_view, AllowedHistory, starts, reads, writes, Allowed}
-use Rattle.h2_laws_log.proofs.Names.{MayOpen, MayContinue, MayReset}
+use Rattle.h2_laws_log.proofs.Names
+use Names.{subst, list_any, both_ways, or_cases, or_parts, or_from, or_left, and_parts, and_right}
+use Names.{eqb-true, eq-eqb, false_from_ne_true, Data, Settings, Item, alone, block, Role, Client}
+use Names.{Server, is_block_on, ends, resets, is_goaway, is_goaway_below, is_server, Event}
+use Names.{reports_unprocessed, Idle, is_above, is_active, is_used, Log, state, goaway_written}
+use Names.{log_view, AllowedHistory, starts, reads, writes, Allowed, MayOpen, MayContinue, MayReset}
+use Names.{◌≡◌, ◌⊎◌, ℕ, ◌%◌, ◌==◌, ◌&&◌, Bool, true, false, List, [], ◌∷◌, refl, inl, inr}
+use Names.{peer_opens}
 use Rattle.h2_laws_log.proofs.ItemLists.{below_quiet}
 use Rattle.h2_laws_log.proofs.LogHistory.{history_of}
 use Rattle.h2_laws_log.proofs.LogInvariant.{NumbersFit}

@@ -187,14 +187,13 @@ items_are_by bound (most ∷ payloads) (item ∷ items) between sendable =
 -- Frames that are items group to them.
 grouped : (items : List Item) (frames : List Frame) → AreItems items frames
     → Groups frames items None
-grouped items frames are =
-    record {
-      complete = frames;
-      left = [];
-      joined = sym (append-nil frames);
-      grouped = are;
-      unfinished = refl;
-    }
+grouped items frames are = record {
+  complete = frames;
+  left = [];
+  joined = sym (append-nil frames);
+  grouped = are;
+  unfinished = refl;
+}
 
 -- The frames of items group to them,
 pub items_grouped : (most : ℕ) (items : List Item) → 1 ≤ most

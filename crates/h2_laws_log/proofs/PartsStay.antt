@@ -20,13 +20,12 @@ pub stays_written : {A : Type 0} (part : Log → A)
     }))
     → ((log : Log) (count : ℕ) → SamePart part log (record log { unreturned = count }))
     → HoldsOfWrites (SamePart part)
-stays_written part sent unreturned =
-    record {
-      none = λ log. refl;
-      twice = λ one two three a b. b ∙ a;
-      sent = λ log item items. sent log _ _ _ _;
-      unreturned = unreturned;
-    }
+stays_written part sent unreturned = record {
+  none = λ log. refl;
+  twice = λ one two three a b. b ∙ a;
+  sent = λ log item items. sent log _ _ _ _;
+  unreturned = unreturned;
+}
 
 -- The second log has the calls of the first.
 abbrev pub SameCalls : Log → Log → Type 0
@@ -34,12 +33,11 @@ SameCalls = SamePart (λ log. log.calls)
 
 -- They stay where the connection fails, too,
 pub calls_written : HoldsOfFailures SameCalls
-calls_written =
-    record {
-      writes = stays_written (λ log. log.calls)
-          (λ log sent written payloads turns. refl) (λ log count. refl);
-      failed = λ log code. refl;
-    }
+calls_written = record {
+  writes = stays_written (λ log. log.calls)
+      (λ log sent written payloads turns. refl) (λ log count. refl);
+  failed = λ log code. refl;
+}
 
 -- and where octets are used.
 pub calls_read : HoldsOfReads SameCalls

@@ -1,16 +1,14 @@
 -- Each item that an end writes has the greatest payload that is in force then.
-use Rattle.std.proofs.Common.{map as each, ◌≡◌, ◌≤◌, ◌⊎◌, ◌+◌, ℕ, not, Bool, true, false}
-use Rattle.std.proofs.Common.{if◌then◌else◌, List, [], ◌∷◌, ◌++◌, length, refl, sym, ◌∙◌, inl, inr}
-use Rattle.std.proofs.Common.{append-nil, append_assoc, arith}
-use Rattle.h2_laws_log.proofs.Names.{ap, subst, expected_preface, Code, code_number, Settings, Ping}
-use Rattle.h2_laws_log.proofs.Names.{GoAway, WindowUpdate, Item, alone, Role, encoding_of_item}
-use Rattle.h2_laws_log.proofs.Names.{encoding_of_items, total, Values, Act, SendData, Release}
-use Rattle.h2_laws_log.proofs.Names.{is_server, one_ack, one_settings, settings_count, Log}
-use Rattle.h2_laws_log.proofs.Names.{max_payload_sent, max_payload_sent_by, log_view, View}
-use Rattle.h2_laws_log.proofs.Names.{ended_in, Verdict, ConnectionFault, StreamFault, NoEvent}
-use Rattle.h2_laws_log.proofs.Names.{Reported, replies_to, answer_of, items_of, read, with_sent}
-use Rattle.h2_laws_log.proofs.Names.{opened, called, IsLog, encoding_by}
-use Rattle.h2_laws_log.specs.Payloads.{PayloadHistory, WrittenByPayloads, starts, reads, writes}
+use Rattle.std.proofs.Common.{map as each, append-nil, append_assoc}
+use Rattle.h2_laws_log.specs.Payloads.{WrittenByPayloads, starts, reads, writes}
+use Rattle.h2_laws_log.proofs.Names
+use Names.{ap, subst, expected_preface, Code, code_number, Settings, Ping, GoAway, WindowUpdate}
+use Names.{Item, alone, Role, encoding_of_item, encoding_of_items, total, Values, Act, SendData}
+use Names.{Release, is_server, one_ack, one_settings, settings_count, Log, max_payload_sent}
+use Names.{max_payload_sent_by, log_view, View, ended_in, Verdict, ConnectionFault, StreamFault}
+use Names.{NoEvent, Reported, replies_to, answer_of, items_of, read, with_sent, opened, called}
+use Names.{IsLog, encoding_by, ◌≡◌, ◌≤◌, ◌⊎◌, ◌+◌, ℕ, not, Bool, true, false, if◌then◌else◌, List}
+use Names.{[], ◌∷◌, ◌++◌, length, refl, sym, ◌∙◌, inl, inr, arith, PayloadHistory}
 use Rattle.h2_laws_log.proofs.DataOfCalls.{data_ack, none_of_items}
 use Rattle.h2_laws_log.proofs.InvariantReads.{Fits, Resets, Reports, verdict_fits}
 use Rattle.h2_laws_log.proofs.LogInduction.{IsLogInvariant, kept_by_logs}
@@ -68,15 +66,14 @@ sent_in_force : (log : Log) (items : List Item)
     → WrittenByPayloads log → IsCounted (with_sent log items)
 unfolding with_sent total
 sent_in_force log [] all alike is = record { acknowledged = omega arith; by_payloads = is }
-sent_in_force log (item ∷ items) all alike is =
-    record {
-      acknowledged = omega (arith, total-append one_ack items log.sent);
-      by_payloads = assumption (
-        history_more log.received (item ∷ items) log.sent log.payloads all alike is.history,
-        written_more (expected_preface (not (is_server log.role))) (max_payload_sent log)
-            (item ∷ items) log.sent log.payloads log.written is.written,
-      );
-    }
+sent_in_force log (item ∷ items) all alike is = record {
+  acknowledged = omega (arith, total-append one_ack items log.sent);
+  by_payloads = assumption (
+    history_more log.received (item ∷ items) log.sent log.payloads all alike is.history,
+    written_more (expected_preface (not (is_server log.role))) (max_payload_sent log)
+        (item ∷ items) log.sent log.payloads log.written is.written,
+  );
+}
 
 -- What may be reported is no SETTINGS that ask for an acknowledgment.
 reported_asks : (log : Log) (item : Item) → Reports log item → one_settings item ≡ 0
@@ -131,43 +128,40 @@ calls_acknowledge view act = refl
 -- Nothing else reads or writes.
 by_payloads : (role : Role) (values : Values) → IsLogInvariant role values IsCounted
 unfolding opened with_sent total one_ack encoding_of_items
-by_payloads role values =
-    record {
-      opening = λ in_range. record {
-        acknowledged = sym count_none;
-        by_payloads = record { history = writes _ starts (sym count_none); written = refl };
-      };
-      used = λ log octets unparsed is. assumption is;
-      framed = λ log frames is. assumption is;
-      begun = λ log begun is. assumption is;
-      replied = λ log decoded item verdict replies is.
-          let next = read log decoded item in
-          let few = replies_acknowledge log verdict item replies.up
-          (subst (Fits (Resets log item) (Reports log item)) replies.is
-          (verdict_fits log decoded item)) in
-          sent_in_force next (replies_to verdict item) (omega (arith, count_next))
-          (inl (replies_few verdict item)) (record {
-            history = reads item is.by_payloads.history;
-            written = is.by_payloads.written;
-          });
-      reported = λ log event events may is. assumption is;
-      unreturned = λ log count is. assumption is;
-      returned = λ log returns is.
-          sent_in_force (record log { unreturned = 0 })
-          (alone (WindowUpdate 0 log.unreturned) ∷ []) (omega (arith, is.acknowledged)) (inr refl)
-          (assumption is);
-      failed = λ log code last names is.
-          let goaway = alone (GoAway last (code_number code) []) ∷ [] in
-          assumption (sent_in_force log goaway (omega arith) (inr refl) is.by_payloads);
-      sent = λ log act accepted is.
-          let next = called log act (answer_of (log_view log) act) in
-          sent_in_force next (items_of (log_view log) act (answer_of (log_view log) act))
-          (omega (arith, is.acknowledged, calls_acknowledge (log_view log) act))
-          (inr (calls_acknowledge (log_view log) act))
-          (assumption is);
-      called = λ log act answer is_log none is. assumption is;
-      given = λ log more is. assumption is;
-    }
+by_payloads role values = record {
+  opening = λ in_range. record {
+    acknowledged = sym count_none;
+    by_payloads = record { history = writes _ starts (sym count_none); written = refl };
+  };
+  used = λ log octets unparsed is. assumption is;
+  framed = λ log frames is. assumption is;
+  begun = λ log begun is. assumption is;
+  replied = λ log decoded item verdict replies is.
+      let next = read log decoded item in
+      let few = replies_acknowledge log verdict item replies.up
+      (subst (Fits (Resets log item) (Reports log item)) replies.is
+      (verdict_fits log decoded item)) in
+      sent_in_force next (replies_to verdict item) (omega (arith, count_next))
+      (inl (replies_few verdict item)) (record {
+        history = reads item is.by_payloads.history;
+        written = is.by_payloads.written;
+      });
+  reported = λ log event events may is. assumption is;
+  unreturned = λ log count is. assumption is;
+  returned = λ log returns is. sent_in_force (record log { unreturned = 0 })
+      (alone (WindowUpdate 0 log.unreturned) ∷ []) (omega (arith, is.acknowledged)) (inr refl)
+      (assumption is);
+  failed = λ log code last names is.
+      let goaway = alone (GoAway last (code_number code) []) ∷ [] in
+      assumption (sent_in_force log goaway (omega arith) (inr refl) is.by_payloads);
+  sent = λ log act accepted is.
+      let next = called log act (answer_of (log_view log) act) in
+      sent_in_force next (items_of (log_view log) act (answer_of (log_view log) act))
+      (omega (arith, is.acknowledged, calls_acknowledge (log_view log) act))
+      (inr (calls_acknowledge (log_view log) act)) (assumption is);
+  called = λ log act answer is_log none is. assumption is;
+  given = λ log more is. assumption is;
+}
 
 -- The greatest payloads of all that an end has written.
 pub written_by_payloads : (role : Role) (values : Values) (log : Log) → IsLog role values log

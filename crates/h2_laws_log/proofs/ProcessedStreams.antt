@@ -1,17 +1,14 @@
 -- In a log whose connection is up no stream that was processed is above the last one of a GOAWAY
 -- that was sent, and what the peer has reset is used.
-use Rattle.std.proofs.Common.{◌≡◌, ◌≢◌, ℕ, ◌≤◌, true, false, if◌then◌else◌, List, [], ◌∷◌, ◌++◌}
-use Rattle.std.proofs.Common.{Option, None, refl, sym, ◌∙◌, inl, inr, arith}
-use Rattle.h2_frame.specs.declared.code.Code.TheVariants.{ProtocolError}
-use Rattle.h2_laws_log.proofs.Names.{list_any, both_ways, eqb-true, or_cases, true_from_ne_false}
-use Rattle.h2_laws_log.proofs.Names.{Reset, Item, alone, block, Role, Client, Server, Values, Act}
-use Rattle.h2_laws_log.proofs.Names.{SendGoAway, resets, stream_of_item, is_goaway, is_server}
-use Rattle.h2_laws_log.proofs.Names.{Event, greatest_processed, processed_by, State, Idle}
-use Rattle.h2_laws_log.proofs.Names.{greatest_number, is_above, is_used, Log, last_processed}
-use Rattle.h2_laws_log.proofs.Names.{least_goaway, state, log_view, Verdict, ConnectionFault}
-use Rattle.h2_laws_log.proofs.Names.{StreamFault, NoEvent, Reported, reset_verdict, Decoded}
-use Rattle.h2_laws_log.proofs.Names.{replies_to, verdict_by_rules, verdict_of, events_of, answer_of}
-use Rattle.h2_laws_log.proofs.Names.{items_of, read, with_sent, opened, called, IsLog}
+use Rattle.h2_laws_log.proofs.Names
+use Names.{list_any, both_ways, eqb-true, or_cases, true_from_ne_false, Reset, Item, alone, block}
+use Names.{Role, Client, Server, Values, Act, SendGoAway, resets, stream_of_item, is_goaway}
+use Names.{is_server, Event, greatest_processed, processed_by, State, Idle, greatest_number}
+use Names.{is_above, is_used, Log, last_processed, least_goaway, state, log_view, Verdict}
+use Names.{ConnectionFault, StreamFault, NoEvent, Reported, reset_verdict, Decoded, replies_to}
+use Names.{verdict_by_rules, verdict_of, events_of, answer_of, items_of, read, with_sent, opened}
+use Names.{called, IsLog, ◌≡◌, ◌≢◌, ℕ, ◌≤◌, true, false, if◌then◌else◌, List, [], ◌∷◌, ◌++◌, Option}
+use Names.{None, refl, sym, ◌∙◌, inl, inr, arith, ProtocolError}
 use Rattle.h2_laws_log.proofs.FitItems.{comes_fit, stream_low}
 use Rattle.h2_laws_log.proofs.InvariantReads.{Fits, IsOpenFor, Resets, Reports, verdict_fits}
 use Rattle.h2_laws_log.proofs.LogGrowth.{grows_wrote, fails_down}
@@ -70,22 +67,21 @@ resets_wrote log (item ∷ items) before i some =
 resets_kept : (role : Role) (values : Values) → IsUpInvariant role values
     (λ role received sent reported calls. ResetsAreUsed role received sent)
 unfolding opened with_sent
-resets_kept role values =
-    record {
-      opening = λ in_range i some. absurd (both_ways false refl some);
-      replied = λ log decoded item verdict replies before.
-          let g = grows_wrote (read log decoded item) (replies_to verdict item) in
-          rw (g.role, g.received) (resets_wrote (read log decoded item) (replies_to verdict item)
-          (resets_read log decoded item verdict replies.is replies.up before));
-      reported = λ log event events may before. before;
-      returned = λ log returns before i some.
-          used_more log.role i [] (_ ∷ []) log.received log.sent (before i some);
-      sent = λ log act accepted before.
-          let next = called log act (answer_of (log_view log) act) in
-          let g = grows_wrote next (items_of (log_view log) act (answer_of (log_view log) act)) in
-          rw (g.role, g.received) (resets_wrote next _ before);
-      called = λ log act answer is_log none before. before;
-    }
+resets_kept role values = record {
+  opening = λ in_range i some. absurd (both_ways false refl some);
+  replied = λ log decoded item verdict replies before.
+      let g = grows_wrote (read log decoded item) (replies_to verdict item) in
+      rw (g.role, g.received) (resets_wrote (read log decoded item) (replies_to verdict item)
+      (resets_read log decoded item verdict replies.is replies.up before));
+  reported = λ log event events may before. before;
+  returned = λ log returns before i some.
+      used_more log.role i [] (_ ∷ []) log.received log.sent (before i some);
+  sent = λ log act accepted before.
+      let next = called log act (answer_of (log_view log) act) in
+      let g = grows_wrote next (items_of (log_view log) act (answer_of (log_view log) act)) in
+      rw (g.role, g.received) (resets_wrote next _ before);
+  called = λ log act answer is_log none before. before;
+}
 
 -- A stream that is open for an item is not above the last one of a GOAWAY, at a server.
 open_low : (log : Log) (item : Item) → log.role ≡ Server → stream_of_item item ≤ greatest_number
@@ -145,37 +141,36 @@ call_least log act server low =
 -- Each change of a log keeps it.
 low_kept : (role : Role) (values : Values) → IsPendingInvariant role values IsLow
 unfolding opened with_sent greatest_processed processed_by least_goaway
-low_kept role values =
-    record {
-      opening = λ in_range up server. omega arith;
-      used = λ log octets unparsed low. low;
-      framed = λ log frames low. low;
-      begun = λ log begun begins low. low;
-      complete = λ log low. low;
-      replied = λ log decoded item verdict replies low up server.
-          let next = read log decoded item in
-          let g = grows_wrote next (replies_to verdict item) in
-          let own : log.role ≡ Server = sym g.role ∙ server in
-          let small = stream_low item (comes_fit role values log decoded item replies.comes) in
-          let fits : Fits (Resets log item) (Reports log item) verdict =
-          rw replies.is at (verdict_fits log decoded item) in
-          rw (g.reported, wrote_least next (replies_to verdict item) (replies_none verdict item))
-          (processed_append (events_of (log_view log) decoded verdict item) log.reported _
-          (events_low log decoded verdict item own (omega (arith, small)) fits)
-          (low (g.up up) own));
-      named = λ log is still some low up server. omega (arith, low up server);
-      reported = λ log event events may low. low;
-      unreturned = λ events log count low. low;
-      returned = λ events log returns low. low;
-      failed = λ log code last names low up. absurd (fails_down code last log up);
-      sent = λ log act accepted low up server.
-          let next = called log act (answer_of (log_view log) act) in
-          let g = grows_wrote next (items_of (log_view log) act (answer_of (log_view log) act)) in
-          let own : log.role ≡ Server = sym g.role ∙ server in
-          rw g.reported (call_least log act own (low (g.up up) own));
-      called = λ log act answer is none low. low;
-      given = λ log more low. low;
-    }
+low_kept role values = record {
+  opening = λ in_range up server. omega arith;
+  used = λ log octets unparsed low. low;
+  framed = λ log frames low. low;
+  begun = λ log begun begins low. low;
+  complete = λ log low. low;
+  replied = λ log decoded item verdict replies low up server.
+      let next = read log decoded item in
+      let g = grows_wrote next (replies_to verdict item) in
+      let own : log.role ≡ Server = sym g.role ∙ server in
+      let small = stream_low item (comes_fit role values log decoded item replies.comes) in
+      let fits : Fits (Resets log item) (Reports log item) verdict =
+      rw replies.is at (verdict_fits log decoded item) in
+      rw (g.reported, wrote_least next (replies_to verdict item) (replies_none verdict item))
+      (processed_append (events_of (log_view log) decoded verdict item) log.reported _
+      (events_low log decoded verdict item own (omega (arith, small)) fits)
+      (low (g.up up) own));
+  named = λ log is still some low up server. omega (arith, low up server);
+  reported = λ log event events may low. low;
+  unreturned = λ events log count low. low;
+  returned = λ events log returns low. low;
+  failed = λ log code last names low up. absurd (fails_down code last log up);
+  sent = λ log act accepted low up server.
+      let next = called log act (answer_of (log_view log) act) in
+      let g = grows_wrote next (items_of (log_view log) act (answer_of (log_view log) act)) in
+      let own : log.role ≡ Server = sym g.role ∙ server in
+      rw g.reported (call_least log act own (low (g.up up) own));
+  called = λ log act answer is none low. low;
+  given = λ log more low. low;
+}
 
 -- What a GOAWAY names is no greater, at a server, and so at a client, which names none.
 names_low : (role : Role) (n most : ℕ) → (role ≡ Server → n ≤ most)
@@ -186,11 +181,10 @@ names_low Client n most low = omega arith
 -- The numbers of every log whose connection is up fit.
 pub numbers_fit : (role : Role) (values : Values) (log : Log) → IsLog role values log
     → log.failed ≡ None → NumbersFit (history_of log)
-numbers_fit role values log is up =
-    record {
-      processed = names_low log.role (greatest_processed log.reported) (least_goaway log.sent)
-          (pending_by_logs role values IsLow (low_kept role values) log is up);
-      reset_read = up_by_logs role values
-          (λ role received sent reported calls. ResetsAreUsed role received sent)
-          (resets_kept role values) log is up;
-    }
+numbers_fit role values log is up = record {
+  processed = names_low log.role (greatest_processed log.reported) (least_goaway log.sent)
+      (pending_by_logs role values IsLow (low_kept role values) log is up);
+  reset_read = up_by_logs role values
+      (λ role received sent reported calls. ResetsAreUsed role received sent)
+      (resets_kept role values) log is up;
+}

@@ -1,14 +1,12 @@
 -- The state of a stream at the reader, where the writer uses it or goes on it.
-use Rattle.std.proofs.Common.{◌≡◌, ◌⊎◌, ℕ, ◌%◌, ◌==◌, nat_le, ◌&&◌, Bool, true, false, List, []}
-use Rattle.std.proofs.Common.{◌∷◌, ◌++◌, refl, inl, inr, arith}
 use Rattle.std.proofs.lemmas.Bool.{le-leb, not_from_false}
-use Rattle.h2_laws_log.proofs.Names.{list_any, both_ways, eqb-true, and_parts, and_from, and_left}
-use Rattle.h2_laws_log.proofs.Names.{or_cases, or_parts, or_from, or_left, or_right, not-true}
-use Rattle.h2_laws_log.proofs.Names.{false_from_ne_true, Item, alone, block, Role, Client, Server}
-use Rattle.h2_laws_log.proofs.Names.{is_block_on, opens_from, ends, resets, is_goaway_below}
-use Rattle.h2_laws_log.proofs.Names.{peer_of, Event, reports_unprocessed, Idle, Active, ClosedByUs}
-use Rattle.h2_laws_log.proofs.Names.{openings, is_used, is_above, is_over, is_active}
-use Rattle.h2_laws_log.proofs.Names.{is_closed_by_us, state_by, stream_state, MayContinue}
+use Rattle.h2_laws_log.proofs.Names
+use Names.{list_any, both_ways, eqb-true, and_parts, and_from, and_left, or_cases, or_parts}
+use Names.{or_from, or_left, or_right, not-true, false_from_ne_true, Item, alone, block, Role}
+use Names.{Client, Server, is_block_on, opens_from, ends, resets, is_goaway_below, peer_of, Event}
+use Names.{reports_unprocessed, Idle, Active, ClosedByUs, openings, is_used, is_above, is_over}
+use Names.{is_active, is_closed_by_us, state_by, stream_state, MayContinue, ◌≡◌, ◌⊎◌, ℕ, ◌%◌, ◌==◌}
+use Names.{nat_le, ◌&&◌, Bool, true, false, List, [], ◌∷◌, ◌++◌, refl, inl, inr, arith}
 use Rattle.h2_laws_log.proofs.ItemLists.{any_after, none_after}
 
 -- What makes a stream active.

@@ -1,14 +1,13 @@
 -- What is released of a stream is no more than was read, on the stream and on the connection.
-use Rattle.std.proofs.Common.{◌≡◌, ◌≢◌, ℕ, suc, ◌+◌, ◌-◌, ◌≤◌, ◌==◌, nat_lt, Bool, true, false}
-use Rattle.std.proofs.Common.{if◌then◌else◌, List, [], ◌∷◌, ◌++◌, None, refl, sym, ◌∙◌, arith}
 use Rattle.std.proofs.lemmas.Bool.{eqb-false}
-use Rattle.h2_laws_log.proofs.Names.{ap, both_ways, ne_eqb, or_parts, ltb-false, WindowUpdate, Item}
-use Rattle.h2_laws_log.proofs.Names.{alone, Role, total, increment_on, one_answer, settings_count}
-use Rattle.h2_laws_log.proofs.Names.{one_ack, flow_on, reported_total, Act, Answer, Release, Done}
-use Rattle.h2_laws_log.proofs.Names.{Log, released, unreleased, ended_in, owed_on, log_view}
-use Rattle.h2_laws_log.proofs.Names.{conditions, refusal_of, items_of, stream_of_act, with_call}
-use Rattle.h2_laws_log.proofs.Names.{HasAcknowledged, AllowedHistory, writes, active_by_items}
-use Rattle.h2_laws_log.proofs.Names.{MayUpdateWindow, sum_below, none_since}
+use Rattle.h2_laws_log.proofs.Names
+use Names.{ap, both_ways, ne_eqb, or_parts, ltb-false, WindowUpdate, Item, alone, Role, total}
+use Names.{increment_on, one_answer, settings_count, one_ack, flow_on, reported_total, Act, Answer}
+use Names.{Release, Done, Log, released, unreleased, ended_in, owed_on, log_view, conditions}
+use Names.{refusal_of, items_of, stream_of_act, with_call, HasAcknowledged, AllowedHistory, writes}
+use Names.{active_by_items, MayUpdateWindow, sum_below, none_since, ◌≡◌, ◌≢◌, ℕ, suc, ◌+◌, ◌-◌, ◌≤◌}
+use Names.{◌==◌, nat_lt, Bool, true, false, if◌then◌else◌, List, [], ◌∷◌, ◌++◌, None, refl, sym}
+use Names.{◌∙◌, arith}
 use Rattle.h2_laws_log.proofs.ItemLists.{total_one, total_none}
 use Rattle.h2_laws_log.proofs.CallConditions.{none_holds}
 use Rattle.h2_laws_log.proofs.InvariantCalls.{active_is_active, active_some, items_represent}

@@ -1,16 +1,14 @@
 -- What an end replies to what it reads, and reports of it, is sound.
-use Rattle.std.proofs.Common.{◌≡◌, ◌≢◌, ℕ, ◌≤◌, ◌==◌, ◌%◌, ◌&&◌, Bool, true, false, if◌then◌else◌}
-use Rattle.std.proofs.Common.{List, [], ◌∷◌, ◌++◌, length, Option, refl, sym, inl, inr, arith}
-use Rattle.h2_laws_log.proofs.Names.{list_any, and_parts, and_from, eqb-true, ne_eqb, both_ways}
-use Rattle.h2_laws_log.proofs.Names.{or_cases, or_left, or_from, eq-eqb, cases_eq, Data, Reset}
-use Rattle.h2_laws_log.proofs.Names.{Settings, Ping, payload_of, Item, alone, block, Role, Client}
-use Rattle.h2_laws_log.proofs.Names.{Server, total, increment_on, data_on, data_of, one_ping}
-use Rattle.h2_laws_log.proofs.Names.{one_answer, is_block_on, resets, opens_from, stream_of_item}
-use Rattle.h2_laws_log.proofs.Names.{settings_count, one_settings, one_ack, is_server, Event}
-use Rattle.h2_laws_log.proofs.Names.{DataEvent, ResetEvent, flow_on, reported_total, one_acked}
-use Rattle.h2_laws_log.proofs.Names.{one_pong, reports_unprocessed, Idle, is_active, is_used}
-use Rattle.h2_laws_log.proofs.Names.{openings, state_by, active, HasAcknowledged, AllowedHistory}
-use Rattle.h2_laws_log.proofs.Names.{starts, reads, writes, Allowed, MayReset}
+use Rattle.h2_laws_log.proofs.Names
+use Names.{list_any, and_parts, and_from, eqb-true, ne_eqb, both_ways, or_cases, or_left, or_from}
+use Names.{eq-eqb, cases_eq, Data, Reset, Settings, Ping, payload_of, Item, alone, block, Role}
+use Names.{Client, Server, total, increment_on, data_on, data_of, one_ping, one_answer, is_block_on}
+use Names.{resets, opens_from, stream_of_item, settings_count, one_settings, one_ack, is_server}
+use Names.{Event, DataEvent, ResetEvent, flow_on, reported_total, one_acked, one_pong}
+use Names.{reports_unprocessed, Idle, is_active, is_used, openings, state_by, active}
+use Names.{HasAcknowledged, AllowedHistory, starts, reads, writes, Allowed, MayReset, ◌≡◌, ◌≢◌, ℕ}
+use Names.{◌≤◌, ◌==◌, ◌%◌, ◌&&◌, Bool, true, false, if◌then◌else◌, List, [], ◌∷◌, ◌++◌, length}
+use Names.{Option, refl, sym, inl, inr, arith}
 use Rattle.h2_laws_log.proofs.ItemLists.{any_after}
 use Rattle.h2_laws_log.proofs.ReaderStates.{active_parts, active_unnamed, active_used, lasts_parts}
 use Rattle.h2_laws_log.proofs.ReaderStates.{opens_here}

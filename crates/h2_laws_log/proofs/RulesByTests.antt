@@ -1,19 +1,17 @@
 -- What the rules say by their tests, of any end: which limits a verdict keeps to, and what a call
 -- that isn't refused may write.
-use Rattle.std.proofs.Common.{◌≡◌, ◌≢◌, ℕ, ◌+◌, ◌<◌, ◌≤◌, ◌==◌, nat_lt, nat_le, ◌&&◌, ◌||◌}
-use Rattle.std.proofs.Common.{if◌then◌else◌, Bool, true, false, List, pos, length, Option, Some}
-use Rattle.std.proofs.Common.{None, is_some, refl, sym, arith, ltb-false, leb-false, suc, ◌*◌, not}
-use Rattle.std.proofs.Common.{[], ◌∷◌, take, length-take, min}
-use Rattle.h2_spec_log.specs.CallRules.{refuse_fault, at_least_none}
-use Rattle.h2_spec_log.specs.ItemEffects.{encoder_after_settings}
-use Rattle.h2_spec_log.specs.ItemRules.{exceeds, is_stream_fault, over_limits}
+use Rattle.std.proofs.Common.{is_some, ltb-false, leb-false}
+use Rattle.h2_spec_log.specs.ItemRules.{exceeds, is_stream_fault}
 use Rattle.h2_spec_log.specs.Limits.{max_resets, max_output}
-use Rattle.h2_laws_log.proofs.Names.{subst, nat_tests, ints, after_limit, EncoderState}
-use Rattle.h2_laws_log.proofs.Names.{IsValidEncoder, limit_preserves, WindowUpdate, Code}
-use Rattle.h2_laws_log.proofs.Names.{EnhanceYourCalm, InternalError, alone, data_frames, data_items}
-use Rattle.h2_laws_log.proofs.Names.{data_count, verdict_of_fault, encoding_of_items, State, Idle}
-use Rattle.h2_laws_log.proofs.Names.{Active, Verdict, ConnectionFault, NoEvent, Reported}
-use Rattle.h2_laws_log.proofs.Names.{data_verdict, block_verdict, opening_verdict, StreamView, View}
+use Rattle.h2_laws_log.proofs.Names
+use Names.{subst, nat_tests, ints, after_limit, EncoderState, IsValidEncoder, limit_preserves}
+use Names.{WindowUpdate, Code, EnhanceYourCalm, InternalError, alone, data_frames, data_items}
+use Names.{data_count, verdict_of_fault, encoding_of_items, State, Idle, Active, Verdict}
+use Names.{ConnectionFault, NoEvent, Reported, data_verdict, block_verdict, opening_verdict}
+use Names.{StreamView, View, ◌≡◌, ◌≢◌, ℕ, ◌+◌, ◌<◌, ◌≤◌, ◌==◌, nat_lt, nat_le, ◌&&◌, ◌||◌}
+use Names.{if◌then◌else◌, Bool, true, false, List, pos, length, Option, Some, None, refl, sym}
+use Names.{arith, suc, ◌*◌, not, [], ◌∷◌, take, length-take, min, refuse_fault, at_least_none}
+use Names.{encoder_after_settings, over_limits}
 use Rattle.h2_laws_log.proofs.CallConditions.{neither_one, neither_other}
 use Rattle.h2_laws_log.proofs.ItemSizes.{size_of, size-update, size-updates, size-data}
 

@@ -1,14 +1,12 @@
 -- Settings that were read, and own ones that are in force.
-use Rattle.std.proofs.Common.{◌≡◌, ◌⊎◌, ℕ, ◌+◌, ◌≤◌, ◌==◌, ◌&&◌, not, Bool, true, false}
-use Rattle.std.proofs.Common.{if◌then◌else◌, List, [], ◌∷◌, ◌++◌, length, refl, sym, ◌∙◌, inl, inr}
-use Rattle.std.proofs.Common.{arith, length-append}
 use Rattle.std.proofs.lemmas.List.{take_all, take-append-le}
 use Rattle.h2_spec_log.specs.Settings.{settings_of, value_after_all}
-use Rattle.h2_laws_log.proofs.Names.{ap, cases_eq, eq-eqb, ne_eqb, Settings, Item, alone, block}
-use Rattle.h2_laws_log.proofs.Names.{value_read, value_after, one_settings, settings_count}
-use Rattle.h2_laws_log.proofs.Names.{own_value, one_ack, total, Log, acked, HasAcknowledged}
-use Rattle.h2_laws_log.proofs.Names.{IsReader, Role, Client, Server, Values, opening_pairs}
-use Rattle.h2_laws_log.proofs.Names.{changed_pairs, with_max_frame, max_list}
+use Rattle.h2_laws_log.proofs.Names
+use Names.{ap, cases_eq, eq-eqb, ne_eqb, Settings, Item, alone, block, value_read, value_after}
+use Names.{one_settings, settings_count, own_value, one_ack, total, Log, acked, HasAcknowledged}
+use Names.{IsReader, Role, Client, Server, Values, opening_pairs, changed_pairs, with_max_frame}
+use Names.{max_list, ◌≡◌, ◌⊎◌, ℕ, ◌+◌, ◌≤◌, ◌==◌, ◌&&◌, not, Bool, true, false, if◌then◌else◌, List}
+use Names.{[], ◌∷◌, ◌++◌, length, refl, sym, ◌∙◌, inl, inr, arith, length-append}
 use Rattle.h2_laws_log.proofs.ItemLists.{settings_after}
 
 -- An item is SETTINGS that are no acknowledgment, or counts as none.

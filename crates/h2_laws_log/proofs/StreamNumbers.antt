@@ -1,16 +1,15 @@
 -- The numbers of streams that were written, and what a stream that is reported as unprocessed says
 -- of what was read.
-use Rattle.std.proofs.Common.{◌≡◌, ◌⊎◌, ◌≢◌, ℕ, ◌+◌, ◌≤◌, ◌<◌, ◌==◌, ◌%◌, ◌&&◌, nat_lt, max, Bool}
-use Rattle.std.proofs.Common.{true, false, if◌then◌else◌, List, [], ◌∷◌, refl, inl, inr, ◌^◌, ◌++◌}
-use Rattle.std.proofs.Common.{arith, nat_le, leb-true}
-use Rattle.h2_laws_log.proofs.Names.{list_any, both_ways, eqb-true, or_cases, cases_lt, eq-eqb}
-use Rattle.h2_laws_log.proofs.Names.{le-ltb, and_right, true_from_ne_false, and_from, and_parts}
-use Rattle.h2_laws_log.proofs.Names.{or_left, or_parts, ltb-false, GoAway, Item, alone, block, Role}
-use Rattle.h2_laws_log.proofs.Names.{Client, Server, is_block_on, greatest_block, is_goaway}
-use Rattle.h2_laws_log.proofs.Names.{is_goaway_below, opens_from, is_server, least_block}
-use Rattle.h2_laws_log.proofs.Names.{greatest_number, is_used, Log, active, next_number}
-use Rattle.h2_laws_log.proofs.Names.{next_unprocessed, least_goaway, AllowedHistory, starts, reads}
-use Rattle.h2_laws_log.proofs.Names.{writes, Allowed, MayOpen, MayContinue}
+use Rattle.std.proofs.Common.{leb-true}
+use Rattle.h2_laws_log.proofs.Names
+use Names.{list_any, both_ways, eqb-true, or_cases, cases_lt, eq-eqb, le-ltb, and_right}
+use Names.{true_from_ne_false, and_from, and_parts, or_left, or_parts, ltb-false, GoAway, Item}
+use Names.{alone, block, Role, Client, Server, is_block_on, greatest_block, is_goaway}
+use Names.{is_goaway_below, opens_from, is_server, least_block, greatest_number, is_used, Log}
+use Names.{active, next_number, next_unprocessed, least_goaway, AllowedHistory, starts, reads}
+use Names.{writes, Allowed, MayOpen, MayContinue, ◌≡◌, ◌⊎◌, ◌≢◌, ℕ, ◌+◌, ◌≤◌, ◌<◌, ◌==◌, ◌%◌, ◌&&◌}
+use Names.{nat_lt, max, Bool, true, false, if◌then◌else◌, List, [], ◌∷◌, refl, inl, inr, ◌^◌, ◌++◌}
+use Names.{arith, nat_le}
 use Rattle.h2_laws_log.proofs.ReaderStates.{active_parts, opens_here}
 
 -- A stream's number, or 0, by a test.
@@ -165,8 +164,7 @@ next_left log with_sent some =
     let client : AllowedHistory Client log.received log.sent = rw (both.0) at with_sent in
     true_from_ne_false (list_any is_goaway log.received) (λ none.
     both.1 (least_none (λ j. active log j && nat_lt (least_goaway log.received) j) log.sent
-    (λ j below.
-    and_right (active log j) (nat_lt (least_goaway log.received) j)
+    (λ j below. and_right (active log j) (nat_lt (least_goaway log.received) j)
     (le-ltb (least_goaway log.received) j (omega
     (arith, last_none log.received none, client_low log.received log.sent client))))))
 

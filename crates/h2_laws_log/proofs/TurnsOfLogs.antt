@@ -93,24 +93,22 @@ begins_reported role values = assumption
 -- Each change of a log keeps what the turns tell.
 turns_are_kept : (role : Role) (values : Values) → IsLogInvariant role values TurnsRecord
 unfolding used
-turns_are_kept role values =
-    record {
-      opening = λ in_range. begins_reported role values;
-      used = used_reported;
-      framed = λ log frames is. assumption is;
-      begun = λ log begun is. assumption is;
-      replied = λ log decoded item verdict replies is.
-          wrote_reported (read log decoded item) _ (assumption is);
-      reported = λ log event events may. reports_reported log (event ∷ events);
-      unreturned = λ log count is. assumption is;
-      returned = λ log returns is.
-          wrote_reported (record log { unreturned = 0 }) _ (assumption is);
-      failed = λ log code last names is.
-          assumption (wrote_reported log (alone (GoAway last (code_number code) []) ∷ []) is);
-      sent = λ log act accepted is. wrote_reported _ _ (called_reported log act _ is);
-      called = λ log act answer is_log none. called_reported log act answer;
-      given = λ log more is. assumption is;
-    }
+turns_are_kept role values = record {
+  opening = λ in_range. begins_reported role values;
+  used = used_reported;
+  framed = λ log frames is. assumption is;
+  begun = λ log begun is. assumption is;
+  replied = λ log decoded item verdict replies is.
+      wrote_reported (read log decoded item) _ (assumption is);
+  reported = λ log event events may. reports_reported log (event ∷ events);
+  unreturned = λ log count is. assumption is;
+  returned = λ log returns is. wrote_reported (record log { unreturned = 0 }) _ (assumption is);
+  failed = λ log code last names is.
+      assumption (wrote_reported log (alone (GoAway last (code_number code) []) ∷ []) is);
+  sent = λ log act accepted is. wrote_reported _ _ (called_reported log act _ is);
+  called = λ log act answer is_log none. called_reported log act answer;
+  given = λ log more is. assumption is;
+}
 
 -- The turns of every log.
 pub turns_report : (role : Role) (values : Values) (log : Log) → IsLog role values log

@@ -1,11 +1,10 @@
 -- Windows of two ends: what is under way is what the totals of the two ends differ by.
-use Rattle.std.proofs.Common.{◌≡◌, ℕ, ◌+◌, List, [], ◌∷◌, ◌++◌, pos, ◌+ℤ◌, ◌-ℤ◌, ◌∙◌, arith}
-use Rattle.h2_spec_log.specs.Windows.{first_window, window, given_on, given_on_connection}
-use Rattle.h2_spec_log.specs.Windows.{granted_on, granted_on_connection, send_window_of}
-use Rattle.h2_spec_log.specs.Windows.{connection_send_window, recv_window_of}
+use Rattle.h2_spec_log.specs.Windows.{window, send_window_of, recv_window_of}
 use Rattle.h2_spec_log.specs.Windows.{connection_recv_window}
-use Rattle.h2_laws_log.proofs.Names.{ap, ints, Item, data_on, data_of, increment_on, total}
-use Rattle.h2_laws_log.proofs.Names.{value_read, own_value}
+use Rattle.h2_laws_log.proofs.Names
+use Names.{ap, ints, Item, data_on, data_of, increment_on, total, value_read, own_value, ◌≡◌, ℕ}
+use Names.{◌+◌, List, [], ◌∷◌, ◌++◌, pos, ◌+ℤ◌, ◌-ℤ◌, ◌∙◌, arith, first_window, given_on}
+use Names.{given_on_connection, granted_on, granted_on_connection, connection_send_window}
 
 -- the sum over two lists, one after the other
 pub total-append : (f : Item → ℕ) (xs ys : List Item) → total f (xs ++ ys) ≡ total f xs + total f ys

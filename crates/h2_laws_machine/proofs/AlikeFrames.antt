@@ -1,9 +1,8 @@
 -- A machine that represents a log makes of frames and items what the log does.
-use Rattle.h2_laws_machine.proofs.Names.{◌≡◌, ℕ, List, [], ◌∷◌, ◌++◌, Option, None, refl, ap, sym}
-use Rattle.h2_laws_machine.proofs.Names.{◌∙◌, Frame, GoAway, Item, alone, Values, events_of}
-use Rattle.h2_laws_machine.proofs.Names.{Decoded, frame_step, verdict_of, Log, used, log_view}
-use Rattle.h2_laws_machine.proofs.Names.{Verdict, Reported, View, end_view, End, with_begun}
-use Rattle.h2_laws_machine.proofs.Names.{Represents}
+use Rattle.h2_laws_machine.proofs.Names
+use Names.{◌≡◌, ℕ, List, [], ◌∷◌, ◌++◌, Option, None, refl, ap, sym, ◌∙◌, Frame, GoAway, Item}
+use Names.{alone, Values, events_of, Decoded, frame_step, verdict_of, Log, used, log_view, Verdict}
+use Names.{Reported, View, end_view, End, with_begun, Represents}
 use Rattle.h2_laws_machine.proofs.LogCore.{going}
 use Rattle.h2_laws_machine.proofs.RecvFrames.{going_begun, sound_begun}
 use Rattle.h2_laws_machine.proofs.RecvVerdictLimits.{over_limits_same}

@@ -1,20 +1,16 @@
 -- Of every log that comes about there is a machine that represents it and is bounded.
-use Rattle.h2_spec_log.specs.declared.refusal.Refusal.TheVariants.{Memory}
-use Rattle.h2_spec_log.specs.Histories.{TakesPart, TakesFrame, TakesFault, MayRunOutOfMemory}
-use Rattle.h2_laws_machine.proofs.Names.{◌≡◌, ◌+◌, ◌≤◌, true, None, ap, sym, ◌∙◌, arith, subst}
-use Rattle.h2_laws_machine.proofs.Names.{both_ways, wire_fault_code, InternalError, Role, Values}
-use Rattle.h2_laws_machine.proofs.Names.{Act, Answer, OutOfMemory, Refused, IsTypedAct, Open}
-use Rattle.h2_laws_machine.proofs.Names.{max_output, max_resets, log_view, Log, waiting}
-use Rattle.h2_laws_machine.proofs.Names.{resets_written, active_count, View, Refusal, MayAnswer}
-use Rattle.h2_laws_machine.proofs.Names.{accepts, refuses, lacks, fails, refusal_of, answer_of}
-use Rattle.h2_laws_machine.proofs.Names.{may_fail_for_memory, IsLog, begins, took_some, took_one}
-use Rattle.h2_laws_machine.proofs.Names.{met_fault, ran_out_of_memory, reported_one, called_one}
-use Rattle.h2_laws_machine.proofs.Names.{log_represents, End, end_view, close_unprocessed, new_end}
-use Rattle.h2_laws_machine.proofs.Names.{unprocessed_of_end, Represents, max_active, end_after}
-use Rattle.h2_laws_machine.specs.Bounds.{IsBounded, goaway_size}
-use Rattle.h2_laws_machine.specs.Machines.{MachineStep, uses_part, ends_frame, meets_fault}
-use Rattle.h2_laws_machine.specs.Machines.{runs_out_of_memory, reports_unprocessed, is_called}
-use Rattle.h2_laws_machine.specs.Machines.{MayStep, log_after, machine_after}
+use Rattle.h2_laws_machine.specs.Machines.{reports_unprocessed}
+use Rattle.h2_laws_machine.proofs.Names
+use Names.{◌≡◌, ◌+◌, ◌≤◌, true, None, ap, sym, ◌∙◌, arith, subst, both_ways, wire_fault_code}
+use Names.{InternalError, Role, Values, Act, Answer, OutOfMemory, Refused, IsTypedAct, Open}
+use Names.{max_output, max_resets, log_view, Log, waiting, resets_written, active_count, View}
+use Names.{Refusal, MayAnswer, accepts, refuses, lacks, fails, refusal_of, answer_of}
+use Names.{may_fail_for_memory, IsLog, begins, took_some, took_one, met_fault, ran_out_of_memory}
+use Names.{reported_one, called_one, log_represents, End, end_view, close_unprocessed, new_end}
+use Names.{unprocessed_of_end, Represents, max_active, end_after, Memory, TakesPart, TakesFrame}
+use Names.{TakesFault, MayRunOutOfMemory, IsBounded, goaway_size, MachineStep, uses_part}
+use Names.{ends_frame, meets_fault, runs_out_of_memory, is_called, MayStep, log_after}
+use Names.{machine_after}
 use Rattle.h2_laws_machine.proofs.BoundsOfSteps.{call_bounded, new_bounded, frame_bounded, is_up}
 use Rattle.h2_laws_machine.proofs.BoundsOfSteps.{is_bounded, failed_bounded, ended_up}
 use Rattle.h2_laws_machine.proofs.CallLaw.{up_since}

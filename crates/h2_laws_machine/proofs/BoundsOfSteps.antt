@@ -1,18 +1,14 @@
 -- What is bounded at one end is so at first, and stays so after each frame and each call.
 use Rattle.std.specs.FinMap as map
-use Rattle.hpack.specs.Written.{IsValidEncoder}
-use Rattle.h2_wire.specs.Streams.{expected_preface, preface}
-use Rattle.h2_spec_log.specs.CallRules.{opening_pairs}
+use Rattle.h2_wire.specs.Streams.{preface}
 use Rattle.h2_laws_log.proofs.ItemSizes.{size-opening}
-use Rattle.h2_laws_machine.proofs.Names.{◌≡◌, ℕ, ◌+◌, ◌≤◌, List, [], ◌∷◌, ◌++◌, length, drop}
-use Rattle.h2_laws_machine.proofs.Names.{Option, Some, None, Bool, true, false, arith}
-use Rattle.h2_laws_machine.proofs.Names.{length-append, length-drop, code_number, Frame, GoAway}
-use Rattle.h2_laws_machine.proofs.Names.{Settings, Code, Item, alone, Values, AreInRange, Act}
-use Rattle.h2_laws_machine.proofs.Names.{IsTypedAct, refusal_of, Decoded, encoding_of_items}
-use Rattle.h2_laws_machine.proofs.Names.{max_output, max_resets, Role, End, OwnSettings, end_view}
-use Rattle.h2_laws_machine.proofs.Names.{owed_entry, close_stream, fail, after_frame, after_call}
-use Rattle.h2_laws_machine.proofs.Names.{new_end, size-goaway, max_active, same_some}
-use Rattle.h2_laws_machine.specs.Bounds.{goaway_size, IsBounded}
+use Rattle.h2_laws_machine.proofs.Names
+use Names.{◌≡◌, ℕ, ◌+◌, ◌≤◌, List, [], ◌∷◌, ◌++◌, length, drop, Option, Some, None, Bool, true}
+use Names.{false, arith, length-append, length-drop, code_number, Frame, GoAway, Settings, Code}
+use Names.{Item, alone, Values, AreInRange, Act, IsTypedAct, refusal_of, Decoded, encoding_of_items}
+use Names.{max_output, max_resets, Role, End, OwnSettings, end_view, owed_entry, close_stream, fail}
+use Names.{after_frame, after_call, new_end, size-goaway, max_active, same_some, IsValidEncoder}
+use Names.{expected_preface, opening_pairs, goaway_size, IsBounded}
 use Rattle.h2_laws_machine.proofs.EveryCall.{call_keeps}
 use Rattle.h2_laws_machine.proofs.EveryEnd.{returned_keeps, frame_keeps}
 use Rattle.h2_laws_machine.proofs.EndInvariants.{IsEndInvariant, without_entry}
@@ -58,36 +54,35 @@ failed_bounded e code last h =
 
 -- Each small change keeps to the bounds.
 bounds_kept : IsEndInvariant (Unit {0}) ⊥ (λ (more : ℕ) (e : End). Up e) IsBounded
-bounds_kept =
-    record {
-      up = is_up;
-      kept = is_bounded;
-      failed = failed_bounded;
-      put_out = λ e count h. other_output e e.failed (drop count e.output.waiting)
-          (λ up. omega (arith, h.up up, length-drop count e.output.waiting))
-          (omega (arith, h.output, length-drop count e.output.waiting)) h;
-      joined = λ e more items fits h.
-          let new : List ℕ = encoding_of_items (end_view e).max_payload items in
-          (omega (arith, fits tt h.0, length-append e.output.waiting new), h.1, h.2, h.3, h.4, h.5);
-      encoded = λ e encoder valid h. (h.0, h.1, h.2, h.3, h.4, valid h.5);
-      begun = λ e begun few h. h;
-      table = λ e decoded item known h. h;
-      numbered = λ e highest last most range less h. h;
-      windows = λ e more later windows same most h. h;
-      set = λ e more later i stream next active same stays h. h;
-      removed = λ e i stream active h. (h.0, h.1, omega (arith, h.2), h.3, h.4, h.5);
-      was_reset = λ e i more used few h.
-          (h.0, omega (arith, few), omega (arith, h.2), h.3, h.4, h.5);
-      opened = λ e i ended_in ended_out highest last none most within range less apart few h.
-          (h.0, h.1, omega (arith, few h.4.0 h.3), h.3, h.4, h.5);
-      settings = λ e pairs good h. (h.0, h.1, h.2, omega arith, h.4, h.5);
-      enforced = λ e values awaited h.
-          (h.0, h.1, h.2, h.3, ((h.4.1 values awaited).max_streams, λ others is. absurd (cc)), h.5);
-      awaits = λ e values range h.
-          (h.0, h.1, h.2, h.3, (h.4.0, λ next. same_some AreInRange values next (range tt)), h.5);
-      goaway_sent = λ e h. h;
-      beside = λ e ping received h. h;
-    }
+bounds_kept = record {
+  up = is_up;
+  kept = is_bounded;
+  failed = failed_bounded;
+  put_out = λ e count h. other_output e e.failed (drop count e.output.waiting)
+      (λ up. omega (arith, h.up up, length-drop count e.output.waiting))
+      (omega (arith, h.output, length-drop count e.output.waiting)) h;
+  joined = λ e more items fits h.
+      let new : List ℕ = encoding_of_items (end_view e).max_payload items in
+      (omega (arith, fits tt h.0, length-append e.output.waiting new), h.1, h.2, h.3, h.4, h.5);
+  encoded = λ e encoder valid h. (h.0, h.1, h.2, h.3, h.4, valid h.5);
+  begun = λ e begun few h. h;
+  table = λ e decoded item known h. h;
+  numbered = λ e highest last most range less h. h;
+  windows = λ e more later windows same most h. h;
+  set = λ e more later i stream next active same stays h. h;
+  removed = λ e i stream active h. (h.0, h.1, omega (arith, h.2), h.3, h.4, h.5);
+  was_reset = λ e i more used few h.
+      (h.0, omega (arith, few), omega (arith, h.2), h.3, h.4, h.5);
+  opened = λ e i ended_in ended_out highest last none most within range less apart few h.
+      (h.0, h.1, omega (arith, few h.4.0 h.3), h.3, h.4, h.5);
+  settings = λ e pairs good h. (h.0, h.1, h.2, omega arith, h.4, h.5);
+  enforced = λ e values awaited h.
+      (h.0, h.1, h.2, h.3, ((h.4.1 values awaited).max_streams, λ others is. absurd (cc)), h.5);
+  awaits = λ e values range h.
+      (h.0, h.1, h.2, h.3, (h.4.0, λ next. same_some AreInRange values next (range tt)), h.5);
+  goaway_sent = λ e h. h;
+  beside = λ e ping received h. h;
+}
 
 -- A stream is over.
 pub ended_up : (e : End) (i more : ℕ) → Up e → Up (close_stream e i more)

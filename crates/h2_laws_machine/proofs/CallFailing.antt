@@ -1,17 +1,14 @@
 -- A call that is refused, and one by which the connection fails, preserve that an end represents
 -- its log.
 use Rattle.h2_laws_log.proofs.InvariantCalls.{released_refused, no_fault, released_out_of_memory}
-use Rattle.h2_laws_log.proofs.CallConditions.{and_other, none_holds}
-use Rattle.h2_laws_machine.proofs.Names.{◌≡◌, ℕ, ◌==◌, true, [], ◌∷◌, Option, Some, None, refl, sym}
-use Rattle.h2_laws_machine.proofs.Names.{ap, subst, ◌∙◌, Code, InternalError, Reset, alone}
-use Rattle.h2_laws_machine.proofs.Names.{end_view, End, log_view, View, Values, Act, Answer}
-use Rattle.h2_laws_machine.proofs.Names.{IsTypedAct, Open, Refuse, Done, OutOfMemory, Refused, Log}
-use Rattle.h2_laws_machine.proofs.Names.{active, last_processed, released, code_number}
-use Rattle.h2_laws_machine.proofs.Names.{with_failure, called, with_call, refused_with, with_items}
-use Rattle.h2_laws_machine.proofs.Names.{MayAnswer, refuse_fault, items_of, stream_of_act}
-use Rattle.h2_laws_machine.proofs.Names.{encoder_after_call, refusal_of, conditions, IsLog}
-use Rattle.h2_laws_machine.proofs.Names.{called_one, queue_output, fail, after_refuse, after_call}
-use Rattle.h2_laws_machine.proofs.Names.{reset_stream, Represents, Refusal, stream_is_active}
+use Rattle.h2_laws_machine.proofs.Names
+use Names.{◌≡◌, ℕ, ◌==◌, true, [], ◌∷◌, Option, Some, None, refl, sym, ap, subst, ◌∙◌, Code}
+use Names.{InternalError, Reset, alone, end_view, End, log_view, View, Values, Act, Answer}
+use Names.{IsTypedAct, Open, Refuse, Done, OutOfMemory, Refused, Log, active, last_processed}
+use Names.{released, code_number, with_failure, called, with_call, refused_with, with_items}
+use Names.{MayAnswer, refuse_fault, items_of, stream_of_act, encoder_after_call, refusal_of}
+use Names.{conditions, IsLog, called_one, queue_output, fail, after_refuse, after_call}
+use Names.{reset_stream, Represents, Refusal, stream_is_active, and_other, none_holds}
 use Rattle.h2_laws_machine.proofs.CallReset.{reset_up}
 use Rattle.h2_laws_machine.proofs.GoAwaysSent.{active_processed}
 use Rattle.h2_laws_machine.proofs.LogCore.{core, StreamsOf, going, runs}
@@ -69,23 +66,22 @@ pub refused_represents : (values : Values) (e : End) (log : Log) (act : Act) (re
     → MayAnswer log act (Refused refusal)
     → Represents values e (with_call log act (Refused refusal))
 unfolding with_call
-refused_represents values e log act refusal represents typed may =
-    record {
-      came = called_one represents.came act (Refused refusal) typed may;
-      role = represents.role;
-      failed = represents.failed;
-      output = represents.output;
-      streams = called_streams e.streams (core log) ((act, Refused refusal) ∷ log.calls)
-          (λ i. released_refused i act refusal log.calls) represents.streams;
-      running = λ up.
-          let run = represents.running up in
-          runs e (called log act (Refused refusal)) run.started
-          (called_going e log act (Refused refusal) e.output.encoder (run.encoder
-          ∙ refused_encoder log act refusal)
-          (λ i. released_refused i act refusal log.calls) (going e log represents.streams run));
-      whole = represents.whole;
-      used = represents.used;
-    }
+refused_represents values e log act refusal represents typed may = record {
+  came = called_one represents.came act (Refused refusal) typed may;
+  role = represents.role;
+  failed = represents.failed;
+  output = represents.output;
+  streams = called_streams e.streams (core log) ((act, Refused refusal) ∷ log.calls)
+      (λ i. released_refused i act refusal log.calls) represents.streams;
+  running = λ up.
+      let run = represents.running up in
+      runs e (called log act (Refused refusal)) run.started
+      (called_going e log act (Refused refusal) e.output.encoder (run.encoder
+      ∙ refused_encoder log act refusal)
+      (λ i. released_refused i act refusal log.calls) (going e log represents.streams run));
+  whole = represents.whole;
+  used = represents.used;
+}
 
 -- An end that is out of memory represents its log.
 pub out_of_memory_represents : (values : Values) (e : End) (log : Log) (act : Act)

@@ -1,21 +1,17 @@
 -- After each call an end represents its log.
-use Rattle.h2_spec_log.specs.declared.refusal.Refusal.TheVariants.{Memory}
 use Rattle.h2_laws_log.proofs.AllowedHistories.{wrote_settings}
 use Rattle.h2_laws_log.proofs.InvariantSends.{client_since}
-use Rattle.h2_laws_log.proofs.CallConditions.{first_none, none_holds}
+use Rattle.h2_laws_log.proofs.CallConditions.{first_none}
 use Rattle.h2_laws_log.proofs.LogViewLemmas.{open_out}
-use Rattle.h2_laws_machine.proofs.Names.{◌≡◌, ℕ, ◌%◌, ◌≤◌, ◌<◌, Bool, true, if◌then◌else◌, List}
-use Rattle.h2_laws_machine.proofs.Names.{None, refl, sym, ap, subst, ◌∙◌, Field, both_ways}
-use Rattle.h2_laws_machine.proofs.Names.{or_parts, log_view, one_ping, total, greatest_block}
-use Rattle.h2_laws_machine.proofs.Names.{one_pong, reported_total, Values, Act, Answer, IsTypedAct}
-use Rattle.h2_laws_machine.proofs.Names.{Open, SendFields, SendData, Release, ResetStream, Refuse}
-use Rattle.h2_laws_machine.proofs.Names.{SendPing, SendGoAway, PutOut, ChangeSettings, Number}
-use Rattle.h2_laws_machine.proofs.Names.{OutOfMemory, Refused, is_server, settings_count, Log}
-use Rattle.h2_laws_machine.proofs.Names.{acked, active, last_processed, next_number, conditions}
-use Rattle.h2_laws_machine.proofs.Names.{refusal_of, answer_of, may_fail_for_memory, MayAnswer}
-use Rattle.h2_laws_machine.proofs.Names.{accepts, refuses, lacks, fails, with_call, End, after_call}
-use Rattle.h2_laws_machine.proofs.Names.{Represents, Role, Client, Server, Refusal, end_after}
-use Rattle.h2_laws_machine.proofs.Names.{log_represents, next_odd, none_since, stream_is_active}
+use Rattle.h2_laws_machine.proofs.Names
+use Names.{◌≡◌, ℕ, ◌%◌, ◌≤◌, ◌<◌, Bool, true, if◌then◌else◌, List, None, refl, sym, ap, subst, ◌∙◌}
+use Names.{Field, both_ways, or_parts, log_view, one_ping, total, greatest_block, one_pong}
+use Names.{reported_total, Values, Act, Answer, IsTypedAct, Open, SendFields, SendData, Release}
+use Names.{ResetStream, Refuse, SendPing, SendGoAway, PutOut, ChangeSettings, Number, OutOfMemory}
+use Names.{Refused, is_server, settings_count, Log, acked, active, last_processed, next_number}
+use Names.{conditions, refusal_of, answer_of, may_fail_for_memory, MayAnswer, accepts, refuses}
+use Names.{lacks, fails, with_call, End, after_call, Represents, Role, Client, Server, Refusal}
+use Names.{end_after, log_represents, next_odd, none_since, stream_is_active, Memory, none_holds}
 use Rattle.h2_laws_machine.proofs.CallFailing.{refused_represents, out_of_memory_represents}
 use Rattle.h2_laws_machine.proofs.CallFailing.{refuse_represents}
 use Rattle.h2_laws_machine.proofs.CallOpen.{IsClear, open_up}

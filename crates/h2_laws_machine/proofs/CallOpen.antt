@@ -2,19 +2,16 @@
 use Rattle.std.specs.FinMap as map
 use Rattle.h2_spec_machine.specs.Machine.{open_stream}
 use Rattle.h2_laws_log.proofs.LogViewLemmas.{client_above}
-use Rattle.h2_laws_machine.proofs.Names.{◌≡◌, ◌≢◌, ℕ, zero, suc, ◌+◌, ◌-◌, ◌≤◌, ◌<◌, ◌%◌, ◌||◌}
-use Rattle.h2_laws_machine.proofs.Names.{Bool, true, false, List, [], ◌∷◌, pos, refl, sym, ap}
-use Rattle.h2_laws_machine.proofs.Names.{subst, ◌∙◌, arith, zero-add, suc-add, false_from_ne_true}
-use Rattle.h2_laws_machine.proofs.Names.{eq-eqb, and_left, ints, list_any, Field, block_of}
-use Rattle.h2_laws_machine.proofs.Names.{after_block, Item, block, Role, Client, Server, data_on}
-use Rattle.h2_laws_machine.proofs.Names.{increment_on, is_block_on, ends, resets, one_reset, total}
-use Rattle.h2_laws_machine.proofs.Names.{greatest_block, reports_unprocessed, Event, own_value}
-use Rattle.h2_laws_machine.proofs.Names.{value_read, openings, count_below, first_window, given_on}
-use Rattle.h2_laws_machine.proofs.Names.{granted_on, window, Log, unreleased, released, log_view}
-use Rattle.h2_laws_machine.proofs.Names.{Open, Number, called, with_items, with_call, items_of}
-use Rattle.h2_laws_machine.proofs.Names.{stream_of_act, encoder_after_call, End, active_entry}
-use Rattle.h2_laws_machine.proofs.Names.{StreamView, View, new_stream, with_encoder, after_call}
-use Rattle.h2_laws_machine.proofs.Names.{active_by_parts, active_parts, block_below}
+use Rattle.h2_laws_machine.proofs.Names
+use Names.{◌≡◌, ◌≢◌, ℕ, zero, suc, ◌+◌, ◌-◌, ◌≤◌, ◌<◌, ◌%◌, ◌||◌, Bool, true, false, List, [], ◌∷◌}
+use Names.{pos, refl, sym, ap, subst, ◌∙◌, arith, zero-add, suc-add, false_from_ne_true, eq-eqb}
+use Names.{and_left, ints, list_any, Field, block_of, after_block, Item, block, Role, Client}
+use Names.{Server, data_on, increment_on, is_block_on, ends, resets, one_reset, total}
+use Names.{greatest_block, reports_unprocessed, Event, own_value, value_read, openings, count_below}
+use Names.{first_window, given_on, granted_on, window, Log, unreleased, released, log_view, Open}
+use Names.{Number, called, with_items, with_call, items_of, stream_of_act, encoder_after_call, End}
+use Names.{active_entry, StreamView, View, new_stream, with_encoder, after_call, active_by_parts}
+use Names.{active_parts, block_below}
 use Rattle.h2_laws_machine.proofs.ItemsApart.{block_apart}
 use Rattle.h2_laws_machine.proofs.LogCore.{Core, core, CoreFacts, core_facts, Advances, confirmed}
 use Rattle.h2_laws_machine.proofs.LogCore.{active_by_items, greatest_used, said, kept_back}
@@ -119,14 +116,13 @@ end_or false b is = sym is
 
 -- the stream that is opened
 abbrev opened_stream : CoreFacts → Bool → StreamView
-opened_stream h end =
-    record {
-      send_window = pos h.peer.initial_window;
-      recv_window = pos h.own.in_force.initial_window;
-      owed = 0;
-      ended_in = false;
-      ended_out = end;
-    }
+opened_stream h end = record {
+  send_window = pos h.peer.initial_window;
+  recv_window = pos h.own.in_force.initial_window;
+  owed = 0;
+  ended_in = false;
+  ended_out = end;
+}
 
 -- The new stream is what the log says.
 new_is : (h : CoreFacts) (c : Core) (i : ℕ) (end : Bool) (octets : List ℕ) → IsClear c i
@@ -223,8 +219,7 @@ open_up e log fields end client odd above clear is =
     let went = called_going e log act (Number id) (after_block log.encoder fields) refl (λ i. refl)
     is.going in
     let f = with_encoder e (after_block log.encoder fields) in
-    let opened_one =
-    record f {
+    let opened_one = record f {
       streams = record f.streams {
         entries = map.insert e.streams.entries id (active_entry (new_stream e false end));
         active_count = e.streams.active_count + 1;

@@ -1,20 +1,16 @@
 -- The call that releases octets preserves that an end represents its log.
 use Rattle.std.specs.FinMap as map
 use Rattle.h2_laws_log.proofs.ReleasedCredit.{released_here, updates}
-use Rattle.h2_laws_log.proofs.LogViewLemmas.{stream_there}
-use Rattle.h2_laws_log.proofs.AllowedHistories.{increment_here}
-use Rattle.h2_laws_machine.proofs.Names.{◌≡◌, ◌≢◌, ℕ, ◌+◌, ◌-◌, ◌==◌, Bool, true, false}
-use Rattle.h2_laws_machine.proofs.Names.{if◌then◌else◌, List, ◌∷◌, ◌++◌, pos, ◌+ℤ◌, Option, Some}
-use Rattle.h2_laws_machine.proofs.Names.{refl, sym, ap, subst, ◌∙◌, arith, ne_eqb, ints, list_any}
-use Rattle.h2_laws_machine.proofs.Names.{nat_cmp_total, WindowUpdate, Item, alone, Role, data_on}
-use Rattle.h2_laws_machine.proofs.Names.{increment_on, ends, one_reset, total, own_value, is_active}
-use Rattle.h2_laws_machine.proofs.Names.{first_window, granted_on, window, given_on, Log, active}
-use Rattle.h2_laws_machine.proofs.Names.{unreleased, released, log_view, stream_of_log, Act, Answer}
-use Rattle.h2_laws_machine.proofs.Names.{Release, Done, with_sent, with_unreturned, owed_at_close}
-use Rattle.h2_laws_machine.proofs.Names.{called, with_items, with_call, items_of, stream_of_act}
-use Rattle.h2_laws_machine.proofs.Names.{encoder_after_call, End, StreamEntry, StreamMap}
-use Rattle.h2_laws_machine.proofs.Names.{active_entry, StreamView, View, ended_in, queue_output}
-use Rattle.h2_laws_machine.proofs.Names.{after_release, after_call, Event, get_set, total_one}
+use Rattle.h2_laws_machine.proofs.Names
+use Names.{◌≡◌, ◌≢◌, ℕ, ◌+◌, ◌-◌, ◌==◌, Bool, true, false, if◌then◌else◌, List, ◌∷◌, ◌++◌, pos}
+use Names.{◌+ℤ◌, Option, Some, refl, sym, ap, subst, ◌∙◌, arith, ne_eqb, ints, list_any}
+use Names.{nat_cmp_total, WindowUpdate, Item, alone, Role, data_on, increment_on, ends, one_reset}
+use Names.{total, own_value, is_active, first_window, granted_on, window, given_on, Log, active}
+use Names.{unreleased, released, log_view, stream_of_log, Act, Answer, Release, Done, with_sent}
+use Names.{with_unreturned, owed_at_close, called, with_items, with_call, items_of, stream_of_act}
+use Names.{encoder_after_call, End, StreamEntry, StreamMap, active_entry, StreamView, View}
+use Names.{ended_in, queue_output, after_release, after_call, Event, get_set, total_one}
+use Names.{stream_there, increment_here}
 use Rattle.h2_laws_machine.proofs.LogCore.{Core, core, CoreFacts, core_facts, Advances, confirmed}
 use Rattle.h2_laws_machine.proofs.LogCore.{active_by_items, said, kept_back}
 use Rattle.h2_laws_machine.proofs.OneItemMore.{total_quiet, own_quiet}
@@ -170,8 +166,7 @@ release_advances h c id count false active_is g =
     same_stream (record (said base id) { recv_window = (said base id).recv_window +ℤ pos count })
     next refl refl (sym (kept_less c id count)) refl refl in
     let once : map.insert (map.insert h.streams.entries id (active_entry first)) id
-    (active_entry (record (said base id)
-    { recv_window = (said base id).recv_window +ℤ pos count }))
+    (active_entry (record (said base id) { recv_window = (said base id).recv_window +ℤ pos count }))
     ≡ map.insert h.streams.entries id (active_entry next) =
     ap (λ (s : StreamView). map.insert (map.insert h.streams.entries id (active_entry first)) id
     (active_entry s)) meant
@@ -190,8 +185,7 @@ release_up e log id count active_is is =
     let base = called log (Release id count) Done in
     let ended = list_any (ends id) log.received in
     let items = updates id count ended in
-    let released_one =
-    record e {
+    let released_one = record e {
       streams = record e.streams {
         entries = map.insert e.streams.entries id
             (active_entry (stream_released (core log) id count ended));

@@ -1,15 +1,12 @@
 -- The calls that reset a stream preserve that an end represents its log.
 use Rattle.std.specs.FinMap as map
-use Rattle.h2_laws_machine.proofs.Names.{◌≡◌, ◌≢◌, ℕ, ◌+◌, ◌-◌, Bool, true, false, List, [], ◌∷◌}
-use Rattle.h2_laws_machine.proofs.Names.{is_some, refl, sym, ap, ◌∙◌, arith, false_from_ne_true}
-use Rattle.h2_laws_machine.proofs.Names.{both_ways, eq-eqb, list_any, Reset, Item, alone, resets}
-use Rattle.h2_laws_machine.proofs.Names.{one_reset, first_window, Log, active, unreleased, released}
-use Rattle.h2_laws_machine.proofs.Names.{ResetStream, Done, with_sent, with_unreturned}
-use Rattle.h2_laws_machine.proofs.Names.{owed_at_close, called, with_items, with_call, items_of}
-use Rattle.h2_laws_machine.proofs.Names.{stream_of_act, encoder_after_call, End, reset_entry}
-use Rattle.h2_laws_machine.proofs.Names.{stream_at, owed_entry, StreamView, is_one, reset_stream}
-use Rattle.h2_laws_machine.proofs.Names.{queue_output, after_call, entry_by, active_parts}
-use Rattle.h2_laws_machine.proofs.Names.{lasts_parts, total_one}
+use Rattle.h2_laws_machine.proofs.Names
+use Names.{◌≡◌, ◌≢◌, ℕ, ◌+◌, ◌-◌, Bool, true, false, List, [], ◌∷◌, is_some, refl, sym, ap, ◌∙◌}
+use Names.{arith, false_from_ne_true, both_ways, eq-eqb, list_any, Reset, Item, alone, resets}
+use Names.{one_reset, first_window, Log, active, unreleased, released, ResetStream, Done, with_sent}
+use Names.{with_unreturned, owed_at_close, called, with_items, with_call, items_of, stream_of_act}
+use Names.{encoder_after_call, End, reset_entry, stream_at, owed_entry, StreamView, is_one}
+use Names.{reset_stream, queue_output, after_call, entry_by, active_parts, lasts_parts, total_one}
 use Rattle.h2_laws_machine.proofs.ItemsApart.{reset_apart}
 use Rattle.h2_laws_machine.proofs.LogCore.{Core, core, CoreFacts, core_facts, Advances, confirmed}
 use Rattle.h2_laws_machine.proofs.LogCore.{active_by_items, said, kept_back}

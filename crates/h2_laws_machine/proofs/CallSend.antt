@@ -1,22 +1,18 @@
 -- The calls that send on an active stream preserve that an end represents its log: fields and a
 -- body.
 use Rattle.std.specs.FinMap as map
-use Rattle.h2_spec_log.specs.CallRules.{data_count}
-use Rattle.h2_laws_log.proofs.LogViewLemmas.{natural_by, stream_there}
-use Rattle.h2_laws_machine.proofs.Names.{◌≡◌, ℕ, suc, ◌+◌, ◌-◌, ◌≤◌, ◌==◌, not, ◌&&◌, Bool, true}
-use Rattle.h2_laws_machine.proofs.Names.{false, if◌then◌else◌, List, [], ◌∷◌, ◌++◌, length, take, ℤ}
-use Rattle.h2_laws_machine.proofs.Names.{pos, ◌-ℤ◌, Option, Some, None, refl, sym, ap, subst, ◌∙◌}
-use Rattle.h2_laws_machine.proofs.Names.{arith, list_any, ints, length-take-le, Field, block_of}
-use Rattle.h2_laws_machine.proofs.Names.{after_block, Item, block, End, end_view, active_entry}
-use Rattle.h2_laws_machine.proofs.Names.{owed_entry, log_view, stream_of_log, data_on, data_of}
-use Rattle.h2_laws_machine.proofs.Names.{ends, total, SendFields, SendData, Count, Done, given_on}
-use Rattle.h2_laws_machine.proofs.Names.{given_on_connection, window, Log, active, send_window}
-use Rattle.h2_laws_machine.proofs.Names.{unreleased, released, answer_of, items_of, stream_of_act}
-use Rattle.h2_laws_machine.proofs.Names.{encoder_after_call, data_frames, data_items, at_least_none}
-use Rattle.h2_laws_machine.proofs.Names.{with_sent, with_unreturned, owed_at_close, called}
-use Rattle.h2_laws_machine.proofs.Names.{with_items, with_call, StreamView, View, queue_output}
-use Rattle.h2_laws_machine.proofs.Names.{set_stream, close_stream, update_stream, after_fields_sent}
-use Rattle.h2_laws_machine.proofs.Names.{after_data, after_call, active_parts, get_set_same}
+use Rattle.h2_laws_log.proofs.LogViewLemmas.{natural_by}
+use Rattle.h2_laws_machine.proofs.Names
+use Names.{◌≡◌, ℕ, suc, ◌+◌, ◌-◌, ◌≤◌, ◌==◌, not, ◌&&◌, Bool, true, false, if◌then◌else◌, List, []}
+use Names.{◌∷◌, ◌++◌, length, take, ℤ, pos, ◌-ℤ◌, Option, Some, None, refl, sym, ap, subst, ◌∙◌}
+use Names.{arith, list_any, ints, length-take-le, Field, block_of, after_block, Item, block, End}
+use Names.{end_view, active_entry, owed_entry, log_view, stream_of_log, data_on, data_of, ends}
+use Names.{total, SendFields, SendData, Count, Done, given_on, given_on_connection, window, Log}
+use Names.{active, send_window, unreleased, released, answer_of, items_of, stream_of_act}
+use Names.{encoder_after_call, data_frames, data_items, at_least_none, with_sent, with_unreturned}
+use Names.{owed_at_close, called, with_items, with_call, StreamView, View, queue_output, set_stream}
+use Names.{close_stream, update_stream, after_fields_sent, after_data, after_call, active_parts}
+use Names.{get_set_same, data_count, stream_there}
 use Rattle.h2_laws_machine.proofs.CallSendItems.{adds_block, adds_all}
 use Rattle.h2_laws_machine.proofs.LogCore.{core, core_facts, Going}
 use Rattle.h2_laws_machine.proofs.OwedAtClose.{owes_active, owes_all}
@@ -67,8 +63,7 @@ sent_by e f log base id items n end send_window here true over was active_is is 
     let owing : owed_at_close log (with_sent base items) id ≡ unreleased base id =
     owes_all log (with_sent base items) id was closed ∙ wrote_owes base items id in
     let owed : 0 + owed_entry (map.get (map.insert f.streams.entries id (active_entry s)) id)
-    ≡ unreleased base id =
-    rw (get_set_same f.streams.entries id (active_entry s)) (omega arith) in
+    ≡ unreleased base id = rw (get_set_same f.streams.entries id (active_entry s)) (omega arith) in
     with_unreturned_up _ (with_sent base items) _ _ (owed ∙ sym owing) wrote_them
 sent_by e f log base id items n end send_window here false goes was active_is is a conserved role up
     same peer waits started run =
@@ -76,8 +71,7 @@ sent_by e f log base id items n end send_window here false goes was active_is is
     let ran = set_advances (core_facts f) (core base) id (items ++ base.sent) n end send_window here
     active_is goes is a conserved run in
     let wrote_them = wrote_up e (record f {
-      streams = record f.streams
-          { entries = map.insert f.streams.entries id (active_entry s) };
+      streams = record f.streams { entries = map.insert f.streams.entries id (active_entry s) };
       windows = record f.windows { send = here };
     }) base items role up same peer waits started ran in
     let still : active (with_sent base items) id ≡ true = wrote_active base items id

@@ -1,13 +1,12 @@
 -- The items that a call writes on an active stream: a block, or DATA.
 use Rattle.std.proofs.Common.{append_assoc}
-use Rattle.h2_laws_machine.proofs.Names.{◌≡◌, ℕ, zero, suc, ◌+◌, ◌≤◌, ◌<◌, ◌==◌, ◌||◌, nat_le, Bool}
-use Rattle.h2_laws_machine.proofs.Names.{true, false, if◌then◌else◌, List, [], ◌∷◌, ◌++◌, length}
-use Rattle.h2_laws_machine.proofs.Names.{◌-◌, take, drop, None, refl, sym, subst, ◌∙◌, arith}
-use Rattle.h2_laws_machine.proofs.Names.{length-drop, list_any, length-take-le, eqb-true, ne_eqb}
-use Rattle.h2_laws_machine.proofs.Names.{eq-eqb, leb-false, Data, Item, alone, block, Role, Client}
-use Rattle.h2_laws_machine.proofs.Names.{Server, data_on, data_of, increment_on, is_block_on, ends}
-use Rattle.h2_laws_machine.proofs.Names.{one_ping, one_reset, greatest_block, total, openings}
-use Rattle.h2_laws_machine.proofs.Names.{data_frames, block_below, total_one, takes_on, takes_of}
+use Rattle.h2_laws_machine.proofs.Names
+use Names.{◌≡◌, ℕ, zero, suc, ◌+◌, ◌≤◌, ◌<◌, ◌==◌, ◌||◌, nat_le, Bool, true, false, if◌then◌else◌}
+use Names.{List, [], ◌∷◌, ◌++◌, length, ◌-◌, take, drop, None, refl, sym, subst, ◌∙◌, arith}
+use Names.{length-drop, list_any, length-take-le, eqb-true, ne_eqb, eq-eqb, leb-false, Data, Item}
+use Names.{alone, block, Role, Client, Server, data_on, data_of, increment_on, is_block_on, ends}
+use Names.{one_ping, one_reset, greatest_block, total, openings, data_frames, block_below}
+use Names.{total_one, takes_on, takes_of}
 use Rattle.h2_laws_machine.proofs.OneItemMore.{total_quiet, any_quiet, own_quiet, settings_quiet}
 use Rattle.h2_laws_machine.proofs.SentConnectionItems.{computing}
 use Rattle.h2_laws_machine.proofs.SentQuietItems.{above_quiet}

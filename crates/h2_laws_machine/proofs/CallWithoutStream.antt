@@ -1,21 +1,17 @@
 -- The calls that concern no stream preserve that an end represents its log.
 use Rattle.std.proofs.lemmas.List.{drop-drop, drop_min, length-drop}
-use Rattle.h2_spec_log.specs.CallRules.{changed_pairs, update_size}
-use Rattle.h2_laws_machine.proofs.Names.{◌≡◌, ℕ, ◌+◌, ◌-◌, ◌≤◌, min, true, false, if◌then◌else◌}
-use Rattle.h2_laws_machine.proofs.Names.{List, [], ◌∷◌, length, drop, Option, Some, None, refl, sym}
-use Rattle.h2_laws_machine.proofs.Names.{ap, subst, ◌∙◌, arith, length-append, Code, Settings, Ping}
-use Rattle.h2_laws_machine.proofs.Names.{GoAway, WindowUpdate, alone, end_view, End, one_ping}
-use Rattle.h2_laws_machine.proofs.Names.{total, encoding_of_items, one_pong, reported_total, Values}
-use Rattle.h2_laws_machine.proofs.Names.{Act, Answer, IsTypedAct, SendPing, SendGoAway, PutOut}
-use Rattle.h2_laws_machine.proofs.Names.{ChangeSettings, Count, Done, View, is_server}
-use Rattle.h2_laws_machine.proofs.Names.{settings_count, value_read, Log, acked, active}
-use Rattle.h2_laws_machine.proofs.Names.{last_processed, waiting, output, released}
-use Rattle.h2_laws_machine.proofs.Names.{max_payload_sent, with_sent, called, before_put_out}
-use Rattle.h2_laws_machine.proofs.Names.{MayAnswer, with_items, with_call, first_of, items_of}
-use Rattle.h2_laws_machine.proofs.Names.{answer_of, stream_of_act, encoder_after_call, conditions}
-use Rattle.h2_laws_machine.proofs.Names.{refusal_of, returns_before_put_out, log_view, queue_output}
-use Rattle.h2_laws_machine.proofs.Names.{before_put_out_at, after_call, Represents, both_by}
-use Rattle.h2_laws_machine.proofs.Names.{put_out_cases, size-update}
+use Rattle.h2_spec_log.specs.CallRules.{update_size}
+use Rattle.h2_laws_machine.proofs.Names
+use Names.{◌≡◌, ℕ, ◌+◌, ◌-◌, ◌≤◌, min, true, false, if◌then◌else◌, List, [], ◌∷◌, length, drop}
+use Names.{Option, Some, None, refl, sym, ap, subst, ◌∙◌, arith, length-append, Code, Settings}
+use Names.{Ping, GoAway, WindowUpdate, alone, end_view, End, one_ping, total, encoding_of_items}
+use Names.{one_pong, reported_total, Values, Act, Answer, IsTypedAct, SendPing, SendGoAway, PutOut}
+use Names.{ChangeSettings, Count, Done, View, is_server, settings_count, value_read, Log, acked}
+use Names.{active, last_processed, waiting, output, released, max_payload_sent, with_sent, called}
+use Names.{before_put_out, MayAnswer, with_items, with_call, first_of, items_of, answer_of}
+use Names.{stream_of_act, encoder_after_call, conditions, refusal_of, returns_before_put_out}
+use Names.{log_view, queue_output, before_put_out_at, after_call, Represents, both_by}
+use Names.{put_out_cases, size-update, changed_pairs}
 use Rattle.h2_laws_machine.proofs.LogCore.{core, core_facts, runs}
 use Rattle.h2_laws_machine.proofs.OwedAtClose.{owes_none}
 use Rattle.h2_laws_machine.proofs.RepresentedSteps.{called_going, Up, up_of, represents_made}
@@ -78,8 +74,7 @@ settings_up e log values enough some is =
     wrote_up e (record e { own = record e.own { awaited = Some values } }) base (item ∷ []) is.role
     is.up is.same refl is.waits is.started
     (settings_advance (core_facts e) (core base) values enough some went) in
-    nothing_unreturned _ log _ 0 (owes_none log _)
-    (subst (λ (view : View). Up
+    nothing_unreturned _ log _ 0 (owes_none log _) (subst (λ (view : View). Up
     (record (queue_output e (items_of view (ChangeSettings values) Done))
     { own = record e.own { awaited = Some values } }) (with_sent base (item ∷ [])))
     (sym (views_of_up e log is)) all)
@@ -95,8 +90,7 @@ put_out_waits e log count n is w =
     let most : min count (length (drop log.given log.written)) ≡ n = rw size (sym is) in
     let within = w.given in
     record {
-      waiting =
-          ap (drop count) w.waiting ∙ sym (drop_min count (drop log.given log.written))
+      waiting = ap (drop count) w.waiting ∙ sym (drop_min count (drop log.given log.written))
           ∙ ap (λ (k : ℕ). drop k (drop log.given log.written)) most
           ∙ drop-drop n log.given log.written;
       given = omega arith;
@@ -129,14 +123,12 @@ put_out_up e log count n is up =
     let all : Up (record (before_put_out_at e) {
       output = record (before_put_out_at e).output
           { waiting = drop count (before_put_out_at e).output.waiting };
-    })
-    (record (before_put_out base) { given = (before_put_out base).given + n }) =
+    }) (record (before_put_out base) { given = (before_put_out base).given + n }) =
     assumption (waits, made) in
     subst (λ (k : ℕ). Up (record (before_put_out_at e) {
       output = record (before_put_out_at e).output
           { waiting = drop count (before_put_out_at e).output.waiting };
-    })
-    (record (before_put_out base) { given = k + n })) (ready_given base) all
+    }) (record (before_put_out base) { given = k + n })) (ready_given base) all
 
 -- As much waits once an end is ready as the rules say.
 ready_size : (log : Log) → log.given ≤ length log.written
@@ -189,8 +181,7 @@ put_out_by values e log count n (Some code) failed is represents typed may =
     }) (record base { given = log.given + n }) =
     put_out_waits e base count n (is ∙ ap (min count) (sym same)) represents.output in
     represents_made values e log (PutOut count) (Count n) represents typed may (never_refused e
-    count)
-    (ap (λ (x : End). x.role) here ∙ represents.role ∙ sym (ap (λ (x : Log). x.role) there))
+    count) (ap (λ (x : End). x.role) here ∙ represents.role ∙ sym (ap (λ (x : Log). x.role) there))
     (ap (λ (x : End). x.failed) here ∙ represents.failed ∙ sym (ap (λ (x : Log). x.failed) there))
     (rw (here, there) waits)
     (rw (here, there) (called_streams e.streams (core log) ((PutOut count, Count n) ∷ log.calls)

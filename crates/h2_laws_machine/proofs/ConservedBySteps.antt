@@ -1,14 +1,12 @@
 -- The connection's receive window is conserved, and nothing is kept of numbers that weren't used:
 -- at first, and after each frame and each call.
 use Rattle.std.specs.FinMap as map
-use Rattle.h2_laws_machine.proofs.Names.{◌≡◌, ◌≢◌, ℕ, ◌+◌, ◌<◌, ◌≤◌, None, Option, Some, refl, ◌∙◌}
-use Rattle.h2_laws_machine.proofs.Names.{arith, nat_cmp, Frame, Values, Act, refusal_of, Decoded}
-use Rattle.h2_laws_machine.proofs.Names.{value_after, StreamView, first_window, Role, End}
-use Rattle.h2_laws_machine.proofs.Names.{StreamEntry, StreamMap, active_entry, reset_entry}
-use Rattle.h2_laws_machine.proofs.Names.{end_view, stream_in, owed_entry, owed_total, close_stream}
-use Rattle.h2_laws_machine.proofs.Names.{shifted_entry, recv_shifted_entry, each_entry, new_stream}
-use Rattle.h2_laws_machine.proofs.Names.{after_frame, after_call, new_end, KeepsConnectionWindow}
-use Rattle.h2_laws_machine.proofs.Names.{get_set_other, get_removed_none}
+use Rattle.h2_laws_machine.proofs.Names
+use Names.{◌≡◌, ◌≢◌, ℕ, ◌+◌, ◌<◌, ◌≤◌, None, Option, Some, refl, ◌∙◌, arith, nat_cmp, Frame, Values}
+use Names.{Act, refusal_of, Decoded, value_after, StreamView, first_window, Role, End, StreamEntry}
+use Names.{StreamMap, active_entry, reset_entry, end_view, stream_in, owed_entry, owed_total}
+use Names.{close_stream, shifted_entry, recv_shifted_entry, each_entry, new_stream, after_frame}
+use Names.{after_call, new_end, KeepsConnectionWindow, get_set_other, get_removed_none}
 use Rattle.h2_laws_machine.proofs.EveryCall.{call_keeps}
 use Rattle.h2_laws_machine.proofs.EveryEnd.{returned_keeps, frame_keeps}
 use Rattle.h2_laws_machine.proofs.EndInvariants.{IsEndInvariant}
@@ -55,31 +53,28 @@ clear_after m i used later x most within clear j above =
 entry_set : (recv unreturned after used later : ℕ) (m : StreamMap) (i : ℕ) (x : StreamEntry)
     → owed_entry (Some x) + after ≡ owed_entry (map.get m i) + unreturned → used ≤ later
     → i ≤ later → Sums recv unreturned used m → Sums recv after later (map.insert m i x)
-entry_set recv unreturned after used later m i x moved most within h =
-    record {
-      sum = omega (arith, h.sum, total-insert m i x, moved);
-      clear = clear_after m i used later x most within h.clear;
-    }
+entry_set recv unreturned after used later m i x moved most within h = record {
+  sum = omega (arith, h.sum, total-insert m i x, moved);
+  clear = clear_after m i used later x most within h.clear;
+}
 
 -- An entry is removed, and what it owes is to be returned.
 entry_removed : (recv unreturned more used : ℕ) (m : StreamMap) (i : ℕ)
     → Sums recv (unreturned + more) used m
     → Sums recv (unreturned + (more + owed_entry (map.get m i))) used (map.remove m i)
-entry_removed recv unreturned more used m i h =
-    record {
-      sum = omega (arith, h.sum, total-remove m i);
-      clear = λ j above. get_removed_none m i j (h.clear j above);
-    }
+entry_removed recv unreturned more used m i h = record {
+  sum = omega (arith, h.sum, total-remove m i);
+  clear = λ j above. get_removed_none m i j (h.clear j above);
+}
 
 -- All streams are changed, with as much owed.
 all_changed : (recv unreturned used : ℕ) (m : StreamMap) (change : StreamEntry → StreamEntry)
     → ((x : StreamEntry) → owed_entry (Some (change x)) ≡ owed_entry (Some x))
     → Sums recv unreturned used m → Sums recv unreturned used (each_entry change m)
-all_changed recv unreturned used m change keeps h =
-    record {
-      sum = omega (arith, h.sum, total-each change m keeps);
-      clear = λ j above. get_each_none change m j (h.clear j above);
-    }
+all_changed recv unreturned used m change keeps h = record {
+  sum = omega (arith, h.sum, total-each change m keeps);
+  clear = λ j above. get_each_none change m j (h.clear j above);
+}
 
 -- What is owed is what an active stream owes.
 stream_owes : (x : Option StreamEntry) (stream : StreamView) → stream_in x ≡ Some stream
@@ -102,51 +97,50 @@ shifts_keep old new (active_entry stream) = (refl, refl)
 
 -- Each small change conserves the window.
 window_kept : IsEndInvariant ⊥ ⊥ Lacks Holds
-window_kept =
-    record {
-      up = λ e up h. lacks_none e.windows.recv e.windows.unreturned e.streams.highest
-          e.streams.entries h;
-      kept = λ e h. record { sum = omega (arith, h.sum); clear = h.clear };
-      failed = λ e code last h. record { sum = omega (arith, h.sum); clear = h.clear };
-      put_out = λ e count h. h;
-      joined = λ e more items fits h. h;
-      encoded = λ e encoder valid h. h;
-      begun = λ e begun few h. h;
-      table = λ e decoded item known h. h;
-      numbered = λ e highest last most range less h. record {
-        sum = h.sum;
-        clear = λ j above. h.clear j (omega (arith, most, above));
-      };
-      windows = λ e more later windows same most h. record {
-        sum = omega (arith, h.sum, same);
-        clear = h.clear;
-      };
-      set = λ e more later i stream next active same stays h.
-          let owed : owed_entry (map.get e.streams.entries i) ≡ stream.owed =
-          stream_owes (map.get e.streams.entries i) stream active in
-          entry_set e.windows.recv (e.windows.unreturned + more) (e.windows.unreturned + later)
-          e.streams.highest _ _ i (active_entry next) (omega (arith, owed, same)) (omega arith)
-          (active_used e i stream active h.clear) h;
-      removed = λ e i stream active h. entry_removed e.windows.recv e.windows.unreturned 0 _ _ i h;
-      was_reset = λ e i more used few h. entry_set e.windows.recv (e.windows.unreturned + more)
-          (e.windows.unreturned + (more + owed_entry (map.get e.streams.entries i)))
-          e.streams.highest _ _ i reset_entry (omega arith) (omega arith) (used h.clear) h;
-      opened = λ e i ended_in ended_out highest last none most within range less apart few h.
-          let nothing : owed_entry (map.get e.streams.entries i) ≡ 0 =
-          nothing_owed (map.get e.streams.entries i) (none h.clear) in
-          entry_set e.windows.recv (e.windows.unreturned + 0) (e.windows.unreturned + 0)
-          e.streams.highest _ _ i (active_entry (new_stream e ended_in ended_out))
-          (omega (arith, nothing)) most within h;
-      settings = λ e pairs good h. all_changed _ _ _ _ (shifted_entry e.peer.initial_window
-          (value_after 4 e.peer.initial_window pairs))
-          (λ x. (shifts_keep e.peer.initial_window _ x).0) h;
-      enforced = λ e values awaited h. all_changed _ _ _ _
-          (recv_shifted_entry e.own.in_force.initial_window values.initial_window)
-          (λ x. (shifts_keep _ _ x).1) h;
-      awaits = λ e values range h. h;
-      goaway_sent = λ e h. h;
-      beside = λ e ping received h. h;
-    }
+window_kept = record {
+  up = λ e up h. lacks_none e.windows.recv e.windows.unreturned e.streams.highest
+      e.streams.entries h;
+  kept = λ e h. record { sum = omega (arith, h.sum); clear = h.clear };
+  failed = λ e code last h. record { sum = omega (arith, h.sum); clear = h.clear };
+  put_out = λ e count h. h;
+  joined = λ e more items fits h. h;
+  encoded = λ e encoder valid h. h;
+  begun = λ e begun few h. h;
+  table = λ e decoded item known h. h;
+  numbered = λ e highest last most range less h. record {
+    sum = h.sum;
+    clear = λ j above. h.clear j (omega (arith, most, above));
+  };
+  windows = λ e more later windows same most h. record {
+    sum = omega (arith, h.sum, same);
+    clear = h.clear;
+  };
+  set = λ e more later i stream next active same stays h.
+      let owed : owed_entry (map.get e.streams.entries i) ≡ stream.owed =
+      stream_owes (map.get e.streams.entries i) stream active in
+      entry_set e.windows.recv (e.windows.unreturned + more) (e.windows.unreturned + later)
+      e.streams.highest _ _ i (active_entry next) (omega (arith, owed, same)) (omega arith)
+      (active_used e i stream active h.clear) h;
+  removed = λ e i stream active h. entry_removed e.windows.recv e.windows.unreturned 0 _ _ i h;
+  was_reset = λ e i more used few h. entry_set e.windows.recv (e.windows.unreturned + more)
+      (e.windows.unreturned + (more + owed_entry (map.get e.streams.entries i)))
+      e.streams.highest _ _ i reset_entry (omega arith) (omega arith) (used h.clear) h;
+  opened = λ e i ended_in ended_out highest last none most within range less apart few h.
+      let nothing : owed_entry (map.get e.streams.entries i) ≡ 0 =
+      nothing_owed (map.get e.streams.entries i) (none h.clear) in
+      entry_set e.windows.recv (e.windows.unreturned + 0) (e.windows.unreturned + 0)
+      e.streams.highest _ _ i (active_entry (new_stream e ended_in ended_out))
+      (omega (arith, nothing)) most within h;
+  settings = λ e pairs good h. all_changed _ _ _ _ (shifted_entry e.peer.initial_window
+      (value_after 4 e.peer.initial_window pairs))
+      (λ x. (shifts_keep e.peer.initial_window _ x).0) h;
+  enforced = λ e values awaited h. all_changed _ _ _ _
+      (recv_shifted_entry e.own.in_force.initial_window values.initial_window)
+      (λ x. (shifts_keep _ _ x).1) h;
+  awaits = λ e values range h. h;
+  goaway_sent = λ e h. h;
+  beside = λ e ping received h. h;
+}
 
 -- A stream is over.
 pub ended : (e : End) (i more : ℕ) → Lacks more e → Holds (close_stream e i more)

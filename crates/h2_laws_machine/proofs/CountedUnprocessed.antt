@@ -1,12 +1,10 @@
 -- The counts of an end are those of its entries after a stream that is reported as unprocessed.
 use Rattle.std.specs.FinMap as map
-use Rattle.h2_spec_machine.specs.Machine.{is_active_entry}
-use Rattle.h2_spec_machine.proofs.SortedEntries.{first_found}
 use Rattle.h2_laws_machine.proofs.Names.{◌≡◌, ◌≢◌, ℕ, Option, Some, None, refl, ap, ◌∙◌, true, Role}
 use Rattle.h2_laws_machine.proofs.Names.{Client, Server, StreamView, End, StreamEntry, StreamMap}
 use Rattle.h2_laws_machine.proofs.Names.{active_entry, reset_entry, stream_in, stream_at}
 use Rattle.h2_laws_machine.proofs.Names.{close_unprocessed, first_active, unprocessed_of_end}
-use Rattle.h2_laws_machine.specs.Ranges.{CountsEntries}
+use Rattle.h2_laws_machine.proofs.Names.{is_active_entry, first_found, CountsEntries}
 use Rattle.h2_laws_machine.proofs.CountedBySteps.{counted, is_counted, counts_ended}
 
 -- An active entry has a stream.

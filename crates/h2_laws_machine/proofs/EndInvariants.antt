@@ -1,17 +1,13 @@
 -- What each small change of an end keeps.
 use Rattle.std.specs.FinMap as map
-use Rattle.hpack.specs.Blocks.{Block}
-use Rattle.hpack.specs.Written.{IsValidEncoder}
-use Rattle.h2_spec_machine.specs.Machine.{apply_settings}
-use Rattle.h2_laws_machine.proofs.Names.{◌≡◌, ◌≢◌, ℕ, ◌+◌, ◌-◌, ◌<◌, ◌≤◌, Bool, List, length, drop}
-use Rattle.h2_laws_machine.proofs.Names.{Option, Some, None, is_some, EncoderState, Code, Item}
-use Rattle.h2_laws_machine.proofs.Names.{alone, block, Begun, max_block_octets, Values, AreInRange}
-use Rattle.h2_laws_machine.proofs.Names.{Decoded, settings_fault, max_resets, greatest_number}
-use Rattle.h2_laws_machine.proofs.Names.{StreamView, greatest_window, end_view, End}
-use Rattle.h2_laws_machine.proofs.Names.{ConnectionWindows, active_entry, reset_entry, stream_at}
-use Rattle.h2_laws_machine.proofs.Names.{owed_entry, with_begun, with_table_after, with_encoder}
-use Rattle.h2_laws_machine.proofs.Names.{queue_output, set_stream, is_one, fail, new_stream}
-use Rattle.h2_laws_machine.proofs.Names.{apply_own_settings, NoneAboveHighest, max_active}
+use Rattle.h2_laws_machine.proofs.Names
+use Names.{◌≡◌, ◌≢◌, ℕ, ◌+◌, ◌-◌, ◌<◌, ◌≤◌, Bool, List, length, drop, Option, Some, None, is_some}
+use Names.{EncoderState, Code, Item, alone, block, Begun, max_block_octets, Values, AreInRange}
+use Names.{Decoded, settings_fault, max_resets, greatest_number, StreamView, greatest_window}
+use Names.{end_view, End, ConnectionWindows, active_entry, reset_entry, stream_at, owed_entry}
+use Names.{with_begun, with_table_after, with_encoder, queue_output, set_stream, is_one, fail}
+use Names.{new_stream, apply_own_settings, NoneAboveHighest, max_active, Block, IsValidEncoder}
+use Names.{apply_settings}
 use Rattle.h2_laws_machine.proofs.RulesAtEnds.{HasSpace}
 use Rattle.h2_laws_machine.proofs.StreamRanges.{WindowsFit}
 

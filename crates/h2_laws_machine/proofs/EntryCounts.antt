@@ -1,13 +1,12 @@
 -- How many entries are active, and how many are of streams that were reset: what an entry that is
 -- set, removed or changed makes of it.
 use Rattle.std.specs.FinMap as map
-use Rattle.h2_spec_machine.proofs.SortedEntries.{first, second, not_found}
-use Rattle.h2_laws_machine.proofs.Names.{◌≡◌, ℕ, ◌+◌, cond, T, List, [], ◌∷◌, length, Option, Some}
-use Rattle.h2_laws_machine.proofs.Names.{None, Ordering, Less, Equal, Greater, refl, sym, ap, ◌∙◌}
-use Rattle.h2_laws_machine.proofs.Names.{arith, nat_cmp, is_eq, nat_cmp_total, below_all, by_order}
-use Rattle.h2_laws_machine.proofs.Names.{StreamEntry, active_entry, reset_entry, StreamMap}
-use Rattle.h2_laws_machine.proofs.Names.{each_entry, get_removed_same, changed, entries_changed}
 use Rattle.h2_laws_machine.specs.Ranges.{count_active, count_reset}
+use Rattle.h2_laws_machine.proofs.Names
+use Names.{◌≡◌, ℕ, ◌+◌, cond, T, List, [], ◌∷◌, length, Option, Some, None, Ordering, Less, Equal}
+use Names.{Greater, refl, sym, ap, ◌∙◌, arith, nat_cmp, is_eq, nat_cmp_total, below_all, by_order}
+use Names.{StreamEntry, active_entry, reset_entry, StreamMap, each_entry, get_removed_same, changed}
+use Names.{entries_changed, first, second, not_found}
 use Rattle.h2_laws_machine.proofs.OwedSums.{inserted_again, gone}
 
 -- one for an active entry

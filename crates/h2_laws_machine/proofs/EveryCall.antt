@@ -1,28 +1,24 @@
 -- What each small change of an end keeps, each call keeps.
 use Rattle.std.proofs.Common.{leb-false, ltb-false, ltb-true}
 use Rattle.hpack.proofs.WrittenBlocks.{block_goes_on}
-use Rattle.h2_spec_log.specs.CallRules.{is_full, is_no_stream, data_count}
+use Rattle.h2_spec_log.specs.CallRules.{is_full, is_no_stream}
 use Rattle.h2_laws_log.proofs.BlockSizes.{block_is_gathered}
-use Rattle.h2_laws_log.proofs.CallConditions.{and_other, AreFalse, none_holds, neither_other}
+use Rattle.h2_laws_log.proofs.CallConditions.{AreFalse}
 use Rattle.h2_laws_log.proofs.ItemSizes.{size-block, size-reset, size-ping, size-change}
 use Rattle.h2_laws_log.proofs.RulesByTests.{is_active_by, count_few, count_lets, data_size}
 use Rattle.h2_laws_log.proofs.RulesByTests.{release_size, refuse_fits, returns_says}
-use Rattle.h2_laws_machine.proofs.Names.{◌≡◌, ℕ, ◌+◌, ◌-◌, ◌<◌, ◌≤◌, ◌==◌, nat_lt, not, ◌&&◌}
-use Rattle.h2_laws_machine.proofs.Names.{if◌then◌else◌, Bool, true, false, List, [], ◌∷◌, length}
-use Rattle.h2_laws_machine.proofs.Names.{pos, ◌+ℤ◌, ◌-ℤ◌, Option, Some, None, is_some, refl, ap}
-use Rattle.h2_laws_machine.proofs.Names.{arith, cond_both, block_of, after_block, list_size, Field}
-use Rattle.h2_laws_machine.proofs.Names.{Reset, Ping, GoAway, Code, Item, alone, block, Act, Open}
-use Rattle.h2_laws_machine.proofs.Names.{SendFields, SendData, Release, Done, ResetStream, Refuse}
-use Rattle.h2_laws_machine.proofs.Names.{SendPing, SendGoAway, PutOut, ChangeSettings, IsTypedAct}
-use Rattle.h2_laws_machine.proofs.Names.{data_items, conditions, refusal_of, items_of}
-use Rattle.h2_laws_machine.proofs.Names.{encoder_after_call, refuse_fault, at_least_none}
-use Rattle.h2_laws_machine.proofs.Names.{returns_before_put_out, max_list, full_output, max_output}
-use Rattle.h2_laws_machine.proofs.Names.{max_resets, is_server, StreamView, owed_on, end_view, End}
-use Rattle.h2_laws_machine.proofs.Names.{ConnectionWindows, stream_in, stream_at, with_encoder}
-use Rattle.h2_laws_machine.proofs.Names.{queue_output, set_stream, reset_stream, update_stream}
-use Rattle.h2_laws_machine.proofs.Names.{after_data, after_fields_sent, after_release, after_refuse}
-use Rattle.h2_laws_machine.proofs.Names.{before_put_out_at, after_call, none_since, size_of}
-use Rattle.h2_laws_machine.proofs.Names.{size-goaway}
+use Rattle.h2_laws_machine.proofs.Names
+use Names.{◌≡◌, ℕ, ◌+◌, ◌-◌, ◌<◌, ◌≤◌, ◌==◌, nat_lt, not, ◌&&◌, if◌then◌else◌, Bool, true, false}
+use Names.{List, [], ◌∷◌, length, pos, ◌+ℤ◌, ◌-ℤ◌, Option, Some, None, is_some, refl, ap, arith}
+use Names.{cond_both, block_of, after_block, list_size, Field, Reset, Ping, GoAway, Code, Item}
+use Names.{alone, block, Act, Open, SendFields, SendData, Release, Done, ResetStream, Refuse}
+use Names.{SendPing, SendGoAway, PutOut, ChangeSettings, IsTypedAct, data_items, conditions}
+use Names.{refusal_of, items_of, encoder_after_call, refuse_fault, at_least_none}
+use Names.{returns_before_put_out, max_list, full_output, max_output, max_resets, is_server}
+use Names.{StreamView, owed_on, end_view, End, ConnectionWindows, stream_in, stream_at}
+use Names.{with_encoder, queue_output, set_stream, reset_stream, update_stream, after_data}
+use Names.{after_fields_sent, after_release, after_refuse, before_put_out_at, after_call}
+use Names.{none_since, size_of, size-goaway, data_count, and_other, none_holds, neither_other}
 use Rattle.h2_laws_machine.proofs.EndInvariants.{IsEndInvariant}
 use Rattle.h2_laws_machine.proofs.RulesAtEnds.{active_used, client_opens_by}
 use Rattle.h2_laws_machine.proofs.StreamRanges.{sent_fits_stream, released_fits_stream}

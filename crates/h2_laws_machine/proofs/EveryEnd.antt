@@ -1,33 +1,23 @@
 -- What each small change of an end keeps, each frame keeps.
 use Rattle.std.proofs.Common.{leb-false, ltb-true}
-use Rattle.std.specs.FinMap as map
-use Rattle.h2_spec_log.specs.ItemEffects.{least_last, encoder_after_settings}
-use Rattle.h2_spec_log.specs.ItemRules.{exceeds_stream, overflows_stream, opened_by}
-use Rattle.h2_spec_machine.specs.Machine.{narrow_recv_window, more_unreturned, receive_data}
-use Rattle.h2_spec_machine.specs.Machine.{receive_block, mark_used, apply_settings, is_calm}
+use Rattle.h2_spec_machine.specs.Machine.{more_unreturned, mark_used, is_calm}
 use Rattle.h2_laws_log.proofs.RulesByTests.{few_by, data_unexceeded, limited, no_settings_fault}
-use Rattle.h2_laws_machine.proofs.Names.{◌≡◌, ◌≢◌, ℕ, ◌+◌, ◌<◌, ◌≤◌, ◌==◌, nat_lt, max, ◌&&◌, ◌||◌}
-use Rattle.h2_laws_machine.proofs.Names.{if◌then◌else◌, Bool, true, false, List, [], ◌∷◌, length}
-use Rattle.h2_laws_machine.proofs.Names.{pos, ◌+ℤ◌, Option, Some, None, refl, ap, arith, and_parts}
-use Rattle.h2_laws_machine.proofs.Names.{cond_both, EncoderState, code_number, payload_of}
-use Rattle.h2_laws_machine.proofs.Names.{stream_of, Frame, Data, Reset, Settings, Ping, GoAway}
-use Rattle.h2_laws_machine.proofs.Names.{WindowUpdate, Code, Item, alone, block, Begun}
-use Rattle.h2_laws_machine.proofs.Names.{max_block_octets, Values, returns_credit, Decoded}
-use Rattle.h2_laws_machine.proofs.Names.{FrameStep, fails_with, begins_block, completes, frame_step}
-use Rattle.h2_laws_machine.proofs.Names.{settings_fault, replies_to, verdict_by_rules, verdict_of}
-use Rattle.h2_laws_machine.proofs.Names.{stream_of_item, encoding_of_item, encoding_of_items}
-use Rattle.h2_laws_machine.proofs.Names.{full_output, max_resets, greatest_number, Verdict}
-use Rattle.h2_laws_machine.proofs.Names.{ConnectionFault, StreamFault, NoEvent, Reported}
-use Rattle.h2_laws_machine.proofs.Names.{StreamView, ended_in, greatest_window, end_view, End}
-use Rattle.h2_laws_machine.proofs.Names.{active_entry, stream_in, stream_at, state_at, owed_entry}
-use Rattle.h2_laws_machine.proofs.Names.{with_begun, with_table_after, with_encoder, queue_output}
-use Rattle.h2_laws_machine.proofs.Names.{return_credit, add_unreturned, set_stream, close_stream}
-use Rattle.h2_laws_machine.proofs.Names.{reset_stream, update_stream, with_flow, apply_own_settings}
-use Rattle.h2_laws_machine.proofs.Names.{is_fresh, widen_send_window, after_reported, after_ignored}
-use Rattle.h2_laws_machine.proofs.Names.{after_verdict, after_stream_fault, after_step, after_frame}
-use Rattle.h2_laws_machine.proofs.Names.{NoneAboveHighest, size-update, get_set_same, within_window}
-use Rattle.h2_laws_machine.proofs.Names.{same_some}
-use Rattle.h2_laws_machine.specs.Ranges.{IsDecodedAt}
+use Rattle.h2_laws_machine.proofs.Names
+use Names.{◌≡◌, ◌≢◌, ℕ, ◌+◌, ◌<◌, ◌≤◌, ◌==◌, nat_lt, max, ◌&&◌, ◌||◌, if◌then◌else◌, Bool, true}
+use Names.{false, List, [], ◌∷◌, length, pos, ◌+ℤ◌, Option, Some, None, refl, ap, arith, and_parts}
+use Names.{cond_both, EncoderState, code_number, payload_of, stream_of, Frame, Data, Reset}
+use Names.{Settings, Ping, GoAway, WindowUpdate, Code, Item, alone, block, Begun, max_block_octets}
+use Names.{Values, returns_credit, Decoded, FrameStep, fails_with, begins_block, completes}
+use Names.{frame_step, settings_fault, replies_to, verdict_by_rules, verdict_of, stream_of_item}
+use Names.{encoding_of_item, encoding_of_items, full_output, max_resets, greatest_number, Verdict}
+use Names.{ConnectionFault, StreamFault, NoEvent, Reported, StreamView, ended_in, greatest_window}
+use Names.{end_view, End, active_entry, stream_in, stream_at, state_at, owed_entry, with_begun}
+use Names.{with_table_after, with_encoder, queue_output, return_credit, add_unreturned, set_stream}
+use Names.{close_stream, reset_stream, update_stream, with_flow, apply_own_settings, is_fresh}
+use Names.{widen_send_window, after_reported, after_ignored, after_verdict, after_stream_fault}
+use Names.{after_step, after_frame, NoneAboveHighest, size-update, get_set_same, within_window}
+use Names.{same_some, least_last, encoder_after_settings, exceeds_stream, overflows_stream}
+use Names.{opened_by, narrow_recv_window, receive_data, receive_block, apply_settings, IsDecodedAt}
 use Rattle.h2_laws_machine.proofs.BlocksBegun.{StepFits, frame_step_fits}
 use Rattle.h2_laws_machine.proofs.EndInvariants.{Known, StaysInRange, IsEndInvariant}
 use Rattle.h2_laws_machine.proofs.RecvVerdictCases.{block_is_fault, block_is_reported}
@@ -37,6 +27,7 @@ use Rattle.h2_laws_machine.proofs.RulesAtEnds.{HasSpace, verdict_says, active_st
 use Rattle.h2_laws_machine.proofs.RulesAtEnds.{used_then, block_opens, frame_used, update_fits}
 use Rattle.h2_laws_machine.proofs.StreamRanges.{data_fits_stream, widened_fits_stream}
 use Rattle.h2_laws_machine.proofs.StreamRanges.{ended_fits_stream}
+use Rattle.std.specs.FinMap as map
 
 -- how many octets of the windows DATA uses
 abbrev flow_of : ℕ → Bool → List ℕ → Option ℕ → ℕ

@@ -1,14 +1,12 @@
 -- After every step that a log may take a machine that represents it represents the log after it.
-use Rattle.h2_spec_log.specs.Histories.{TakesOctets, TakesPart, TakesFrame, TakesFault}
-use Rattle.h2_spec_log.specs.Histories.{MayRunOutOfMemory, IsDecodedFor}
-use Rattle.h2_laws_machine.proofs.Names.{◌≡◌, ℕ, List, Option, sym, subst, Frame, Role, Values}
-use Rattle.h2_laws_machine.proofs.Names.{Decoded, Log, took_frame, took_none, IsLog, begins}
-use Rattle.h2_laws_machine.proofs.Names.{took_some, took_one, met_fault, ran_out_of_memory}
-use Rattle.h2_laws_machine.proofs.Names.{reported_one, called_one, End, new_end, after_frame}
-use Rattle.h2_laws_machine.proofs.Names.{close_unprocessed, Represents, log_represents}
-use Rattle.h2_laws_machine.specs.Machines.{MachineStep, uses_part, ends_frame, meets_fault}
-use Rattle.h2_laws_machine.specs.Machines.{runs_out_of_memory, reports_unprocessed, is_called}
-use Rattle.h2_laws_machine.specs.Machines.{MayStep, log_after, machine_after}
+use Rattle.h2_laws_machine.specs.Machines.{reports_unprocessed}
+use Rattle.h2_laws_machine.proofs.Names
+use Names.{◌≡◌, ℕ, List, Option, sym, subst, Frame, Role, Values, Decoded, Log, took_frame}
+use Names.{took_none, IsLog, begins, took_some, took_one, met_fault, ran_out_of_memory}
+use Names.{reported_one, called_one, End, new_end, after_frame, close_unprocessed, Represents}
+use Names.{log_represents, TakesOctets, TakesPart, TakesFrame, TakesFault, MayRunOutOfMemory}
+use Names.{IsDecodedFor, MachineStep, uses_part, ends_frame, meets_fault, runs_out_of_memory}
+use Names.{is_called, MayStep, log_after, machine_after}
 use Rattle.h2_laws_machine.proofs.FreshNumbers.{calls_represent}
 use Rattle.h2_laws_machine.proofs.NewEnd.{new_represents}
 use Rattle.h2_laws_machine.proofs.NextUnprocessed.{next_same}
@@ -56,8 +54,7 @@ stepped : (role : Role) (values : Values) (log : Log) (step : MachineStep) → I
     → HasMachine values (log_after log step)
 stepped role values log step came may (e, s) = (
   machine_after e step,
-  steps_represent values e log step s
-      (may (log_represents role values log came).own),
+  steps_represent values e log step s (may (log_represents role values log came).own),
 )
 
 -- Of each log that comes about there is a machine that represents it.

@@ -1,23 +1,18 @@
 -- A log has frames just where it has SETTINGS, which come first.
-use Rattle.h2_block.specs.declared.fault.BlockFault.TheVariants.{Interrupted}
-use Rattle.h2_block.specs.Gather.{block_fault_code}
-use Rattle.h2_block.specs.Grouping.{next_fault, fault_outside, fault_inside}
-use Rattle.h2_spec_log.proofs.StreamLemmas.{Keeps-frame, Keeps-call}
-use Rattle.h2_laws_log.proofs.LogGrowth.{grows_wrote, grows_with_unreturned, grows_call}
-use Rattle.h2_laws_machine.proofs.Names.{◌≡◌, ◌≢◌, ℕ, ◌+◌, ◌≤◌, ◌==◌, not, Bool, true, false}
-use Rattle.h2_laws_machine.proofs.Names.{if◌then◌else◌, List, [], ◌∷◌, ◌++◌, length, Option, Some}
-use Rattle.h2_laws_machine.proofs.Names.{None, refl, sym, ap, ◌∙◌, arith, length-append, ne_eqb}
-use Rattle.h2_laws_machine.proofs.Names.{eqb-false, ProtocolError, InternalError, Frame, Settings}
-use Rattle.h2_laws_machine.proofs.Names.{wire_fault_code, Item, Begun, Role, Values, Event}
-use Rattle.h2_laws_machine.proofs.Names.{UnprocessedEvent, one_settings, settings_count, Log}
-use Rattle.h2_laws_machine.proofs.Names.{next_unprocessed, log_view, Verdict, ConnectionFault}
-use Rattle.h2_laws_machine.proofs.Names.{Decoded, FrameStep, fails_with, begins_block, completes}
-use Rattle.h2_laws_machine.proofs.Names.{verdict_of, may_be_first, frame_step, grouping_step}
-use Rattle.h2_laws_machine.proofs.Names.{grouped, read, with_sent, with_reported, with_unreturned}
-use Rattle.h2_laws_machine.proofs.Names.{owed_at_close, with_verdict, with_step, with_frame, used}
-use Rattle.h2_laws_machine.proofs.Names.{took_none, opened, with_call, IsLog, begins, took_some}
-use Rattle.h2_laws_machine.proofs.Names.{took_one, met_fault, ran_out_of_memory, reported_one}
-use Rattle.h2_laws_machine.proofs.Names.{called_one, count_next, settings_one, End, Represents}
+use Rattle.h2_spec_log.proofs.StreamLemmas.{Keeps-call}
+use Rattle.h2_laws_log.proofs.LogGrowth.{grows_with_unreturned, grows_call}
+use Rattle.h2_laws_machine.proofs.Names
+use Names.{◌≡◌, ◌≢◌, ℕ, ◌+◌, ◌≤◌, ◌==◌, not, Bool, true, false, if◌then◌else◌, List, [], ◌∷◌, ◌++◌}
+use Names.{length, Option, Some, None, refl, sym, ap, ◌∙◌, arith, length-append, ne_eqb, eqb-false}
+use Names.{ProtocolError, InternalError, Frame, Settings, wire_fault_code, Item, Begun, Role}
+use Names.{Values, Event, UnprocessedEvent, one_settings, settings_count, Log, next_unprocessed}
+use Names.{log_view, Verdict, ConnectionFault, Decoded, FrameStep, fails_with, begins_block}
+use Names.{completes, verdict_of, may_be_first, frame_step, grouping_step, grouped, read, with_sent}
+use Names.{with_reported, with_unreturned, owed_at_close, with_verdict, with_step, with_frame, used}
+use Names.{took_none, opened, with_call, IsLog, begins, took_some, took_one, met_fault}
+use Names.{ran_out_of_memory, reported_one, called_one, count_next, settings_one, End, Represents}
+use Names.{Interrupted, block_fault_code, next_fault, fault_outside, fault_inside, Keeps-frame}
+use Names.{grows_wrote}
 use Rattle.h2_laws_machine.proofs.RecvUnprocessed.{returned_frames, reported_frames}
 
 -- A log has no frames just where it has no SETTINGS.

@@ -1,14 +1,11 @@
 -- What a log says of numbers that no stream had yet; and the law of calls.
-use Rattle.h2_spec_log.specs.Allowed.{starts, reads, writes, Allowed}
-use Rattle.h2_laws_log.proofs.AllowedHistories.{increments_read}
-use Rattle.h2_laws_machine.proofs.Names.{◌≡◌, ◌≢◌, ℕ, ◌<◌, false, List, [], ◌∷◌, None, refl, subst}
-use Rattle.h2_laws_machine.proofs.Names.{◌∙◌, arith, list_any, both_ways, ne_eqb}
-use Rattle.h2_laws_machine.proofs.Names.{false_from_ne_true, Data, Item, alone, block, Role, Client}
-use Rattle.h2_laws_machine.proofs.Names.{Server, data_on, is_block_on, ends, total, greatest_block}
-use Rattle.h2_laws_machine.proofs.Names.{Values, Act, Answer, IsTypedAct, openings, flow_on}
-use Rattle.h2_laws_machine.proofs.Names.{reported_total, Log, MayAnswer, with_call, IsLog, End}
-use Rattle.h2_laws_machine.proofs.Names.{Represents, AllowedHistory, end_after, active_parts}
-use Rattle.h2_laws_machine.proofs.Names.{block_below, resets_used, log_represents, total_one}
+use Rattle.h2_laws_machine.proofs.Names
+use Names.{◌≡◌, ◌≢◌, ℕ, ◌<◌, false, List, [], ◌∷◌, None, refl, subst, ◌∙◌, arith, list_any}
+use Names.{both_ways, ne_eqb, false_from_ne_true, Data, Item, alone, block, Role, Client, Server}
+use Names.{data_on, is_block_on, ends, total, greatest_block, Values, Act, Answer, IsTypedAct}
+use Names.{openings, flow_on, reported_total, Log, MayAnswer, with_call, IsLog, End, Represents}
+use Names.{AllowedHistory, end_after, active_parts, block_below, resets_used, log_represents}
+use Names.{total_one, starts, reads, writes, Allowed, increments_read}
 use Rattle.h2_laws_machine.proofs.CallLaw.{IsSound, call_law}
 use Rattle.h2_laws_machine.proofs.CallOpen.{IsClear}
 use Rattle.h2_laws_machine.proofs.GoAwaysSent.{active_processed}

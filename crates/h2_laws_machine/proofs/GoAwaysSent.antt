@@ -1,17 +1,13 @@
 -- At a server that hasn't failed no active stream is above the last one that was processed, whether
 -- a GOAWAY was sent or not. So the GOAWAY of a failure closes none.
-use Rattle.h2_laws_log.proofs.UpByLogs.{IsUpInvariant, up_by_logs}
-use Rattle.h2_laws_log.proofs.LogHistory.{processed_after}
-use Rattle.h2_laws_log.proofs.NoGoAways.{items_none, replies_none}
-use Rattle.h2_laws_machine.proofs.Names.{◌≡◌, ℕ, ◌≤◌, ◌<◌, ◌||◌, nat_lt, Bool, true, false, List}
-use Rattle.h2_laws_machine.proofs.Names.{[], ◌∷◌, ◌++◌, Some, None, refl, sym, ◌∙◌, arith, list_any}
-use Rattle.h2_laws_machine.proofs.Names.{both_ways, or_left, or_right, lt-ltb, ltb-false, ltb-true}
-use Rattle.h2_laws_machine.proofs.Names.{InternalError, GoAway, Item, alone, Role, Client, Server}
-use Rattle.h2_laws_machine.proofs.Names.{is_goaway, is_goaway_below, greatest_processed, Values}
-use Rattle.h2_laws_machine.proofs.Names.{Act, SendGoAway, OutOfMemory, is_server, is_above, Log}
-use Rattle.h2_laws_machine.proofs.Names.{active, last_processed, log_view, items_of, answer_of}
-use Rattle.h2_laws_machine.proofs.Names.{read, with_sent, opened, called, with_call, IsLog}
-use Rattle.h2_laws_machine.proofs.Names.{active_parts, chosen_low}
+use Rattle.h2_laws_machine.proofs.Names
+use Names.{◌≡◌, ℕ, ◌≤◌, ◌<◌, ◌||◌, nat_lt, Bool, true, false, List, [], ◌∷◌, ◌++◌, Some, None, refl}
+use Names.{sym, ◌∙◌, arith, list_any, both_ways, or_left, or_right, lt-ltb, ltb-false, ltb-true}
+use Names.{InternalError, GoAway, Item, alone, Role, Client, Server, is_goaway, is_goaway_below}
+use Names.{greatest_processed, Values, Act, SendGoAway, OutOfMemory, is_server, is_above, Log}
+use Names.{active, last_processed, log_view, items_of, answer_of, read, with_sent, opened, called}
+use Names.{with_call, IsLog, active_parts, chosen_low, IsUpInvariant, up_by_logs, processed_after}
+use Names.{items_none, replies_none}
 use Rattle.h2_laws_machine.proofs.UpInvariant.{IsUpLog}
 use Rattle.h2_laws_machine.proofs.UpInvariantLogs.{up_log_of}
 
@@ -97,18 +93,17 @@ low_opened role values i above some = absurd (both_ways false refl some)
 low_kept : (role : Role) (values : Values) → IsUpInvariant role values
     (λ role received sent reported calls. HasLow (greatest_processed reported) sent)
 unfolding is_goaway
-low_kept role values =
-    record {
-      opening = λ in_range. low_opened role values;
-      replied = λ log decoded item verdict replies.
-          low_wrote (read log decoded item) _ (replies_none verdict item);
-      reported = λ log event events may.
-          low_up _ _ log.sent (processed_after (event ∷ events) log.reported);
-      returned = λ log returns. low_more _ (_ ∷ []) log.sent refl;
-      sent = λ log act accepted low.
-          low_sent (called log act (answer_of (log_view log) act)) _ (low_items log act low);
-      called = λ log act answer is_log none low. low;
-    }
+low_kept role values = record {
+  opening = λ in_range. low_opened role values;
+  replied = λ log decoded item verdict replies.
+      low_wrote (read log decoded item) _ (replies_none verdict item);
+  reported = λ log event events may.
+      low_up _ _ log.sent (processed_after (event ∷ events) log.reported);
+  returned = λ log returns. low_more _ (_ ∷ []) log.sent refl;
+  sent = λ log act accepted low.
+      low_sent (called log act (answer_of (log_view log) act)) _ (low_items log act low);
+  called = λ log act answer is_log none low. low;
+}
 
 -- Where a log that hasn't failed has a GOAWAY, one has a last stream that was processed, or 0.
 low_of : (role : Role) (values : Values) (log : Log) → IsLog role values log → log.failed ≡ None

@@ -1,15 +1,12 @@
 -- What of a log says what an end keeps that hasn't failed, and when an end keeps it.
 use Rattle.h2_spec_machine.specs.Represents.{RepresentsStreams, StreamsRepresent, stream_by_items}
-use Rattle.h2_laws_machine.proofs.Names.{◌≡◌, ℕ, ◌-◌, ◌==◌, not, nat_lt, Bool, if◌then◌else◌, List}
-use Rattle.h2_laws_machine.proofs.Names.{length, Option, list_any, Entries, EncoderState, Item}
-use Rattle.h2_laws_machine.proofs.Names.{Begun, Role, resets, one_ping, total, greatest_block}
-use Rattle.h2_laws_machine.proofs.Names.{Event, flow_on, one_acked, one_pong, reported_total}
-use Rattle.h2_laws_machine.proofs.Names.{greatest_processed, Act, Answer, is_server, openings}
-use Rattle.h2_laws_machine.proofs.Names.{is_active, when, Log, released, newest_ping, StreamView}
-use Rattle.h2_laws_machine.proofs.Names.{StreamMap, Streams, ConnectionWindows, PeerSettings}
-use Rattle.h2_laws_machine.proofs.Names.{OwnSettings, GoAways, ReadSoFar, End, RepresentsReading}
-use Rattle.h2_laws_machine.proofs.Names.{RepresentsWindows, RepresentsPeer, RepresentsOwn}
-use Rattle.h2_laws_machine.proofs.Names.{RepresentsGoAways, RepresentsWhileUp}
+use Rattle.h2_laws_machine.proofs.Names
+use Names.{◌≡◌, ℕ, ◌-◌, ◌==◌, not, nat_lt, Bool, if◌then◌else◌, List, length, Option, list_any}
+use Names.{Entries, EncoderState, Item, Begun, Role, resets, one_ping, total, greatest_block, Event}
+use Names.{flow_on, one_acked, one_pong, reported_total, greatest_processed, Act, Answer, is_server}
+use Names.{openings, is_active, when, Log, released, newest_ping, StreamView, StreamMap, Streams}
+use Names.{ConnectionWindows, PeerSettings, OwnSettings, GoAways, ReadSoFar, End, RepresentsReading}
+use Names.{RepresentsWindows, RepresentsPeer, RepresentsOwn, RepresentsGoAways, RepresentsWhileUp}
 
 -- what of a log says what an end keeps that hasn't failed
 pub record Core : Type 0 where
@@ -25,18 +22,17 @@ pub record Core : Type 0 where
 
 -- that of a log
 abbrev pub core : Log → Core
-core log =
-    record {
-      role = log.role;
-      begun = log.begun;
-      received = log.received;
-      sent = log.sent;
-      reported = log.reported;
-      calls = log.calls;
-      table = log.table;
-      encoder = log.encoder;
-      unreturned = log.unreturned;
-    }
+core log = record {
+  role = log.role;
+  begun = log.begun;
+  received = log.received;
+  sent = log.sent;
+  reported = log.reported;
+  calls = log.calls;
+  table = log.table;
+  encoder = log.encoder;
+  unreturned = log.unreturned;
+}
 
 -- how many of the own SETTINGS were acknowledged
 abbrev pub confirmed : Core → ℕ
@@ -71,17 +67,16 @@ pub record CoreFacts : Type 0 where
 
 -- that of an end
 abbrev pub core_facts : End → CoreFacts
-core_facts e =
-    record {
-      reading = e.reading;
-      streams = e.streams;
-      windows = e.windows;
-      peer = e.peer;
-      own = e.own;
-      goaway = e.goaway;
-      ping = e.ping;
-      encoder = e.output.encoder;
-    }
+core_facts e = record {
+  reading = e.reading;
+  streams = e.streams;
+  windows = e.windows;
+  peer = e.peer;
+  own = e.own;
+  goaway = e.goaway;
+  ping = e.ping;
+  encoder = e.output.encoder;
+}
 
 -- the stream that the log says of a number
 abbrev pub said : Core → ℕ → StreamView

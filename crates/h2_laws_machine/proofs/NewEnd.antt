@@ -1,21 +1,18 @@
 -- A new machine represents the log of a new end.
 use Rattle.std.specs.FinMap.{get-empty}
 use Rattle.h2_spec_log.specs.Settings.{settings_of, value_after_all}
-use Rattle.h2_spec_log.specs.CallRules.{opening_pairs, with_max_frame}
+use Rattle.h2_spec_log.specs.CallRules.{with_max_frame}
 use Rattle.h2_laws_log.proofs.AllowedHistories.{opening_window}
-use Rattle.h2_laws_machine.proofs.Names.{◌≡◌, ℕ, ◌%◌, ◌==◌, true, false, [], ◌∷◌, Some, refl, sym}
-use Rattle.h2_laws_machine.proofs.Names.{◌∙◌, arith, nat_cmp, and_left, and_right, Settings, alone}
-use Rattle.h2_laws_machine.proofs.Names.{Role, Client, Server, data_on, data_of, increment_on}
-use Rattle.h2_laws_machine.proofs.Names.{is_block_on, ends, resets, is_goaway, one_ping, one_reset}
-use Rattle.h2_laws_machine.proofs.Names.{total, greatest_block, one_acked, one_pong, reported_total}
-use Rattle.h2_laws_machine.proofs.Names.{greatest_processed, Values, AreInRange, is_server}
-use Rattle.h2_laws_machine.proofs.Names.{value_after, value_read, one_settings, settings_count}
-use Rattle.h2_laws_machine.proofs.Names.{openings, is_active, count_below, first_window}
-use Rattle.h2_laws_machine.proofs.Names.{given_on_connection, granted_on_connection, active}
-use Rattle.h2_laws_machine.proofs.Names.{active_count, last_processed, max_streams, allowed_by}
-use Rattle.h2_laws_machine.proofs.Names.{output, max_payload_sent_by, max_list, with_sent, opened}
-use Rattle.h2_laws_machine.proofs.Names.{begins, new_end, owed_sum, Represents, RepresentsWhileUp}
-use Rattle.h2_laws_machine.proofs.Names.{AwaitsValues, goaway_sent_last, value_named, opening_frame}
+use Rattle.h2_laws_machine.proofs.Names
+use Names.{◌≡◌, ℕ, ◌%◌, ◌==◌, true, false, [], ◌∷◌, Some, refl, sym, ◌∙◌, arith, nat_cmp, and_left}
+use Names.{and_right, Settings, alone, Role, Client, Server, data_on, data_of, increment_on}
+use Names.{is_block_on, ends, resets, is_goaway, one_ping, one_reset, total, greatest_block}
+use Names.{one_acked, one_pong, reported_total, greatest_processed, Values, AreInRange, is_server}
+use Names.{value_after, value_read, one_settings, settings_count, openings, is_active, count_below}
+use Names.{first_window, given_on_connection, granted_on_connection, active, active_count}
+use Names.{last_processed, max_streams, allowed_by, output, max_payload_sent_by, max_list}
+use Names.{with_sent, opened, begins, new_end, owed_sum, Represents, RepresentsWhileUp}
+use Names.{AwaitsValues, goaway_sent_last, value_named, opening_frame, opening_pairs}
 use Rattle.h2_laws_machine.proofs.ConservedBySteps.{new_holds, is_whole}
 use Rattle.h2_laws_machine.proofs.LogCore.{core, StreamsOf}
 
@@ -95,14 +92,13 @@ new_awaited Server values others same =
 new_streams : (role : Role) (values : Values)
     → StreamsOf (new_end role values).streams (core (opened role values))
 unfolding computing
-new_streams role values =
-    record {
-      entries = λ i. rw (new_is_active role values i) (get-empty nat_cmp i);
-      active_count = sym (new_active_count role values);
-      highest = sym (new_used role values);
-      last_processed = new_last_processed role values;
-      resets = refl;
-    }
+new_streams role values = record {
+  entries = λ i. rw (new_is_active role values i) (get-empty nat_cmp i);
+  active_count = sym (new_active_count role values);
+  highest = sym (new_used role values);
+  last_processed = new_last_processed role values;
+  resets = refl;
+}
 
 -- The values of a new machine are those of a new log.
 new_running : (role : Role) (values : Values)
@@ -114,14 +110,13 @@ new_running role values = assumption (new_max_streams role values, new_awaited r
 pub new_represents : (role : Role) (values : Values) → AreInRange values
     → Represents values (new_end role values) (opened role values)
 unfolding computing max_payload_sent_by
-new_represents role values in_range =
-    record {
-      came = begins in_range;
-      role = refl;
-      failed = refl;
-      output = record { waiting = refl; given = omega arith };
-      streams = new_streams role values;
-      running = λ up. new_running role values;
-      whole = (is_whole (new_end role values) (new_holds role values)).whole;
-      used = λ i above. get-empty nat_cmp i;
-    }
+new_represents role values in_range = record {
+  came = begins in_range;
+  role = refl;
+  failed = refl;
+  output = record { waiting = refl; given = omega arith };
+  streams = new_streams role values;
+  running = λ up. new_running role values;
+  whole = (is_whole (new_end role values) (new_holds role values)).whole;
+  used = λ i above. get-empty nat_cmp i;
+}

@@ -1,23 +1,18 @@
 -- What every log that hasn't failed has of GOAWAYs, of the numbers that were used, and of what was
 -- released; and what keeps it.
-use Rattle.h2_laws_log.proofs.LogHistory.{reported_append, none_both, processed_append}
-use Rattle.h2_laws_log.proofs.LogViewLemmas.{closed_used}
-use Rattle.h2_laws_machine.proofs.Names.{◌≡◌, ◌≢◌, ◌⊎◌, ℕ, ◌≤◌, ◌%◌, ◌==◌, nat_lt, Bool, true}
-use Rattle.h2_laws_machine.proofs.Names.{false, ◌&&◌, ◌||◌, List, [], ◌∷◌, ◌++◌, Option, Some, None}
-use Rattle.h2_laws_machine.proofs.Names.{refl, sym, subst, ◌∙◌, inl, inr, arith, list_any}
-use Rattle.h2_laws_machine.proofs.Names.{both_ways, or_cases, and_parts, eqb-true, ne_eqb, cases_eq}
-use Rattle.h2_laws_machine.proofs.Names.{or_parts, Code, ProtocolError, Data, Reset, GoAway}
-use Rattle.h2_laws_machine.proofs.Names.{WindowUpdate, Item, alone, block, Role, data_on}
-use Rattle.h2_laws_machine.proofs.Names.{increment_on, is_block_on, ends, resets, is_goaway, total}
-use Rattle.h2_laws_machine.proofs.Names.{is_goaway_below, greatest_block, Event, flow_on}
-use Rattle.h2_laws_machine.proofs.Names.{reported_total, greatest_processed, reports_unprocessed}
-use Rattle.h2_laws_machine.proofs.Names.{Act, Answer, log_view, is_server, State, Idle, Active}
-use Rattle.h2_laws_machine.proofs.Names.{ClosedByUs, is_used, Log, state, released, Verdict}
-use Rattle.h2_laws_machine.proofs.Names.{ConnectionFault, StreamFault, NoEvent, Reported}
-use Rattle.h2_laws_machine.proofs.Names.{block_verdict, data_verdict, reset_verdict, update_verdict}
-use Rattle.h2_laws_machine.proofs.Names.{Decoded, verdict_by_rules, verdict_of_block, read}
-use Rattle.h2_laws_machine.proofs.Names.{with_sent, with_reported, goaway_sent_last, active_parts}
-use Rattle.h2_laws_machine.proofs.Names.{state_idle, total_one, below_quiet, used_here}
+use Rattle.h2_laws_log.proofs.LogHistory.{processed_append}
+use Rattle.h2_laws_machine.proofs.Names
+use Names.{◌≡◌, ◌≢◌, ◌⊎◌, ℕ, ◌≤◌, ◌%◌, ◌==◌, nat_lt, Bool, true, false, ◌&&◌, ◌||◌, List, [], ◌∷◌}
+use Names.{◌++◌, Option, Some, None, refl, sym, subst, ◌∙◌, inl, inr, arith, list_any, both_ways}
+use Names.{or_cases, and_parts, eqb-true, ne_eqb, cases_eq, or_parts, Code, ProtocolError, Data}
+use Names.{Reset, GoAway, WindowUpdate, Item, alone, block, Role, data_on, increment_on}
+use Names.{is_block_on, ends, resets, is_goaway, total, is_goaway_below, greatest_block, Event}
+use Names.{flow_on, reported_total, greatest_processed, reports_unprocessed, Act, Answer, log_view}
+use Names.{is_server, State, Idle, Active, ClosedByUs, is_used, Log, state, released, Verdict}
+use Names.{ConnectionFault, StreamFault, NoEvent, Reported, block_verdict, data_verdict}
+use Names.{reset_verdict, update_verdict, Decoded, verdict_by_rules, verdict_of_block, read}
+use Names.{with_sent, with_reported, goaway_sent_last, active_parts, state_idle, total_one}
+use Names.{below_quiet, used_here, reported_append, none_both, closed_used}
 use Rattle.h2_laws_machine.proofs.LogCore.{core}
 use Rattle.h2_laws_machine.proofs.OneItemMore.{any_quiet}
 use Rattle.h2_laws_machine.proofs.QuietNumbers.{AreOdd, unused_before}
@@ -62,11 +57,10 @@ last_quiet item sent none = refl
 -- Such an item is sent.
 one_more : (n : ℕ) (item : Item) (sent : List Item) → is_goaway item ≡ false → OneGoAway n sent
     → OneGoAway n (item ∷ sent)
-one_more n item sent none g =
-    record {
-      above = λ i. rw (below_quiet i item none, none, last_quiet item sent none) (g.above i);
-      last = λ some. rw (last_quiet item sent none) (g.last (rw none at some));
-    }
+one_more n item sent none g = record {
+  above = λ i. rw (below_quiet i item none, none, last_quiet item sent none) (g.above i);
+  last = λ some. rw (last_quiet item sent none) (g.last (rw none at some));
+}
 
 -- Such items are sent.
 more_sent : (n : ℕ) (items sent : List Item) → list_any is_goaway items ≡ false → OneGoAway n sent
@@ -98,16 +92,15 @@ pub sent_numbered : (log : Log) (items : List Item) → list_any is_goaway items
     → IsNumbered log → IsNumbered (with_sent log items)
 unfolding with_sent
 sent_numbered log [] none f = f
-sent_numbered log (item ∷ items) none f =
-    record {
-      goaways = more_sent (greatest_block log.received) (item ∷ items) log.sent none f.goaways;
-      processed = f.processed;
-      odd = f.odd;
-      unnamed = f.unnamed;
-      unread = λ i some unused. f.unread i some
-          (unused_before log.role i [] (item ∷ items) log.received log.sent unused);
-      released = f.released;
-    }
+sent_numbered log (item ∷ items) none f = record {
+  goaways = more_sent (greatest_block log.received) (item ∷ items) log.sent none f.goaways;
+  processed = f.processed;
+  odd = f.odd;
+  unnamed = f.unnamed;
+  unread = λ i some unused. f.unread i some
+      (unused_before log.role i [] (item ∷ items) log.received log.sent unused);
+  released = f.released;
+}
 
 -- What events must keep to.
 pub record EventsFit (role : Role) (received : List Item) (events : List Event) : Type 0 where
@@ -119,19 +112,18 @@ pub reported_numbered : (log : Log) (events : List Event) → EventsFit log.role
     → IsNumbered log → IsNumbered (with_reported log events)
 unfolding with_reported
 reported_numbered log [] fit f = f
-reported_numbered log (event ∷ events) fit f =
-    record {
-      goaways = f.goaways;
-      processed = λ server. processed_append (event ∷ events) log.reported _ (fit.processed server)
-          (f.processed server);
-      odd = f.odd;
-      unnamed = λ server i. none_both (reports_unprocessed i) (event ∷ events) log.reported
-          (fit.unnamed server i) (f.unnamed server i);
-      unread = f.unread;
-      released = λ i.
-          let before = f.released i in
-          omega (arith, before, reported_append (flow_on i) (event ∷ events) log.reported);
-    }
+reported_numbered log (event ∷ events) fit f = record {
+  goaways = f.goaways;
+  processed = λ server. processed_append (event ∷ events) log.reported _ (fit.processed server)
+      (f.processed server);
+  odd = f.odd;
+  unnamed = λ server i. none_both (reports_unprocessed i) (event ∷ events) log.reported
+      (fit.unnamed server i) (f.unnamed server i);
+  unread = f.unread;
+  released = λ i.
+      let before = f.released i in
+      omega (arith, before, reported_append (flow_on i) (event ∷ events) log.reported);
+}
 
 -- The verdict isn't a fault of the connection.
 abbrev pub Continues : Verdict → Type 0

@@ -1,25 +1,19 @@
 -- Every log that hasn't failed has one own GOAWAY at most, and so on: calls and frames keep it.
 use Rattle.h2_laws_log.proofs.InvariantCalls.{released_none}
-use Rattle.h2_laws_log.proofs.CallConditions.{none_holds}
-use Rattle.h2_laws_log.proofs.LogViewLemmas.{owed_there, events_unnamed}
+use Rattle.h2_laws_log.proofs.LogViewLemmas.{owed_there}
 use Rattle.h2_laws_log.proofs.LogInduction.{MayReport, of_item, of_unprocessed}
-use Rattle.h2_laws_log.proofs.NoGoAways.{items_none, replies_none}
-use Rattle.h2_laws_log.proofs.UpByLogs.{IsUpInvariant, up_by_logs}
-use Rattle.h2_laws_machine.proofs.Names.{◌≡◌, ◌≢◌, ℕ, ◌+◌, ◌-◌, ◌≤◌, ◌==◌, nat_lt, Bool, true}
-use Rattle.h2_laws_machine.proofs.Names.{false, if◌then◌else◌, List, [], ◌∷◌, Option, None, refl}
-use Rattle.h2_laws_machine.proofs.Names.{ap, subst, ◌∙◌, arith, list_any, both_ways, or_parts}
-use Rattle.h2_laws_machine.proofs.Names.{ltb-false, eqb-true, Code, code_number, Data, Reset}
-use Rattle.h2_laws_machine.proofs.Names.{Settings, Ping, GoAway, WindowUpdate, stream_of, Item}
-use Rattle.h2_laws_machine.proofs.Names.{alone, block, Role, Client, Server, is_goaway}
-use Rattle.h2_laws_machine.proofs.Names.{is_goaway_below, greatest_block, stream_of_item, total}
-use Rattle.h2_laws_machine.proofs.Names.{flow_on, reported_total, greatest_processed, processed_by}
-use Rattle.h2_laws_machine.proofs.Names.{reports_unprocessed, Event, Values, Act, Release}
-use Rattle.h2_laws_machine.proofs.Names.{SendGoAway, log_view, is_server, Active, Log, state}
-use Rattle.h2_laws_machine.proofs.Names.{last_processed, next_unprocessed, released, unreleased}
-use Rattle.h2_laws_machine.proofs.Names.{owed_on, Verdict, StreamFault, Reported, Decoded}
-use Rattle.h2_laws_machine.proofs.Names.{verdict_by_rules, events_of, items_of, answer_of}
-use Rattle.h2_laws_machine.proofs.Names.{refusal_of, conditions, read, with_sent, with_reported}
-use Rattle.h2_laws_machine.proofs.Names.{opened, called, IsLog, stream_is_active, chosen_low}
+use Rattle.h2_laws_machine.proofs.Names
+use Names.{◌≡◌, ◌≢◌, ℕ, ◌+◌, ◌-◌, ◌≤◌, ◌==◌, nat_lt, Bool, true, false, if◌then◌else◌, List, []}
+use Names.{◌∷◌, Option, None, refl, ap, subst, ◌∙◌, arith, list_any, both_ways, or_parts, ltb-false}
+use Names.{eqb-true, Code, code_number, Data, Reset, Settings, Ping, GoAway, WindowUpdate}
+use Names.{stream_of, Item, alone, block, Role, Client, Server, is_goaway, is_goaway_below}
+use Names.{greatest_block, stream_of_item, total, flow_on, reported_total, greatest_processed}
+use Names.{processed_by, reports_unprocessed, Event, Values, Act, Release, SendGoAway, log_view}
+use Names.{is_server, Active, Log, state, last_processed, next_unprocessed, released, unreleased}
+use Names.{owed_on, Verdict, StreamFault, Reported, Decoded, verdict_by_rules, events_of, items_of}
+use Names.{answer_of, refusal_of, conditions, read, with_sent, with_reported, opened, called, IsLog}
+use Names.{stream_is_active, chosen_low, none_holds, events_unnamed, items_none, replies_none}
+use Names.{IsUpInvariant, up_by_logs}
 use Rattle.h2_laws_machine.proofs.LogCore.{core}
 use Rattle.h2_laws_machine.proofs.NumberedLogs.{IsNumbered, goaway_sent, sent_numbered}
 use Rattle.h2_laws_machine.proofs.NumberedLogs.{reported_numbered, read_numbered, EventsFit}
@@ -146,17 +140,16 @@ goaway_numbered : (base : Log) (last : ℕ) → list_any is_goaway base.sent ≡
     → last ≤ greatest_block base.received → IsNumbered base
     → IsNumbered (with_sent base (alone (GoAway last 0 []) ∷ []))
 unfolding with_sent
-goaway_numbered base last none low g =
-    record {
-      goaways = goaway_sent (greatest_block base.received) last base.sent none low g.goaways;
-      processed = g.processed;
-      odd = g.odd;
-      unnamed = g.unnamed;
-      unread = λ i some unused. g.unread i some
-          (unused_before base.role i [] (alone (GoAway last 0 []) ∷ []) base.received base.sent
-          unused);
-      released = g.released;
-    }
+goaway_numbered base last none low g = record {
+  goaways = goaway_sent (greatest_block base.received) last base.sent none low g.goaways;
+  processed = g.processed;
+  odd = g.odd;
+  unnamed = g.unnamed;
+  unread = λ i some unused. g.unread i some
+      (unused_before base.role i [] (alone (GoAway last 0 []) ∷ []) base.received base.sent
+      unused);
+  released = g.released;
+}
 
 -- The items of a call that is accepted keep it.
 items_numbered : (log base : Log) (act : Act) → refusal_of (log_view log) act ≡ None
@@ -175,43 +168,40 @@ items_numbered log base act none sent received f g =
 opened_numbered : (role : Role) (values : Values) → IsNumbered (opened role values)
 unfolding opened with_sent is_goaway is_goaway_below total reported_total released
     greatest_processed greatest_block reports_unprocessed
-opened_numbered role values =
-    record {
-      goaways = record { above = λ i. refl; last = λ some. absurd (both_ways false refl some) };
-      processed = λ server. omega arith;
-      odd = λ server i here. absurd (both_ways false refl here);
-      unnamed = λ server i. refl;
-      unread = λ i some unused. assumption;
-      released = λ i. omega arith;
-    }
+opened_numbered role values = record {
+  goaways = record { above = λ i. refl; last = λ some. absurd (both_ways false refl some) };
+  processed = λ server. omega arith;
+  odd = λ server i here. absurd (both_ways false refl here);
+  unnamed = λ server i. refl;
+  unread = λ i some unused. assumption;
+  released = λ i. omega arith;
+}
 
 -- Each change of a log keeps it, as long as the connection is up.
 numbered_kept : (role : Role) (values : Values) → IsUpInvariant role values Numbered
 unfolding is_goaway with_reported with_sent
-numbered_kept role values =
-    record {
-      opening = λ in_range. opened_numbered role values;
-      replied = λ log decoded item verdict replies f.
-          sent_numbered (read log decoded item) _ (replies_none verdict item)
-          (read_numbered log decoded item verdict
-          (rules_is log decoded item verdict replies.is replies.up) replies.up f);
-      reported = λ log event events may.
-          reported_numbered log (event ∷ events) (events_fit role values log (event ∷ events) may);
-      returned = λ log returns.
-          sent_numbered (record log { unreturned = 0 })
-          (alone (WindowUpdate 0 log.unreturned) ∷ []) refl;
-      sent = λ log act accepted f.
-          items_numbered log (called log act (answer_of (log_view log) act)) act accepted.none refl
-          refl f (called_numbered log act accepted.none f);
-      called = λ log act answer is_log none f. record {
-        goaways = f.goaways;
-        processed = f.processed;
-        odd = f.odd;
-        unnamed = f.unnamed;
-        unread = f.unread;
-        released = λ i. rw (released_none i act answer log.calls none) (f.released i);
-      };
-    }
+numbered_kept role values = record {
+  opening = λ in_range. opened_numbered role values;
+  replied = λ log decoded item verdict replies f.
+      sent_numbered (read log decoded item) _ (replies_none verdict item)
+      (read_numbered log decoded item verdict
+      (rules_is log decoded item verdict replies.is replies.up) replies.up f);
+  reported = λ log event events may.
+      reported_numbered log (event ∷ events) (events_fit role values log (event ∷ events) may);
+  returned = λ log returns. sent_numbered (record log { unreturned = 0 })
+      (alone (WindowUpdate 0 log.unreturned) ∷ []) refl;
+  sent = λ log act accepted f.
+      items_numbered log (called log act (answer_of (log_view log) act)) act accepted.none refl
+      refl f (called_numbered log act accepted.none f);
+  called = λ log act answer is_log none f. record {
+    goaways = f.goaways;
+    processed = f.processed;
+    odd = f.odd;
+    unnamed = f.unnamed;
+    unread = f.unread;
+    released = λ i. rw (released_none i act answer log.calls none) (f.released i);
+  };
+}
 
 -- Every log that hasn't failed has it.
 pub numbered_of : (role : Role) (values : Values) (log : Log) → IsLog role values log

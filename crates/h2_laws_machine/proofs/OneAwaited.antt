@@ -1,18 +1,15 @@
 -- One own PING at most awaits its answer, and one own SETTINGS their acknowledgment.
-use Rattle.h2_laws_log.proofs.CallConditions.{none_holds}
 use Rattle.h2_laws_log.proofs.LogInduction.{IsLogInvariant, kept_by_logs}
-use Rattle.h2_laws_log.proofs.LogHistory.{reported_append, settings_append}
+use Rattle.h2_laws_log.proofs.LogHistory.{settings_append}
 use Rattle.h2_laws_log.proofs.WindowsOfTwoEnds.{total-append}
-use Rattle.h2_laws_machine.proofs.Names.{◌≡◌, ◌≤◌, ℕ, ◌+◌, Bool, true, false, if◌then◌else◌, List}
-use Rattle.h2_laws_machine.proofs.Names.{[], ◌∷◌, ◌++◌, None, refl, sym, ◌∙◌, arith, ltb-false}
-use Rattle.h2_laws_machine.proofs.Names.{Settings, Ping, WindowUpdate, Item, alone, Role, one_ping}
-use Rattle.h2_laws_machine.proofs.Names.{total, Event, one_acked, one_pong, reported_total, Values}
-use Rattle.h2_laws_machine.proofs.Names.{Act, SendData, Release, SendPing, ChangeSettings}
-use Rattle.h2_laws_machine.proofs.Names.{one_settings, settings_count, Log, acked, newest_ping}
-use Rattle.h2_laws_machine.proofs.Names.{ping_waits, log_view, ended_in, Verdict, NoEvent}
-use Rattle.h2_laws_machine.proofs.Names.{replies_to, conditions, refusal_of, items_of, answer_of}
-use Rattle.h2_laws_machine.proofs.Names.{data_items, read, with_sent, opened, called, IsLog}
-use Rattle.h2_laws_machine.proofs.Names.{none_of_items, when_some}
+use Rattle.h2_laws_machine.proofs.Names
+use Names.{◌≡◌, ◌≤◌, ℕ, ◌+◌, Bool, true, false, if◌then◌else◌, List, [], ◌∷◌, ◌++◌, None, refl, sym}
+use Names.{◌∙◌, arith, ltb-false, Settings, Ping, WindowUpdate, Item, alone, Role, one_ping, total}
+use Names.{Event, one_acked, one_pong, reported_total, Values, Act, SendData, Release, SendPing}
+use Names.{ChangeSettings, one_settings, settings_count, Log, acked, newest_ping, ping_waits}
+use Names.{log_view, ended_in, Verdict, NoEvent, replies_to, conditions, refusal_of, items_of}
+use Names.{answer_of, data_items, read, with_sent, opened, called, IsLog, none_of_items, when_some}
+use Names.{none_holds, reported_append}
 
 -- One own PING at most awaits its answer, and one own SETTINGS their acknowledgment.
 pub record AwaitsOne (sent : List Item) (reported : List Event) : Type 0 where
@@ -31,11 +28,10 @@ record AwaitNothing (items : List Item) : Type 0 where
 -- Such items keep it.
 one_more : (items sent : List Item) (reported : List Event) → AwaitNothing items
     → AwaitsOne sent reported → AwaitsOne (items ++ sent) reported
-one_more items sent reported none one =
-    record {
-      pings = omega (arith, total-append one_ping items sent, none.pings, one.pings);
-      settings = omega (arith, settings_append items sent, none.settings, one.settings);
-    }
+one_more items sent reported none one = record {
+  pings = omega (arith, total-append one_ping items sent, none.pings, one.pings);
+  settings = omega (arith, settings_append items sent, none.settings, one.settings);
+}
 
 -- Items are written that keep it.
 one_sent : (log : Log) (items : List Item) → AwaitsOne (items ++ log.sent) log.reported
@@ -66,12 +62,11 @@ settings_total (item ∷ items) = omega (arith, settings_total items)
 data_none : (most id : ℕ) (octets : List ℕ) (end : Bool) (count : ℕ)
     → AwaitNothing (data_items most id octets end count)
 unfolding one_ping one_settings
-data_none most id octets end count =
-    record {
-      pings = none_of_items one_ping (λ i last some. refl) most id octets end count;
-      settings = settings_total (data_items most id octets end count)
-          ∙ none_of_items one_settings (λ i last some. refl) most id octets end count;
-    }
+data_none most id octets end count = record {
+  pings = none_of_items one_ping (λ i last some. refl) most id octets end count;
+  settings = settings_total (data_items most id octets end count)
+      ∙ none_of_items one_settings (λ i last some. refl) most id octets end count;
+}
 
 -- Nor do the updates of a release, by the test.
 release_none : (id count : ℕ) (ended : Bool)
@@ -134,30 +129,28 @@ one_opened role values = record { pings = omega arith; settings = omega arith }
 -- Each change of a log keeps it.
 one_kept : (role : Role) (values : Values) → IsLogInvariant role values LogAwaitsOne
 unfolding one_ping one_settings total settings_count
-one_kept role values =
-    record {
-      opening = λ in_range. one_opened role values;
-      used = λ log octets unparsed one. one;
-      framed = λ log frames one. one;
-      begun = λ log begun one. one;
-      replied = λ log decoded item verdict replies one.
-          one_wrote (read log decoded item) _ (replies_none verdict item) one;
-      reported = λ log event events may one. record {
-        pings = omega (arith, reported_append one_pong (event ∷ events) log.reported, one.pings);
-        settings = omega (arith, reported_append);
-      };
-      unreturned = λ log count one. one;
-      returned = λ log returns one.
-          one_wrote (record log { unreturned = 0 }) _ (record { pings = refl; settings = refl })
-          one;
-      failed = λ log code last names one.
-          one_wrote log _ (record { pings = refl; settings = refl }) one;
-      sent = λ log act accepted one.
-          one_sent (called log act (answer_of (log_view log) act)) _
-          (one_items log act accepted.none one);
-      called = λ log act answer is_log none one. one;
-      given = λ log more one. one;
-    }
+one_kept role values = record {
+  opening = λ in_range. one_opened role values;
+  used = λ log octets unparsed one. one;
+  framed = λ log frames one. one;
+  begun = λ log begun one. one;
+  replied = λ log decoded item verdict replies one.
+      one_wrote (read log decoded item) _ (replies_none verdict item) one;
+  reported = λ log event events may one. record {
+    pings = omega (arith, reported_append one_pong (event ∷ events) log.reported, one.pings);
+    settings = omega (arith, reported_append);
+  };
+  unreturned = λ log count one. one;
+  returned = λ log returns one.
+      one_wrote (record log { unreturned = 0 }) _ (record { pings = refl; settings = refl })
+      one;
+  failed = λ log code last names one.
+      one_wrote log _ (record { pings = refl; settings = refl }) one;
+  sent = λ log act accepted one. one_sent (called log act (answer_of (log_view log) act)) _
+      (one_items log act accepted.none one);
+  called = λ log act answer is_log none one. one;
+  given = λ log more one. one;
+}
 
 -- So it is of every log that hasn't failed.
 pub awaits_one : (role : Role) (values : Values) (log : Log) → IsLog role values log

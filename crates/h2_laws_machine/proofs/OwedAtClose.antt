@@ -34,11 +34,10 @@ owes_none log after = dead_owing log after 0 (zero_dead (core log))
 -- what is left owing by a stream that stays active
 pub owes_active : (log after : Log) (i : ℕ) → active after i ≡ true → owed_at_close log after i ≡ 0
 unfolding owed_at_close
-owes_active log after i is = rw is (neither (active log i))
-  where
-    neither : (b : Bool) → (if b && false then unreleased after i else 0) ≡ 0
-    neither true = refl
-    neither false = refl
+owes_active log after i is = rw is (neither (active log i)) where
+  neither : (b : Bool) → (if b && false then unreleased after i else 0) ≡ 0
+  neither true = refl
+  neither false = refl
 
 -- A stream that is closed leaves what it owes to be returned.
 pub owes_all : (log after : Log) (i : ℕ) → active log i ≡ true → active after i ≡ false

@@ -1,15 +1,13 @@
 -- What is owed on all streams, by what an end's log says of each; and the connection's window, by
 -- its log.
 use Rattle.std.specs.FinMap as map
-use Rattle.h2_spec_log.specs.Windows.{connection_send_window, connection_recv_window}
-use Rattle.h2_laws_log.specs.Sums.{sum_below}
 use Rattle.h2_laws_log.proofs.WindowsOfTwoEnds.{connection_meets}
-use Rattle.h2_laws_machine.proofs.Names.{◌≡◌, ℕ, ◌+◌, ◌<◌, Bool, true, false, if◌then◌else◌, List}
-use Rattle.h2_laws_machine.proofs.Names.{◌++◌, ℤ, pos, ◌+ℤ◌, ◌-ℤ◌, None, refl, ap, ◌∙◌, arith, ints}
-use Rattle.h2_laws_machine.proofs.Names.{list_any, Item, data_of, increment_on, ends, resets, total}
-use Rattle.h2_laws_machine.proofs.Names.{Values, first_window, granted_on_connection, Log, active}
-use Rattle.h2_laws_machine.proofs.Names.{send_window, recv_window, unreleased, owed, End}
-use Rattle.h2_laws_machine.proofs.Names.{owed_entry, owed_total, StreamView, Represents, entry_by}
+use Rattle.h2_laws_machine.proofs.Names
+use Names.{◌≡◌, ℕ, ◌+◌, ◌<◌, Bool, true, false, if◌then◌else◌, List, ◌++◌, ℤ, pos, ◌+ℤ◌, ◌-ℤ◌, None}
+use Names.{refl, ap, ◌∙◌, arith, ints, list_any, Item, data_of, increment_on, ends, resets, total}
+use Names.{Values, first_window, granted_on_connection, Log, active, send_window, recv_window}
+use Names.{unreleased, owed, End, owed_entry, owed_total, StreamView, Represents, entry_by}
+use Names.{connection_send_window, connection_recv_window, sum_below}
 use Rattle.h2_laws_machine.proofs.OwedSums.{total-sum, same_sum}
 
 -- What is owed on what is kept of a number, by whether it is active and was reset.
@@ -20,14 +18,13 @@ owed_by active was_reset stream = refl
 
 -- what is kept of an active stream, as its log says
 abbrev kept_stream : Log → ℕ → StreamView
-kept_stream log i =
-    record {
-      send_window = send_window log i;
-      recv_window = recv_window log i;
-      owed = unreleased log i;
-      ended_in = list_any (ends i) log.received;
-      ended_out = list_any (ends i) log.sent;
-    }
+kept_stream log i = record {
+  send_window = send_window log i;
+  recv_window = recv_window log i;
+  owed = unreleased log i;
+  ended_in = list_any (ends i) log.received;
+  ended_out = list_any (ends i) log.sent;
+}
 
 -- What is owed on all streams of an end is the sum of what its log says is owed on each.
 pub owed_on_all : (values : Values) (e : End) (log : Log) (n : ℕ) → Represents values e log

@@ -1,16 +1,14 @@
 -- Sums over the streams that are kept: what an entry that is set, removed or changed makes of what
 -- is owed on all streams.
 use Rattle.std.proofs.Common.{eqb-true}
+use Rattle.h2_laws_machine.proofs.Names
+use Names.{zero, suc, ◌<◌, ◌≤◌, length, ◌==◌, ◌≢◌, if◌then◌else◌, ◌≡◌, ℕ, ◌+◌, Bool, true, false}
+use Names.{cond, T, List, [], ◌∷◌, Option, Some, None, Less, Equal, Greater, Ordering, refl, sym}
+use Names.{ap, ◌∙◌, arith, nat_cmp, is_eq, nat_cmp_total, eqb-false, below_all, by_order}
+use Names.{StreamEntry, StreamMap, owed_entry, owed_sum, owed_total, each_entry, changed}
+use Names.{entries_changed, get_set, get_removed, get_removed_same, get_removed_other, sum_below}
+use Names.{first, second, not_found}
 use Rattle.std.specs.FinMap as map
-use Rattle.h2_laws_log.specs.Sums.{sum_below}
-use Rattle.h2_spec_machine.proofs.SortedEntries.{first, second, not_found}
-use Rattle.h2_laws_machine.proofs.Names.{zero, suc, ◌<◌, ◌≤◌, length, ◌==◌, ◌≢◌, if◌then◌else◌, ◌≡◌}
-use Rattle.h2_laws_machine.proofs.Names.{ℕ, ◌+◌, Bool, true, false, cond, T, List, [], ◌∷◌, Option}
-use Rattle.h2_laws_machine.proofs.Names.{Some, None, Less, Equal, Greater, Ordering, refl, sym, ap}
-use Rattle.h2_laws_machine.proofs.Names.{◌∙◌, arith, nat_cmp, is_eq, nat_cmp_total, eqb-false}
-use Rattle.h2_laws_machine.proofs.Names.{below_all, by_order, StreamEntry, StreamMap, owed_entry}
-use Rattle.h2_laws_machine.proofs.Names.{owed_sum, owed_total, each_entry, changed, entries_changed}
-use Rattle.h2_laws_machine.proofs.Names.{get_set, get_removed, get_removed_same, get_removed_other}
 
 -- the sum after an entry that is set, by how its key compares with the first
 sum_inserted_by : (k : ℕ) (v : StreamEntry) (e : ℕ × StreamEntry) (es : List (ℕ
@@ -87,8 +85,7 @@ total_removed_by m k None is =
     omega (arith, same)
 total_removed_by m k (Some v) is =
     let set : owed_total (map.insert (map.remove m k) k v) + owed_entry (map.get (map.remove m k) k)
-    ≡ owed_total (map.remove m k) + owed_entry (Some v) =
-    total-insert (map.remove m k) k v in
+    ≡ owed_total (map.remove m k) + owed_entry (Some v) = total-insert (map.remove m k) k v in
     let back : owed_total (map.insert (map.remove m k) k v) ≡ owed_total m =
     ap owed_total (inserted_again m k v is) in
     let none : owed_entry (map.get (map.remove m k) k) ≡ 0 = ap owed_entry (get_removed_same m k) in

@@ -1,18 +1,14 @@
 -- What of a log concerns numbers that were not used; and which numbers were.
-use Rattle.std.proofs.lemmas.Bool.{or_from, le-leb, leb-true}
-use Rattle.h2_spec_log.specs.Allowed.{starts, reads, writes, Allowed}
-use Rattle.h2_spec_machine.proofs.SortedEntries.{both_same}
+use Rattle.std.proofs.lemmas.Bool.{le-leb, leb-true}
 use Rattle.h2_laws_log.proofs.ReplyInvariant.{used_more}
 use Rattle.h2_laws_log.proofs.InvariantCalls.{odd_some}
-use Rattle.h2_laws_machine.proofs.Names.{◌≡◌, ◌≢◌, ℕ, ◌≤◌, ◌<◌, ◌%◌, ◌==◌, nat_le, Bool, true}
-use Rattle.h2_laws_machine.proofs.Names.{false, ◌&&◌, ◌||◌, List, [], ◌∷◌, ◌++◌, refl, sym, ◌∙◌}
-use Rattle.h2_laws_machine.proofs.Names.{subst, inl, inr, arith, list_any, both_ways, or_cases}
-use Rattle.h2_laws_machine.proofs.Names.{or_left, or_right, and_from, eqb-true, eq-eqb, ne_eqb}
-use Rattle.h2_laws_machine.proofs.Names.{cases_eq, leb-false, false_from_ne_true, Data, Settings}
-use Rattle.h2_laws_machine.proofs.Names.{Item, alone, block, Role, data_on, is_block_on, opens_from}
-use Rattle.h2_laws_machine.proofs.Names.{ends, total, greatest_block, openings, is_used}
-use Rattle.h2_laws_machine.proofs.Names.{AllowedHistory, active_parts, active_used, total_one}
-use Rattle.h2_laws_machine.proofs.Names.{opens_low, opening_uses}
+use Rattle.h2_laws_machine.proofs.Names
+use Names.{◌≡◌, ◌≢◌, ℕ, ◌≤◌, ◌<◌, ◌%◌, ◌==◌, nat_le, Bool, true, false, ◌&&◌, ◌||◌, List, [], ◌∷◌}
+use Names.{◌++◌, refl, sym, ◌∙◌, subst, inl, inr, arith, list_any, both_ways, or_cases, or_left}
+use Names.{or_right, and_from, eqb-true, eq-eqb, ne_eqb, cases_eq, leb-false, false_from_ne_true}
+use Names.{Data, Settings, Item, alone, block, Role, data_on, is_block_on, opens_from, ends, total}
+use Names.{greatest_block, openings, is_used, AllowedHistory, active_parts, active_used, total_one}
+use Names.{opens_low, opening_uses, or_from, starts, reads, writes, Allowed, both_same}
 use Rattle.h2_laws_machine.proofs.OneItemMore.{any_quiet}
 
 -- All blocks have odd numbers.
@@ -46,16 +42,15 @@ pub used_is : (role : Role) (i : ℕ) (received sent : List Item)
     → is_used role i received sent
     ≡ (i % 2 == 1 && nat_le i (greatest_block (openings role received sent)))
 unfolding is_used
-used_is role i received sent odd = by (i % 2 == 1) refl
-  where
-    by : (b : Bool) → (i % 2 == 1) ≡ b
-        → (b && list_any (opens_from i) (openings role received sent))
-        ≡ (b && nat_le i (greatest_block (openings role received sent)))
-    by false is = refl
-    by true is =
-        both_same _ _ (λ some. le-leb i _ (opens_low i (openings role received sent) some))
-        (λ low. opens_from_odd i (openings role received sent) (odd_some i is) odd
-        (leb-true i _ low))
+used_is role i received sent odd = by (i % 2 == 1) refl where
+  by : (b : Bool) → (i % 2 == 1) ≡ b
+      → (b && list_any (opens_from i) (openings role received sent))
+      ≡ (b && nat_le i (greatest_block (openings role received sent)))
+  by false is = refl
+  by true is =
+      both_same _ _ (λ some. le-leb i _ (opens_low i (openings role received sent) some))
+      (λ low. opens_from_odd i (openings role received sent) (odd_some i is) odd
+      (leb-true i _ low))
 
 -- Blocks that a client writes have odd numbers.
 block_odd : (role : Role) (i : ℕ) (received sent : List Item) (item : Item)
@@ -114,8 +109,7 @@ item_quiet role i received sent (block stream end octets) allowed unused =
           (sym same) unused in
           elim allowed.1 [
             | inl may ↦ absurd (both_ways _ unused_here
-                (opening_uses role stream end octets received
-                sent may.client may.odd))
+                (opening_uses role stream end octets received sent may.client may.odd))
             | inr goes ↦ absurd (both_ways _ unused_here (used_more role stream []
                 (block stream end octets ∷ []) received sent
                 (active_used role stream received sent [] goes.active)))

@@ -1,21 +1,17 @@
 -- The values of an end are in their ranges at first, and after each frame and each call.
 use Rattle.std.proofs.Common.{◌^◌, ltb-false}
-use Rattle.std.specs.FinMap as map
-use Rattle.h2_frame.specs.declared.code.Code.TheVariants.{FlowControlError}
 use Rattle.h2_spec_log.specs.Limits.{max_table_limit}
 use Rattle.h2_spec_log.specs.Settings.{peer_of, value_fault}
-use Rattle.h2_laws_machine.proofs.Names.{◌≡◌, ℕ, ◌+◌, ◌-◌, ◌≤◌, ◌==◌, nat_lt, ◌&&◌, List, [], ◌∷◌}
-use Rattle.h2_laws_machine.proofs.Names.{if◌then◌else◌, Bool, true, false, length, Option, Some}
-use Rattle.h2_laws_machine.proofs.Names.{None, refl, ap, ◌∙◌, arith, nat_cmp, table_size, Entries}
-use Rattle.h2_laws_machine.proofs.Names.{stream_of, Frame, Code, ProtocolError, Begun}
-use Rattle.h2_laws_machine.proofs.Names.{max_block_octets, Item, alone, block, Values, AreInRange}
-use Rattle.h2_laws_machine.proofs.Names.{Act, IsTypedAct, refusal_of, Decoded, first_fault}
-use Rattle.h2_laws_machine.proofs.Names.{settings_fault, most_max_frame, value_after}
-use Rattle.h2_laws_machine.proofs.Names.{greatest_number, StreamView, greatest_window, Role, End}
-use Rattle.h2_laws_machine.proofs.Names.{OwnSettings, end_view, stream_in, stream_at, owed_entry}
-use Rattle.h2_laws_machine.proofs.Names.{any_above, close_stream, with_table_after, after_frame}
-use Rattle.h2_laws_machine.proofs.Names.{after_call, new_end, same_some}
-use Rattle.h2_laws_machine.specs.Ranges.{ValuesAreInRange, IsDecodedAt, StreamIsInRange}
+use Rattle.h2_laws_machine.specs.Ranges.{StreamIsInRange}
+use Rattle.h2_laws_machine.proofs.Names
+use Names.{◌≡◌, ℕ, ◌+◌, ◌-◌, ◌≤◌, ◌==◌, nat_lt, ◌&&◌, List, [], ◌∷◌, if◌then◌else◌, Bool, true}
+use Names.{false, length, Option, Some, None, refl, ap, ◌∙◌, arith, nat_cmp, table_size, Entries}
+use Names.{stream_of, Frame, Code, ProtocolError, Begun, max_block_octets, Item, alone, block}
+use Names.{Values, AreInRange, Act, IsTypedAct, refusal_of, Decoded, first_fault, settings_fault}
+use Names.{most_max_frame, value_after, greatest_number, StreamView, greatest_window, Role, End}
+use Names.{OwnSettings, end_view, stream_in, stream_at, owed_entry, any_above, close_stream}
+use Names.{with_table_after, after_frame, after_call, new_end, same_some, FlowControlError}
+use Names.{ValuesAreInRange, IsDecodedAt}
 use Rattle.h2_laws_machine.proofs.EveryCall.{call_keeps}
 use Rattle.h2_laws_machine.proofs.EveryEnd.{returned_keeps, frame_keeps}
 use Rattle.h2_laws_machine.proofs.EndInvariants.{Known, IsEndInvariant, without_entry}
@@ -23,6 +19,7 @@ use Rattle.h2_laws_machine.proofs.StreamRanges.{StreamsFit, set_fits, reset_fits
 use Rattle.h2_laws_machine.proofs.StreamRanges.{send_shifted_fits, recv_shifted_fits, NoneAbove}
 use Rattle.h2_laws_machine.proofs.StreamRanges.{none_above, none_above_same, new_fits_stream}
 use Rattle.h2_laws_machine.proofs.TableRanges.{block_within}
+use Rattle.std.specs.FinMap as map
 
 -- the ranges of the greatest number that was used, of the last that was processed, and of the last
 -- of an own GOAWAY
@@ -129,50 +126,49 @@ value_fits e (pair ∷ pairs) before is h =
 
 -- Each small change keeps the values in their ranges.
 ranges_kept : IsEndInvariant (Unit {0}) (Unit {0}) (λ (more : ℕ) (e : End). Fits e) Fits
-ranges_kept =
-    record {
-      up = λ e up h. h;
-      kept = λ e h. h;
-      failed = λ e code last h. h;
-      put_out = λ e count h. h;
-      joined = λ e more items fits h. h;
-      encoded = λ e encoder valid h. h;
-      begun = λ e begun few h. (h.0, h.1, h.2, h.3, h.4, (few, h.5.1, h.5.2));
-      table = λ e decoded item known h. table_fits e decoded item (known tt) h;
-      numbered = λ e highest last most range less h.
-          ((range tt h.0.0, less h.0.1, h.0.2), h.1, h.2, h.3, h.4, h.5);
-      windows = λ e more later windows same most h. (h.0, most h.1, h.2, h.3, h.4, h.5);
-      set = λ e more later i stream next active same stays h.
-          let one = h.4 i stream active in
-          let all = set_fits _ _ _ i next one.0 (stays one.0 h.2 h.3.0 one.1) h.4 in
-          (h.0, h.1, h.2, h.3, all, h.5);
-      removed = λ e i stream active h. (h.0, h.1, h.2, h.3, removed_fits _ _ _ i h.4, h.5);
-      was_reset = λ e i more used few h. (h.0, h.1, h.2, h.3, reset_fits _ _ _ i h.4, h.5);
-      opened = λ e i ended_in ended_out highest last none most within range less apart few h.
-          let new = new_fits_stream _ _ ended_in ended_out h.2 in
-          let all = set_fits _ _ _ i _ apart new h.4 in
-          ((range tt h.0.0, less h.0.1, h.0.2), h.1, h.2, h.3, all, h.5);
-      settings = λ e pairs good h.
-          let shifts : Shifts e (value_after 4 e.peer.initial_window pairs) =
-          value_fits e pairs e.peer.initial_window good (h.2, none_above_same _ _ _ h.4) in
-          (h.0, h.1, shifts.0, h.3, send_shifted_fits _ _ _ _ shifts.1 h.4, h.5);
-      enforced = λ e values awaited h.
-          let range : AreInRange values = h.3.2 values awaited in
-          let own : OwnFit (record { in_force = values; awaited = None }) =
-          (range.initial_window, range.table_limit, λ others is. absurd (cc), range.max_frame) in
-          (h.0, h.1, h.2, own, recv_shifted_fits _ _ _ _ h.4, h.5);
-      awaits = λ e values range h.
-          let own : OwnFit (record e.own { awaited = Some values }) =
-          (h.3.0, h.3.1, λ others. same_some AreInRange values others (range tt), h.3.3) in
-          (h.0, h.1, h.2, own, h.4, h.5);
-      goaway_sent = λ e h.
-          let most : e.streams.last_processed ≤ greatest_number = omega (arith, h.0.0, h.0.1) in
-          let sent : NumbersFit e.streams.highest e.streams.last_processed
-          (Some e.streams.last_processed) =
-          (h.0.0, h.0.1, λ last. same_some (λ (n : ℕ). n ≤ greatest_number) _ last most) in
-          (sent, h.1, h.2, h.3, h.4, h.5);
-      beside = λ e ping received h. h;
-    }
+ranges_kept = record {
+  up = λ e up h. h;
+  kept = λ e h. h;
+  failed = λ e code last h. h;
+  put_out = λ e count h. h;
+  joined = λ e more items fits h. h;
+  encoded = λ e encoder valid h. h;
+  begun = λ e begun few h. (h.0, h.1, h.2, h.3, h.4, (few, h.5.1, h.5.2));
+  table = λ e decoded item known h. table_fits e decoded item (known tt) h;
+  numbered = λ e highest last most range less h.
+      ((range tt h.0.0, less h.0.1, h.0.2), h.1, h.2, h.3, h.4, h.5);
+  windows = λ e more later windows same most h. (h.0, most h.1, h.2, h.3, h.4, h.5);
+  set = λ e more later i stream next active same stays h.
+      let one = h.4 i stream active in
+      let all = set_fits _ _ _ i next one.0 (stays one.0 h.2 h.3.0 one.1) h.4 in
+      (h.0, h.1, h.2, h.3, all, h.5);
+  removed = λ e i stream active h. (h.0, h.1, h.2, h.3, removed_fits _ _ _ i h.4, h.5);
+  was_reset = λ e i more used few h. (h.0, h.1, h.2, h.3, reset_fits _ _ _ i h.4, h.5);
+  opened = λ e i ended_in ended_out highest last none most within range less apart few h.
+      let new = new_fits_stream _ _ ended_in ended_out h.2 in
+      let all = set_fits _ _ _ i _ apart new h.4 in
+      ((range tt h.0.0, less h.0.1, h.0.2), h.1, h.2, h.3, all, h.5);
+  settings = λ e pairs good h.
+      let shifts : Shifts e (value_after 4 e.peer.initial_window pairs) =
+      value_fits e pairs e.peer.initial_window good (h.2, none_above_same _ _ _ h.4) in
+      (h.0, h.1, shifts.0, h.3, send_shifted_fits _ _ _ _ shifts.1 h.4, h.5);
+  enforced = λ e values awaited h.
+      let range : AreInRange values = h.3.2 values awaited in
+      let own : OwnFit (record { in_force = values; awaited = None }) =
+      (range.initial_window, range.table_limit, λ others is. absurd (cc), range.max_frame) in
+      (h.0, h.1, h.2, own, recv_shifted_fits _ _ _ _ h.4, h.5);
+  awaits = λ e values range h.
+      let own : OwnFit (record e.own { awaited = Some values }) =
+      (h.3.0, h.3.1, λ others. same_some AreInRange values others (range tt), h.3.3) in
+      (h.0, h.1, h.2, own, h.4, h.5);
+  goaway_sent = λ e h.
+      let most : e.streams.last_processed ≤ greatest_number = omega (arith, h.0.0, h.0.1) in
+      let sent : NumbersFit e.streams.highest e.streams.last_processed
+      (Some e.streams.last_processed) =
+      (h.0.0, h.0.1, λ last. same_some (λ (n : ℕ). n ≤ greatest_number) _ last most) in
+      (sent, h.1, h.2, h.3, h.4, h.5);
+  beside = λ e ping received h. h;
+}
 
 -- A stream is over.
 pub closed_fits : (e : End) (i more : ℕ) → Fits e → Fits (close_stream e i more)

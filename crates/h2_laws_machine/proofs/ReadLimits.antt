@@ -2,19 +2,16 @@
 -- call but a change of own settings moves it.
 use Rattle.h2_spec_log.specs.Settings.{greatest_from, payload_limit}
 use Rattle.h2_spec_machine.specs.End.{payload_limit_of}
-use Rattle.h2_laws_machine.proofs.Names.{◌≡◌, ◌≤◌, ℕ, suc, ◌+◌, ◌-◌, ◌==◌, not, ◌&&◌, max, Bool}
-use Rattle.h2_laws_machine.proofs.Names.{List, length, pos, ◌-ℤ◌, Option, Some, None, is_some, refl}
-use Rattle.h2_laws_machine.proofs.Names.{sym, ap, ◌∙◌, arith, ltb-false, ltb-true, cond_both, Item}
-use Rattle.h2_laws_machine.proofs.Names.{Code, Role, Values, Act, Open, SendFields, SendData}
-use Rattle.h2_laws_machine.proofs.Names.{Release, ResetStream, Refuse, SendPing, SendGoAway, PutOut}
-use Rattle.h2_laws_machine.proofs.Names.{ChangeSettings, AreInRange, data_items, refuse_fault}
-use Rattle.h2_laws_machine.proofs.Names.{returns_before_put_out, returns_credit, most_max_frame}
-use Rattle.h2_laws_machine.proofs.Names.{Log, acked, own_value, settings_count, StreamView, End}
-use Rattle.h2_laws_machine.proofs.Names.{OwnSettings, end_view, stream_at, add_unreturned}
-use Rattle.h2_laws_machine.proofs.Names.{after_call, after_data, after_fields_sent, after_refuse}
-use Rattle.h2_laws_machine.proofs.Names.{after_release, before_put_out_at, close_unprocessed}
-use Rattle.h2_laws_machine.proofs.Names.{queue_output, update_stream, Represents, RepresentsOwn}
-use Rattle.h2_laws_machine.specs.Ranges.{ValuesAreInRange}
+use Rattle.h2_laws_machine.proofs.Names
+use Names.{◌≡◌, ◌≤◌, ℕ, suc, ◌+◌, ◌-◌, ◌==◌, not, ◌&&◌, max, Bool, List, length, pos, ◌-ℤ◌, Option}
+use Names.{Some, None, is_some, refl, sym, ap, ◌∙◌, arith, ltb-false, ltb-true, cond_both, Item}
+use Names.{Code, Role, Values, Act, Open, SendFields, SendData, Release, ResetStream, Refuse}
+use Names.{SendPing, SendGoAway, PutOut, ChangeSettings, AreInRange, data_items, refuse_fault}
+use Names.{returns_before_put_out, returns_credit, most_max_frame, Log, acked, own_value}
+use Names.{settings_count, StreamView, End, OwnSettings, end_view, stream_at, add_unreturned}
+use Names.{after_call, after_data, after_fields_sent, after_refuse, after_release}
+use Names.{before_put_out_at, close_unprocessed, queue_output, update_stream, Represents}
+use Names.{RepresentsOwn, ValuesAreInRange}
 use Rattle.h2_laws_machine.proofs.OneAwaited.{awaits_one}
 
 -- Where no own SETTINGS await their acknowledgment, the limit is the value in force.

@@ -1,25 +1,19 @@
 -- What a field block on an active stream, and one that is ignored, make of an end and of its log.
 use Rattle.std.specs.FinMap as map
-use Rattle.h2_spec_log.specs.ItemEffects.{decoded_fields}
-use Rattle.h2_laws_machine.proofs.Names.{◌≡◌, ◌≢◌, ℕ, ◌+◌, ◌-◌, ◌≤◌, ◌<◌, ◌%◌, ◌==◌, nat_lt, max}
-use Rattle.h2_laws_machine.proofs.Names.{Bool, true, false, ◌&&◌, ◌||◌, if◌then◌else◌, List, []}
-use Rattle.h2_laws_machine.proofs.Names.{◌∷◌, Option, refl, ap, sym, ◌∙◌, inl, inr, arith, zero-add}
-use Rattle.h2_laws_machine.proofs.Names.{list_any, both_ways, eq-eqb, false_from_ne_true, cases_eq}
-use Rattle.h2_laws_machine.proofs.Names.{or_cases, ltb-true, ltb-false, Field, Item, block, Role}
-use Rattle.h2_laws_machine.proofs.Names.{Client, Server, stream_of_item, data_on, data_of}
-use Rattle.h2_laws_machine.proofs.Names.{increment_on, ends, resets, one_reset, is_goaway, total}
-use Rattle.h2_laws_machine.proofs.Names.{greatest_block, Event, FieldsEvent, flow_on, one_acked}
-use Rattle.h2_laws_machine.proofs.Names.{one_pong, reported_total, reports_unprocessed}
-use Rattle.h2_laws_machine.proofs.Names.{processed_by, greatest_processed, is_server, value_read}
-use Rattle.h2_laws_machine.proofs.Names.{one_settings, openings, is_above, is_closed_by_us}
-use Rattle.h2_laws_machine.proofs.Names.{count_below, given_on, Log, unreleased, least_goaway}
-use Rattle.h2_laws_machine.proofs.Names.{NoEvent, Reported, Decoded, replies_to, read, with_sent}
-use Rattle.h2_laws_machine.proofs.Names.{with_reported, with_unreturned, owed_at_close}
-use Rattle.h2_laws_machine.proofs.Names.{with_verdict, events_of, discarded_flow, table_after}
-use Rattle.h2_laws_machine.proofs.Names.{StreamView, End, StreamMap, Streams, active_entry}
-use Rattle.h2_laws_machine.proofs.Names.{owed_entry, with_table_after, set_stream, close_stream}
-use Rattle.h2_laws_machine.proofs.Names.{after_reported, after_ignored, is_fresh, get_set_same}
-use Rattle.h2_laws_machine.proofs.Names.{active_parts, active_by_parts, lasts_parts}
+use Rattle.h2_laws_machine.proofs.Names
+use Names.{◌≡◌, ◌≢◌, ℕ, ◌+◌, ◌-◌, ◌≤◌, ◌<◌, ◌%◌, ◌==◌, nat_lt, max, Bool, true, false, ◌&&◌, ◌||◌}
+use Names.{if◌then◌else◌, List, [], ◌∷◌, Option, refl, ap, sym, ◌∙◌, inl, inr, arith, zero-add}
+use Names.{list_any, both_ways, eq-eqb, false_from_ne_true, cases_eq, or_cases, ltb-true, ltb-false}
+use Names.{Field, Item, block, Role, Client, Server, stream_of_item, data_on, data_of, increment_on}
+use Names.{ends, resets, one_reset, is_goaway, total, greatest_block, Event, FieldsEvent, flow_on}
+use Names.{one_acked, one_pong, reported_total, reports_unprocessed, processed_by}
+use Names.{greatest_processed, is_server, value_read, one_settings, openings, is_above}
+use Names.{is_closed_by_us, count_below, given_on, Log, unreleased, least_goaway, NoEvent, Reported}
+use Names.{Decoded, replies_to, read, with_sent, with_reported, with_unreturned, owed_at_close}
+use Names.{with_verdict, events_of, discarded_flow, table_after, StreamView, End, StreamMap}
+use Names.{Streams, active_entry, owed_entry, with_table_after, set_stream, close_stream}
+use Names.{after_reported, after_ignored, is_fresh, get_set_same, active_parts, active_by_parts}
+use Names.{lasts_parts, decoded_fields}
 use Rattle.h2_laws_machine.proofs.CallOpen.{count_high, none_above}
 use Rattle.h2_laws_machine.proofs.LogCore.{StreamsOf, said, Core, core, CoreFacts, core_facts}
 use Rattle.h2_laws_machine.proofs.LogCore.{Advances, Going, active_by_items, greatest_used}

@@ -1,10 +1,9 @@
 -- An item that is a fault of the connection makes it fail at an end as at its log.
-use Rattle.h2_spec_log.specs.ItemRules.{opened_by}
 use Rattle.h2_laws_machine.proofs.Names.{◌≡◌, max, arith, Option, Some, None, refl, ap₂, list_any}
 use Rattle.h2_laws_machine.proofs.Names.{Code, Item, alone, block, end_view, End, log_view}
 use Rattle.h2_laws_machine.proofs.Names.{is_goaway, Log, last_processed, active_count, max_streams}
 use Rattle.h2_laws_machine.proofs.Names.{ConnectionFault, Decoded, with_verdict, after_verdict}
-use Rattle.h2_laws_machine.proofs.Names.{goaway_sent_last, greatest_processed, when_some}
+use Rattle.h2_laws_machine.proofs.Names.{goaway_sent_last, greatest_processed, when_some, opened_by}
 use Rattle.h2_laws_machine.proofs.LogCore.{core, Going}
 use Rattle.h2_laws_machine.proofs.RecvReturnedCredit.{After}
 use Rattle.h2_laws_machine.proofs.RecvVerdict.{Sound, state_same}

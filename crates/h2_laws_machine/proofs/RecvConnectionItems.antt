@@ -1,14 +1,11 @@
 -- What items make of an end and of its log that change nothing of its streams, but perhaps windows.
-use Rattle.h2_laws_machine.proofs.Names.{◌≡◌, ℕ, Bool, true, false, List, [], ◌∷◌, Option, refl}
-use Rattle.h2_laws_machine.proofs.Names.{arith, both_ways, Frame, Data, Reset, Settings, Ping}
-use Rattle.h2_laws_machine.proofs.Names.{GoAway, WindowUpdate, stream_of, Item, alone, least_goaway}
-use Rattle.h2_laws_machine.proofs.Names.{Log, newest_ping, stream_of_item, data_on, data_of}
-use Rattle.h2_laws_machine.proofs.Names.{increment_on, is_block_on, ends, resets, one_reset}
-use Rattle.h2_laws_machine.proofs.Names.{one_ping, is_goaway, is_goaway_below, greatest_block}
-use Rattle.h2_laws_machine.proofs.Names.{one_settings, NoEvent, Decoded, replies_to, read}
-use Rattle.h2_laws_machine.proofs.Names.{with_sent, with_reported, with_verdict, events_of}
-use Rattle.h2_laws_machine.proofs.Names.{discarded_flow, End, end_view, queue_output, after_ignored}
-use Rattle.h2_laws_machine.proofs.Names.{goaway_sent_last}
+use Rattle.h2_laws_machine.proofs.Names
+use Names.{◌≡◌, ℕ, Bool, true, false, List, [], ◌∷◌, Option, refl, arith, both_ways, Frame, Data}
+use Names.{Reset, Settings, Ping, GoAway, WindowUpdate, stream_of, Item, alone, least_goaway, Log}
+use Names.{newest_ping, stream_of_item, data_on, data_of, increment_on, is_block_on, ends, resets}
+use Names.{one_reset, one_ping, is_goaway, is_goaway_below, greatest_block, one_settings, NoEvent}
+use Names.{Decoded, replies_to, read, with_sent, with_reported, with_verdict, events_of}
+use Names.{discarded_flow, End, end_view, queue_output, after_ignored, goaway_sent_last}
 use Rattle.h2_laws_machine.proofs.LogCore.{core, core_facts, Going}
 use Rattle.h2_laws_machine.proofs.OwedAtClose.{none_owing, dead_owing, zero_dead}
 use Rattle.h2_laws_machine.proofs.RecvRead.{IsQuietIn, quiet_read, active_read, reads}

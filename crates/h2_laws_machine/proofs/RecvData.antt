@@ -1,21 +1,17 @@
 -- What DATA that is reported makes of an end and of its log.
 use Rattle.std.specs.FinMap as map
 use Rattle.h2_spec_log.specs.Events.{DataEvent}
-use Rattle.h2_laws_machine.proofs.Names.{◌≡◌, ◌≢◌, ℕ, ◌≤◌, ◌+◌, ◌-◌, Bool, true, false, ◌&&◌, ◌||◌}
-use Rattle.h2_laws_machine.proofs.Names.{if◌then◌else◌, pos, ◌-ℤ◌, List, [], ◌∷◌, length, Option}
-use Rattle.h2_laws_machine.proofs.Names.{refl, ap, sym, ◌∙◌, arith, zero-add, list_any, ints}
-use Rattle.h2_laws_machine.proofs.Names.{both_ways, ne_eqb, eq-eqb, or_right, false_from_ne_true}
-use Rattle.h2_laws_machine.proofs.Names.{Data, stream_of, payload_of, Item, alone, stream_of_item}
-use Rattle.h2_laws_machine.proofs.Names.{data_on, is_block_on, ends, resets, total, Event, flow_on}
-use Rattle.h2_laws_machine.proofs.Names.{one_acked, one_pong, reported_total, reports_unprocessed}
-use Rattle.h2_laws_machine.proofs.Names.{processed_by, is_server, value_read, openings, given_on}
-use Rattle.h2_laws_machine.proofs.Names.{granted_on, Log, unreleased, released, Reported, Decoded}
-use Rattle.h2_laws_machine.proofs.Names.{replies_to, read, with_sent, with_reported}
-use Rattle.h2_laws_machine.proofs.Names.{with_unreturned, owed_at_close, with_verdict, events_of}
-use Rattle.h2_laws_machine.proofs.Names.{discarded_flow, End, StreamMap, active_entry, owed_entry}
-use Rattle.h2_laws_machine.proofs.Names.{Streams, StreamView, set_stream, close_stream, with_flow}
-use Rattle.h2_laws_machine.proofs.Names.{after_reported, Role, Client, Server, get_set_same}
-use Rattle.h2_laws_machine.proofs.Names.{active_parts, active_by_parts, lasts_parts}
+use Rattle.h2_laws_machine.proofs.Names
+use Names.{◌≡◌, ◌≢◌, ℕ, ◌≤◌, ◌+◌, ◌-◌, Bool, true, false, ◌&&◌, ◌||◌, if◌then◌else◌, pos, ◌-ℤ◌}
+use Names.{List, [], ◌∷◌, length, Option, refl, ap, sym, ◌∙◌, arith, zero-add, list_any, ints}
+use Names.{both_ways, ne_eqb, eq-eqb, or_right, false_from_ne_true, Data, stream_of, payload_of}
+use Names.{Item, alone, stream_of_item, data_on, is_block_on, ends, resets, total, Event, flow_on}
+use Names.{one_acked, one_pong, reported_total, reports_unprocessed, processed_by, is_server}
+use Names.{value_read, openings, given_on, granted_on, Log, unreleased, released, Reported, Decoded}
+use Names.{replies_to, read, with_sent, with_reported, with_unreturned, owed_at_close, with_verdict}
+use Names.{events_of, discarded_flow, End, StreamMap, active_entry, owed_entry, Streams, StreamView}
+use Names.{set_stream, close_stream, with_flow, after_reported, Role, Client, Server, get_set_same}
+use Names.{active_parts, active_by_parts, lasts_parts}
 use Rattle.h2_laws_machine.proofs.ItemsApart.{data_apart}
 use Rattle.h2_laws_machine.proofs.LogCore.{StreamsOf, said, Core, core, CoreFacts, core_facts}
 use Rattle.h2_laws_machine.proofs.LogCore.{Advances, Going, confirmed, active_by_items}

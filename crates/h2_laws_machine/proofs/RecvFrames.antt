@@ -1,21 +1,16 @@
 -- After a frame a machine represents the log with it.
-use Rattle.h2_frame.specs.Frames.{Headers, Continuation}
 use Rattle.h2_block.specs.declared.fault.BlockFault.{BlockFault}
-use Rattle.h2_wire.specs.Streams.{Limits, AreFrames, IsFrame, expected_preface}
-use Rattle.h2_spec_log.specs.Histories.{TakesOctets, TakesFrame, IsDecodedFor}
-use Rattle.h2_spec_log.proofs.StreamLemmas.{Keeps-frame}
-use Rattle.h2_laws_machine.proofs.Names.{◌≡◌, ◌≢◌, ℕ, ◌+◌, ◌≤◌, ◌==◌, not, Bool, true, false, List}
-use Rattle.h2_laws_machine.proofs.Names.{[], if◌then◌else◌, ◌∷◌, ◌++◌, length, Option, Some, None}
-use Rattle.h2_laws_machine.proofs.Names.{refl, ap, sym, ◌∙◌, subst, inl, inr, arith, length-append}
-use Rattle.h2_laws_machine.proofs.Names.{ne_eqb, Code, Frame, GoAway, Item, alone, Begun, Role}
-use Rattle.h2_laws_machine.proofs.Names.{Values, greatest_processed, log_view, is_server}
-use Rattle.h2_laws_machine.proofs.Names.{settings_count, greatest_number, is_used, Log}
-use Rattle.h2_laws_machine.proofs.Names.{last_processed, View, Decoded, FrameStep, fails_with}
-use Rattle.h2_laws_machine.proofs.Names.{begins_block, completes, frame_step, grouping_step}
-use Rattle.h2_laws_machine.proofs.Names.{grouped, verdict_of, limits_from, used, with_step}
-use Rattle.h2_laws_machine.proofs.Names.{with_frame, took_frame, IsLog, took_one, End, end_view}
-use Rattle.h2_laws_machine.proofs.Names.{with_begun, after_step, after_frame, Represents}
-use Rattle.h2_laws_machine.proofs.Names.{log_represents, KeepsConnectionWindow}
+use Rattle.h2_wire.specs.Streams.{Limits, AreFrames, IsFrame}
+use Rattle.h2_laws_machine.proofs.Names
+use Names.{◌≡◌, ◌≢◌, ℕ, ◌+◌, ◌≤◌, ◌==◌, not, Bool, true, false, List, [], if◌then◌else◌, ◌∷◌, ◌++◌}
+use Names.{length, Option, Some, None, refl, ap, sym, ◌∙◌, subst, inl, inr, arith, length-append}
+use Names.{ne_eqb, Code, Frame, GoAway, Item, alone, Begun, Role, Values, greatest_processed}
+use Names.{log_view, is_server, settings_count, greatest_number, is_used, Log, last_processed, View}
+use Names.{Decoded, FrameStep, fails_with, begins_block, completes, frame_step, grouping_step}
+use Names.{grouped, verdict_of, limits_from, used, with_step, with_frame, took_frame, IsLog}
+use Names.{took_one, End, end_view, with_begun, after_step, after_frame, Represents, log_represents}
+use Names.{KeepsConnectionWindow, Headers, Continuation, expected_preface, TakesOctets, TakesFrame}
+use Names.{IsDecodedFor, Keeps-frame}
 use Rattle.h2_laws_machine.proofs.ConservedBySteps.{frame_holds, holds, is_whole}
 use Rattle.h2_laws_machine.proofs.FirstSettings.{started_with_settings}
 use Rattle.h2_laws_machine.proofs.LogCore.{core, Going, going, runs}
@@ -108,17 +103,16 @@ step_after : (e : End) (log : Log) (decoded : Option Decoded) (step : FrameStep)
     → Waits e log → Going e (core log)
     → After (after_step e decoded step) (with_step log decoded step)
 unfolding after_step with_step last_processed
-step_after e log decoded (fails_with code) typed started sound w g =
-    record {
-      waits = fails_connection e.role e.failed e.output.waiting log (end_view e).max_payload code
-          e.streams.last_processed (last_processed log) g.streams.last_processed w;
-      streams = failing_streams e.streams log code (last_processed log) (λ server i active_is.
-          let taken = sound.active_taken server i active_is in
-          let same : last_processed log
-          ≡ greatest_processed log.reported = rw server refl in
-          omega (arith, taken, same)) g.streams;
-      going = λ up. absurd (cc);
-    }
+step_after e log decoded (fails_with code) typed started sound w g = record {
+  waits = fails_connection e.role e.failed e.output.waiting log (end_view e).max_payload code
+      e.streams.last_processed (last_processed log) g.streams.last_processed w;
+  streams = failing_streams e.streams log code (last_processed log) (λ server i active_is.
+      let taken = sound.active_taken server i active_is in
+      let same : last_processed log
+      ≡ greatest_processed log.reported = rw server refl in
+      omega (arith, taken, same)) g.streams;
+  going = λ up. absurd (cc);
+}
 step_after e log decoded (begins_block begun) typed started sound w g =
     after_going (with_begun e (Some begun)) (record log { begun = Some begun }) w
     (going_begun e log (Some begun) g)

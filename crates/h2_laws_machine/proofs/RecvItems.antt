@@ -1,23 +1,18 @@
 -- After an item, whatever its verdict, an end keeps what its log says.
-use Rattle.h2_frame.specs.Frames.{Headers, Priority, Continuation, Unknown}
-use Rattle.h2_spec_log.specs.Windows.{connection_recv_window}
-use Rattle.h2_laws_log.proofs.AllowedHistories.{increments_read}
+use Rattle.h2_frame.specs.Frames.{Priority, Unknown}
 use Rattle.h2_laws_log.proofs.ReaderStates.{state_active, state_is_active}
-use Rattle.h2_laws_log.proofs.LogViewLemmas.{closed_by_us_is, closed_used}
-use Rattle.h2_laws_machine.proofs.Names.{◌≡◌, ◌≢◌, ℕ, ◌≤◌, ◌<◌, ◌%◌, ◌==◌, nat_le, not, Bool, true}
-use Rattle.h2_laws_machine.proofs.Names.{false, ◌&&◌, if◌then◌else◌, ℤ, List, length, Option, Some}
-use Rattle.h2_laws_machine.proofs.Names.{None, is_some, refl, ap, ◌∙◌, inl, inr, arith, list_any}
-use Rattle.h2_laws_machine.proofs.Names.{both_ways, false_from_ne_true, and_parts, eqb-true, lt-ltb}
-use Rattle.h2_laws_machine.proofs.Names.{leb-false, or_right, and_from, Code, Data, Reset, Settings}
-use Rattle.h2_laws_machine.proofs.Names.{Ping, GoAway, WindowUpdate, payload_of, Item, alone, block}
-use Rattle.h2_laws_machine.proofs.Names.{resets, is_goaway, log_view, is_server, settings_count}
-use Rattle.h2_laws_machine.proofs.Names.{Active, openings, is_used, is_above, is_closed_by_us}
-use Rattle.h2_laws_machine.proofs.Names.{greatest_number, Log, state, Verdict, ConnectionFault}
-use Rattle.h2_laws_machine.proofs.Names.{StreamFault, NoEvent, Reported, Decoded, verdict_by_rules}
-use Rattle.h2_laws_machine.proofs.Names.{verdict_of, verdict_of_block, exceeds, replies_to}
-use Rattle.h2_laws_machine.proofs.Names.{with_verdict, Role, Client, Server, End, after_verdict}
-use Rattle.h2_laws_machine.proofs.Names.{goaway_sent_last, active_parts, active_used, resets_used}
-use Rattle.h2_laws_machine.proofs.Names.{idle_unused, block_below, within_window}
+use Rattle.h2_laws_machine.proofs.Names
+use Names.{◌≡◌, ◌≢◌, ℕ, ◌≤◌, ◌<◌, ◌%◌, ◌==◌, nat_le, not, Bool, true, false, ◌&&◌, if◌then◌else◌, ℤ}
+use Names.{List, length, Option, Some, None, is_some, refl, ap, ◌∙◌, inl, inr, arith, list_any}
+use Names.{both_ways, false_from_ne_true, and_parts, eqb-true, lt-ltb, leb-false, or_right}
+use Names.{and_from, Code, Data, Reset, Settings, Ping, GoAway, WindowUpdate, payload_of, Item}
+use Names.{alone, block, resets, is_goaway, log_view, is_server, settings_count, Active, openings}
+use Names.{is_used, is_above, is_closed_by_us, greatest_number, Log, state, Verdict}
+use Names.{ConnectionFault, StreamFault, NoEvent, Reported, Decoded, verdict_by_rules, verdict_of}
+use Names.{verdict_of_block, exceeds, replies_to, with_verdict, Role, Client, Server, End}
+use Names.{after_verdict, goaway_sent_last, active_parts, active_used, resets_used, idle_unused}
+use Names.{block_below, within_window, Headers, Continuation, connection_recv_window}
+use Names.{increments_read, closed_by_us_is, closed_used}
 use Rattle.h2_laws_machine.proofs.CallOpen.{IsClear}
 use Rattle.h2_laws_machine.proofs.LogCore.{Core, core, Going, active_by_items, greatest_used}
 use Rattle.h2_laws_machine.proofs.RecvBlocks.{later_reported, block_ignored, closed_dead}
@@ -144,8 +139,7 @@ fits : (e : End) (c : Core) (count : ℕ) → Going e c
     → exceeds count (connection_recv_window c.received c.sent) ≡ false
     → count ≤ e.windows.recv
 fits e c count g within =
-    within_window e.windows.recv count
-    (ap (λ (w : ℤ). exceeds count w) (recv_same e c g) ∙ within)
+    within_window e.windows.recv count (ap (λ (w : ℤ). exceeds count w) (recv_same e c g) ∙ within)
 
 -- what there is where the test holds
 some_of : {A : Type 0} (x : Option A) → is_some x ≡ true → (a : A) × (x ≡ Some a)

@@ -1,18 +1,14 @@
 -- What a field block that opens a stream at a server makes of an end and of its log.
 use Rattle.std.specs.FinMap as map
-use Rattle.h2_spec_log.specs.ItemEffects.{decoded_fields}
-use Rattle.h2_laws_machine.proofs.Names.{◌≡◌, ◌≢◌, ℕ, ◌+◌, ◌≤◌, ◌<◌, ◌%◌, max, Bool, true, false}
-use Rattle.h2_laws_machine.proofs.Names.{if◌then◌else◌, pos, List, [], ◌∷◌, Option, refl, ap, sym}
-use Rattle.h2_laws_machine.proofs.Names.{◌∙◌, arith, zero-add, list_any, eq-eqb, and_right, Item}
-use Rattle.h2_laws_machine.proofs.Names.{block, Role, Client, Server, stream_of_item, data_on}
-use Rattle.h2_laws_machine.proofs.Names.{increment_on, is_block_on, ends, total, greatest_block}
-use Rattle.h2_laws_machine.proofs.Names.{Event, FieldsEvent, flow_on, one_acked, reported_total}
-use Rattle.h2_laws_machine.proofs.Names.{processed_by, greatest_processed, is_server, value_read}
-use Rattle.h2_laws_machine.proofs.Names.{own_value, openings, is_above, count_below, first_window}
-use Rattle.h2_laws_machine.proofs.Names.{given_on, granted_on, Log, Reported, Decoded, replies_to}
-use Rattle.h2_laws_machine.proofs.Names.{read, with_sent, with_verdict, events_of, discarded_flow}
-use Rattle.h2_laws_machine.proofs.Names.{StreamView, End, Streams, active_entry, with_table_after}
-use Rattle.h2_laws_machine.proofs.Names.{after_reported, active_by_parts}
+use Rattle.h2_laws_machine.proofs.Names
+use Names.{◌≡◌, ◌≢◌, ℕ, ◌+◌, ◌≤◌, ◌<◌, ◌%◌, max, Bool, true, false, if◌then◌else◌, pos, List, []}
+use Names.{◌∷◌, Option, refl, ap, sym, ◌∙◌, arith, zero-add, list_any, eq-eqb, and_right, Item}
+use Names.{block, Role, Client, Server, stream_of_item, data_on, increment_on, is_block_on, ends}
+use Names.{total, greatest_block, Event, FieldsEvent, flow_on, one_acked, reported_total}
+use Names.{processed_by, greatest_processed, is_server, value_read, own_value, openings, is_above}
+use Names.{count_below, first_window, given_on, granted_on, Log, Reported, Decoded, replies_to}
+use Names.{read, with_sent, with_verdict, events_of, discarded_flow, StreamView, End, Streams}
+use Names.{active_entry, with_table_after, after_reported, active_by_parts, decoded_fields}
 use Rattle.h2_laws_machine.proofs.CallOpen.{IsClear, count_added, none_above, untouched_window}
 use Rattle.h2_laws_machine.proofs.CallOpen.{end_or}
 use Rattle.h2_laws_machine.proofs.LogCore.{StreamsOf, said, Core, core, CoreFacts, core_facts}
@@ -68,14 +64,13 @@ new_active c i end octets event q may =
 
 -- the stream that is opened
 abbrev opened_stream : CoreFacts → Bool → StreamView
-opened_stream h end =
-    record {
-      send_window = pos h.peer.initial_window;
-      recv_window = pos h.own.in_force.initial_window;
-      owed = 0;
-      ended_in = end;
-      ended_out = false;
-    }
+opened_stream h end = record {
+  send_window = pos h.peer.initial_window;
+  recv_window = pos h.own.in_force.initial_window;
+  owed = 0;
+  ended_in = end;
+  ended_out = false;
+}
 
 -- The new stream is what the log says.
 new_said : (h : CoreFacts) (c : Core) (i : ℕ) (end : Bool) (octets : List ℕ) (event : Event)
@@ -84,8 +79,7 @@ new_said : (h : CoreFacts) (c : Core) (i : ℕ) (end : Bool) (octets : List ℕ)
 unfolding given_on granted_on total reported_total value_read
 new_said h c i end octets event acks flow clear g =
     let d : Core = with_block c i end octets event in
-    same_stream (opened_stream h end) (said d i)
-    (ap (λ (n : ℕ). pos n) g.peer.initial_window
+    same_stream (opened_stream h end) (said d i) (ap (λ (n : ℕ). pos n) g.peer.initial_window
     ∙ untouched_window (value_read 4 first_window c.received)
     (total (increment_on i) d.received) (total (data_on i) c.sent)
     (omega (arith, clear.given, block_gives i end octets i)) clear.taken_out)

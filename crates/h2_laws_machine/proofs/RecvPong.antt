@@ -1,12 +1,10 @@
 -- The answer to an own PING that awaits it.
-use Rattle.h2_laws_machine.proofs.Names.{◌≡◌, ℕ, ◌≤◌, ◌+◌, nat_lt, true, false, List, [], ◌∷◌}
-use Rattle.h2_laws_machine.proofs.Names.{Option, None, refl, arith, le-ltb, Ping, stream_of, Item}
-use Rattle.h2_laws_machine.proofs.Names.{alone, stream_of_item, one_ping, total, Event, PongEvent}
-use Rattle.h2_laws_machine.proofs.Names.{flow_on, one_acked, one_pong, reported_total}
-use Rattle.h2_laws_machine.proofs.Names.{reports_unprocessed, processed_by, is_server, Log}
-use Rattle.h2_laws_machine.proofs.Names.{Reported, Decoded, replies_to, read, with_sent}
-use Rattle.h2_laws_machine.proofs.Names.{with_verdict, events_of, discarded_flow, End}
-use Rattle.h2_laws_machine.proofs.Names.{after_reported, RepresentsOwn}
+use Rattle.h2_laws_machine.proofs.Names
+use Names.{◌≡◌, ℕ, ◌≤◌, ◌+◌, nat_lt, true, false, List, [], ◌∷◌, Option, None, refl, arith, le-ltb}
+use Names.{Ping, stream_of, Item, alone, stream_of_item, one_ping, total, Event, PongEvent, flow_on}
+use Names.{one_acked, one_pong, reported_total, reports_unprocessed, processed_by, is_server, Log}
+use Names.{Reported, Decoded, replies_to, read, with_sent, with_verdict, events_of, discarded_flow}
+use Names.{End, after_reported, RepresentsOwn}
 use Rattle.h2_laws_machine.proofs.LogCore.{Core, core, CoreFacts, core_facts, Advances, Going}
 use Rattle.h2_laws_machine.proofs.LogCore.{confirmed, PingOf}
 use Rattle.h2_laws_machine.proofs.RecvConnectionItems.{plain_quiet}

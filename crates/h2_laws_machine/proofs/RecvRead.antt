@@ -1,14 +1,12 @@
 -- What reading an item makes of each subject of an end, by what it makes of the streams.
-use Rattle.h2_laws_machine.proofs.Names.{◌≡◌, ℕ, ◌+◌, true, false, List, [], ◌∷◌, refl, sym, ◌∙◌}
-use Rattle.h2_laws_machine.proofs.Names.{arith, zero-add, list_any, both_ways, false_from_ne_true}
-use Rattle.h2_laws_machine.proofs.Names.{Item, least_goaway, allowed_by, data_on, data_of}
-use Rattle.h2_laws_machine.proofs.Names.{increment_on, is_block_on, ends, resets, is_goaway, total}
-use Rattle.h2_laws_machine.proofs.Names.{greatest_block, Event, value_read, one_settings}
-use Rattle.h2_laws_machine.proofs.Names.{settings_count, openings, is_active, is_over, first_window}
-use Rattle.h2_laws_machine.proofs.Names.{given_on, given_on_connection, ConnectionWindows}
-use Rattle.h2_laws_machine.proofs.Names.{PeerSettings, GoAways, Streams, RepresentsWindows}
-use Rattle.h2_laws_machine.proofs.Names.{RepresentsPeer, RepresentsGoAways, Role, Client, Server}
-use Rattle.h2_laws_machine.proofs.Names.{active_parts, active_before, value_kept}
+use Rattle.h2_laws_machine.proofs.Names
+use Names.{◌≡◌, ℕ, ◌+◌, true, false, List, [], ◌∷◌, refl, sym, ◌∙◌, arith, zero-add, list_any}
+use Names.{both_ways, false_from_ne_true, Item, least_goaway, allowed_by, data_on, data_of}
+use Names.{increment_on, is_block_on, ends, resets, is_goaway, total, greatest_block, Event}
+use Names.{value_read, one_settings, settings_count, openings, is_active, is_over, first_window}
+use Names.{given_on, given_on_connection, ConnectionWindows, PeerSettings, GoAways, Streams}
+use Names.{RepresentsWindows, RepresentsPeer, RepresentsGoAways, Role, Client, Server, active_parts}
+use Names.{active_before, value_kept}
 use Rattle.h2_laws_machine.proofs.ItemsApart.{IsApart}
 use Rattle.h2_laws_machine.proofs.LogCore.{Core, CoreFacts, Advances, StreamsOf, active_by_items}
 use Rattle.h2_laws_machine.proofs.StreamsSame.{SameAt, streams_same}
@@ -57,11 +55,10 @@ peer_read peer received item none g =
 -- The GOAWAYs, where an item is read that is none.
 pub goaways_read : (goaway : GoAways) (received sent : List Item) (item : Item) → IsCommon item
     → RepresentsGoAways goaway received sent → RepresentsGoAways goaway (item ∷ received) sent
-goaways_read goaway received sent item q g =
-    record {
-      last_sent = g.last_sent;
-      least_received = rw (q.leaves, q.least received) g.least_received;
-    }
+goaways_read goaway received sent item q g = record {
+  last_sent = g.last_sent;
+  least_received = rw (q.leaves, q.least received) g.least_received;
+}
 
 -- The connection's windows, where an item is read.
 pub windows_read : (windows : ConnectionWindows) (received sent : List Item) (unreturned : ℕ)
@@ -70,12 +67,11 @@ pub windows_read : (windows : ConnectionWindows) (received sent : List Item) (un
     → RepresentsWindows (record windows { send = send; recv = recv }) (item ∷ received) sent
     unreturned
 unfolding total given_on_connection
-windows_read windows received sent unreturned item send recv wider less g =
-    record {
-      send = omega (arith, wider, g.send);
-      recv = omega (arith, less, g.recv);
-      unreturned = g.unreturned;
-    }
+windows_read windows received sent unreturned item send recv wider less g = record {
+  send = omega (arith, wider, g.send);
+  recv = omega (arith, less, g.recv);
+  unreturned = g.unreturned;
+}
 
 -- What an end keeps where an item is read that is neither SETTINGS nor GOAWAY, by what it makes of
 -- the streams and of windows.
@@ -133,12 +129,11 @@ quiet_read h c item q g =
 -- The log says the same of a number that isn't active, before and after.
 pub same_dead : (j : ℕ) (c : Core) (item : Item) → active_by_items c j ≡ false
     → active_by_items (reads c item) j ≡ false → SameAt j c (reads c item)
-same_dead j c item dead still =
-    record {
-      active = still ∙ sym dead;
-      was_reset = refl;
-      stream = λ alive. absurd (both_ways (active_by_items c j) dead alive);
-    }
+same_dead j c item dead still = record {
+  active = still ∙ sym dead;
+  was_reset = refl;
+  stream = λ alive. absurd (both_ways (active_by_items c j) dead alive);
+}
 
 -- what stands among the openings stood there before an item that is none
 opened_before : (role : Role) (j : ℕ) (item : Item) (received sent : List Item) → is_block_on j item

@@ -1,17 +1,15 @@
 -- What a field block of a new number that is refused, or whose list is too large, makes of an end
 -- and of its log.
 use Rattle.std.specs.FinMap as map
-use Rattle.h2_laws_machine.proofs.Names.{◌≡◌, ◌≢◌, ℕ, ◌+◌, ◌-◌, ◌≤◌, ◌%◌, ◌==◌, nat_lt, Bool, true}
-use Rattle.h2_laws_machine.proofs.Names.{false, if◌then◌else◌, List, [], ◌∷◌, Option, None, is_some}
-use Rattle.h2_laws_machine.proofs.Names.{refl, ap, sym, ◌∙◌, inl, inr, arith, list_any, cases_eq}
-use Rattle.h2_laws_machine.proofs.Names.{lt-ltb, eq-eqb, Code, code_number, Reset, Item, alone}
-use Rattle.h2_laws_machine.proofs.Names.{block, Role, Client, Server, stream_of_item, resets, Event}
-use Rattle.h2_laws_machine.proofs.Names.{ResetEvent, greatest_processed, processed_by, is_server}
-use Rattle.h2_laws_machine.proofs.Names.{count_below, Log, StreamFault, Decoded, replies_to, read}
-use Rattle.h2_laws_machine.proofs.Names.{with_sent, with_verdict, events_of, discarded_flow, End}
-use Rattle.h2_laws_machine.proofs.Names.{Streams, StreamEntry, end_view, reset_entry, stream_in}
-use Rattle.h2_laws_machine.proofs.Names.{stream_at, owed_entry, with_table_after, queue_output}
-use Rattle.h2_laws_machine.proofs.Names.{after_stream_fault, is_fresh, is_one, entry_by}
+use Rattle.h2_laws_machine.proofs.Names
+use Names.{◌≡◌, ◌≢◌, ℕ, ◌+◌, ◌-◌, ◌≤◌, ◌%◌, ◌==◌, nat_lt, Bool, true, false, if◌then◌else◌, List}
+use Names.{[], ◌∷◌, Option, None, is_some, refl, ap, sym, ◌∙◌, inl, inr, arith, list_any, cases_eq}
+use Names.{lt-ltb, eq-eqb, Code, code_number, Reset, Item, alone, block, Role, Client, Server}
+use Names.{stream_of_item, resets, Event, ResetEvent, greatest_processed, processed_by, is_server}
+use Names.{count_below, Log, StreamFault, Decoded, replies_to, read, with_sent, with_verdict}
+use Names.{events_of, discarded_flow, End, Streams, StreamEntry, end_view, reset_entry, stream_in}
+use Names.{stream_at, owed_entry, with_table_after, queue_output, after_stream_fault, is_fresh}
+use Names.{is_one, entry_by}
 use Rattle.h2_laws_machine.proofs.CallOpen.{none_above, count_high}
 use Rattle.h2_laws_machine.proofs.CallReset.{reset_here}
 use Rattle.h2_laws_machine.proofs.LogCore.{StreamsOf, Core, core, CoreFacts, core_facts, Advances}

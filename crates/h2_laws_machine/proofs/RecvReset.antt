@@ -1,18 +1,14 @@
 -- What RST_STREAM, and DATA that is ignored, make of an end and of its log.
 use Rattle.std.specs.FinMap as map
-use Rattle.h2_laws_machine.proofs.Names.{◌≡◌, ◌≢◌, ℕ, ◌≤◌, ◌+◌, ◌-◌, Bool, true, false, List, []}
-use Rattle.h2_laws_machine.proofs.Names.{◌∷◌, length, Option, refl, ap, sym, ◌∙◌, inl, inr, arith}
-use Rattle.h2_laws_machine.proofs.Names.{zero-add, list_any, cases_eq, both_ways, eq-eqb, or_left}
-use Rattle.h2_laws_machine.proofs.Names.{false_from_ne_true, Data, Reset, stream_of, payload_of}
-use Rattle.h2_laws_machine.proofs.Names.{Item, alone, least_goaway, Log, active, unreleased}
-use Rattle.h2_laws_machine.proofs.Names.{released, stream_of_item, data_of, increment_on}
-use Rattle.h2_laws_machine.proofs.Names.{is_block_on, resets, is_goaway, greatest_block, ResetEvent}
-use Rattle.h2_laws_machine.proofs.Names.{flow_on, one_acked, one_pong, reported_total}
-use Rattle.h2_laws_machine.proofs.Names.{reports_unprocessed, processed_by, one_settings, NoEvent}
-use Rattle.h2_laws_machine.proofs.Names.{Reported, Decoded, replies_to, read, with_sent}
-use Rattle.h2_laws_machine.proofs.Names.{with_reported, owed_at_close, with_verdict, events_of}
-use Rattle.h2_laws_machine.proofs.Names.{discarded_flow, End, owed_entry, after_ignored}
-use Rattle.h2_laws_machine.proofs.Names.{after_reported, active_parts, lasts_parts}
+use Rattle.h2_laws_machine.proofs.Names
+use Names.{◌≡◌, ◌≢◌, ℕ, ◌≤◌, ◌+◌, ◌-◌, Bool, true, false, List, [], ◌∷◌, length, Option, refl, ap}
+use Names.{sym, ◌∙◌, inl, inr, arith, zero-add, list_any, cases_eq, both_ways, eq-eqb, or_left}
+use Names.{false_from_ne_true, Data, Reset, stream_of, payload_of, Item, alone, least_goaway, Log}
+use Names.{active, unreleased, released, stream_of_item, data_of, increment_on, is_block_on, resets}
+use Names.{is_goaway, greatest_block, ResetEvent, flow_on, one_acked, one_pong, reported_total}
+use Names.{reports_unprocessed, processed_by, one_settings, NoEvent, Reported, Decoded, replies_to}
+use Names.{read, with_sent, with_reported, owed_at_close, with_verdict, events_of, discarded_flow}
+use Names.{End, owed_entry, after_ignored, after_reported, active_parts, lasts_parts}
 use Rattle.h2_laws_machine.proofs.ItemsApart.{reset_apart, data_apart, IsApart}
 use Rattle.h2_laws_machine.proofs.LogCore.{Core, core, CoreFacts, core_facts, Advances, Going}
 use Rattle.h2_laws_machine.proofs.LogCore.{active_by_items, kept_back, greatest_used}

@@ -1,20 +1,16 @@
 -- The peer's SETTINGS are applied: windows of streams, how many streams are allowed, the encoder.
-use Rattle.h2_spec_log.specs.ItemEffects.{encoder_after_settings}
-use Rattle.h2_spec_machine.specs.Machine.{first_allowed, apply_settings}
-use Rattle.h2_laws_machine.proofs.Names.{◌≡◌, ℕ, ◌+◌, ◌==◌, not, min, Bool, true, false}
-use Rattle.h2_laws_machine.proofs.Names.{if◌then◌else◌, pos, ◌+ℤ◌, ◌-ℤ◌, List, [], ◌∷◌, Option}
-use Rattle.h2_laws_machine.proofs.Names.{refl, ap, sym, ◌∙◌, arith, zero-add, list_any, eqb-true}
-use Rattle.h2_laws_machine.proofs.Names.{ne_eqb, EncoderState, Settings, stream_of, Item, alone}
-use Rattle.h2_laws_machine.proofs.Names.{stream_of_item, data_on, data_of, increment_on}
-use Rattle.h2_laws_machine.proofs.Names.{is_block_on, ends, resets, is_goaway, total}
-use Rattle.h2_laws_machine.proofs.Names.{greatest_block, value_read, value_after, one_settings}
-use Rattle.h2_laws_machine.proofs.Names.{settings_count, first_window, given_on, Log, allowed_by}
-use Rattle.h2_laws_machine.proofs.Names.{least_goaway, StreamView, NoEvent, Decoded, replies_to}
-use Rattle.h2_laws_machine.proofs.Names.{read, with_sent, with_verdict, events_of, discarded_flow}
-use Rattle.h2_laws_machine.proofs.Names.{encoder_after_item, End, StreamEntry, active_entry}
-use Rattle.h2_laws_machine.proofs.Names.{end_view, each_entry, shifted_entry, queue_output}
-use Rattle.h2_laws_machine.proofs.Names.{with_encoder, after_ignored, entry_by, value_kept}
-use Rattle.h2_laws_machine.proofs.Names.{value_changed, changed_entry, get_each}
+use Rattle.h2_spec_machine.specs.Machine.{first_allowed}
+use Rattle.h2_laws_machine.proofs.Names
+use Names.{◌≡◌, ℕ, ◌+◌, ◌==◌, not, min, Bool, true, false, if◌then◌else◌, pos, ◌+ℤ◌, ◌-ℤ◌, List, []}
+use Names.{◌∷◌, Option, refl, ap, sym, ◌∙◌, arith, zero-add, list_any, eqb-true, ne_eqb}
+use Names.{EncoderState, Settings, stream_of, Item, alone, stream_of_item, data_on, data_of}
+use Names.{increment_on, is_block_on, ends, resets, is_goaway, total, greatest_block, value_read}
+use Names.{value_after, one_settings, settings_count, first_window, given_on, Log, allowed_by}
+use Names.{least_goaway, StreamView, NoEvent, Decoded, replies_to, read, with_sent, with_verdict}
+use Names.{events_of, discarded_flow, encoder_after_item, End, StreamEntry, active_entry, end_view}
+use Names.{each_entry, shifted_entry, queue_output, with_encoder, after_ignored, entry_by}
+use Names.{value_kept, value_changed, changed_entry, get_each, encoder_after_settings}
+use Names.{apply_settings}
 use Rattle.h2_laws_machine.proofs.EachStream.{each_by, shifted}
 use Rattle.h2_laws_machine.proofs.LogCore.{said, Core, core, CoreFacts, core_facts, Advances, Going}
 use Rattle.h2_laws_machine.proofs.LogCore.{StreamsOf, active_by_items}
@@ -36,21 +32,20 @@ settled c pairs =
 
 -- what an end keeps after them
 abbrev applied : CoreFacts → List (ℕ × ℕ) → CoreFacts
-applied h pairs =
-    record h {
-      reading = record h.reading { started = true };
-      streams = record h.streams {
-        entries = each_entry (shifted_entry h.peer.initial_window
-            (value_after 4 h.peer.initial_window pairs)) h.streams.entries;
-      };
-      peer = record {
-        initial_window = value_after 4 h.peer.initial_window pairs;
-        max_streams = min 1000 (value_after 3 (first_allowed h.reading.started h.peer.max_streams)
-            pairs);
-        max_frame = value_after 5 h.peer.max_frame pairs;
-      };
-      encoder = encoder_after_settings h.encoder pairs;
-    }
+applied h pairs = record h {
+  reading = record h.reading { started = true };
+  streams = record h.streams {
+    entries = each_entry (shifted_entry h.peer.initial_window
+        (value_after 4 h.peer.initial_window pairs)) h.streams.entries;
+  };
+  peer = record {
+    initial_window = value_after 4 h.peer.initial_window pairs;
+    max_streams = min 1000 (value_after 3 (first_allowed h.reading.started h.peer.max_streams)
+        pairs);
+    max_frame = value_after 5 h.peer.max_frame pairs;
+  };
+  encoder = encoder_after_settings h.encoder pairs;
+}
 
 -- A value that is bounded is the same after a pair, by the test whether the pair names it.
 bounded_by : (test : Bool) (top value a b : ℕ) → min top a ≡ min top b
@@ -160,8 +155,7 @@ settings_streams h c pairs g =
     ap (λ (n : ℕ). value_after 4 n pairs) g.peer.initial_window
     ∙ sym (value_changed 4 first_window pairs c.received) in
     record {
-      entries = λ i.
-          get_each change h.streams.entries i
+      entries = λ i. get_each change h.streams.entries i
           ∙ ap (λ (x : Option StreamEntry). changed_entry change x) (g.streams.entries i)
           ∙ each_by change (active_by_items c i) (list_any (resets i) c.sent) (said c i)
           (said (settled c pairs) i) refl

@@ -1,17 +1,14 @@
 -- Own values come into force where their SETTINGS are acknowledged.
-use Rattle.h2_laws_machine.proofs.Names.{◌≡◌, ℕ, ◌≤◌, ◌<◌, ◌+◌, ◌-◌, Bool, true, false, nat_lt, max}
-use Rattle.h2_laws_machine.proofs.Names.{pos, ◌+ℤ◌, ◌-ℤ◌, List, [], ◌∷◌, Option, Some, None}
-use Rattle.h2_laws_machine.proofs.Names.{is_some, refl, ap, sym, ◌∙◌, arith, list_any, ltb-true}
-use Rattle.h2_laws_machine.proofs.Names.{le-ltb, Settings, stream_of, Item, alone, stream_of_item}
-use Rattle.h2_laws_machine.proofs.Names.{resets, total, increment_on, data_on, Event, AckedEvent}
-use Rattle.h2_laws_machine.proofs.Names.{flow_on, one_acked, one_pong, reported_total}
-use Rattle.h2_laws_machine.proofs.Names.{reports_unprocessed, processed_by, Values, is_server}
-use Rattle.h2_laws_machine.proofs.Names.{settings_count, own_value, first_window, granted_on, Log}
-use Rattle.h2_laws_machine.proofs.Names.{released, Reported, Decoded, replies_to, read, with_sent}
-use Rattle.h2_laws_machine.proofs.Names.{with_verdict, events_of, discarded_flow, End, StreamEntry}
-use Rattle.h2_laws_machine.proofs.Names.{active_entry, StreamView, each_entry, recv_shifted_entry}
-use Rattle.h2_laws_machine.proofs.Names.{apply_own_settings, after_reported, AwaitsValues, entry_by}
-use Rattle.h2_laws_machine.proofs.Names.{changed_entry, get_each}
+use Rattle.h2_laws_machine.proofs.Names
+use Names.{◌≡◌, ℕ, ◌≤◌, ◌<◌, ◌+◌, ◌-◌, Bool, true, false, nat_lt, max, pos, ◌+ℤ◌, ◌-ℤ◌, List, []}
+use Names.{◌∷◌, Option, Some, None, is_some, refl, ap, sym, ◌∙◌, arith, list_any, ltb-true, le-ltb}
+use Names.{Settings, stream_of, Item, alone, stream_of_item, resets, total, increment_on, data_on}
+use Names.{Event, AckedEvent, flow_on, one_acked, one_pong, reported_total, reports_unprocessed}
+use Names.{processed_by, Values, is_server, settings_count, own_value, first_window, granted_on}
+use Names.{Log, released, Reported, Decoded, replies_to, read, with_sent, with_verdict, events_of}
+use Names.{discarded_flow, End, StreamEntry, active_entry, StreamView, each_entry}
+use Names.{recv_shifted_entry, apply_own_settings, after_reported, AwaitsValues, entry_by}
+use Names.{changed_entry, get_each}
 use Rattle.h2_laws_machine.proofs.EachStream.{each_by, shifted}
 use Rattle.h2_laws_machine.proofs.LogCore.{said, Core, core, CoreFacts, core_facts, Advances, Going}
 use Rattle.h2_laws_machine.proofs.LogCore.{confirmed, active_by_items}
@@ -89,8 +86,7 @@ ack_advances h c values waits most g =
       reading = g.reading;
       encoder = g.encoder;
       streams = record {
-        entries = λ i.
-            get_each change h.streams.entries i
+        entries = λ i. get_each change h.streams.entries i
             ∙ ap (λ (x : Option StreamEntry). changed_entry change x) (g.streams.entries i)
             ∙ each_by change (active_by_items c i) (list_any (resets i) c.sent) (said c i)
             (said (report c AckedEvent) i) refl

@@ -1,21 +1,15 @@
 -- After a frame the first frame has come at an end, as long as the connection hasn't failed.
-use Rattle.h2_block.specs.declared.fault.BlockFault.TheVariants.{Interrupted}
-use Rattle.h2_block.specs.Grouping.{next_fault, fault_outside, fault_inside}
-use Rattle.h2_block.specs.Gather.{block_fault_code}
-use Rattle.h2_spec_machine.specs.Machine.{receive_data, narrow_recv_window, receive_block}
-use Rattle.h2_laws_machine.proofs.Names.{◌≡◌, ℕ, ◌==◌, ◌+◌, Bool, true, false, not, ◌&&◌, ◌||◌}
-use Rattle.h2_laws_machine.proofs.Names.{if◌then◌else◌, List, Option, Some, None, refl, ◌∙◌, Code}
-use Rattle.h2_laws_machine.proofs.Names.{ProtocolError, Frame, Data, Reset, Settings, Ping}
-use Rattle.h2_laws_machine.proofs.Names.{WindowUpdate, Item, alone, block, Begun, Values}
-use Rattle.h2_laws_machine.proofs.Names.{StreamView, Verdict, ConnectionFault, StreamFault, NoEvent}
-use Rattle.h2_laws_machine.proofs.Names.{Reported, Decoded, FrameStep, fails_with, begins_block}
-use Rattle.h2_laws_machine.proofs.Names.{completes, frame_step, grouping_step, grouped}
-use Rattle.h2_laws_machine.proofs.Names.{may_be_first, verdict_of, verdict_by_rules, End, end_view}
-use Rattle.h2_laws_machine.proofs.Names.{stream_at, add_unreturned, set_stream, close_stream}
-use Rattle.h2_laws_machine.proofs.Names.{update_stream, with_flow, widen_send_window}
-use Rattle.h2_laws_machine.proofs.Names.{apply_own_settings, with_table_after, with_begun}
-use Rattle.h2_laws_machine.proofs.Names.{after_reported, after_ignored, after_stream_fault}
-use Rattle.h2_laws_machine.proofs.Names.{after_verdict, after_step, after_frame}
+use Rattle.h2_laws_machine.proofs.Names
+use Names.{◌≡◌, ℕ, ◌==◌, ◌+◌, Bool, true, false, not, ◌&&◌, ◌||◌, if◌then◌else◌, List, Option, Some}
+use Names.{None, refl, ◌∙◌, Code, ProtocolError, Frame, Data, Reset, Settings, Ping, WindowUpdate}
+use Names.{Item, alone, block, Begun, Values, StreamView, Verdict, ConnectionFault, StreamFault}
+use Names.{NoEvent, Reported, Decoded, FrameStep, fails_with, begins_block, completes, frame_step}
+use Names.{grouping_step, grouped, may_be_first, verdict_of, verdict_by_rules, End, end_view}
+use Names.{stream_at, add_unreturned, set_stream, close_stream, update_stream, with_flow}
+use Names.{widen_send_window, apply_own_settings, with_table_after, with_begun, after_reported}
+use Names.{after_ignored, after_stream_fault, after_verdict, after_step, after_frame, Interrupted}
+use Names.{next_fault, fault_outside, fault_inside, block_fault_code, receive_data}
+use Names.{narrow_recv_window, receive_block}
 use Rattle.h2_laws_machine.proofs.RulesAtEnds.{verdict_within_limits}
 use Rattle.h2_laws_machine.proofs.RecvUnprocessed.{credit_leaves}
 use Rattle.h2_laws_machine.proofs.UpInvariantReads.{fault_reported, fault_resets}
@@ -31,12 +25,11 @@ returned_started n e = credit_leaves started e n (λ x. refl) (λ m. refl)
 -- Nor does a stream that is over, by the tests.
 update_started : (e : End) (i : ℕ) (stream : StreamView)
     → started (update_stream e i stream) ≡ started e
-update_started e i stream = by (stream.ended_in && stream.ended_out)
-  where
-    by : (b : Bool) → started (if b then close_stream
-        (set_stream e i stream) i 0 else set_stream e i stream) ≡ started e
-    by true = returned_started _ _
-    by false = refl
+update_started e i stream = by (stream.ended_in && stream.ended_out) where
+  by : (b : Bool) → started (if b then close_stream
+      (set_stream e i stream) i 0 else set_stream e i stream) ≡ started e
+  by true = returned_started _ _
+  by false = refl
 
 -- Nor do the parts of frames.
 data_started : (e : End) (i count : ℕ) (end : Bool) (stream : Option StreamView)
@@ -53,13 +46,12 @@ block_started e i end (Some stream) =
 
 widened_started : (e : End) (i increment : ℕ) (stream : Option StreamView)
     → started (widen_send_window e i increment stream) ≡ started e
-widened_started e i increment None = by (i == 0)
-  where
-    by : (b : Bool) → started (if b then record e {
-      windows = record e.windows { send = e.windows.send + increment };
-    } else e) ≡ started e
-    by true = refl
-    by false = refl
+widened_started e i increment None = by (i == 0) where
+  by : (b : Bool) → started (if b then record e {
+    windows = record e.windows { send = e.windows.send + increment };
+  } else e) ≡ started e
+  by true = refl
+  by false = refl
 widened_started e i increment (Some stream) = refl
 
 own_started : (e : End) (values : Option Values) → started (apply_own_settings e values) ≡ started e

@@ -1,22 +1,17 @@
 -- An item that is a fault of its stream resets it at an end as at its log.
 use Rattle.std.specs.FinMap as map
-use Rattle.h2_laws_log.proofs.ReleasedCredit.{gives_elsewhere}
-use Rattle.h2_laws_machine.proofs.Names.{◌≡◌, ◌≢◌, ℕ, ◌+◌, ◌-◌, ◌≤◌, ◌%◌, ◌==◌, nat_lt, Bool, true}
-use Rattle.h2_laws_machine.proofs.Names.{false, ◌&&◌, if◌then◌else◌, List, [], ◌∷◌, length, Option}
-use Rattle.h2_laws_machine.proofs.Names.{is_some, refl, ap, sym, ◌∙◌, arith, zero-add, both_ways}
-use Rattle.h2_laws_machine.proofs.Names.{false_from_ne_true, and_right, le-ltb, ne_eqb, Code}
-use Rattle.h2_laws_machine.proofs.Names.{code_number, Data, Reset, WindowUpdate, payload_of}
-use Rattle.h2_laws_machine.proofs.Names.{stream_of, Item, alone, block, stream_of_item, data_of}
-use Rattle.h2_laws_machine.proofs.Names.{increment_on, one_reset, total, Event, ResetEvent, flow_on}
-use Rattle.h2_laws_machine.proofs.Names.{one_acked, one_pong, reported_total, reports_unprocessed}
-use Rattle.h2_laws_machine.proofs.Names.{processed_by, is_server, Log, unreleased, released}
-use Rattle.h2_laws_machine.proofs.Names.{StreamFault, Decoded, replies_to, read, with_sent}
-use Rattle.h2_laws_machine.proofs.Names.{with_reported, with_unreturned, owed_at_close}
-use Rattle.h2_laws_machine.proofs.Names.{with_verdict, events_of, discarded_flow, table_after}
-use Rattle.h2_laws_machine.proofs.Names.{encoder_after_item, StreamView, End, Streams, end_view}
-use Rattle.h2_laws_machine.proofs.Names.{reset_entry, stream_at, owed_entry, with_table_after}
-use Rattle.h2_laws_machine.proofs.Names.{queue_output, reset_stream, after_stream_fault, is_fresh}
-use Rattle.h2_laws_machine.proofs.Names.{is_one, total_one, active_parts, lasts_parts, chosen_low}
+use Rattle.h2_laws_machine.proofs.Names
+use Names.{◌≡◌, ◌≢◌, ℕ, ◌+◌, ◌-◌, ◌≤◌, ◌%◌, ◌==◌, nat_lt, Bool, true, false, ◌&&◌, if◌then◌else◌}
+use Names.{List, [], ◌∷◌, length, Option, is_some, refl, ap, sym, ◌∙◌, arith, zero-add, both_ways}
+use Names.{false_from_ne_true, and_right, le-ltb, ne_eqb, Code, code_number, Data, Reset}
+use Names.{WindowUpdate, payload_of, stream_of, Item, alone, block, stream_of_item, data_of}
+use Names.{increment_on, one_reset, total, Event, ResetEvent, flow_on, one_acked, one_pong}
+use Names.{reported_total, reports_unprocessed, processed_by, is_server, Log, unreleased, released}
+use Names.{StreamFault, Decoded, replies_to, read, with_sent, with_reported, with_unreturned}
+use Names.{owed_at_close, with_verdict, events_of, discarded_flow, table_after, encoder_after_item}
+use Names.{StreamView, End, Streams, end_view, reset_entry, stream_at, owed_entry, with_table_after}
+use Names.{queue_output, reset_stream, after_stream_fault, is_fresh, is_one, total_one}
+use Names.{active_parts, lasts_parts, chosen_low, gives_elsewhere}
 use Rattle.h2_laws_machine.proofs.CallReset.{others_same, reset_here}
 use Rattle.h2_laws_machine.proofs.LogCore.{StreamsOf, Core, core, CoreFacts, core_facts, Advances}
 use Rattle.h2_laws_machine.proofs.LogCore.{Going, active_by_items, kept_back, greatest_used}

@@ -1,24 +1,18 @@
 -- What GOAWAY, WINDOW_UPDATE and RST_STREAM make of an end and of its log.
 use Rattle.std.specs.FinMap as map
 use Rattle.h2_spec_log.specs.Events.{GoAwayEvent}
-use Rattle.h2_spec_log.specs.ItemEffects.{least_last}
-use Rattle.h2_laws_log.proofs.ReleasedCredit.{gives_elsewhere}
 use Rattle.h2_laws_log.proofs.LogViewLemmas.{least_by}
-use Rattle.h2_laws_log.proofs.AllowedHistories.{increment_here}
-use Rattle.h2_laws_machine.proofs.Names.{◌≡◌, ℕ, ◌≤◌, ◌+◌, Bool, true, false, ◌==◌, if◌then◌else◌}
-use Rattle.h2_laws_machine.proofs.Names.{pos, ◌+ℤ◌, ◌-ℤ◌, List, [], ◌∷◌, Option, Some, refl, ap}
-use Rattle.h2_laws_machine.proofs.Names.{sym, ◌∙◌, inl, inr, arith, zero-add, list_any, ints}
-use Rattle.h2_laws_machine.proofs.Names.{cases_eq, ne_eqb, GoAway, WindowUpdate, stream_of, Item}
-use Rattle.h2_laws_machine.proofs.Names.{alone, log_view, stream_of_item, data_on, data_of}
-use Rattle.h2_laws_machine.proofs.Names.{increment_on, is_block_on, ends, resets, is_goaway, total}
-use Rattle.h2_laws_machine.proofs.Names.{greatest_block, Event, flow_on, one_acked, one_pong}
-use Rattle.h2_laws_machine.proofs.Names.{reports_unprocessed, processed_by, value_read}
-use Rattle.h2_laws_machine.proofs.Names.{one_settings, first_window, given_on, least_goaway, Log}
-use Rattle.h2_laws_machine.proofs.Names.{greatest_number, NoEvent, Reported, Decoded, replies_to}
-use Rattle.h2_laws_machine.proofs.Names.{read, with_sent, with_reported, with_unreturned}
-use Rattle.h2_laws_machine.proofs.Names.{owed_at_close, with_verdict, events_of, discarded_flow}
-use Rattle.h2_laws_machine.proofs.Names.{End, active_entry, stream_at, widen_send_window}
-use Rattle.h2_laws_machine.proofs.Names.{set_stream, after_ignored, after_reported, last_none}
+use Rattle.h2_laws_machine.proofs.Names
+use Names.{◌≡◌, ℕ, ◌≤◌, ◌+◌, Bool, true, false, ◌==◌, if◌then◌else◌, pos, ◌+ℤ◌, ◌-ℤ◌, List, [], ◌∷◌}
+use Names.{Option, Some, refl, ap, sym, ◌∙◌, inl, inr, arith, zero-add, list_any, ints, cases_eq}
+use Names.{ne_eqb, GoAway, WindowUpdate, stream_of, Item, alone, log_view, stream_of_item, data_on}
+use Names.{data_of, increment_on, is_block_on, ends, resets, is_goaway, total, greatest_block}
+use Names.{Event, flow_on, one_acked, one_pong, reports_unprocessed, processed_by, value_read}
+use Names.{one_settings, first_window, given_on, least_goaway, Log, greatest_number, NoEvent}
+use Names.{Reported, Decoded, replies_to, read, with_sent, with_reported, with_unreturned}
+use Names.{owed_at_close, with_verdict, events_of, discarded_flow, End, active_entry, stream_at}
+use Names.{widen_send_window, set_stream, after_ignored, after_reported, last_none, least_last}
+use Names.{gives_elsewhere, increment_here}
 use Rattle.h2_laws_machine.proofs.ItemsApart.{update_apart}
 use Rattle.h2_laws_machine.proofs.LogCore.{said, Core, core, CoreFacts, core_facts, Advances, Going}
 use Rattle.h2_laws_machine.proofs.LogCore.{active_by_items, greatest_used}

@@ -1,17 +1,14 @@
 -- A stream that the peer doesn't process is reported at an end as at its log.
 use Rattle.std.specs.FinMap as map
-use Rattle.h2_laws_machine.proofs.Names.{◌≡◌, ◌≢◌, ℕ, ◌+◌, ◌-◌, true, false, not, ◌==◌, List, []}
-use Rattle.h2_laws_machine.proofs.Names.{◌∷◌, length, None, refl, ap, sym, ◌∙◌, zero-add, list_any}
-use Rattle.h2_laws_machine.proofs.Names.{both_ways, eq-eqb, ne_eqb, false_from_ne_true, or_left}
-use Rattle.h2_laws_machine.proofs.Names.{cond_both, Log, active, unreleased, released}
-use Rattle.h2_laws_machine.proofs.Names.{next_unprocessed, Values, Event, UnprocessedEvent, flow_on}
-use Rattle.h2_laws_machine.proofs.Names.{one_acked, one_pong, reported_total, reports_unprocessed}
-use Rattle.h2_laws_machine.proofs.Names.{processed_by, is_server, took_none, with_reported}
-use Rattle.h2_laws_machine.proofs.Names.{with_sent, with_unreturned, owed_at_close, returns_credit}
-use Rattle.h2_laws_machine.proofs.Names.{reported_one, End, owed_entry, return_credit}
-use Rattle.h2_laws_machine.proofs.Names.{add_unreturned, close_unprocessed, Represents}
-use Rattle.h2_laws_machine.proofs.Names.{RepresentsWhileUp, credit_cases, active_parts, lasts_parts}
-use Rattle.h2_laws_machine.proofs.Names.{next_is_active, KeepsConnectionWindow, Frame}
+use Rattle.h2_laws_machine.proofs.Names
+use Names.{◌≡◌, ◌≢◌, ℕ, ◌+◌, ◌-◌, true, false, not, ◌==◌, List, [], ◌∷◌, length, None, refl, ap}
+use Names.{sym, ◌∙◌, zero-add, list_any, both_ways, eq-eqb, ne_eqb, false_from_ne_true, or_left}
+use Names.{cond_both, Log, active, unreleased, released, next_unprocessed, Values, Event}
+use Names.{UnprocessedEvent, flow_on, one_acked, one_pong, reported_total, reports_unprocessed}
+use Names.{processed_by, is_server, took_none, with_reported, with_sent, with_unreturned}
+use Names.{owed_at_close, returns_credit, reported_one, End, owed_entry, return_credit}
+use Names.{add_unreturned, close_unprocessed, Represents, RepresentsWhileUp, credit_cases}
+use Names.{active_parts, lasts_parts, next_is_active, KeepsConnectionWindow, Frame}
 use Rattle.h2_laws_machine.proofs.ConservedBySteps.{holds, is_whole, ended, lacks_none}
 use Rattle.h2_laws_machine.proofs.LogCore.{Core, core, CoreFacts, core_facts, Advances, Going}
 use Rattle.h2_laws_machine.proofs.LogCore.{active_by_items, kept_back, going, runs}

@@ -1,21 +1,17 @@
 -- The verdict of an item is the same at an end as at its log.
 use Rattle.std.specs.FinMap as map
 use Rattle.h2_spec_log.specs.States.{state_by, stream_state}
-use Rattle.h2_spec_log.specs.Windows.{connection_send_window, connection_recv_window}
-use Rattle.h2_laws_machine.proofs.Names.{◌≡◌, ◌≢◌, ℕ, ◌≤◌, ◌+◌, ◌%◌, Bool, true, false, not, ◌==◌}
-use Rattle.h2_laws_machine.proofs.Names.{nat_lt, nat_le, ◌&&◌, ◌||◌, pos, Option, Some, None, refl}
-use Rattle.h2_laws_machine.proofs.Names.{ap, sym, ◌∙◌, arith, list_any, nat_tests, end_view, End}
-use Rattle.h2_laws_machine.proofs.Names.{active_entry, stream_in, stream_at, is_beyond}
-use Rattle.h2_laws_machine.proofs.Names.{state_by_entry, state_at, Streams, log_view, data_on}
-use Rattle.h2_laws_machine.proofs.Names.{data_of, ends, resets, increment_on, is_block_on, one_ping}
-use Rattle.h2_laws_machine.proofs.Names.{is_goaway, total, flow_on, one_pong, reported_total}
-use Rattle.h2_laws_machine.proofs.Names.{greatest_processed, reports_unprocessed, is_server}
-use Rattle.h2_laws_machine.proofs.Names.{settings_count, openings, is_used, is_above}
-use Rattle.h2_laws_machine.proofs.Names.{is_closed_by_us, when, given_on_connection}
-use Rattle.h2_laws_machine.proofs.Names.{granted_on_connection, Log, active, released, unreleased}
-use Rattle.h2_laws_machine.proofs.Names.{active_count, max_streams, Decoded, verdict_of_block}
-use Rattle.h2_laws_machine.proofs.Names.{AllowedHistory, StreamView, entry_by, goaway_sent_last}
-use Rattle.h2_laws_machine.proofs.Names.{resets_used, active_used, when_some}
+use Rattle.h2_laws_machine.proofs.Names
+use Names.{◌≡◌, ◌≢◌, ℕ, ◌≤◌, ◌+◌, ◌%◌, Bool, true, false, not, ◌==◌, nat_lt, nat_le, ◌&&◌, ◌||◌}
+use Names.{pos, Option, Some, None, refl, ap, sym, ◌∙◌, arith, list_any, nat_tests, end_view, End}
+use Names.{active_entry, stream_in, stream_at, is_beyond, state_by_entry, state_at, Streams}
+use Names.{log_view, data_on, data_of, ends, resets, increment_on, is_block_on, one_ping, is_goaway}
+use Names.{total, flow_on, one_pong, reported_total, greatest_processed, reports_unprocessed}
+use Names.{is_server, settings_count, openings, is_used, is_above, is_closed_by_us, when}
+use Names.{given_on_connection, granted_on_connection, Log, active, released, unreleased}
+use Names.{active_count, max_streams, Decoded, verdict_of_block, AllowedHistory, StreamView}
+use Names.{entry_by, goaway_sent_last, resets_used, active_used, when_some, connection_send_window}
+use Names.{connection_recv_window}
 use Rattle.h2_laws_machine.proofs.LogCore.{said, Core, core, Going, confirmed, active_by_items}
 use Rattle.h2_laws_machine.proofs.LogCore.{greatest_used, StreamsOf}
 use Rattle.h2_laws_machine.proofs.ViewsAgree.{stream_same, max_streams_agree, window_agrees}

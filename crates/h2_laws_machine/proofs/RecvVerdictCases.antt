@@ -1,10 +1,9 @@
 -- What a verdict by the rules says of the state of an item's stream.
-use Rattle.h2_frame.specs.declared.code.Code.TheVariants.{FlowControlError}
-use Rattle.h2_laws_machine.proofs.Names.{◌≡◌, ◌⊎◌, ◌≢◌, ℕ, ◌==◌, Bool, true, false, if◌then◌else◌}
-use Rattle.h2_laws_machine.proofs.Names.{refl, inl, inr, Code, ProtocolError, State, Idle, Active}
-use Rattle.h2_laws_machine.proofs.Names.{ClosedByUs, ConnectionFault, StreamFault, NoEvent}
-use Rattle.h2_laws_machine.proofs.Names.{Reported, block_verdict, opening_verdict, data_verdict}
-use Rattle.h2_laws_machine.proofs.Names.{reset_verdict, update_verdict, connection_update_verdict}
+use Rattle.h2_laws_machine.proofs.Names
+use Names.{◌≡◌, ◌⊎◌, ◌≢◌, ℕ, ◌==◌, Bool, true, false, if◌then◌else◌, refl, inl, inr, Code}
+use Names.{ProtocolError, State, Idle, Active, ClosedByUs, ConnectionFault, StreamFault, NoEvent}
+use Names.{Reported, block_verdict, opening_verdict, data_verdict, reset_verdict, update_verdict}
+use Names.{connection_update_verdict, FlowControlError}
 
 -- The stream of a block is active, or it is a new one that the peer may open, where this end has
 -- sent GOAWAY or not.
@@ -105,20 +104,18 @@ pub update_is_reported : (zero : Bool) (s : State) (increment : ℕ) (over above
     → (if zero then connection_update_verdict increment over
     else update_verdict s increment above) ≢ Reported
 unfolding connection_update_verdict update_verdict
-update_is_reported true s increment over above is = by (increment == 0) over is
-  where
-    by : (a b : Bool)
-        → (if a then ConnectionFault ProtocolError else if b then ConnectionFault FlowControlError
-        else NoEvent) ≢ Reported
-    by true b is = cc
-    by false true is = cc
-    by false false is = cc
-update_is_reported false Active increment over above is = by (increment == 0) above is
-  where
-    by : (a b : Bool)
-        → (if a then StreamFault ProtocolError else if b then StreamFault FlowControlError
-        else NoEvent) ≢ Reported
-    by true b is = cc
-    by false true is = cc
-    by false false is = cc
+update_is_reported true s increment over above is = by (increment == 0) over is where
+  by : (a b : Bool)
+      → (if a then ConnectionFault ProtocolError else if b then ConnectionFault FlowControlError
+      else NoEvent) ≢ Reported
+  by true b is = cc
+  by false true is = cc
+  by false false is = cc
+update_is_reported false Active increment over above is = by (increment == 0) above is where
+  by : (a b : Bool)
+      → (if a then StreamFault ProtocolError else if b then StreamFault FlowControlError
+      else NoEvent) ≢ Reported
+  by true b is = cc
+  by false true is = cc
+  by false false is = cc
 update_is_reported false other increment over above is = cc

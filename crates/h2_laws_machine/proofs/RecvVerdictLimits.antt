@@ -2,24 +2,19 @@
 -- at its log.
 use Rattle.std.specs.FinMap as map
 use Rattle.h2_spec_log.specs.Windows.{is_above_greatest}
-use Rattle.h2_spec_log.specs.ItemRules.{exceeds_stream, overflows_stream, verdict_of_fault}
-use Rattle.h2_spec_log.specs.ItemRules.{is_awaited_ping}
-use Rattle.h2_spec_machine.proofs.SortedEntries.{above_found, any_found, both_same}
-use Rattle.h2_laws_machine.proofs.Names.{ℤ, ◌∙◌, ◌≡◌, ℕ, ◌+◌, Bool, true, false, ◌==◌, nat_lt}
-use Rattle.h2_laws_machine.proofs.Names.{if◌then◌else◌, List, [], ◌∷◌, length, Option, Some, refl}
-use Rattle.h2_laws_machine.proofs.Names.{ap, ap₂, sym, inl, inr, arith, list_any, and_parts}
-use Rattle.h2_laws_machine.proofs.Names.{and_from, or_cases, or_left, or_right, both_ways, eqb-true}
-use Rattle.h2_laws_machine.proofs.Names.{nat_tests, Data, Reset, Settings, Ping, WindowUpdate}
-use Rattle.h2_laws_machine.proofs.Names.{payload_of, Item, alone, block, end_view, End, stream_at}
-use Rattle.h2_laws_machine.proofs.Names.{state_at, StreamEntry, active_entry, reset_entry}
-use Rattle.h2_laws_machine.proofs.Names.{any_above, above_by_shift, log_view, overflows, data_on}
-use Rattle.h2_laws_machine.proofs.Names.{increment_on, is_block_on, resets, total, value_read}
-use Rattle.h2_laws_machine.proofs.Names.{State, openings, any_block, greatest_window, first_window}
-use Rattle.h2_laws_machine.proofs.Names.{given_on, Log, active, state, unreleased, Verdict}
-use Rattle.h2_laws_machine.proofs.Names.{data_verdict, reset_verdict, connection_update_verdict}
-use Rattle.h2_laws_machine.proofs.Names.{update_verdict, Reported, NoEvent, Decoded, exceeds}
-use Rattle.h2_laws_machine.proofs.Names.{overflows_by, settings_fault, verdict_by_rules, verdict_of}
-use Rattle.h2_laws_machine.proofs.Names.{StreamView, ended_in, entry_by, int_above, active_parts}
+use Rattle.h2_spec_machine.proofs.SortedEntries.{above_found, any_found}
+use Rattle.h2_laws_machine.proofs.Names
+use Names.{ℤ, ◌∙◌, ◌≡◌, ℕ, ◌+◌, Bool, true, false, ◌==◌, nat_lt, if◌then◌else◌, List, [], ◌∷◌}
+use Names.{length, Option, Some, refl, ap, ap₂, sym, inl, inr, arith, list_any, and_parts, and_from}
+use Names.{or_cases, or_left, or_right, both_ways, eqb-true, nat_tests, Data, Reset, Settings, Ping}
+use Names.{WindowUpdate, payload_of, Item, alone, block, end_view, End, stream_at, state_at}
+use Names.{StreamEntry, active_entry, reset_entry, any_above, above_by_shift, log_view, overflows}
+use Names.{data_on, increment_on, is_block_on, resets, total, value_read, State, openings}
+use Names.{any_block, greatest_window, first_window, given_on, Log, active, state, unreleased}
+use Names.{Verdict, data_verdict, reset_verdict, connection_update_verdict, update_verdict}
+use Names.{Reported, NoEvent, Decoded, exceeds, overflows_by, settings_fault, verdict_by_rules}
+use Names.{verdict_of, StreamView, ended_in, entry_by, int_above, active_parts, exceeds_stream}
+use Names.{overflows_stream, verdict_of_fault, is_awaited_ping, both_same}
 use Rattle.h2_laws_machine.proofs.LogCore.{said, Core, core, Going}
 use Rattle.h2_laws_machine.proofs.RecvVerdict.{Sound, active_said, state_same, block_verdict_same}
 use Rattle.h2_laws_machine.proofs.RecvVerdict.{recv_same, send_same}
@@ -118,8 +113,7 @@ faults_same e log [] role g = refl
 faults_same e log (pair ∷ pairs) role g = rw (
   role,
   above_same e log pair.1 g,
-  faults_same e log
-      pairs role g,
+  faults_same e log pairs role g,
 ) refl
 
 -- The verdict on an item is the same before the limits.

@@ -1,13 +1,12 @@
 -- After octets that end no frame, or that make the connection fail, a machine represents the log
 -- with them.
 use Rattle.h2_wire.specs.declared.fault.WireFault.{WireFault}
-use Rattle.h2_spec_log.specs.Histories.{TakesOctets, TakesPart, TakesFault, MayRunOutOfMemory}
-use Rattle.h2_laws_machine.proofs.Names.{◌≡◌, ℕ, ◌≤◌, true, List, [], None, sym, subst, Code}
-use Rattle.h2_laws_machine.proofs.Names.{InternalError, wire_fault_code, Role, Values, is_server}
-use Rattle.h2_laws_machine.proofs.Names.{Log, active, last_processed, used, with_failure, took_part}
-use Rattle.h2_laws_machine.proofs.Names.{took_fault, took_out_of_memory, IsLog, took_some}
-use Rattle.h2_laws_machine.proofs.Names.{met_fault, ran_out_of_memory, Streams, End, end_view, fail}
-use Rattle.h2_laws_machine.proofs.Names.{Represents, RepresentsWhileUp, KeepsConnectionWindow}
+use Rattle.h2_laws_machine.proofs.Names
+use Names.{◌≡◌, ℕ, ◌≤◌, true, List, [], None, sym, subst, Code, InternalError, wire_fault_code}
+use Names.{Role, Values, is_server, Log, active, last_processed, used, with_failure, took_part}
+use Names.{took_fault, took_out_of_memory, IsLog, took_some, met_fault, ran_out_of_memory, Streams}
+use Names.{End, end_view, fail, Represents, RepresentsWhileUp, KeepsConnectionWindow, TakesOctets}
+use Names.{TakesPart, TakesFault, MayRunOutOfMemory}
 use Rattle.h2_laws_machine.proofs.GoAwaysSent.{active_processed}
 use Rattle.h2_laws_machine.proofs.LogCore.{core, StreamsOf, going, runs}
 use Rattle.h2_laws_machine.proofs.SentConnectionItems.{failing_streams}

@@ -1,17 +1,14 @@
 -- An end that is up represents its log: what is written joins what waits, and what is unreturned is
 -- returned.
-use Rattle.h2_laws_machine.proofs.Names.{◌==◌, not, ◌≡◌, ℕ, ◌+◌, List, [], ◌∷◌, ◌++◌, length, None}
-use Rattle.h2_laws_machine.proofs.Names.{refl, sym, ap, subst, ◌∙◌, arith, WindowUpdate, Item}
-use Rattle.h2_laws_machine.proofs.Names.{alone, end_view, End, log_view, View, Values, Act, Answer}
-use Rattle.h2_laws_machine.proofs.Names.{IsTypedAct, Log, active, released, unreleased}
-use Rattle.h2_laws_machine.proofs.Names.{max_payload_sent, is_active, with_sent, with_unreturned}
-use Rattle.h2_laws_machine.proofs.Names.{with_credit_returned, owed_at_close, called}
-use Rattle.h2_laws_machine.proofs.Names.{before_put_out, MayAnswer, with_call, encoder_after_call}
-use Rattle.h2_laws_machine.proofs.Names.{refusal_of, answer_of, items_of, returns_credit}
-use Rattle.h2_laws_machine.proofs.Names.{returns_before_put_out, called_one, queue_output}
-use Rattle.h2_laws_machine.proofs.Names.{with_encoder, return_credit, add_unreturned, after_call}
-use Rattle.h2_laws_machine.proofs.Names.{before_put_out_at, EncoderState, Represents}
-use Rattle.h2_laws_machine.proofs.Names.{RepresentsWhileUp, both_by, log_represents}
+use Rattle.h2_laws_machine.proofs.Names
+use Names.{◌==◌, not, ◌≡◌, ℕ, ◌+◌, List, [], ◌∷◌, ◌++◌, length, None, refl, sym, ap, subst, ◌∙◌}
+use Names.{arith, WindowUpdate, Item, alone, end_view, End, log_view, View, Values, Act, Answer}
+use Names.{IsTypedAct, Log, active, released, unreleased, max_payload_sent, is_active, with_sent}
+use Names.{with_unreturned, with_credit_returned, owed_at_close, called, before_put_out, MayAnswer}
+use Names.{with_call, encoder_after_call, refusal_of, answer_of, items_of, returns_credit}
+use Names.{returns_before_put_out, called_one, queue_output, with_encoder, return_credit}
+use Names.{add_unreturned, after_call, before_put_out_at, EncoderState, Represents}
+use Names.{RepresentsWhileUp, both_by, log_represents}
 use Rattle.h2_laws_machine.proofs.ConservedBySteps.{call_holds, holds, is_whole}
 use Rattle.h2_laws_machine.proofs.LogCore.{core, core_facts, StreamsOf, Going, going, runs}
 use Rattle.h2_laws_machine.proofs.SentConnectionItems.{widened_advances}
@@ -113,8 +110,7 @@ return_credit_up e log is =
     (with_sent (record log { unreturned = 0 }) (alone (WindowUpdate 0 e.windows.unreturned) ∷ [])) =
     wrote_up e (record e {
       windows = record e.windows { unreturned = 0; recv = e.windows.recv + e.windows.unreturned };
-    })
-    (record log { unreturned = 0 }) (alone (WindowUpdate 0 e.windows.unreturned) ∷ [])
+    }) (record log { unreturned = 0 }) (alone (WindowUpdate 0 e.windows.unreturned) ∷ [])
     is.role is.up is.same refl is.waits is.started wide in
     subst (λ (n : ℕ). Up (return_credit e)
     (with_sent (record log { unreturned = 0 }) (alone (WindowUpdate 0 n) ∷ [])))

@@ -1,27 +1,23 @@
 -- What the rules say of an end, by the verdict on an item or by a call that isn't refused: which
 -- stream is active, which number was used, and what fits.
 use Rattle.std.proofs.Common.{ltb-true, ltb-false, eqb-true}
-use Rattle.std.specs.FinMap as map
 use Rattle.h2_laws_log.proofs.RulesByTests.{second_false, not_above, NoConnectionFault, few_of_own}
 use Rattle.h2_laws_log.proofs.RulesByTests.{within_limits, fits_by}
-use Rattle.h2_spec_log.specs.ItemRules.{overflows_stream, is_stream_fault}
-use Rattle.h2_spec_log.specs.Limits.{max_frame_size_sent}
-use Rattle.h2_laws_machine.proofs.Names.{◌≡◌, ◌≢◌, ℕ, ◌+◌, ◌<◌, ◌≤◌, ◌==◌, ◌%◌, nat_lt, nat_le}
-use Rattle.h2_laws_machine.proofs.Names.{◌&&◌, ◌||◌, if◌then◌else◌, Bool, true, false, List, pos}
-use Rattle.h2_laws_machine.proofs.Names.{length, Option, Some, None, refl, subst, ap, inl, inr}
-use Rattle.h2_laws_machine.proofs.Names.{arith, not, and_parts, nat_tests, ints, stream_of, Frame}
-use Rattle.h2_laws_machine.proofs.Names.{Data, Reset, Settings, Ping, GoAway, WindowUpdate, Code}
-use Rattle.h2_laws_machine.proofs.Names.{Item, alone, Decoded, overflows_by, replies_to}
-use Rattle.h2_laws_machine.proofs.Names.{verdict_by_rules, verdict_of, stream_of_item}
-use Rattle.h2_laws_machine.proofs.Names.{encoding_of_item, encoding_of_items, max_resets}
-use Rattle.h2_laws_machine.proofs.Names.{max_output, is_server, Idle, Active, greatest_number}
-use Rattle.h2_laws_machine.proofs.Names.{Verdict, StreamFault, NoEvent, connection_update_verdict}
-use Rattle.h2_laws_machine.proofs.Names.{update_verdict, StreamView, greatest_window, end_view, End}
-use Rattle.h2_laws_machine.proofs.Names.{StreamEntry, active_entry, reset_entry, stream_in}
-use Rattle.h2_laws_machine.proofs.Names.{stream_at, state_by_entry, state_at, is_above_goaway}
-use Rattle.h2_laws_machine.proofs.Names.{number_after, is_fresh, NoneAboveHighest, size_of}
+use Rattle.h2_spec_log.specs.ItemRules.{is_stream_fault}
+use Rattle.h2_laws_machine.proofs.Names
+use Names.{◌≡◌, ◌≢◌, ℕ, ◌+◌, ◌<◌, ◌≤◌, ◌==◌, ◌%◌, nat_lt, nat_le, ◌&&◌, ◌||◌, if◌then◌else◌, Bool}
+use Names.{true, false, List, pos, length, Option, Some, None, refl, subst, ap, inl, inr, arith}
+use Names.{not, and_parts, nat_tests, ints, stream_of, Frame, Data, Reset, Settings, Ping, GoAway}
+use Names.{WindowUpdate, Code, Item, alone, Decoded, overflows_by, replies_to, verdict_by_rules}
+use Names.{verdict_of, stream_of_item, encoding_of_item, encoding_of_items, max_resets, max_output}
+use Names.{is_server, Idle, Active, greatest_number, Verdict, StreamFault, NoEvent}
+use Names.{connection_update_verdict, update_verdict, StreamView, greatest_window, end_view, End}
+use Names.{StreamEntry, active_entry, reset_entry, stream_in, stream_at, state_by_entry, state_at}
+use Names.{is_above_goaway, number_after, is_fresh, NoneAboveHighest, size_of, overflows_stream}
+use Names.{max_frame_size_sent}
 use Rattle.h2_laws_machine.proofs.RecvVerdictCases.{OnActiveOrNew, data_is_fault, reset_is_fault}
 use Rattle.h2_laws_machine.proofs.RecvVerdictCases.{update_is_fault}
+use Rattle.std.specs.FinMap as map
 
 -- Items fit where the output keeps to its limit with them.
 abbrev pub HasSpace : End → List Item → Type 0

@@ -1,21 +1,17 @@
 -- What PING, GOAWAY, SETTINGS and the connection's WINDOW_UPDATE that are sent make of an end.
-use Rattle.h2_spec_log.specs.CallRules.{changed_pairs}
 use Rattle.h2_laws_log.proofs.AllowedHistories.{changed_window}
 use Rattle.h2_laws_log.proofs.InvariantSteps.{update_here}
-use Rattle.h2_laws_machine.proofs.Names.{◌≡◌, ◌≢◌, ℕ, ◌+◌, ◌≤◌, max, nat_lt, Bool, true, false}
-use Rattle.h2_laws_machine.proofs.Names.{List, [], ◌∷◌, Some, refl, sym, ◌∙◌, arith, lt-ltb, le-ltb}
-use Rattle.h2_laws_machine.proofs.Names.{false_from_ne_true, both_ways, ne_eqb, list_any, Settings}
-use Rattle.h2_laws_machine.proofs.Names.{Ping, GoAway, WindowUpdate, Code, code_number, Item, alone}
-use Rattle.h2_laws_machine.proofs.Names.{Role, Client, Server, data_on, data_of, increment_on}
-use Rattle.h2_laws_machine.proofs.Names.{is_block_on, ends, resets, is_goaway, is_goaway_below}
-use Rattle.h2_laws_machine.proofs.Names.{one_ping, one_reset, total, greatest_block, one_pong}
-use Rattle.h2_laws_machine.proofs.Names.{reported_total, Values, is_server, value_read, value_after}
-use Rattle.h2_laws_machine.proofs.Names.{one_settings, settings_count, own_value, openings}
-use Rattle.h2_laws_machine.proofs.Names.{is_above, first_window, granted_on, Log, newest_ping}
-use Rattle.h2_laws_machine.proofs.Names.{with_sent, with_failure, Streams, OwnSettings}
-use Rattle.h2_laws_machine.proofs.Names.{RepresentsOwn, goaway_sent_last, own_next, own_of_all}
-use Rattle.h2_laws_machine.proofs.Names.{settings_one, value_changed, value_named, changed_frame}
-use Rattle.h2_laws_machine.proofs.Names.{active_parts, active_before, total_one}
+use Rattle.h2_laws_machine.proofs.Names
+use Names.{◌≡◌, ◌≢◌, ℕ, ◌+◌, ◌≤◌, max, nat_lt, Bool, true, false, List, [], ◌∷◌, Some, refl, sym}
+use Names.{◌∙◌, arith, lt-ltb, le-ltb, false_from_ne_true, both_ways, ne_eqb, list_any, Settings}
+use Names.{Ping, GoAway, WindowUpdate, Code, code_number, Item, alone, Role, Client, Server}
+use Names.{data_on, data_of, increment_on, is_block_on, ends, resets, is_goaway, is_goaway_below}
+use Names.{one_ping, one_reset, total, greatest_block, one_pong, reported_total, Values, is_server}
+use Names.{value_read, value_after, one_settings, settings_count, own_value, openings, is_above}
+use Names.{first_window, granted_on, Log, newest_ping, with_sent, with_failure, Streams}
+use Names.{OwnSettings, RepresentsOwn, goaway_sent_last, own_next, own_of_all, settings_one}
+use Names.{value_changed, value_named, changed_frame, active_parts, active_before, total_one}
+use Names.{changed_pairs}
 use Rattle.h2_laws_machine.proofs.ItemsApart.{ping_apart, settings_apart, update_apart}
 use Rattle.h2_laws_machine.proofs.LogCore.{Core, core, CoreFacts, Advances, StreamsOf, confirmed}
 use Rattle.h2_laws_machine.proofs.LogCore.{active_by_items}

@@ -1,15 +1,12 @@
 -- What an item that is sent leaves of each subject of an end.
-use Rattle.h2_laws_machine.proofs.Names.{◌≡◌, ◌≢◌, ℕ, ◌+◌, max, nat_lt, true, false, List, ◌∷◌}
-use Rattle.h2_laws_machine.proofs.Names.{Option, refl, sym, ap, ◌∙◌, arith, zero-add, list_any}
-use Rattle.h2_laws_machine.proofs.Names.{Item, Role, Client, Server, data_of, increment_on}
-use Rattle.h2_laws_machine.proofs.Names.{is_block_on, ends, resets, one_reset, one_ping, is_goaway}
-use Rattle.h2_laws_machine.proofs.Names.{is_goaway_below, total, greatest_block, Event}
-use Rattle.h2_laws_machine.proofs.Names.{one_settings, settings_count, own_value, openings}
-use Rattle.h2_laws_machine.proofs.Names.{is_above, is_over, is_active, first_window, granted_on}
-use Rattle.h2_laws_machine.proofs.Names.{granted_on_connection, EncoderState, Act, Answer}
-use Rattle.h2_laws_machine.proofs.Names.{newest_ping, released, ConnectionWindows, Streams}
-use Rattle.h2_laws_machine.proofs.Names.{OwnSettings, GoAways, goaway_sent_last, RepresentsWindows}
-use Rattle.h2_laws_machine.proofs.Names.{RepresentsOwn, RepresentsGoAways}
+use Rattle.h2_laws_machine.proofs.Names
+use Names.{◌≡◌, ◌≢◌, ℕ, ◌+◌, max, nat_lt, true, false, List, ◌∷◌, Option, refl, sym, ap, ◌∙◌, arith}
+use Names.{zero-add, list_any, Item, Role, Client, Server, data_of, increment_on, is_block_on, ends}
+use Names.{resets, one_reset, one_ping, is_goaway, is_goaway_below, total, greatest_block, Event}
+use Names.{one_settings, settings_count, own_value, openings, is_above, is_over, is_active}
+use Names.{first_window, granted_on, granted_on_connection, EncoderState, Act, Answer, newest_ping}
+use Names.{released, ConnectionWindows, Streams, OwnSettings, GoAways, goaway_sent_last}
+use Names.{RepresentsWindows, RepresentsOwn, RepresentsGoAways}
 use Rattle.h2_laws_machine.proofs.ItemsApart.{IsApart}
 use Rattle.h2_laws_machine.proofs.LogCore.{Core, CoreFacts, Advances, StreamsOf, PingOf, confirmed}
 use Rattle.h2_laws_machine.proofs.LogCore.{active_by_items}
@@ -66,13 +63,12 @@ pub same_sent : (j : ℕ) (c : Core) (item : Item) → IsApart j item → is_goa
     → own_value 4 first_window (confirmed c) (item ∷ c.sent)
     ≡ own_value 4 first_window (confirmed c) c.sent → SameAt j c (sends c item)
 unfolding total granted_on
-same_sent j c item a below gives own =
-    record {
-      active = active_wrote c.role j item c.received c.sent c.reported a.blocks a.ended a.was_reset
-          below;
-      was_reset = any_quiet (resets j) item c.sent a.was_reset;
-      stream = λ alive. rw (own, gives alive, a.flow, a.ended, zero-add, zero-add) refl;
-    }
+same_sent j c item a below gives own = record {
+  active = active_wrote c.role j item c.received c.sent c.reported a.blocks a.ended a.was_reset
+      below;
+  was_reset = any_quiet (resets j) item c.sent a.was_reset;
+  stream = λ alive. rw (own, gives alive, a.flow, a.ended, zero-add, zero-add) refl;
+}
 
 -- An item that touches nothing of any stream but perhaps receive windows.
 pub record LeavesStreams (item : Item) : Type 0 where
@@ -98,12 +94,11 @@ pub windows_sent : (windows : ConnectionWindows) (received sent : List Item) (un
     → RepresentsWindows windows received sent unreturned
     → RepresentsWindows (record windows { recv = recv }) received (item ∷ sent) unreturned
 unfolding granted_on_connection total
-windows_sent windows received sent unreturned item recv none more g =
-    record {
-      send = omega (arith, none, g.send);
-      recv = omega (arith, more, g.recv);
-      unreturned = g.unreturned;
-    }
+windows_sent windows received sent unreturned item recv none more g = record {
+  send = omega (arith, none, g.send);
+  recv = omega (arith, more, g.recv);
+  unreturned = g.unreturned;
+}
 
 -- Own settings, where an item is sent that isn't SETTINGS.
 pub own_sent : (own : OwnSettings) (role : Role) (count : ℕ) (sent : List Item) (item : Item)

@@ -1,15 +1,13 @@
 -- What items on one active stream make of an end: a stream continues, or is closed.
 use Rattle.std.specs.FinMap as map
-use Rattle.h2_laws_machine.proofs.Names.{◌≡◌, ◌≢◌, ℕ, ◌+◌, ◌-◌, max, nat_lt, ◌&&◌, Bool, true}
-use Rattle.h2_laws_machine.proofs.Names.{false, List, ℤ, refl, sym, ap, ◌∙◌, false_from_ne_true}
-use Rattle.h2_laws_machine.proofs.Names.{both_ways, list_any, Item, Role, data_on, data_of}
-use Rattle.h2_laws_machine.proofs.Names.{increment_on, is_block_on, ends, resets, is_goaway}
-use Rattle.h2_laws_machine.proofs.Names.{one_ping, one_reset, total, greatest_block, own_value}
-use Rattle.h2_laws_machine.proofs.Names.{settings_count, openings, is_above, first_window, given_on}
-use Rattle.h2_laws_machine.proofs.Names.{given_on_connection, granted_on, granted_on_connection}
-use Rattle.h2_laws_machine.proofs.Names.{window, newest_ping, StreamView, Streams, OwnSettings}
-use Rattle.h2_laws_machine.proofs.Names.{active_entry, RepresentsOwn, goaway_sent_last}
-use Rattle.h2_laws_machine.proofs.Names.{active_parts, active_by_parts, lasts_parts}
+use Rattle.h2_laws_machine.proofs.Names
+use Names.{◌≡◌, ◌≢◌, ℕ, ◌+◌, ◌-◌, max, nat_lt, ◌&&◌, Bool, true, false, List, ℤ, refl, sym, ap, ◌∙◌}
+use Names.{false_from_ne_true, both_ways, list_any, Item, Role, data_on, data_of, increment_on}
+use Names.{is_block_on, ends, resets, is_goaway, one_ping, one_reset, total, greatest_block}
+use Names.{own_value, settings_count, openings, is_above, first_window, given_on}
+use Names.{given_on_connection, granted_on, granted_on_connection, window, newest_ping, StreamView}
+use Names.{Streams, OwnSettings, active_entry, RepresentsOwn, goaway_sent_last, active_parts}
+use Names.{active_by_parts, lasts_parts}
 use Rattle.h2_laws_machine.proofs.LogCore.{Core, CoreFacts, Advances, StreamsOf, active_by_items}
 use Rattle.h2_laws_machine.proofs.LogCore.{confirmed, said}
 use Rattle.h2_laws_machine.proofs.SentQuietItems.{active_like}
@@ -75,18 +73,17 @@ own_adds own role received id count sent news n end a g =
 adds_same : (c : Core) (id : ℕ) (news : List Item) (n : ℕ) (end : Bool)
     → Adds c.role c.received id c.sent news n end → (j : ℕ) → j ≢ id → SameAt j c (with_news c news)
 unfolding granted_on
-adds_same c id news n end a j other =
-    record {
-      active = active_like c.role j c.received c.sent news c.reported (a.blocks j) (a.above j)
-          (a.ends_other j other) (a.resets j);
-      was_reset = a.resets j;
-      stream = λ alive. rw (
-        a.own 4 first_window (confirmed c),
-        a.increments j,
-        a.data_other j other,
-        a.ends_other j other,
-      ) refl;
-    }
+adds_same c id news n end a j other = record {
+  active = active_like c.role j c.received c.sent news c.reported (a.blocks j) (a.above j)
+      (a.ends_other j other) (a.resets j);
+  was_reset = a.resets j;
+  stream = λ alive. rw (
+    a.own 4 first_window (confirmed c),
+    a.increments j,
+    a.data_other j other,
+    a.ends_other j other,
+  ) refl;
+}
 
 -- The stream stays active, unless both sides have ended it.
 pub active_here : (c : Core) (id : ℕ) (news : List Item) (n : ℕ) (end : Bool)
@@ -112,8 +109,7 @@ closed_here c id news n end over a =
 
 -- the stream that continues, with another send window
 abbrev pub stream_with : Core → ℕ → ℤ → Bool → StreamView
-stream_with c id send_window end = record (said c id)
-    { send_window = send_window; ended_out = end }
+stream_with c id send_window end = record (said c id) { send_window = send_window; ended_out = end }
 
 -- It is what the log says.
 stream_with_said : (c : Core) (id : ℕ) (news : List Item) (n : ℕ) (end : Bool) (send_window : ℤ)
@@ -134,24 +130,23 @@ adds_advance : (h : CoreFacts) (c : Core) (id : ℕ) (news : List Item) (n : ℕ
     → Advances (record h { streams = streams; windows = record h.windows { send = send } })
     (with_news c news)
 unfolding granted_on_connection
-adds_advance h c id news n end streams send a conserved are g =
-    record {
-      reading = g.reading;
-      encoder = g.encoder;
-      streams = are;
-      windows = record {
-        send = rw (a.data_all) conserved;
-        recv = rw (a.increments 0) g.windows.recv;
-        unreturned = g.windows.unreturned;
-      };
-      peer = g.peer;
-      own = own_adds h.own c.role c.received id (confirmed c) c.sent news n end a g.own;
-      goaway = record {
-        last_sent = g.goaway.last_sent ∙ rw (a.goaway, a.last) refl;
-        least_received = g.goaway.least_received;
-      };
-      ping = g.ping ∙ rw (a.pings, a.newest) refl;
-    }
+adds_advance h c id news n end streams send a conserved are g = record {
+  reading = g.reading;
+  encoder = g.encoder;
+  streams = are;
+  windows = record {
+    send = rw (a.data_all) conserved;
+    recv = rw (a.increments 0) g.windows.recv;
+    unreturned = g.windows.unreturned;
+  };
+  peer = g.peer;
+  own = own_adds h.own c.role c.received id (confirmed c) c.sent news n end a g.own;
+  goaway = record {
+    last_sent = g.goaway.last_sent ∙ rw (a.goaway, a.last) refl;
+    least_received = g.goaway.least_received;
+  };
+  ping = g.ping ∙ rw (a.pings, a.newest) refl;
+}
 
 -- The stream continues.
 pub set_advances : (h : CoreFacts) (c : Core) (id : ℕ) (news : List Item) (n : ℕ) (end : Bool)

@@ -1,9 +1,8 @@
 -- Every log that hasn't failed is sound.
-use Rattle.h2_laws_machine.proofs.Names.{◌≡◌, ℕ, ◌≤◌, nat_lt, Bool, true, false, ◌&&◌, List, None}
-use Rattle.h2_laws_machine.proofs.Names.{refl, ap, ◌∙◌, arith, list_any, Item, Role, Client, Server}
-use Rattle.h2_laws_machine.proofs.Names.{is_goaway, greatest_block, Values, is_server, openings}
-use Rattle.h2_laws_machine.proofs.Names.{is_above, when, Log, IsLog, AllowedHistory, is_beyond}
-use Rattle.h2_laws_machine.proofs.Names.{goaway_sent_last, log_represents}
+use Rattle.h2_laws_machine.proofs.Names
+use Names.{◌≡◌, ℕ, ◌≤◌, nat_lt, Bool, true, false, ◌&&◌, List, None, refl, ap, ◌∙◌, arith, list_any}
+use Names.{Item, Role, Client, Server, is_goaway, greatest_block, Values, is_server, openings}
+use Names.{is_above, when, Log, IsLog, AllowedHistory, is_beyond, goaway_sent_last, log_represents}
 use Rattle.h2_laws_machine.proofs.GoAwaysSent.{active_processed, processed_at_server}
 use Rattle.h2_laws_machine.proofs.LogCore.{core}
 use Rattle.h2_laws_machine.proofs.NumberedLogs.{OneGoAway}

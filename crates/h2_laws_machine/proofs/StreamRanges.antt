@@ -1,17 +1,15 @@
 -- The windows of streams are in their ranges: what an entry that is set, removed or shifted makes
 -- of that.
 use Rattle.std.proofs.Common.{negsuc, int_lt, ltb-false, eqb-true}
+use Rattle.h2_laws_log.proofs.CallConditions.{neither_one}
+use Rattle.h2_laws_machine.proofs.Names
+use Names.{◌≡◌, ◌≢◌, ℕ, ◌+◌, ◌-◌, ◌≤◌, ◌==◌, nat_lt, ◌&&◌, ◌||◌, Bool, true, false, cond}
+use Names.{if◌then◌else◌, ℤ, pos, ◌+ℤ◌, ◌-ℤ◌, List, [], ◌∷◌, Option, Some, None, refl, sym, ap}
+use Names.{subst, ◌∙◌, arith, false_from_ne_true, ints, nat_cmp, is_eq, at_least_none, exceeds}
+use Names.{overflows_by, StreamView, greatest_window, StreamEntry, active_entry, reset_entry}
+use Names.{StreamMap, stream_in, above_by_shift, any_above, shifted_entry, recv_shifted_entry}
+use Names.{each_entry, changed_entry, get_each, get_set, get_removed, neither_other}
 use Rattle.std.specs.FinMap as map
-use Rattle.h2_laws_log.proofs.CallConditions.{neither_one, neither_other}
-use Rattle.h2_laws_machine.proofs.Names.{◌≡◌, ◌≢◌, ℕ, ◌+◌, ◌-◌, ◌≤◌, ◌==◌, nat_lt, ◌&&◌, ◌||◌, Bool}
-use Rattle.h2_laws_machine.proofs.Names.{true, false, cond, if◌then◌else◌, ℤ, pos, ◌+ℤ◌, ◌-ℤ◌, List}
-use Rattle.h2_laws_machine.proofs.Names.{[], ◌∷◌, Option, Some, None, refl, sym, ap, subst, ◌∙◌}
-use Rattle.h2_laws_machine.proofs.Names.{arith, false_from_ne_true, ints, nat_cmp, is_eq}
-use Rattle.h2_laws_machine.proofs.Names.{at_least_none, exceeds, overflows_by, StreamView}
-use Rattle.h2_laws_machine.proofs.Names.{greatest_window, StreamEntry, active_entry, reset_entry}
-use Rattle.h2_laws_machine.proofs.Names.{StreamMap, stream_in, above_by_shift, any_above}
-use Rattle.h2_laws_machine.proofs.Names.{shifted_entry, recv_shifted_entry, each_entry}
-use Rattle.h2_laws_machine.proofs.Names.{changed_entry, get_each, get_set, get_removed}
 
 -- A stream's windows are in their ranges, by the initial windows of the peer and of this end.
 pub record WindowsFit (peer own : ℕ) (stream : StreamView) : Type 0 where
@@ -324,13 +322,12 @@ pub new_fits_stream : (peer own : ℕ) (ended_in ended_out : Bool) → peer ≤ 
       ended_in = ended_in;
       ended_out = ended_out;
     })
-new_fits_stream peer own ended_in ended_out few =
-    record {
-      send_most = at_most greatest_window peer few;
-      send_least = at_least greatest_window peer;
-      recv_most = nothing_owed own;
-      recv_least = at_least greatest_window own;
-    }
+new_fits_stream peer own ended_in ended_out few = record {
+  send_most = at_most greatest_window peer few;
+  send_least = at_least greatest_window peer;
+  recv_most = nothing_owed own;
+  recv_least = at_least greatest_window own;
+}
 
 -- Ends of sides change no window.
 pub ended_fits_stream : (peer own : ℕ) (stream : StreamView) (ended_in ended_out : Bool)

@@ -1,13 +1,12 @@
 -- When the streams that an end keeps are those of another log too: the two logs say the same of
 -- each number, or of all but one.
 use Rattle.std.specs.FinMap as map
-use Rattle.h2_laws_machine.proofs.Names.{◌≡◌, ◌≢◌, ℕ, zero, suc, ◌≤◌, ◌<◌, ◌+◌, ◌-◌, ◌%◌, Bool}
-use Rattle.h2_laws_machine.proofs.Names.{true, false, ℤ, refl, sym, ◌∙◌, inl, inr, arith, list_any}
-use Rattle.h2_laws_machine.proofs.Names.{cases_eq, eqb-true, resets, one_reset, total, openings}
-use Rattle.h2_laws_machine.proofs.Names.{count_below, StreamView, StreamMap, Streams, StreamEntry}
-use Rattle.h2_laws_machine.proofs.Names.{active_entry, reset_entry, entry_by, active_parts}
-use Rattle.h2_laws_machine.proofs.Names.{block_below, get_set_same, get_set_other, get_removed_same}
-use Rattle.h2_laws_machine.proofs.Names.{get_removed_other}
+use Rattle.h2_laws_machine.proofs.Names
+use Names.{◌≡◌, ◌≢◌, ℕ, zero, suc, ◌≤◌, ◌<◌, ◌+◌, ◌-◌, ◌%◌, Bool, true, false, ℤ, refl, sym, ◌∙◌}
+use Names.{inl, inr, arith, list_any, cases_eq, eqb-true, resets, one_reset, total, openings}
+use Names.{count_below, StreamView, StreamMap, Streams, StreamEntry, active_entry, reset_entry}
+use Names.{entry_by, active_parts, block_below, get_set_same, get_set_other, get_removed_same}
+use Names.{get_removed_other}
 use Rattle.h2_laws_machine.proofs.LogCore.{Core, said, AreSaid, StreamsOf, active_by_items}
 use Rattle.h2_laws_machine.proofs.LogCore.{greatest_used, processed}
 
@@ -21,14 +20,13 @@ entry_same b d w v s t active was stream = absurd (cc)
 
 -- a stream of its parts
 abbrev parts : (send_window recv_window : ℤ) (owed : ℕ) (ended_in ended_out : Bool) → StreamView
-parts send_window recv_window owed ended_in ended_out =
-    record {
-      send_window = send_window;
-      recv_window = recv_window;
-      owed = owed;
-      ended_in = ended_in;
-      ended_out = ended_out;
-    }
+parts send_window recv_window owed ended_in ended_out = record {
+  send_window = send_window;
+  recv_window = recv_window;
+  owed = owed;
+  ended_in = ended_in;
+  ended_out = ended_out;
+}
 
 -- Streams of the same parts are the same.
 parts_same : (r r' c c' : ℤ) (o o' : ℕ) (i i' f f' : Bool) → r ≡ r' → c ≡ c' → o ≡ o' → i ≡ i'
@@ -71,8 +69,7 @@ unfolding count_below
 count_apart zero i f g below same = refl
 count_apart (suc m) i f g below same = rw (
   same m (λ at. omega (arith, at, below)),
-  count_apart m i
-      f g (omega (arith, below)) same,
+  count_apart m i f g (omega (arith, below)) same,
 ) refl
 
 -- Where one number less passes, the count is one less.
@@ -145,25 +142,23 @@ said_over streams i x c d are same dead kept j = elim (cases_eq j i) [
 
 -- The log says the same of a number in two steps.
 pub same_both : (j : ℕ) (c d f : Core) → SameAt j c d → SameAt j d f → SameAt j c f
-same_both j c d f one two =
-    record {
-      active = two.active ∙ one.active;
-      was_reset = two.was_reset ∙ one.was_reset;
-      stream = λ alive. two.stream (one.active ∙ alive) ∙ one.stream alive;
-    }
+same_both j c d f one two = record {
+  active = two.active ∙ one.active;
+  was_reset = two.was_reset ∙ one.was_reset;
+  stream = λ alive. two.stream (one.active ∙ alive) ∙ one.stream alive;
+}
 
 -- Where a log says the same of every number, the streams are its.
 pub streams_same : (s : Streams) (c d : Core) → ((j : ℕ) → SameAt j c d)
     → greatest_used d ≡ greatest_used c → processed d ≡ processed c
     → total one_reset d.sent ≡ total one_reset c.sent → StreamsOf s c → StreamsOf s d
-streams_same s c d same greatest shown count g =
-    record {
-      entries = λ j. kept_at s.entries j c d (same j) (g.entries j);
-      active_count = rw greatest (g.active_count ∙ sym (count_same _ _ _ (λ j. (same j).active)));
-      highest = g.highest ∙ sym greatest;
-      last_processed = g.last_processed ∙ sym shown;
-      resets = g.resets ∙ sym count;
-    }
+streams_same s c d same greatest shown count g = record {
+  entries = λ j. kept_at s.entries j c d (same j) (g.entries j);
+  active_count = rw greatest (g.active_count ∙ sym (count_same _ _ _ (λ j. (same j).active)));
+  highest = g.highest ∙ sym greatest;
+  last_processed = g.last_processed ∙ sym shown;
+  resets = g.resets ∙ sym count;
+}
 
 -- A stream that continues is set: the log says the same of all others.
 pub streams_set : (s : Streams) (i : ℕ) (stream : StreamView) (c d : Core)
@@ -209,11 +204,10 @@ pub streams_closed : (s : Streams) (i : ℕ) (entries : StreamMap) (resets : ℕ
       active_count = s.active_count - 1;
       resets = resets;
     }) d
-streams_closed s i entries resets c d same was dead are greatest shown count g =
-    record {
-      entries = are;
-      active_count = one_less c d i s.active_count greatest same was dead g.active_count;
-      highest = g.highest ∙ sym greatest;
-      last_processed = g.last_processed ∙ sym shown;
-      resets = count;
-    }
+streams_closed s i entries resets c d same was dead are greatest shown count g = record {
+  entries = are;
+  active_count = one_less c d i s.active_count greatest same was dead g.active_count;
+  highest = g.highest ∙ sym greatest;
+  last_processed = g.last_processed ∙ sym shown;
+  resets = count;
+}

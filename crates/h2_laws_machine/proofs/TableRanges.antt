@@ -16,11 +16,10 @@ pub record IsWithin (table : Entries) (maximum : ℕ) : Type 0 where
 -- A literal leaves a table within its maximum.
 pub literal_within : (kind : Literal) (table : Entries) (maximum : ℕ) (new : Entry)
     → IsWithin table maximum → IsWithin (after_literal kind table new) maximum
-literal_within WithIndexing table maximum new h =
-    record {
-      same = h.same;
-      size = omega (arith, h.same, fit_within (new ∷ table.entries) table.maximum);
-    }
+literal_within WithIndexing table maximum new h = record {
+  same = h.same;
+  size = omega (arith, h.same, fit_within (new ∷ table.entries) table.maximum);
+}
 literal_within WithoutIndexing table maximum new h = h
 literal_within NeverIndexed table maximum new h = h
 

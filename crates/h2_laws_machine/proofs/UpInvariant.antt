@@ -1,17 +1,14 @@
 -- What every log that hasn't failed has: no more is acknowledged and answered than was sent, and so
 -- on; and what keeps it.
-use Rattle.h2_laws_log.proofs.LogHistory.{reported_append, none_both, processed_after}
 use Rattle.h2_laws_log.proofs.LogGrowth.{Grows}
-use Rattle.h2_laws_machine.proofs.Names.{◌≡◌, ℕ, ◌+◌, ◌≤◌, ◌<◌, ◌==◌, ◌%◌, ◌||◌, Bool, true, false}
-use Rattle.h2_laws_machine.proofs.Names.{List, [], ◌∷◌, ◌++◌, refl, sym, ap, ◌∙◌, arith, list_any}
-use Rattle.h2_laws_machine.proofs.Names.{both_ways, and_right, false_from_ne_true, Item, alone}
-use Rattle.h2_laws_machine.proofs.Names.{block, data_on, increment_on, is_block_on, opens_from}
-use Rattle.h2_laws_machine.proofs.Names.{ends, resets, is_goaway, one_ping, total, greatest_block}
-use Rattle.h2_laws_machine.proofs.Names.{Event, one_acked, one_pong, reported_total}
-use Rattle.h2_laws_machine.proofs.Names.{greatest_processed, reports_unprocessed, is_server}
-use Rattle.h2_laws_machine.proofs.Names.{settings_count, openings, is_active, is_used, Log, Role}
-use Rattle.h2_laws_machine.proofs.Names.{Client, Server, none_after, settings_after, total_after}
-use Rattle.h2_laws_machine.proofs.Names.{active_parts, lasts_parts, active_before, opens_low}
+use Rattle.h2_laws_machine.proofs.Names
+use Names.{◌≡◌, ℕ, ◌+◌, ◌≤◌, ◌<◌, ◌==◌, ◌%◌, ◌||◌, Bool, true, false, List, [], ◌∷◌, ◌++◌, refl}
+use Names.{sym, ap, ◌∙◌, arith, list_any, both_ways, and_right, false_from_ne_true, Item, alone}
+use Names.{block, data_on, increment_on, is_block_on, opens_from, ends, resets, is_goaway, one_ping}
+use Names.{total, greatest_block, Event, one_acked, one_pong, reported_total, greatest_processed}
+use Names.{reports_unprocessed, is_server, settings_count, openings, is_active, is_used, Log, Role}
+use Names.{Client, Server, none_after, settings_after, total_after, active_parts, lasts_parts}
+use Names.{active_before, opens_low, reported_append, none_both, processed_after}
 use Rattle.h2_laws_machine.proofs.OneItemMore.{any_quiet, total_quiet}
 
 -- Nothing was read or reported of a number.
@@ -52,20 +49,19 @@ greatest_after (block stream end octets ∷ more) items = omega (arith, greatest
 -- More that was written keeps this.
 pub up_log_more : (role : Role) (received items sent : List Item) (reported : List Event)
     → IsUpLogBy role received sent reported → IsUpLogBy role received (items ++ sent) reported
-up_log_more role received items sent reported f =
-    record {
-      acks = omega (arith, f.acks, settings_after items sent);
-      pongs = omega (arith, f.pongs, total_after one_ping items sent);
-      processed = λ server none i active_is.
-          let parts = active_parts role i received (items ++ sent) reported active_is in
-          let opened : list_any (is_block_on i) (openings role received sent) ≡ true =
-          ap (list_any (is_block_on i)) (openings_server role received sent server
-          ∙ sym (openings_server role received (items ++ sent) server)) ∙ parts.opened in
-          f.processed server (none_after is_goaway items sent none) i
-          (active_before role i [] items received sent [] reported active_is opened);
-      clear = λ client i above. let low = greatest_after items sent in f.clear client i
-          (omega arith);
-    }
+up_log_more role received items sent reported f = record {
+  acks = omega (arith, f.acks, settings_after items sent);
+  pongs = omega (arith, f.pongs, total_after one_ping items sent);
+  processed = λ server none i active_is.
+      let parts = active_parts role i received (items ++ sent) reported active_is in
+      let opened : list_any (is_block_on i) (openings role received sent) ≡ true =
+      ap (list_any (is_block_on i)) (openings_server role received sent server
+      ∙ sym (openings_server role received (items ++ sent) server)) ∙ parts.opened in
+      f.processed server (none_after is_goaway items sent none) i
+      (active_before role i [] items received sent [] reported active_is opened);
+  clear = λ client i above. let low = greatest_after items sent in f.clear client i
+      (omega arith);
+}
 
 -- A log that grows keeps this.
 pub up_log_grown : (old new : Log) → Grows old new → IsUpLog old → IsUpLog new
@@ -87,11 +83,10 @@ pub record Reads (role : Role) (received sent news : List Item) (reported events
 
 -- A test that one item doesn't pass.
 one_none : {X : Type 0} (p : X → Bool) (x : X) → list_any p (x ∷ []) ≡ false → p x ≡ false
-one_none p x none = by (p x) none
-  where
-    by : (b : Bool) → (b || false) ≡ false → b ≡ false
-    by true is = is
-    by false is = refl
+one_none p x none = by (p x) none where
+  by : (b : Bool) → (b || false) ≡ false → b ≡ false
+  by true is = is
+  by false is = refl
 
 -- A number of one item.
 one_total : (f : Item → ℕ) (item : Item) → total f (item ∷ []) ≡ 0 → f item ≡ 0
@@ -138,31 +133,30 @@ pub up_log_read : (role : Role) (received items sent news : List Item)
     (reported events : List Event) (item : Item) → news ≡ items ++ sent
     → IsUpLogBy role received sent reported → Reads role received sent news reported events item
     → IsUpLogBy role (item ∷ received) news (events ++ reported)
-up_log_read role received items sent news reported events item is f r =
-    record {
-      acks = omega (arith, reported_append, settings_after, ap settings_count is);
-      pongs = omega (arith, reported_append, total_after, ap (total one_ping) is);
-      processed = λ server none i active_is.
-          let lasts = active_unreset role i (item ∷ received) news (events ++ reported) active_is in
-          active_processed_by role received items sent news reported events item i
-          (is_block_on i item) is refl f r server none lasts active_is;
-      clear = λ client i above.
-          let low = greatest_after items sent in
-          let same = ap greatest_block is in
-          let before = f.clear client i (omega arith) in
-          let here = r.clear client i (omega arith) in
-          record {
-            ended = any_quiet (ends i) item received (one_none (ends i) item here.ended)
-                ∙ before.ended;
-            reset = any_quiet (resets i) item received (one_none (resets i) item here.reset)
-                ∙ before.reset;
-            given = total_quiet (increment_on i) item received
-                (one_total (increment_on i) item here.given) ∙ before.given;
-            no_data = total_quiet (data_on i) item received
-                (one_total (data_on i) item here.no_data) ∙ before.no_data;
-            unnamed = none_both (reports_unprocessed i) events reported here.unnamed before.unnamed;
-          };
-    }
+up_log_read role received items sent news reported events item is f r = record {
+  acks = omega (arith, reported_append, settings_after, ap settings_count is);
+  pongs = omega (arith, reported_append, total_after, ap (total one_ping) is);
+  processed = λ server none i active_is.
+      let lasts = active_unreset role i (item ∷ received) news (events ++ reported) active_is in
+      active_processed_by role received items sent news reported events item i
+      (is_block_on i item) is refl f r server none lasts active_is;
+  clear = λ client i above.
+      let low = greatest_after items sent in
+      let same = ap greatest_block is in
+      let before = f.clear client i (omega arith) in
+      let here = r.clear client i (omega arith) in
+      record {
+        ended = any_quiet (ends i) item received (one_none (ends i) item here.ended)
+            ∙ before.ended;
+        reset = any_quiet (resets i) item received (one_none (resets i) item here.reset)
+            ∙ before.reset;
+        given = total_quiet (increment_on i) item received
+            (one_total (increment_on i) item here.given) ∙ before.given;
+        no_data = total_quiet (data_on i) item received
+            (one_total (data_on i) item here.no_data) ∙ before.no_data;
+        unnamed = none_both (reports_unprocessed i) events reported here.unnamed before.unnamed;
+      };
+}
 
 -- At a client a number above all that were used is idle.
 pub idle_above : (role : Role) (i : ℕ) (received sent : List Item) → role ≡ Client

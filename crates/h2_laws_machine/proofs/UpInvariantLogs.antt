@@ -1,22 +1,19 @@
 -- Every log that hasn't failed has what is asked of it, with the events that are still to be
 -- reported of it.
-use Rattle.h2_spec_log.specs.States.{least_block, lesser_number}
+use Rattle.h2_spec_log.specs.States.{lesser_number}
 use Rattle.h2_spec_log.specs.ItemRules.{over_limits}
-use Rattle.h2_laws_log.proofs.LogGrowth.{grows_wrote}
 use Rattle.h2_laws_log.proofs.FrameSizes.{within_limits}
 use Rattle.h2_laws_log.proofs.LogInduction.{IsPendingInvariant, pending_by_logs}
-use Rattle.h2_laws_machine.proofs.Names.{◌≡◌, ◌≢◌, ℕ, ◌≤◌, max, Bool, true, false, if◌then◌else◌}
-use Rattle.h2_laws_machine.proofs.Names.{List, [], ◌∷◌, ◌++◌, Option, None, refl, sym, ap, ◌∙◌}
-use Rattle.h2_laws_machine.proofs.Names.{arith, Some, list_any, both_ways, or_left, eq-eqb, ne_eqb}
-use Rattle.h2_laws_machine.proofs.Names.{Code, WindowUpdate, Item, alone, block, log_view, resets}
-use Rattle.h2_laws_machine.proofs.Names.{stream_of_item, total, greatest_block, is_block_on, Event}
-use Rattle.h2_laws_machine.proofs.Names.{UnprocessedEvent, one_acked, one_pong, reported_total}
-use Rattle.h2_laws_machine.proofs.Names.{greatest_processed, processed_by, reports_unprocessed}
-use Rattle.h2_laws_machine.proofs.Names.{Values, is_server, settings_count, Log, next_unprocessed}
-use Rattle.h2_laws_machine.proofs.Names.{Verdict, ConnectionFault, StreamFault, Decoded, replies_to}
-use Rattle.h2_laws_machine.proofs.Names.{verdict_by_rules, verdict_of, read, with_sent, events_of}
-use Rattle.h2_laws_machine.proofs.Names.{opened, called, IsLog, Role, Client, Server, answer_of}
-use Rattle.h2_laws_machine.proofs.Names.{items_of, lesser_low, active_parts, active_before}
+use Rattle.h2_laws_machine.proofs.Names
+use Names.{◌≡◌, ◌≢◌, ℕ, ◌≤◌, max, Bool, true, false, if◌then◌else◌, List, [], ◌∷◌, ◌++◌, Option}
+use Names.{None, refl, sym, ap, ◌∙◌, arith, Some, list_any, both_ways, or_left, eq-eqb, ne_eqb}
+use Names.{Code, WindowUpdate, Item, alone, block, log_view, resets, stream_of_item, total}
+use Names.{greatest_block, is_block_on, Event, UnprocessedEvent, one_acked, one_pong}
+use Names.{reported_total, greatest_processed, processed_by, reports_unprocessed, Values, is_server}
+use Names.{settings_count, Log, next_unprocessed, Verdict, ConnectionFault, StreamFault, Decoded}
+use Names.{replies_to, verdict_by_rules, verdict_of, read, with_sent, events_of, opened, called}
+use Names.{IsLog, Role, Client, Server, answer_of, items_of, lesser_low, active_parts}
+use Names.{active_before, least_block, grows_wrote}
 use Rattle.h2_laws_machine.proofs.UpInvariant.{IsUpLog, IsUpLogBy, up_log_grown, up_log_more}
 use Rattle.h2_laws_machine.proofs.UpInvariant.{up_log_read, openings_server}
 use Rattle.h2_laws_machine.proofs.UpInvariantReads.{item_reads}
@@ -86,67 +83,64 @@ unprocessed_up_log : (role : Role) (received sent : List Item) (reported : List 
     → n ≤ greatest_block sent → IsUpLogBy role received sent reported
     → IsUpLogBy role received sent (UnprocessedEvent n ∷ reported)
 unfolding reported_total one_acked one_pong greatest_processed processed_by reports_unprocessed
-unprocessed_up_log role received sent reported n low f =
-    record {
-      acks = omega (arith, f.acks);
-      pongs = omega (arith, f.pongs);
-      processed = λ server none i active_is.
-          let was = f.processed server none i
-          (active_before role i [] [] received sent (UnprocessedEvent n ∷ []) reported active_is
-          (active_parts role i received sent (UnprocessedEvent n ∷ reported) active_is).opened) in
-          omega (arith, was);
-      clear = λ client i above.
-          let before = f.clear client i above in
-          let apart : n ≢ i = λ same. omega arith in
-          let unnamed : list_any (reports_unprocessed i) (UnprocessedEvent n ∷ reported) ≡ false =
-          rw (ne_eqb n i apart) before.unnamed in
-          assumption (unnamed, before);
-    }
+unprocessed_up_log role received sent reported n low f = record {
+  acks = omega (arith, f.acks);
+  pongs = omega (arith, f.pongs);
+  processed = λ server none i active_is.
+      let was = f.processed server none i
+      (active_before role i [] [] received sent (UnprocessedEvent n ∷ []) reported active_is
+      (active_parts role i received sent (UnprocessedEvent n ∷ reported) active_is).opened) in
+      omega (arith, was);
+  clear = λ client i above.
+      let before = f.clear client i above in
+      let apart : n ≢ i = λ same. omega arith in
+      let unnamed : list_any (reports_unprocessed i) (UnprocessedEvent n ∷ reported) ≡ false =
+      rw (ne_eqb n i apart) before.unnamed in
+      assumption (unnamed, before);
+}
 
 -- A new end's log has it.
 begins_up_log : (role : Role) (values : Values) → IsUpLog (opened role values)
 unfolding opened with_sent reported_total total settings_count resets greatest_block
     reports_unprocessed
-begins_up_log role values =
-    record {
-      acks = omega arith;
-      pongs = omega arith;
-      processed = λ server none i active_is. absurd (both_ways false refl
-          ((ap (list_any (is_block_on i)) (sym (openings_server role [] _ server)))
-          ∙ (active_parts role i [] _ [] active_is).opened));
-      clear = λ client i above. assumption;
-    }
+begins_up_log role values = record {
+  acks = omega arith;
+  pongs = omega arith;
+  processed = λ server none i active_is. absurd (both_ways false refl
+      ((ap (list_any (is_block_on i)) (sym (openings_server role [] _ server)))
+      ∙ (active_parts role i [] _ [] active_is).opened));
+  clear = λ client i above. assumption;
+}
 
 -- Each change of a log keeps it, as long as the connection is up.
 up_kept : (role : Role) (values : Values)
     → IsPendingInvariant role values (λ events log. log.failed ≡ None → PendingUp events log)
 unfolding with_sent
-up_kept role values =
-    record {
-      opening = λ in_range up. begins_up_log role values;
-      used = λ log octets unparsed f. f;
-      framed = λ log frames f. f;
-      begun = λ log begun begins f. f;
-      complete = λ log f. f;
-      replied = λ log decoded item v replies f up.
-          replied_up_log log decoded item v replies.is replies.up
-          (f ((grows_wrote (read log decoded item) _).up up));
-      named = λ log is was some f up.
-          unprocessed_up_log log.role log.received log.sent log.reported (next_unprocessed log)
-          (next_low log) (f up);
-      reported = λ log event events may f. f;
-      unreturned = λ events log count f. f;
-      returned = λ events log returns f up.
-          up_log_more log.role log.received (alone (WindowUpdate 0 log.unreturned) ∷ []) log.sent
-          (events ++ log.reported) (f up);
-      failed = λ log code last names f up. let wrong : Some code ≡ None = up in cc;
-      sent = λ log act accepted f up.
-          let base = called log act (answer_of (log_view log) act) in
-          let g = grows_wrote base (items_of (log_view log) act (answer_of (log_view log) act)) in
-          up_log_grown base _ g (f (g.up up));
-      called = λ log act answer is none f. f;
-      given = λ log more f. f;
-    }
+up_kept role values = record {
+  opening = λ in_range up. begins_up_log role values;
+  used = λ log octets unparsed f. f;
+  framed = λ log frames f. f;
+  begun = λ log begun begins f. f;
+  complete = λ log f. f;
+  replied = λ log decoded item v replies f up.
+      replied_up_log log decoded item v replies.is replies.up
+      (f ((grows_wrote (read log decoded item) _).up up));
+  named = λ log is was some f up.
+      unprocessed_up_log log.role log.received log.sent log.reported (next_unprocessed log)
+      (next_low log) (f up);
+  reported = λ log event events may f. f;
+  unreturned = λ events log count f. f;
+  returned = λ events log returns f up.
+      up_log_more log.role log.received (alone (WindowUpdate 0 log.unreturned) ∷ []) log.sent
+      (events ++ log.reported) (f up);
+  failed = λ log code last names f up. let wrong : Some code ≡ None = up in cc;
+  sent = λ log act accepted f up.
+      let base = called log act (answer_of (log_view log) act) in
+      let g = grows_wrote base (items_of (log_view log) act (answer_of (log_view log) act)) in
+      up_log_grown base _ g (f (g.up up));
+  called = λ log act answer is none f. f;
+  given = λ log more f. f;
+}
 
 -- A log that hasn't failed is such a log.
 pub up_log_of : (role : Role) (values : Values) (log : Log) → IsLog role values log

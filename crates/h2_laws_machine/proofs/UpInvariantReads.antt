@@ -1,24 +1,17 @@
 -- What an item that is read keeps of what every log has, by its verdict.
-use Rattle.std.proofs.lemmas.Bool.{or_from}
-use Rattle.h2_spec_log.specs.ItemRules.{is_awaited_ping, verdict_of_fault}
-use Rattle.h2_laws_log.proofs.LogViewLemmas.{closed_by_us_is, events_unnamed}
-use Rattle.h2_laws_machine.proofs.Names.{◌≡◌, ℕ, ◌+◌, ◌≤◌, ◌<◌, Bool, true, false, if◌then◌else◌}
-use Rattle.h2_laws_machine.proofs.Names.{List, [], ◌∷◌, ◌++◌, Option, Some, None, refl, sym, ap}
-use Rattle.h2_laws_machine.proofs.Names.{subst, ◌∙◌, inl, inr, arith, list_any, both_ways, or_cases}
-use Rattle.h2_laws_machine.proofs.Names.{false_from_ne_true, ltb-true, eqb-true, ne_eqb, cases_eq}
-use Rattle.h2_laws_machine.proofs.Names.{Code, ProtocolError, Data, Reset, Settings, Ping, GoAway}
-use Rattle.h2_laws_machine.proofs.Names.{WindowUpdate, Item, alone, block, log_view, data_on}
-use Rattle.h2_laws_machine.proofs.Names.{increment_on, is_block_on, ends, resets, is_goaway}
-use Rattle.h2_laws_machine.proofs.Names.{is_goaway_below, one_ping, total, greatest_block}
-use Rattle.h2_laws_machine.proofs.Names.{stream_of_item, one_acked, one_pong, reported_total}
-use Rattle.h2_laws_machine.proofs.Names.{greatest_processed, processed_by, settings_count, State}
-use Rattle.h2_laws_machine.proofs.Names.{Idle, Active, ClosedByUs, is_above, is_closed_by_us, when}
-use Rattle.h2_laws_machine.proofs.Names.{Log, acked, state, ping_waits, newest_ping, Verdict}
-use Rattle.h2_laws_machine.proofs.Names.{ConnectionFault, StreamFault, NoEvent, Reported}
-use Rattle.h2_laws_machine.proofs.Names.{data_verdict, reset_verdict, update_verdict, block_verdict}
-use Rattle.h2_laws_machine.proofs.Names.{opening_verdict, Decoded, verdict_by_rules}
-use Rattle.h2_laws_machine.proofs.Names.{verdict_of_block, events_of, Role, Client, Server}
-use Rattle.h2_laws_machine.proofs.Names.{any_after, total_one, total_none, state_idle}
+use Rattle.h2_laws_machine.proofs.Names
+use Names.{◌≡◌, ℕ, ◌+◌, ◌≤◌, ◌<◌, Bool, true, false, if◌then◌else◌, List, [], ◌∷◌, ◌++◌, Option}
+use Names.{Some, None, refl, sym, ap, subst, ◌∙◌, inl, inr, arith, list_any, both_ways, or_cases}
+use Names.{false_from_ne_true, ltb-true, eqb-true, ne_eqb, cases_eq, Code, ProtocolError, Data}
+use Names.{Reset, Settings, Ping, GoAway, WindowUpdate, Item, alone, block, log_view, data_on}
+use Names.{increment_on, is_block_on, ends, resets, is_goaway, is_goaway_below, one_ping, total}
+use Names.{greatest_block, stream_of_item, one_acked, one_pong, reported_total, greatest_processed}
+use Names.{processed_by, settings_count, State, Idle, Active, ClosedByUs, is_above, is_closed_by_us}
+use Names.{when, Log, acked, state, ping_waits, newest_ping, Verdict, ConnectionFault, StreamFault}
+use Names.{NoEvent, Reported, data_verdict, reset_verdict, update_verdict, block_verdict}
+use Names.{opening_verdict, Decoded, verdict_by_rules, verdict_of_block, events_of, Role, Client}
+use Names.{Server, any_after, total_one, total_none, state_idle, or_from, is_awaited_ping}
+use Names.{verdict_of_fault, closed_by_us_is, events_unnamed}
 use Rattle.h2_laws_machine.proofs.UpInvariant.{IsUpLog, Reads, idle_above}
 
 -- Where a number is idle, at a client, a block on it is a fault of the connection.
@@ -196,21 +189,20 @@ pub item_reads : (log : Log) (decoded : Option Decoded) (v : Verdict) (item : It
     → ((code : Code) → v ≡ StreamFault code → list_any (resets (stream_of_item item)) news ≡ true)
     → IsUpLog log → Reads log.role log.received log.sent news log.reported
     (events_of (log_view log) decoded v item) item
-item_reads log decoded v item items news is line none reset f =
-    record {
-      acks = acks_of log decoded v item is f;
-      pongs = pongs_of log decoded v item is f;
-      processed = λ i here server stays kept active_is. active_processed log decoded v item items
-          news i is line none reset here stays kept;
-      clear = λ client i above.
-          let parts = unseen_item log decoded item i client above
-          (λ code fault. none code (sym is ∙ fault)) in
-          record {
-            ended = or_from (ends i item) false parts.0 refl;
-            reset = or_from (resets i item) false parts.1 refl;
-            given = total_one (increment_on i) item []
-                ∙ rw (parts.2, total_none (increment_on i)) refl;
-            no_data = total_one (data_on i) item [] ∙ rw (parts.3, total_none (data_on i)) refl;
-            unnamed = events_unnamed log decoded v item i;
-          };
-    }
+item_reads log decoded v item items news is line none reset f = record {
+  acks = acks_of log decoded v item is f;
+  pongs = pongs_of log decoded v item is f;
+  processed = λ i here server stays kept active_is. active_processed log decoded v item items
+      news i is line none reset here stays kept;
+  clear = λ client i above.
+      let parts = unseen_item log decoded item i client above
+      (λ code fault. none code (sym is ∙ fault)) in
+      record {
+        ended = or_from (ends i item) false parts.0 refl;
+        reset = or_from (resets i item) false parts.1 refl;
+        given = total_one (increment_on i) item []
+            ∙ rw (parts.2, total_none (increment_on i)) refl;
+        no_data = total_one (data_on i) item [] ∙ rw (parts.3, total_none (data_on i)) refl;
+        unnamed = events_unnamed log decoded v item i;
+      };
+}

@@ -1,20 +1,16 @@
 -- An end that represents a log and hasn't failed is viewed as the log is: every observation agrees.
 use Rattle.std.specs.FinMap as map
-use Rattle.h2_spec_log.specs.Limits.{max_frame_size_sent}
 use Rattle.h2_spec_log.specs.Log.{goaway_written}
-use Rattle.h2_laws_machine.proofs.Names.{◌≡◌, ℕ, ◌+◌, min, max, Bool, true, false, if◌then◌else◌}
-use Rattle.h2_laws_machine.proofs.Names.{List, length, pos, Option, Some, None, is_some, refl, ap}
-use Rattle.h2_laws_machine.proofs.Names.{sym, ◌∙◌, arith, ltb-false, ints, list_any, Item, Role}
-use Rattle.h2_laws_machine.proofs.Names.{Client, Server, resets, data_of, total, greatest_block}
-use Rattle.h2_laws_machine.proofs.Names.{Values, is_server, value_read, settings_count, openings}
-use Rattle.h2_laws_machine.proofs.Names.{when, window, given_on_connection, granted_on_connection}
-use Rattle.h2_laws_machine.proofs.Names.{Log, acked, active, waiting, next_number, max_streams}
-use Rattle.h2_laws_machine.proofs.Names.{active_count, last_processed, unreleased}
-use Rattle.h2_laws_machine.proofs.Names.{max_payload_sent_by, log_view, stream_of_log, StreamView}
-use Rattle.h2_laws_machine.proofs.Names.{View, End, end_view, stream_in, stream_at, number_after}
-use Rattle.h2_laws_machine.proofs.Names.{Streams, PeerSettings, OwnSettings, values_written}
-use Rattle.h2_laws_machine.proofs.Names.{RepresentsWhileUp, RepresentsPeer, RepresentsOwn, entry_by}
-use Rattle.h2_laws_machine.proofs.Names.{when_some, own_of_all}
+use Rattle.h2_laws_machine.proofs.Names
+use Names.{◌≡◌, ℕ, ◌+◌, min, max, Bool, true, false, if◌then◌else◌, List, length, pos, Option, Some}
+use Names.{None, is_some, refl, ap, sym, ◌∙◌, arith, ltb-false, ints, list_any, Item, Role, Client}
+use Names.{Server, resets, data_of, total, greatest_block, Values, is_server, value_read}
+use Names.{settings_count, openings, when, window, given_on_connection, granted_on_connection, Log}
+use Names.{acked, active, waiting, next_number, max_streams, active_count, last_processed}
+use Names.{unreleased, max_payload_sent_by, log_view, stream_of_log, StreamView, View, End}
+use Names.{end_view, stream_in, stream_at, number_after, Streams, PeerSettings, OwnSettings}
+use Names.{values_written, RepresentsWhileUp, RepresentsPeer, RepresentsOwn, entry_by, when_some}
+use Names.{own_of_all, max_frame_size_sent}
 use Rattle.h2_laws_machine.proofs.LogCore.{Core, active_by_items, said, core, StreamsOf}
 
 -- An entry has a stream where it is active.
@@ -103,8 +99,7 @@ views_agree e log role failed waits streams run =
     (granted_on_connection log.sent) run.windows.recv in
     let goaway : is_some e.goaway.sent ≡ goaway_written log = ap is_some run.goaway.last_sent
     ∙ when_some _ _ in
-    λ i.
-    record {
+    λ i. record {
       role = role i;
       failed = failed i;
       started = run.started i;

@@ -3,13 +3,12 @@
 -- of them.
 use Rattle.h2_spec_log.proofs.SentPayloads.{alone_alike}
 use Rattle.h2_spec_machine.specs.Represents.{RepresentsOutput}
-use Rattle.h2_laws_machine.proofs.Names.{◌≡◌, ℕ, ◌+◌, List, [], ◌∷◌, ◌++◌, length, Option, Some}
-use Rattle.h2_laws_machine.proofs.Names.{refl, ap, sym, ◌∙◌, arith, append-nil, length-append}
-use Rattle.h2_laws_machine.proofs.Names.{length-drop, drop-append-le, Code, code_number, Frame}
-use Rattle.h2_laws_machine.proofs.Names.{GoAway, WindowUpdate, Item, alone, Role, encoding_of_items}
-use Rattle.h2_laws_machine.proofs.Names.{Event, Log, waiting, output, max_payload_sent, with_sent}
-use Rattle.h2_laws_machine.proofs.Names.{with_reported, with_failure, with_credit_returned, End}
-use Rattle.h2_laws_machine.proofs.Names.{end_view, queue_output, Values, Represents}
+use Rattle.h2_laws_machine.proofs.Names
+use Names.{◌≡◌, ℕ, ◌+◌, List, [], ◌∷◌, ◌++◌, length, Option, Some, refl, ap, sym, ◌∙◌, arith}
+use Names.{append-nil, length-append, length-drop, drop-append-le, Code, code_number, Frame, GoAway}
+use Names.{WindowUpdate, Item, alone, Role, encoding_of_items, Event, Log, waiting, output}
+use Names.{max_payload_sent, with_sent, with_reported, with_failure, with_credit_returned, End}
+use Names.{end_view, queue_output, Values, Represents}
 
 -- An end's role, whether it has failed, and what waits, are these of a log.
 pub record SameConnection (role log_role : Role) (failed log_failed : Option Code)
@@ -39,12 +38,11 @@ waits_of values e log s = record { same_role = s.role; same_failed = s.failed; o
 output_more : (octets : List ℕ) (given : ℕ) (written more : List ℕ)
     → RepresentsOutput octets given written → RepresentsOutput (octets ++ more) given (written ++
     more)
-output_more octets given written more s =
-    record {
-      waiting = ap (λ (xs : List ℕ). xs ++ more) s.waiting
-          ∙ sym (drop-append-le given written more s.given);
-      given = omega (arith, s.given, length-append written more);
-    }
+output_more octets given written more s = record {
+  waiting = ap (λ (xs : List ℕ). xs ++ more) s.waiting
+      ∙ sym (drop-append-le given written more s.given);
+  given = omega (arith, s.given, length-append written more);
+}
 
 -- So do items, where the end has the log's greatest payload.
 pub wrote_output : (e : End) (log : Log) (items : List Item)
@@ -73,13 +71,12 @@ pub wrote_connection : (role : Role) (failed : Option Code) (waits : List ℕ) (
     → ConnectionFacts role failed (waits ++ encoding_of_items most (alone frame ∷ []))
     (with_sent log (alone frame ∷ []))
 unfolding with_sent
-wrote_connection role failed waits log most frame s =
-    record {
-      same_role = s.same_role;
-      same_failed = s.same_failed;
-      output = rw (alone_alike most (max_payload_sent log) frame) (output_more waits log.given
-          log.written (encoding_of_items (max_payload_sent log) (alone frame ∷ [])) s.output);
-    }
+wrote_connection role failed waits log most frame s = record {
+  same_role = s.same_role;
+  same_failed = s.same_failed;
+  output = rw (alone_alike most (max_payload_sent log) frame) (output_more waits log.given
+      log.written (encoding_of_items (max_payload_sent log) (alone frame ∷ [])) s.output);
+}
 
 -- Where the connection fails, GOAWAY waits.
 pub fails_connection : (role : Role) (failed : Option Code) (waits : List ℕ) (log : Log)

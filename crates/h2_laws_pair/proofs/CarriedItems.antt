@@ -1,12 +1,11 @@
 -- The items that one end has received are the first of those that the other has sent, and lie in
 -- the octets that this one has given out.
-use Rattle.h2_laws_pair.proofs.Names.{◌≡◌, ◌⊎◌, inl, inr, ℕ, List, [], ◌++◌, take, drop, None, sym}
-use Rattle.h2_laws_pair.proofs.Names.{refl, ap, ◌∙◌, append_assoc, append-nil, ◌≤◌, length, not}
-use Rattle.h2_laws_pair.proofs.Names.{arith, subst, length-append, take-append-drop, Item, Role}
-use Rattle.h2_laws_pair.proofs.Names.{Values, Log, with_sent, opened, grows_call, Half, HalfStep}
-use Rattle.h2_laws_pair.proofs.Names.{calls, takes, loses, IsPair, AreUnderWay, expected_preface}
-use Rattle.h2_laws_pair.proofs.Names.{is_server, stream_of_log}
 use Rattle.std.proofs.Common.{length-take}
+use Rattle.h2_laws_pair.proofs.Names
+use Names.{◌≡◌, ◌⊎◌, inl, inr, ℕ, List, [], ◌++◌, take, drop, None, sym, refl, ap, ◌∙◌}
+use Names.{append_assoc, append-nil, ◌≤◌, length, not, arith, subst, length-append}
+use Names.{take-append-drop, Item, Role, Values, Log, with_sent, opened, grows_call, Half, HalfStep}
+use Names.{calls, takes, loses, IsPair, AreUnderWay, expected_preface, is_server, stream_of_log}
 use Rattle.h2_laws_pair.proofs.LogOutput.{gives_call, Gives, gives_reads}
 use Rattle.h2_laws_pair.proofs.StepsOfLogs.{step_up, step_holds}
 use Rattle.h2_laws_pair.proofs.BothWays.{AreEnds, IsDirection, to_server, to_client, ends_of}
@@ -49,29 +48,27 @@ lie_more preceding count more payloads items few (inr fits) = inr (omega (arith,
 lie_given : (preceding count more : ℕ) (payloads : List ℕ) (way received : List Item)
     → count ≤ more → ReceivedLie preceding count payloads way received
     → ReceivedLie preceding more payloads way received
-lie_given preceding count more payloads way received few are =
-    record {
-      news = are.news;
-      olds = are.olds;
-      paid = are.paid;
-      each_one = are.each_one;
-      within = lie_more preceding count more are.olds received few are.within;
-    }
+lie_given preceding count more payloads way received few are = record {
+  news = are.news;
+  olds = are.olds;
+  paid = are.paid;
+  each_one = are.each_one;
+  within = lie_more preceding count more are.olds received few are.within;
+}
 
 -- and where more is sent as well.
 lie_sent : (old new : Log) (gives : Gives old new) (way received same : List Item)
     → new.role ≡ old.role → same ≡ received
     → ReceivedLie (before old.role) old.given old.payloads way received
     → ReceivedLie (before new.role) new.given new.payloads (gives.items ++ way) same
-lie_sent old new gives way received same role is are =
-    record {
-      news = gives.payloads ++ are.news;
-      olds = are.olds;
-      paid = rw (gives.paid, are.paid, append_assoc) refl;
-      each_one = omega (arith, length-append {A = ℕ}, length-append {A = Item});
-      within = rw (role, is)
-          (lie_more _ old.given new.given are.olds received gives.given are.within);
-    }
+lie_sent old new gives way received same role is are = record {
+  news = gives.payloads ++ are.news;
+  olds = are.olds;
+  paid = rw (gives.paid, are.paid, append_assoc) refl;
+  each_one = omega (arith, length-append {A = ℕ}, length-append {A = Item});
+  within = rw (role, is)
+      (lie_more _ old.given new.given are.olds received gives.given are.within);
+}
 
 -- Between ends whose reader is up it is so by the octets.
 up_carries : (writer reader : Half) → IsDirection writer reader → reader.log.failed ≡ None
@@ -146,8 +143,7 @@ reader_carries writer reader {new_writer} {new_reader} is now step carries =
             (λ log. AreUnderWay log new_reader.log carries.way) (rw same carries.under_way);
         lie = other_same reader writer step
             (λ log. ReceivedLie (before log.role) log.given log.payloads carries.way
-            new_reader.log.received)
-            (rw same carries.lie);
+            new_reader.log.received) (rw same carries.lie);
       }
       | inr up ↦ up_carries new_writer new_reader now up
     ]
@@ -156,18 +152,17 @@ reader_carries writer reader {new_writer} {new_reader} is now step carries =
 new_carries : (role other : Role) (values others : Values)
     → Carries (new_half role values) (new_half other others)
 unfolding opened with_sent
-new_carries role other values others =
-    record {
-      way = (opened role values).sent;
-      under_way = sym (append-nil (opened role values).sent);
-      lie = record {
-        news = (opened role values).payloads;
-        olds = [];
-        paid = sym (append-nil (opened role values).payloads);
-        each_one = refl;
-        within = inl refl;
-      };
-    }
+new_carries role other values others = record {
+  way = (opened role values).sent;
+  under_way = sym (append-nil (opened role values).sent);
+  lie = record {
+    news = (opened role values).payloads;
+    olds = [];
+    paid = sym (append-nil (opened role values).payloads);
+    each_one = refl;
+    within = inl refl;
+  };
+}
 
 -- It is so in each direction of every pair.
 carries_is_kept : IsKept Carries

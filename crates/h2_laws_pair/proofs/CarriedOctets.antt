@@ -45,13 +45,12 @@ writer_carries writer reader is now (calls act answer typed may) before =
           (given_since writer.log after) (given_out writer.log) before.carried ∙ sym more;
       none_lost = before.none_lost;
     }
-writer_carries writer reader is now (takes step rest may none came) before =
-    record {
-      carried = before.carried ∙ sym (given_same writer.log (log_after writer.log step)
-          (given_within _ _ writer.log (ends_of writer reader is).writer_log)
-          (step_adds writer.log step none));
-      none_lost = before.none_lost;
-    }
+writer_carries writer reader is now (takes step rest may none came) before = record {
+  carried = before.carried ∙ sym (given_same writer.log (log_after writer.log step)
+      (given_within _ _ writer.log (ends_of writer reader is).writer_log)
+      (step_adds writer.log step none));
+  none_lost = before.none_lost;
+}
 writer_carries writer reader is now (loses octets rest failed came) before =
     record { carried = before.carried; none_lost = before.none_lost }
 
@@ -86,12 +85,11 @@ reader_carries writer reader is now (takes step rest may none came) before =
           (given_out writer.log) lost came before.carried);
       none_lost = λ up. lost;
     }
-reader_carries writer reader is now (loses octets rest failed came) before =
-    record {
-      carried = lost_joined reader.log.input reader.lost reader.incoming octets rest
-          (given_out writer.log) came before.carried;
-      none_lost = λ up. absurd (failed up);
-    }
+reader_carries writer reader is now (loses octets rest failed came) before = record {
+  carried = lost_joined reader.log.input reader.lost reader.incoming octets rest
+      (given_out writer.log) came before.carried;
+  none_lost = λ up. absurd (failed up);
+}
 
 -- New ends.
 new_carries : (role other : Role) (values others : Values)

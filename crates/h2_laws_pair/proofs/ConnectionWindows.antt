@@ -32,5 +32,4 @@ connection_conserved writer reader way back bound ends up sent returned below =
     (connection_meets received writer.log.sent reader.log.received reader.log.sent way back sent
     returned)
     ∙ window_of_a_log ends.reader_values machine.0 reader.log bound machine.1
-    (machine.1.failed ∙ up)
-    (below_of ends.reader_values machine.0 reader.log bound machine.1 below)
+    (machine.1.failed ∙ up) (below_of ends.reader_values machine.0 reader.log bound machine.1 below)

@@ -52,21 +52,19 @@ pub clean_sent : (log : Log) (items : List Item) → AllByRecursion (IsAsked log
     → LogIsClean log → LogIsClean (with_sent log items)
 unfolding with_sent
 clean_sent log [] asked clean = clean
-clean_sent log (item ∷ items) asked clean =
-    record {
-      up = clean.up;
-      heard = clean.heard;
-      asked = all_both (IsAsked log.calls) (item ∷ items) log.sent asked clean.asked;
-    }
+clean_sent log (item ∷ items) asked clean = record {
+  up = clean.up;
+  heard = clean.heard;
+  asked = all_both (IsAsked log.calls) (item ∷ items) log.sent asked clean.asked;
+}
 
 -- Credit keeps it.
 pub clean_credit : IsKeptByCredit LogIsClean
 unfolding IsAsked
-clean_credit =
-    record {
-      unreturned = λ log count clean. clean;
-      returned = λ log returns. clean_sent (record log { unreturned = 0 }) _ (tt, tt);
-    }
+clean_credit = record {
+  unreturned = λ log count clean. clean;
+  returned = λ log returns. clean_sent (record log { unreturned = 0 }) _ (tt, tt);
+}
 
 -- What is due is returned, or not.
 pub clean_unreturned : (more : ℕ) (log : Log) → LogIsClean log
@@ -79,9 +77,8 @@ pub clean_reported : (log : Log) (events : List Event)
     → LogIsClean (with_reported log events)
 unfolding with_reported
 clean_reported log [] heard clean = clean
-clean_reported log (event ∷ events) heard clean =
-    record {
-      up = clean.up;
-      heard = all_both (IsHeard log.received) (event ∷ events) log.reported heard clean.heard;
-      asked = clean.asked;
-    }
+clean_reported log (event ∷ events) heard clean = record {
+  up = clean.up;
+  heard = all_both (IsHeard log.received) (event ∷ events) log.reported heard clean.heard;
+  asked = clean.asked;
+}

@@ -1,10 +1,9 @@
 -- A call that leaves an end up keeps it without faults: each reset that it writes was asked for.
-use Rattle.h2_laws_pair.proofs.Names.{◌≢◌, inl, inr, List, ◌∷◌, sym, ◌∙◌, AllByRecursion, Code}
-use Rattle.h2_laws_pair.proofs.Names.{none_some, Act, Answer, SendData, Release, ResetStream}
-use Rattle.h2_laws_pair.proofs.Names.{Refuse, PutOut, Done, OutOfMemory, Log, log_view, View}
-use Rattle.h2_laws_pair.proofs.Names.{ended_in, answer_of, items_of, called, with_call, MayAnswer}
-use Rattle.h2_laws_pair.proofs.Names.{LeavesUp}
 use Rattle.h2_laws_log.proofs.LogInduction.{kept_by_call, FailsWith, out_of_memory, refusal_fails}
+use Rattle.h2_laws_pair.proofs.Names
+use Names.{◌≢◌, inl, inr, List, ◌∷◌, sym, ◌∙◌, AllByRecursion, Code, none_some, Act, Answer}
+use Names.{SendData, Release, ResetStream, Refuse, PutOut, Done, OutOfMemory, Log, log_view, View}
+use Names.{ended_in, answer_of, items_of, called, with_call, MayAnswer, LeavesUp}
 use Rattle.h2_laws_pair.proofs.DataItems.{data_all, updates_all}
 use Rattle.h2_laws_pair.proofs.Lists.{all_mapped, first_in}
 use Rattle.h2_laws_pair.proofs.FaultsInvariant.{IsAsked, asked_later, LogIsClean, clean_sent}
@@ -28,13 +27,12 @@ items_asked view act calls = (tt, tt)
 -- What was asked for stays so where a call is added.
 called_clean : (log : Log) (act : Act) (answer : Answer) → LogIsClean log
     → LogIsClean (called log act answer)
-called_clean log act answer clean =
-    record {
-      up = clean.up;
-      heard = clean.heard;
-      asked = all_mapped (IsAsked log.calls) (IsAsked ((act, answer) ∷ log.calls)) log.sent
-          (asked_later (act, answer) log.calls) clean.asked;
-    }
+called_clean log act answer clean = record {
+  up = clean.up;
+  heard = clean.heard;
+  asked = all_mapped (IsAsked log.calls) (IsAsked ((act, answer) ∷ log.calls)) log.sent
+      (asked_later (act, answer) log.calls) clean.asked;
+}
 
 -- A call that fails either runs out of memory or doesn't leave the end up.
 no_failure : (log : Log) (act : Act) (answer : Answer) (code : Code)
@@ -52,8 +50,7 @@ call_clean log act answer may memory up =
       credit = clean_credit;
       given = λ next more clean. clean;
       failed = λ other code fails was. absurd (no_failure log act answer code fails memory up);
-      sent = λ none stays clean.
-          clean_sent (called log act (answer_of (log_view log) act)) _
+      sent = λ none stays clean. clean_sent (called log act (answer_of (log_view log) act)) _
           (items_asked (log_view log) act log.calls) (called_clean log act _ clean);
       called = λ other writes. called_clean log act other;
     }) may

@@ -1,21 +1,19 @@
 -- The frames that an end of a pair reads group: a frame that it completes is the next of the items
 -- that the other has written.
-use Rattle.h2_laws_pair.proofs.Names.{◌≡◌, ℕ, ◌==◌, not, ◌&&◌, Bool, true, false, if◌then◌else◌}
-use Rattle.h2_laws_pair.proofs.Names.{List, [], ◌∷◌, ◌++◌, length, Option, Some, None, refl, sym}
-use Rattle.h2_laws_pair.proofs.Names.{ap, ◌∙◌, arith, both_ways, ne_eqb, Frame, Headers, Settings}
-use Rattle.h2_laws_pair.proofs.Names.{Continuation, Item, alone, block, Begun, Groups, next_fault}
-use Rattle.h2_laws_pair.proofs.Names.{fault_outside, fault_inside, one_grouping_lem, Role, Values}
-use Rattle.h2_laws_pair.proofs.Names.{AllowedHistory, starts, reads, writes, opening_pairs, Log}
-use Rattle.h2_laws_pair.proofs.Names.{log_view, FrameStep, fails_with, begins_block, completes}
-use Rattle.h2_laws_pair.proofs.Names.{frame_step, IsLog, AreSendable, frames_of_item, frames_by}
-use Rattle.h2_laws_pair.proofs.Names.{oldest_first, written_is_allowed, items_grouped, groups_now}
-use Rattle.h2_laws_pair.proofs.Names.{prefix_grouped, output_grouped, written_sendable_by}
 use Rattle.h2_frame.specs.declared.code.Code.TheVariants.{ProtocolError}
 use Rattle.h2_block.specs.declared.fault.BlockFault.{BlockFault}
 use Rattle.h2_block.specs.declared.fault.BlockFault.TheVariants.{Interrupted, Stray}
 use Rattle.h2_block.proofs.GroupLemmas.{step_items, step_begun, none_some, Groups-step}
 use Rattle.h2_block.proofs.RunLemmas.{no_grouping_lem}
 use Rattle.h2_spec_log.specs.ItemRules.{grouping_step, grouped, may_be_first}
+use Rattle.h2_laws_pair.proofs.Names
+use Names.{◌≡◌, ℕ, ◌==◌, not, ◌&&◌, Bool, true, false, if◌then◌else◌, List, [], ◌∷◌, ◌++◌, length}
+use Names.{Option, Some, None, refl, sym, ap, ◌∙◌, arith, both_ways, ne_eqb, Frame, Headers}
+use Names.{Settings, Continuation, Item, alone, block, Begun, Groups, next_fault, fault_outside}
+use Names.{fault_inside, one_grouping_lem, Role, Values, AllowedHistory, starts, reads, writes}
+use Names.{opening_pairs, Log, log_view, FrameStep, fails_with, begins_block, completes, frame_step}
+use Names.{IsLog, AreSendable, frames_of_item, frames_by, oldest_first, written_is_allowed}
+use Names.{items_grouped, groups_now, prefix_grouped, output_grouped, written_sendable_by}
 use Rattle.h2_laws_pair.proofs.ItemsRead.{newest_before}
 use Rattle.h2_laws_pair.proofs.FaultsOfWire.{NextFrame}
 
@@ -29,12 +27,11 @@ pub record BeginsWithSettings (frames : List Frame) : Type 0 where
 settings_still : (most : ℕ) (payloads : List ℕ) (item : Item) (sent : List Item)
     → BeginsWithSettings (frames_by payloads sent)
     → BeginsWithSettings (frames_by (most ∷ payloads) (item ∷ sent))
-settings_still most payloads item sent before =
-    record {
-      pairs = before.pairs;
-      others = before.others ++ frames_of_item most item;
-      first = ap (λ (frames : List Frame). frames ++ frames_of_item most item) before.first;
-    }
+settings_still most payloads item sent before = record {
+  pairs = before.pairs;
+  others = before.others ++ frames_of_item most item;
+  first = ap (λ (frames : List Frame). frames ++ frames_of_item most item) before.first;
+}
 
 -- Whatever the greatest payloads are with which the items can be sent.
 settings_first : (role : Role) (received sent : List Item) (payloads : List ℕ)
@@ -50,8 +47,7 @@ settings_first role _ sent payloads (reads {received = received} item before) se
 settings_first role received _ [] (writes {sent = sent} item before allowed) sendable =
     absurd sendable
 settings_first role received _ (most ∷ payloads) (writes {sent = sent} item before allowed)
-    sendable =
-    settings_still most payloads item sent
+    sendable = settings_still most payloads item sent
     (settings_first role received sent payloads before sendable.1)
 
 -- SETTINGS may come first.
@@ -149,7 +145,5 @@ step_is_next role other values others writer reader frame wrote came up next =
     test_next writer reader _ _ (order_kept reader.frames frame next.later _
     (settings_first role writer.received writer.sent writer.payloads
     (written_is_allowed role values writer wrote) (written_sendable_by role values writer wrote))
-    next.frames)
-    (fault_next writer reader frame next.later (next_fault reader.begun frame) refl
-    (groups_now reader (items_grouped other others reader came) up)
-    (rw next.frames at all))
+    next.frames) (fault_next writer reader frame next.later (next_fault reader.begun frame) refl
+    (groups_now reader (items_grouped other others reader came) up) (rw next.frames at all))

@@ -1,13 +1,5 @@
 -- An item that comes next of those that the other end has written is no fault: its blocks decode,
 -- and what may be written is no fault for its reader.
-use Rattle.h2_laws_pair.proofs.Names.{◌≡◌, inl, inr, ℕ, ◌≤◌, Bool, true, false, List, [], ◌∷◌, ◌++◌}
-use Rattle.h2_laws_pair.proofs.Names.{Option, Some, None, refl, ap, append_assoc, Contains}
-use Rattle.h2_laws_pair.proofs.Names.{list_any, Field, list_size, one_block_lem, Code, Item, alone}
-use Rattle.h2_laws_pair.proofs.Names.{block, Role, Client, total, is_goaway_below, max_list}
-use Rattle.h2_laws_pair.proofs.Names.{one_ack, peer_of, Log, acked, log_view, is_fault, Decoded}
-use Rattle.h2_laws_pair.proofs.Names.{completes, verdict_by_rules, IsDecoded, IsDecodedIn}
-use Rattle.h2_laws_pair.proofs.Names.{table_limit, AllowedHistory, lists_accepted}
-use Rattle.h2_laws_pair.proofs.Names.{HeaderTablesInStep, verdict_of_fault}
 use Rattle.std.proofs.lemmas.List.Elements.{Contains-append_left, Contains-push}
 use Rattle.h2_spec_log.specs.Events.{reports_unprocessed}
 use Rattle.h2_spec_log.specs.Allowed.{IsOpening}
@@ -16,6 +8,12 @@ use Rattle.h2_laws_log.proofs.AcceptedSettings.{first_settings_lem}
 use Rattle.h2_laws_log.proofs.AcceptedWrites.{written_lem}
 use Rattle.h2_laws_log.proofs.AllowedHistories.{origin_lem}
 use Rattle.h2_laws_log.proofs.InvariantSends.{client_since}
+use Rattle.h2_laws_pair.proofs.Names
+use Names.{◌≡◌, inl, inr, ℕ, ◌≤◌, Bool, true, false, List, [], ◌∷◌, ◌++◌, Option, Some, None, refl}
+use Names.{ap, append_assoc, Contains, list_any, Field, list_size, one_block_lem, Code, Item, alone}
+use Names.{block, Role, Client, total, is_goaway_below, max_list, one_ack, peer_of, Log, acked}
+use Names.{log_view, is_fault, Decoded, completes, verdict_by_rules, IsDecoded, IsDecodedIn}
+use Names.{table_limit, AllowedHistory, lists_accepted, HeaderTablesInStep, verdict_of_fault}
 use Rattle.h2_laws_pair.proofs.NamedUnprocessed.{IsNamed}
 use Rattle.h2_laws_pair.proofs.HeardLists.{OldestList, oldest_list}
 

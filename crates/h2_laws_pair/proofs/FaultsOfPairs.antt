@@ -1,19 +1,16 @@
 -- Neither end of an undisturbed pair faults.
-use Rattle.h2_laws_pair.proofs.Names.{◌≡◌, ◌≢◌, ℕ, not, true, false, List, [], ◌∷◌, ◌++◌, drop}
-use Rattle.h2_laws_pair.proofs.Names.{Option, None, refl, sym, ◌∙◌, append_assoc, both_ways, Frame}
-use Rattle.h2_laws_pair.proofs.Names.{Reset, alone, Role, Client, Server, Values, AllowedHistory}
-use Rattle.h2_laws_pair.proofs.Names.{Event, ResetEvent, max_frame_size_sent, is_server, peer_of}
-use Rattle.h2_laws_pair.proofs.Names.{Log, waiting, output, log_view, used, with_sent}
-use Rattle.h2_laws_pair.proofs.Names.{with_unreturned, with_frame, took_none, opened, Decoded}
-use Rattle.h2_laws_pair.proofs.Names.{FrameStep, fails_with, begins_block, completes, frame_step}
-use Rattle.h2_laws_pair.proofs.Names.{IsDecodedIn, stream_of_log, IsSendable, written_is_allowed}
-use Rattle.h2_laws_pair.proofs.Names.{lists_accepted, written_sendable, uses_part, ends_frame}
-use Rattle.h2_laws_pair.proofs.Names.{meets_fault, runs_out_of_memory, reports_unprocessed}
-use Rattle.h2_laws_pair.proofs.Names.{is_called, MachineStep, MayStep, log_after, Half, HalfStep}
-use Rattle.h2_laws_pair.proofs.Names.{calls, takes, loses, IsPair, begins, client_steps}
-use Rattle.h2_laws_pair.proofs.Names.{server_steps, octets_used, IsUndisturbedStep, IsUndisturbed}
 use Rattle.std.proofs.lemmas.List.Elements.{Contains-append_right}
 use Rattle.h2_laws_pair.specs.Undisturbed.{IsFaultless}
+use Rattle.h2_laws_pair.proofs.Names
+use Names.{◌≡◌, ◌≢◌, ℕ, not, true, false, List, [], ◌∷◌, ◌++◌, drop, Option, None, refl, sym, ◌∙◌}
+use Names.{append_assoc, both_ways, Frame, Reset, alone, Role, Client, Server, Values}
+use Names.{AllowedHistory, Event, ResetEvent, max_frame_size_sent, is_server, peer_of, Log, waiting}
+use Names.{output, log_view, used, with_sent, with_unreturned, with_frame, took_none, opened}
+use Names.{Decoded, FrameStep, fails_with, begins_block, completes, frame_step, IsDecodedIn}
+use Names.{stream_of_log, IsSendable, written_is_allowed, lists_accepted, written_sendable}
+use Names.{uses_part, ends_frame, meets_fault, runs_out_of_memory, reports_unprocessed, is_called}
+use Names.{MachineStep, MayStep, log_after, Half, HalfStep, calls, takes, loses, IsPair, begins}
+use Names.{client_steps, server_steps, octets_used, IsUndisturbedStep, IsUndisturbed}
 use Rattle.h2_laws_pair.proofs.PairLogs.{other_same}
 use Rattle.h2_laws_pair.proofs.StepsOfLogs.{IsNoCall}
 use Rattle.h2_laws_pair.proofs.BothWays.{IsDirection, to_server, to_client, ends_of, back_of}
@@ -67,8 +64,7 @@ step_sound writer reader is up octets frame decoded (completes item) (newer, lin
       item_sound ends.writer_role writer.log ready newer back.0 item decoded
           (written_is_allowed _ _ writer.log ends.writer_log) line back.1
           (reader_role ∙ peers ends.writer_role ends.reader_role ends.opposite) history
-          (in_step writer reader is).awaited (log_named _ _ reader.log ends.reader_log)
-          decodable,
+          (in_step writer reader is).awaited (log_named _ _ reader.log ends.reader_log) decodable,
       (all_older (IsSendable max_frame_size_sent) newer (item ∷ reader.log.received)
           (rw line at (written_sendable _ _ writer.log ends.writer_log))).0,
       waiting_is_bounded reader writer (back_of writer reader is) up,
@@ -144,11 +140,10 @@ pub pair_clean : (client_values server_values : Values) (client server : Half)
     (pair : IsPair client_values server_values client server) → IsUndisturbed pair
     → AreClean client server
 unfolding IsUndisturbed
-pair_clean client_values server_values _ _ (begins in_range others_in_range) calm =
-    record {
-      client_clean = opened_clean Client client_values;
-      server_clean = opened_clean Server server_values;
-    }
+pair_clean client_values server_values _ _ (begins in_range others_in_range) calm = record {
+  client_clean = opened_clean Client client_values;
+  server_clean = opened_clean Server server_values;
+}
 pair_clean client_values server_values _ _
     (client_steps {client = client} {server = server} is step) (before, now) =
     let clean = pair_clean client_values server_values client server is before in

@@ -1,20 +1,17 @@
 -- An item that is no fault keeps an end without faults, whatever waits of its output within the
 -- bound of a pair.
-use Rattle.h2_laws_pair.proofs.Names.{◌≡◌, ℕ, ◌+◌, ◌≤◌, nat_lt, ◌&&◌, Bool, true, false}
-use Rattle.h2_laws_pair.proofs.Names.{if◌then◌else◌, List, [], ◌∷◌, Option, None, refl, ap, ◌∙◌}
-use Rattle.h2_laws_pair.proofs.Names.{arith, inl, inr, AllByRecursion, both_ways, le-ltb, Code}
-use Rattle.h2_laws_pair.proofs.Names.{Reset, Settings, Ping, Item, alone, Act, Answer}
-use Rattle.h2_laws_pair.proofs.Names.{encoding_of_items, max_frame_size_sent, Log, waiting}
-use Rattle.h2_laws_pair.proofs.Names.{log_view, View, Verdict, ConnectionFault, StreamFault}
-use Rattle.h2_laws_pair.proofs.Names.{NoEvent, Reported, is_fault, Decoded, replies_to}
-use Rattle.h2_laws_pair.proofs.Names.{verdict_by_rules, verdict_of, FrameStep, fails_with}
-use Rattle.h2_laws_pair.proofs.Names.{begins_block, completes, events_of, read, with_sent}
-use Rattle.h2_laws_pair.proofs.Names.{with_unreturned, with_step, IsSendable, grows_wrote}
-use Rattle.h2_laws_pair.proofs.Names.{grows_with_unreturned, rules}
 use Rattle.h2_frame.specs.declared.code.Code.TheVariants.{EnhanceYourCalm}
 use Rattle.h2_spec_log.specs.Limits.{max_output}
 use Rattle.h2_spec_log.specs.ItemRules.{over_limits}
 use Rattle.h2_laws_log.proofs.ItemSizes.{size_of, size-ack, size-ping}
+use Rattle.h2_laws_pair.proofs.Names
+use Names.{◌≡◌, ℕ, ◌+◌, ◌≤◌, nat_lt, ◌&&◌, Bool, true, false, if◌then◌else◌, List, [], ◌∷◌, Option}
+use Names.{None, refl, ap, ◌∙◌, arith, inl, inr, AllByRecursion, both_ways, le-ltb, Code, Reset}
+use Names.{Settings, Ping, Item, alone, Act, Answer, encoding_of_items, max_frame_size_sent, Log}
+use Names.{waiting, log_view, View, Verdict, ConnectionFault, StreamFault, NoEvent, Reported}
+use Names.{is_fault, Decoded, replies_to, verdict_by_rules, verdict_of, FrameStep, fails_with}
+use Names.{begins_block, completes, events_of, read, with_sent, with_unreturned, with_step}
+use Names.{IsSendable, grows_wrote, grows_with_unreturned, rules}
 use Rattle.h2_laws_pair.proofs.Lists.{all_mapped, first_in}
 use Rattle.h2_laws_pair.proofs.FrameSteps.{FailsBy, with_item, kept_by_step}
 use Rattle.h2_laws_pair.proofs.FaultsInvariant.{IsAsked, IsHeard, heard_later, LogIsClean}

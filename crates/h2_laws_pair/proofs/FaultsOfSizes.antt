@@ -1,17 +1,5 @@
 -- What an end may read is no less than what its peer sends: the limit of an end covers each frame
 -- of the peer's that it has not read yet.
-use Rattle.h2_laws_pair.proofs.Names.{◌≡◌, inl, inr, ℕ, zero, suc, ◌+◌, ◌-◌, ◌≤◌, ◌<◌, ◌^◌, false}
-use Rattle.h2_laws_pair.proofs.Names.{List, [], ◌∷◌, ◌++◌, length, Option, None, refl, sym, ap, ◌∙◌}
-use Rattle.h2_laws_pair.proofs.Names.{subst, arith, append_assoc, length-append, AllByRecursion}
-use Rattle.h2_laws_pair.proofs.Names.{cases_lt, Frame, Settings, Item, alone, block, Begun, Groups}
-use Rattle.h2_laws_pair.proofs.Names.{one_grouping_lem, Role, AllowedHistory, Allowed, starts}
-use Rattle.h2_laws_pair.proofs.Names.{reads, writes, opening_pairs, total, max_frame_size_sent}
-use Rattle.h2_laws_pair.proofs.Names.{acked, max_payload_sent_by, value_read, one_ack}
-use Rattle.h2_laws_pair.proofs.Names.{settings_count, own_value, payload_limit, IsSendable}
-use Rattle.h2_laws_pair.proofs.Names.{AreSendable, frames_of_item, frames_by, oldest_first}
-use Rattle.h2_laws_pair.proofs.Names.{written_is_allowed, settings_append, written_by_payloads}
-use Rattle.h2_laws_pair.proofs.Names.{total-append, items_grouped, groups_now, prefix_grouped}
-use Rattle.h2_laws_pair.proofs.Names.{overlap, written_sendable_by, payloads_may, IsPayload, Half}
 use Rattle.h2_laws_log.proofs.SettingsLists.{settings_or, value_kept, value_changed, own_next}
 use Rattle.h2_laws_log.proofs.SettingsLists.{own_of_all, own_older, count_next, count_none}
 use Rattle.h2_laws_log.proofs.SettingsLists.{opening_frame, changed_frame}
@@ -21,6 +9,16 @@ use Rattle.h2_block.proofs.SpreadLemmas.{spread_writable}
 use Rattle.h2_spec_log.specs.Settings.{greatest_from}
 use Rattle.h2_laws_log.proofs.OutputRead.{IsShort, items_grouped_by}
 use Rattle.h2_laws_log.proofs.PayloadOrigins.{PayloadOrigin, payload_origin}
+use Rattle.h2_laws_pair.proofs.Names
+use Names.{◌≡◌, inl, inr, ℕ, zero, suc, ◌+◌, ◌-◌, ◌≤◌, ◌<◌, ◌^◌, false, List, [], ◌∷◌, ◌++◌, length}
+use Names.{Option, None, refl, sym, ap, ◌∙◌, subst, arith, append_assoc, length-append}
+use Names.{AllByRecursion, cases_lt, Frame, Settings, Item, alone, block, Begun, Groups}
+use Names.{one_grouping_lem, Role, AllowedHistory, Allowed, starts, reads, writes, opening_pairs}
+use Names.{total, max_frame_size_sent, acked, max_payload_sent_by, value_read, one_ack}
+use Names.{settings_count, own_value, payload_limit, IsSendable, AreSendable, frames_of_item}
+use Names.{frames_by, oldest_first, written_is_allowed, settings_append, written_by_payloads}
+use Names.{total-append, items_grouped, groups_now, prefix_grouped, overlap, written_sendable_by}
+use Names.{payloads_may, IsPayload, Half}
 use Rattle.h2_laws_pair.proofs.BothWays.{IsDirection, ends_of, back_of}
 use Rattle.h2_laws_pair.proofs.CarriedItems.{way_of}
 use Rattle.h2_laws_pair.proofs.ItemsRead.{newest_before}
@@ -230,14 +228,12 @@ acks_before frames later frame item before received begun groups all =
     let prefix = prefix_grouped frames (frame ∷ later) (oldest_first (item ∷ before)) None all in
     let one = one_grouping_lem frames prefix.first (oldest_first received) prefix.begun begun
     prefix.groups groups in
-    acks_by item before received (oldest_first prefix.later)
-    (λ same.
+    acks_by item before received (oldest_first prefix.later) (λ same.
     let none : frame ∷ later ≡ [] =
     no_more_frames frames (frame ∷ later) (oldest_first received) begun groups
     (subst (λ (items : List Item). Groups (frames ++ frame ∷ later) (oldest_first items) None) same
     all) in
-    cc)
-    (newest_before (item ∷ before) received prefix.later
+    cc) (newest_before (item ∷ before) received prefix.later
     (prefix.items_are ∙ ap (λ (items : List Item). items ++ prefix.later) one.0))
 
 -- The next frame of the other end, after those that an end has read, is within the end's limit.

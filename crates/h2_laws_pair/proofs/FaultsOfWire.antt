@@ -1,14 +1,5 @@
 -- The octets that an end of a pair is given begin the output of the other: they are read as the
 -- first of its frames, and hold no fault.
-use Rattle.h2_laws_pair.proofs.Names.{◌≡◌, inl, inr, ℕ, ◌+◌, ◌≤◌, not, Bool, List, [], ◌∷◌, ◌++◌}
-use Rattle.h2_laws_pair.proofs.Names.{length, take, drop, Option, Some, None, refl, sym, ap, ◌∙◌}
-use Rattle.h2_laws_pair.proofs.Names.{arith, append_assoc, append-nil, length-append, length-drop}
-use Rattle.h2_laws_pair.proofs.Names.{Head, Frame, Data, Headers, Reset, Settings, Ping, GoAway}
-use Rattle.h2_laws_pair.proofs.Names.{WindowUpdate, Continuation, WireFault, expected_preface}
-use Rattle.h2_laws_pair.proofs.Names.{Limits, IsSound, Frames, one_reading_lem, Role, Values}
-use Rattle.h2_laws_pair.proofs.Names.{max_frame_size_sent, is_server, payload_limit, Log, acked}
-use Rattle.h2_laws_pair.proofs.Names.{limits_from, IsLog, stream_of_log, frames_by, output_read}
-use Rattle.h2_laws_pair.proofs.Names.{read_here, Half, head_of}
 use Rattle.h2_spec_log.specs.Histories.{TakesFrame, TakesFault}
 use Rattle.std.proofs.Math.Seq.{take-length}
 use Rattle.std.proofs.lemmas.Bool.{lt-leb}
@@ -21,6 +12,13 @@ use Rattle.h2_wire.specs.Streams.{AreFrames}
 use Rattle.h2_wire.proofs.FaultLemmas.{no_reading, no_reading_lem}
 use Rattle.h2_wire.proofs.ReadingLemmas.{same_following, same_head, nine_in_frame}
 use Rattle.h2_laws_end.proofs.ReadPrefixes.{ReadPrefix, prefix_read}
+use Rattle.h2_laws_pair.proofs.Names
+use Names.{◌≡◌, inl, inr, ℕ, ◌+◌, ◌≤◌, not, Bool, List, [], ◌∷◌, ◌++◌, length, take, drop, Option}
+use Names.{Some, None, refl, sym, ap, ◌∙◌, arith, append_assoc, append-nil, length-append}
+use Names.{length-drop, Head, Frame, Data, Headers, Reset, Settings, Ping, GoAway, WindowUpdate}
+use Names.{Continuation, WireFault, expected_preface, Limits, IsSound, Frames, one_reading_lem}
+use Names.{Role, Values, max_frame_size_sent, is_server, payload_limit, Log, acked, limits_from}
+use Names.{IsLog, stream_of_log, frames_by, output_read, read_here, Half, head_of}
 use Rattle.h2_laws_pair.proofs.BothWays.{AreEnds, IsDirection, ends_of}
 use Rattle.h2_laws_pair.proofs.WiderLimits.{wider_limits, comes_widely, IsLongHead, fault_wider}
 use Rattle.h2_laws_pair.proofs.FaultsOfSizes.{next_within}
@@ -192,8 +190,7 @@ no_long_head writer reader octets more is up ends joined some head =
     let all = frames_by writer.log.payloads writer.log.sent in
     let nine = head.nine in
     let long = head.long in
-    let framed : Frames expects others line frames head.last =
-    inr (record {
+    let framed : Frames expects others line frames head.last = inr (record {
       part = head.part;
       joined = head.joined;
       sound = head.sound;
@@ -204,8 +201,7 @@ no_long_head writer reader octets more is up ends joined some head =
     let one = one_reading_lem expects others line first.first frames first.left head.last
     first.read framed in
     let next = heads_frame expects others writer.log.written all frames first.later head.part
-    head.last more
-    (output_read _ _ writer.log others ends.writer_log (λ place. omega arith))
+    head.last more (output_read _ _ writer.log others ends.writer_log (λ place. omega arith))
     (rw (joined, head.joined, append_assoc) refl) head.sound (rw (first.frames_are, one.0) refl)
     nine in
     let counted : length reader.log.input + length octets ≡ length head.part + 9 =
@@ -269,8 +265,7 @@ next_frame writer reader octets more frame ends joined takes =
     joined in
     let framed = comes_widely expects reader.log line frames []
     (rw ((stream_of_log _ _ reader.log ends.reader_log).role, ends.opposite) at takes) in
-    let one = one_reading_lem expects limits line read.first frames read.left [] read.read
-    framed in
+    let one = one_reading_lem expects limits line read.first frames read.left [] read.read framed in
     record {
       later = read.later;
       frames = read.frames_are ∙ ap (λ (frames : List Frame). frames ++ read.later) one.0;

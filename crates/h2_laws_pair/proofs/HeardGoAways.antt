@@ -1,21 +1,18 @@
 -- A server that is up says by no GOAWAY that it doesn't process a stream on which it has sent part
 -- of a message (RFC 9113, section 6.8).
-use Rattle.h2_laws_pair.proofs.Names.{◌≡◌, inl, inr, ℕ, ◌≤◌, ◌==◌, Bool, true, false, if◌then◌else◌}
-use Rattle.h2_laws_pair.proofs.Names.{List, [], ◌∷◌, ◌++◌, None, refl, ap, ◌∙◌, arith, list_any}
-use Rattle.h2_laws_pair.proofs.Names.{AllByRecursion, both_ways, or_from, eqb-true, le-ltb}
-use Rattle.h2_laws_pair.proofs.Names.{or_cases, list_any-append, Field, Data, Settings, Ping}
-use Rattle.h2_laws_pair.proofs.Names.{GoAway, WindowUpdate, Item, alone, block, Role, Server}
-use Rattle.h2_laws_pair.proofs.Names.{is_goaway_below, Values, Act, Open, SendFields, SendData}
-use Rattle.h2_laws_pair.proofs.Names.{Release, is_server, Log, active, last_processed, log_view}
-use Rattle.h2_laws_pair.proofs.Names.{ended_in, Verdict, NoEvent, replies_to, conditions, items_of}
-use Rattle.h2_laws_pair.proofs.Names.{answer_of, refusal_of, read, with_sent, opened, called, IsLog}
-use Rattle.h2_laws_pair.proofs.Names.{stream_of_log, none_holds, grows_wrote, fails_down}
-use Rattle.h2_laws_pair.proofs.Names.{any_either, IsLogInvariant, kept_by_logs, active_parts}
-use Rattle.h2_laws_pair.proofs.Names.{SendGoAway, is_above}
 use Rattle.h2_spec_log.specs.Events.{greatest_processed}
 use Rattle.h2_laws_log.proofs.CallConditions.{neither_one}
 use Rattle.h2_laws_log.proofs.LogHistory.{processed_after}
 use Rattle.h2_laws_log.proofs.LogViewLemmas.{stream_is_active}
+use Rattle.h2_laws_pair.proofs.Names
+use Names.{◌≡◌, inl, inr, ℕ, ◌≤◌, ◌==◌, Bool, true, false, if◌then◌else◌, List, [], ◌∷◌, ◌++◌, None}
+use Names.{refl, ap, ◌∙◌, arith, list_any, AllByRecursion, both_ways, or_from, eqb-true, le-ltb}
+use Names.{or_cases, list_any-append, Field, Data, Settings, Ping, GoAway, WindowUpdate, Item}
+use Names.{alone, block, Role, Server, is_goaway_below, Values, Act, Open, SendFields, SendData}
+use Names.{Release, is_server, Log, active, last_processed, log_view, ended_in, Verdict, NoEvent}
+use Names.{replies_to, conditions, items_of, answer_of, refusal_of, read, with_sent, opened, called}
+use Names.{IsLog, stream_of_log, none_holds, grows_wrote, fails_down, any_either, IsLogInvariant}
+use Names.{kept_by_logs, active_parts, SendGoAway, is_above}
 use Rattle.h2_laws_pair.proofs.DataItems.{data_all}
 use Rattle.h2_laws_machine.proofs.GoAwaysSent.{active_processed}
 
@@ -71,11 +68,10 @@ AreQuiet items = (i : ℕ) → (list_any (speaks i) items ≡ false)
 
 quiet_fits : (processed : ℕ) (sent items : List Item) → AreQuiet items
     → KeepProcessed processed sent items
-quiet_fits processed sent items quiet =
-    record {
-      spoken = λ i here. absurd (both_ways _ (quiet i).0 here);
-      above = λ i low. (quiet i).1;
-    }
+quiet_fits processed sent items quiet = record {
+  spoken = λ i here. absurd (both_ways _ (quiet i).0 here);
+  above = λ i low. (quiet i).1;
+}
 
 wrote_quiet : (log : Log) (items : List Item) → AreQuiet items → IsBelow log
     → IsBelow (with_sent log items)
@@ -138,23 +134,21 @@ record IsServer (log : Log) : Type 0 where
 stream_fits : (log : Log) (id : ℕ) (items : List Item) → IsServer log → active log id ≡ true
     → AllByRecursion (IsOn id) items
     → KeepProcessed (greatest_processed log.reported) log.sent items
-stream_fits log id items server alive is =
-    record {
-      spoken = λ i here. rw (← only_on id i items is here) (server.kept id alive);
-      above = λ i low. none_below id i items is;
-    }
+stream_fits log id items server alive is = record {
+  spoken = λ i here. rw (← only_on id i items is here) (server.kept id alive);
+  above = λ i low. none_below id i items is;
+}
 
 -- GOAWAY names the last stream that was processed.
 goaway_fits : (log : Log) → log.role ≡ Server
     → KeepProcessed (greatest_processed log.reported) log.sent
     (alone (GoAway (last_processed log) 0 []) ∷ [])
 unfolding speaks is_goaway_below last_processed
-goaway_fits log server =
-    record {
-      spoken = λ i here. absurd (both_ways false refl here);
-      above = λ i low. rw server (or_from _ _
-          (le-ltb (greatest_processed log.reported) i low) refl);
-    }
+goaway_fits log server = record {
+  spoken = λ i here. absurd (both_ways false refl here);
+  above = λ i low. rw server (or_from _ _
+      (le-ltb (greatest_processed log.reported) i low) refl);
+}
 
 -- What a release writes.
 updates_quiet : (id count : ℕ) (ended : Bool) → AreQuiet (alone
@@ -204,34 +198,33 @@ server_keeps values log is up =
 -- Each change of a server keeps it, as long as the server is up.
 keeps_below : (values : Values)
     → IsLogInvariant Server values (λ log. log.failed ≡ None → IsBelow log)
-keeps_below values =
-    record {
-      opening = λ in_range up. opened_below Server values;
-      used = λ log octets unparsed is. is;
-      framed = λ log frames is. is;
-      begun = λ log begun is. is;
-      replied = λ log decoded item verdict replies is up.
-          wrote_quiet (read log decoded item) _ (replies_quiet verdict item)
-          (is ((grows_wrote (read log decoded item) _).up up));
-      reported = λ log event events may is up i here.
-          let old = is up i here in
-          record {
-            low = omega (arith, old.low, processed_after (event ∷ events) log.reported);
-            below = old.below;
-          };
-      unreturned = λ log count is. is;
-      returned = λ log returns is up.
-          wrote_quiet (record log { unreturned = 0 }) _ (update_quiet log.unreturned)
-          (is ((grows_wrote (record log { unreturned = 0 }) _).up up));
-      failed = λ log code last names is up. absurd (fails_down code last log up);
-      called = λ log act answer is_log none is. is;
-      sent = λ log act accepted is up.
-          let answer = answer_of (log_view log) act in
-          let was = (grows_wrote (called log act answer) _).up up in
-          wrote_below (called log act answer) _
-          (items_fit log act (server_keeps values log accepted.is was) accepted.none) (is was);
-      given = λ log more is. is;
-    }
+keeps_below values = record {
+  opening = λ in_range up. opened_below Server values;
+  used = λ log octets unparsed is. is;
+  framed = λ log frames is. is;
+  begun = λ log begun is. is;
+  replied = λ log decoded item verdict replies is up.
+      wrote_quiet (read log decoded item) _ (replies_quiet verdict item)
+      (is ((grows_wrote (read log decoded item) _).up up));
+  reported = λ log event events may is up i here.
+      let old = is up i here in
+      record {
+        low = omega (arith, old.low, processed_after (event ∷ events) log.reported);
+        below = old.below;
+      };
+  unreturned = λ log count is. is;
+  returned = λ log returns is up.
+      wrote_quiet (record log { unreturned = 0 }) _ (update_quiet log.unreturned)
+      (is ((grows_wrote (record log { unreturned = 0 }) _).up up));
+  failed = λ log code last names is up. absurd (fails_down code last log up);
+  called = λ log act answer is_log none is. is;
+  sent = λ log act accepted is up.
+      let answer = answer_of (log_view log) act in
+      let was = (grows_wrote (called log act answer) _).up up in
+      wrote_below (called log act answer) _
+      (items_fit log act (server_keeps values log accepted.is was) accepted.none) (is was);
+  given = λ log more is. is;
+}
 
 -- Every server that is up.
 pub spoken_below : (values : Values) (log : Log) → IsLog Server values log → log.failed ≡ None

@@ -1,14 +1,12 @@
 -- The lists that the reader's blocks decoded to are the first of those that the writer was given.
-use Rattle.h2_laws_pair.proofs.Names.{◌≡◌, ℕ, ◌+◌, Bool, true, false, List, [], ◌∷◌, ◌++◌, length}
-use Rattle.h2_laws_pair.proofs.Names.{Option, Some, None, refl, sym, ap, ◌∙◌, arith, append_assoc}
-use Rattle.h2_laws_pair.proofs.Names.{length-append, both_ways, Field, Entries, Block, EncoderState}
-use Rattle.h2_laws_pair.proofs.Names.{one_block_lem, Item, alone, block, total, own_value, one_ack}
-use Rattle.h2_laws_pair.proofs.Names.{Log, acked, Decoded, completes, IsDecodedIn, IsDecoded}
-use Rattle.h2_laws_pair.proofs.Names.{table_limit, total_none, lists_accepted, EncodesInOrder}
-use Rattle.h2_laws_pair.proofs.Names.{sent_nothing, sent_acknowledgment, sent_block, sent_other}
-use Rattle.h2_laws_pair.proofs.Names.{changes_encoder, block_count, DecodeInOrder}
-use Rattle.h2_laws_pair.proofs.Names.{HeaderTablesInStep}
 use Rattle.std.proofs.Math.Seq.{drop-append_seam}
+use Rattle.h2_laws_pair.proofs.Names
+use Names.{◌≡◌, ℕ, ◌+◌, Bool, true, false, List, [], ◌∷◌, ◌++◌, length, Option, Some, None, refl}
+use Names.{sym, ap, ◌∙◌, arith, append_assoc, length-append, both_ways, Field, Entries, Block}
+use Names.{EncoderState, one_block_lem, Item, alone, block, total, own_value, one_ack, Log, acked}
+use Names.{Decoded, completes, IsDecodedIn, IsDecoded, table_limit, total_none, lists_accepted}
+use Names.{EncodesInOrder, sent_nothing, sent_acknowledgment, sent_block, sent_other}
+use Names.{changes_encoder, block_count, DecodeInOrder, HeaderTablesInStep}
 use Rattle.h2_laws_pair.proofs.HeardReads.{lists_after}
 
 -- Where the backs are as long, they are the same, and so are the fronts.
@@ -41,22 +39,20 @@ limit_at_first sent count =
 one_more : (first : Entries) (limit : ℕ) (octets : List ℕ) (list : List Field)
     (older lists : List (List Field)) → lists ≡ list ∷ older
     → OldestList first limit octets older → OldestList first limit octets lists
-one_more first limit octets list older lists are found =
-    record {
-      fields = found.fields;
-      after = found.after;
-      newer = list ∷ found.newer;
-      are = rw (are, found.are) refl;
-      decodes = found.decodes;
-    }
+one_more first limit octets list older lists are found = record {
+  fields = found.fields;
+  after = found.after;
+  newer = list ∷ found.newer;
+  are = rw (are, found.are) refl;
+  decodes = found.decodes;
+}
 
 pub oldest_list : (newer : List Item) (stream : ℕ) (end : Bool) (octets : List ℕ)
     (sent : List Item) (count : ℕ) (first : Entries) (lists : List (List Field)) (last : Entries)
     → DecodeInOrder sent count first (newer ++ block stream end octets ∷ []) lists last
     → OldestList first (own_value 1 4096 count sent) octets lists
 oldest_list [] stream end octets sent count first lists last
-    (fields, older, between, are, (none, same), decodes) =
-    record {
+    (fields, older, between, are, (none, same), decodes) = record {
       fields = fields;
       after = last;
       newer = [];

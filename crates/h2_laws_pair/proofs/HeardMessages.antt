@@ -1,16 +1,14 @@
 -- What a stream on which something was sent is like, and how a message ends.
-use Rattle.h2_laws_pair.proofs.Names.{◌≡◌, inl, inr, ℕ, ◌==◌, ◌%◌, Bool, true, false, List, [], ◌∷◌}
-use Rattle.h2_laws_pair.proofs.Names.{◌++◌, Option, None, Some, refl, sym, ◌∙◌, append_assoc, arith}
-use Rattle.h2_laws_pair.proofs.Names.{length, list_any, both_ways, or_parts, or_cases, eqb-true}
-use Rattle.h2_laws_pair.proofs.Names.{eq-eqb, or_left, or_right, or_from, and_parts}
-use Rattle.h2_laws_pair.proofs.Names.{list_any-append, Field, Data, Settings, Item, alone, block}
-use Rattle.h2_laws_pair.proofs.Names.{Role, AllowedHistory, Allowed, starts, reads, writes}
-use Rattle.h2_laws_pair.proofs.Names.{is_block_on, ends, any_after, active_parts, block_count}
-use Rattle.h2_laws_pair.proofs.Names.{SentMessage, openings, Token, FieldsToken, OctetToken}
-use Rattle.h2_laws_pair.proofs.Names.{EndToken, end_tokens, tokens_written, message_tokens}
 use Rattle.std.proofs.Common.{map as each}
 use Rattle.h2_spec_log.specs.Allowed.{MayContinue, MayOpen}
 use Rattle.h2_laws_pair.specs.Tokens.{is_head_alone, trailers_tokens}
+use Rattle.h2_laws_pair.proofs.Names
+use Names.{◌≡◌, inl, inr, ℕ, ◌==◌, ◌%◌, Bool, true, false, List, [], ◌∷◌, ◌++◌, Option, None, Some}
+use Names.{refl, sym, ◌∙◌, append_assoc, arith, length, list_any, both_ways, or_parts, or_cases}
+use Names.{eqb-true, eq-eqb, or_left, or_right, or_from, and_parts, list_any-append, Field, Data}
+use Names.{Settings, Item, alone, block, Role, AllowedHistory, Allowed, starts, reads, writes}
+use Names.{is_block_on, ends, any_after, active_parts, block_count, SentMessage, openings, Token}
+use Names.{FieldsToken, OctetToken, EndToken, end_tokens, tokens_written, message_tokens}
 use Rattle.h2_laws_pair.proofs.HeardTokens.{item_tokens, frame_tokens, alone_adds}
 use Rattle.h2_laws_pair.proofs.HeardGoAways.{speaks}
 use Rattle.h2_laws_end.proofs.ActivityStays.{opened_after}
@@ -37,11 +35,10 @@ goes_opened role i received sent goes =
 open_opened : (role : Role) (i : ℕ) (end : Bool) (octets : List ℕ) (received sent : List Item)
     → MayOpen role i received sent → IsOpened role i received (block i end octets ∷ sent)
 unfolding is_block_on
-open_opened role i end octets received sent may =
-    record {
-      odd = eq-eqb (i % 2) 1 may.odd;
-      opened = rw may.client (or_left (i == i) _ (eq-eqb i i refl));
-    }
+open_opened role i end octets received sent may = record {
+  odd = eq-eqb (i % 2) 1 may.odd;
+  opened = rw may.client (or_left (i == i) _ (eq-eqb i i refl));
+}
 
 -- An item that is part of a message is on a stream that was opened.
 one_opened : (role : Role) (i : ℕ) (item : Item) (received sent : List Item)

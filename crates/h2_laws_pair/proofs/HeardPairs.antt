@@ -1,16 +1,14 @@
 -- What an end of a pair has heard on a stream is a prefix of what the other one was given for it.
-use Rattle.h2_laws_pair.proofs.Names.{◌≡◌, ℕ, List, [], ◌∷◌, ◌++◌, length, Option, None, refl, sym}
-use Rattle.h2_laws_pair.proofs.Names.{ap, ◌∙◌, arith, append_assoc, length-append, Field, Code}
-use Rattle.h2_laws_pair.proofs.Names.{InternalError, Frame, wire_fault_code, Item, Role, Values}
-use Rattle.h2_laws_pair.proofs.Names.{Log, opened, with_call, used, with_frame, with_sent}
-use Rattle.h2_laws_pair.proofs.Names.{with_failure, took_none, Decoded, IsLog, IsDecodedFor}
-use Rattle.h2_laws_pair.proofs.Names.{grows_call, lists_accepted, settings_received, log_sent}
-use Rattle.h2_laws_pair.proofs.Names.{reads_fails, reads_unprocessed, uses_part, ends_frame}
-use Rattle.h2_laws_pair.proofs.Names.{meets_fault, runs_out_of_memory, reports_unprocessed}
-use Rattle.h2_laws_pair.proofs.Names.{is_called, MachineStep, MayStep, log_after, Half, HalfStep}
-use Rattle.h2_laws_pair.proofs.Names.{calls, takes, loses, IsPair, AreUnderWay, block_count, Token}
-use Rattle.h2_laws_pair.proofs.Names.{tokens_sent, tokens_written, tokens_heard, IsPrefixOfTokens}
 use Rattle.h2_laws_end.proofs.ReadingCalls.{log_read}
+use Rattle.h2_laws_pair.proofs.Names
+use Names.{◌≡◌, ℕ, List, [], ◌∷◌, ◌++◌, length, Option, None, refl, sym, ap, ◌∙◌, arith}
+use Names.{append_assoc, length-append, Field, Code, InternalError, Frame, wire_fault_code, Item}
+use Names.{Role, Values, Log, opened, with_call, used, with_frame, with_sent, with_failure}
+use Names.{took_none, Decoded, IsLog, IsDecodedFor, grows_call, lists_accepted, settings_received}
+use Names.{log_sent, reads_fails, reads_unprocessed, uses_part, ends_frame, meets_fault}
+use Names.{runs_out_of_memory, reports_unprocessed, is_called, MachineStep, MayStep, log_after}
+use Names.{Half, HalfStep, calls, takes, loses, IsPair, AreUnderWay, block_count, Token}
+use Names.{tokens_sent, tokens_written, tokens_heard, IsPrefixOfTokens}
 use Rattle.h2_laws_pair.proofs.StepsOfLogs.{IsNoCall}
 use Rattle.h2_laws_pair.proofs.BothWays.{IsDirection, to_server, to_client, ends_of, IsKept}
 use Rattle.h2_laws_pair.proofs.BothWays.{each_way}
@@ -38,14 +36,13 @@ pub record IsHeardBy (writer reader : Log) : Type 0 where
 more_accepted : (writer reader : Log) (new : Log) (more : List (List Field))
     → lists_accepted new.calls ≡ more ++ lists_accepted writer.calls → IsHeardBy writer reader
     → IsHeardBy new reader
-more_accepted writer reader new more accepted is =
-    record {
-      lists = is.lists;
-      later = more ++ is.later;
-      accepted = rw (accepted, is.accepted, append_assoc) refl;
-      count = is.count;
-      heard = is.heard;
-    }
+more_accepted writer reader new more accepted is = record {
+  lists = is.lists;
+  later = more ++ is.later;
+  accepted = rw (accepted, is.accepted, append_assoc) refl;
+  count = is.count;
+  heard = is.heard;
+}
 
 writer_heard : (writer reader : Half) {new_writer new_reader : Half}
     → HalfStep writer reader new_writer new_reader → IsHeardBy writer.log reader.log
@@ -62,14 +59,13 @@ writer_heard writer reader (loses octets rest failed came) is = is
 -- After a step of the reader with which no item more is read.
 none_read : (writer reader new : Log) (is : IsHeardBy writer reader)
     → new.received ≡ reader.received → ((i : ℕ) → LogHeard i new is.lists) → IsHeardBy writer new
-none_read writer reader new is same heard =
-    record {
-      lists = is.lists;
-      later = is.later;
-      accepted = is.accepted;
-      count = is.count ∙ sym (ap block_count same);
-      heard = heard;
-    }
+none_read writer reader new is same heard = record {
+  lists = is.lists;
+  later = is.later;
+  accepted = is.accepted;
+  count = is.count ∙ sym (ap block_count same);
+  heard = heard;
+}
 
 -- After a frame.
 frame_read : (writer reader : Half) (octets : List ℕ) (decoded : Option Decoded) (frame : Frame)
@@ -155,23 +151,21 @@ reader_heard writer reader is now (loses octets rest failed came) before = befor
 opened_by : (role other : Role) (values others : Values)
     → IsHeardBy (opened role values) (opened other others)
 unfolding opened with_sent lists_accepted block_count
-opened_by role other values others =
-    record {
-      lists = [];
-      later = [];
-      accepted = refl;
-      count = refl;
-      heard = λ i. opened_heard i other others;
-    }
+opened_by role other values others = record {
+  lists = [];
+  later = [];
+  accepted = refl;
+  count = refl;
+  heard = λ i. opened_heard i other others;
+}
 
 -- In each direction of every pair.
 heard_is_kept : IsKept (λ writer reader. IsHeardBy writer.log reader.log)
-heard_is_kept =
-    record {
-      at_first = opened_by;
-      by_writer = λ writer reader is now step. writer_heard writer reader step;
-      by_reader = reader_heard;
-    }
+heard_is_kept = record {
+  at_first = opened_by;
+  by_writer = λ writer reader is now step. writer_heard writer reader step;
+  by_reader = reader_heard;
+}
 
 pub is_heard : (writer reader : Half) → IsDirection writer reader → IsHeardBy writer.log reader.log
 is_heard = each_way (λ writer reader. IsHeardBy writer.log reader.log) heard_is_kept
@@ -199,8 +193,7 @@ hears writer reader i is =
     let way = way_of writer reader is in
     let heard = is_heard writer reader is in
     rw (given_in_order i _ _ writer.log reader.log way.0 (ends_of writer reader is).writer_log
-    way.1 heard)
-    (prefix_more (tokens_heard i reader.log.reported)
+    way.1 heard) (prefix_more (tokens_heard i reader.log.reported)
     (tokens_written i reader.log.received heard.lists) (tokens_written i way.0 heard.later)
     (heard_prefix reader.log.role i reader.log.received reader.log.sent reader.log.reported
     heard.lists (heard.heard i)))

@@ -1,24 +1,20 @@
 -- Once an undisturbed pair is quiet, a message was heard whole, if what waits of it could not go.
-use Rattle.h2_laws_pair.proofs.Names.{◌≡◌, ◌≢◌, inl, inr, ℕ, zero, suc, ◌+◌, ◌≤◌, true, false, List}
-use Rattle.h2_laws_pair.proofs.Names.{[], ◌∷◌, ◌++◌, None, refl, sym, ap, ◌∙◌, append-nil, arith}
-use Rattle.h2_laws_pair.proofs.Names.{length, ℤ, pos, ◌+ℤ◌, list_any, both_ways, cases_Bool}
-use Rattle.h2_laws_pair.proofs.Names.{nat_tests, ints, Settings, Item, alone, Role, Client, Server}
-use Rattle.h2_laws_pair.proofs.Names.{Values, AllowedHistory, Allowed, starts, reads, writes, ends}
-use Rattle.h2_laws_pair.proofs.Names.{resets, total, data_on, data_of, increment_on, greatest_block}
-use Rattle.h2_laws_pair.proofs.Names.{value_read, is_server, Log, active, owed, send_window}
-use Rattle.h2_laws_pair.proofs.Names.{first_window, connection_send_window, IsLog, sum_below}
-use Rattle.h2_laws_pair.proofs.Names.{written_is_allowed, total_none, active_from, lasts_from}
-use Rattle.h2_laws_pair.proofs.Names.{lists_accepted, settings_received, log_sent, Half, IsPair}
-use Rattle.h2_laws_pair.proofs.Names.{AreUnderWay, IsUndisturbed, IsQuiet, WasReset, SentMessage}
-use Rattle.h2_laws_pair.proofs.Names.{is_above, is_closed_by_us, openings, Token, FieldsToken}
-use Rattle.h2_laws_pair.proofs.Names.{OctetToken, EndToken, tokens_sent, tokens_heard}
-use Rattle.h2_laws_pair.proofs.Names.{message_tokens}
 use Rattle.std.proofs.Common.{int_lt}
 use Rattle.std.proofs.lemmas.Bool.{false_from_ne_true, and_right}
 use Rattle.h2_spec_log.specs.Events.{reports_unprocessed}
 use Rattle.h2_laws_log.proofs.AllowedHistories.{opening_window, changed_window}
 use Rattle.h2_laws_log.proofs.LogViewLemmas.{closed_by_us_is, client_above}
 use Rattle.h2_laws_pair.specs.Quiet.{IsSending, IsStuck, CouldGo}
+use Rattle.h2_laws_pair.proofs.Names
+use Names.{◌≡◌, ◌≢◌, inl, inr, ℕ, zero, suc, ◌+◌, ◌≤◌, true, false, List, [], ◌∷◌, ◌++◌, None, refl}
+use Names.{sym, ap, ◌∙◌, append-nil, arith, length, ℤ, pos, ◌+ℤ◌, list_any, both_ways, cases_Bool}
+use Names.{nat_tests, ints, Settings, Item, alone, Role, Client, Server, Values, AllowedHistory}
+use Names.{Allowed, starts, reads, writes, ends, resets, total, data_on, data_of, increment_on}
+use Names.{greatest_block, value_read, is_server, Log, active, owed, send_window, first_window}
+use Names.{connection_send_window, IsLog, sum_below, written_is_allowed, total_none, active_from}
+use Names.{lasts_from, lists_accepted, settings_received, log_sent, Half, IsPair, AreUnderWay}
+use Names.{IsUndisturbed, IsQuiet, WasReset, SentMessage, is_above, is_closed_by_us, openings}
+use Names.{Token, FieldsToken, OctetToken, EndToken, tokens_sent, tokens_heard, message_tokens}
 use Rattle.h2_laws_pair.proofs.PairLogs.{both_logs}
 use Rattle.h2_laws_pair.proofs.BothWays.{AreEnds, ends_to_server, ends_to_client}
 use Rattle.h2_laws_pair.proofs.ConnectionWindows.{connection_conserved}
@@ -96,8 +92,7 @@ stream_open writer reader i idle =
     let some : 1 ≤ value_read 4 first_window reader.log.sent =
     some_window idle.halves.reader_role reader.log.received reader.log.sent
     (written_is_allowed _ _ reader.log idle.halves.reader_log) in
-    above_none (send_window writer.log i) value is
-    (rw (sym idle.back) some)
+    above_none (send_window writer.log i) value is (rw (sym idle.back) some)
 
 connection_open : (writer reader : Half) (i : ℕ) → IsIdle writer reader i
     → int_lt (pos 0) (connection_send_window writer.log.received writer.log.sent) ≡ true

@@ -1,14 +1,5 @@
 -- What an end has heard on a stream is what the items that it has read carry, as long as it hasn't
 -- closed the stream; and a prefix of that from then on.
-use Rattle.h2_laws_pair.proofs.Names.{◌≡◌, ◌⊎◌, inl, inr, ℕ, ◌==◌, true, List, [], ◌∷◌, ◌++◌}
-use Rattle.h2_laws_pair.proofs.Names.{Option, Some, None, refl, sym, append_assoc, append-nil}
-use Rattle.h2_laws_pair.proofs.Names.{subst, both_ways, eqb-true, cases_Bool, Field, Code}
-use Rattle.h2_laws_pair.proofs.Names.{code_number, Data, Reset, Item, alone, block, Role, Event}
-use Rattle.h2_laws_pair.proofs.Names.{stream_of_item, Log, log_view, View, Verdict, ConnectionFault}
-use Rattle.h2_laws_pair.proofs.Names.{StreamFault, NoEvent, Reported, Decoded, replies_to}
-use Rattle.h2_laws_pair.proofs.Names.{verdict_by_rules, events_of, Says, says_any, is_used}
-use Rattle.h2_laws_pair.proofs.Names.{is_closed_by_us, Token, tokens_written, tokens_of_event}
-use Rattle.h2_laws_pair.proofs.Names.{tokens_heard, IsPrefixOfTokens}
 use Rattle.h2_frame.specs.Encoding.{stream_of}
 use Rattle.h2_spec_log.specs.States.{Idle, Active}
 use Rattle.h2_spec_log.specs.Log.{state}
@@ -17,10 +8,16 @@ use Rattle.h2_spec_log.specs.ItemEffects.{decoded_fields}
 use Rattle.h2_laws_log.proofs.ReaderStates.{not_idle, state_is_active}
 use Rattle.h2_laws_log.proofs.ReplyInvariant.{used_more, used_here}
 use Rattle.h2_laws_end.proofs.OverReads.{OfMessage}
-use Rattle.h2_laws_end.proofs.ReadVerdicts.{says_block}
-use Rattle.h2_laws_end.proofs.ReadVerdicts.{says_data}
+use Rattle.h2_laws_end.proofs.ReadVerdicts.{says_block, says_data}
 use Rattle.h2_laws_end.proofs.ReadingRules.{IsFaulty, IsUnreported, IsSaid}
 use Rattle.h2_laws_end.proofs.ReceiveWindows.{active_unclosed}
+use Rattle.h2_laws_pair.proofs.Names
+use Names.{◌≡◌, ◌⊎◌, inl, inr, ℕ, ◌==◌, true, List, [], ◌∷◌, ◌++◌, Option, Some, None, refl, sym}
+use Names.{append_assoc, append-nil, subst, both_ways, eqb-true, cases_Bool, Field, Code}
+use Names.{code_number, Data, Reset, Item, alone, block, Role, Event, stream_of_item, Log, log_view}
+use Names.{View, Verdict, ConnectionFault, StreamFault, NoEvent, Reported, Decoded, replies_to}
+use Names.{verdict_by_rules, events_of, Says, says_any, is_used, is_closed_by_us, Token}
+use Names.{tokens_written, tokens_of_event, tokens_heard, IsPrefixOfTokens}
 use Rattle.h2_laws_pair.proofs.HeardTokens.{frame_tokens, item_tokens, alone_adds, prefix_same}
 use Rattle.h2_laws_log.proofs.LogViewLemmas.{closed_used}
 use Rattle.h2_laws_end.proofs.ActivityFrames.{closed_more}
@@ -34,11 +31,10 @@ pub record IsGone (role : Role) (i : ℕ) (received sent : List Item) : Type 0 w
 -- It stays so.
 pub gone_more : (role : Role) (i : ℕ) (news items received sent : List Item)
     → IsGone role i received sent → IsGone role i (news ++ received) (items ++ sent)
-gone_more role i news items received sent gone =
-    record {
-      closed = closed_more role i items sent gone.closed;
-      used = used_more role i news items received sent gone.used;
-    }
+gone_more role i news items received sent gone = record {
+  closed = closed_more role i items sent gone.closed;
+  used = used_more role i news items received sent gone.used;
+}
 
 -- All that the items carry was heard, or the stream is gone and a prefix was.
 pub data AreHeard (role : Role) (i : ℕ) (received sent : List Item) (reported : List Event)
@@ -135,13 +131,11 @@ rules_used log None (block stream end octets) = tt
 rules_used log (Some decoded) (block stream end octets) =
     let item = block stream end octets in
     says_block (Unit {0}) (IsUsedBy log item stream) (Stays log stream) (state log stream)
-    (peer_opens (log_view log) stream) _ _ _ _
-    (λ idle opens. (
+    (peer_opens (log_view log) stream) _ _ _ _ (λ idle opens. (
       tt,
       λ left. used_here log.role stream end octets log.received log.sent opens,
       λ stays. idle_stays log stream idle,
-    ))
-    (λ is. (tt, active_stays log stream is))
+    )) (λ is. (tt, active_stays log stream is))
     (λ is. used_more log.role stream (item ∷ []) [] log.received log.sent (closed_used _ _ _ is))
 rules_used log decoded (alone (Data stream end octets pad)) =
     let item = alone (Data stream end octets pad) in
@@ -228,8 +222,7 @@ fault_goes log i item code due list used =
 -- What is known of an item that is read.
 abbrev pub IsRuled : Log → Item → Verdict → Type 0
 IsRuled log item verdict =
-    Says (IsFaulty log item × Unit {0})
-    (IsUnreported log item × OfMessage (IsUsedBy log item) item)
+    Says (IsFaulty log item × Unit {0}) (IsUnreported log item × OfMessage (IsUsedBy log item) item)
     (IsSaid log item × OfMessage (Stays log) item) verdict
 
 -- What was silent is gone, after more was written.

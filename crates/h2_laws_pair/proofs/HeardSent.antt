@@ -1,22 +1,19 @@
 -- What an end was given for a stream is what the items that it has sent carry, with the lists of
 -- its calls.
-use Rattle.h2_laws_pair.proofs.Names.{◌≡◌, ℕ, zero, suc, ◌<◌, ◌==◌, nat_le, ◌&&◌, not, Bool, true}
-use Rattle.h2_laws_pair.proofs.Names.{false, if◌then◌else◌, List, [], ◌∷◌, ◌++◌, length, take, drop}
-use Rattle.h2_laws_pair.proofs.Names.{None, refl, sym, ap, ◌∙◌, arith, append_assoc, append-nil}
-use Rattle.h2_laws_pair.proofs.Names.{length-drop, list_any, both_ways, or_parts, leb-false}
-use Rattle.h2_laws_pair.proofs.Names.{and_parts, eqb-true, and_from, take-append-drop, length-take}
-use Rattle.h2_laws_pair.proofs.Names.{Field, code_number, Data, GoAway, WindowUpdate, Settings}
-use Rattle.h2_laws_pair.proofs.Names.{Ping, Item, alone, block, Role, Values, Act, Answer, Open}
-use Rattle.h2_laws_pair.proofs.Names.{SendFields, SendData, Release, Done, Log, max_payload_sent}
-use Rattle.h2_laws_pair.proofs.Names.{max_payload_sent_by, log_view, ended_in, Verdict, NoEvent}
-use Rattle.h2_laws_pair.proofs.Names.{replies_to, items_of, answer_of, data_items, data_frames}
-use Rattle.h2_laws_pair.proofs.Names.{read, with_sent, opened, called, IsLog, IsLogInvariant}
-use Rattle.h2_laws_pair.proofs.Names.{kept_by_logs, WritesNone, refused, no_memory, fails_instead}
-use Rattle.h2_laws_pair.proofs.Names.{puts_out, lists_accepted, Token, OctetToken, end_tokens}
-use Rattle.h2_laws_pair.proofs.Names.{tokens_of_call, tokens_sent, tokens_written}
 use Rattle.std.proofs.Common.{map as each, eq-eqb}
 use Rattle.std.proofs.lemmas.Bool.{not-true, false_from_ne_true}
 use Rattle.std.proofs.lemmas.List.{map-append}
+use Rattle.h2_laws_pair.proofs.Names
+use Names.{◌≡◌, ℕ, zero, suc, ◌<◌, ◌==◌, nat_le, ◌&&◌, not, Bool, true, false, if◌then◌else◌, List}
+use Names.{[], ◌∷◌, ◌++◌, length, take, drop, None, refl, sym, ap, ◌∙◌, arith, append_assoc}
+use Names.{append-nil, length-drop, list_any, both_ways, or_parts, leb-false, and_parts, eqb-true}
+use Names.{and_from, take-append-drop, length-take, Field, code_number, Data, GoAway, WindowUpdate}
+use Names.{Settings, Ping, Item, alone, block, Role, Values, Act, Answer, Open, SendFields}
+use Names.{SendData, Release, Done, Log, max_payload_sent, max_payload_sent_by, log_view, ended_in}
+use Names.{Verdict, NoEvent, replies_to, items_of, answer_of, data_items, data_frames, read}
+use Names.{with_sent, opened, called, IsLog, IsLogInvariant, kept_by_logs, WritesNone, refused}
+use Names.{no_memory, fails_instead, puts_out, lists_accepted, Token, OctetToken, end_tokens}
+use Names.{tokens_of_call, tokens_sent, tokens_written}
 use Rattle.h2_laws_pair.proofs.HeardCalls.{silent_lists}
 
 -- Items and calls carry the same on the stream.
@@ -226,25 +223,24 @@ silent_tokens i _ _ (puts_out count given) = refl
 -- What a log sends carries what it was given.
 sends_told : (i : ℕ) (role : Role) (values : Values) → IsLogInvariant role values (AreTold i)
 unfolding opened with_sent lists_accepted tokens_sent tokens_written carries
-sends_told i role values =
-    record {
-      opening = λ in_range. refl;
-      used = λ log octets unparsed is. is;
-      framed = λ log frames is. is;
-      begun = λ log begun is. is;
-      replied = λ log decoded item verdict replies is.
-          wrote_told i (read log decoded item) _ (replies_untold verdict item) is;
-      reported = λ log event events may is. is;
-      unreturned = λ log count is. is;
-      returned = λ log returns is. wrote_told i (record log { unreturned = 0 })
-          (alone (WindowUpdate 0 log.unreturned) ∷ []) refl is;
-      failed = λ log code last names is.
-          wrote_told i log (alone (GoAway last (code_number code) []) ∷ []) refl is;
-      called = λ log act answer is_log none is. called_told i log act answer
-          (silent_tokens i act answer none) (silent_lists act answer log.calls none) is;
-      sent = λ log act accepted is. accepted_told i log act is;
-      given = λ log more is. is;
-    }
+sends_told i role values = record {
+  opening = λ in_range. refl;
+  used = λ log octets unparsed is. is;
+  framed = λ log frames is. is;
+  begun = λ log begun is. is;
+  replied = λ log decoded item verdict replies is.
+      wrote_told i (read log decoded item) _ (replies_untold verdict item) is;
+  reported = λ log event events may is. is;
+  unreturned = λ log count is. is;
+  returned = λ log returns is. wrote_told i (record log { unreturned = 0 })
+      (alone (WindowUpdate 0 log.unreturned) ∷ []) refl is;
+  failed = λ log code last names is.
+      wrote_told i log (alone (GoAway last (code_number code) []) ∷ []) refl is;
+  called = λ log act answer is_log none is. called_told i log act answer
+      (silent_tokens i act answer none) (silent_lists act answer log.calls none) is;
+  sent = λ log act accepted is. accepted_told i log act is;
+  given = λ log more is. is;
+}
 
 -- Every log.
 pub tokens_carried : (i : ℕ) (role : Role) (values : Values) (log : Log) → IsLog role values log

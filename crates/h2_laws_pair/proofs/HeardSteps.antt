@@ -1,14 +1,12 @@
 -- What the steps of an end make of what it has heard.
-use Rattle.h2_laws_pair.proofs.Names.{◌≡◌, ℕ, List, [], ◌∷◌, ◌++◌, Option, None, refl, ◌∙◌}
-use Rattle.h2_laws_pair.proofs.Names.{append-nil, Field, Code, code_number, Frame, GoAway, Item}
-use Rattle.h2_laws_pair.proofs.Names.{alone, Role, Event, UnprocessedEvent, Values, Log}
-use Rattle.h2_laws_pair.proofs.Names.{next_unprocessed, log_view, Verdict, ConnectionFault, Decoded}
-use Rattle.h2_laws_pair.proofs.Names.{FrameStep, completes, frame_step, verdict_of, used, with_sent}
-use Rattle.h2_laws_pair.proofs.Names.{with_reported, with_unreturned, with_failure, with_step}
-use Rattle.h2_laws_pair.proofs.Names.{with_frame, took_none, opened, Grows, grows_wrote}
-use Rattle.h2_laws_pair.proofs.Names.{grows_with_unreturned, says_of, tokens_written}
-use Rattle.h2_laws_pair.proofs.Names.{tokens_of_event, tokens_heard}
 use Rattle.h2_laws_end.proofs.ReadingRules.{LogIsLow, rules_say}
+use Rattle.h2_laws_pair.proofs.Names
+use Names.{◌≡◌, ℕ, List, [], ◌∷◌, ◌++◌, Option, None, refl, ◌∙◌, append-nil, Field, Code}
+use Names.{code_number, Frame, GoAway, Item, alone, Role, Event, UnprocessedEvent, Values, Log}
+use Names.{next_unprocessed, log_view, Verdict, ConnectionFault, Decoded, FrameStep, completes}
+use Names.{frame_step, verdict_of, used, with_sent, with_reported, with_unreturned, with_failure}
+use Names.{with_step, with_frame, took_none, opened, Grows, grows_wrote, grows_with_unreturned}
+use Names.{says_of, tokens_written, tokens_of_event, tokens_heard}
 use Rattle.h2_laws_pair.proofs.FrameSteps.{with_item, has_item, kept_by_step}
 use Rattle.h2_laws_pair.proofs.HeardReads.{AreHeard, all_heard, some_heard, LogHeard, lists_after}
 use Rattle.h2_laws_pair.proofs.HeardReads.{IsRuled, heard_item, rules_used, says_both, gone_more}

@@ -1,10 +1,9 @@
 -- The tokens of items, with one list for each field block.
-use Rattle.h2_laws_pair.proofs.Names.{◌≡◌, ℕ, ◌==◌, if◌then◌else◌, List, [], ◌∷◌, ◌++◌, length}
-use Rattle.h2_laws_pair.proofs.Names.{refl, sym, ap, ◌∙◌, append_assoc, append-nil, arith, Field}
-use Rattle.h2_laws_pair.proofs.Names.{Frame, Data, Item, alone, block, block_count, Token}
-use Rattle.h2_laws_pair.proofs.Names.{FieldsToken, OctetToken, end_tokens, tokens_written}
-use Rattle.h2_laws_pair.proofs.Names.{IsPrefixOfTokens}
 use Rattle.std.proofs.Common.{map as each}
+use Rattle.h2_laws_pair.proofs.Names
+use Names.{◌≡◌, ℕ, ◌==◌, if◌then◌else◌, List, [], ◌∷◌, ◌++◌, length, refl, sym, ap, ◌∙◌}
+use Names.{append_assoc, append-nil, arith, Field, Frame, Data, Item, alone, block, block_count}
+use Names.{Token, FieldsToken, OctetToken, end_tokens, tokens_written, IsPrefixOfTokens}
 
 -- what a frame that is no part of a field block carries on the stream
 unfoldable pub frame_tokens : ℕ → Frame → List Token

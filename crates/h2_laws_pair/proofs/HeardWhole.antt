@@ -1,17 +1,15 @@
 -- Once an undisturbed pair is quiet, all that was sent on a stream that wasn't reset was heard.
-use Rattle.h2_laws_pair.proofs.Names.{◌≡◌, ◌⊎◌, inl, inr, ℕ, ◌<◌, ◌==◌, ◌%◌, nat_lt, true, false}
-use Rattle.h2_laws_pair.proofs.Names.{List, [], ◌∷◌, ◌++◌, refl, sym, ap, ◌∙◌, append-nil, arith}
-use Rattle.h2_laws_pair.proofs.Names.{subst, list_any, both_ways, or_cases, eqb-true, cases_Bool}
-use Rattle.h2_laws_pair.proofs.Names.{and_parts, ltb-true, or_left, or_right, Field, Data, Reset}
-use Rattle.h2_laws_pair.proofs.Names.{GoAway, Item, alone, block, Role, Client, Server, Values, Act}
-use Rattle.h2_laws_pair.proofs.Names.{Answer, AllowedHistory, Event, UnprocessedEvent, is_block_on}
-use Rattle.h2_laws_pair.proofs.Names.{ends, resets, is_goaway_below, Log, least_goaway}
-use Rattle.h2_laws_pair.proofs.Names.{next_unprocessed, stream_of_log, written_is_allowed}
-use Rattle.h2_laws_pair.proofs.Names.{active_from, lasts_from, Half, IsPair, IsUndisturbed}
-use Rattle.h2_laws_pair.proofs.Names.{WasAsked, IsQuiet, WasReset, is_above, is_closed_by_us, Token}
-use Rattle.h2_laws_pair.proofs.Names.{tokens_sent, tokens_written, tokens_heard, IsPrefixOfTokens}
 use Rattle.std.proofs.lemmas.Bool.{false_from_ne_true}
 use Rattle.h2_spec_log.specs.Events.{reports_unprocessed}
+use Rattle.h2_laws_pair.proofs.Names
+use Names.{◌≡◌, ◌⊎◌, inl, inr, ℕ, ◌<◌, ◌==◌, ◌%◌, nat_lt, true, false, List, [], ◌∷◌, ◌++◌, refl}
+use Names.{sym, ap, ◌∙◌, append-nil, arith, subst, list_any, both_ways, or_cases, eqb-true}
+use Names.{cases_Bool, and_parts, ltb-true, or_left, or_right, Field, Data, Reset, GoAway, Item}
+use Names.{alone, block, Role, Client, Server, Values, Act, Answer, AllowedHistory, Event}
+use Names.{UnprocessedEvent, is_block_on, ends, resets, is_goaway_below, Log, least_goaway}
+use Names.{next_unprocessed, stream_of_log, written_is_allowed, active_from, lasts_from, Half}
+use Names.{IsPair, IsUndisturbed, WasAsked, IsQuiet, WasReset, is_above, is_closed_by_us, Token}
+use Names.{tokens_sent, tokens_written, tokens_heard, IsPrefixOfTokens}
 use Rattle.h2_laws_pair.proofs.PairLogs.{both_logs}
 use Rattle.h2_laws_pair.proofs.BothWays.{IsDirection, to_server, to_client, ends_of}
 use Rattle.h2_laws_pair.proofs.CarriedOctets.{carried}

@@ -1,15 +1,14 @@
 -- What an end that is up has read of the octets of another are the first of the items that this
 -- one has sent.
-use Rattle.h2_laws_pair.proofs.Names.{◌≡◌, ◌⊎◌, inl, inr, ℕ, not, Bool, List, [], ◌∷◌, ◌++◌, Option}
-use Rattle.h2_laws_pair.proofs.Names.{None, refl, sym, ◌∙◌, arith, append_assoc, append-nil}
-use Rattle.h2_laws_pair.proofs.Names.{InternalError, wire_fault_code, Frames, one_reading_lem, Item}
-use Rattle.h2_laws_pair.proofs.Names.{Groups, one_grouping_lem, Role, Values, is_server, Log}
-use Rattle.h2_laws_pair.proofs.Names.{oldest_first, log_view, used, with_step, with_frame, Decoded}
-use Rattle.h2_laws_pair.proofs.Names.{FrameStep, frame_step, IsLog, items_grouped, groups_now}
-use Rattle.h2_laws_pair.proofs.Names.{reads_fails, reads_unprocessed, MachineStep, uses_part}
-use Rattle.h2_laws_pair.proofs.Names.{ends_frame, meets_fault, runs_out_of_memory}
-use Rattle.h2_laws_pair.proofs.Names.{reports_unprocessed, is_called, log_after, Half, AreUnderWay}
 use Rattle.h2_laws_end.proofs.OutputPrefixes.{output_begins}
+use Rattle.h2_laws_pair.proofs.Names
+use Names.{◌≡◌, ◌⊎◌, inl, inr, ℕ, not, Bool, List, [], ◌∷◌, ◌++◌, Option, None, refl, sym, ◌∙◌}
+use Names.{arith, append_assoc, append-nil, InternalError, wire_fault_code, Frames, one_reading_lem}
+use Names.{Item, Groups, one_grouping_lem, Role, Values, is_server, Log, oldest_first, log_view}
+use Names.{used, with_step, with_frame, Decoded, FrameStep, frame_step, IsLog, items_grouped}
+use Names.{groups_now, reads_fails, reads_unprocessed, MachineStep, uses_part, ends_frame}
+use Names.{meets_fault, runs_out_of_memory, reports_unprocessed, is_called, log_after, Half}
+use Names.{AreUnderWay}
 use Rattle.h2_laws_pair.proofs.BothWays.{AreEnds}
 use Rattle.h2_laws_pair.proofs.StepsOfLogs.{IsNoCall}
 use Rattle.h2_laws_pair.proofs.FrameSteps.{has_item, kept_by_step}
@@ -38,8 +37,7 @@ newest_before sent received later is =
 pub frames_received : (role : Role) (values : Values) (log : Log) (expects : Bool)
     → is_server role ≡ expects → IsLog role values log → log.failed ≡ None
     → Frames expects (wider_limits log) log.input log.frames log.unparsed
-frames_received role values log expects same is up =
-    rw same at (read_widely role values log is up)
+frames_received role values log expects same is up = rw same at (read_widely role values log is up)
 
 -- What an end that is up has received, where its input begins the output of the other.
 pub received_first : (writer reader : Half) (rest : List ℕ) → AreEnds writer reader
@@ -54,8 +52,7 @@ received_first writer reader rest ends joined up =
     let grouped = groups_now reader.log (items_grouped _ _ reader.log ends.reader_log) up in
     let one = one_reading_lem expects limits reader.log.input prefix.frames reader.log.frames
     prefix.unparsed reader.log.unparsed prefix.read framed in
-    let groups : Groups reader.log.frames prefix.items prefix.begun =
-    rw one.0 at prefix.groups in
+    let groups : Groups reader.log.frames prefix.items prefix.begun = rw one.0 at prefix.groups in
     let same = one_grouping_lem reader.log.frames prefix.items
     (oldest_first reader.log.received) prefix.begun reader.log.begun groups grouped in (
       oldest_first prefix.later,

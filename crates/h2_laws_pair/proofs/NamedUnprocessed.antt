@@ -1,21 +1,18 @@
 -- A stream that an end has reported as unprocessed is above the last stream of a GOAWAY that it has
 -- read, and the end is a client (RFC 9113, section 6.8).
-use Rattle.h2_laws_pair.proofs.Names.{◌≡◌, ◌≢◌, ◌⊎◌, inl, inr, ℕ, ◌≤◌, ◌<◌, ◌==◌, nat_lt, ◌&&◌, min}
-use Rattle.h2_laws_pair.proofs.Names.{true, false, List, [], ◌∷◌, ◌++◌, refl, sym, ap, ◌∙◌, arith}
-use Rattle.h2_laws_pair.proofs.Names.{list_any, both_ways, and_from, and_parts, ltb-true, lt-ltb}
-use Rattle.h2_laws_pair.proofs.Names.{eqb-true, or_left, or_right, or_cases, cases_Bool, nat_tests}
-use Rattle.h2_laws_pair.proofs.Names.{GoAway, Item, alone, block, Role, Client, Server, Event}
-use Rattle.h2_laws_pair.proofs.Names.{is_goaway_below, greatest_block, is_block_on, Values}
-use Rattle.h2_laws_pair.proofs.Names.{is_server, AllowedHistory, Log, active, least_goaway}
-use Rattle.h2_laws_pair.proofs.Names.{next_unprocessed, log_view, read, with_sent, opened, called}
-use Rattle.h2_laws_pair.proofs.Names.{answer_of, replies_to, IsLog, log_represents, IsLogInvariant}
-use Rattle.h2_laws_pair.proofs.Names.{kept_by_logs, MayReport, of_item, of_unprocessed, any_after}
-use Rattle.h2_laws_pair.proofs.Names.{Grows, grows_wrote, any_either, active_parts, greatest_number}
-use Rattle.h2_laws_pair.proofs.Names.{least_block, openings}
 use Rattle.h2_laws_log.proofs.NextStreams.{least_passes, least_found}
 use Rattle.h2_spec_log.specs.Events.{reports_unprocessed}
 use Rattle.h2_laws_log.proofs.StreamNumbers.{block_below, client_low, next_of}
 use Rattle.h2_laws_log.proofs.LogViewLemmas.{events_unnamed}
+use Rattle.h2_laws_pair.proofs.Names
+use Names.{◌≡◌, ◌≢◌, ◌⊎◌, inl, inr, ℕ, ◌≤◌, ◌<◌, ◌==◌, nat_lt, ◌&&◌, min, true, false, List, []}
+use Names.{◌∷◌, ◌++◌, refl, sym, ap, ◌∙◌, arith, list_any, both_ways, and_from, and_parts, ltb-true}
+use Names.{lt-ltb, eqb-true, or_left, or_right, or_cases, cases_Bool, nat_tests, GoAway, Item}
+use Names.{alone, block, Role, Client, Server, Event, is_goaway_below, greatest_block, is_block_on}
+use Names.{Values, is_server, AllowedHistory, Log, active, least_goaway, next_unprocessed, log_view}
+use Names.{read, with_sent, opened, called, answer_of, replies_to, IsLog, log_represents}
+use Names.{IsLogInvariant, kept_by_logs, MayReport, of_item, of_unprocessed, any_after, Grows}
+use Names.{grows_wrote, any_either, active_parts, greatest_number, least_block, openings}
 
 -- Each stream that was named unprocessed is above a GOAWAY's last one, at a client.
 abbrev pub IsNamed : Log → Type 0
@@ -107,29 +104,28 @@ reported_named role values log _ (of_unprocessed before is up some grows) i here
 -- Each change of a log keeps it.
 named_kept : (role : Role) (values : Values) → IsLogInvariant role values IsNamed
 unfolding opened with_sent
-named_kept role values =
-    record {
-      opening = λ in_range i here. absurd (both_ways false refl here);
-      used = λ log octets unparsed is. is;
-      framed = λ log frames is. is;
-      begun = λ log begun is. is;
-      replied = λ log decoded item verdict replies is.
-          let wrote = grows_wrote (read log decoded item) (replies_to verdict item) in
-          named_more log (with_sent (read log decoded item) (replies_to verdict item)) (item ∷ [])
-          [] wrote.role wrote.received wrote.reported (λ i. refl) is;
-      reported = λ log event events may is i here.
-          elim (any_either (reports_unprocessed i) (event ∷ events) log.reported here) [
-            | inl now ↦ reported_named role values log (event ∷ events) may i now
-            | inr was ↦ is i was
-          ];
-      unreturned = λ log count is. is;
-      returned = λ log returns is. is;
-      failed = λ log code last names is. is;
-      sent = λ log act accepted is.
-          named_grows (called log act (answer_of (log_view log) act)) _ (grows_wrote _ _) is;
-      called = λ log act answer is_log none is. is;
-      given = λ log more is. is;
-    }
+named_kept role values = record {
+  opening = λ in_range i here. absurd (both_ways false refl here);
+  used = λ log octets unparsed is. is;
+  framed = λ log frames is. is;
+  begun = λ log begun is. is;
+  replied = λ log decoded item verdict replies is.
+      let wrote = grows_wrote (read log decoded item) (replies_to verdict item) in
+      named_more log (with_sent (read log decoded item) (replies_to verdict item)) (item ∷ [])
+      [] wrote.role wrote.received wrote.reported (λ i. refl) is;
+  reported = λ log event events may is i here.
+      elim (any_either (reports_unprocessed i) (event ∷ events) log.reported here) [
+        | inl now ↦ reported_named role values log (event ∷ events) may i now
+        | inr was ↦ is i was
+      ];
+  unreturned = λ log count is. is;
+  returned = λ log returns is. is;
+  failed = λ log code last names is. is;
+  sent = λ log act accepted is.
+      named_grows (called log act (answer_of (log_view log) act)) _ (grows_wrote _ _) is;
+  called = λ log act answer is_log none is. is;
+  given = λ log more is. is;
+}
 
 -- Every log.
 pub log_named : (role : Role) (values : Values) (log : Log) → IsLog role values log → IsNamed log

@@ -10,9 +10,8 @@ unfoldable pub use Rattle.h2_spec_log.specs.ItemEffects.{events_of}
 unfoldable pub use Rattle.h2_spec_log.specs.ItemRules.{replies_to, frame_step, verdict_by_rules}
 unfoldable pub use Rattle.h2_spec_log.specs.ItemRules.{verdict_of}
 unfoldable pub use Rattle.h2_spec_log.specs.Items.{total, is_block_on, is_goaway_below, data_on}
-unfoldable pub use Rattle.h2_spec_log.specs.Items.{ends}
-unfoldable pub use Rattle.h2_spec_log.specs.Items.{encoding_of_items, resets, one_answer, one_ping}
-unfoldable pub use Rattle.h2_spec_log.specs.Items.{one_reset, stream_of_item}
+unfoldable pub use Rattle.h2_spec_log.specs.Items.{ends, encoding_of_items, resets, one_answer}
+unfoldable pub use Rattle.h2_spec_log.specs.Items.{one_ping, one_reset, stream_of_item}
 unfoldable pub use Rattle.h2_spec_log.specs.Log.{next_unprocessed, waiting, output, least_goaway}
 unfoldable pub use Rattle.h2_spec_log.specs.Log.{last_processed, max_payload_sent_by, unreleased}
 unfoldable pub use Rattle.h2_spec_log.specs.LogCalls.{opened, with_call}

@@ -1,12 +1,11 @@
 -- What an end reports of DATA is what it has received: where no DATA that it has received is empty
 -- without END_STREAM, no event is.
-use Rattle.h2_laws_pair.proofs.Names.{List, ◌∷◌, Option, AllByRecursion, Data, Item, alone, Role}
-use Rattle.h2_laws_pair.proofs.Names.{Event, Values, Log, log_view, View, Verdict, Reported}
-use Rattle.h2_laws_pair.proofs.Names.{Decoded, replies_to, events_of, read, with_sent, opened}
-use Rattle.h2_laws_pair.proofs.Names.{called, answer_of, IsLog, Grows, grows_wrote, IsLogInvariant}
-use Rattle.h2_laws_pair.proofs.Names.{kept_by_logs, MayReport, of_item, of_unprocessed, Half}
-use Rattle.h2_laws_pair.proofs.Names.{IsPair, rules}
 use Rattle.h2_laws_pair.specs.Tokens.{IsNoEmptyData}
+use Rattle.h2_laws_pair.proofs.Names
+use Names.{List, ◌∷◌, Option, AllByRecursion, Data, Item, alone, Role, Event, Values, Log, log_view}
+use Names.{View, Verdict, Reported, Decoded, replies_to, events_of, read, with_sent, opened, called}
+use Names.{answer_of, IsLog, Grows, grows_wrote, IsLogInvariant, kept_by_logs, MayReport, of_item}
+use Names.{of_unprocessed, Half, IsPair, rules}
 use Rattle.h2_laws_pair.proofs.Lists.{all_both, all_older}
 use Rattle.h2_laws_pair.proofs.BothWays.{IsDirection, to_server, to_client, ends_of}
 use Rattle.h2_laws_pair.proofs.CarriedItems.{way_of}
@@ -43,26 +42,24 @@ reports_grows old new grows is = rw (grows.received, grows.reported) is
 -- Each change of a log keeps it.
 reports_kept : (role : Role) (values : Values) → IsLogInvariant role values LogReports
 unfolding opened with_sent IsNoEmptyData
-reports_kept role values =
-    record {
-      opening = λ in_range all. tt;
-      used = λ log octets unparsed is. is;
-      framed = λ log frames is. is;
-      begun = λ log begun is. is;
-      replied = λ log decoded item verdict replies is.
-          let wrote = grows_wrote (read log decoded item) (replies_to verdict item) in
-          rw (wrote.received, wrote.reported) (λ all. is all.1);
-      reported = λ log event events may is all.
-          all_both IsNoEmptyData (event ∷ events) log.reported
-          (reported_some role values log _ may all) (is all);
-      unreturned = λ log count is. is;
-      returned = λ log returns is. is;
-      failed = λ log code last names is. is;
-      sent = λ log act accepted is.
-          reports_grows (called log act (answer_of (log_view log) act)) _ (grows_wrote _ _) is;
-      called = λ log act answer is_log none is. is;
-      given = λ log more is. is;
-    }
+reports_kept role values = record {
+  opening = λ in_range all. tt;
+  used = λ log octets unparsed is. is;
+  framed = λ log frames is. is;
+  begun = λ log begun is. is;
+  replied = λ log decoded item verdict replies is.
+      let wrote = grows_wrote (read log decoded item) (replies_to verdict item) in
+      rw (wrote.received, wrote.reported) (λ all. is all.1);
+  reported = λ log event events may is all. all_both IsNoEmptyData (event ∷ events) log.reported
+      (reported_some role values log _ may all) (is all);
+  unreturned = λ log count is. is;
+  returned = λ log returns is. is;
+  failed = λ log code last names is. is;
+  sent = λ log act accepted is.
+      reports_grows (called log act (answer_of (log_view log) act)) _ (grows_wrote _ _) is;
+  called = λ log act answer is_log none is. is;
+  given = λ log more is. is;
+}
 
 -- Every log.
 log_reports : (role : Role) (values : Values) (log : Log) → IsLog role values log → LogReports log

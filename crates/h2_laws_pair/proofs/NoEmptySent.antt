@@ -1,17 +1,16 @@
 -- No DATA that an end writes is empty, unless it has END_STREAM.
-use Rattle.h2_laws_pair.proofs.Names.{◌≡◌, ◌≢◌, ◌⊎◌, ℕ, zero, suc, ◌<◌, ◌≤◌, ◌==◌, nat_le, ◌&&◌}
-use Rattle.h2_laws_pair.proofs.Names.{not, Bool, true, false, if◌then◌else◌, List, [], ◌∷◌, ◌++◌}
-use Rattle.h2_laws_pair.proofs.Names.{length, take, drop, Option, Some, None, refl, sym, ap, ◌∙◌}
-use Rattle.h2_laws_pair.proofs.Names.{arith, length-drop, inl, inr, AllByRecursion, leb-false}
-use Rattle.h2_laws_pair.proofs.Names.{and_parts, and_from, eqb-true, eq-eqb, length-take, Data}
-use Rattle.h2_laws_pair.proofs.Names.{Settings, Ping, Item, alone, Role, Values, Act, SendData}
-use Rattle.h2_laws_pair.proofs.Names.{Release, PutOut, Log, max_payload_sent, log_view, View}
-use Rattle.h2_laws_pair.proofs.Names.{ended_in, Verdict, StreamFault, NoEvent, replies_to, items_of}
-use Rattle.h2_laws_pair.proofs.Names.{answer_of, data_count, data_items, data_frames, IsLog}
 use Rattle.std.proofs.lemmas.Bool.{not-false, eqb-false}
 use Rattle.h2_spec_log.specs.View.{StreamView}
 use Rattle.h2_laws_log.proofs.SentByLogs.{IsSentInvariant, sent_by_logs}
 use Rattle.h2_laws_end.proofs.DataItems.{all_of_both}
+use Rattle.h2_laws_pair.proofs.Names
+use Names.{◌≡◌, ◌≢◌, ◌⊎◌, ℕ, zero, suc, ◌<◌, ◌≤◌, ◌==◌, nat_le, ◌&&◌, not, Bool, true, false}
+use Names.{if◌then◌else◌, List, [], ◌∷◌, ◌++◌, length, take, drop, Option, Some, None, refl, sym}
+use Names.{ap, ◌∙◌, arith, length-drop, inl, inr, AllByRecursion, leb-false, and_parts, and_from}
+use Names.{eqb-true, eq-eqb, length-take, Data, Settings, Ping, Item, alone, Role, Values, Act}
+use Names.{SendData, Release, PutOut, Log, max_payload_sent, log_view, View, ended_in, Verdict}
+use Names.{StreamFault, NoEvent, replies_to, items_of, answer_of, data_count, data_items}
+use Names.{data_frames, IsLog}
 use Rattle.h2_laws_pair.proofs.HeardSent.{some_payload}
 use Rattle.h2_laws_pair.proofs.DataItems.{updates_all}
 
@@ -117,17 +116,16 @@ items_carry log act = (tt, tt)
 sends_some : (role : Role) (values : Values)
     → IsSentInvariant role values (AllByRecursion CarriesNoEmptyData)
 unfolding CarriesNoEmptyData
-sends_some role values =
-    record {
-      opening = λ in_range. (tt, tt);
-      replied = λ log decoded item verdict replies is.
-          all_of_both CarriesNoEmptyData (replies_to verdict item) log.sent
-          (replies_carry verdict item) is;
-      returned = λ log returns is. (tt, is);
-      failed = λ log code last names is. (tt, is);
-      sent = λ log act accepted is.
-          all_of_both CarriesNoEmptyData _ log.sent (items_carry log act) is;
-    }
+sends_some role values = record {
+  opening = λ in_range. (tt, tt);
+  replied = λ log decoded item verdict replies is.
+      all_of_both CarriesNoEmptyData (replies_to verdict item) log.sent
+      (replies_carry verdict item) is;
+  returned = λ log returns is. (tt, is);
+  failed = λ log code last names is. (tt, is);
+  sent = λ log act accepted is.
+      all_of_both CarriesNoEmptyData _ log.sent (items_carry log act) is;
+}
 
 -- Every log.
 pub sent_no_empty : (role : Role) (values : Values) (log : Log) → IsLog role values log

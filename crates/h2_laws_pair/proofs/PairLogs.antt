@@ -13,16 +13,13 @@ step_of : (role : Role) (values : Values) (log : Log) (step : MachineStep) → l
     → IsLog role values log → MayStep log step → IsLog role values (log_after log step)
 unfolding MayStep log_after
 step_of role values log (uses_part octets unparsed) own is (up, part) =
-    took_some is up octets unparsed
-    (rw own at part)
+    took_some is up octets unparsed (rw own at part)
 step_of role values log (ends_frame octets frame decoded) own is (up, read, sees) =
-    took_one is up octets frame decoded
-    (rw own at read) sees
+    took_one is up octets frame decoded (rw own at read) sees
 step_of role values log (meets_fault octets fault) own is (up, at) =
     met_fault is up octets fault (rw own at at)
 step_of role values log (runs_out_of_memory octets) own is (up, may) =
-    ran_out_of_memory is up octets
-    (subst (λ (r : Role). MayRunOutOfMemory r log octets) own may)
+    ran_out_of_memory is up octets (subst (λ (r : Role). MayRunOutOfMemory r log octets) own may)
 step_of role values log reports_unprocessed own is (up, some) = reported_one is up some
 step_of role values log (is_called act answer) own is (typed, may) =
     called_one is act answer typed may

@@ -15,12 +15,11 @@ SameGiven before after = after.given ≡ before.given
 
 -- What is written is not given out yet.
 failure_given : HoldsOfFailures SameGiven
-failure_given =
-    record {
-      writes = stays_written (λ log. log.given) (λ log sent written payloads turns. refl)
-          (λ log count. refl);
-      failed = λ log code. refl;
-    }
+failure_given = record {
+  writes = stays_written (λ log. log.given) (λ log sent written payloads turns. refl)
+      (λ log count. refl);
+  failed = λ log code. refl;
+}
 
 -- So a call that doesn't put output out leaves what was given out.
 pub call_given : (log : Log) (act : Act) (answer : Answer)

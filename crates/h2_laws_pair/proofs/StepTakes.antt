@@ -71,8 +71,7 @@ pub take_is_steps : (one other : Half) (piece later : List ℕ) (answer : TakeAn
 unfolding MayStep log_after
 take_is_steps one other piece later answer after came (has_failed code failed answers same) =
     rw (answers, same) (uses_none one other piece later (Failed code) came tt)
-take_is_steps one other piece later answer after came
-    (reports_unprocessed up some answers same) =
+take_is_steps one other piece later answer after came (reports_unprocessed up some answers same) =
     rw (answers, same) (one_step one other piece later piece _ machine.reports_unprocessed came
     refl refl (up, some) (λ act answer is. cc) (λ other octets is. cc))
 take_is_steps one other piece later answer after came

@@ -1,17 +1,5 @@
 -- Streams that are named unprocessed: where a call of `take` reports nothing, none is left; and no
 -- other call leaves one.
-use Rattle.h2_laws_pair.proofs.Names.{◌≡◌, ◌≢◌, ◌<◌, ◌≤◌, ℕ, zero, suc, ◌==◌, nat_lt, ◌&&◌, Bool}
-use Rattle.h2_laws_pair.proofs.Names.{true, false, List, [], ◌∷◌, ◌++◌, Option, None, refl, sym, ap}
-use Rattle.h2_laws_pair.proofs.Names.{◌∙◌, arith, ltb-false, list_any, both_ways, and_parts}
-use Rattle.h2_laws_pair.proofs.Names.{ltb-true, ne_eqb, Field, Code, GoAway, Item, alone, Role}
-use Rattle.h2_laws_pair.proofs.Names.{Client, Server, Act, Answer, Open, SendFields, Number, Done}
-use Rattle.h2_laws_pair.proofs.Names.{Event, is_block_on, is_server, Log, active, next_unprocessed}
-use Rattle.h2_laws_pair.proofs.Names.{least_goaway, View, log_view, Verdict, ConnectionFault}
-use Rattle.h2_laws_pair.proofs.Names.{StreamFault, NoEvent, Reported, Decoded, FrameStep}
-use Rattle.h2_laws_pair.proofs.Names.{frame_step, verdict_by_rules, events_of, conditions, used}
-use Rattle.h2_laws_pair.proofs.Names.{with_step, with_frame, with_call, MayAnswer, accepts, refuses}
-use Rattle.h2_laws_pair.proofs.Names.{none_holds, grows_call, fails_down, active_parts, Says}
-use Rattle.h2_laws_pair.proofs.Names.{says_of, says_any, least_block, greatest_number}
 use Rattle.h2_laws_log.proofs.NextStreams.{least_passes}
 use Rattle.std.proofs.lemmas.Bool.{true_from_ne_false, false_from_ne_true}
 use Rattle.std.proofs.lemmas.List.{append_cancel_right}
@@ -27,6 +15,16 @@ use Rattle.h2_laws_end.proofs.OverCalls.{items_no_block}
 use Rattle.h2_laws_end.proofs.OverLists.{IsInactive, inactive_sent, inactive_reported}
 use Rattle.h2_laws_end.proofs.OverNumbers.{fields_active}
 use Rattle.h2_laws_end.proofs.OverSteps.{Holds, HoldsRead, call_keeps, take_keeps}
+use Rattle.h2_laws_pair.proofs.Names
+use Names.{◌≡◌, ◌≢◌, ◌<◌, ◌≤◌, ℕ, zero, suc, ◌==◌, nat_lt, ◌&&◌, Bool, true, false, List, [], ◌∷◌}
+use Names.{◌++◌, Option, None, refl, sym, ap, ◌∙◌, arith, ltb-false, list_any, both_ways, and_parts}
+use Names.{ltb-true, ne_eqb, Field, Code, GoAway, Item, alone, Role, Client, Server, Act, Answer}
+use Names.{Open, SendFields, Number, Done, Event, is_block_on, is_server, Log, active}
+use Names.{next_unprocessed, least_goaway, View, log_view, Verdict, ConnectionFault, StreamFault}
+use Names.{NoEvent, Reported, Decoded, FrameStep, frame_step, verdict_by_rules, events_of}
+use Names.{conditions, used, with_step, with_frame, with_call, MayAnswer, accepts, refuses}
+use Names.{none_holds, grows_call, fails_down, active_parts, Says, says_of, says_any, least_block}
+use Names.{greatest_number}
 use Rattle.h2_laws_pair.proofs.NamedUnprocessed.{none_above}
 use Rattle.h2_laws_pair.proofs.FrameSteps.{has_item, kept_by_step}
 

@@ -1,13 +1,12 @@
 -- What the steps of a log that are no calls make of it, of its input and of its output.
-use Rattle.h2_laws_pair.proofs.Names.{◌≡◌, ◌≢◌, ◌≤◌, [], ◌++◌, length, None, refl, sym, ◌∙◌}
-use Rattle.h2_laws_pair.proofs.Names.{append-nil, Role, Act, Answer, Values, Log, used, with_sent}
-use Rattle.h2_laws_pair.proofs.Names.{IsLog, Keeps-frame, MachineStep, uses_part, ends_frame}
-use Rattle.h2_laws_pair.proofs.Names.{meets_fault, runs_out_of_memory, reports_unprocessed}
-use Rattle.h2_laws_pair.proofs.Names.{is_called, MayStep, log_after, every_log_has_machine}
-use Rattle.h2_laws_pair.proofs.Names.{octets_used}
 use Rattle.h2_laws_log.proofs.GrowthBySteps.{HoldsOfReads, holds_used, holds_frame, holds_failure}
 use Rattle.h2_laws_log.proofs.GrowthBySteps.{holds_none}
 use Rattle.h2_spec_log.proofs.StreamLemmas.{Keeps-none}
+use Rattle.h2_laws_pair.proofs.Names
+use Names.{◌≡◌, ◌≢◌, ◌≤◌, [], ◌++◌, length, None, refl, sym, ◌∙◌, append-nil, Role, Act, Answer}
+use Names.{Values, Log, used, with_sent, IsLog, Keeps-frame, MachineStep, uses_part, ends_frame}
+use Names.{meets_fault, runs_out_of_memory, reports_unprocessed, is_called, MayStep, log_after}
+use Names.{every_log_has_machine, octets_used}
 use Rattle.h2_laws_pair.proofs.LogOutput.{Adds, adds_reads}
 
 -- The step is no call.

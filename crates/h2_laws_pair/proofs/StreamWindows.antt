@@ -1,14 +1,4 @@
 -- A stream's window is conserved between the ends of a pair.
-use Rattle.h2_laws_pair.proofs.Names.{◌≡◌, ◌≢◌, inl, inr, ℕ, ◌+◌, ◌-◌, ◌≤◌, ◌%◌, ◌==◌, not, Bool}
-use Rattle.h2_laws_pair.proofs.Names.{true, false, List, ◌++◌, ℤ, pos, ◌+ℤ◌, refl, sym, ap, ◌∙◌}
-use Rattle.h2_laws_pair.proofs.Names.{arith, list_any, both_ways, cases_Bool, and_from, or_parts}
-use Rattle.h2_laws_pair.proofs.Names.{ints, Item, Role, Client, Server, total, data_on}
-use Rattle.h2_laws_pair.proofs.Names.{increment_on, is_block_on, ends, resets, is_goaway_below}
-use Rattle.h2_laws_pair.proofs.Names.{is_server, value_read, first_window, AllowedHistory, Log}
-use Rattle.h2_laws_pair.proofs.Names.{active, owed, unreleased, send_window, log_represents}
-use Rattle.h2_laws_pair.proofs.Names.{any_after, active_parts, active_from, lasts_from}
-use Rattle.h2_laws_pair.proofs.Names.{stream_of_log, Half, AreUnderWay, ConservesStream, openings}
-use Rattle.h2_laws_pair.proofs.Names.{is_used, is_above, is_closed_by_us}
 use Rattle.std.proofs.Common.{◌-ℤ◌}
 use Rattle.std.proofs.lemmas.Bool.{and_left, false_from_ne_true}
 use Rattle.h2_spec_log.specs.Events.{reports_unprocessed}
@@ -22,6 +12,14 @@ use Rattle.h2_laws_end.proofs.ReceiveWindows.{IsAccounted, opened_in}
 use Rattle.h2_laws_end.proofs.ReceiveWindowCalls.{log_accounted}
 use Rattle.h2_laws_end.proofs.OverRoom.{owed_active, owed_inactive}
 use Rattle.h2_laws_pair.specs.Directions.{IsCarried}
+use Rattle.h2_laws_pair.proofs.Names
+use Names.{◌≡◌, ◌≢◌, inl, inr, ℕ, ◌+◌, ◌-◌, ◌≤◌, ◌%◌, ◌==◌, not, Bool, true, false, List, ◌++◌, ℤ}
+use Names.{pos, ◌+ℤ◌, refl, sym, ap, ◌∙◌, arith, list_any, both_ways, cases_Bool, and_from}
+use Names.{or_parts, ints, Item, Role, Client, Server, total, data_on, increment_on, is_block_on}
+use Names.{ends, resets, is_goaway_below, is_server, value_read, first_window, AllowedHistory, Log}
+use Names.{active, owed, unreleased, send_window, log_represents, any_after, active_parts}
+use Names.{active_from, lasts_from, stream_of_log, Half, AreUnderWay, ConservesStream, openings}
+use Names.{is_used, is_above, is_closed_by_us}
 use Rattle.h2_laws_pair.proofs.BothWays.{AreEnds}
 use Rattle.h2_laws_pair.proofs.DataOnStreams.{unopened_read}
 use Rattle.h2_laws_pair.proofs.NamedUnprocessed.{log_named}
@@ -90,8 +88,7 @@ still_active writer reader way i opposite under_way alive opened unclosed goes n
           both_ways (list_any (is_goaway_below i) writer.sent)
           (no_goaway_below writer.role i writer.sent
           (other_server (is_server writer.role) (is_server reader.role) opposite both.0)
-          parts.below)
-          (ap (list_any (is_goaway_below i)) under_way
+          parts.below) (ap (list_any (is_goaway_below i)) under_way
           ∙ any_after (is_goaway_below i) way reader.received both.1));
     })
 
@@ -108,8 +105,7 @@ unopened_unread Client Server i received sent other_received other_sent way back
     under_way returned opened none =
     unopened_read i received sent way other_received history under_way none
 unopened_unread Server Client i received sent other_received other_sent way back opposite history
-    under_way returned opened none =
-    absurd (both_ways (list_any (is_block_on i) other_sent) none
+    under_way returned opened none = absurd (both_ways (list_any (is_block_on i) other_sent) none
     (ap (list_any (is_block_on i)) returned ∙ any_after (is_block_on i) back received opened))
 unopened_unread Client Client i received sent other_received other_sent way back opposite history
     under_way returned opened none = absurd (both_ways false refl opposite)

@@ -21,8 +21,7 @@ limit_here : (sent : List Item) (count : ℕ) (newer older : List Item)
     → own_value 1 4096 (count + total one_ack (newer ++ older)) sent
     ≡ own_value 1 4096 ((count + total one_ack older) + total one_ack newer) sent
 limit_here sent count newer older =
-    ap (λ (all : ℕ). own_value 1 4096 all sent)
-    (omega (arith, total-append one_ack newer older))
+    ap (λ (all : ℕ). own_value 1 4096 all sent) (omega (arith, total-append one_ack newer older))
 
 -- The same lists and the same last table.
 pub record AreSame (lists others : List (List Field)) (last other : Entries) : Type 0 where

@@ -31,25 +31,24 @@ accepted_call log act typed none calls are = are
 are_kept : (role : Role) (values : Values)
     → IsLogInvariant role values (λ log. AreEncodable log.calls)
 unfolding opened with_sent lists_accepted
-are_kept role values =
-    record {
-      opening = λ in_range. tt;
-      used = λ log octets unparsed is. is;
-      framed = λ log frames is. is;
-      begun = λ log begun is. is;
-      replied = λ log decoded item verdict replies is.
-          subst AreEncodable (sym (sent_calls (read log decoded item) _)) is;
-      reported = λ log event events may is. is;
-      unreturned = λ log count is. is;
-      returned = λ log returns is. is;
-      failed = λ log code last names is. is;
-      sent = λ log act accepted is.
-          subst AreEncodable (sym (sent_calls (called log act (answer_of (log_view log) act)) _))
-          (accepted_call log act accepted.typed accepted.none log.calls is);
-      called = λ log act answer is_log none is.
-          subst (AllByRecursion IsEncodable) (sym (silent_lists act answer log.calls none)) is;
-      given = λ log more is. is;
-    }
+are_kept role values = record {
+  opening = λ in_range. tt;
+  used = λ log octets unparsed is. is;
+  framed = λ log frames is. is;
+  begun = λ log begun is. is;
+  replied = λ log decoded item verdict replies is.
+      subst AreEncodable (sym (sent_calls (read log decoded item) _)) is;
+  reported = λ log event events may is. is;
+  unreturned = λ log count is. is;
+  returned = λ log returns is. is;
+  failed = λ log code last names is. is;
+  sent = λ log act accepted is.
+      subst AreEncodable (sym (sent_calls (called log act (answer_of (log_view log) act)) _))
+      (accepted_call log act accepted.typed accepted.none log.calls is);
+  called = λ log act answer is_log none is.
+      subst (AllByRecursion IsEncodable) (sym (silent_lists act answer log.calls none)) is;
+  given = λ log more is. is;
+}
 
 pub lists_of_log : (role : Role) (values : Values) (log : Log) → IsLog role values log
     → AreEncodable log.calls

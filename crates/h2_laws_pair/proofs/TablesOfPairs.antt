@@ -1,10 +1,9 @@
 -- The header tables of both ends of a pair are in step.
-use Rattle.h2_laws_pair.proofs.Names.{◌≡◌, ◌+◌, ◌≤◌, List, ◌++◌, refl, sym, ap, ◌∙◌, arith}
-use Rattle.h2_laws_pair.proofs.Names.{empty_table, Field, Item, Role, Values, total, one_ack}
-use Rattle.h2_laws_pair.proofs.Names.{settings_count, Log, acked, IsLog, settings_append}
-use Rattle.h2_laws_pair.proofs.Names.{total-append, settings_received, lists_accepted, log_sent}
-use Rattle.h2_laws_pair.proofs.Names.{Half, HalfStep, calls, takes, loses, IsPair, AreUnderWay}
-use Rattle.h2_laws_pair.proofs.Names.{HeaderTablesInStep}
+use Rattle.h2_laws_pair.proofs.Names
+use Names.{◌≡◌, ◌+◌, ◌≤◌, List, ◌++◌, refl, sym, ap, ◌∙◌, arith, empty_table, Field, Item, Role}
+use Names.{Values, total, one_ack, settings_count, Log, acked, IsLog, settings_append, total-append}
+use Names.{settings_received, lists_accepted, log_sent, Half, HalfStep, calls, takes, loses, IsPair}
+use Names.{AreUnderWay, HeaderTablesInStep}
 use Rattle.h2_laws_pair.proofs.PairLogs.{other_same}
 use Rattle.h2_laws_pair.proofs.BothWays.{IsDirection, to_server, to_client, ends_of, back_of}
 use Rattle.h2_laws_pair.proofs.BothWays.{IsKept, each_way}
@@ -57,12 +56,11 @@ reader_in_step writer reader {new_writer} {new_reader} is now step =
 
 -- What both ends of a pair have read is in step.
 kept_in_step : IsKept (λ writer reader. LogInStep reader.log)
-kept_in_step =
-    record {
-      at_first = λ role other values others. opened_in_step other others;
-      by_writer = λ writer reader is now step. other_same writer reader step LogInStep;
-      by_reader = reader_in_step;
-    }
+kept_in_step = record {
+  at_first = λ role other values others. opened_in_step other others;
+  by_writer = λ writer reader is now step. other_same writer reader step LogInStep;
+  by_reader = reader_in_step;
+}
 
 pub in_step : (writer reader : Half) → IsDirection writer reader → LogInStep reader.log
 in_step = each_way (λ writer reader. LogInStep reader.log) kept_in_step

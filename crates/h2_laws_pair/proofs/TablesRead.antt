@@ -1,20 +1,5 @@
 -- What an end reads, as long as each acknowledgment that it reads is awaited: each is reported, and
 -- the blocks decode in order, from an empty table on, to the end's table.
-use Rattle.h2_laws_pair.proofs.Names.{◌≡◌, ℕ, ◌+◌, ◌≤◌, Bool, true, false, if◌then◌else◌, List, []}
-use Rattle.h2_laws_pair.proofs.Names.{◌∷◌, ◌++◌, Option, Some, None, refl, sym, arith, both_ways}
-use Rattle.h2_laws_pair.proofs.Names.{lt-ltb, Field, empty_table, Entries, Code, InternalError}
-use Rattle.h2_laws_pair.proofs.Names.{Settings, wire_fault_code, Item, alone, block, Role, Values}
-use Rattle.h2_laws_pair.proofs.Names.{Act, Answer, total, Event, UnprocessedEvent, one_ack}
-use Rattle.h2_laws_pair.proofs.Names.{settings_count, Log, acked, next_unprocessed, log_view}
-use Rattle.h2_laws_pair.proofs.Names.{Verdict, ConnectionFault, StreamFault, NoEvent, Reported}
-use Rattle.h2_laws_pair.proofs.Names.{Decoded, FrameStep, completes, replies_to, frame_step}
-use Rattle.h2_laws_pair.proofs.Names.{verdict_by_rules, verdict_of, events_of, read, used}
-use Rattle.h2_laws_pair.proofs.Names.{with_sent, with_reported, with_unreturned, with_step}
-use Rattle.h2_laws_pair.proofs.Names.{with_frame, opened, called, with_call, IsDecodedIn, total_one}
-use Rattle.h2_laws_pair.proofs.Names.{Says, says_of, MachineStep, uses_part, ends_frame}
-use Rattle.h2_laws_pair.proofs.Names.{meets_fault, runs_out_of_memory, reports_unprocessed}
-use Rattle.h2_laws_pair.proofs.Names.{is_called, MayStep, log_after, DecodeInOrder}
-use Rattle.h2_laws_pair.proofs.Names.{verdict_of_fault}
 use Rattle.h2_laws_log.proofs.GrowthBySteps.{holds_call, holds_sent_unreturned, holds_unreturned}
 use Rattle.h2_laws_log.proofs.GrowthBySteps.{holds_failure}
 use Rattle.h2_spec_log.specs.Events.{one_acked, reported_total}
@@ -22,6 +7,17 @@ use Rattle.h2_spec_log.specs.Log.{settings_wait}
 use Rattle.h2_spec_log.specs.ItemRules.{settings_fault}
 use Rattle.h2_laws_log.proofs.LogHistory.{reported_append}
 use Rattle.h2_laws_end.proofs.ReadingRules.{IsSeen, rules_see}
+use Rattle.h2_laws_pair.proofs.Names
+use Names.{◌≡◌, ℕ, ◌+◌, ◌≤◌, Bool, true, false, if◌then◌else◌, List, [], ◌∷◌, ◌++◌, Option, Some}
+use Names.{None, refl, sym, arith, both_ways, lt-ltb, Field, empty_table, Entries, Code}
+use Names.{InternalError, Settings, wire_fault_code, Item, alone, block, Role, Values, Act, Answer}
+use Names.{total, Event, UnprocessedEvent, one_ack, settings_count, Log, acked, next_unprocessed}
+use Names.{log_view, Verdict, ConnectionFault, StreamFault, NoEvent, Reported, Decoded, FrameStep}
+use Names.{completes, replies_to, frame_step, verdict_by_rules, verdict_of, events_of, read, used}
+use Names.{with_sent, with_reported, with_unreturned, with_step, with_frame, opened, called}
+use Names.{with_call, IsDecodedIn, total_one, Says, says_of, MachineStep, uses_part, ends_frame}
+use Names.{meets_fault, runs_out_of_memory, reports_unprocessed, is_called, MayStep, log_after}
+use Names.{DecodeInOrder, verdict_of_fault}
 use Rattle.h2_laws_pair.proofs.StepsOfLogs.{IsNoCall}
 use Rattle.h2_laws_pair.proofs.TablesDecoded.{decode_more}
 use Rattle.h2_laws_pair.proofs.FrameSteps.{with_item, has_item, kept_by_step}
@@ -69,12 +65,11 @@ item_in_step : (log : Log) (decoded : Option Decoded) (item : Item) (events : Li
     → IsDecodedIn log decoded (completes item) → IsSeen decoded item
     → reported_total one_acked events ≡ one_ack item → LogInStep log
     → PendingInStep events (read log decoded item)
-item_in_step log decoded (alone frame) events sees seen acks is =
-    record {
-      awaited = omega (arith, reported_append, total_one);
-      read = is.read;
-      decode = is.decode;
-    }
+item_in_step log decoded (alone frame) events sees seen acks is = record {
+  awaited = omega (arith, reported_append, total_one);
+  read = is.read;
+  decode = is.decode;
+}
 item_in_step log None (block stream end octets) events sees seen acks is = absurd seen
 item_in_step log (Some decoded) (block stream end octets) events sees seen acks is =
     let count : acked log ≡ 0 + total one_ack log.received = omega (arith, is.awaited) in
@@ -190,8 +185,7 @@ step_in_step : (log : Log) (decoded : Option Decoded) (step : FrameStep) → Has
 step_in_step log decoded step before sees is =
     kept_by_step (λ new. total one_ack new.received ≤ settings_count log.sent → LogInStep new)
     log decoded step (record {
-      failed = λ begun code last fails awaited.
-          stays_in_step [] (record log { begun = begun }) _
+      failed = λ begun code last fails awaited. stays_in_step [] (record log { begun = begun }) _
           (holds_failure Stays stays_by_calls.failures code last (record log { begun = begun }))
           before is;
       begun = λ begun same awaited. is;

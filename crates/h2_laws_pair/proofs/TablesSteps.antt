@@ -19,28 +19,27 @@ stays_same old new received table reported sent =
 
 -- Each change by a call is such a step.
 pub stays_by_calls : HoldsOfCalls Stays
-stays_by_calls =
-    record {
-      failures = record {
-        writes = record {
-          none = λ log. stays_same log log refl refl refl refl;
-          twice = λ one two three a b. record {
-            received = b.received ∙ a.received;
-            table = b.table ∙ a.table;
-            reported = b.reported ∙ a.reported;
-            items = b.items ++ a.items;
-            sent = rw (b.sent, a.sent, append_assoc) refl;
-          };
-          sent = λ log item items. record {
-            received = refl;
-            table = refl;
-            reported = refl;
-            items = item ∷ items;
-            sent = refl;
-          };
-          unreturned = λ log count. stays_same log _ refl refl refl refl;
-        };
-        failed = λ log code. stays_same log _ refl refl refl refl;
+stays_by_calls = record {
+  failures = record {
+    writes = record {
+      none = λ log. stays_same log log refl refl refl refl;
+      twice = λ one two three a b. record {
+        received = b.received ∙ a.received;
+        table = b.table ∙ a.table;
+        reported = b.reported ∙ a.reported;
+        items = b.items ++ a.items;
+        sent = rw (b.sent, a.sent, append_assoc) refl;
       };
-      given = λ log more. stays_same log _ refl refl refl refl;
-    }
+      sent = λ log item items. record {
+        received = refl;
+        table = refl;
+        reported = refl;
+        items = item ∷ items;
+        sent = refl;
+      };
+      unreturned = λ log count. stays_same log _ refl refl refl refl;
+    };
+    failed = λ log code. stays_same log _ refl refl refl refl;
+  };
+  given = λ log more. stays_same log _ refl refl refl refl;
+}

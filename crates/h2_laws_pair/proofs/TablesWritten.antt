@@ -1,17 +1,15 @@
 -- What an end has sent decodes, from an empty table on, to the lists that it was given, and leaves
 -- its encoder's table.
-use Rattle.h2_laws_pair.proofs.Names.{◌≡◌, ℕ, ◌+◌, ◌≤◌, ◌==◌, min, Bool, true, false, if◌then◌else◌}
-use Rattle.h2_laws_pair.proofs.Names.{List, [], ◌∷◌, ◌++◌, length, refl, sym, ap, ◌∙◌, arith}
-use Rattle.h2_laws_pair.proofs.Names.{append_assoc, AllByRecursion, Field, EncoderState}
-use Rattle.h2_laws_pair.proofs.Names.{empty_table, list_size, Block, block_of, after_block}
-use Rattle.h2_laws_pair.proofs.Names.{block_encodes, Settings, Item, alone, block, total, max_list}
-use Rattle.h2_laws_pair.proofs.Names.{own_value, one_ack, settings_received, changes_encoder}
-use Rattle.h2_laws_pair.proofs.Names.{EncodesInOrder, sent_nothing, sent_acknowledgment, sent_block}
-use Rattle.h2_laws_pair.proofs.Names.{sent_other, DecodeInOrder}
 use Rattle.hpack.specs.Written.{IsValidEncoder, AreOctets}
 use Rattle.hpack.specs.Limits.{after_limit}
 use Rattle.hpack.proofs.WrittenBlocks.{block_goes_on}
 use Rattle.h2_spec_log.specs.ItemEffects.{encoder_after_settings}
+use Rattle.h2_laws_pair.proofs.Names
+use Names.{◌≡◌, ℕ, ◌+◌, ◌≤◌, ◌==◌, min, Bool, true, false, if◌then◌else◌, List, [], ◌∷◌, ◌++◌}
+use Names.{length, refl, sym, ap, ◌∙◌, arith, append_assoc, AllByRecursion, Field, EncoderState}
+use Names.{empty_table, list_size, Block, block_of, after_block, block_encodes, Settings, Item}
+use Names.{alone, block, total, max_list, own_value, one_ack, settings_received, changes_encoder}
+use Names.{EncodesInOrder, sent_nothing, sent_acknowledgment, sent_block, sent_other, DecodeInOrder}
 use Rattle.h2_laws_pair.proofs.TablesValues.{limit_after, limit_in_force}
 use Rattle.h2_laws_log.proofs.EncoderSteps.{pairs_limited}
 
@@ -98,19 +96,18 @@ pub sent_decodes : (peer sent : List Item) (newer settings : List (List (ℕ × 
     (lists : List (List Field)) (encoder : EncoderState)
     → settings_received peer ≡ newer ++ settings → AllByRecursion IsEncodable lists
     → EncodesInOrder sent settings lists encoder → IsDecodable peer sent settings lists encoder
-sent_decodes peer _ newer _ _ _ joined encodable sent_nothing =
+sent_decodes peer _ newer _ _ _ joined encodable sent_nothing = record {
+  has_limit = (
     record {
-      has_limit = (
-        record {
-          least = omega arith;
-          limit = omega arith;
-          maximum = omega arith;
-          within = omega arith;
-        },
-        refl,
-      );
-      decode = (refl, refl);
-    }
+      least = omega arith;
+      limit = omega arith;
+      maximum = omega arith;
+      within = omega arith;
+    },
+    refl,
+  );
+  decode = (refl, refl);
+}
 sent_decodes peer _ newer _ _ _ joined encodable
     (sent_acknowledgment {sent} {settings} {lists} {encoder} before pairs) =
     let is = sent_decodes peer sent (newer ++ pairs ∷ []) settings lists encoder

@@ -1,12 +1,11 @@
 -- How much output waits at an end of a pair.
-use Rattle.h2_laws_pair.proofs.Names.{◌≡◌, inl, inr, ℕ, ◌+◌, ◌≤◌, List, [], ◌∷◌, ◌++◌, None, refl}
-use Rattle.h2_laws_pair.proofs.Names.{sym, ap, ◌∙◌, arith, subst, AllByRecursion, Item, Role, total}
-use Rattle.h2_laws_pair.proofs.Names.{one_ping, one_answer, one_reset, max_frame_size_sent}
-use Rattle.h2_laws_pair.proofs.Names.{settings_count, one_ack, output, waiting, stream_of_log}
-use Rattle.h2_laws_pair.proofs.Names.{IsSendable, log_represents, written_is_allowed, total-append}
-use Rattle.h2_laws_pair.proofs.Names.{written_sendable, Half, AreUnderWay}
 use Rattle.h2_laws_log.proofs.ItemLists.{settings_after, total_after}
 use Rattle.h2_laws_machine.proofs.BoundedLogs.{few_resets}
+use Rattle.h2_laws_pair.proofs.Names
+use Names.{◌≡◌, inl, inr, ℕ, ◌+◌, ◌≤◌, List, [], ◌∷◌, ◌++◌, None, refl, sym, ap, ◌∙◌, arith, subst}
+use Names.{AllByRecursion, Item, Role, total, one_ping, one_answer, one_reset, max_frame_size_sent}
+use Names.{settings_count, one_ack, output, waiting, stream_of_log, IsSendable, log_represents}
+use Names.{written_is_allowed, total-append, written_sendable, Half, AreUnderWay}
 use Rattle.h2_laws_pair.proofs.Lists.{all_newer}
 use Rattle.h2_laws_pair.proofs.BothWays.{AreEnds, IsDirection, ends_of, back_of}
 use Rattle.h2_laws_pair.proofs.CarriedItems.{before, items_carried, way_of}

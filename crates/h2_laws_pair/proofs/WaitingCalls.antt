@@ -1,11 +1,4 @@
 -- After a call that is accepted no more output waits than calls and replies make.
-use Rattle.h2_laws_pair.proofs.Names.{◌≡◌, ℕ, ◌≤◌, false, length, refl, arith, ltb-false, list_size}
-use Rattle.h2_laws_pair.proofs.Names.{block_of, Reset, alone, Act, Open, SendFields, SendData}
-use Rattle.h2_laws_pair.proofs.Names.{Release, ResetStream, Refuse, PutOut, ChangeSettings, Done}
-use Rattle.h2_laws_pair.proofs.Names.{full_output, max_list, Log, last_processed, waiting}
-use Rattle.h2_laws_pair.proofs.Names.{max_payload_sent, log_view, ended_in, conditions, answer_of}
-use Rattle.h2_laws_pair.proofs.Names.{items_of, data_count, with_sent, called, Bool, List, [], ◌∷◌}
-use Rattle.h2_laws_pair.proofs.Names.{nat_lt, Field, block, SendGoAway}
 use Rattle.std.proofs.Common.{leb-false}
 use Rattle.h2_spec_log.specs.Acts.{SendPing, IsTypedAct}
 use Rattle.h2_spec_log.specs.CallRules.{is_full}
@@ -14,6 +7,12 @@ use Rattle.h2_laws_log.proofs.BlockSizes.{block_is_gathered}
 use Rattle.h2_laws_log.proofs.CallConditions.{AreFalse}
 use Rattle.h2_laws_log.proofs.ItemSizes.{size_of, size-block, size-ping, size-goaway, size-change}
 use Rattle.h2_laws_log.proofs.RulesByTests.{data_size, release_size, count_few}
+use Rattle.h2_laws_pair.proofs.Names
+use Names.{◌≡◌, ℕ, ◌≤◌, false, length, refl, arith, ltb-false, list_size, block_of, Reset, alone}
+use Names.{Act, Open, SendFields, SendData, Release, ResetStream, Refuse, PutOut, ChangeSettings}
+use Names.{Done, full_output, max_list, Log, last_processed, waiting, max_payload_sent, log_view}
+use Names.{ended_in, conditions, answer_of, items_of, data_count, with_sent, called, Bool, List, []}
+use Names.{◌∷◌, nat_lt, Field, block, SendGoAway}
 use Rattle.h2_laws_pair.proofs.WaitingReplies.{is_reply}
 use Rattle.h2_laws_pair.proofs.WaitingSteps.{Fits, fits_same, fits_reply, fits_small, has_space}
 
@@ -45,8 +44,7 @@ block_small log stream end fields small =
     let few = block_is_gathered log.encoder fields (ltb-false max_list (list_size fields) small) in
     omega (
       arith,
-      size-block (max_payload_sent log) stream end (block_of log.encoder fields)
-          (some_octets log),
+      size-block (max_payload_sent log) stream end (block_of log.encoder fields) (some_octets log),
     )
 
 -- A call was accepted.
@@ -84,5 +82,4 @@ fits_accepted before log SendGoAway typed none fits =
 fits_accepted before log (PutOut count) typed none fits =
     fits_same before log _ refl refl refl refl fits
 fits_accepted before log (ChangeSettings values) typed none fits =
-    fits_items before log (ChangeSettings values) none.1.0
-    (omega (arith, size-change)) fits
+    fits_items before log (ChangeSettings values) none.1.0 (omega (arith, size-change)) fits

@@ -1,14 +1,4 @@
 -- What an end has received lies in what the other has given out.
-use Rattle.h2_laws_pair.proofs.Names.{◌≡◌, ◌⊎◌, inl, inr, ℕ, ◌+◌, ◌≤◌, not, Bool, List, [], ◌∷◌}
-use Rattle.h2_laws_pair.proofs.Names.{◌++◌, length, take, drop, None, refl, sym, ap, ◌∙◌, arith}
-use Rattle.h2_laws_pair.proofs.Names.{append_assoc, append-nil, length-append, Option, true, false}
-use Rattle.h2_laws_pair.proofs.Names.{nat_le, if◌then◌else◌, take-append-drop, AllByRecursion}
-use Rattle.h2_laws_pair.proofs.Names.{Frame, Headers, Limits, Frames, expected_preface}
-use Rattle.h2_laws_pair.proofs.Names.{one_reading_lem, Item, Groups, Begun, alone, block, Role}
-use Rattle.h2_laws_pair.proofs.Names.{is_server, max_frame_size_sent, Log, stream_of_log}
-use Rattle.h2_laws_pair.proofs.Names.{AreSendable, frames_of_item, frames_by, oldest_first}
-use Rattle.h2_laws_pair.proofs.Names.{written_by_payloads, groups_now, overlap, IsPayload}
-use Rattle.h2_laws_pair.proofs.Names.{payloads_may, written_sendable_by, Half, AreUnderWay}
 use Rattle.std.proofs.Common.{length-take}
 use Rattle.h2_block.specs.Spread.{spread_frames, continuations}
 use Rattle.h2_laws_log.specs.Payloads.{encoding_by}
@@ -17,6 +7,14 @@ use Rattle.h2_laws_log.proofs.OutputRead.{items_read_by, items_grouped_by}
 use Rattle.h2_laws_log.proofs.PayloadOrigins.{payloads_counted}
 use Rattle.h2_laws_end.proofs.Grouped.{items_grouped as log_grouped}
 use Rattle.h2_laws_end.proofs.ReadPrefixes.{prefix_read}
+use Rattle.h2_laws_pair.proofs.Names
+use Names.{◌≡◌, ◌⊎◌, inl, inr, ℕ, ◌+◌, ◌≤◌, not, Bool, List, [], ◌∷◌, ◌++◌, length, take, drop}
+use Names.{None, refl, sym, ap, ◌∙◌, arith, append_assoc, append-nil, length-append, Option, true}
+use Names.{false, nat_le, if◌then◌else◌, take-append-drop, AllByRecursion, Frame, Headers, Limits}
+use Names.{Frames, expected_preface, one_reading_lem, Item, Groups, Begun, alone, block, Role}
+use Names.{is_server, max_frame_size_sent, Log, stream_of_log, AreSendable, frames_of_item}
+use Names.{frames_by, oldest_first, written_by_payloads, groups_now, overlap, IsPayload}
+use Names.{payloads_may, written_sendable_by, Half, AreUnderWay}
 use Rattle.h2_laws_pair.proofs.Lists.{all_older}
 use Rattle.h2_laws_pair.proofs.BothWays.{AreEnds}
 use Rattle.h2_laws_pair.proofs.ItemsRead.{frames_received}

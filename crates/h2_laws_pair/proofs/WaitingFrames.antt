@@ -1,15 +1,13 @@
 -- After what an end reads no more output waits than calls and replies make.
-use Rattle.h2_laws_pair.proofs.Names.{◌≡◌, ◌≤◌, ℕ, true, false, not, [], ◌∷◌, None, refl, length}
-use Rattle.h2_laws_pair.proofs.Names.{arith, code_number, Reset, Settings, Ping, expected_preface}
-use Rattle.h2_laws_pair.proofs.Names.{Item, alone, Role, Client, Server, Values, is_server}
-use Rattle.h2_laws_pair.proofs.Names.{stream_of_item, encoding_of_items, Log, max_payload_sent}
-use Rattle.h2_laws_pair.proofs.Names.{log_view, Verdict, StreamFault, NoEvent, replies_to}
-use Rattle.h2_laws_pair.proofs.Names.{opening_pairs, conditions, answer_of, read, with_sent, opened}
-use Rattle.h2_laws_pair.proofs.Names.{called, IsLog, fails_down, grows_wrote, IsLogInvariant}
-use Rattle.h2_laws_pair.proofs.Names.{kept_by_logs, none_holds}
 use Rattle.h2_wire.specs.Streams.{preface}
 use Rattle.h2_spec_log.specs.LogCalls.{before_opening}
 use Rattle.h2_laws_log.proofs.ItemSizes.{size_by, size-opening}
+use Rattle.h2_laws_pair.proofs.Names
+use Names.{◌≡◌, ◌≤◌, ℕ, true, false, not, [], ◌∷◌, None, refl, length, arith, code_number, Reset}
+use Names.{Settings, Ping, expected_preface, Item, alone, Role, Client, Server, Values, is_server}
+use Names.{stream_of_item, encoding_of_items, Log, max_payload_sent, log_view, Verdict, StreamFault}
+use Names.{NoEvent, replies_to, opening_pairs, conditions, answer_of, read, with_sent, opened}
+use Names.{called, IsLog, fails_down, grows_wrote, IsLogInvariant, kept_by_logs, none_holds}
 use Rattle.h2_laws_pair.proofs.WaitingReplies.{is_reply}
 use Rattle.h2_laws_pair.proofs.WaitingSteps.{Fits, fits_same, fits_reply, fits_small, fits_returned}
 use Rattle.h2_laws_pair.proofs.WaitingSteps.{fits_given}
@@ -60,26 +58,25 @@ fits_new Server values = fits_opened Server values (omega arith)
 -- Each change of a log keeps it, as long as the connection hasn't failed.
 fits_kept : (role : Role) (values : Values) → IsLogInvariant role values (λ log. log.failed ≡ None
     → Fits (length (expected_preface (not (is_server role)))) log)
-fits_kept role values =
-    record {
-      opening = λ in_range up. fits_new role values;
-      used = λ log octets unparsed is up. fits_same _ log _ refl refl refl refl (is up);
-      framed = λ log frames is up. fits_same _ log _ refl refl refl refl (is up);
-      begun = λ log begun is up. fits_same _ log _ refl refl refl refl (is up);
-      replied = λ log decoded item verdict replies is up.
-          fits_replies _ (read log decoded item) verdict item (fits_same _ log _ refl refl refl refl
-          (is ((grows_wrote (read log decoded item) _).up up)));
-      reported = λ log event events may is up. fits_same _ log _ refl refl refl refl (is up);
-      unreturned = λ log count is up. fits_same _ log _ refl refl refl refl (is up);
-      returned = λ log returns is up. fits_returned _ log returns.space
-          (is ((grows_wrote (record log { unreturned = 0 }) _).up up));
-      failed = λ log code last names is up. absurd (fails_down code last log up);
-      sent = λ log act accepted is up. fits_accepted _ log act accepted.typed
-          (none_holds (conditions (log_view log) act) accepted.none)
-          (is ((grows_wrote (called log act (answer_of (log_view log) act)) _).up up));
-      called = λ log act answer is_log none is up. fits_same _ log _ refl refl refl refl (is up);
-      given = λ log more is up. fits_given _ log more (is up);
-    }
+fits_kept role values = record {
+  opening = λ in_range up. fits_new role values;
+  used = λ log octets unparsed is up. fits_same _ log _ refl refl refl refl (is up);
+  framed = λ log frames is up. fits_same _ log _ refl refl refl refl (is up);
+  begun = λ log begun is up. fits_same _ log _ refl refl refl refl (is up);
+  replied = λ log decoded item verdict replies is up.
+      fits_replies _ (read log decoded item) verdict item (fits_same _ log _ refl refl refl refl
+      (is ((grows_wrote (read log decoded item) _).up up)));
+  reported = λ log event events may is up. fits_same _ log _ refl refl refl refl (is up);
+  unreturned = λ log count is up. fits_same _ log _ refl refl refl refl (is up);
+  returned = λ log returns is up. fits_returned _ log returns.space
+      (is ((grows_wrote (record log { unreturned = 0 }) _).up up));
+  failed = λ log code last names is up. absurd (fails_down code last log up);
+  sent = λ log act accepted is up. fits_accepted _ log act accepted.typed
+      (none_holds (conditions (log_view log) act) accepted.none)
+      (is ((grows_wrote (called log act (answer_of (log_view log) act)) _).up up));
+  called = λ log act answer is_log none is up. fits_same _ log _ refl refl refl refl (is up);
+  given = λ log more is up. fits_given _ log more (is up);
+}
 
 -- In each log that comes about, as long as the connection hasn't failed.
 pub fits_log : (role : Role) (values : Values) (log : Log) → IsLog role values log

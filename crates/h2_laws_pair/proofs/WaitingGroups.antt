@@ -43,15 +43,14 @@ record Split (start : Option Begun) (frames more : List Frame) (items : List Ite
 split_run : (start : Option Begun) (frames more : List Frame) (items : List Item)
     (begun : Option Begun) → Runs start (frames ++ more) items begun
     → Split start frames more items begun
-split_run start [] more items begun run =
-    record {
-      first = [];
-      between = start;
-      others = items;
-      items_are = refl;
-      first_run = (refl, refl);
-      other_run = run;
-    }
+split_run start [] more items begun run = record {
+  first = [];
+  between = start;
+  others = items;
+  items_are = refl;
+  first_run = (refl, refl);
+  other_run = run;
+}
 split_run start (frame ∷ frames) more items begun (sound, rest, joined, run) =
     let split = split_run (step_begun start frame) frames more rest begun run in
     record {
@@ -75,8 +74,7 @@ no_more_by : (frames more : List Frame) (items : List Item) (begun : Option Begu
 no_more_by frames [] items begun run split = refl
 no_more_by frames (frame ∷ more) items begun run split =
     let one = one_run None frames items split.first begun split.between run split.first_run in
-    let none : split.others ≡ [] =
-    nothing_after items split.others
+    let none : split.others ≡ [] = nothing_after items split.others
     (split.items_are ∙ ap (λ (line : List Item). line ++ split.others) (sym one.0)) in
     absurd (no_frames split.between frame more (rw none at split.other_run))
 

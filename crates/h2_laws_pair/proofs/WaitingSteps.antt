@@ -20,11 +20,10 @@ pub record Fits (before : ℕ) (log : Log) : Type 0 where
 -- A log with the same output.
 pub fits_same : (before : ℕ) (old new : Log) → new.written ≡ old.written → new.sent ≡ old.sent
     → new.payloads ≡ old.payloads → new.given ≡ old.given → Fits before old → Fits before new
-fits_same before old new written sent payloads given fits =
-    record {
-      written = rw (written, sent, payloads) fits.written;
-      waits = rw (sent, payloads, given) fits.waits;
-    }
+fits_same before old new written sent payloads given fits = record {
+  written = rw (written, sent, payloads) fits.written;
+  waits = rw (sent, payloads, given) fits.waits;
+}
 
 -- The octets that are added where items are sent.
 sent_length : (before : ℕ) (log : Log) (items : List Item) → Fits before log
@@ -69,15 +68,13 @@ pub fits_returned : (before : ℕ) (log : Log) → waiting log < full_output →
     → Fits before (with_credit_returned log)
 fits_returned before log space fits =
     fits_small before (record log { unreturned = 0 }) (alone (WindowUpdate 0 log.unreturned) ∷ [])
-    (has_space log space)
-    (omega (arith, size-update (max_payload_sent log) 0 log.unreturned))
+    (has_space log space) (omega (arith, size-update (max_payload_sent log) 0 log.unreturned))
     (fits_same before log (record log { unreturned = 0 }) refl refl refl refl fits)
 
 -- Output is given out.
 pub fits_given : (before : ℕ) (log : Log) (more : ℕ) → Fits before log
     → Fits before (record log { given = log.given + more })
-fits_given before log more fits =
-    record {
-      written = fits.written;
-      waits = omega (arith, replies_fall before log.given more log.payloads log.sent);
-    }
+fits_given before log more fits = record {
+  written = fits.written;
+  waits = omega (arith, replies_fall before log.given more log.payloads log.sent);
+}

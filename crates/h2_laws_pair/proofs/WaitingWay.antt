@@ -1,16 +1,15 @@
 -- Of replies at most one acknowledgment, one answer to a PING and 1,000 RST_STREAM are under way.
-use Rattle.h2_laws_pair.proofs.Names.{◌≡◌, ℕ, ◌+◌, ◌≤◌, not, if◌then◌else◌, Bool, true, false, List}
-use Rattle.h2_laws_pair.proofs.Names.{[], ◌∷◌, ◌++◌, length, Some, None, refl, arith, inl, inr}
-use Rattle.h2_laws_pair.proofs.Names.{eqb-true, AllByRecursion, Reset, Settings, Ping, Item, alone}
-use Rattle.h2_laws_pair.proofs.Names.{Role, total, one_ping, one_answer, one_reset}
-use Rattle.h2_laws_pair.proofs.Names.{max_frame_size_sent, settings_count, one_settings, one_ack}
-use Rattle.h2_laws_pair.proofs.Names.{AllowedHistory, Allowed, starts, reads, writes, IsSendable}
 use Rattle.h2_laws_log.proofs.SettingsLists.{settings_or, count_next, settings_one, count_none}
 use Rattle.std.proofs.Common.{◌*◌}
 use Rattle.h2_frame.specs.declared.owned.Unwritable.TheVariants.{TooLong, BadStream, BadValue}
 use Rattle.h2_frame.specs.Encoding.{refusal, has_good_values}
 use Rattle.h2_laws_log.proofs.ItemSizes.{size_of, size_by, size_by-more, size-ack, size-ping}
 use Rattle.h2_laws_log.proofs.ItemSizes.{size-reset}
+use Rattle.h2_laws_pair.proofs.Names
+use Names.{◌≡◌, ℕ, ◌+◌, ◌≤◌, not, if◌then◌else◌, Bool, true, false, List, [], ◌∷◌, ◌++◌, length}
+use Names.{Some, None, refl, arith, inl, inr, eqb-true, AllByRecursion, Reset, Settings, Ping, Item}
+use Names.{alone, Role, total, one_ping, one_answer, one_reset, max_frame_size_sent, settings_count}
+use Names.{one_settings, one_ack, AllowedHistory, Allowed, starts, reads, writes, IsSendable}
 use Rattle.h2_laws_pair.proofs.WaitingReplies.{is_reply, reply_size, replies_left}
 
 -- No refusal of writing is no refusal for values, by the tests.

@@ -1,17 +1,16 @@
 -- Limits of payloads with which both what an end has read and what its peer has written are read.
 -- A fault is one with them too, or a head that is too long for the end.
-use Rattle.h2_laws_pair.proofs.Names.{◌≡◌, ◌⊎◌, inl, inr, ℕ, ◌+◌, ◌<◌, ◌≤◌, Bool, List, [], ◌++◌}
-use Rattle.h2_laws_pair.proofs.Names.{length, Option, Some, None, refl, sym, ap, ◌∙◌, subst, arith}
-use Rattle.h2_laws_pair.proofs.Names.{append-nil, length-append, cases_lt, le-ltb, Code, Head}
-use Rattle.h2_laws_pair.proofs.Names.{Frame, WireFault, Limits, IsSound, Frames, none_some, Role}
-use Rattle.h2_laws_pair.proofs.Names.{Values, is_server, max_frame_size_sent, Log, limits_from}
-use Rattle.h2_laws_pair.proofs.Names.{IsLog, stream_of_log, read_here, head_of}
 use Rattle.std.proofs.Common.{max}
 use Rattle.h2_frame.specs.Heads.{head_fault, form_fault}
 use Rattle.h2_frame.proofs.HeadLemmas.{form_fault-head_fault, length-head_fault}
 use Rattle.h2_wire.specs.Streams.{IsAfterPreface, IsWrongHead, IsWrongPayload, EndsWithFault}
 use Rattle.h2_wire.proofs.FaultLemmas.{short_past}
 use Rattle.h2_wire.proofs.LimitLemmas.{read_wider}
+use Rattle.h2_laws_pair.proofs.Names
+use Names.{◌≡◌, ◌⊎◌, inl, inr, ℕ, ◌+◌, ◌<◌, ◌≤◌, Bool, List, [], ◌++◌, length, Option, Some, None}
+use Names.{refl, sym, ap, ◌∙◌, subst, arith, append-nil, length-append, cases_lt, le-ltb, Code}
+use Names.{Head, Frame, WireFault, Limits, IsSound, Frames, none_some, Role, Values, is_server}
+use Names.{max_frame_size_sent, Log, limits_from, IsLog, stream_of_log, read_here, head_of}
 use Rattle.h2_wire.specs.declared.fault.WireFault.TheVariants as faults
 
 -- at each place the limit that was in force, or that is from the next octet on, and no less than
@@ -40,8 +39,7 @@ sound_wider : (expects : Bool) (limits others : Limits) (frames : List Frame) (p
     → ((place : ℕ) → place ≤ length part → limits place ≤ others place)
     → IsSound expects limits frames part → IsSound expects others frames part
 sound_wider expects limits others frames part wider sound =
-    let past : IsAfterPreface expects limits part frames [] =
-    record {
+    let past : IsAfterPreface expects limits part frames [] = record {
       part = part;
       joined = sym (append-nil part);
       sound = sound;

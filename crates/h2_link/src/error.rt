@@ -1,5 +1,11 @@
 //! Why a connection over a link has ended early.
 
+ghost use Rattle.std.specs.Prelude.{◌≡◌};
+ghost use Rattle.h2_link.specs.declared.error.LinkError.TheVariants.{Device, Memory};
+
+use crate::link::LinkFault;
+use std::alloc::AllocError;
+use std::io;
 use thiserror::Error;
 
 // rule (text): links (own) N1 to N7 are printed with their names and codes
@@ -29,4 +35,28 @@ pub enum LinkError {
     /// N7: the request breaks a rule, or its fields are too many (E1, C10).
     #[error("N7 Refused")]
     Refused,
+}
+
+impl From<LinkFault> for LinkError {
+    ghost from_gives = { λ fault error. error ≡ Device };
+
+    fn from(_fault: LinkFault) -> LinkError {
+        LinkError::Device
+    }
+}
+
+impl From<io::Error> for LinkError {
+    ghost from_gives = { λ fault error. error ≡ Device };
+
+    fn from(_error: io::Error) -> LinkError {
+        LinkError::Device
+    }
+}
+
+impl From<AllocError> for LinkError {
+    ghost from_gives = { λ fault error. error ≡ Memory };
+
+    fn from(_error: AllocError) -> LinkError {
+        LinkError::Memory
+    }
 }

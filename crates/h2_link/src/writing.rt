@@ -27,11 +27,11 @@ pub fn write_all<L: Link>(link: &mut L, octets: &[u8]) -> Result<(), LinkError>
         if written == octets.len() {
             break;
         }
-        match link.write(&octets[written..]) {
-            Ok(0) => return Err(LinkError::NoProgress),
-            Ok(count) => written += count,
-            Err(_) => return Err(LinkError::Device),
+        let count = link.write(&octets[written..])?;
+        if count == 0 {
+            return Err(LinkError::NoProgress);
         }
+        written += count;
     }
     Ok(())
 }

@@ -1,4 +1,4 @@
-//! What is counted.
+//! The counts of a measurement: units and octets.
 
 /// `struct counts` of `measure.h`.
 #[repr(C)]
@@ -17,7 +17,7 @@ impl Counts {
         self.units = self.units.wrapping_add(1);
     }
 
-    /// So many octets more.
+    /// Adds to the number of octets.
     #[inline(always)]
     pub(crate) fn add_octets(&mut self, octets: usize) {
         self.octets = self.octets.wrapping_add(octets as u64);

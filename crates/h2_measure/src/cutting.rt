@@ -44,7 +44,7 @@ struct Reader {
     list: FieldList,
 }
 
-/// Cuts, groups and decodes so many times.
+/// Cuts, groups and decodes `rounds` times.
 pub(crate) fn cut_rounds(
     alloc: Global,
     octets: &[u8],

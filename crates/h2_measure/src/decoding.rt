@@ -8,7 +8,7 @@ use std::alloc::Global;
 /// The maximum and the limit of the table.
 const MAXIMUM: u32 = 4_096;
 
-/// Decodes the blocks so many times, into lists of their own.
+/// Decodes the blocks `rounds` times, into lists of their own.
 pub(crate) fn decode_rounds(alloc: Global, blocks: &[u8], rounds: u32, counts: &mut Counts) -> i32 {
     for _ in 0..rounds {
         if decode_round(alloc, blocks, counts).is_err() {
@@ -47,7 +47,7 @@ fn count_fields(list: &List, counts: &mut Counts) {
     }
 }
 
-/// Decodes the blocks so many times, into a list that is kept.
+/// Decodes the blocks `rounds` times, into a list that is kept.
 pub(crate) fn decode_into_rounds(
     alloc: Global,
     blocks: &[u8],

@@ -21,7 +21,7 @@ struct Encodable {
     ghost small: { size_of_list fields.items < 2 ^ 35 },
 }
 
-/// Encodes the lists so many times.
+/// Encodes the lists `rounds` times.
 pub(crate) fn encode_rounds(alloc: Global, lists: &[u8], rounds: u32, counts: &mut Counts) -> i32 {
     match read_lists(alloc, lists) {
         Ok(lists) => encode_lists(alloc, &lists, rounds, counts),
@@ -68,7 +68,8 @@ fn encode_each(
     Ok(())
 }
 
-/// Encodes the lists into blocks, and answers their octets together, or 0 where they don't fit.
+/// Encodes the lists into blocks, and returns the number of their octets, or 0 where they don't
+/// fit.
 pub(crate) fn write_blocks(alloc: Global, lists: &[u8], blocks: &mut [u8]) -> usize {
     match encode_all(alloc, lists) {
         Ok(octets) if octets.len() <= blocks.len() => {
@@ -130,7 +131,7 @@ fn read_lists(alloc: Global, lists: &[u8]) -> Result<Vec<Encodable>, Fault> {
     Ok(all)
 }
 
-/// Adds so many fields, and answers what follows them.
+/// Adds `count` fields, and returns what follows them.
 fn read_fields<'a>(
     alloc: Global,
     count: u32,

@@ -11,13 +11,14 @@ mod serving;
 use counts::Counts;
 use std::alloc::Global;
 
-/// Encodes the lists into blocks, and answers their octets together, or 0 where they don't fit.
+/// Encodes the lists into blocks, and returns the number of their octets, or 0 where they don't
+/// fit.
 #[unsafe(no_mangle)]
 pub extern "C" fn measure_blocks(alloc: Global, lists: &[u8], blocks: &mut [u8]) -> usize {
     encoding::write_blocks(alloc, lists, blocks)
 }
 
-/// Encodes the lists so many times.
+/// Encodes the lists `rounds` times.
 #[unsafe(no_mangle)]
 pub extern "C" fn measure_encode(
     alloc: Global,
@@ -28,7 +29,7 @@ pub extern "C" fn measure_encode(
     encoding::encode_rounds(alloc, lists, rounds, counts)
 }
 
-/// Decodes the blocks so many times, into lists of their own.
+/// Decodes the blocks `rounds` times, into lists of their own.
 #[unsafe(no_mangle)]
 pub extern "C" fn measure_decode(
     alloc: Global,
@@ -39,7 +40,7 @@ pub extern "C" fn measure_decode(
     decoding::decode_rounds(alloc, blocks, rounds, counts)
 }
 
-/// Decodes the blocks so many times, into a list that is kept.
+/// Decodes the blocks `rounds` times, into a list that is kept.
 #[unsafe(no_mangle)]
 pub extern "C" fn measure_decode_into(
     alloc: Global,
@@ -50,7 +51,7 @@ pub extern "C" fn measure_decode_into(
     decoding::decode_into_rounds(alloc, blocks, rounds, counts)
 }
 
-/// Cuts a client's octets, in pieces of so many, and decodes their field blocks, so many times.
+/// Cuts a client's octets, in pieces of `piece`, and decodes their field blocks, `rounds` times.
 #[unsafe(no_mangle)]
 pub extern "C" fn measure_cut(
     alloc: Global,
@@ -62,8 +63,8 @@ pub extern "C" fn measure_cut(
     cutting::cut_rounds(alloc, octets, piece, rounds, counts)
 }
 
-/// Serves a client's octets, in pieces of so many: each request is answered as it ends, with a body
-/// of so many octets, 65,536 at most.
+/// Serves a client's octets, in pieces of `piece`: each request is answered as it ends, with a
+/// body of `body` octets, 65,536 at most.
 #[unsafe(no_mangle)]
 pub extern "C" fn measure_serve(
     alloc: Global,

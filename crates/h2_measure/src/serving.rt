@@ -11,10 +11,10 @@ const OUTPUT_ROOM: usize = 1 << 18;
 /// The greatest frame that is read.
 const MAX_FRAME: u32 = 1_048_576;
 
-/// The fields of each answer, but for its length.
+/// The fields of each response, but for its length.
 const HEAD: [(&[u8], &[u8]); 2] = [(b":status", b"200"), (b"content-type", b"text/plain")];
 
-/// An allocation of so many octets shows the driver when to look at what is held.
+/// An allocation of this size shows the driver when to look at what is held.
 const MARK: usize = 0x00BE_1C0E;
 
 /// Why no more of the octets is served.
@@ -54,7 +54,7 @@ impl From<AllocError> for Stop {
     }
 }
 
-/// What is answered, and where output goes.
+/// The responses, and where output goes.
 #[derive(Drop)]
 struct Answers {
     head: Vec<Field>,
@@ -195,7 +195,7 @@ impl Answers {
         Ok(())
     }
 
-    /// Answers a request, and puts the answer out.
+    /// Answers a request, and puts the response out.
     fn answer(&mut self, conn: &mut Conn, id: u32, counts: &mut Counts) -> Result<(), Stop> {
         conn.fields(id, &self.head, false)?;
         conn.data(id, &self.body, true)?;

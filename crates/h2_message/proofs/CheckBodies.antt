@@ -1,10 +1,6 @@
 -- Whether the length of a body is wrong, as the checks say it.
-use Rattle.std.proofs.Common.{◌≡◌, ℕ, ◌||◌, Bool, true, false, List, [], codes, Option}
-use Rattle.std.proofs.Common.{refl, sym, ap, ◌∙◌}
-use Rattle.std.specs.Str.{bytes_eq}
-use Rattle.hpack.specs.declared.types.field.Field.{Field}
-use Rattle.h2_message.specs.Fields.{status_of}
-use Rattle.h2_message.specs.Messages.{is_without_content}
+use Rattle.h2_message.proofs.Names.{◌≡◌, ℕ, ◌||◌, Bool, true, false, List, [], codes, Option, refl}
+use Rattle.h2_message.proofs.Names.{sym, ap, ◌∙◌, bytes_eq, Field, status_of, is_without_content}
 use Rattle.hpack.proofs.LimitLemmas.{or_assoc as without-by}
 
 -- What follows a test that holds may be anything.

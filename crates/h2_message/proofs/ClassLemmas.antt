@@ -1,14 +1,12 @@
 -- The number that digits write, and when there is one.
-use Rattle.std.proofs.Common.{◌≡◌, ℕ, ◌+◌, ◌-◌, ◌*◌, ◌^◌, ◌<◌, ◌≤◌, List, Some}
-use Rattle.std.proofs.Common.{None, sym, ap, ◌∙◌, ◌&&◌, not, ltb, leb, eqb, length, drop}
-use Rattle.std.proofs.Common.{true, false, Bool, fold, arith, get_or, if◌then◌else◌}
+use Rattle.h2_message.proofs.Names.{◌≡◌, ℕ, ◌+◌, ◌-◌, ◌^◌, ◌<◌, ◌≤◌, List, Some, None, sym, ap, ◌∙◌}
+use Rattle.h2_message.proofs.Names.{◌&&◌, not, leb, eqb, length, drop, true, false, Bool, arith}
+use Rattle.h2_message.proofs.Names.{get_or, if◌then◌else◌, eqb-true, le-ltb, lt-ltb, drop_more}
+use Rattle.h2_message.proofs.Names.{all_ascii_digits, byte, is_bad_length, number_written}
+use Rattle.std.proofs.Common.{◌*◌, ltb, fold}
 use Rattle.std.proofs.Math.Nat.{pow-le-pow_right}
-use Rattle.std.proofs.lemmas.Bool.{and_left, and_right, and_from, eqb-true, eqb-false, le-ltb}
-use Rattle.std.proofs.lemmas.Bool.{lt-leb, lt-ltb, le-leb}
-use Rattle.std.proofs.lemmas.List.{drop_more}
+use Rattle.std.proofs.lemmas.Bool.{and_left, and_right, and_from, eqb-false, lt-leb, le-leb}
 use Rattle.std.specs.Char.{is_ascii_digit}
-use Rattle.std.specs.Str.{all_ascii_digits, byte}
-use Rattle.h2_message.specs.Octets.{is_bad_length, number_written}
 
 -- the number that digits write after those of n
 abbrev pub number_from : ℕ → List ℕ → ℕ
@@ -34,8 +32,7 @@ none_empty value h =
 pub none_long : (value : List ℕ) → 19 < length value → is_bad_length value ≡ true
 unfolding is_bad_length
 none_long value h =
-    ap not
-    (and_left (ltb 0 (length value) && leb (length value) 19) (all_ascii_digits value)
+    ap not (and_left (ltb 0 (length value) && leb (length value) 19) (all_ascii_digits value)
     (and_right (ltb 0 (length value)) (leb (length value) 19) (lt-leb (length value) 19 h)))
 
 -- an octet that is no digit, after digits: none
@@ -44,8 +41,7 @@ pub none_other : (value : List ℕ) (i : ℕ) → i < length value
     → all_ascii_digits (drop i value) ≡ all_ascii_digits value → is_bad_length value ≡ true
 unfolding is_bad_length
 none_other value i inside other before =
-    ap not
-    (and_right (ltb 0 (length value) && leb (length value) 19) (all_ascii_digits value)
+    ap not (and_right (ltb 0 (length value) && leb (length value) 19) (all_ascii_digits value)
     (sym before ∙ ap all_ascii_digits (drop_more value i 0 inside)
     ∙ and_left (is_ascii_digit (get_or value i 0)) (all_ascii_digits (drop (i + 1) value)) other))
 
@@ -56,17 +52,14 @@ unfolding is_bad_length
 is_number value some few digits =
     let ne = eqb-false (length value) 0 some in
     let more : 0 < length value = omega arith in
-    ap not
-    (and_from (ltb 0 (length value) && leb (length value) 19) (all_ascii_digits value)
+    ap not (and_from (ltb 0 (length value) && leb (length value) 19) (all_ascii_digits value)
     (and_from (ltb 0 (length value)) (leb (length value) 19) (lt-ltb 0 (length value) more)
-    (le-leb (length value) 19 few))
-    digits)
+    (le-leb (length value) 19 few)) digits)
 
 -- what is answered where there is no number, and where there is one
 pub no_length : (value : List ℕ) → is_bad_length value ≡ true
     → None ≡ (if is_bad_length value then None else Some (number_written value))
-no_length value bad =
-    sym (ap (λ (b : Bool). if b then None else Some (number_written value)) bad)
+no_length value bad = sym (ap (λ (b : Bool). if b then None else Some (number_written value)) bad)
 
 pub some_length : (value : List ℕ) → is_bad_length value ≡ false → (n : ℕ)
     → n ≡ number_written value

@@ -1,13 +1,12 @@
 -- From 32 octets at once to each of them, and from runs of 32 to the whole.
-use Rattle.std.proofs.Common.{◌≡◌, ◌≢◌, ℕ, zero, suc, ◌+◌, ◌*◌, ◌/◌, ◌%◌, ◌^◌, ◌<◌, ◌≤◌, eqb, leb}
-use Rattle.std.proofs.Common.{Bool, true, false, cond, not, ◌||◌, ◌&&◌, bit_or, bit_and, List, []}
-use Rattle.std.proofs.Common.{◌∷◌, length, map, replicate, drop, take, get_or, refl, sym, ap, ap₂}
-use Rattle.std.proofs.Common.{◌∙◌, arith, inl, inr}
+use Rattle.h2_message.proofs.Names.{◌≡◌, ℕ, ◌+◌, ◌^◌, ◌<◌, ◌≤◌, eqb, leb, Bool, true, false, cond}
+use Rattle.h2_message.proofs.Names.{not, ◌||◌, ◌&&◌, bit_or, List, [], ◌∷◌, length, map, drop, take}
+use Rattle.h2_message.proofs.Names.{get_or, refl, sym, ap, ap₂, ◌∙◌, arith, inl, inr}
+use Rattle.h2_message.proofs.Names.{list_any-append, list_any_at, drop_all, list_any}
+use Rattle.std.proofs.Common.{◌≢◌, zero, suc, ◌*◌, ◌/◌, ◌%◌, bit_and, replicate}
 use Rattle.std.proofs.lemmas.Bool.{cases_eq, eq-eqb, ne_eqb}
-use Rattle.std.proofs.lemmas.List.Folds.{list_any-append, list_any_at}
-use Rattle.std.proofs.lemmas.List.{take-append-drop, drop-drop, drop_all, length-map}
+use Rattle.std.proofs.lemmas.List.{take-append-drop, drop-drop, length-map}
 use Rattle.std.proofs.lemmas.Simd.{map-map, mask_l-mod, zip2_splat, zip2_splat_left}
-use Rattle.std.specs.List.{list_any}
 use Rattle.std.specs.Simd.{first_chunks}
 use lib.Lanes.{mask_l, top, zip2}
 use Rattle.hpack.proofs.LimitLemmas.{or_assoc as or-assoc}

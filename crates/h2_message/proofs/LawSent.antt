@@ -1,19 +1,13 @@
 -- A message that breaks no rule as it is sent breaks none as it is read.
-use Rattle.std.proofs.Common.{◌≡◌, ℕ, Bool, true, false, List, length, Option, None, Some}
-use Rattle.std.proofs.Common.{refl, sym, ◌∙◌}
 use Rattle.std.specs.Prelude.{◌==◌, nat_lt, not, if◌then◌else◌}
-use Rattle.std.specs.List.{sum_by}
-use Rattle.std.proofs.lemmas.Bool.{or_parts, eqb-true}
-use Rattle.hpack.specs.declared.types.field.Field.{Field}
-use Rattle.h2_message.specs.declared.reading.Reads.TheVariants.{Requests, Responses}
-use Rattle.h2_message.specs.Fields.{has_bad_name, has_bad_value, has_late_pseudo, has_pseudo}
-use Rattle.h2_message.specs.Fields.{has_connection_field, has_bad_length, declared_length}
-use Rattle.h2_message.specs.Messages.{SentMessage, trailer_fields, differs_from, has_wrong_body}
-use Rattle.h2_message.specs.Messages.{is_without_content, head_rules, request_head_rules}
-use Rattle.h2_message.specs.Messages.{response_head_rules, trailer_rules, request_rules}
-use Rattle.h2_message.specs.Messages.{response_rules, broken_by_request, broken_by_response}
-use Rattle.h2_message.specs.Reading.{IsWellRead, as_read, final_rules, compared_length}
-use Rattle.h2_message.specs.Reading.{IsDeclared, AreSoundTrailers}
+use Rattle.h2_message.proofs.Names
+use Names.{◌≡◌, ℕ, Bool, true, false, List, length, Option, None, Some, refl, sym, ◌∙◌, sum_by}
+use Names.{or_parts, eqb-true, Field, Requests, Responses, has_bad_name, has_bad_value}
+use Names.{has_late_pseudo, has_pseudo, has_connection_field, has_bad_length, declared_length}
+use Names.{SentMessage, trailer_fields, differs_from, has_wrong_body, is_without_content}
+use Names.{head_rules, request_head_rules, response_head_rules, trailer_rules, request_rules}
+use Names.{response_rules, broken_by_request, broken_by_response, IsWellRead, as_read, final_rules}
+use Names.{compared_length, IsDeclared, AreSoundTrailers}
 use Rattle.h2_message.proofs.ReadingRules.{NoneHold, none_hold, none_broken}
 use Rattle.h2_message.proofs.ReadingWhole.{no_interims}
 use Rattle.hpack.proofs.Tests.{not_false as same_by_test}
@@ -47,8 +41,7 @@ sent_request message data_parts none counted =
     let last = others.1.1.1.1.1 in
     let connection =
     or_parts (has_connection_field message.head) (has_connection_field trailers) last.0 in
-    let lengths =
-    or_parts (has_bad_length message.head)
+    let lengths = or_parts (has_bad_length message.head)
     (differs_from (declared_length message.head) (length message.body)) last.1.0 in
     record {
       interims = no_interims Requests;
@@ -77,8 +70,7 @@ sent_request message data_parts none counted =
           ),
         ),
       );
-      trailers = sound_trailers message.trailers
-          (name.1, (value.1, (place.1, (connection.1, tt))));
+      trailers = sound_trailers message.trailers (name.1, (value.1, (place.1, (connection.1, tt))));
       declared = declared_same (declared_length message.head) (sum_by length data_parts)
           (length message.body) lengths.1 counted;
     }
@@ -136,8 +128,7 @@ sent_response to_head message data_parts none counted =
           ),
         ),
       );
-      trailers = sound_trailers message.trailers
-          (name.1, (value.1, (place.1, (connection.1, tt))));
+      trailers = sound_trailers message.trailers (name.1, (value.1, (place.1, (connection.1, tt))));
       declared = response_declared (declared_length message.head)
           (is_without_content to_head message.head) (nat_lt 0 (length message.body))
           (sum_by length data_parts) (length message.body) lengths.1 counted;

@@ -1,4 +1,5 @@
 mod LaneLemmas
+mod Names
 mod OctetLemmas
 mod ClassLemmas
 pub mod ReadingRules

@@ -1,12 +1,8 @@
 -- The method of a head, found field by field.
-use Rattle.std.proofs.Common.{◌≡◌, ℕ, ◌+◌, ◌<◌, ◌≤◌, Bool, true, false, cond, List, length, drop}
-use Rattle.std.proofs.Common.{get_or, codes, Some, refl, sym, ap, ◌∙◌}
-use Rattle.std.specs.Str.{bytes_eq}
-use Rattle.std.proofs.Math.ListN.{drop_of_length-le}
-use Rattle.std.proofs.lemmas.List.{drop_more}
-use Rattle.hpack.specs.declared.types.field.Field.{Field}
-use Rattle.h2_message.specs.Fields.{is_named, value_of, value_or_nothing, or_nothing}
-use Rattle.h2_message.specs.Messages.{asks_head}
+use Rattle.h2_message.proofs.Names.{◌≡◌, ℕ, ◌+◌, ◌<◌, ◌≤◌, Bool, true, false, cond, List, length}
+use Rattle.h2_message.proofs.Names.{drop, get_or, codes, Some, refl, sym, ap, ◌∙◌, bytes_eq}
+use Rattle.h2_message.proofs.Names.{drop_of_length-le, drop_more, Field, is_named, value_of}
+use Rattle.h2_message.proofs.Names.{value_or_nothing, or_nothing, asks_head}
 
 -- The first `:method` decides.
 pub method-here : (head : List Field) (index : ℕ) (other : Field) → index < length head

@@ -1,8 +1,7 @@
 -- The blank at the end of a value.
-use Rattle.std.proofs.Common.{◌≡◌, ℕ, ◌-◌, ◌<◌, false, List, [], ◌∷◌, length, reverse, get_or}
-use Rattle.std.proofs.Common.{refl, sym, ap, ◌∙◌, arith}
+use Rattle.h2_message.proofs.Names.{◌≡◌, ℕ, ◌-◌, ◌<◌, false, List, [], ◌∷◌, length, reverse, get_or}
+use Rattle.h2_message.proofs.Names.{refl, sym, ap, ◌∙◌, arith, begins_blank, is_blank}
 use Rattle.std.proofs.lemmas.List.{get_or-reverse}
-use Rattle.h2_message.specs.Octets.{begins_blank, is_blank}
 
 begins_at : (xs : List ℕ) → begins_blank xs ≡ is_blank (get_or xs 0 0)
 unfolding begins_blank is_blank

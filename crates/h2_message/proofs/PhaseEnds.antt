@@ -1,17 +1,11 @@
 -- What the phase says of the parts before it.
-use Rattle.std.proofs.Common.{◌≡◌, ℕ, ◌-◌, Bool, true, false, List, [], ◌∷◌, ◌++◌, length}
-use Rattle.std.proofs.Common.{Option, None, Some, refl, sym}
 use Rattle.std.specs.Prelude.{if◌then◌else◌, nat_lt, is_some, not, ◌||◌}
-use Rattle.hpack.specs.declared.types.field.Field.{Field}
-use Rattle.h2_message.specs.declared.reading.Reads.{Reads}
-use Rattle.h2_message.specs.declared.reading.Reads.TheVariants.{Requests, Responses}
-use Rattle.h2_message.specs.declared.reading.Phase.{Phase}
-use Rattle.h2_message.specs.declared.reading.Phase.TheVariants.{AtHead, InBody, AtEnd}
-use Rattle.h2_message.specs.Messages.{first_broken, interim_rules, trailer_rules}
-use Rattle.h2_message.specs.Reading.{Part, FieldsPart, OctetsPart, final_rules, compared_length}
-use Rattle.h2_message.specs.Phases.{is_short, phase_in_body, phase_after_final, phase_after_head}
-use Rattle.h2_message.specs.Phases.{phase_after_data, phase_after, phase_after_all}
-use Rattle.h2_message.specs.Phases.{asks_head_first, ends_message}
+use Rattle.h2_message.proofs.Names
+use Names.{◌≡◌, ℕ, ◌-◌, Bool, true, false, List, [], ◌∷◌, ◌++◌, length, Option, None, Some, refl}
+use Names.{sym, Field, Reads, Requests, Responses, Phase, AtHead, InBody, AtEnd, first_broken}
+use Names.{interim_rules, trailer_rules, Part, FieldsPart, OctetsPart, final_rules, compared_length}
+use Names.{is_short, phase_in_body, phase_after_final, phase_after_head, phase_after_data}
+use Names.{phase_after, phase_after_all, asks_head_first, ends_message}
 use Rattle.h2_message.proofs.PhaseSteps.{after_none}
 use Rattle.h2_message.proofs.ReadingSteps.{passes, ends_body, trailers_tests}
 

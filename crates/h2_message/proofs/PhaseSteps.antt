@@ -1,12 +1,8 @@
 -- The phase after parts, step by step.
-use Rattle.std.proofs.Common.{◌≡◌, ℕ, ◌<◌, ◌≤◌, Bool, true, false, List, [], ◌∷◌, ◌++◌}
-use Rattle.std.proofs.Common.{Option, None, Some, refl, sym, ap, ◌∙◌, arith}
-use Rattle.std.specs.Option.{unwrap_or}
-use Rattle.std.proofs.lemmas.Bool.{lt-ltb, le-ltb}
-use Rattle.h2_message.specs.declared.reading.Reads.{Reads}
-use Rattle.h2_message.specs.declared.reading.Phase.{Phase}
-use Rattle.h2_message.specs.Reading.{Part}
-use Rattle.h2_message.specs.Phases.{is_short, phase_after, phase_after_all}
+use Rattle.h2_message.proofs.Names.{◌≡◌, ℕ, ◌<◌, ◌≤◌, Bool, true, false, List, [], ◌∷◌, ◌++◌}
+use Rattle.h2_message.proofs.Names.{Option, None, Some, refl, sym, ap, ◌∙◌, arith, unwrap_or}
+use Rattle.h2_message.proofs.Names.{lt-ltb, le-ltb, Reads, Phase, Part, is_short, phase_after}
+use Rattle.h2_message.proofs.Names.{phase_after_all}
 
 -- After a part that is not taken nothing is.
 pub after_none : (reads : Reads) (parts : List (Part × Bool))
@@ -22,8 +18,7 @@ pub after_both : (reads : Reads) (phase : Option Phase) (parts more : List (Part
 unfolding phase_after_all
 after_both reads None parts more =
     after_none reads (parts ++ more) ∙ sym (after_none reads more)
-    ∙ ap (λ (phase : Option Phase). phase_after_all reads phase more)
-    (sym (after_none reads parts))
+    ∙ ap (λ (phase : Option Phase). phase_after_all reads phase more) (sym (after_none reads parts))
 after_both reads (Some phase) [] more = refl
 after_both reads (Some phase) (part ∷ parts) more =
     after_both reads (phase_after reads phase part) parts more

@@ -1,22 +1,13 @@
 -- A whole message that breaks no rule is read to its end.
-use Rattle.std.proofs.Common.{◌≡◌, ℕ, ◌+◌, ◌-◌, ◌≤◌, Bool, true, false, List, [], ◌∷◌, ◌++◌, length}
-use Rattle.std.proofs.Common.{Option, None, Some, refl, ap, ◌∙◌, arith}
 use Rattle.std.specs.Prelude.{map}
-use Rattle.std.specs.List.{AllByRecursion, sum_by}
-use Rattle.std.proofs.lemmas.Bool.{le-ltb}
-use Rattle.std.proofs.lemmas.List.Sums.{sum_by-cons}
-use Rattle.hpack.specs.declared.types.field.Field.{Field}
-use Rattle.h2_message.specs.declared.reading.Reads.{Reads}
-use Rattle.h2_message.specs.declared.reading.Reads.TheVariants.{Requests, Responses}
-use Rattle.h2_message.specs.declared.reading.Phase.{Phase}
-use Rattle.h2_message.specs.declared.reading.Phase.TheVariants.{AtHead, InBody, AtEnd}
-use Rattle.h2_message.specs.Messages.{first_broken, interim_rules}
-use Rattle.h2_message.specs.Reading.{Part, FieldsPart, OctetsPart, BreakNone, ReadMessage}
-use Rattle.h2_message.specs.Reading.{final_rules, compared_length, IsDeclared, AreSoundTrailers}
-use Rattle.h2_message.specs.Reading.{AreSoundInterims, IsWellRead, trailers_parts, final_parts}
-use Rattle.h2_message.specs.Reading.{ended, message_parts, IsReadable}
-use Rattle.h2_message.specs.Phases.{is_short, phase_in_body, phase_after_final, phase_after_head}
-use Rattle.h2_message.specs.Phases.{phase_after_data, phase_after, phase_after_all}
+use Rattle.h2_message.proofs.Names
+use Names.{◌≡◌, ℕ, ◌+◌, ◌-◌, ◌≤◌, Bool, true, false, List, [], ◌∷◌, ◌++◌, length, Option, None}
+use Names.{Some, refl, ap, ◌∙◌, arith, AllByRecursion, sum_by, le-ltb, sum_by-cons, Field, Reads}
+use Names.{Requests, Responses, Phase, AtHead, InBody, AtEnd, first_broken, interim_rules, Part}
+use Names.{FieldsPart, OctetsPart, BreakNone, ReadMessage, final_rules, compared_length, IsDeclared}
+use Names.{AreSoundTrailers, AreSoundInterims, IsWellRead, trailers_parts, final_parts, ended}
+use Names.{message_parts, IsReadable, is_short, phase_in_body, phase_after_final, phase_after_head}
+use Names.{phase_after_data, phase_after, phase_after_all}
 use Rattle.h2_message.proofs.ReadingRules.{some_not_none, not_both}
 use Rattle.h2_message.proofs.PhaseSteps.{after_none, after_both}
 

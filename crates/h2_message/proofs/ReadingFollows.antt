@@ -1,20 +1,14 @@
 -- What a reading is after one part more.
-use Rattle.std.proofs.Common.{◌≡◌, ℕ, Bool, true, false, List, [], ◌∷◌, ◌++◌, length}
-use Rattle.std.proofs.Common.{Option, None, Some, refl, sym, ap, ◌∙◌}
+use Rattle.h2_message.proofs.Names.{◌≡◌, ℕ, Bool, true, false, List, [], ◌∷◌, ◌++◌, length, Option}
+use Rattle.h2_message.proofs.Names.{None, Some, refl, sym, ap, ◌∙◌, Field, Reads, Requests, Phase}
+use Rattle.h2_message.proofs.Names.{AtHead, InBody, asks_head, Part, FieldsPart, OctetsPart}
+use Rattle.h2_message.proofs.Names.{IsReadable, phase_after_head, phase_after_data, phase_after}
+use Rattle.h2_message.proofs.Names.{phase_after_all, asks_head_first, place_at_head, place_in}
 use Rattle.std.specs.Prelude.{◌≢◌, IsNone, IfSome}
-use Rattle.hpack.specs.declared.types.field.Field.{Field}
-use Rattle.h2_message.specs.declared.reading.Reads.{Reads}
-use Rattle.h2_message.specs.declared.reading.Reads.TheVariants.{Requests}
-use Rattle.h2_message.specs.declared.reading.Phase.{Phase}
-use Rattle.h2_message.specs.declared.reading.Phase.TheVariants.{AtHead, InBody}
 use Rattle.h2_message.specs.declared.reading.Place.{Place}
 use Rattle.h2_message.specs.declared.reading.Place.TheVariants as places
 use Rattle.h2_message.specs.declared.reading.Reading.{Reading}
-use Rattle.h2_message.specs.Messages.{asks_head}
-use Rattle.h2_message.specs.Reading.{Part, FieldsPart, OctetsPart, IsReadable}
-use Rattle.h2_message.specs.Phases.{phase_after_head, phase_after_data, phase_after}
-use Rattle.h2_message.specs.Phases.{phase_after_all, phase_if_taken, asks_head_first, Follows}
-use Rattle.h2_message.specs.Phases.{place_at_head, place_in, FollowsFields, FollowsData}
+use Rattle.h2_message.specs.Phases.{phase_if_taken, Follows, FollowsFields, FollowsData}
 use Rattle.h2_message.proofs.PhaseSteps.{after_both}
 use Rattle.h2_message.proofs.PhaseWhole.{after_one, not_readable}
 use Rattle.h2_message.proofs.ReadingSteps.{readable}
@@ -35,8 +29,7 @@ refused : (reads : Reads) (parts : List (Part × Bool)) (part : Part × Bool) (o
     → IsReadable reads (parts ++ part ∷ []) → ⊥
 unfolding phase_after_all
 refused reads parts part old follows none =
-    not_readable reads (parts ++ part ∷ [])
-    (phase_of_both reads parts part old follows
+    not_readable reads (parts ++ part ∷ []) (phase_of_both reads parts part old follows
     ∙ ap (λ (phase : Option Phase). phase_after_all reads phase []) none)
 
 -- A part that is taken.
@@ -92,13 +85,11 @@ head_follows reads parts list end
     (Some found) old new follows due phase none place same asks stays =
     let is : phase_after reads old.phase (FieldsPart list, end) ≡ Some new.phase =
     rw (due, ← follows.reads_is) phase in (
-      taken_part reads parts (FieldsPart list, end) old new follows is same
-          (
+      taken_part reads parts (FieldsPart list, end) old new follows is same (
           λ requests. asks_first parts list end new.asks_head
           (no_parts parts (rw (requests, due) at follows.phase))
           (asks (follows.reads_is ∙ requests))
-          )
-          (λ others. stays (λ requests. others (sym follows.reads_is ∙ requests))),
+          ) (λ others. stays (λ requests. others (sym follows.reads_is ∙ requests))),
       rw (follows.phase, due, ← follows.reads_is) place,
     )
 
@@ -110,12 +101,10 @@ pub trailers_follow : (reads : Reads) (parts : List (Part × Bool)) (list : List
     → FollowsFields reads parts list end (Some places.Trailers) old new
 unfolding FollowsFields place_in
 trailers_follow reads parts list end left old new follows due phase same asks = (
-  taken_part reads parts (FieldsPart list, end) old new follows (rw due phase) same
-      (
+  taken_part reads parts (FieldsPart list, end) old new follows (rw due phase) same (
       asks_still reads parts (FieldsPart list, end) old new follows
       (λ (head : old.phase ≡ AtHead). cc) asks
-      )
-      (λ others. asks),
+      ) (λ others. asks),
   rw (follows.phase, due),
 )
 
@@ -136,12 +125,10 @@ pub data_follows : (reads : Reads) (parts : List (Part × Bool)) (octets : List 
     → FollowsData reads parts octets end true old new
 unfolding FollowsData phase_after
 data_follows reads parts octets end left old new follows due phase same asks =
-    taken_part reads parts (OctetsPart octets, end) old new follows (rw due phase) same
-    (
+    taken_part reads parts (OctetsPart octets, end) old new follows (rw due phase) same (
     asks_still reads parts (OctetsPart octets, end) old new follows
     (λ (head : old.phase ≡ AtHead). cc) asks
-    )
-    (λ others. asks)
+    ) (λ others. asks)
 
 pub data_refused : (reads : Reads) (parts : List (Part × Bool)) (octets : List ℕ) (end : Bool)
     (phase : Phase) (old new : Reading) → Follows reads parts old → old.phase ≡ phase

@@ -1,21 +1,14 @@
 -- Which phase comes after a head, and which part of a message it is.
-use Rattle.std.proofs.Common.{◌≡◌, Bool, true, false, List, None, Some}
-use Rattle.std.proofs.Common.{◌⊎◌, inl, inr, refl}
 use Rattle.std.specs.Prelude.{is_some, not, ◌||◌}
-use Rattle.hpack.specs.declared.types.field.Field.{Field}
-use Rattle.h2_message.specs.declared.reading.Reads.TheVariants.{Requests, Responses}
-use Rattle.h2_message.specs.declared.reading.Phase.TheVariants.{AtHead}
-use Rattle.h2_message.specs.declared.reading.Place.TheVariants as places
-use Rattle.h2_message.specs.Messages.{first_broken, head_rules, request_head_rules}
-use Rattle.h2_message.specs.Messages.{response_head_rules, interim_rules}
-use Rattle.h2_message.specs.Fields.{has_bad_status, is_interim, has_bad_length, declared_length}
-use Rattle.h2_message.specs.Reading.{final_rules, compared_length}
-use Rattle.h2_message.specs.Phases.{phase_in_body, phase_after_final, phase_after_head}
-use Rattle.h2_message.specs.Phases.{place_at_head}
-use Rattle.h2_message.proofs.ReadingRules.{none_hold, some_not_none, interim_status}
+use Rattle.h2_message.proofs.Names
+use Names.{◌≡◌, Bool, true, false, List, None, Some, ◌⊎◌, inl, inr, refl, Field, Requests}
+use Names.{Responses, AtHead, first_broken, head_rules, request_head_rules, response_head_rules}
+use Names.{interim_rules, has_bad_status, is_interim, has_bad_length, declared_length, final_rules}
+use Names.{compared_length, phase_in_body, phase_after_final, phase_after_head, place_at_head}
+use Rattle.h2_message.proofs.ReadingRules.{none_hold, some_not_none, interim_status, final_status}
 use Rattle.hpack.proofs.Tests.{none_since as none_not_some}
-use Rattle.h2_message.proofs.ReadingRules.{final_status}
 use Rattle.h2_message.proofs.PhaseWhole.{after_final, after_interim}
+use Rattle.h2_message.specs.declared.reading.Place.TheVariants as places
 
 -- A head that breaks no rule has no bad length.
 pub request_length : (list : List Field)
@@ -71,8 +64,7 @@ is_status_interim list = not (has_bad_status list || not (is_interim list))
 final_broken : (list : List Field) → is_status_interim list ≡ true
     → is_some (first_broken (response_head_rules list)) ≡ true
 final_broken list interim =
-    some_not_none (first_broken (response_head_rules list))
-    (
+    some_not_none (first_broken (response_head_rules list)) (
     λ none. let one = status_is_interim (has_bad_status list) (is_interim list) interim in
     let other = final_status list none in cc
     )
@@ -80,10 +72,8 @@ final_broken list interim =
 interim_broken : (list : List Field) → is_status_interim list ≡ false
     → is_some (first_broken (interim_rules list)) ≡ true
 interim_broken list final =
-    some_not_none (first_broken (interim_rules list))
-    (
-    λ none. status_is_final (has_bad_status list) (is_interim list) final
-    (interim_status list none)
+    some_not_none (first_broken (interim_rules list)) (
+    λ none. status_is_final (has_bad_status list) (is_interim list) final (interim_status list none)
     )
 
 -- The head of an interim response.
@@ -108,8 +98,7 @@ pub interim_taken : (to_head : Bool) (list : List Field) (end : Bool) → end �
     → is_some (first_broken (interim_rules list)) ≡ false
     → phase_after_head (Responses to_head) list end ≡ Some AtHead
 interim_taken to_head list end goes none =
-    rw goes
-    (after_interim to_head list (none_not_some (first_broken (interim_rules list)) none))
+    rw goes (after_interim to_head list (none_not_some (first_broken (interim_rules list)) none))
 
 pub interim_place : (to_head : Bool) (list : List Field)
     → is_some (first_broken (interim_rules list)) ≡ false

@@ -1,15 +1,9 @@
 -- Which phase comes after trailers and after octets.
-use Rattle.std.proofs.Common.{◌≡◌, ℕ, ◌-◌, ◌<◌, ◌≤◌, Bool, true, false, List, Option, None, Some}
-use Rattle.std.proofs.Common.{◌⊎◌, inl, inr, refl}
 use Rattle.std.specs.Prelude.{is_some, not, ◌||◌}
-use Rattle.std.proofs.lemmas.Bool.{lt-ltb, le-ltb}
-use Rattle.hpack.specs.declared.types.field.Field.{Field}
-use Rattle.h2_message.specs.declared.reading.Reads.{Reads}
-use Rattle.h2_message.specs.declared.reading.Phase.{Phase}
-use Rattle.h2_message.specs.declared.reading.Phase.TheVariants.{AtHead, InBody, AtEnd}
-use Rattle.h2_message.specs.Messages.{first_broken, trailer_rules}
-use Rattle.h2_message.specs.Reading.{FieldsPart, OctetsPart}
-use Rattle.h2_message.specs.Phases.{is_short, phase_in_body, phase_after_data, phase_after}
+use Rattle.h2_message.proofs.Names
+use Names.{◌≡◌, ℕ, ◌-◌, ◌<◌, ◌≤◌, Bool, true, false, List, Option, None, Some, ◌⊎◌, inl, inr, refl}
+use Names.{lt-ltb, le-ltb, Field, Reads, Phase, AtHead, InBody, AtEnd, first_broken, trailer_rules}
+use Names.{FieldsPart, OctetsPart, is_short, phase_in_body, phase_after_data, phase_after}
 
 -- One test that holds is enough.
 one_holds : (end short broken : Bool)

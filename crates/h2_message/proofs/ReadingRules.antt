@@ -1,15 +1,10 @@
 -- Which conditions hold where no rule is broken.
-use Rattle.std.proofs.Common.{◌≡◌, Bool, true, false, List, [], ◌∷◌, Option, None, Some, refl}
-use Rattle.std.proofs.Common.{◌⊎◌, inl, inr, sym, ap, ◌∙◌}
+use Rattle.h2_message.proofs.Names.{◌≡◌, Bool, true, false, List, [], ◌∷◌, Option, None, Some, refl}
+use Rattle.h2_message.proofs.Names.{◌⊎◌, inl, inr, sym, ap, ◌∙◌, AllByRecursion, Field, Responses}
+use Rattle.h2_message.proofs.Names.{Malformed, first_broken, head_rules, response_head_rules}
+use Rattle.h2_message.proofs.Names.{interim_rules, is_without_content, has_bad_status, is_interim}
+use Rattle.h2_message.proofs.Names.{declared_length, BreakNone, compared_length}
 use Rattle.std.specs.Prelude.{is_some, not, ◌||◌}
-use Rattle.std.specs.List.{AllByRecursion}
-use Rattle.hpack.specs.declared.types.field.Field.{Field}
-use Rattle.h2_message.specs.declared.reading.Reads.TheVariants.{Responses}
-use Rattle.h2_message.specs.declared.malformed.Malformed.{Malformed}
-use Rattle.h2_message.specs.Messages.{first_broken, head_rules, response_head_rules, interim_rules}
-use Rattle.h2_message.specs.Messages.{is_without_content}
-use Rattle.h2_message.specs.Fields.{has_bad_status, is_interim, declared_length}
-use Rattle.h2_message.specs.Reading.{BreakNone, compared_length}
 
 -- No condition of a rule holds.
 abbrev pub NoneHold : List (Bool × Malformed) → Type 0

@@ -1,23 +1,15 @@
 -- Whatever was taken begins a whole message that breaks no rule.
-use Rattle.std.proofs.Common.{◌≡◌, ℕ, ◌+◌, ◌-◌, Bool, true, false, List, [], ◌∷◌, ◌++◌, length}
-use Rattle.std.proofs.Common.{Option, None, Some, refl, sym, ap, ◌∙◌, arith}
 use Rattle.std.specs.Prelude.{if◌then◌else◌, nat_lt, is_some, not, ◌||◌}
-use Rattle.std.specs.List.{sum_by}
 use Rattle.std.proofs.lemmas.Bool.{ltb-false}
-use Rattle.std.proofs.lemmas.List.Sums.{sum_by-cons}
-use Rattle.hpack.specs.declared.types.field.Field.{Field}
-use Rattle.h2_message.specs.declared.reading.Reads.{Reads}
-use Rattle.h2_message.specs.declared.reading.Reads.TheVariants.{Requests, Responses}
-use Rattle.h2_message.specs.declared.reading.Phase.{Phase}
-use Rattle.h2_message.specs.declared.reading.Phase.TheVariants.{AtHead, InBody, AtEnd}
-use Rattle.h2_message.specs.Messages.{first_broken, interim_rules, trailer_rules}
-use Rattle.h2_message.specs.Reading.{Part, FieldsPart, OctetsPart, BreakNone}
-use Rattle.h2_message.specs.Reading.{final_rules, compared_length, IsDeclared, AreSoundTrailers}
-use Rattle.h2_message.specs.Reading.{AreSoundInterims, trailers_parts, message_parts, final_parts}
-use Rattle.h2_message.specs.Reading.{ended, IsReadable}
-use Rattle.h2_message.specs.Phases.{is_short, phase_in_body, phase_after_final, phase_after_head}
-use Rattle.h2_message.specs.Phases.{phase_after_data, phase_after, phase_after_all}
 use Rattle.hpack.proofs.Tests.{none_since as none_not_some}
+use Rattle.h2_message.proofs.Names
+use Names.{◌≡◌, ℕ, ◌+◌, ◌-◌, Bool, true, false, List, [], ◌∷◌, ◌++◌, length, Option, None, Some}
+use Names.{refl, sym, ap, ◌∙◌, arith, sum_by, sum_by-cons, Field, Reads, Requests, Responses, Phase}
+use Names.{AtHead, InBody, AtEnd, first_broken, interim_rules, trailer_rules, Part, FieldsPart}
+use Names.{OctetsPart, BreakNone, final_rules, compared_length, IsDeclared, AreSoundTrailers}
+use Names.{AreSoundInterims, trailers_parts, message_parts, final_parts, ended, IsReadable}
+use Names.{is_short, phase_in_body, phase_after_final, phase_after_head, phase_after_data}
+use Names.{phase_after, phase_after_all}
 use Rattle.h2_message.proofs.PhaseSteps.{after_none}
 use Rattle.h2_message.proofs.PhaseWhole.{body_parts, ended_more}
 use Rattle.h2_message.proofs.ReadingWhole.{WholeBody, WholeMessage, Completes, something_comes}
@@ -124,8 +116,7 @@ final_step : (reads : Reads) (head : List Field) (end : Bool) (next : Phase)
 unfolding phase_after_final phase_in_body message_parts final_parts AreSoundTrailers ended
     trailers_parts
 final_step reads head false next rest taken completes =
-    let passed =
-    passes (is_some (first_broken (final_rules reads head)))
+    let passed = passes (is_some (first_broken (final_rules reads head)))
     (phase_in_body (compared_length reads head) false) next taken in
     let sound = none_not_some (first_broken (final_rules reads head)) passed.0 in
     let same : InBody (compared_length reads head) ≡ next = let is = passed.1 in cc in
@@ -147,8 +138,7 @@ final_step reads head false next rest taken completes =
           ∙ sym (ended_more (FieldsPart head) (body_parts body.data_parts body.trailers) body.some);
     }
 final_step reads head true next rest taken completes =
-    let passed =
-    passes (is_some (first_broken (final_rules reads head)))
+    let passed = passes (is_some (first_broken (final_rules reads head)))
     (phase_in_body (compared_length reads head) true) next taken in
     let sound = none_not_some (first_broken (final_rules reads head)) passed.0 in
     let last = ends_body (compared_length reads head) next passed.1 in
@@ -177,8 +167,7 @@ interim_step to_head fields rest sound whole = record {
     trailers = whole.well.trailers;
     declared = whole.well.declared;
   };
-  parts =
-      ap (λ (parts : List (Part × Bool)). (FieldsPart fields, false) ∷ parts) whole.parts;
+  parts = ap (λ (parts : List (Part × Bool)). (FieldsPart fields, false) ∷ parts) whole.parts;
 }
 
 -- A head, interim or final.

@@ -1,32 +1,21 @@
 -- What is to come of a message, in each phase, and that something can always come.
-use Rattle.std.proofs.Common.{◌≡◌, ℕ, Bool, true, false, List, [], ◌∷◌, length}
-use Rattle.std.proofs.Common.{Option, None, Some, refl, sym, arith, replicate}
+use Rattle.std.proofs.Common.{replicate}
 use Rattle.std.specs.Prelude.{codes}
-use Rattle.std.specs.List.{sum_by}
-use Rattle.std.proofs.lemmas.List.{length-replicate}
-use Rattle.std.proofs.lemmas.List.Sums.{sum_by-cons}
-use Rattle.hpack.specs.declared.types.field.Field.{Field}
-use Rattle.h2_message.specs.declared.reading.Reads.{Reads}
-use Rattle.h2_message.specs.declared.reading.Reads.TheVariants.{Requests, Responses}
-use Rattle.h2_message.specs.declared.reading.Phase.{Phase}
-use Rattle.h2_message.specs.declared.reading.Phase.TheVariants.{AtHead, InBody, AtEnd}
-use Rattle.h2_message.specs.Octets.{is_bad_in_name, is_bad_after_first, is_bad_name}
-use Rattle.h2_message.specs.Octets.{is_bad_in_value, is_blank, begins_blank, is_bad_value}
-use Rattle.h2_message.specs.Octets.{is_token_octet, is_token, is_bad_method, begins_with_slash}
-use Rattle.h2_message.specs.Octets.{is_bad_path, is_status_code, is_bad_status, is_interim_status}
-use Rattle.h2_message.specs.Fields.{is_colon_first, is_pseudo, is_regular, is_named, value_of}
-use Rattle.h2_message.specs.Fields.{pseudo_names, required_names, has_bad_name, has_bad_value}
-use Rattle.h2_message.specs.Fields.{has_late_pseudo, is_unknown_pseudo, has_unknown_pseudo}
-use Rattle.h2_message.specs.Fields.{has_pseudo_twice, lacks_pseudo, or_nothing, value_or_nothing}
-use Rattle.h2_message.specs.Fields.{has_bad_method, has_bad_path, has_bad_status, is_interim}
-use Rattle.h2_message.specs.Fields.{connection_names, is_connection_field, has_connection_field}
-use Rattle.h2_message.specs.Fields.{lengths_of, differ, has_bad_length, first_number}
-use Rattle.h2_message.specs.Fields.{declared_length}
-use Rattle.h2_message.specs.Messages.{first_broken, head_rules, request_head_rules}
-use Rattle.h2_message.specs.Messages.{response_head_rules, is_without_content}
-use Rattle.h2_message.specs.Reading.{Part, BreakNone, ReadMessage}
-use Rattle.h2_message.specs.Reading.{final_rules, compared_length, IsDeclared, AreSoundTrailers}
-use Rattle.h2_message.specs.Reading.{AreSoundInterims, IsWellRead, message_parts, ended}
+use Rattle.h2_message.specs.Octets.{is_bad_value}
+use Rattle.h2_message.proofs.Names
+use Names.{◌≡◌, ℕ, Bool, true, false, List, [], ◌∷◌, length, Option, None, Some, refl, sym, arith}
+use Names.{sum_by, length-replicate, sum_by-cons, Field, Reads, Requests, Responses, Phase, AtHead}
+use Names.{InBody, AtEnd, is_bad_in_name, is_bad_after_first, is_bad_name, is_bad_in_value}
+use Names.{is_blank, begins_blank, is_token_octet, is_token, is_bad_method}
+use Names.{begins_with_slash, is_bad_path, is_status_code, is_bad_status, is_interim_status}
+use Names.{is_colon_first, is_pseudo, is_regular, is_named, value_of, pseudo_names, required_names}
+use Names.{has_bad_name, has_bad_value, has_late_pseudo, is_unknown_pseudo, has_unknown_pseudo}
+use Names.{has_pseudo_twice, lacks_pseudo, or_nothing, value_or_nothing, has_bad_method}
+use Names.{has_bad_path, has_bad_status, is_interim, connection_names, is_connection_field}
+use Names.{has_connection_field, lengths_of, differ, has_bad_length, first_number, declared_length}
+use Names.{first_broken, head_rules, request_head_rules, response_head_rules, is_without_content}
+use Names.{Part, BreakNone, ReadMessage, final_rules, compared_length, IsDeclared, AreSoundTrailers}
+use Names.{AreSoundInterims, IsWellRead, message_parts, ended}
 use Rattle.h2_message.proofs.PhaseWhole.{body_parts}
 
 -- the rest of a body

@@ -1,25 +1,18 @@
 -- What a scan has seen after one more field.
-use Rattle.std.proofs.Common.{◌≡◌, ℕ, nat_eq, ◌||◌, ◌&&◌, not, Bool, true, false}
-use Rattle.std.proofs.Common.{List, [], ◌∷◌, ◌++◌, Option, Some, None, slice_get, Bor}
-use Rattle.std.proofs.Common.{refl, sym, ap, ap₂, ◌∙◌, subst, ◌+◌, ◌<◌, ◌≤◌, length, take, get_or}
-use Rattle.std.specs.List.{list_any}
-use Rattle.std.specs.Option.{option_copied, option_eq}
-use Rattle.std.proofs.Math.Bool.{or-false, or-true, and-false, and-true}
+use Rattle.std.proofs.Common.{slice_get, Bor, subst}
+use Rattle.std.specs.Option.{option_copied}
 use Rattle.std.proofs.lemmas.List.{take_more, take_all}
 use Rattle.std.proofs.lemmas.Option.{slice_get-get_or}
-use Rattle.hpack.specs.declared.types.field.Field.{Field}
-use Rattle.h2_message.specs.declared.kind.Kind.{Kind}
-use Rattle.h2_message.specs.declared.kind.Kind.TheVariants.{Request, Response}
-use Rattle.h2_message.specs.declared.scan.Scan.{Scan}
-use Rattle.h2_message.specs.Octets.{is_bad_name, is_bad_value}
-use Rattle.h2_message.specs.Fields.{is_pseudo, is_regular, is_colon_first, has_bad_name}
-use Rattle.h2_message.specs.Fields.{has_bad_value, has_pseudo, has_late_pseudo}
-use Rattle.h2_message.specs.Fields.{has_unknown_pseudo, has_pseudo_twice, pseudo_names, value_of}
-use Rattle.h2_message.specs.Fields.{has_connection_field, has_bad_length, declared_length}
-use Rattle.h2_message.specs.Fields.{lengths_of, differ, first_number}
-use Rattle.h2_message.specs.Scans.{IsScan, HasPseudo}
-use Rattle.h2_message.specs.ScanSteps.{with_field, HasSeenPseudo, HasSeenRegular, IsSameOfAll}
-use Rattle.h2_message.specs.ScanSteps.{IsSameOfPseudo, IsSameOfRegular}
+use Rattle.h2_message.specs.ScanSteps.{HasSeenRegular, IsSameOfAll, IsSameOfRegular}
+use Rattle.h2_message.proofs.Names
+use Names.{◌≡◌, ℕ, nat_eq, ◌||◌, ◌&&◌, not, Bool, true, false, List, [], ◌∷◌, ◌++◌, Option, Some}
+use Names.{None, refl, sym, ap, ap₂, ◌∙◌, ◌+◌, ◌<◌, ◌≤◌, length, take, get_or, list_any, option_eq}
+use Names.{or-false, or-true, and-false, and-true, Field, Kind, Request, Response, Scan}
+use Names.{is_bad_name, is_bad_value, is_pseudo, is_regular, is_colon_first, has_bad_name}
+use Names.{has_bad_value, has_pseudo, has_late_pseudo, has_unknown_pseudo, has_pseudo_twice}
+use Names.{pseudo_names, value_of, has_connection_field, has_bad_length, declared_length}
+use Names.{lengths_of, differ, first_number, IsScan, HasPseudo, with_field, HasSeenPseudo}
+use Names.{IsSameOfPseudo}
 use Rattle.h2_message.proofs.ScanLists.{any-push, late-push}
 use Rattle.h2_message.proofs.ScanPseudo.{same-pseudo}
 use Rattle.h2_message.proofs.ScanRegular.{regular-pseudo}
@@ -153,8 +146,7 @@ pseudo-added kind fields name value sensitive old new bad-name bad-value scan na
       path = refl;
       authority = refl;
       status = refl;
-    } scan))
-    (regular-pseudo fields name value sensitive old new record {
+    } scan)) (regular-pseudo fields name value sensitive old new record {
       connection_field = regular.connection_field;
       bad_length = regular.bad_length;
       length = regular.length;
@@ -176,8 +168,7 @@ regular-added kind fields name value sensitive old new bad-name bad-value scan n
     whole kind (fields ++ field ∷ []) new
     (all-added kind fields field old new bad-name bad-value false scan name-is value-is colon
     all.bad_name all.bad_value (all.regular ∙ sym (or-true old.regular))
-    (all.pseudo ∙ sym (or-false old.pseudo))
-    (all.late_pseudo ∙ (sym (or-false old.late_pseudo)
+    (all.pseudo ∙ sym (or-false old.pseudo)) (all.late_pseudo ∙ (sym (or-false old.late_pseudo)
     ∙ ap (λ (b : Bool). old.late_pseudo || b) (sym (and-false old.regular)))))
     (kind-regular kind fields name value sensitive new colon
     (seen-pseudo kind fields old new record {
@@ -188,8 +179,7 @@ regular-added kind fields name value sensitive old new bad-name bad-value scan n
       path = pseudo.path;
       authority = pseudo.authority;
       status = pseudo.status;
-    } scan))
-    (step record {
+    } scan)) (step record {
       connection_field = scan.connection_field;
       has_length = record { bad_length = scan.bad_length; length = scan.length };
     })
@@ -213,8 +203,7 @@ scan-step kind fields index field name value scan within is named valued seen =
     ∙ is in
     subst (λ (fs : List Field). IsScan kind fs scan)
     (ap (λ (f : Field). take index fields ++ f ∷ []) last
-    ∙ sym (take_more fields index field within))
-    seen
+    ∙ sym (take_more fields index field within)) seen
 
 -- All fields were seen.
 pub scan-end : (kind : Kind) (fields : List Field) (index : ℕ) (scan : Scan)

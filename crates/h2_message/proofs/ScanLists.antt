@@ -1,28 +1,16 @@
 -- What is seen of a list of fields and of one more field.
-use Rattle.std.proofs.Common.{◌≡◌, ℕ, zero, suc, ◌+◌, nat_lt, ◌||◌, ◌&&◌, cond, Bool}
-use Rattle.std.proofs.Common.{true, false, List, [], ◌∷◌, ◌++◌, Option, Some, None}
-use Rattle.std.proofs.Common.{refl, sym, ap, ap₂, ◌∙◌, arith}
-use Rattle.std.specs.List.{list_any, count_by}
-use Rattle.std.specs.Option.{option_or, is_some}
-use Rattle.std.proofs.Math.Bool.{or-false}
-use Rattle.std.proofs.lemmas.Bool.{lt-ltb}
-use Rattle.std.proofs.lemmas.List.Folds.{list_any-append}
-use Rattle.std.proofs.lemmas.List.Sums.{sum_by-append}
-use Rattle.hpack.specs.declared.types.field.Field.{Field}
-use Rattle.h2_message.specs.Fields.{is_pseudo, is_regular, is_named, value_of, has_late_pseudo}
+use Rattle.h2_message.proofs.Names.{◌≡◌, ℕ, ◌+◌, ◌||◌, ◌&&◌, cond, Bool, true, false, List, [], ◌∷◌}
+use Rattle.h2_message.proofs.Names.{◌++◌, Option, Some, None, refl, sym, ap, ap₂, ◌∙◌, arith}
+use Rattle.h2_message.proofs.Names.{list_any, count_by, option_or, is_some, or-false, lt-ltb}
+use Rattle.h2_message.proofs.Names.{list_any-append, sum_by-append, Field, is_pseudo, is_regular}
+use Rattle.h2_message.proofs.Names.{is_named, value_of, has_late_pseudo}
+use Rattle.std.proofs.Common.{zero, suc, nat_lt}
 
 -- whether an element passes, or one more does
 pub any-push : {X : Type 0} (p : X → Bool) (xs : List X) (x : X)
     → list_any p (xs ++ x ∷ []) ≡ (list_any p xs || p x)
 any-push p xs x =
     list_any-append p xs (x ∷ []) ∙ ap (λ (b : Bool). list_any p xs || b) (or-false (p x))
-
--- the same where the last one doesn't
-pub any-push_none : {X : Type 0} (p : X → Bool) (xs : List X) (x : X) → p x ≡ false
-    → list_any p (xs ++ x ∷ []) ≡ list_any p xs
-any-push_none p xs x fails =
-    any-push p xs x
-    ∙ (ap (λ (b : Bool). list_any p xs || b) fails ∙ or-false (list_any p xs))
 
 -- A field is late after itself in no list.
 late-none : (b : Bool) → ((b && false) || false) ≡ false
@@ -68,19 +56,6 @@ value-push name (first ∷ fields) field =
     value-step (is_named name first) first.value (value_of name (fields ++ field ∷ []))
     (value_of name fields) (cond (is_named name field) (Some field.value) None)
     (value-push name fields field)
-
-or-none : (o : Option (List ℕ)) → option_or o None ≡ o
-or-none None = refl
-or-none (Some value) = refl
-
--- the same where the last one has another name
-pub value-push_other : (name : List ℕ) (fields : List Field) (field : Field)
-    → is_named name field ≡ false → value_of name (fields ++ field ∷ []) ≡ value_of name fields
-value-push_other name fields field other =
-    value-push name fields field
-    ∙ (ap
-    (λ (b : Bool). option_or (value_of name fields) (cond b (Some field.value) None)) other
-    ∙ or-none (value_of name fields))
 
 there-step : (b : Bool) (value : List ℕ) (some : Option (List ℕ)) (any : Bool)
     → is_some some ≡ any → is_some (cond b (Some value) some) ≡ (b || any)

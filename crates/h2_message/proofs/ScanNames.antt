@@ -1,8 +1,6 @@
 -- Whether a name is one of five, as one test after another says.
-use Rattle.std.proofs.Common.{◌≡◌, ℕ, nat_eq, ◌||◌, Bool, true, false, List, refl, sym, ap, ◌∙◌}
-use Rattle.std.specs.Cmp.Lexicographic.{pointwise}
-use Rattle.std.specs.Str.{bytes_eq}
-use Rattle.std.proofs.Math.Bool.{or-false}
+use Rattle.h2_message.proofs.Names.{◌≡◌, ℕ, nat_eq, ◌||◌, Bool, true, false, List, refl, sym, ap}
+use Rattle.h2_message.proofs.Names.{◌∙◌, pointwise, bytes_eq, or-false}
 
 -- What `==` says of two texts, whatever it is.
 pub compared-as : (name slice text : List ℕ) (result : Bool)

@@ -1,21 +1,11 @@
 -- What one more field changes of the pseudo-fields that a scan has seen.
-use Rattle.std.proofs.Common.{◌≡◌, ℕ, nat_lt, nat_eq, ◌||◌, ◌&&◌, cond, Bool, true, false}
-use Rattle.std.proofs.Common.{List, [], ◌∷◌, ◌++◌, Option, Some, None}
-use Rattle.std.proofs.Common.{refl, sym, ap, ◌∙◌}
-use Rattle.std.specs.Cmp.Lexicographic.{pointwise}
-use Rattle.std.specs.List.{list_any, count_by}
-use Rattle.std.specs.Option.{option_or, option_map, is_some}
-use Rattle.std.specs.Str.{bytes_eq}
-use Rattle.std.proofs.lemmas.Bool.{eqb-true}
-use Rattle.std.proofs.lemmas.Slice.Eq.{bytes_eq-Decides}
-use Rattle.hpack.specs.declared.types.field.Field.{Field}
-use Rattle.h2_message.specs.declared.kind.Kind.{Kind}
-use Rattle.h2_message.specs.declared.kind.Kind.TheVariants.{Request, Response}
-use Rattle.h2_message.specs.declared.scan.Scan.{Scan}
-use Rattle.h2_message.specs.Fields.{is_named, is_unknown_pseudo, pseudo_names}
-use Rattle.h2_message.specs.Fields.{is_colon_first, has_unknown_pseudo, has_pseudo_twice, value_of}
-use Rattle.h2_message.specs.Scans.{HasPseudo}
-use Rattle.h2_message.specs.ScanSteps.{HasSeenPseudo, IsSameOfPseudo}
+use Rattle.std.proofs.Common.{nat_lt}
+use Rattle.h2_message.proofs.Names
+use Names.{◌≡◌, ℕ, nat_eq, ◌||◌, ◌&&◌, cond, Bool, true, false, List, [], ◌∷◌, ◌++◌, Option, Some}
+use Names.{None, refl, sym, ap, ◌∙◌, pointwise, list_any, count_by, option_or, option_map, is_some}
+use Names.{bytes_eq, eqb-true, bytes_eq-Decides, Field, Kind, Request, Response, Scan, is_named}
+use Names.{is_unknown_pseudo, pseudo_names, is_colon_first, has_unknown_pseudo, has_pseudo_twice}
+use Names.{value_of, HasPseudo, HasSeenPseudo, IsSameOfPseudo}
 use Rattle.h2_message.proofs.ScanLists.{any-push, value-push, value-any, twice-push, any-or}
 use Rattle.h2_message.proofs.ScanLists.{any-same}
 
@@ -112,8 +102,7 @@ pub no-colon : (name octets : List ℕ) → is_colon_first name ≡ false
     → bytes_eq name (58 ∷ octets) ≡ false
 unfolding is_colon_first
 no-colon [] octets colon = refl
-no-colon (first ∷ name) octets colon =
-    ap (λ (b : Bool). b && bytes_eq name octets) colon
+no-colon (first ∷ name) octets colon = ap (λ (b : Bool). b && bytes_eq name octets) colon
 
 -- A name that begins with a colon is none that begins with another octet.
 pub other-colon : (name octets : List ℕ) (other : ℕ) → is_colon_first name ≡ true

@@ -1,23 +1,16 @@
 -- What one more field changes of what a scan has seen of regular fields.
-use Rattle.std.proofs.Common.{◌≡◌, ℕ, nat_eq, not, ◌||◌, ◌&&◌, ◌==◌, cond, Bool, true, false}
-use Rattle.std.proofs.Common.{if◌then◌else◌, List, [], ◌∷◌, ◌++◌, map, codes, Option, Some, None}
-use Rattle.std.proofs.Common.{refl, sym, ap, ap₂, ◌∙◌}
-use Rattle.std.specs.List.{list_any, filter}
-use Rattle.std.specs.Option.{option_or}
-use Rattle.std.specs.Str.{bytes_eq, str_eq_ignore_ascii_case}
-use Rattle.std.proofs.Math.Bool.{or-false, or-true}
-use Rattle.std.proofs.lemmas.Bool.{or_parts, or_from, false≢true}
+use Rattle.std.proofs.Common.{◌==◌}
+use Rattle.std.proofs.lemmas.Bool.{or_from}
 use Rattle.std.proofs.lemmas.List.{map-append, append-nil}
-use Rattle.std.proofs.lemmas.Slice.Eq.{bytes_eq-Decides}
 use Rattle.std.proofs.lemmas.List.Elements.{filter-append}
-use Rattle.hpack.specs.declared.types.field.Field.{Field}
-use Rattle.h2_message.specs.declared.scan.Scan.{Scan}
-use Rattle.h2_message.specs.Octets.{is_bad_length, number_written}
-use Rattle.h2_message.specs.Fields.{is_named, lengths_of, differ, has_bad_length, first_number}
-use Rattle.h2_message.specs.Fields.{declared_length, is_connection_field, connection_names}
-use Rattle.h2_message.specs.Fields.{has_connection_field, is_colon_first}
-use Rattle.h2_message.specs.ScanSteps.{with_field, HasSeenLength, HasSeenRegular}
-use Rattle.h2_message.specs.ScanSteps.{IsSameOfRegular}
+use Rattle.h2_message.specs.ScanSteps.{HasSeenLength, HasSeenRegular, IsSameOfRegular}
+use Rattle.h2_message.proofs.Names
+use Names.{◌≡◌, ℕ, nat_eq, not, ◌||◌, ◌&&◌, cond, Bool, true, false, if◌then◌else◌, List, [], ◌∷◌}
+use Names.{◌++◌, map, codes, Option, Some, None, refl, sym, ap, ap₂, ◌∙◌, list_any, filter}
+use Names.{option_or, bytes_eq, str_eq_ignore_ascii_case, or-false, or-true, or_parts, false≢true}
+use Names.{bytes_eq-Decides, Field, Scan, is_bad_length, number_written, is_named, lengths_of}
+use Names.{differ, has_bad_length, first_number, declared_length, is_connection_field}
+use Names.{connection_names, has_connection_field, is_colon_first, with_field}
 use Rattle.h2_message.proofs.ScanLists.{any-push, or-swap}
 use Rattle.h2_message.proofs.ScanPseudo.{other-colon}
 
@@ -146,12 +139,10 @@ length-added fields value sensitive old new result number read some bad kept see
     ∙ ap₂ (λ (b : Bool) (n : ℕ). bad_lengths lengths || (b || is_other (first_number lengths) n))
     is.0 (sym is.1)) in
     record {
-      bad_length =
-          bad ∙ (ap (λ (b : Bool). b || is_other old.length number) seen.bad_length
+      bad_length = bad ∙ (ap (λ (b : Bool). b || is_other old.length number) seen.bad_length
           ∙ (other-stored (has_bad_length fields) old.length (declared_length fields) number
           seen.length ∙ sym pushed));
-      length = λ good.
-          kept ∙ (ap₂ (λ (o : Option ℕ) (n : ℕ). option_or o (Some n))
+      length = λ good. kept ∙ (ap₂ (λ (o : Option ℕ) (n : ℕ). option_or o (Some n))
           (seen.length (or_parts (has_bad_length fields) _ (sym pushed ∙ good)).0) is.1
           ∙ (sym (first-push lengths value)
           ∙ sym (ap first_number (lengths-named fields field refl))));
@@ -178,8 +169,7 @@ regular-length fields name value sensitive old new is same lengths seen =
       sensitive = sensitive;
     } in
     rw ((bytes_eq-Decides name (codes "content-length")).0 is) record {
-      connection_field =
-          same ∙ (seen.connection_field
+      connection_field = same ∙ (seen.connection_field
           ∙ (sym (or-false (has_connection_field fields)) ∙ sym (connection-push fields field)));
       has_length = lengths;
     }
@@ -195,8 +185,7 @@ regular-other fields field old new specific other is connection bad kept seen =
     let same : lengths_of (fields ++ field ∷ []) ≡ lengths_of fields =
     lengths-other fields field other ∙ append-nil (lengths_of fields) in
     record {
-      connection_field =
-          connection ∙ (ap₂ (λ (a b : Bool). a || b) seen.connection_field (sym is)
+      connection_field = connection ∙ (ap₂ (λ (a b : Bool). a || b) seen.connection_field (sym is)
           ∙ sym (connection-push fields field));
       has_length = record {
         bad_length = bad ∙ (seen.has_length.bad_length ∙ ap bad_lengths (sym same));
@@ -260,11 +249,7 @@ pub regular-pseudo : (fields : List Field) (name value : List ℕ) (sensitive : 
     → HasSeenRegular fields old → HasSeenRegular (with_field fields name value sensitive) new
 unfolding connection_names
 regular-pseudo fields name value sensitive old new same colon seen =
-    regular-any fields name value sensitive old new same
-    (other-colon name _ _ colon refl)
-    (or_from _ _ (other-colon name _ _ colon refl)
-    (or_from _ _ (other-colon name _ _ colon refl)
-    (or_from _ _ (other-colon name _ _ colon refl)
-    (or_from _ _ (other-colon name _ _ colon refl)
-    (or_from _ _ (other-colon name _ _ colon refl) refl)))))
-    (other-colon name _ _ colon refl) seen
+    regular-any fields name value sensitive old new same (other-colon name _ _ colon refl)
+    (or_from _ _ (other-colon name _ _ colon refl) (or_from _ _ (other-colon name _ _ colon refl)
+    (or_from _ _ (other-colon name _ _ colon refl) (or_from _ _ (other-colon name _ _ colon refl)
+    (or_from _ _ (other-colon name _ _ colon refl) refl))))) (other-colon name _ _ colon refl) seen

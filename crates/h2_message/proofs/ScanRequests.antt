@@ -1,24 +1,14 @@
 -- What one more field changes of the pseudo-fields of a request.
-use Rattle.std.proofs.Common.{◌≡◌, ℕ, not, ◌||◌, ◌&&◌, cond, Bool, true, false}
-use Rattle.std.proofs.Common.{List, [], ◌∷◌, ◌++◌, codes, Option, Some, None}
-use Rattle.std.proofs.Common.{refl, sym, ap, ap₂, ◌∙◌}
-use Rattle.std.specs.List.{list_any}
-use Rattle.std.specs.Option.{option_or, is_some}
-use Rattle.std.specs.Str.{bytes_eq}
-use Rattle.std.proofs.Math.Bool.{or-false, or-true, and-false, and-true}
-use Rattle.hpack.specs.declared.types.field.Field.{Field}
 use Rattle.h2_message.specs.declared.classes.Method.{Method}
-use Rattle.h2_message.specs.declared.classes.Path.{Path}
-use Rattle.h2_message.specs.declared.kind.Kind.TheVariants.{Request}
-use Rattle.h2_message.specs.declared.scan.Scan.{Scan}
-use Rattle.h2_message.specs.Classes.{method_class, path_class}
-use Rattle.h2_message.specs.Fields.{is_pseudo, is_named, is_unknown_pseudo, pseudo_names}
-use Rattle.h2_message.specs.Fields.{is_colon_first, has_unknown_pseudo, has_pseudo_twice}
-use Rattle.h2_message.specs.Scans.{HasPseudo}
-use Rattle.h2_message.specs.ScanSteps.{with_field, HasSeenPseudo, IsSameOfPseudo}
+use Rattle.h2_message.proofs.Names
+use Names.{◌≡◌, ℕ, not, ◌||◌, ◌&&◌, cond, Bool, true, false, List, [], ◌∷◌, ◌++◌, codes, Option}
+use Names.{Some, None, refl, sym, ap, ap₂, ◌∙◌, list_any, option_or, is_some, bytes_eq, or-false}
+use Names.{or-true, and-false, and-true, Field, Path, Request, Scan, method_class, path_class}
+use Names.{is_pseudo, is_named, is_unknown_pseudo, pseudo_names, is_colon_first, has_unknown_pseudo}
+use Names.{has_pseudo_twice, HasPseudo, with_field, HasSeenPseudo, IsSameOfPseudo}
 use Rattle.h2_message.proofs.ScanLists.{any-push}
-use Rattle.h2_message.proofs.ScanPseudo.{other-name, same-pseudo, unknown-push, two-push}
-use Rattle.h2_message.proofs.ScanPseudo.{kept-any, kept-push, or-nothing, no-colon}
+use Rattle.h2_message.proofs.ScanPseudo.{other-name, same-pseudo, unknown-push, two-push, kept-any}
+use Rattle.h2_message.proofs.ScanPseudo.{kept-push, or-nothing, no-colon}
 
 -- the pseudo-fields of a request after one more field
 abbrev pub after_request : Scan → List ℕ → (pseudo method scheme path authority : Bool) → Scan
@@ -55,11 +45,9 @@ pub request-push : (fields : List Field) (field : Field) (old : Scan)
     (is_named (codes ":path") field) (is_named (codes ":authority") field))
 unfolding HasPseudo is_unknown_pseudo pseudo_names
 request-push fields field old seen = record {
-  unknown_pseudo =
-      ap (λ (b : Bool). b || is_unknown_pseudo Request field) seen.unknown_pseudo
+  unknown_pseudo = ap (λ (b : Bool). b || is_unknown_pseudo Request field) seen.unknown_pseudo
       ∙ sym (unknown-push Request fields field);
-  pseudo_twice =
-      same-twice fields field old
+  pseudo_twice = same-twice fields field old
       (kept-any method_class (codes ":method") fields old.method seen.has_pseudo.method)
       (kept-any path_class (codes ":path") fields old.path seen.has_pseudo.path) seen
       ∙ sym (two-push Request fields field);
@@ -105,8 +93,7 @@ method-added fields name value sensitive old some class first is colon was says 
     request-with fields field old new true true false false false seen colon is
     (other-name name (codes ":method") (codes ":scheme") is refl)
     (other-name name (codes ":method") (codes ":path") is refl)
-    (other-name name (codes ":method") (codes ":authority") is refl)
-    record {
+    (other-name name (codes ":method") (codes ":authority") is refl) record {
       unknown_pseudo = sym (or-false old.unknown_pseudo);
       pseudo_twice = simp (and-false, and-true, or-false) (ap (λ (b : Bool). old.pseudo_twice || b)
           was);
@@ -133,8 +120,7 @@ path-added fields name value sensitive old some class first is colon was says ke
     request-with fields field old new true false false true false seen colon
     (other-name name (codes ":path") (codes ":method") is refl)
     (other-name name (codes ":path") (codes ":scheme") is refl) is
-    (other-name name (codes ":path") (codes ":authority") is refl)
-    record {
+    (other-name name (codes ":path") (codes ":authority") is refl) record {
       unknown_pseudo = sym (or-false old.unknown_pseudo);
       pseudo_twice = simp (and-false, and-true, or-false) (ap (λ (b : Bool). old.pseudo_twice || b)
           was);
@@ -160,8 +146,7 @@ scheme-added fields name value sensitive old is colon seen =
     request-with fields field old new true false true false false seen colon
     (other-name name (codes ":scheme") (codes ":method") is refl) is
     (other-name name (codes ":scheme") (codes ":path") is refl)
-    (other-name name (codes ":scheme") (codes ":authority") is refl)
-    record {
+    (other-name name (codes ":scheme") (codes ":authority") is refl) record {
       unknown_pseudo = sym (or-false old.unknown_pseudo);
       pseudo_twice = simp (and-false, and-true, or-false);
       method = sym (or-nothing old.method);
@@ -189,8 +174,7 @@ authority-added fields name value sensitive old is colon seen =
     request-with fields field old new true false false false true seen colon
     (other-name name (codes ":authority") (codes ":method") is refl)
     (other-name name (codes ":authority") (codes ":scheme") is refl)
-    (other-name name (codes ":authority") (codes ":path") is refl) is
-    record {
+    (other-name name (codes ":authority") (codes ":path") is refl) is record {
       unknown_pseudo = sym (or-false old.unknown_pseudo);
       pseudo_twice = simp (and-false, and-true, or-false);
       method = sym (or-nothing old.method);
@@ -212,8 +196,7 @@ unfolding is_pseudo is_named
 unknown-added fields name value sensitive old m s p a colon seen =
     let field : Field = record { name = name; value = value; sensitive = sensitive } in
     let new : Scan = record old { unknown_pseudo = true } in
-    request-with fields field old new true false false false false seen colon m s p a
-    record {
+    request-with fields field old new true false false false false seen colon m s p a record {
       unknown_pseudo = sym (or-true old.unknown_pseudo);
       pseudo_twice = simp (and-false, or-false);
       method = sym (or-nothing old.method);
@@ -231,8 +214,7 @@ unfolding is_pseudo is_named
 request-regular fields name value sensitive scan colon seen =
     let field : Field = record { name = name; value = value; sensitive = sensitive } in
     request-with fields field scan scan false false false false false seen colon
-    (no-colon name _ colon) (no-colon name _ colon) (no-colon name _ colon)
-    (no-colon name _ colon)
+    (no-colon name _ colon) (no-colon name _ colon) (no-colon name _ colon) (no-colon name _ colon)
     record {
       unknown_pseudo = sym (or-false scan.unknown_pseudo);
       pseudo_twice = simp (and-false, or-false);

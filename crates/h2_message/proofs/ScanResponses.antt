@@ -1,23 +1,14 @@
 -- What one more field changes of the pseudo-fields of a response.
-use Rattle.std.proofs.Common.{◌≡◌, ℕ, not, ◌||◌, ◌&&◌, cond, Bool, true, false}
-use Rattle.std.proofs.Common.{List, [], ◌∷◌, ◌++◌, codes, Option, Some, None}
-use Rattle.std.proofs.Common.{refl, sym, ap, ap₂, ◌∙◌}
-use Rattle.std.specs.List.{list_any}
-use Rattle.std.specs.Option.{option_or, is_some}
-use Rattle.std.specs.Str.{bytes_eq}
-use Rattle.std.proofs.Math.Bool.{or-false, or-true, and-false, and-true}
-use Rattle.hpack.specs.declared.types.field.Field.{Field}
 use Rattle.h2_message.specs.declared.classes.Status.{Status}
-use Rattle.h2_message.specs.declared.kind.Kind.TheVariants.{Response}
-use Rattle.h2_message.specs.declared.scan.Scan.{Scan}
-use Rattle.h2_message.specs.Classes.{status_class}
-use Rattle.h2_message.specs.Fields.{is_pseudo, is_named, is_unknown_pseudo, pseudo_names}
-use Rattle.h2_message.specs.Fields.{is_colon_first, has_unknown_pseudo, has_pseudo_twice}
-use Rattle.h2_message.specs.Scans.{HasPseudo}
-use Rattle.h2_message.specs.ScanSteps.{with_field, HasSeenPseudo, IsSameOfPseudo}
+use Rattle.h2_message.proofs.Names
+use Names.{◌≡◌, ℕ, not, ◌||◌, ◌&&◌, cond, Bool, true, false, List, [], ◌∷◌, ◌++◌, codes, Option}
+use Names.{Some, None, refl, sym, ap, ap₂, ◌∙◌, list_any, option_or, is_some, bytes_eq, or-false}
+use Names.{or-true, and-false, and-true, Field, Response, Scan, status_class, is_pseudo, is_named}
+use Names.{is_unknown_pseudo, pseudo_names, is_colon_first, has_unknown_pseudo, has_pseudo_twice}
+use Names.{HasPseudo, with_field, HasSeenPseudo, IsSameOfPseudo}
 use Rattle.h2_message.proofs.ScanLists.{any-push}
-use Rattle.h2_message.proofs.ScanPseudo.{other-name, same-pseudo, unknown-push, two-push}
-use Rattle.h2_message.proofs.ScanPseudo.{kept-any, kept-push, or-nothing, no-colon}
+use Rattle.h2_message.proofs.ScanPseudo.{other-name, same-pseudo, unknown-push, two-push, kept-any}
+use Rattle.h2_message.proofs.ScanPseudo.{kept-push, or-nothing, no-colon}
 
 -- the pseudo-fields of a response after one more field
 abbrev pub after_response : Scan → List ℕ → (pseudo status : Bool) → Scan
@@ -33,14 +24,11 @@ pub response-push : (fields : List Field) (field : Field) (old : Scan)
     (is_pseudo field) (is_named (codes ":status") field))
 unfolding HasPseudo is_unknown_pseudo pseudo_names
 response-push fields field old seen =
-    let status = kept-any status_class (codes ":status") fields old.status
-    seen.has_pseudo.status in
+    let status = kept-any status_class (codes ":status") fields old.status seen.has_pseudo.status in
     record {
-      unknown_pseudo =
-          ap (λ (b : Bool). b || is_unknown_pseudo Response field) seen.unknown_pseudo
+      unknown_pseudo = ap (λ (b : Bool). b || is_unknown_pseudo Response field) seen.unknown_pseudo
           ∙ sym (unknown-push Response fields field);
-      pseudo_twice =
-          ap₂ (λ (twice some : Bool). twice
+      pseudo_twice = ap₂ (λ (twice some : Bool). twice
           || ((some && is_named (codes ":status") field) || false)) seen.pseudo_twice status
           ∙ sym (two-push Response fields field);
       has_pseudo = record {
@@ -72,8 +60,7 @@ unfolding is_pseudo is_named
 status-added fields name value sensitive old some class first is colon was says kept seen =
     let field : Field = record { name = name; value = value; sensitive = sensitive } in
     let new : Scan = record old { pseudo_twice = old.pseudo_twice || some; status = first } in
-    response-with fields field old new true true seen colon is
-    record {
+    response-with fields field old new true true seen colon is record {
       unknown_pseudo = sym (or-false old.unknown_pseudo);
       pseudo_twice = simp (and-true, or-false) (ap (λ (b : Bool). old.pseudo_twice || b) was);
       method = refl;
@@ -94,8 +81,7 @@ unfolding is_pseudo is_named
 unknown-added fields name value sensitive old s colon seen =
     let field : Field = record { name = name; value = value; sensitive = sensitive } in
     let new : Scan = record old { unknown_pseudo = true } in
-    response-with fields field old new true false seen colon s
-    record {
+    response-with fields field old new true false seen colon s record {
       unknown_pseudo = sym (or-true old.unknown_pseudo);
       pseudo_twice = simp (and-false, or-false);
       method = refl;
@@ -112,8 +98,7 @@ pub response-regular : (fields : List Field) (name value : List ℕ) (sensitive 
 unfolding is_pseudo is_named
 response-regular fields name value sensitive scan colon seen =
     let field : Field = record { name = name; value = value; sensitive = sensitive } in
-    response-with fields field scan scan false false seen colon (no-colon name _ colon)
-    record {
+    response-with fields field scan scan false false seen colon (no-colon name _ colon) record {
       unknown_pseudo = sym (or-false scan.unknown_pseudo);
       pseudo_twice = simp (and-false, or-false);
       method = refl;

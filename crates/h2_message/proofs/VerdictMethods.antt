@@ -1,21 +1,14 @@
 -- What a scan says of the method and the path of a request.
-use Rattle.std.proofs.Common.{◌≡◌, ℕ, not, ◌&&◌, Bool, true, false, if◌then◌else◌}
-use Rattle.std.proofs.Common.{List, codes, Option, Some, None, refl, sym, ap, ◌∙◌}
-use Rattle.std.specs.Option.{option_map, option_eq, unwrap_or}
-use Rattle.std.specs.Str.{bytes_eq}
-use Rattle.std.proofs.lemmas.Bool.{true≢false}
-use Rattle.std.proofs.lemmas.Slice.Eq.{bytes_eq-Decides}
-use denote.Enum.Bare.{sameb}
+use Rattle.h2_message.proofs.Names.{◌≡◌, ℕ, not, ◌&&◌, Bool, true, false, if◌then◌else◌, List}
+use Rattle.h2_message.proofs.Names.{codes, Option, Some, None, refl, sym, ap, ◌∙◌, option_map}
+use Rattle.h2_message.proofs.Names.{option_eq, unwrap_or, bytes_eq, true≢false, bytes_eq-Decides}
+use Rattle.h2_message.proofs.Names.{sameb, Path, method_class, path_class, is_token, is_token_octet}
+use Rattle.h2_message.proofs.Names.{is_bad_method, is_bad_path, begins_with_slash, or_nothing}
 use Rattle.h2_message.specs.declared.classes.Method.{Method}
 use Rattle.h2_message.specs.declared.classes.Method.TheVariants as methods
-use Rattle.h2_message.specs.declared.classes.Path.{Path}
 use Rattle.h2_message.specs.declared.classes.Path.TheVariants as paths
 use Rattle.h2_message.specs.contracts.classes.Method.{the_type}
 use Rattle.h2_message.specs.contracts.classes.MethodPartialEq.TheImpl.{eq-value}
-use Rattle.h2_message.specs.Classes.{method_class, path_class}
-use Rattle.h2_message.specs.Octets.{is_token, is_token_octet, is_bad_method, is_bad_path}
-use Rattle.h2_message.specs.Octets.{begins_with_slash}
-use Rattle.h2_message.specs.Fields.{or_nothing}
 
 -- the method of three tests
 abbrev by-tests : (bad head options : Bool) → Method

@@ -1,20 +1,9 @@
 -- Which rules a scan says that a list breaks.
-use Rattle.std.proofs.Common.{◌≡◌, ℕ, ◌+◌, ◌<◌, ◌≤◌, not, ◌||◌, Bool, true, false, cond}
-use Rattle.std.proofs.Common.{List, length, drop, get_or, codes, Some, None}
-use Rattle.std.proofs.Common.{refl, sym, ap, ◌∙◌}
-use Rattle.std.specs.List.{list_any}
-use Rattle.std.specs.Option.{is_some}
-use Rattle.std.proofs.Math.Bool.{or-false}
-use Rattle.std.proofs.Math.ListN.{drop_of_length-le}
-use Rattle.std.proofs.lemmas.List.{drop_more}
-use Rattle.hpack.specs.declared.types.field.Field.{Field}
-use Rattle.h2_message.specs.declared.kind.Kind.TheVariants.{Request, Response}
-use Rattle.h2_message.specs.declared.malformed.Malformed.{Malformed}
-use Rattle.h2_message.specs.declared.scan.Scan.{Scan}
-use Rattle.h2_message.specs.Classes.{method_class, path_class, status_class}
-use Rattle.h2_message.specs.Fields.{is_named, lacks_pseudo, required_names}
-use Rattle.h2_message.specs.Messages.{first_broken}
-use Rattle.h2_message.specs.Scans.{IsScan, HasPseudo}
+use Rattle.h2_message.proofs.Names
+use Names.{◌≡◌, ℕ, ◌+◌, ◌<◌, ◌≤◌, not, ◌||◌, Bool, true, false, cond, List, length, drop, get_or}
+use Names.{codes, Some, None, refl, sym, ap, ◌∙◌, list_any, is_some, or-false, drop_of_length-le}
+use Names.{drop_more, Field, Request, Response, Malformed, Scan, method_class, path_class}
+use Names.{status_class, is_named, lacks_pseudo, required_names, first_broken, IsScan, HasPseudo}
 use Rattle.h2_message.proofs.ScanPseudo.{kept-any}
 
 three-lack : (a b c : Bool)
@@ -75,8 +64,7 @@ broken-later rules index other within fails so_far =
 pub none-broken : (rules : List (Bool × Malformed)) (index : ℕ) → length rules ≤ index
     → first_broken (drop index rules) ≡ first_broken rules → None ≡ first_broken rules
 unfolding first_broken
-none-broken rules index past so_far =
-    sym (ap first_broken (drop_of_length-le rules past)) ∙ so_far
+none-broken rules index past so_far = sym (ap first_broken (drop_of_length-le rules past)) ∙ so_far
 
 -- Twice not is so.
 pub not-twice : (b : Bool) → not (not b) ≡ b

@@ -1,19 +1,14 @@
 -- What a scan says of the status of a response.
-use Rattle.std.proofs.Common.{◌≡◌, ℕ, not, ◌||◌, Bool, true, false, if◌then◌else◌}
-use Rattle.std.proofs.Common.{List, codes, Option, Some, None, refl, ap, ◌∙◌}
-use Rattle.std.proofs.Common.{inl, inr}
-use Rattle.std.specs.Option.{option_map, option_eq, unwrap_or}
-use Rattle.std.specs.Str.{bytes_eq}
-use Rattle.std.proofs.lemmas.Bool.{true≢false, or_cases}
-use Rattle.std.proofs.lemmas.Slice.Eq.{bytes_eq-Decides}
-use denote.Enum.Bare.{sameb}
+use Rattle.h2_message.proofs.Names.{◌≡◌, ℕ, not, ◌||◌, Bool, true, false, if◌then◌else◌, List}
+use Rattle.h2_message.proofs.Names.{codes, Option, Some, None, refl, ap, ◌∙◌, inl, inr, option_map}
+use Rattle.h2_message.proofs.Names.{option_eq, unwrap_or, bytes_eq, true≢false, bytes_eq-Decides}
+use Rattle.h2_message.proofs.Names.{sameb, status_class, is_bad_status, is_status_code}
+use Rattle.h2_message.proofs.Names.{is_interim_status, or_nothing}
+use Rattle.std.proofs.lemmas.Bool.{or_cases}
 use Rattle.h2_message.specs.declared.classes.Status.{Status}
 use Rattle.h2_message.specs.declared.classes.Status.TheVariants as statuses
 use Rattle.h2_message.specs.contracts.classes.Status.{the_type}
 use Rattle.h2_message.specs.contracts.classes.StatusPartialEq.TheImpl.{eq-value}
-use Rattle.h2_message.specs.Classes.{status_class}
-use Rattle.h2_message.specs.Octets.{is_bad_status, is_status_code, is_interim_status}
-use Rattle.h2_message.specs.Fields.{or_nothing}
 
 -- the status of three tests
 abbrev by-tests : (bad interim none : Bool) → Status

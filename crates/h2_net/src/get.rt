@@ -104,10 +104,8 @@ pub fn get_over<L: Link>(
         (traffic (L.given link.new) (L.taken link.new) (L.stalled link.new)) result }
     ensures failures { L.faults link.new ≡ failures_at_end (L.faults link.old) result }
 {
-    match request_to(alloc, location) {
-        Ok(message) => fetch_link(alloc, link, Config::default(), message),
-        Err(_) => Err(LinkError::Memory),
-    }
+    let message = request_to(alloc, location)?;
+    fetch_link(alloc, link, Config::default(), message)
 }
 
 // rule: engines (own) A URL is asked for with GET
@@ -141,10 +139,8 @@ pub fn print_response<W: Write>(fetched: &Fetched, out: &mut W) -> Result<(), Li
         (PrintsResponse (W.contents out.old) (W.contents out.new) fetched.now) }
     ensures err { IfErr result (λ error. error ≡ LinkError.Device) }
 {
-    match write_response(fetched, out) {
-        Ok(()) => Ok(()),
-        Err(_) => Err(LinkError::Device),
-    }
+    write_response(fetched, out)?;
+    Ok(())
 }
 
 fn write_response<W: Write>(fetched: &Fetched, out: &mut W) -> io::Result<()>

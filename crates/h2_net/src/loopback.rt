@@ -79,9 +79,7 @@ fn new_ends<N: Net>(net: &N, alloc: Global, count: u32) -> Result<Ends<N::Stream
     ensures posts { IfOk result (λ ends. IsPosting count ends.client) }
     ensures err { IfErr result (λ error. error ≢ LinkError.Refused) }
 {
-    let Ok(message) = post_of(alloc, count) else {
-        return Err(LinkError::Memory);
-    };
+    let message = post_of(alloc, count)?;
     let (client_link, server_link) = joined(net, alloc)?;
     Ok(Ends {
         client: Fetcher::new(alloc, Config::default(), message)?,
@@ -126,10 +124,8 @@ pub fn print_exchange<W: Write>(count: u32, fetched: &Fetched, out: &mut W) -> R
         (exchange_line count fetched.now)) }
     ensures err { IfErr result (λ error. error ≡ LinkError.Device) }
 {
-    match write_exchange(count, fetched, out) {
-        Ok(()) => Ok(()),
-        Err(_) => Err(LinkError::Device),
-    }
+    write_exchange(count, fetched, out)?;
+    Ok(())
 }
 
 fn write_exchange<W: Write>(count: u32, fetched: &Fetched, out: &mut W) -> io::Result<()>
@@ -167,10 +163,7 @@ fn post_of(alloc: Global, count: u32) -> Result<Message, AllocError>
 fn room_for_turn(alloc: Global) -> Result<Vec<u8>, LinkError>
     ensures { IfErr result (λ error. error ≡ LinkError.Memory) }
 {
-    match vec![in alloc; 0u8; TURN] {
-        Ok(room) => Ok(room),
-        Err(_) => Err(LinkError::Memory),
-    }
+    Ok(vec![in alloc; 0u8; TURN]?)
 }
 
 /// The two sides of a new connection of 127.0.0.1: the one that connects, and the one that accepts.
@@ -181,18 +174,9 @@ fn joined<N: Net>(
     ensures failures { IfOk result (λ links. (links.0.failures ≡ 0) × (links.1.failures ≡ 0)) }
     ensures err { IfErr result (λ error. error ≢ LinkError.Refused) }
 {
-    let Ok(listener) = TcpListener::bind(net, SocketAddr::from((Ipv4Addr::LOCALHOST, 0))) else {
-        return Err(LinkError::Device);
-    };
-    let Ok(address) = listener.local_addr() else {
-        return Err(LinkError::Device);
-    };
-    let Ok(client) = TcpStream::connect(net, address) else {
-        return Err(LinkError::Device);
-    };
-    let Ok((server, _)) = listener.accept() else {
-        return Err(LinkError::Device);
-    };
+    let listener = TcpListener::bind(net, SocketAddr::from((Ipv4Addr::LOCALHOST, 0)))?;
+    let client = TcpStream::connect(net, listener.local_addr()?)?;
+    let (server, _) = listener.accept()?;
     Ok((
         StreamLink::new(alloc, client)?,
         StreamLink::new(alloc, server)?,
@@ -256,9 +240,7 @@ fn carry<S: Read + Write + OpenStream>(
 {
     let count = octets.len().min(room.len());
     write_all(from, &octets[..count])?;
-    let Ok(()) = from.flush() else {
-        return Err(LinkError::Device);
-    };
+    from.flush()?;
     read_all(to, &mut room[..count])?;
     Ok(count)
 }
@@ -273,11 +255,11 @@ fn read_all<L: Link>(link: &mut L, room: &mut [u8]) -> Result<(), LinkError>
 {
     let mut filled = 0;
     while filled < room.len() {
-        match link.read(&mut room[filled..]) {
-            Ok(0) => return Err(LinkError::CutOff),
-            Ok(count) => filled += count,
-            Err(_) => return Err(LinkError::Device),
+        let count = link.read(&mut room[filled..])?;
+        if count == 0 {
+            return Err(LinkError::CutOff);
         }
+        filled += count;
     }
     Ok(())
 }

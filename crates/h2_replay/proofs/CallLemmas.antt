@@ -1,4 +1,4 @@
--- What a call makes of a connection, and what it gives out.
+-- A connection after a call, and the octets that it puts out.
 use Rattle.std.proofs.Common.{◌≡◌, ℕ, ◌+◌, List, [], ◌++◌, take, drop, Result, Ok}
 use Rattle.std.proofs.Common.{Err, IfOk, OnErr, refl, sym, ap, subst, ◌∙◌}
 use Rattle.std.proofs.lemmas.List.{drop-take}
@@ -24,7 +24,7 @@ none_given (Count given) (PutOut count) none = absurd none
 none_given (Count given) act none = refl
 none_given answer act none = refl
 
--- The octets that were given out, as many as were.
+-- The octets that were put out, as many as were.
 given_octets : (octets written : List ℕ) (before after count : ℕ) → after ≡ before + count
     → octets ≡ drop before (take (before + count) written)
     → octets ≡ drop before (take after written)
@@ -78,7 +78,7 @@ shown_call old new act value answer octets is none are shows values log represen
       given = gives_none log act made.0 octets none are;
     }
 
--- Octets are given out.
+-- Octets are put out.
 put_out_by : (result : Result ℕ Refusal) (old new : Conn) (count : ℕ) (before after : List ℕ)
     → before ≡ [] → ConnAnswers old (PutOut count) (answer_by (λ given. Count given) result) new
     → IfOk result (λ given. GivesOut old count given before after)

@@ -141,7 +141,7 @@ events_all (turn ∷ turns) =
     all_flat event_in event_same turn turns
     ∙ append-nil (flat event_in (all_by_octets turns)) ∙ events_all turns
 
--- What is kept is what the turns tell.
+-- What is kept is what the turns say.
 pub used_kept : (kept : List code.Turn) (turns : List Turn)
     → kept_by_octets kept ≡ all_by_octets turns → joined used_in kept ≡ octets_in turns
 used_kept kept turns same =

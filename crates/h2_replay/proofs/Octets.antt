@@ -17,7 +17,7 @@ drop_min (suc count) zero (first ∷ list) is = absurd (omega (arith, is))
 drop_min (suc count) (suc bounded) (first ∷ list) is =
     drop_min count bounded list (omega (arith, is))
 
--- What is left of a list after so many.
+-- What is left of a list after its first `count` octets.
 pub rest_of : (count : ℕ) (list : List ℕ) → take (length list - count) (drop count list)
     ≡ drop count list
 rest_of count list =

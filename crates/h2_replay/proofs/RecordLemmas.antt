@@ -91,7 +91,7 @@ take_records role values acts octets answer old one two three news conn new call
       represents = all.represents;
     }
 
--- A call answers no fault.
+-- No answer of a call is a fault.
 call_answered : (answer : answered.Answer) (one : Answer) → shown one ≡ answer_value answer
     → answer_turn answer ≡ Answered (shown one)
 call_answered (answers.Id id) one same = ap Answered (sym same)
@@ -121,7 +121,7 @@ made_call acts.GoAway is = refl
 made_call (acts.PutOut count) is = refl
 made_call (acts.ChangeSettings config) is = refl
 
--- What was given out and what waits after it.
+-- What was put out, and what is queued after it.
 given_and_waiting : (before count after : ℕ) (written : List ℕ) → after ≡ before + count
     → drop before (take after written) ++ drop after written ≡ drop before written
 given_and_waiting before count after written is =

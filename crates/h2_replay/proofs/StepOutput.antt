@@ -116,12 +116,12 @@ pub writes_more : (log : Log) (items : List Item) (more : ℕ)
     → AddsOutput log (with_unreturned more (with_sent log items))
 writes_more = holds_sent_unreturned AddsOutput adds_output.writes
 
--- how many octets a call gives out
+-- how many octets a call puts out
 abbrev pub given_by : Answer → Act → ℕ
 given_by (Count given) (PutOut count) = given
 given_by answer act = 0
 
--- What a call writes after its answer, and how many octets it gives out.
+-- What a call writes after its answer, and how many octets it puts out.
 pub record AddsCall (log : Log) (act : Act) (answer : Answer) : Type 0 where
   pub news : List Turn
   pub octets : List ℕ

@@ -1,4 +1,4 @@
--- What a call of `take` makes of what is kept.
+-- A call of `take`, and what is kept of it.
 use Rattle.std.proofs.Common.{◌≡◌, ◌≢◌, ℕ, ◌-◌, ◌^◌, ◌≤◌, nat_lt, Bool, true, false}
 use Rattle.std.proofs.Common.{List, [], ◌∷◌, ◌++◌, length, take, drop, map, Option, Some, None}
 use Rattle.std.proofs.Common.{if◌then◌else◌, refl, sym, ap, subst, ◌∙◌, inl, inr, arith, ltb-true}
@@ -17,8 +17,7 @@ use Rattle.h2_laws_end.proofs.TakeAnswers.{log_after_take}
 use Rattle.h2_replay.specs.declared.taking.Taking.{Taking}
 use Rattle.h2_replay.specs.declared.taking.Next.TheVariants as nexts
 use Rattle.h2_replay.specs.declared.turns.Turn.{Turn}
-use Rattle.h2_replay.specs.declared.events.ReplayEvent.{ReplayEvent}
-use Rattle.h2_replay.specs.Values.{replay_event_value, turn_value}
+use Rattle.h2_replay.specs.Values.{KeptEvent, kept_event_value, turn_value}
 use Rattle.h2_replay.specs.Replay.{each_octet, by_octets, all_by_octets, kept_by_octets}
 use Rattle.h2_replay.specs.Taking.{answered_by, taken_answer, taken_events, next_by, next_of}
 use Rattle.h2_replay.specs.Taking.{KeepsNews, GoesOn, IsWithinPiece}
@@ -55,12 +54,12 @@ used_exactly before after input octets unused piece was is below joined =
     ∙ sym (take-append-le (length octets) octets unused (omega arith)))
 
 -- How a replay goes on is as the answer says.
-goes_by : (log after : Log) (piece : List ℕ) (used : ℕ) (event : Option ReplayEvent)
+goes_by : (log after : Log) (piece : List ℕ) (used : ℕ) (event : Option KeptEvent)
     (fault : Option Code) → MayTake log piece (answered_by fault used event) after
     → used ≤ length piece → GoesOn log piece (next_by fault event used (length piece)) after
 goes_by log after piece used event (Some code) may within = may
 goes_by log after piece used (Some event) None may within =
-    (Some (replay_event_value event), may, within, inr (λ none. cc))
+    (Some (kept_event_value event), may, within, inr (λ none. cc))
 goes_by log after piece used None None may within =
     by_test (nat_lt used (length piece)) refl
   where
@@ -79,7 +78,7 @@ goes_on_of log after piece taking may within =
     goes_by log after piece taking.used taking.event taking.fault may within
 
 -- It goes on within the piece.
-within_by : (used size : ℕ) (event : Option ReplayEvent) (fault : Option Code) → used ≤ size
+within_by : (used size : ℕ) (event : Option KeptEvent) (fault : Option Code) → used ≤ size
     → IsWithinPiece (next_by fault event used size) size
 within_by used size event (Some code) within = tt
 within_by used size (Some event) None within = within
@@ -94,7 +93,7 @@ pub is_within : (taking : Taking) (size : ℕ) → taking.used ≤ size
 is_within taking size within = within_by taking.used size taking.event taking.fault within
 
 -- The events of an answer.
-events_by : (used : ℕ) (event : Option ReplayEvent) (fault : Option Code)
+events_by : (used : ℕ) (event : Option KeptEvent) (fault : Option Code)
     → taken_events (record { used = used; event = event; fault = fault })
     ≡ events_of_answer (answered_by fault used event)
 events_by used event None = refl
@@ -103,7 +102,7 @@ events_by used event (Some code) = refl
 pub same_events : (taking : Taking) → taken_events taking ≡ events_of_answer (taken_answer taking)
 same_events taking = events_by taking.used taking.event taking.fault
 
--- What has joined an output, by how much waited before it.
+-- What has joined an output, by the number of octets that were queued before it.
 pub joined_since : (waited given : ℕ) (written more : List ℕ) → given ≤ length written
     → waited ≡ length written - given → drop waited (drop given (written ++ more)) ≡ more
 joined_since waited given written more within is =
@@ -119,7 +118,7 @@ prefix_of octets unused piece count joined many =
     rw (joined, ← many) (sym (take-length octets)
     ∙ sym (take-append-le (length octets) octets unused (omega arith)))
 
--- The octets that a call used, where it answers how many.
+-- The octets that a call used, where it returns how many.
 pub took_input : (log after : Log) (piece : List ℕ) (count : ℕ) (event : Option Event)
     → MayTake log piece (Took count event) after
     → after.input ≡ log.input ++ take count piece

@@ -1,4 +1,4 @@
--- What a call makes of a connection, and what it gives out.
+-- A connection after a call, and the octets that it puts out.
 use Rattle.std.specs.Prelude.{◌≡◌, ℕ, List, take, drop}
 use Rattle.h2_spec_log.specs.Acts as logs
 use Rattle.h2_spec_log.specs.Acts.{Values, shown}
@@ -26,7 +26,7 @@ abbrev pub IsCall : Act → Type 0
 IsCall (acts.Take octets) = ⊥
 IsCall act = Unit {0}
 
--- the answer of a call; a call answers no fault
+-- the answer of a call; none is a fault
 abbrev pub answer_value : Answer → logs.Answer
 answer_value (answers.Id id) = logs.Number id
 answer_value (answers.Count count) = logs.Count count
@@ -35,7 +35,7 @@ answer_value (answers.Refused refusal) = logs.Refused refusal
 answer_value (answers.Fault code) = logs.OutOfMemory
 
 -- The call may have an answer that shows this one, the connection represents the log with it, and
--- the octets are the next ones of the log's output, as many as were given out.
+-- the octets are the next ones of the log's output, as many as were put out.
 pub record MakesCallOf (values : Values) (log : Log) (act : logs.Act) (answer : logs.Answer)
     (octets : List ℕ) (new : Conn) : Type 0 where
   pub one : logs.Answer

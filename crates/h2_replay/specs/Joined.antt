@@ -1,4 +1,4 @@
--- What the turns of a replay tell together, and the last act of a replay.
+-- What the turns of a replay say together, and the last act of a replay.
 use Rattle.std.specs.Prelude.{◌≡◌, ℕ, List, [], ◌∷◌, ◌++◌}
 use Rattle.h2_spec_log.specs.declared.role.Role.{Role}
 use Rattle.h2_spec_log.specs.Events.{Event}

@@ -1,6 +1,6 @@
--- What a replay answers: the turns of its acts, as the definitions of an end say them.
+-- The result of a replay: the turns of its acts, as the definitions of an end give them.
 --
--- How octets are grouped in turns says nothing: what an end writes in one step is one turn of it
+-- How octets are grouped in turns doesn't matter: what an end writes in one step is one turn of it
 -- in the code, and as many as it has parts in the definitions. So turns are compared octet by
 -- octet, in order: a turn with octets is one turn for each of them. Since a turn of an act's
 -- beginning stands between the octets of two acts, what came in, what joined the output and what

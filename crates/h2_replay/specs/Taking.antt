@@ -1,4 +1,4 @@
--- What taking octets makes of a connection, and which turns are kept of it.
+-- A connection after octets are taken, and the turns that are kept of it.
 use Rattle.std.specs.Prelude.{◌≡◌, ℕ, ◌≤◌, nat_lt, if◌then◌else◌, List, [], ◌++◌, length, take}
 use Rattle.std.specs.Prelude.{Option, Some, None}
 use Rattle.std.specs.Option.{option_map}
@@ -12,33 +12,32 @@ use Rattle.h2_laws_end.specs.Replays.{TakesAll, IsCalledAgain}
 use Rattle.h2_conn.specs.declared.conn.Conn.{Conn}
 use Rattle.h2_conn.specs.Conn.{ConnRepresents}
 use Rattle.h2_replay.specs.declared.taking.Taking.{Taking}
-use Rattle.h2_replay.specs.declared.events.ReplayEvent.{ReplayEvent}
 use Rattle.h2_replay.specs.declared.taking.Next.{Next}
 use Rattle.h2_replay.specs.declared.taking.Next.TheVariants as nexts
 use Rattle.h2_replay.specs.declared.turns.Answer.{Answer}
 use Rattle.h2_replay.specs.declared.turns.Answer.TheVariants as answers
 use Rattle.h2_replay.specs.declared.turns.Turn.{Turn}
-use Rattle.h2_replay.specs.Values.{replay_event_value}
+use Rattle.h2_replay.specs.Values.{KeptEvent, kept_event_value}
 use Rattle.h2_replay.specs.Replay.{kept_by_octets, all_by_octets}
 
--- what a call of `take` answered, by the code with which the connection has failed
-abbrev pub answered_by : Option Code → ℕ → Option ReplayEvent → TakeAnswer
-answered_by None used event = Took used (option_map replay_event_value event)
+-- the answer of a call of `take`, by the code with which the connection has failed
+abbrev pub answered_by : Option Code → ℕ → Option KeptEvent → TakeAnswer
+answered_by None used event = Took used (option_map kept_event_value event)
 answered_by (Some code) used event = Failed code
 
 abbrev pub taken_answer : Taking → TakeAnswer
 taken_answer taking = answered_by taking.fault taking.used taking.event
 
 -- what it reported
-abbrev pub reported_by : Option Code → Option ReplayEvent → List Event
-reported_by None event = events_answered (option_map replay_event_value event)
+abbrev pub reported_by : Option Code → Option KeptEvent → List Event
+reported_by None event = events_answered (option_map kept_event_value event)
 reported_by (Some code) event = []
 
 abbrev pub taken_events : Taking → List Event
 taken_events taking = reported_by taking.fault taking.event
 
 -- how a replay goes on after it
-abbrev pub next_by : Option Code → Option ReplayEvent → ℕ → ℕ → Next
+abbrev pub next_by : Option Code → Option KeptEvent → ℕ → ℕ → Next
 next_by (Some code) event used size = nexts.Failed code
 next_by None (Some event) used size = nexts.Again used
 next_by None None used size = if nat_lt used size then nexts.Again used else nexts.Done
@@ -46,7 +45,7 @@ next_by None None used size = if nat_lt used size then nexts.Again used else nex
 abbrev pub next_of : Taking → ℕ → Next
 next_of taking size = next_by taking.fault taking.event taking.used size
 
--- It goes on within a piece of so many octets.
+-- It goes on within a piece of `size` octets.
 abbrev pub IsWithinPiece : Next → ℕ → Type 0
 IsWithinPiece (nexts.Again used) size = used ≤ size
 IsWithinPiece nexts.Done size = Unit {0}

@@ -1,13 +1,15 @@
 -- The acts, the events and the turns of a replay's code, as those of the definitions of an end.
-use Rattle.std.specs.Prelude.{List, [], ◌∷◌, ◌++◌, Some}
+use Rattle.std.specs.Prelude.{ℕ, List, [], ◌∷◌, ◌++◌, Some, Vec}
+use Rattle.std.specs.declared.alloc.Global.{Global}
+use Rattle.hpack.specs.declared.types.field.Field.{Field}
 use Rattle.h2_flow.specs.ConfigValues.{values_of}
 use Rattle.h2_spec_log.specs.Events as log
 use Rattle.h2_spec_log.specs.Acts as logs
 use Rattle.h2_laws_end.specs.Replays.{ReplayAct, Take, Make}
+use Rattle.h2_core.specs.declared.event.Event.{Event}
+use Rattle.h2_core.specs.Events.{event_value}
 use Rattle.h2_replay.specs.declared.acts.Act.{Act}
 use Rattle.h2_replay.specs.declared.acts.Act.TheVariants as acts
-use Rattle.h2_replay.specs.declared.events.ReplayEvent.{ReplayEvent}
-use Rattle.h2_replay.specs.declared.events.ReplayEvent.TheVariants as events
 use Rattle.h2_replay.specs.declared.turns.Answer.{Answer}
 use Rattle.h2_replay.specs.declared.turns.Answer.TheVariants as answers
 use Rattle.h2_replay.specs.declared.turns.Turn.{Turn}
@@ -32,15 +34,12 @@ unfoldable pub acts_made : List Act → List ReplayAct
 acts_made [] = []
 acts_made (act ∷ acts) = acts_made acts ++ act_value act ∷ []
 
--- an event
-abbrev pub replay_event_value : ReplayEvent → log.Event
-replay_event_value (events.Fields id list end) = log.FieldsEvent id list.items end
-replay_event_value (events.Data id octets flow end) = log.DataEvent id octets.items flow end
-replay_event_value (events.Reset id code ours) = log.ResetEvent id code ours
-replay_event_value (events.GoAway last code) = log.GoAwayEvent last code
-replay_event_value (events.Unprocessed id) = log.UnprocessedEvent id
-replay_event_value events.Acked = log.AckedEvent
-replay_event_value (events.Pong octets) = log.PongEvent octets
+-- an event that is kept, with its fields and octets
+abbrev pub KeptEvent : Type 0
+KeptEvent = Event (Vec Field Global) (Vec ℕ Global)
+
+abbrev pub kept_event_value : KeptEvent → log.Event
+kept_event_value event = event_value (λ list. list.items) (λ octets. octets.items) event
 
 -- the turn in which an act begins
 abbrev pub call_turn : ReplayAct → logs.Turn
@@ -61,4 +60,4 @@ turn_value (turns.In octets) = logs.In octets.items
 turn_value (turns.Out octets) = logs.Out octets.items
 turn_value (turns.Call act) = call_turn (act_value act)
 turn_value (turns.Answer answer) = answer_turn answer
-turn_value (turns.Event event) = logs.Happened (replay_event_value event)
+turn_value (turns.Event event) = logs.Happened (kept_event_value event)

@@ -1,4 +1,4 @@
-//! What is done to an end.
+//! Acts: calls of an end, and octets that it takes.
 
 use h2_conn::Config;
 use hpack::Field;
@@ -13,7 +13,7 @@ pub enum Act {
     Open {
         /// The fields.
         fields: Vec<Field>,
-        /// Whether nothing follows on the stream (END_STREAM).
+        /// Whether END_STREAM is set: nothing follows on the stream.
         end: bool,
     },
     /// [`Conn::fields`](h2_conn::Conn::fields).
@@ -22,7 +22,7 @@ pub enum Act {
         id: u32,
         /// The fields.
         fields: Vec<Field>,
-        /// Whether nothing follows on the stream (END_STREAM).
+        /// Whether END_STREAM is set: nothing follows on the stream.
         end: bool,
     },
     /// [`Conn::data`](h2_conn::Conn::data).
@@ -31,35 +31,35 @@ pub enum Act {
         id: u32,
         /// The octets of the body.
         octets: Vec<u8>,
-        /// Whether nothing follows on the stream (END_STREAM).
+        /// Whether END_STREAM is set: nothing follows on the stream.
         end: bool,
     },
     /// [`Conn::release`](h2_conn::Conn::release).
     Release {
         /// The stream.
         id: u32,
-        /// How many octets are released.
+        /// The number of octets that are released.
         count: u32,
     },
     /// [`Conn::reset`](h2_conn::Conn::reset).
     Reset {
         /// The stream.
         id: u32,
-        /// Why, by its number.
+        /// The error code (section 7).
         code: u32,
     },
     /// [`Conn::refuse`](h2_conn::Conn::refuse).
     Refuse {
         /// The stream.
         id: u32,
-        /// Why, by its number.
+        /// The error code (section 7).
         code: u32,
     },
     /// [`Conn::ping`](h2_conn::Conn::ping).
     Ping([u8; 8]),
     /// [`Conn::go_away`](h2_conn::Conn::go_away).
     GoAway,
-    /// [`Conn::put_out`](h2_conn::Conn::put_out), of at most so many octets.
+    /// [`Conn::put_out`](h2_conn::Conn::put_out), of at most this number of octets.
     PutOut(usize),
     /// [`Conn::change_settings`](h2_conn::Conn::change_settings).
     ChangeSettings(Config),

@@ -1,9 +1,6 @@
 //! The calls of a replay.
 
 ghost use Rattle.std.specs.Prelude.{◌≡◌, []};
-ghost use Rattle.hpack.specs.Written.{AreOctets};
-ghost use Rattle.std.specs.List.{AllByRecursion};
-ghost use Rattle.hpack_text.specs.Bits.{IsOctet};
 ghost use Rattle.h2_spec_log.specs.Acts as logs;
 ghost use Rattle.h2_spec_log.specs.Acts.{IsTypedAct};
 ghost use Rattle.h2_conn.specs.Conn.{answer_by};
@@ -12,10 +9,9 @@ ghost use Rattle.h2_replay.specs.Calls.{IsCall, call_of, MakesCall, answer_value
 use crate::acts::Act;
 use crate::turns::Answer;
 use h2_conn::{Conn, Refusal};
-use hpack::{Field, list_size};
 
 // rule: replay (own) A replay keeps each act, its answer, its octets and its events
-/// Makes a call; `put_out` appends what it gives out to `out`.
+/// Makes a call; `put_out` appends its octets to `out`.
 pub(crate) fn make_call(conn: &mut Conn, act: &Act, out: &mut Vec<u8>) -> Answer
     requires call { IsCall act.now }
     requires none { out.old.items ≡ [] }
@@ -25,29 +21,25 @@ pub(crate) fn make_call(conn: &mut Conn, act: &Act, out: &mut Vec<u8>) -> Answer
 {
     match act {
         Act::Take(_) => unreachable!(),
-        Act::Open { fields, end } => {
-            check_octets(fields);
-            opened(conn.open(fields, *end))
-        }
-        Act::Fields { id, fields, end } => {
-            check_octets(fields);
-            done(conn.fields(*id, fields, *end))
-        }
-        Act::Data { id, octets, end } => {
-            check_data(octets);
-            counted(conn.data(*id, octets, *end))
-        }
+        Act::Open { fields, end } => opened(conn.open(fields, *end)),
+        Act::Fields { id, fields, end } => done(conn.fields(*id, fields, *end)),
+        Act::Data { id, octets, end } => counted(conn.data(*id, octets, *end)),
         Act::Release { id, count } => done(conn.release(*id, *count)),
         Act::Reset { id, code } => done(conn.reset(*id, *code)),
         Act::Refuse { id, code } => done(conn.refuse(*id, *code)),
-        Act::Ping(octets) => {
-            check_ping(*octets);
-            done(conn.ping(*octets))
-        }
+        Act::Ping(octets) => pinged(conn, *octets),
         Act::GoAway => done(conn.go_away()),
         Act::PutOut(count) => counted(conn.put_out(*count, out)),
         Act::ChangeSettings(config) => done(conn.change_settings(*config)),
     }
+}
+
+/// Sends PING. Its octets are octets by their type, as those of a parameter are known to be.
+fn pinged(conn: &mut Conn, octets: [u8; 8]) -> Answer
+    ensures typed { IsTypedAct (logs.SendPing octets) }
+    ensures makes { MakesCall conn.old (logs.SendPing octets) (answer_value result) [] conn.new }
+{
+    done(conn.ping(octets))
 }
 
 /// The answer of `open`.
@@ -60,7 +52,7 @@ fn opened(outcome: Result<u32, Refusal>) -> Answer
     }
 }
 
-/// The answer of a call that says how many octets it has written or given out.
+/// The answer of a call that returns the number of octets that it has written or put out.
 fn counted(outcome: Result<usize, Refusal>) -> Answer
     ensures { answer_value result ≡ answer_by (λ count. logs.Count count) outcome }
 {
@@ -79,21 +71,3 @@ fn done(outcome: Result<(), Refusal>) -> Answer
         Err(refusal) => Answer::Refused(refusal),
     }
 }
-
-/// Names and values are octets, which contracts speak of. The sum isn't used, so that compilers
-/// drop it.
-fn check_octets(fields: &[Field])
-    ensures { AreOctets fields.now }
-{
-    let _size = list_size(fields);
-}
-
-/// The same of the octets of a body.
-fn check_data(_octets: &[u8])
-    ensures { AllByRecursion IsOctet _octets.now }
-{}
-
-/// And of a PING.
-fn check_ping(_octets: [u8; 8])
-    ensures { IsTypedAct (logs.SendPing _octets) }
-{}

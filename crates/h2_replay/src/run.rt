@@ -20,8 +20,8 @@ use std::alloc::{AllocError, Global};
 
 // contract: replay (own) A replay keeps each act, its answer, its octets and its events
 // rule: replay (own) A replay keeps each act, its answer, its octets and its events
-/// Makes the acts, in order, on a new end of a connection, and answers what has happened. A refused
-/// call is an act like any other.
+/// Makes the acts, in order, on a new end of a connection, and returns what has happened. A
+/// refused call is an act like any other.
 ///
 /// # Errors
 ///

@@ -7,20 +7,21 @@ ghost use Rattle.h2_replay.specs.Taking.{TakesCall, TakesPiece, ReplayTakesOctet
 ghost use Rattle.h2_replay.specs.Taking.{next_of};
 ghost use Rattle.h2_replay.specs.Taking.{IsWithinPiece};
 
-use crate::events::ReplayEvent;
+use crate::events::copy_event;
 use crate::turns::{Answer, Turn};
 use crate::waiting::joined_output;
-use h2_conn::Conn;
+use h2_conn::{Conn, Event};
 use h2_frame::Code;
+use hpack::Field;
 use std::alloc::{AllocError, Global};
 
-/// What a call of `take` made of a piece.
+/// The result of a call of `take`.
 #[derive(Drop)]
 pub(crate) struct Taking {
-    /// How many octets were used.
+    /// The number of octets used.
     pub(crate) used: usize,
     /// What was reported.
-    pub(crate) event: Option<ReplayEvent>,
+    pub(crate) event: Option<Event<Vec<Field>, Vec<u8>>>,
     /// The code with which the connection has failed: then nothing was reported.
     pub(crate) fault: Option<Code>,
 }
@@ -39,7 +40,7 @@ fn take_once(alloc: Global, conn: &mut Conn, piece: &[u8]) -> Result<Taking, All
     let code = match conn.take(piece) {
         Ok(taken) => {
             let event = match taken.event {
-                Some(event) => Some(ReplayEvent::copy_of(alloc, event)?),
+                Some(event) => Some(copy_event(alloc, event)?),
                 None => None,
             };
             return Ok(Taking {
@@ -61,7 +62,7 @@ fn take_once(alloc: Global, conn: &mut Conn, piece: &[u8]) -> Result<Taking, All
     })
 }
 
-/// How a replay goes on after a call of `take`: with the octets after so many, or not.
+/// How a replay goes on after a call of `take`: with the octets after this number of them, or not.
 #[derive(Clone, Copy)]
 pub(crate) enum Next {
     Again(usize),

@@ -1,16 +1,16 @@
 //! What a replay keeps.
 
 use crate::acts::Act;
-use crate::events::ReplayEvent;
-use h2_conn::Refusal;
+use h2_conn::{Event, Refusal};
 use h2_frame::Code;
+use hpack::Field;
 
-/// What an act answered.
+/// The answer to an act.
 #[derive(Clone, Copy, Debug)]
 pub enum Answer {
     /// The number of the stream that was opened.
     Id(u32),
-    /// How many octets were written, or given out.
+    /// The number of octets that were written, or put out.
     Count(usize),
     /// It was done.
     Done,
@@ -26,14 +26,14 @@ pub enum Turn {
     /// Octets were used, by one call of [`Conn::take`](h2_conn::Conn::take): up to the end of one
     /// frame, or up to the octet that made a fault, or else all of them; or none.
     In(Vec<u8>),
-    /// Octets have joined the output that waits.
+    /// Octets have joined the queued output.
     Out(Vec<u8>),
     /// An act began.
     Call(Act),
     /// It ended with this answer. What a call writes follows its answer.
     Answer(Answer),
-    /// An event was reported.
-    Event(ReplayEvent),
+    /// An event was reported, which is kept with its fields and octets.
+    Event(Event<Vec<Field>, Vec<u8>>),
 }
 
 /// What has happened in a replay.

@@ -8,8 +8,8 @@ ghost use Rattle.h2_conn.specs.Conn.{ConnRepresents};
 use h2_conn::Conn;
 use std::alloc::{AllocError, Global};
 
-/// What has joined the output in an act that has given these octets out, where so many octets
-/// waited before it.
+/// The octets that have joined the output in an act that has put `given` out, where `waited`
+/// octets were queued before it.
 ///
 /// # Errors
 ///
@@ -30,7 +30,7 @@ pub(crate) fn joined_output(
     Ok(joined)
 }
 
-/// Appends what waits after so many octets.
+/// Appends the queued octets from the place `from` on.
 fn append_waiting(conn: &Conn, from: usize, out: &mut Vec<u8>) -> Result<(), AllocError>
     ensures { OnOk result ((values : Values) (log : Log) → ConnRepresents values conn.now log
         → out.new.items ≡ out.old.items ++ drop from (drop log.given log.written)) }

@@ -171,7 +171,7 @@ block_shows code cutter new_cutter blocks due expects limits stream output prefi
     ∙ settled_fault cutter blocks due expects limits stream output all
     (fault_line code (saturated (length prefix))) shows whole)
 
--- what the end of the input makes of the output
+-- what the end of the input adds to the output
 end_shows : (unparsed : List ℕ) (cutter : CutterState) (blocks : Blocks) (due expects : Bool)
     (limits : Limits) (stream output : List ℕ) (status : Status) → cutter.unparsed ≡ unparsed
     → ViewerShows cutter blocks due expects limits stream output

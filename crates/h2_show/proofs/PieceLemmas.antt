@@ -40,7 +40,7 @@ prints_append cutter mid new_cutter blocks mid_blocks new_blocks due mid_due new
     one two before after expects limits stream output shows =
     grind (arith, common_steps, same_shows, append_assoc)
 
--- a call that answers no frame
+-- a call that returns no frame
 pub prints_without_frame : (cutter mid new_cutter : CutterState) (blocks mid_blocks : Blocks)
     (due mid_due new_due past : Bool) (piece : List ℕ) (done : ℕ) (cut : Cut) (printed : List ℕ)
     → ViewerPrints cutter blocks due (take done piece) mid mid_blocks mid_due printed
@@ -63,7 +63,7 @@ prints_without_frame cutter mid new_cutter blocks mid_blocks due mid_due new_due
     (show_nothing past mid new_cutter mid_blocks mid_due expects limits stream output used known
     shows cuts)))
 
--- a call that answers a frame, which the blocks take
+-- a call that returns a frame, which the blocks take
 pub prints_frame : (cutter mid new_cutter : CutterState) (blocks mid_blocks new_blocks : Blocks)
     (due mid_due new_due : Bool) (piece : List ℕ) (done : ℕ) (cut : Cut) (frame : FrameRef)
     (printed listed : List ℕ)

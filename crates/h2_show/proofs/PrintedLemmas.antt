@@ -51,7 +51,7 @@ settle cutter blocks due expects limits stream output shows =
           ∙ append-nil (whole_preface expects ++ shows.lines)
     ]
 
--- a call that answers a frame, which the blocks take
+-- a call that returns a frame, which the blocks take
 pub show_frame : (cutter new_cutter : CutterState) (blocks new_blocks : Blocks)
     (due expects : Bool) (limits : Limits) (stream output used : List ℕ) (frame : Frame)
     (listed : List ℕ) → ViewerShows cutter blocks due expects limits stream output
@@ -86,7 +86,7 @@ show_frame cutter new_cutter blocks new_blocks due expects limits stream output 
 and_true : (one : Bool) → (one && true) ≡ one
 and_true one = search rules
 
--- a call that answers no frame, and what of the preface is complete after it
+-- a call that returns no frame, and what of the preface is complete after it
 pub show_nothing : (past : Bool) (cutter new_cutter : CutterState) (blocks : Blocks)
     (due expects : Bool) (limits : Limits) (stream output used : List ℕ)
     → past ≡ not new_cutter.in_preface

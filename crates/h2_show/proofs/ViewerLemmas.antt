@@ -59,7 +59,7 @@ step_continues cutter new_cutter blocks new_blocks used frames continues blocks_
       blocks_represent = blocks_continue represents.frames represents.blocks_represent;
     }
 
--- a call that answers no frame
+-- a call that returns no frame
 pub continues_without_frame : (cutter mid_cutter new_cutter : CutterState)
     (blocks mid_blocks : Blocks) (piece : List ℕ) (done : ℕ) (cut : Cut)
     → ViewerContinues cutter blocks (take done piece) mid_cutter mid_blocks → cut.frame ≡ None
@@ -76,7 +76,7 @@ continues_without_frame cutter mid_cutter new_cutter blocks mid_blocks piece don
     (λ so_far represents. subst (λ (frames : List Frame). BlocksRepresent mid_blocks frames)
     (sym (append-nil so_far)) represents)))
 
--- a call that answers a frame, which the blocks take
+-- a call that returns a frame, which the blocks take
 pub continues_with_frame : (cutter mid_cutter new_cutter : CutterState)
     (blocks mid_blocks new_blocks : Blocks) (piece : List ℕ) (done : ℕ) (cut : Cut)
     (frame : FrameRef)

@@ -24,7 +24,7 @@ hex_digit number = if nat_lt number 10 then 48 + number else 87 + number
 abbrev pub hex_octet : ℕ → List ℕ
 hex_octet octet = hex_digit (octet / 16) ∷ hex_digit (octet % 16) ∷ []
 
--- whether an octet is shown as it is: printable ASCII, but for the backslash
+-- whether an octet is shown unescaped: printable ASCII, but for the backslash
 -- rule: show (own) The line of a field has its mark, its name and its value
 abbrev pub is_plain : ℕ → Bool
 is_plain octet = nat_le 32 octet && nat_le octet 126 && not (octet == 92)
@@ -63,7 +63,7 @@ abbrev pub field_lent : FieldRef → Field
 field_lent field =
     record { name = field.name.now; value = field.value.now; sensitive = field.sensitive }
 
--- the lines of a list, as a decoder answers it
+-- the lines of a list, as a decoder returns it
 -- rule: show (own) A list above 65,536 octets has one line, without fields
 abbrev pub answered_lines : AnsweredList → List ℕ
 answered_lines (Whole fields) = flat_map field_line fields.items
@@ -75,13 +75,13 @@ abbrev pub flag_word : Bool → (word : List ℕ) → List ℕ
 flag_word true word = codes " " ++ word
 flag_word false word = []
 
--- a space and how much padding there is, where there is a pad length
+-- a space and the pad length, where there is one
 -- rule: show (own) The line of a frame has its type, stream, octets and more
 abbrev pub pad_word : Option ℕ → List ℕ
 pad_word None = []
 pad_word (Some pad) = codes " pad=" ++ decimal pad
 
--- how many octets of a payload are the pad length and the padding
+-- the number of octets of a payload that are the pad length and the padding
 -- rule: show (own) The line of a frame has its type, stream, octets and more
 abbrev pub pad_octets : Option ℕ → ℕ
 pad_octets None = 0
@@ -93,7 +93,7 @@ abbrev pub pair_words : List (ℕ × ℕ) → List ℕ
 pair_words pairs =
     flat_map (λ pair. codes " " ++ decimal pair.0 ++ codes "=" ++ decimal pair.1) pairs
 
--- the type of a frame, its stream and how many octets its payload has
+-- the type of a frame, its stream and the length of its payload
 -- rule: show (own) The line of a frame has its type, stream, octets and more
 abbrev pub frame_head : (name : List ℕ) → (stream octets : ℕ) → List ℕ
 frame_head name stream octets = name ++ codes " " ++ decimal stream ++ codes " " ++ decimal octets

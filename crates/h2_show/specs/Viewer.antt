@@ -1,4 +1,4 @@
--- What showing a piece of a stream makes of the viewer's cutter and blocks.
+-- The viewer's cutter and blocks after a piece of a stream was shown.
 use Rattle.std.specs.Prelude.{◌≡◌, ℕ, Bool, List, ◌++◌}
 use Rattle.h2_frame.specs.declared.code.Code.{Code}
 use Rattle.h2_frame.specs.Frames.{Frame}

@@ -10,18 +10,10 @@ ghost use Rattle.h2_show.specs.Lines.{frame_line};
 ghost use Rattle.h2_show.specs.Printed.{BlocksShow, block_lines};
 
 use h2_block::{BlockFault, Gather, Gathered};
+use h2_frame::limits::{FIRST_TABLE, MAX_LIST, MAX_TABLE_LIMIT};
 use h2_frame::{Code, FrameRef};
 use hpack::{Decoder, Fault, List};
 use std::alloc::{AllocError, Global};
-
-/// The maximum of the table before the first block (RFC 9113, section 6.5.2).
-const FIRST_MAXIMUM: u32 = 4_096;
-
-/// The greatest maximum that a block may set.
-const TABLE_LIMIT: u32 = 65_536;
-
-/// The greatest size of a list that is shown.
-const LIST_LIMIT: u32 = 65_536;
 
 /// Groups the frames of one end, and decodes their field blocks.
 #[derive(Debug, Drop)]
@@ -73,8 +65,8 @@ impl Blocks {
         ensures represents { IfOk result (λ blocks. BlocksRepresent blocks []) }
         ensures shows { IfOk result (λ blocks. BlocksShow blocks [] []) }
     {
-        let mut decoder = Decoder::new(alloc, FIRST_MAXIMUM).map_err(|_| AllocError)?;
-        decoder.set_limit(TABLE_LIMIT);
+        let mut decoder = Decoder::new(alloc, FIRST_TABLE).map_err(|_| AllocError)?;
+        decoder.set_limit(MAX_TABLE_LIMIT);
         Ok(Blocks {
             gather: Gather::new(alloc),
             decoder,
@@ -83,7 +75,7 @@ impl Blocks {
 
     // contract: 4.3 A block that does not decode is COMPRESSION_ERROR, of the connection
     // contract: show (own) A list above 65,536 octets has one line, without fields
-    /// Takes the next frame, and answers the list of the block that it ends.
+    /// Takes the next frame, and returns the list of the block that it ends.
     ///
     /// # Errors
     ///
@@ -116,7 +108,7 @@ impl Blocks {
             → DecodingErrorReports self.old.decoder octets.now error) }
         ensures same { self.new.gather ≡ self.old.gather }
     {
-        Ok(self.decoder.decode(octets, LIST_LIMIT)?)
+        Ok(self.decoder.decode(octets, MAX_LIST)?)
     }
 
     /// Whether a block has begun and isn't complete.

@@ -2,6 +2,7 @@
 
 use crate::viewer::ShowError;
 use h2_cli::{answers_http1, asks_http1, is_blank, is_capture};
+use h2_frame::HEAD_LEN;
 use h2_wire::WireFault;
 
 /// What is likely wrong with the options, or with the input, where its first octets are at fault.
@@ -29,7 +30,8 @@ impl Hint {
             ShowError::Wire(WireFault::BadPreface) => true,
             _ => false,
         };
-        let of_input = if place <= HEAD {
+        // A fault of a head is found at its last octet.
+        let of_input = if place <= HEAD_LEN as u64 {
             Hint::for_input(piece, is_bad_preface)
         } else {
             None
@@ -75,9 +77,6 @@ impl Hint {
         }
     }
 }
-
-/// The octets of a frame's head: a fault in the first of them is found at the last one.
-const HEAD: u64 = 9;
 
 // Whether an octet is a hexadecimal digit or a blank.
 fn is_hexadecimal(octet: u8) -> bool {

@@ -119,7 +119,7 @@ impl fmt::Display for Word<'_> {
     }
 }
 
-/// A space and how much padding there is, where there is a pad length.
+/// A space and the pad length, where there is one.
 #[derive(Clone, Copy)]
 struct Pad(Option<u8>);
 
@@ -176,21 +176,21 @@ fn hexadecimal_of(octets: [u8; 8]) -> [u8; 16]
 }
 
 // rule: show (own) The line of a frame has its type, stream, octets and more
-/// How many octets the payload of DATA has.
+/// The length of a DATA payload.
 fn data_length(octets: &[u8], pad: Option<u8>) -> usize
     ensures { result ≡ length octets.now + pad_octets pad }
 {
     octets.len().saturating_add(padded(pad))
 }
 
-/// How many octets the payload of SETTINGS has.
+/// The length of a SETTINGS payload.
 fn settings_length(pairs: Pairs<'_>) -> usize
     ensures { result ≡ 6 * length (lent_pairs pairs.entry) }
 {
     pairs.len().saturating_mul(PAIR)
 }
 
-/// How many octets the payload of GOAWAY has.
+/// The length of a GOAWAY payload.
 fn goaway_length(debug: &[u8]) -> usize
     ensures { result ≡ 8 + length debug.now }
 {
@@ -198,7 +198,7 @@ fn goaway_length(debug: &[u8]) -> usize
 }
 
 // rule: show (own) The line of a frame has its type, stream, octets and more
-/// How many octets the payload of HEADERS has.
+/// The length of a HEADERS payload.
 fn headers_length(fragment: &[u8], pad: Option<u8>, prioritized: bool) -> usize
     ensures { result ≡ length fragment.now + pad_octets pad + (if prioritized then 5 else 0) }
 {
@@ -209,7 +209,7 @@ fn headers_length(fragment: &[u8], pad: Option<u8>, prioritized: bool) -> usize
         .saturating_add(priority)
 }
 
-/// How many octets of a payload are pad length and padding.
+/// The number of octets of a payload that are pad length and padding.
 fn padded(pad: Option<u8>) -> usize
     ensures value { result ≡ pad_octets pad }
     ensures bound { result < 257 }
@@ -294,7 +294,7 @@ fn write_text<W: Write>(octets: &[u8], out: &mut W) -> io::Result<()>
 }
 
 // rule: show (own) The line of a field has its mark, its name and its value
-// How many octets precede the first that is escaped, where there is one.
+// The number of octets before the first escaped one, if there is one.
 fn plain_count(octets: &[u8]) -> Option<usize>
     ensures { result ≡ position (λ octet. not (plain octet)) octets.now }
 {
@@ -302,7 +302,7 @@ fn plain_count(octets: &[u8]) -> Option<usize>
 }
 
 // rule: show (own) The line of a field has its mark, its name and its value
-// Whether an octet is printed as it is.
+// Whether an octet is printed unescaped.
 fn is_plain(octet: u8) -> bool
     ensures { result ≡ plain octet }
 {

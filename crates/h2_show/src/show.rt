@@ -18,7 +18,7 @@ use h2_cli::{Failure, PIECE, Status, new_buffer, read_hex, read_next};
 use std::alloc::Global;
 use std::io::{self, BufWriter, ErrorKind, Read, Write};
 
-/// What came of showing or replaying an input.
+/// The result of showing or replaying an input.
 #[derive(Clone, Copy, Debug, PartialEq, Eq)]
 pub struct Shown {
     /// How the command ends: [`Status::Good`] or [`Status::Fault`].
@@ -149,10 +149,7 @@ fn show_given<R: Read, W: Write + Drop>(
     if options.hex {
         return show_hex(alloc, options, input, lines);
     }
-    match show_octets(alloc, options, input, lines) {
-        Ok(shown) => Ok(shown),
-        Err(error) => Err(Failure::from(error)),
-    }
+    Ok(show_octets(alloc, options, input, lines)?)
 }
 
 // rule: show (own) An input has one output: preface, frames, then how it ends

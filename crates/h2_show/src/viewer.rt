@@ -229,7 +229,7 @@ impl Viewer {
     }
 
     // rule: show (own) A fault is printed with the name of its code and its place
-    /// How many octets were used, or the number of the octet at fault, from 1 on.
+    /// The number of octets used, or the number of the octet at fault, from 1 on.
     pub(crate) fn place(&self) -> u64
         ensures { result ≡ self.now.cutter.place }
     {

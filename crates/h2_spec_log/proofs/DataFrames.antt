@@ -1,8 +1,7 @@
 -- The DATA frames of a body, one by one.
-use Rattle.h2_spec_log.proofs.Names.{suc, ◌<◌, ◌≤◌, nat_le, Bool, length, arith, nat_tests, Data}
-use Rattle.h2_spec_log.proofs.Names.{alone}
 use Rattle.std.proofs.Common.{◌≡◌, ℕ, true, false, List, [], ◌∷◌, ◌++◌, take, drop, None, refl}
-use Rattle.h2_spec_log.specs.CallRules.{data_frames}
+use Rattle.h2_spec_log.proofs.Names.{suc, ◌<◌, ◌≤◌, nat_le, Bool, length, arith, nat_tests, Data}
+use Rattle.h2_spec_log.proofs.Names.{alone, data_frames}
 
 -- a full frame, and the others after it
 pub frames_more : (count most id : ℕ) (octets : List ℕ) (end : Bool) → most < length octets

@@ -1,22 +1,18 @@
 -- A frame that comes in the encoding that is written is cut whole, where nothing stands between it
 -- and the frames before it.
-use Rattle.h2_spec_log.proofs.Names.{◌≤◌, ◌<◌, ◌==◌, nat_lt, nat_le, ◌&&◌, Bool, length, Option}
-use Rattle.h2_spec_log.proofs.Names.{sym, ◌∙◌, arith, nat_tests, Field, Entries, Frame, Headers}
-use Rattle.h2_spec_log.proofs.Names.{encoding_of, refusal, Role, Values, payload_limit, Log}
-use Rattle.h2_spec_log.proofs.Names.{Decoded, took_frame, IsLog}
 use Rattle.std.proofs.Common.{◌≡◌, ℕ, ◌+◌, true, false, List, [], ◌∷◌, ◌++◌, Some, None, refl}
-use Rattle.std.proofs.Common.{subst, inl, inr, append-nil, length-append}
-use Rattle.h2_frame.specs.Encoding.{payload_of, IsTyped}
+use Rattle.std.proofs.Common.{length-append}
 use Rattle.h2_frame.proofs.EncodingLemmas.{encoding_encodes, sound_head, sound_payload}
-use Rattle.h2_wire.specs.Streams.{expected_preface, Limits, IsFrame, AreFrames, IsSound}
-use Rattle.h2_wire.specs.Streams.{IsAfterPreface, Frames}
+use Rattle.h2_wire.specs.Streams.{IsFrame, AreFrames, IsSound, IsAfterPreface}
 use Rattle.h2_wire.proofs.StreamLemmas.{past_not_in_preface, past_frame, IsSound-push}
 use Rattle.h2_wire.proofs.StreamLemmas.{IsPartial-empty}
-use Rattle.h2_spec_log.specs.Settings.{is_server}
-use Rattle.h2_spec_log.specs.Log.{acked}
-use Rattle.h2_spec_log.specs.LogSteps.{limits_from}
-use Rattle.h2_spec_log.specs.Histories.{TakesOctets, took_one, IsDecodedFor}
-use Rattle.h2_spec_log.specs.WrittenFrames.{before, takes, takes_block}
+use Rattle.h2_spec_log.specs.Histories.{TakesOctets}
+use Rattle.h2_spec_log.proofs.Names
+use Names.{◌≤◌, ◌<◌, ◌==◌, nat_lt, nat_le, ◌&&◌, Bool, length, Option, sym, ◌∙◌, arith, nat_tests}
+use Names.{Field, Entries, Frame, Headers, encoding_of, refusal, Role, Values, payload_limit, Log}
+use Names.{Decoded, took_frame, IsLog, subst, inl, inr, append-nil, payload_of, IsTyped}
+use Names.{expected_preface, Limits, Frames, is_server, acked, limits_from, took_one, IsDecodedFor}
+use Names.{before, takes, takes_block}
 use Rattle.h2_spec_log.proofs.StreamLemmas.{stream_of_log}
 
 -- Frames have other limits as well, where these are the same up to their last octet.
@@ -41,12 +37,11 @@ AreFrames-limits limits others start (frame ∷ frames) octets same
 whole_frame : (limit : ℕ) (frame : Frame) → IsTyped frame → refusal frame ≡ None
     → length (payload_of frame) ≤ limit
     → IsFrame limit frame (encoding_of frame)
-whole_frame limit frame typed writable fits =
-    record {
-      encodes = encoding_encodes frame typed writable;
-      sound_head = sound_head frame limit typed writable fits;
-      sound_payload = sound_payload frame typed writable;
-    }
+whole_frame limit frame typed writable fits = record {
+  encodes = encoding_encodes frame typed writable;
+  sound_head = sound_head frame limit typed writable fits;
+  sound_payload = sound_payload frame typed writable;
+}
 
 -- A sound part with its frames has other limits as well.
 pub sound_limits : (expects : Bool) (limits others : Limits) (frames : List Frame) (part : List ℕ)
@@ -89,8 +84,7 @@ first_frame limits others limit frame ahead whole =
       sound = IsSound-push true others [] (expected_preface true) frame (encoding_of frame)
           (record {
             body = [];
-            opened = sym
-                (append-nil _);
+            opened = sym (append-nil _);
             framed = refl;
           }) here;
       partial = IsPartial-empty _;
@@ -109,12 +103,10 @@ further_frame expects limits others limit stream frames frame ahead whole closed
     sound_limits expects limits others frames stream ahead.same (subst
     (λ part. IsSound expects limits frames part) all closed.sound) in
     let here : IsFrame (others (length stream + 9)) frame (encoding_of frame) = subst
-    (λ bound. IsFrame bound frame (encoding_of frame)) (sym
-    (ahead.ahead _ (omega arith))) whole in
+    (λ bound. IsFrame bound frame (encoding_of frame)) (sym (ahead.ahead _ (omega arith))) whole in
     let representing : IsAfterPreface expects others stream frames [] = record {
       part = stream;
-      joined = sym
-          (append-nil stream);
+      joined = sym (append-nil stream);
       sound = sound;
       partial = IsPartial-empty _;
     } in
@@ -170,8 +162,7 @@ taken_frame role values log frame decoded is opened none typed writable fits say
     ++ encoding_of frame) frame decoded
     (subst (λ (one : Role). Frames (is_server role) (limits_from log) (log.input ++
     (expected_preface (is_server one && length log.input == 0)
-    ++ encoding_of frame)) (log.frames ++ frame ∷ []) []) (sym has.role) next)
-    says
+    ++ encoding_of frame)) (log.frames ++ frame ∷ []) []) (sym has.role) next) says
 
 -- One that makes no block whole.
 pub takes_comes : (role : Role) (values : Values) (log : Log) (frame : Frame)
@@ -197,6 +188,4 @@ pub takes_block_comes : (role : Role) (values : Values) (log : Log) (stream : �
 unfolding takes_block payload_of
 takes_block_comes role values log stream end octets fields after is opened none writable fits says =
     taken_frame role values log (Headers stream end true octets None None) (Some
-    (record { fields = fields; after = after })) is opened none
-    (tt, tt)
-    writable fits says
+    (record { fields = fields; after = after })) is opened none (tt, tt) writable fits says

@@ -1,8 +1,7 @@
 -- The greatest payload that is sent.
 use Rattle.h2_spec_log.proofs.Names.{◌≤◌, arith, Frame, Item, alone, ◌≡◌, ℕ, List, [], ◌∷◌, refl}
-use Rattle.h2_spec_log.specs.Items.{encoding_of_item, encoding_of_items}
-use Rattle.h2_spec_log.specs.Limits.{max_frame_size_sent}
-use Rattle.h2_spec_log.specs.Log.{max_payload_sent_by}
+use Rattle.h2_spec_log.proofs.Names.{encoding_of_item, encoding_of_items, max_frame_size_sent}
+use Rattle.h2_spec_log.proofs.Names.{max_payload_sent_by}
 
 -- No peer reads less than 16,384 octets, and no more are sent than the own limit.
 pub most_between : (received : List Item) → (16384 ≤ max_payload_sent_by received)

@@ -1,28 +1,20 @@
 -- What a log keeps of its stream: items, calls and faults leave the octets, their limits, their
 -- frames and the rest as they are; so the frames of a log that comes about are those of its octets.
-use Rattle.h2_spec_log.proofs.Names.{nat_lt, ◌&&◌, Bool, Option, sym, ◌∙◌, arith, InternalError}
-use Rattle.h2_spec_log.proofs.Names.{Frame, Item, Role, Client, Server, Event, Values, Act, Refuse}
-use Rattle.h2_spec_log.proofs.Names.{PutOut, Count, OutOfMemory, Refused, Log, waiting}
-use Rattle.h2_spec_log.proofs.Names.{ConnectionFault, log_view, Decoded, replies_to, fails_with}
-use Rattle.h2_spec_log.proofs.Names.{completes, frame_step, begins, IsLog, called_one, took_none}
-use Rattle.h2_spec_log.proofs.Names.{items_of}
 use Rattle.std.proofs.Common.{◌≡◌, ℕ, ◌+◌, true, false, if◌then◌else◌, List, [], ◌∷◌, ◌++◌, Some}
-use Rattle.std.proofs.Common.{None, refl, inl, inr}
-use Rattle.h2_frame.specs.declared.code.Code.{Code}
-use Rattle.h2_wire.specs.Streams.{preface, expected_preface, Frames}
-use Rattle.h2_spec_log.specs.Acts.{Answer}
-use Rattle.h2_spec_log.specs.Settings.{is_server}
-use Rattle.h2_spec_log.specs.Log.{last_processed}
-use Rattle.h2_spec_log.specs.Verdicts.{Verdict}
-use Rattle.h2_spec_log.specs.ItemRules.{FrameStep, begins_block}
-use Rattle.h2_spec_log.specs.Histories.{took_some, took_one, met_fault, ran_out_of_memory}
-use Rattle.h2_spec_log.specs.Histories.{reported_one}
-use Rattle.h2_spec_log.specs.LogSteps.{read, with_sent, with_reported, with_credit_returned}
-use Rattle.h2_spec_log.specs.LogSteps.{with_unreturned, with_failure, with_verdict, used, with_step}
-use Rattle.h2_spec_log.specs.LogSteps.{with_frame}
+use Rattle.std.proofs.Common.{None, refl}
+use Rattle.h2_spec_log.specs.ItemRules.{FrameStep}
+use Rattle.h2_spec_log.specs.Histories.{took_some}
+use Rattle.h2_spec_log.specs.LogSteps.{read, with_credit_returned, with_failure}
 use Rattle.h2_spec_log.specs.Limits.{full_output}
-use Rattle.h2_spec_log.specs.LogCalls.{called, with_items, refused_with, before_put_out, with_call}
-use Rattle.h2_spec_log.specs.LogCalls.{opened}
+use Rattle.h2_spec_log.proofs.Names
+use Names.{nat_lt, ◌&&◌, Bool, Option, sym, ◌∙◌, arith, InternalError, Frame, Item, Role, Client}
+use Names.{Server, Event, Values, Act, Refuse, PutOut, Count, OutOfMemory, Refused, Log, waiting}
+use Names.{ConnectionFault, log_view, Decoded, replies_to, fails_with, completes, frame_step}
+use Names.{begins, IsLog, called_one, took_none, items_of, inl, inr, Code, preface}
+use Names.{expected_preface, Frames, Answer, is_server, last_processed, Verdict, begins_block}
+use Names.{took_one, met_fault, ran_out_of_memory, reported_one, with_sent, with_reported}
+use Names.{with_unreturned, with_verdict, used, with_step, with_frame, called, with_items}
+use Names.{refused_with, before_put_out, with_call, opened}
 
 -- The second log has the stream of the first, and is up only where that is.
 pub record Keeps (old new : Log) : Type 0 where
@@ -37,15 +29,14 @@ pub record Keeps (old new : Log) : Type 0 where
 Keeps-same : (log next : Log) → next.role ≡ log.role → next.input ≡ log.input
     → next.limits ≡ log.limits → next.frames ≡ log.frames → next.unparsed ≡ log.unparsed
     → next.failed ≡ log.failed → Keeps log next
-Keeps-same log next role input limits frames unparsed failed =
-    record {
-      role = role;
-      input = input;
-      limits = limits;
-      frames = frames;
-      unparsed = unparsed;
-      up = λ up. sym failed ∙ up;
-    }
+Keeps-same log next role input limits frames unparsed failed = record {
+  role = role;
+  input = input;
+  limits = limits;
+  frames = frames;
+  unparsed = unparsed;
+  up = λ up. sym failed ∙ up;
+}
 
 -- a log that is left as it is
 Keeps-refl : (log : Log) → Keeps log log
@@ -72,15 +63,13 @@ Keeps-if false log one two a b = b
 Keeps-with_sent : (log : Log) (items : List Item) → Keeps log (with_sent log items)
 unfolding with_sent
 Keeps-with_sent log [] = Keeps-refl log
-Keeps-with_sent log
-    (item ∷ items) = Keeps-same log _ refl refl refl refl refl refl
+Keeps-with_sent log (item ∷ items) = Keeps-same log _ refl refl refl refl refl refl
 
 -- reporting
 Keeps-with_reported : (log : Log) (events : List Event) → Keeps log (with_reported log events)
 unfolding with_reported
 Keeps-with_reported log [] = Keeps-refl log
-Keeps-with_reported log
-    (event ∷ events) = Keeps-same log _ refl refl refl refl refl refl
+Keeps-with_reported log (event ∷ events) = Keeps-same log _ refl refl refl refl refl refl
 
 -- octets that are due
 Keeps-unreturned : (log : Log) (count : ℕ) → Keeps log (record log { unreturned = count })
@@ -124,8 +113,7 @@ unfolding with_verdict
 Keeps-verdict log decoded item (ConnectionFault code) = Keeps-with_failure code _ log
 Keeps-verdict log decoded item verdict =
     Keeps-trans log (with_sent (read log decoded item) (replies_to verdict item)) _
-    (Keeps-trans log (read log decoded item) _
-    (Keeps-read log decoded item) (Keeps-with_sent _ _))
+    (Keeps-trans log (read log decoded item) _ (Keeps-read log decoded item) (Keeps-with_sent _ _))
     (Keeps-trans _ (with_unreturned _ (with_sent (read log decoded item)
     (replies_to verdict item))) _ (Keeps-with_unreturned _ _) (Keeps-with_reported _ _))
 
@@ -134,8 +122,7 @@ Keeps-step : (log : Log) (decoded : Option Decoded) (step : FrameStep)
     → Keeps log (with_step log decoded step)
 unfolding with_step
 Keeps-step log decoded (fails_with code) = Keeps-with_failure _ _ log
-Keeps-step log decoded
-    (begins_block begun) = Keeps-same log _ refl refl refl refl refl refl
+Keeps-step log decoded (begins_block begun) = Keeps-same log _ refl refl refl refl refl refl
 Keeps-step log decoded (completes item) =
     Keeps-trans log (record log { begun = None }) _ (Keeps-same log _ refl refl refl refl refl refl)
     (Keeps-verdict _ _ _ _)
@@ -157,8 +144,7 @@ Keeps-items : (log : Log) (act : Act) (answer : Answer) → Keeps log (with_item
 unfolding with_items
 Keeps-items log act answer =
     Keeps-trans log (with_sent (called log act answer) (items_of (log_view log) act answer)) _
-    (Keeps-trans log (called log act answer) _
-    (Keeps-called _ _ _) (Keeps-with_sent _ _))
+    (Keeps-trans log (called log act answer) _ (Keeps-called _ _ _) (Keeps-with_sent _ _))
     (Keeps-with_unreturned _ _)
 
 -- a stream that the layer above refuses
@@ -216,29 +202,25 @@ HasStream-keeps role old new has keeps = record {
 -- a new end
 opened_stream : (role : Role) (values : Values) → HasStream role (opened role values)
 unfolding opened with_sent expected_preface preface
-opened_stream Client values =
-    record {
-      role = refl;
-      framed = λ h. inr (record {
-        part = [];
-        joined = refl;
-        sound = record
-            { body = []; opened = refl; framed = refl };
-        partial = λ nine. absurd (omega arith);
-      });
-    }
-opened_stream Server values =
-    record {
-      role = refl;
-      framed = λ h. inl
-          (record {
-            missing = preface;
-            opens = refl;
-            short = omega arith;
-            none = refl;
-            all = refl;
-          });
-    }
+opened_stream Client values = record {
+  role = refl;
+  framed = λ h. inr (record {
+    part = [];
+    joined = refl;
+    sound = record { body = []; opened = refl; framed = refl };
+    partial = λ nine. absurd (omega arith);
+  });
+}
+opened_stream Server values = record {
+  role = refl;
+  framed = λ h. inl (record {
+    missing = preface;
+    opens = refl;
+    short = omega arith;
+    none = refl;
+    all = refl;
+  });
+}
 
 -- The frames of a log that comes about are those of its octets, and after them stands the rest.
 pub stream_of_log : (role : Role) (values : Values) (log : Log) → IsLog role values log
@@ -263,7 +245,5 @@ stream_of_log role values _ (ran_out_of_memory {log} is up octets may) =
     record { role = k.role ∙ (stream_of_log role values log is).role; framed = λ h. absurd (cc) }
 stream_of_log role values _ (reported_one {log} is up some) = HasStream-keeps role log _
     (stream_of_log role values log is) (Keeps-none log)
-stream_of_log role values _
-    (called_one {log} is act answer typed may) = HasStream-keeps role log _
-    (stream_of_log role values log is)
-    (Keeps-call log act answer)
+stream_of_log role values _ (called_one {log} is act answer typed may) = HasStream-keeps role log _
+    (stream_of_log role values log is) (Keeps-call log act answer)

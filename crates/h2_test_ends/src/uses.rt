@@ -62,7 +62,7 @@ impl Handler for Bodies {
     }
 }
 
-/// What a server answers to octets.
+/// What a server writes for these octets.
 fn answered<H: Handler>(alloc: Global, octets: &[u8], handler: &mut H) -> Result<Vec<u8>> {
     let mut from = octets;
     let mut to = Vec::new(alloc);
@@ -70,7 +70,7 @@ fn answered<H: Handler>(alloc: Global, octets: &[u8], handler: &mut H) -> Result
     Ok(to)
 }
 
-/// What a client that asks so often makes of octets, and what it sends.
+/// What a client that makes `count` requests reads of the octets, and what it sends.
 fn asked(alloc: Global, count: usize, octets: &[u8]) -> Result<(BTreeMap<u32, Response>, Vec<u8>)> {
     let mut from = octets;
     let mut to = Vec::new(alloc);
@@ -80,7 +80,7 @@ fn asked(alloc: Global, count: usize, octets: &[u8]) -> Result<(BTreeMap<u32, Re
 }
 
 /// The opening of 33 octets, an acknowledgment of 9, three heads of 10, two bodies of 15, and the
-/// WINDOW_UPDATE of 13 that gives the four octets back.
+/// WINDOW_UPDATE of 13 that returns the four octets.
 fn three_are_answered(alloc: Global) -> bool {
     match answered(alloc, ASKED, &mut Hello) {
         Ok(to) => to.len() == 33 + 9 + 3 * 10 + 2 * 15 + 13,
@@ -105,7 +105,8 @@ fn a_user_is_refused(alloc: Global) -> bool {
     }
 }
 
-/// How many of 100 responses with a long field are whole, where all are asked for at once.
+/// The number of 100 responses with a long field that are complete, where all are asked for at
+/// once.
 fn whole_of_a_hundred(alloc: Global) -> Result<usize> {
     let (_, octets) = asked(alloc, 100, b"")?;
     let octets = answered(alloc, &octets, &mut Long)?;
@@ -128,13 +129,13 @@ fn sixty_are_over(alloc: Global) -> bool {
     }
 }
 
-/// Whether a response is whole, with its status and body.
+/// Whether a response is complete, with its status and body.
 fn is_hello(one: &Response) -> bool {
     let (status, body) = (one.status.as_slice(), one.body.as_slice());
     one.is_whole && status == b"200".as_slice() && body == b"hello\n".as_slice()
 }
 
-/// The status and the body are kept, and the response is whole.
+/// The status and the body are kept, and the response is complete.
 fn one_is_kept(alloc: Global) -> bool {
     match asked(alloc, 1, ANSWERED) {
         Ok((responses, _)) => match responses.get(&1) {

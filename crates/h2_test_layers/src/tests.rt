@@ -1,5 +1,5 @@
-//! Tests, by layers. Tests are proved as well: small functions answer whether something holds, and
-//! each test asks once.
+//! Tests, by layers. Tests are proved as well: small functions return whether something holds, and
+//! each test has one assert.
 
 mod coders;
 mod debug;

@@ -14,7 +14,7 @@ pub(crate) enum Call {
     Open {
         end: bool,
     },
-    /// The answer's fields are sent on a stream: [`Conn::fields`].
+    /// The response's fields are sent on a stream: [`Conn::fields`].
     Fields {
         id: u32,
     },
@@ -22,7 +22,7 @@ pub(crate) enum Call {
     Trailers {
         id: u32,
     },
-    /// Octets of the long body from a place on, so many at most: [`Conn::data`].
+    /// Octets of the long body from `from` on, at most `most`: [`Conn::data`].
     Data {
         id: u32,
         from: usize,
@@ -49,7 +49,7 @@ pub(crate) enum Call {
     PutOut(usize),
     /// The next message is the request of a client.
     Request,
-    /// The next message is the answer of a server.
+    /// The next message is the response of a server.
     Respond {
         id: u32,
     },
@@ -61,7 +61,7 @@ pub(crate) enum Call {
 #[derive(Drop)]
 pub(crate) struct Given<'a> {
     pub(crate) lists: &'a Lists,
-    /// What each of the messages is like.
+    /// What each of the messages equals.
     pub(crate) message: &'a Message,
     pub(crate) messages: Vec<Message>,
 }
@@ -74,7 +74,7 @@ impl Given<'_> {
     }
 }
 
-/// Octets of a body from a place on, so many at most.
+/// Octets of a body from `from` on, at most `most`.
 fn part_of(body: &[u8], from: usize, most: usize) -> &[u8] {
     let others = body.get(from..).unwrap_or(b"");
     others.get(..most).unwrap_or(others)
@@ -139,7 +139,7 @@ fn of_server(server: &mut Server, call: Call, given: &mut Given, record: &mut Re
     }
 }
 
-/// An answer of nothing.
+/// An answer without a value.
 fn released(answered: Result<(), EndRefusal>) -> Answer {
     match answered {
         Ok(()) => Ok(0),
@@ -147,7 +147,7 @@ fn released(answered: Result<(), EndRefusal>) -> Answer {
     }
 }
 
-/// The answer of a pump: how many octets of bodies it has sent.
+/// The answer of a pump: the number of octets of bodies that it has sent.
 fn pumped(answered: Result<usize, EndRefusal>) -> Answer {
     match answered {
         Ok(count) => Ok(u64::try_from(count).unwrap_or(u64::MAX)),

@@ -261,7 +261,7 @@ fn lists(alloc: Global, all: &[&[Pair]; 3]) -> Result<Vec<Vec<Field>>, AllocErro
     Ok(lists)
 }
 
-/// Whether a decoder bears that memory is refused.
+/// Whether a decoder withstands refused memory.
 fn decoder_bears(alloc: Global, maximum: u32, blocks: Blocks, into: bool) -> bool {
     let mut first = Decoding {
         maximum,

@@ -61,10 +61,10 @@ pub(crate) fn new_end(kind: Kind, record: &mut Record) -> Option<End> {
     None
 }
 
-/// What is answered.
+/// An answer.
 pub(crate) type Answer = Result<u64, EndRefusal>;
 
-/// An answer of nothing.
+/// An answer without a value.
 pub(crate) fn done(answered: Result<(), Refusal>) -> Answer {
     match answered {
         Ok(()) => Ok(0),
@@ -72,7 +72,7 @@ pub(crate) fn done(answered: Result<(), Refusal>) -> Answer {
     }
 }
 
-/// An answer of how many.
+/// An answer that is a number.
 pub(crate) fn count(answered: Result<usize, Refusal>) -> Answer {
     match answered {
         Ok(count) => Ok(u64::try_from(count).unwrap_or(u64::MAX)),
@@ -124,7 +124,7 @@ impl End {
         })
     }
 
-    /// Puts out at most so many octets. Where memory is refused none have come.
+    /// Puts out at most `most` octets. Where memory is refused none were put out.
     pub(crate) fn put_out(&mut self, most: usize, record: &mut Record) -> Answer {
         let mut out = Vec::new(record.alloc);
         let answer = count(match self {
@@ -147,7 +147,7 @@ impl End {
     }
 }
 
-/// How many octets were used, and whether nothing was handed out.
+/// The number of octets used, and whether nothing was handed out.
 pub(crate) type Used = (usize, bool);
 
 /// Notes what a connection has taken.
@@ -191,7 +191,7 @@ fn note_list(list: &FieldList, record: &mut Record) {
 }
 
 /// Notes what a connection reports.
-fn note_event(event: Option<Event<'_>>, record: &mut Record) {
+fn note_event(event: Option<Event<&FieldList, &[u8]>>, record: &mut Record) {
     match event {
         None => {}
         Some(Event::Fields { id, list, end }) => {
@@ -220,7 +220,7 @@ fn note_event(event: Option<Event<'_>>, record: &mut Record) {
 }
 
 /// Notes what a client or a server hands out.
-fn note_part(event: Option<EndEvent<'_>>, record: &mut Record) {
+fn note_part(event: Option<EndEvent<&FieldList, &[u8]>>, record: &mut Record) {
     match event {
         None => {}
         Some(EndEvent::Interim { id, list }) => {

@@ -247,8 +247,8 @@ const CLIENT: &[Call] = &[
     Call::PutOut(usize::MAX),
 ];
 
-/// Sound requests and two malformed ones, which are reset with PROTOCOL_ERROR, the second after its
-/// head was handed out, and two responses.
+/// Sound requests and two malformed ones, which are reset with PROTOCOL_ERROR, the second after
+/// its head was handed out, and two responses.
 const SERVER: &[Call] = &[
     Call::Take(SMALL_OPENING),
     Call::Take(ACK),
@@ -278,7 +278,7 @@ const SERVER: &[Call] = &[
     Call::PutOut(usize::MAX),
 ];
 
-/// Whether calls bear that memory is refused, without messages.
+/// Whether calls withstand refused memory, without messages.
 fn calls_bear(
     alloc: Global,
     kind: Kind,
@@ -307,14 +307,14 @@ fn answers(alloc: Global) -> Result<Vec<Message>, AllocError> {
     two(alloc, answer(alloc, 4_000)?, answer(alloc, 4_000)?)
 }
 
-/// Whether a client bears that memory is refused.
+/// Whether a client withstands refused memory.
 fn client_bears(alloc: Global) -> Result<bool, AllocError> {
     let message = request(alloc, 4_000)?;
     let (first, second) = (requests(alloc)?, requests(alloc)?);
     bears(alloc, Kind::Client, CLIENT, 0, &message, first, second)
 }
 
-/// Whether a server bears that memory is refused.
+/// Whether a server withstands refused memory.
 fn server_bears(alloc: Global) -> Result<bool, AllocError> {
     let message = answer(alloc, 4_000)?;
     let (first, second) = (answers(alloc)?, answers(alloc)?);

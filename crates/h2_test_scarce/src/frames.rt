@@ -42,7 +42,7 @@ const BLOCK: [FrameRef<'static>; 3] = [
     },
 ];
 
-/// Notes a frame that is lent, and answers how many octets were used.
+/// Notes a frame that is lent, and returns the number of octets used.
 fn note_cut(cut: Cut<'_>, record: &mut Record) -> usize {
     if let Some(frame) = cut.frame {
         record.note(u64::from(frame.kind().number()));
@@ -55,7 +55,7 @@ fn note_cut(cut: Cut<'_>, record: &mut Record) -> usize {
     cut.used
 }
 
-/// Cuts a piece, and notes the frame: how many octets were used, or the fault.
+/// Cuts a piece, and notes the frame: returns the number of octets used, or the fault.
 fn cut_once(cutter: &mut Cutter, piece: &[u8], record: &mut Record) -> Result<usize, WireFault> {
     match cutter.cut(piece) {
         Ok(cut) => Ok(note_cut(cut, record)),
@@ -150,7 +150,7 @@ impl Scenario for Fragments {
     }
 }
 
-/// Whether a cutter bears that memory is refused.
+/// Whether a cutter withstands refused memory.
 fn cutter_bears(alloc: Global) -> bool {
     holds(alloc, &mut Pieces, &mut Pieces)
 }

@@ -6,7 +6,7 @@ use crate::prefix::are_prefixes;
 use crate::record::{Record, Scenario, holds};
 use crate::walk::{Seen, note_seen, seen_of, without_goaway};
 use h2_ends::{Code, Conn, Message};
-use h2_joined::{Acted, Config, Joined, JointAct, JointEvent, Side};
+use h2_joined::{Acted, Config, EndEvent, Joined, JointAct, Side};
 use std::alloc::{AllocError, Global};
 
 /// The connection of an end.
@@ -17,8 +17,8 @@ fn conn_of(joined: &Joined, side: Side) -> &Conn {
     }
 }
 
-/// How many messages an end has accepted, how many events it has handed out, how many octets are on
-/// its pipe, and what can be read of its connection.
+/// The number of messages that an end has accepted, of events that it has handed out and of octets
+/// on its pipe, and what can be read of its connection.
 #[derive(Clone, Copy, PartialEq, Eq)]
 struct Half {
     accepted: usize,
@@ -80,12 +80,12 @@ fn is_told(joined: &Joined, side: Side) -> bool {
     let mut told = false;
     for place in 0..handed.len() {
         let event = handed.get(place);
-        told = matches!(event, Some(JointEvent::GoAway { code, .. }) if code == 2) || told;
+        told = matches!(event, Some(EndEvent::GoAway { code, .. }) if code == 2) || told;
     }
     told
 }
 
-/// The output of an end that has failed is carried to the other, which hands its GOAWAY out.
+/// The output of an end that has failed is carried to the other, which reports its GOAWAY.
 fn check_told(joined: &mut Joined, from: Side, record: &mut Record) {
     let (to, count) = (other_of(from), usize::MAX);
     let moved = joined.act(&JointAct::Move { from, count });
@@ -104,7 +104,7 @@ fn check_output(conn: &Conn, record: &mut Record) {
 }
 
 /// An end has failed for refused memory as octets were delivered to it: GOAWAY is the last of its
-/// output, and reaches the other end, the same act answers the same again, and its calls are
+/// output, and reaches the other end, the same act has the same answer again, and its calls are
 /// refused with C1.
 fn check_failed(joined: &mut Joined, act: &JointAct, record: &mut Record) {
     record.fail();
@@ -193,7 +193,7 @@ impl Scenario for Acts<'_> {
     }
 }
 
-/// At most so many octets of an end's output are put on its pipe, and all that are there then are
+/// At most `most` octets of an end's output are put on its pipe, and all that are there then are
 /// delivered.
 fn carry(from: Side, to: Side, most: usize, acts: &mut Vec<JointAct>) -> Result<(), AllocError> {
     acts.push(JointAct::Move { from, count: most })?;
@@ -232,8 +232,8 @@ fn reset_under_way(alloc: Global, acts: &mut Vec<JointAct>) -> Result<(), AllocE
     exchange(acts)
 }
 
-/// The answer to the second request, whose other octets then take what the dropped ones have given
-/// back.
+/// The response to the second request, whose other octets then take what the dropped ones have
+/// returned.
 fn answer_second(alloc: Global, acts: &mut Vec<JointAct>) -> Result<(), AllocError> {
     let (client, server) = (Side::Client, Side::Server);
     respond(1, answer(alloc, 10)?, acts)?;
@@ -262,7 +262,7 @@ fn end_both(acts: &mut Vec<JointAct>) -> Result<(), AllocError> {
     exchange(acts)
 }
 
-/// Whether two joined ends bear that memory is refused.
+/// Whether two joined ends withstand refused memory.
 fn bear(alloc: Global) -> Result<bool, AllocError> {
     let mut acts = Vec::new(alloc);
     reset_under_way(alloc, &mut acts)?;

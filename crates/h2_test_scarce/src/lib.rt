@@ -1,11 +1,11 @@
-//! What stands where memory is refused: scenarios that make each call again that was refused it.
+//! Tests of refused memory: scenarios that make each call again that was refused it.
 //!
 //! Each test runs a scenario twice. The first run has ample memory; of the second, which stands
-//! between two marks, `bench/scarce` refuses one allocation, another one each time the test is run.
-//! A call that answers that memory was refused has changed nothing that can be read, and is made
-//! again; a connection that has failed for it ends with GOAWAY. All other answers, and the octets
-//! that are put out, are those of the first run, or the first of them. In the gate nothing is
-//! refused, and both runs are the same.
+//! between two marks, `bench/scarce` refuses one allocation, another one each time the test is
+//! run. A call that is refused memory has changed nothing that can be read, and is made again; a
+//! connection that has failed for it ends with GOAWAY. All other answers, and the octets that are
+//! put out, are those of the first run, or the first of them. In the gate nothing is refused, and
+//! both runs are the same.
 //!
 //! - `record`: what a run has shown, and the marks. `lists`: messages and fields.
 //! - `end`, `call`, `walk`: a connection, a client or a server, the calls of it, and lists of them.

@@ -18,7 +18,7 @@ const ASKED: &[u8] = b"PRI * HTTP/2.0\r\n\r\nSM\r\n\r\n\
     \x00\x00\x11\x01\x05\x00\x00\x00\x01\
     \x82\x86\x84\x41\x8c\xf1\xe3\xc2\xe5\xf2\x3a\x6b\xa0\xab\x90\xf4\xff";
 
-/// What a server of the default configuration answers.
+/// What a server of the default configuration responds.
 const ANSWERED: &[u8] = b"\
     \x00\x00\x18\x04\x00\x00\x00\x00\x00\x00\x01\x00\x00\x10\x00\x00\x03\x00\x00\x00\x64\
     \x00\x04\x00\x00\xff\xff\x00\x06\x00\x01\x00\x00\
@@ -26,8 +26,8 @@ const ANSWERED: &[u8] = b"\
     \x00\x00\x04\x01\x04\x00\x00\x00\x01\x88\x5c\x81\x73\
     \x00\x00\x06\x00\x01\x00\x00\x00\x01GET /\n";
 
-/// What a client has not written yet where a response is whole that came with the SETTINGS of the
-/// server: the acknowledgment of these. Where it fails it writes that before GOAWAY.
+/// What a client has not written yet where a response is complete that came with the SETTINGS of
+/// the server: the acknowledgment of these. Where it fails it writes that before GOAWAY.
 const ACK: &[u8] = b"\x00\x00\x00\x04\x01\x00\x00\x00\x00";
 
 /// A link in memory whose output has room for what comes, and which fails where it has not.
@@ -174,7 +174,7 @@ fn new_fetching(alloc: Global) -> Result<Fetching, AllocError> {
     })
 }
 
-/// Whether a server bears that memory is refused, and writes these octets otherwise.
+/// Whether a server withstands refused memory, and writes these octets otherwise.
 fn server_bears(alloc: Global) -> Result<bool, AllocError> {
     let (mut first, mut second) = (new_serving(alloc)?, new_serving(alloc)?);
     let bears = holds(alloc, &mut first, &mut second);

@@ -20,7 +20,7 @@ const ANSWER: &[Pair] = &[(b":status", b"200"), (b"server", b"belkjoef")];
 /// Trailers.
 const TRAILERS: &[Pair] = &[(b"x-sum", b"0123456789")];
 
-/// How many octets a long body has.
+/// The number of octets of a long body.
 const LONG: usize = 70_000;
 
 /// Fields.
@@ -32,10 +32,10 @@ pub(crate) fn fields(alloc: Global, pairs: &[Pair]) -> Result<Vec<Field>, AllocE
     Ok(list)
 }
 
-/// A part of a body. No power of two divides how many octets it has.
+/// A part of a body. No power of two divides its length.
 const PART: &[u8] = b"The quick brown fox jumps over the lazy dog. ";
 
-/// So many octets of a body.
+/// `count` octets of a body.
 fn octets(alloc: Global, count: usize) -> Result<Vec<u8>, AllocError> {
     let mut octets = Vec::with_capacity(alloc, count)?;
     for _ in 0..count {
@@ -58,7 +58,7 @@ pub(crate) struct Lists {
 }
 
 impl Lists {
-    /// Those of a GET, its answer, trailers, and a long body.
+    /// Those of a GET, its response, trailers, and a long body.
     pub(crate) fn new(alloc: Global) -> Result<Lists, AllocError> {
         Ok(Lists {
             request: fields(alloc, GET)?,
@@ -78,7 +78,7 @@ pub(crate) fn get(alloc: Global) -> Result<Message, AllocError> {
     })
 }
 
-/// A request with a body of so many octets, and trailers.
+/// A request with a body of `count` octets, and trailers.
 pub(crate) fn request(alloc: Global, count: usize) -> Result<Message, AllocError> {
     Ok(Message {
         head: fields(alloc, GET)?,
@@ -87,7 +87,7 @@ pub(crate) fn request(alloc: Global, count: usize) -> Result<Message, AllocError
     })
 }
 
-/// A response with a body of so many octets, and trailers.
+/// A response with a body of `count` octets, and trailers.
 pub(crate) fn answer(alloc: Global, count: usize) -> Result<Message, AllocError> {
     Ok(Message {
         head: fields(alloc, ANSWER)?,

@@ -1,8 +1,8 @@
-//! Whether what a joined end has handed out of each message is the first of what the other has
+//! Whether what a joined end has handed out of each message is a prefix of what the other has
 //! accepted.
 
 use crate::lists::trailers_of;
-use h2_joined::{Accepted, Field, FieldRef, Joined, JointEvent, KeptFields, Message, Side};
+use h2_joined::{Accepted, EndEvent, Field, FieldRef, Joined, KeptFields, Message, Side};
 
 /// Whether a field that was handed out is this one.
 fn is_field(kept: FieldRef<'_>, field: &Field) -> bool {
@@ -22,24 +22,24 @@ fn are_fields(list: KeptFields<'_>, fields: &[Field]) -> bool {
     same
 }
 
-/// How much of a message was handed out.
+/// The part of a message that was handed out.
 #[derive(Clone, Copy)]
 struct Part {
     head: bool,
-    /// How many octets of its body.
+    /// The number of octets of its body.
     body: usize,
     trailers: bool,
 }
 
 impl Part {
-    /// Adds a head, and says whether it is what follows.
+    /// Adds a head, and returns whether it is what follows.
     fn add_head(&mut self, list: KeptFields<'_>, message: &Message) -> bool {
         let is_first = !self.head;
         self.head = true;
         is_first && are_fields(list, &message.head)
     }
 
-    /// Adds octets of a body, and says whether they are what follows.
+    /// Adds octets of a body, and returns whether they are what follows.
     fn add_body(&mut self, bytes: &[u8], message: &Message) -> bool {
         let body = message.body.as_slice();
         let others = body.get(self.body..).unwrap_or(b"");
@@ -47,7 +47,7 @@ impl Part {
         self.head && !self.trailers && others.starts_with(bytes)
     }
 
-    /// Adds trailers, and says whether they are what follows.
+    /// Adds trailers, and returns whether they are what follows.
     fn add_trailers(&mut self, list: KeptFields<'_>, message: &Message) -> bool {
         let is_last = self.head && !self.trailers && self.body == message.body.len();
         self.trailers = true;
@@ -60,24 +60,29 @@ impl Part {
         self.head && self.body == message.body.len() && is_ended
     }
 
-    /// Adds an event, and says whether it is what follows of the message of a stream, or is of no
-    /// message of that stream.
-    fn add(&mut self, event: JointEvent<'_>, stream: u32, message: &Message) -> bool {
+    /// Adds an event, and returns whether it is what follows of the message of a stream, or is of
+    /// no message of that stream.
+    fn add(
+        &mut self,
+        event: EndEvent<KeptFields<'_>, &[u8]>,
+        stream: u32,
+        message: &Message,
+    ) -> bool {
         match event {
-            JointEvent::Interim { id, .. } => id != stream,
-            JointEvent::Head { id, list, end } if id == stream => {
+            EndEvent::Interim { id, .. } => id != stream,
+            EndEvent::Head { id, list, end } if id == stream => {
                 self.add_head(list, message) && (!end || self.is_all(message))
             }
-            JointEvent::Body { id, bytes, end } if id == stream => {
+            EndEvent::Body { id, bytes, end } if id == stream => {
                 self.add_body(bytes, message) && (!end || self.is_all(message))
             }
-            JointEvent::Trailers { id, list } if id == stream => self.add_trailers(list, message),
+            EndEvent::Trailers { id, list } if id == stream => self.add_trailers(list, message),
             _ => true,
         }
     }
 }
 
-/// Whether what an end has handed out of a message that the other has accepted is the first of it,
+/// Whether what an end has handed out of a message that the other has accepted is a prefix of it,
 /// or all of it.
 fn is_handed(joined: &Joined, to: Side, accepted: &Accepted, is_whole: bool) -> bool {
     let handed = joined.handed(to);
@@ -95,8 +100,8 @@ fn is_handed(joined: &Joined, to: Side, accepted: &Accepted, is_whole: bool) -> 
     holds && (!is_whole || part.is_all(&accepted.message))
 }
 
-/// Whether what one end has handed out of each message is the first of what the other has accepted;
-/// of stream 3 it is whole, unless an end has failed.
+/// Whether what one end has handed out of each message is a prefix of what the other has accepted;
+/// of stream 3 it is complete, unless an end has failed.
 pub(crate) fn are_prefixes(joined: &Joined, from: Side, to: Side, failed: bool) -> bool {
     let mut holds = true;
     for accepted in joined.accepted(from) {

@@ -11,7 +11,7 @@ use h2_wire::Cutter;
 use hpack_text::{huff_read, read_string};
 use std::alloc::{AllocError, Global};
 
-/// A whole frame of each type, whatever a connection makes of it.
+/// A complete frame of each type, whatever a connection does with it.
 const FRAMES: &[&[u8]] = &[
     b"\x00\x00\x03\x00\x01\x00\x00\x00\x01abc",
     b"\x00\x00\x05\x00\x09\x00\x00\x00\x01\x02ab\x00\x00",
@@ -26,11 +26,11 @@ const FRAMES: &[&[u8]] = &[
     b"\x00\x00\x03\x20\x00\x00\x00\x00\x01abc",
 ];
 
-/// A cutter that holds nothing and expects no preface lends a whole frame from its piece.
+/// A cutter that holds nothing and expects no preface lends a complete frame from its piece.
 #[derive(Drop)]
 struct Lending;
 
-/// Whether a cutter lends a frame that is the whole piece.
+/// Whether a cutter lends a frame that is all of the piece.
 fn lends(cutter: &mut Cutter, piece: &[u8]) -> bool {
     match cutter.cut(piece) {
         Ok(cut) => cut.used == piece.len() && cut.frame.is_some(),

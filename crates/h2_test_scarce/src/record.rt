@@ -16,10 +16,10 @@ const AGAIN: usize = 7_937;
 
 const FAILED: usize = 7_949;
 
-/// How many octets a record has room for, of answers and of output.
+/// The number of octets of answers and of output that a record has room for.
 const ROOM: usize = 400_000;
 
-/// How many refusals it has room for, and how many counts.
+/// The numbers of refusals and of counts that it has room for.
 const REFUSALS: usize = 100;
 
 const COUNTS: usize = 100;
@@ -119,7 +119,7 @@ impl Record {
         self.holds = self.moved.push(Moved { count, is_rest }).is_ok() && self.holds;
     }
 
-    /// How many refusals were noted.
+    /// The number of refusals that were noted.
     pub(crate) fn refused(&self) -> usize {
         self.refusals.len()
     }

@@ -51,7 +51,7 @@ pub(crate) fn note_seen(conn: &Conn, record: &mut Record) {
     }
 }
 
-/// How many octets GOAWAY has.
+/// The number of octets of GOAWAY.
 const GOAWAY: usize = 17;
 
 /// Whether octets end with GOAWAY with INTERNAL_ERROR, which is returned without it.
@@ -63,8 +63,8 @@ pub(crate) fn without_goaway(octets: &[u8]) -> Option<&[u8]> {
     if is_goaway { Some(others) } else { None }
 }
 
-/// An end has failed for refused memory where so many octets waited: GOAWAY follows them, its calls
-/// are refused with C1, it takes nothing, and it puts all of that out.
+/// An end has failed for refused memory where `waiting` octets were queued: GOAWAY follows them,
+/// its calls are refused with C1, it takes nothing, and it puts all of that out.
 fn check_failed(end: &mut End, waiting: usize, record: &mut Record) {
     record.fail();
     let all = waiting.saturating_add(GOAWAY);
@@ -155,7 +155,7 @@ fn walk(end: &mut End, calls: &[Call], given: &mut Given, record: &mut Record) {
 struct Calls<'a> {
     kind: Kind,
     calls: &'static [Call],
-    /// How many of them are refused, but for memory.
+    /// The number of them that are refused, but for memory.
     refused: usize,
     given: Given<'a>,
 }
@@ -191,7 +191,7 @@ fn calls_with<'a>(
     }
 }
 
-/// Whether calls of a new end bear that memory is refused; so many of them are refused for other
+/// Whether calls of a new end withstand refused memory; `refused` of them are refused for other
 /// causes. The messages of each run are all like the first.
 pub(crate) fn bears(
     alloc: Global,

@@ -121,7 +121,7 @@ fn new_writers(alloc: Global) -> Result<Writers, AllocError> {
     Ok(Writers { frame, outs })
 }
 
-/// Whether writers bear that memory is refused.
+/// Whether writers withstand refused memory.
 fn bear(alloc: Global) -> Result<bool, AllocError> {
     Ok(holds(alloc, &mut new_writers(alloc)?, &mut new_writers(alloc)?))
 }

@@ -1,9 +1,9 @@
-//! Worked examples of the program's libraries that are no rows of text: readers, writers and
-//! streams that fail, links, and sockets.
+//! Tests of the program's libraries that are no cases of `h2_cases`: readers, writers and streams
+//! that fail, links, and sockets.
 //!
 //! They stand in a crate of their own, so that the gate proves those libraries once for them, and
 //! not once more with their tests. The crate has nothing else. What the program prints of an input
-//! stands in the rows of `h2_cases`.
+//! is in the cases of `h2_cases`.
 #![tactic(auto)]
 
 #[cfg(test)]

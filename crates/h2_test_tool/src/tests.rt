@@ -1,7 +1,7 @@
 //! What the program's libraries do over readers, writers, streams and links that fail, and over
 //! sockets.
 //!
-//! Tests are proved as well: small functions answer whether a row holds.
+//! Tests are proved as well: small functions return whether a case holds.
 
 mod devices;
 mod fetching;

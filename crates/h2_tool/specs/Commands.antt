@@ -34,7 +34,7 @@ use Rattle.h2_net.specs.Serving.{ServesPort}
 abbrev pub IsOfHelp : ErrorKind → Type 0
 IsOfHelp kind = (kind ≡ kinds.DisplayHelp) ⊎ (kind ≡ kinds.DisplayVersion)
 
--- A kind of a word that is wrong, or is missing.
+-- A kind of a word that is wrong, or required and absent.
 abbrev pub IsOfWrongWords : ErrorKind → Type 0
 IsOfWrongWords kind = (kind ≢ kinds.OutOfMemory) × ((kind ≢ kinds.DisplayHelp)
     × (kind ≢ kinds.DisplayVersion))
@@ -56,7 +56,7 @@ AnswersWords kind before after Memory = (kind ≡ kinds.OutOfMemory) × (after �
 abbrev pub AsksHelp : Kinds → Type 0
 AsksHelp faults = IsAmong kinds.DisplayHelp faults ⊎ IsAmong kinds.DisplayVersion faults
 
--- One of them is that a word is wrong, or is missing.
+-- One of them is that a word is wrong, or required and absent.
 abbrev pub HasWrongWords : Kinds → Type 0
 HasWrongWords faults = (kind : ErrorKind) × IsAmong kind faults × IsOfWrongWords kind
 
@@ -153,8 +153,8 @@ EndsReplay words remaining left before after status =
     ⊎ ((faults : Kinds) × ReplayFaults words faults × (left ≡ remaining)
     × EndsByWords faults before after status)
 
--- The words after `serve` give a port and a count: so many connections were served, or the port
--- can't be had. Nothing is printed on standard output.
+-- The words after `serve` give a port and a count: that number of connections were served, or the
+-- port can't be had. Nothing is printed on standard output.
 -- rule: engines (own) serve, get and loop have their words
 pub record ServesCount (words : List (List ℕ)) (before after : Option (List ℕ))
     (status : Status) : Type 0 where
@@ -239,7 +239,7 @@ pub record FailsToPost (count : ℕ) (before after : Option (List ℕ)) (status 
   pub status_is : status_with error ≡ status
   pub unwritten : after ≡ before
 
--- How the posting of so many octets ends, with a writer whose contents are known: never with
+-- How the posting of `count` octets ends, with a writer whose contents are known: never with
 -- `Usage`, and with `Device` for N1 and N5, and where the line could not be printed.
 -- rule: engines (own) serve, get and loop have their words
 abbrev pub PostsSo : (count : ℕ) → (before after : Option (List ℕ)) → Status → Type 0

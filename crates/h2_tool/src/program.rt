@@ -1,4 +1,4 @@
-//! The program as a whole.
+//! The program.
 
 ghost use Rattle.std.specs.Prelude.{◌≡◌, ◌≢◌, List, ℕ, ◌∷◌, MatchResult, codes, map, string_bytes};
 ghost use Rattle.clap.specs.Words.{kind_of};
@@ -21,9 +21,9 @@ use std::net::Net;
 // rule: show (own) The words choose the end and hexadecimal
 // contract: replay (own) The status is 0 only where an end took the whole input
 // contract: replay (own) The words of replay choose the end and hexadecimal
-/// Runs the program with the words after its name, and answers the status that it ends with: that
-/// of the command, or for words without one [`Status::Good`] where they ask for help or the version
-/// and [`Status::Usage`] where they are wrong. Sockets are opened by the network alone.
+/// Runs the program with the words after its name, and returns its exit status: that of the
+/// command, or for words without one [`Status::Good`] where they ask for help or the version and
+/// [`Status::Usage`] where they are wrong. Sockets are opened by the network alone.
 pub fn run<N: Net, R: Read, W: Write, E: Write>(
     net: &N,
     alloc: Global,
@@ -80,8 +80,8 @@ pub fn no_words<E: Write>(error: &io::Error, err: &mut E) -> Status
     }
 }
 
-/// Answers words that give no options: prints the help or the version that they ask for, or what is
-/// wrong with them.
+/// Handles words that give no options: prints the help or the version that they ask for, or what
+/// is wrong with them.
 pub(crate) fn answer<W: Write, E: Write>(error: &Error, out: &mut W, err: &mut E) -> Status
     ensures { AnswersWords (kind_of error.now) (W.contents out.old) (W.contents out.new) result }
 {

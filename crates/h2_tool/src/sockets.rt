@@ -18,10 +18,10 @@ use std::io::Write;
 use std::net::Net;
 
 // rule: engines (own) serve, get and loop have their words
-/// Runs `h2 serve` with the words after `serve`: serves so many connections to a port of 127.0.0.1,
-/// one after another, and answers each request with what it asked. A connection that ends early has
-/// a line on standard error, and a hint where the cause is known. Only help is printed on standard
-/// output.
+/// Runs `h2 serve` with the words after `serve`: serves the given number of connections to a port
+/// of 127.0.0.1, one after another, and answers each request with what it asked. A connection that
+/// ends early has a line on standard error, and a hint where the cause is known. Only help is
+/// printed on standard output.
 ///
 /// The status is that of [`serve_port`]; for help it is [`Status::Good`], and for wrong words
 /// [`Status::Usage`].

@@ -10,7 +10,7 @@ use h2_frame::{
     written_frame_is_read,
 };
 
-/// Writes a frame, and reads what was written: it is that frame. What refuses it is answered.
+/// Writes a frame, and reads what was written: it is that frame. A refusal is returned.
 pub fn read_back<'a>(frame: &Frame, out: &'a mut Vec<u8>) -> Result<FrameRef<'a>, Unwritable>
     ensures ok { IfOk result (λ read. frame_of read ≡ owned_frame frame.now) }
     ensures err { IfErr result (λ error. IsRefused (owned_frame frame.now) error) }
@@ -37,8 +37,8 @@ ghost use Rattle.h2_frame.specs.Frames.{Carries};
 
 use h2_frame::{Code, PayloadError, head_fault};
 
-/// Reads the frame of a head and its payload; none where the payload has another length. A fault of
-/// either is answered by its code.
+/// Reads the frame of a head and its payload; `None` where the payload has another length. A fault
+/// of either is returned as its code.
 pub fn read_frame<'a>(nine: &[u8; 9], payload: &'a [u8]) -> Result<Option<FrameRef<'a>>, Code>
     ensures { IfOk result (λ read. IfSome read (λ frame.
         Carries (head_of nine.now) payload.now (frame_of frame))) }
@@ -61,8 +61,8 @@ pub fn read_frame<'a>(nine: &[u8; 9], payload: &'a [u8]) -> Result<Option<FrameR
 ghost use Rattle.std.specs.Prelude.{◌++◌, OnErr};
 ghost use Rattle.h2_frame.specs.Encoding.{encoding_of};
 
-/// Appends a frame as asked for by a user, whose mistakes are answered in words. Without memory the
-/// caller writes what waits, and tries again: `None`.
+/// Appends a frame as asked for by a user, whose mistakes are returned as text. Out of memory, the
+/// caller writes the queued output, and tries again: `None`.
 pub fn write_for_user(frame: &Frame, out: &mut Vec<u8>) -> Result<Option<()>, &'static str>
     ensures ok { IfOk result (λ written. IfSome written (λ _.
         out.new.items ≡ out.old.items ++ encoding_of (owned_frame frame.now))) }

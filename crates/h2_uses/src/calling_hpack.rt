@@ -26,7 +26,7 @@ pub fn carry_list(alloc: Global, fields: &[Field]) -> Result<List, Fault>
 use h2_frame::Code;
 
 /// The fields of a block, or the code with which the connection fails: the decoder has then failed
-/// too, and answers `Fault::Failed` to each later block.
+/// too, and returns `Fault::Failed` for each later block.
 pub fn fields_of(decoder: &mut Decoder, block: &[u8]) -> Result<List, Code> {
     match decoder.decode(block, 65_536) {
         Ok(list) => Ok(list),

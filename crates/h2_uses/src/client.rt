@@ -2,7 +2,7 @@
 
 use crate::fields::{get_request, value};
 use anyhow::Result;
-use h2_ends::{Client, Config, EndEvent, EndRefusal, Refusal};
+use h2_ends::{Client, Config, EndEvent, EndRefusal, FieldList, Refusal};
 use std::alloc::Global;
 use std::collections::BTreeMap;
 use std::io::{Read, Write};
@@ -14,15 +14,15 @@ pub struct Response {
     pub status: Vec<u8>,
     /// The octets of its body.
     pub body: Vec<u8>,
-    /// Whether it is whole.
+    /// Whether it is complete.
     pub is_whole: bool,
-    /// Whether nothing more of it comes: it is whole, its stream was reset, or the server has not
-    /// processed the request.
+    /// Whether nothing more of it comes: it is complete, its stream was reset, or the server has
+    /// not processed the request.
     pub is_over: bool,
 }
 
-/// Asks for each path with GET, on one connection, and answers what has come by stream, 1, 3, 5 and
-/// so on, once all responses are over or the input has ended.
+/// Asks for each path with GET, on one connection, and returns what has come by stream, 1, 3, 5
+/// and so on, once all responses are over or the input has ended.
 ///
 /// # Errors
 ///
@@ -110,7 +110,7 @@ fn take_piece<W: Write>(
 }
 
 /// Keeps what an event adds to the response on its stream.
-fn keep(responses: &mut BTreeMap<u32, Response>, event: EndEvent<'_>) -> Result<()> {
+fn keep(responses: &mut BTreeMap<u32, Response>, event: EndEvent<&FieldList, &[u8]>) -> Result<()> {
     let id = match event {
         EndEvent::Head { id, .. } | EndEvent::Body { id, .. } | EndEvent::Trailers { id, .. } => id,
         EndEvent::Reset { id, .. } | EndEvent::Unprocessed { id } => id,
@@ -133,7 +133,7 @@ impl Response {
     }
 
     /// Keeps what an event adds.
-    fn keep(&mut self, event: EndEvent<'_>) -> Result<()> {
+    fn keep(&mut self, event: EndEvent<&FieldList, &[u8]>) -> Result<()> {
         match event {
             EndEvent::Head { list, end, .. } => {
                 self.status.extend_from_slice(value(list, b":status"))?;
@@ -162,7 +162,7 @@ fn release<W: Write>(alloc: Global, client: &mut Client, to: &mut W) -> Result<(
     }
 }
 
-/// Sends what windows let through, and writes all that waits.
+/// Sends what windows let through, and writes all queued output.
 fn send<W: Write>(alloc: Global, client: &mut Client, to: &mut W) -> Result<()> {
     let mut output = Vec::new(alloc);
     for _ in 0..u64::MAX {

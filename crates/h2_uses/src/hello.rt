@@ -1,4 +1,4 @@
-//! What README's server answers.
+//! The handler of README's server.
 
 use crate::fields::{response, value};
 use crate::server::Handler;

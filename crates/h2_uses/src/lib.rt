@@ -2,6 +2,7 @@
 //! and the callers that the `CALLING.md` of a crate quotes.
 #![tactic(auto)]
 
+mod calling_conn;
 mod calling_frame;
 mod calling_hpack;
 mod calling_message;
@@ -11,6 +12,7 @@ mod hello;
 mod poster;
 mod server;
 
+pub use calling_conn::{Next, after_refusal, discard_bodies, send_part};
 pub use calling_frame::{read_back, read_frame, write_for_user};
 pub use calling_hpack::{carry_list, fields_of};
 pub use calling_message::{checked_response, is_request};

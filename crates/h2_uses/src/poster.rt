@@ -7,7 +7,7 @@ use anyhow::Result;
 use h2_engines::{Config, Fetched, Link, Message, fetch_link};
 use std::alloc::Global;
 
-/// Posts a body, and answers the response once it is whole.
+/// Posts a body, and returns the response once it is complete.
 ///
 /// # Errors
 ///

@@ -3,17 +3,15 @@
 use crate::fields::{response, value};
 use anyhow::Result;
 use h2_ends::{Code, Config, EndEvent, EndRefusal, FieldList, Message, Refusal, Server};
+use h2_frame::limits::FULL_OUTPUT;
 use h2_message::names_user;
 use std::alloc::Global;
 use std::io::{Read, Write};
 
-/// Where so many octets of output wait, the output is full: C7 (`OutputFull`).
-const FULL: usize = 65_536;
-
-/// What requests are answered with.
+/// How requests are answered.
 pub trait Handler {
-    /// The answer to a request, by the fields of its head. An answer that breaks a rule resets its
-    /// stream, and an error ends the connection.
+    /// The response to a request, by the fields of its head. A response that breaks a rule resets
+    /// its stream, and an error ends the connection.
     fn answer(&mut self, alloc: Global, head: &FieldList) -> Result<Message>;
 }
 
@@ -84,7 +82,7 @@ fn take_piece<W: Write, H: Handler>(
 }
 // end
 
-/// The answer to a request: the handler's, unless the authority names a user (section 8.3.1).
+/// The response to a request: the handler's, unless the authority names a user (section 8.3.1).
 fn message_for<H: Handler>(alloc: Global, head: &FieldList, handler: &mut H) -> Result<Message> {
     if names_user(value(head, b":authority")) {
         return Ok(response(alloc, b"400", b"")?);
@@ -93,7 +91,7 @@ fn message_for<H: Handler>(alloc: Global, head: &FieldList, handler: &mut H) -> 
 }
 
 // calling: h2_ends refusals
-/// Answers a request. A message of ours that breaks a rule resets its stream alone.
+/// Answers a request. A response that breaks a rule resets its stream alone.
 fn answer<W: Write>(
     alloc: Global,
     server: &mut Server,
@@ -101,7 +99,7 @@ fn answer<W: Write>(
     message: Message,
     to: &mut W,
 ) -> Result<()> {
-    if server.conn().waiting() >= FULL {
+    if server.conn().waiting() >= FULL_OUTPUT {
         send(alloc, server, to)?; // a full output takes no answer
     }
     match server.respond(id, message) {
@@ -125,7 +123,7 @@ fn release<W: Write>(alloc: Global, server: &mut Server, to: &mut W) -> Result<(
 }
 // end
 
-/// Sends what windows let through, and writes all that waits.
+/// Sends what windows let through, and writes all queued output.
 fn send<W: Write>(alloc: Global, server: &mut Server, to: &mut W) -> Result<()> {
     let mut output = Vec::new(alloc);
     for _ in 0..u64::MAX {

@@ -1,10 +1,8 @@
 -- Where the body of a complete frame lies.
-use Rattle.std.proofs.Common.{◌≡◌, ℕ, ◌+◌, ◌-◌, ◌≤◌, min, List, length, take, drop, Option, Some}
+use Rattle.std.proofs.Common.{◌≡◌, ℕ, ◌+◌, ◌-◌, ◌≤◌, List, length, take, drop, Option, Some}
 use Rattle.std.proofs.Common.{None, IfSome, refl, sym, ap, ◌∙◌, arith, length-drop, drop-drop}
-use Rattle.std.proofs.Common.{length-take, Bor, MatchOption, ◌<◌, ◌⊎◌}
+use Rattle.std.proofs.Common.{length-take}
 use Rattle.std.proofs.lemmas.Bool.{le-leb}
-use Rattle.std.proofs.lemmas.Bool.Decides.{nat_tests}
-use Rattle.std.specs.List.{slice_range}
 use Rattle.std.proofs.lemmas.List.{drop-take, take_all, take-take}
 use Rattle.h2_frame.specs.Heads.{has_padding}
 use Rattle.h2_frame.specs.Frames.{Frame, Data, Headers, Priority, Reset, Settings, Ping, GoAway}
@@ -92,16 +90,3 @@ data_is_body cutter piece frame (GoAway last code debug) lies carried = tt
 data_is_body cutter piece frame (WindowUpdate stream increment) lies carried = tt
 data_is_body cutter piece frame (Continuation stream whole fragment) lies carried = tt
 data_is_body cutter piece frame (Unknown kind flags stream payload) lies carried = tt
-
--- A slice that is asked for has the octets between two places, or isn't there.
-pub between_got : (first last : ℕ) (octets begins : List ℕ) (result : Option (Bor (List ℕ)))
-    → octets ≡ begins
-    → MatchOption result ((last < first) ⊎ (length octets < last))
-    (λ x. (first ≤ last) × (last ≤ length octets) × (x.now ≡ slice_range octets first last)
-    × (length x.now + first ≡ last))
-    → MatchOption result (octets_within first last begins ≡ None)
-    (λ body. octets_within first last begins ≡ Some body.now)
-between_got first last octets begins None same outside =
-    rw (← same) (grind (arith, nat_tests, outside))
-between_got first last octets begins (Some body) same inside =
-    rw (← same) (between_is first last octets inside.0 inside.1 ∙ ap Some (sym inside.2))

@@ -1,12 +1,12 @@
 //! What a cutter keeps between calls.
 
 ghost use Rattle.std.specs.Prelude.{◌≡◌, ◌≢◌, ◌+◌, ◌<◌, ◌≤◌, ◌++◌, [], length, take, drop, vec_len};
-ghost use Rattle.std.specs.Prelude.{IfSome, MatchOption};
+ghost use Rattle.std.specs.Prelude.{IfSome};
 ghost use Rattle.std.specs.Prelude.{IfNone, IfErr, OnOk, IsOk, None, Some, not, true, false};
 ghost use Rattle.h2_frame.specs.declared.code.Code.{Code as AnyCode};
 ghost use Rattle.h2_frame.specs.Heads.{head_of, form_fault};
 ghost use Rattle.h2_wire.specs.Cutter.{saturated, IsFaultyHead, FaultsAtHead, BeginsWithFrame};
-ghost use Rattle.h2_wire.specs.Cutter.{CutterLimited, octets_at, body_at};
+ghost use Rattle.h2_wire.specs.Cutter.{octets_at};
 ghost use Rattle.h2_wire.specs.Buffer.{state_of, fault_of, is_in_preface, unparsed_of};
 ghost use Rattle.h2_wire.specs.Buffer.{BufferInvariant};
 ghost use Rattle.h2_wire.specs.Step.{BufferTakes, StartsFrame, StartsPayload, EndsFrame};
@@ -95,22 +95,13 @@ impl Buffer {
             Phase::Head => self.take_head(piece, 0),
             Phase::Payload(head) => self.take_payload(piece, 0, head),
             Phase::Lent => {
-                self.forget();
+                // The frame that was answered last is kept no longer.
+                self.octets.clear();
+                self.phase = Phase::Head;
                 self.take_head(piece, 0)
             }
             Phase::Failed(fault) => Err(fault),
         }
-    }
-
-    // rule: 4.2 (own) A cutter's limit is changed for heads that are still to come
-    /// Sets the limit of payloads. A head that was checked isn't checked again.
-    pub(crate) fn set_limit(&mut self, limit: u32)
-        requires { BufferInvariant self.old }
-        ensures invariant { BufferInvariant self.new }
-        ensures limited { CutterLimited (state_of self.old) limit (state_of self.new) }
-    {
-        self.limit = limit;
-        self.greatest = self.greatest.max(limit);
     }
 
     /// How many octets of a preface or a frame that isn't complete were used.
@@ -136,19 +127,6 @@ impl Buffer {
             Phase::Preface(_) | Phase::Failed(WireFault::BadPreface) => false,
             _ => true,
         }
-    }
-
-    // rule: 4.1 (own) A frame that is cut in two is kept until the next call
-    // The frame that was answered last is kept no longer.
-    fn forget(&mut self)
-        ensures none { self.new.octets.items ≡ [] }
-        ensures after { self.new ≡ record self.old {
-          phase = Phase.Head;
-          octets = self.new.octets;
-        } }
-    {
-        self.octets.clear();
-        self.phase = Phase::Head;
     }
 
     // rule: 3.4 A client sends the 24 octets of the preface and then frames
@@ -285,26 +263,6 @@ impl Buffer {
                 &piece[begin..begin + head.length as usize]
             }
             Source::Kept => &self.octets[HEAD_LEN..],
-        }
-    }
-
-    // rule: 4.1 (own) A frame that is cut in two is kept until the next call
-    // rule: 6.1 With PADDED, DATA has a pad length, data and padding
-    /// The payload of a complete frame without its padding, if such octets are there.
-    pub(crate) fn body<'a>(&'a self, piece: &'a [u8], frame: Complete) -> Option<&'a [u8]>
-        ensures { MatchOption result
-            (body_at (state_of self.entry.now) piece.entry.now frame ≡ None)
-            (λ body. body_at (state_of self.entry.now) piece.entry.now frame
-            ≡ Some body.now) }
-    {
-        let octets = match frame.source {
-            Source::Piece(start) => &piece[start.min(piece.len())..],
-            Source::Kept => &self.octets[..],
-        };
-        let end = HEAD_LEN + frame.head.length as usize;
-        match frame.pad {
-            None => octets.get(HEAD_LEN..end),
-            Some(padding) => octets.get(HEAD_LEN + 1..end.saturating_sub(usize::from(padding))),
         }
     }
 

@@ -15,9 +15,9 @@ ghost use Rattle.h2_wire.specs.Streams.{GoesPastPreface};
 ghost use Rattle.h2_wire.specs.contracts.cutter.Cutter.{the_row};
 
 use crate::buffer::Buffer;
-use crate::cut::{Advance, Complete, Cut};
+use crate::cut::{Advance, Complete, Cut, Source};
 use crate::fault::WireFault;
-use h2_frame::{FrameRef, payload_frame};
+use h2_frame::{FrameRef, HEAD_LEN, payload_frame};
 use std::alloc::Global;
 use std::marker::Model;
 
@@ -117,6 +117,8 @@ impl Cutter {
     }
 
     // contract: 4.1 (own) A frame that is cut in two is kept until the next call
+    // rule: 4.1 (own) A frame that is cut in two is kept until the next call
+    // rule: 6.1 With PADDED, DATA has a pad length, data and padding
     /// Lends the payload of the frame that the last call of [`Cutter::advance`] answered, without
     /// pad length and padding (RFC 9113, sections 6.1 and 6.2): of DATA its data. `piece` is the
     /// one that `advance` was given; where no such octets lie there, as in another piece, it is
@@ -125,7 +127,15 @@ impl Cutter {
         ensures { MatchOption result (body_at self.now piece.now frame ≡ None)
             (λ body. body_at self.now piece.now frame ≡ Some body.now) }
     {
-        self.buffer.body(piece, frame)
+        let octets = match frame.source {
+            Source::Piece(start) => &piece[start.min(piece.len())..],
+            Source::Kept => &self.buffer.octets[..],
+        };
+        let end = HEAD_LEN + frame.head.length as usize;
+        match frame.pad {
+            None => octets.get(HEAD_LEN..end),
+            Some(padding) => octets.get(HEAD_LEN + 1..end.saturating_sub(usize::from(padding))),
+        }
     }
 
     // contract: 3.4 (own) No octet of the preface is stored, so memory is not refused in it
@@ -187,6 +197,7 @@ impl Cutter {
     }
 
     // contract: 4.2 (own) A cutter's limit is changed for heads that are still to come
+    // rule: 4.2 (own) A cutter's limit is changed for heads that are still to come
     /// Sets the limit of payloads (RFC 9113, sections 4.2 and 6.5.2), for heads whose ninth octet
     /// isn't used yet. A frame whose head was used before is cut as it would have been. It takes no
     /// memory.
@@ -195,7 +206,8 @@ impl Cutter {
         // octets that follow.
         ensures { CutterLimited self.old limit self.new }
     {
-        self.buffer.set_limit(limit);
+        self.buffer.limit = limit;
+        self.buffer.greatest = self.buffer.greatest.max(limit);
     }
 
     // contract: 4.1 Unparsed octets hold no complete frame and no fault

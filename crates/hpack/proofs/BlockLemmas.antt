@@ -1,19 +1,12 @@
 -- Blocks: the fields, the updates before them, and that octets are one block at most.
-use Rattle.std.proofs.Common.{◌≡◌, ℕ, ◌<◌, ◌≤◌, ◌==◌, true, false, List, [], ◌∷◌, ◌++◌, length}
-use Rattle.std.proofs.Common.{take, refl, sym, ap, ◌∙◌, subst, arith, eq-eqb, append_assoc}
-use Rattle.std.proofs.Common.{append-nil, length-append}
-use Rattle.std.proofs.lemmas.Bool.{false≢true}
-use Rattle.std.proofs.lemmas.Bool.Decides.{nat_tests}
-use Rattle.hpack_text.specs.Integers.{Int}
-use Rattle.hpack_text.proofs.IntegerLemmas.{Int-unique}
-use Rattle.hpack.specs.declared.types.field.Field.{Field}
-use Rattle.hpack.specs.declared.types.fault.Fault.{Fault}
+use Rattle.hpack.proofs.Names.{◌≡◌, ℕ, ◌<◌, ◌≤◌, ◌==◌, true, false, List, [], ◌∷◌, ◌++◌, length}
+use Rattle.hpack.proofs.Names.{take, refl, sym, ap, ◌∙◌, subst, arith, eq-eqb, append_assoc}
+use Rattle.hpack.proofs.Names.{append-nil, length-append, false≢true, nat_tests, Int, Int-unique}
+use Rattle.hpack.proofs.Names.{Field, Fault, Entries, resized, FirstOctet, Update, Step, Fields}
+use Rattle.hpack.proofs.Names.{Updates, Block, NoPrefix, IsInt, IsStep, UpdatesSoFar}
 use Rattle.hpack.specs.declared.types.fault.Fault.TheVariants as faults
-use Rattle.hpack.specs.Tables.{Entries, resized}
-use Rattle.hpack.specs.Blocks.{FirstOctet, Update, Step, Fields, Updates, Block}
 use Rattle.hpack.specs.Lists.{NoBlock, DecodeFault}
-use Rattle.hpack.specs.Prefixes.{NoPrefix, PrefixFault, IsInt, IsStep, FieldsFault, BeginsUpdate}
-use Rattle.hpack.specs.Prefixes.{UpdatesSoFar}
+use Rattle.hpack.specs.Prefixes.{PrefixFault, FieldsFault, BeginsUpdate}
 use Rattle.hpack.proofs.PrefixLemmas.{octets_after, split_at_count, same_following}
 use Rattle.hpack.proofs.StepLemmas.{prefix_first_octet, int_first, int_long, no_update_step}
 use Rattle.hpack.proofs.StepLemmas.{step_long, step_unique}
@@ -137,14 +130,6 @@ fields_no_update table after octets update more maximum (field ∷ fields) e is_
     update_no_field table between octets first others update more maximum field joined step e
     is_update
 
--- In the beginning no update was read.
-pub updates_none : (table : Entries) (limit : ℕ) (octets : List ℕ)
-    → UpdatesSoFar table limit octets table octets
-updates_none table limit octets = record {
-  sound = λ fields after h. h;
-  complete = λ fields after h. h;
-}
-
 -- An update and a block are a block.
 block_with : (table : Entries) (limit maximum : ℕ) (octets prefix others : List ℕ)
     (fields : List Field) (after : Entries) → octets ≡ prefix ++ others → Update maximum prefix
@@ -224,8 +209,7 @@ pub updates_above : (table now : Entries) (limit maximum : ℕ)
     → UpdatesSoFar table limit octets now unparsed → NoBlock table limit octets
 updates_above table now limit maximum octets unparsed prefix others e is_update above so_far =
     λ fields after h.
-    let allowed =
-    (after_update now limit maximum unparsed prefix others fields after e is_update
+    let allowed = (after_update now limit maximum unparsed prefix others fields after e is_update
     (so_far.complete fields after h)).allowed in
     omega arith
 
@@ -354,10 +338,8 @@ block_unique : (maxima : List ℕ) (table updated after other : Entries) (limit 
 block_unique [] table updated after other limit octets left fields others updates within encoded
     block =
     fields_or_block block.maxima table block.updated after other limit octets block.others fields
-    others
-    (subst (λ t. Fields t octets fields after) updates.0
-    (subst (λ xs. Fields updated xs fields after) updates.1 encoded)) block.updates
-    block.encoded
+    others (subst (λ t. Fields t octets fields after) updates.0
+    (subst (λ xs. Fields updated xs fields after) updates.1 encoded)) block.updates block.encoded
 block_unique (one ∷ maxima) table updated after other limit octets left fields others
     (first, more, joined, is_update, allowed, updates) within encoded block =
     block_unique maxima (resized table one) updated after other limit more left fields others
@@ -378,8 +360,7 @@ pub above_limit : (table now : Entries) (limit : ℕ) (octets unparsed : List �
     → (BeginsUpdate unparsed → ⊥) → UpdatesSoFar table limit octets now unparsed
     → NoBlock table limit octets
 above_limit table now limit octets unparsed above none so_far = λ fields after h.
-    let within =
-    (block_fields now limit unparsed fields after none
+    let within = (block_fields now limit unparsed fields after none
     (so_far.complete fields after h)).within in
     omega arith
 
@@ -422,8 +403,7 @@ no_fields_then_update : (table after other : Entries) (octets update others join
     (maximum : ℕ) (fields more : List Field) → joined ≡ octets ++ (update ++ others)
     → Fields table octets fields after → Update maximum update → Fields table joined more other → ⊥
 no_fields_then_update table after other octets update others joined maximum [] more e a is_update
-    b =
-    fields_no_update table other joined update others maximum more
+    b = fields_no_update table other joined update others maximum more
     (e ∙ ap (λ (xs : List ℕ). xs ++ (update ++ others)) a.0) is_update b
 no_fields_then_update table after other octets update others joined maximum (field ∷ fields) more e
     (first, rest, between, split, step, encoded) is_update b =

@@ -1,16 +1,11 @@
 -- Chains through the entries of a table.
-use Rattle.std.proofs.Common.{◌≡◌, ℕ, zero, suc, ◌+◌, ◌-◌, ◌<◌, ◌≤◌, Bool, true}
-use Rattle.std.proofs.Common.{false, if◌then◌else◌, List, [], ◌∷◌, ◌++◌, length, get_or, set, take}
-use Rattle.std.proofs.Common.{drop, Some, inl, inr, refl, sym, ap, ◌∙◌, subst, arith}
-use Rattle.std.proofs.Common.{length-drop}
-use Rattle.std.specs.List.{slice_get}
-use Rattle.std.proofs.lemmas.Option.{get_or_from_slice_get}
-use Rattle.std.proofs.lemmas.Bool.{cases_eq, cases_lt}
-use Rattle.std.proofs.lemmas.List.{get_or-set_same, get_or-set_other, length-set, drop-drop}
-use Rattle.std.proofs.lemmas.List.{get_or-drop}
-use Rattle.hpack.specs.Entry.{Entry}
-use Rattle.hpack.specs.Sought.{first_index}
-use Rattle.hpack.specs.Chains.{LeadsTo, AreLinked, AreHeads}
+use Rattle.hpack.proofs.Names.{◌≡◌, ℕ, zero, suc, ◌+◌, ◌-◌, ◌<◌, ◌≤◌, Bool, true, false}
+use Rattle.hpack.proofs.Names.{if◌then◌else◌, List, [], ◌∷◌, ◌++◌, length, get_or, set, take, drop}
+use Rattle.hpack.proofs.Names.{Some, inl, inr, refl, sym, ap, ◌∙◌, subst, arith, length-drop}
+use Rattle.hpack.proofs.Names.{slice_get, get_or_from_slice_get, cases_eq, cases_lt, drop-drop}
+use Rattle.hpack.proofs.Names.{get_or-drop, Entry, first_index, LeadsTo, AreLinked}
+use Rattle.std.proofs.lemmas.List.{get_or-set_same, get_or-set_other, length-set}
+use Rattle.hpack.specs.Chains.{AreHeads}
 use Rattle.hpack.proofs.SearchLemmas.{fails, first_index-drop, first_index-none}
 
 -- Where the oldest entries leave, what leads to an entry leads to it, or past the end.
@@ -156,11 +151,9 @@ pub linked_read : (bucket : Entry → ℕ) (entries : List Entry) (skips : List 
     → slice_get skips place ≡ Some skip
     → LeadsTo bucket (bucket (get_or entries place other)) (drop (place + 1) entries) skip
 linked_read bucket entries skips place skip other linked lt is =
-    let same : get_or skips place 0 ≡ skip =
-    get_or_from_slice_get skips place skip 0 is in
+    let same : get_or skips place 0 ≡ skip = get_or_from_slice_get skips place skip 0 is in
     subst (λ (n : ℕ). LeadsTo bucket (bucket (get_or entries place other)) (drop
-    (place + 1) entries)
-    n) same
+    (place + 1) entries) n) same
     (subst (λ (n : ℕ). LeadsTo bucket (bucket (get_or entries place other)) (drop n entries)
     (get_or skips place 0)) (let e : suc place ≡ place + 1 = omega arith in e)
     (linked_at bucket entries skips place other linked lt))
@@ -188,11 +181,10 @@ pub reached_first : (bucket : Entry → ℕ) (sought : ℕ) (test : Entry → Bo
     (start : ℕ) (entries : List Entry) (place : ℕ) → ((one : Entry) → test one ≡ true
     → bucket one ≡ sought)
     → LeadsTo bucket sought entries place → IsReached bucket sought test start entries place
-reached_first bucket sought test start entries place only leads =
-    record {
-      none_before = sym (leads_first bucket sought test start entries place only leads);
-      here = λ other lt. leads_here bucket sought entries place other leads lt;
-    }
+reached_first bucket sought test start entries place only leads = record {
+  none_before = sym (leads_first bucket sought test start entries place only leads);
+  here = λ other lt. leads_here bucket sought entries place other leads lt;
+}
 
 -- The next place of a chain.
 pub reached_next : (bucket : Entry → ℕ) (sought : ℕ) (test : Entry → Bool)

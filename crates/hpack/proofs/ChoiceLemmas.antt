@@ -1,19 +1,11 @@
 -- What is chosen for a field, and for the updates before a block.
-use Rattle.std.proofs.Common.{◌≡◌, ℕ, ◌+◌, ◌^◌, ◌<◌, ◌≤◌, ◌==◌, nat_lt, if◌then◌else◌, Bool, true}
-use Rattle.std.proofs.Common.{false, List, [], ◌∷◌, length, refl, sym, ap, ◌∙◌, arith}
-use Rattle.std.proofs.lemmas.Bool.{lt-ltb, le-ltb, ne_eqb, eq-eqb}
-use Rattle.hpack.specs.Entry.{Entry}
-use Rattle.hpack.specs.declared.types.field.Field.{Field}
-use Rattle.hpack.specs.declared.types.literal.Literal.TheVariants.{WithIndexing, WithoutIndexing}
-use Rattle.hpack.specs.declared.types.literal.Literal.TheVariants.{NeverIndexed}
-use Rattle.hpack.specs.declared.encode.pending_table.PendingTable.{PendingTable}
-use Rattle.hpack.specs.Static.{static_entries}
-use Rattle.hpack.specs.Tables.{Entries}
-use Rattle.hpack.specs.Lists.{EncoderState}
-use Rattle.hpack.specs.Choice.{least_index, exact_index, name_index, Choice, indexed, literal}
-use Rattle.hpack.specs.Choice.{choice, size_updates}
-use Rattle.hpack.specs.Sought.{first_index}
-use Rattle.hpack.specs.PendingTable.{represented, IsPendingTable}
+use Rattle.hpack.proofs.Names.{◌≡◌, ℕ, ◌+◌, ◌^◌, ◌<◌, ◌≤◌, ◌==◌, nat_lt, if◌then◌else◌, Bool, true}
+use Rattle.hpack.proofs.Names.{false, List, [], ◌∷◌, length, refl, sym, ap, ◌∙◌, arith, lt-ltb}
+use Rattle.hpack.proofs.Names.{le-ltb, ne_eqb, Entry, Field, WithIndexing, WithoutIndexing}
+use Rattle.hpack.proofs.Names.{NeverIndexed, PendingTable, static_entries, Entries, EncoderState}
+use Rattle.hpack.proofs.Names.{least_index, exact_index, name_index, Choice, indexed, literal}
+use Rattle.hpack.proofs.Names.{choice, size_updates, first_index, represented, IsPendingTable}
+use Rattle.std.proofs.lemmas.Bool.{eq-eqb}
 use Rattle.hpack.proofs.SearchLemmas.{least_index-parts}
 use Rattle.hpack.proofs.WrittenTables.{least_index_small}
 
@@ -75,8 +67,7 @@ pub chosen_never : (table : Entries) (field : Field) (index : ℕ) → field.sen
 unfolding choice_by
 chosen_never table field index sensitive named =
     ap (λ (n : ℕ). literal NeverIndexed n) named
-    ∙ sym
-    (choice-by table field
+    ∙ sym (choice-by table field
     ∙ ap (λ (b : Bool). choice_by table field b (has_exact table field) (is_large table field))
     sensitive)
 
@@ -88,8 +79,7 @@ chosen_indexed table field index usual exact some =
     let has : has_exact table field ≡ true =
     lt-ltb 0 (exact_index table.entries field) (omega (arith, exact)) in
     ap (λ (n : ℕ). indexed n) exact
-    ∙ sym
-    (choice-by table field
+    ∙ sym (choice-by table field
     ∙ (ap (λ (b : Bool). choice_by table field b (has_exact table field) (is_large table field))
     usual
     ∙ ap (λ (b : Bool). choice_by table field false b (is_large table field)) has))
@@ -173,8 +163,7 @@ unfolding size_updates_by
 updates_rose state not_fallen rose =
     sym (size_updates-by state
     ∙ (ap (λ (b : Bool). size_updates_by state.least state.limit b (state.limit == state.least)
-    (nat_lt state.table.maximum state.limit)) (le-ltb state.least state.table.maximum
-    not_fallen)
+    (nat_lt state.table.maximum state.limit)) (le-ltb state.least state.table.maximum not_fallen)
     ∙ ap (λ (b : Bool). size_updates_by state.least state.limit false (state.limit == state.least)
     b) (lt-ltb state.table.maximum state.limit rose)))
 
@@ -185,7 +174,6 @@ unfolding size_updates_by
 updates_not_due state not_fallen low =
     sym (size_updates-by state
     ∙ (ap (λ (b : Bool). size_updates_by state.least state.limit b (state.limit == state.least)
-    (nat_lt state.table.maximum state.limit)) (le-ltb state.least state.table.maximum
-    not_fallen)
+    (nat_lt state.table.maximum state.limit)) (le-ltb state.least state.table.maximum not_fallen)
     ∙ ap (λ (b : Bool). size_updates_by state.least state.limit false (state.limit == state.least)
     b) (le-ltb state.table.maximum state.limit low)))

@@ -1,17 +1,12 @@
 -- The encoder's definitions, computed on the examples of RFC 7541, appendix C, and on examples of
 -- limits and large fields.
+use Rattle.hpack.proofs.Names.{continuation_of, integer, string, Field, fit, table_size}
+use Rattle.hpack.proofs.Names.{static_entries, entry, EncoderState, empty_table, updates_for_limits}
+use Rattle.hpack.proofs.Names.{least_index, choice, encoding_of_fields, after_fields, size_updates}
+use Rattle.hpack.proofs.Names.{block_of, after_block}
 use Rattle.std.specs.Prelude.{◌≡◌, ℕ, List, [], ◌∷◌, true, false, refl, codes}
 use Rattle.hpack_text.specs.Bits.{bits_of, number_of_bits, octets_of_bits}
 use Rattle.hpack_text.specs.Huffman.{groups, code_in, code, huffman_bits}
-use Rattle.hpack_text.specs.Integers.{continuation_of, integer}
-use Rattle.hpack_text.specs.Strings.{string}
-use Rattle.hpack.specs.declared.types.field.Field.{Field}
-use Rattle.hpack.specs.Sizes.{fit, table_size}
-use Rattle.hpack.specs.Static.{static_entries, entry}
-use Rattle.hpack.specs.Lists.{EncoderState, empty_table}
-use Rattle.hpack.specs.Limits.{updates_for_limits}
-use Rattle.hpack.specs.Choice.{least_index, choice, encoding_of_fields, after_fields, size_updates}
-use Rattle.hpack.specs.Choice.{block_of, after_block}
 
 -- opens all that computes
 unfoldable pub computing : Unit {0}

@@ -1,13 +1,8 @@
 -- Fields that are written one after another.
-use Rattle.std.proofs.Common.{◌≡◌, ℕ, ◌+◌, ◌<◌, ◌≤◌, List, ◌++◌, length, drop, sym, ap, ◌∙◌, get_or}
-use Rattle.std.proofs.Common.{append_assoc, append-nil}
-use Rattle.std.proofs.lemmas.List.{drop_more}
-use Rattle.std.proofs.Math.ListN.{drop_of_length-le}
-use Rattle.hpack_text.specs.Appended.{IsExtended}
-use Rattle.hpack.specs.declared.types.field.Field.{Field}
-use Rattle.hpack.specs.Tables.{Entries}
-use Rattle.hpack.specs.Choice.{choice, encoding_of_field, after_choice, encoding_of_fields}
-use Rattle.hpack.specs.Choice.{after_fields}
+use Rattle.hpack.proofs.Names.{◌≡◌, ℕ, ◌+◌, ◌<◌, ◌≤◌, List, ◌++◌, length, drop, sym, ap, ◌∙◌}
+use Rattle.hpack.proofs.Names.{get_or, append_assoc, append-nil, drop_more, drop_of_length-le}
+use Rattle.hpack.proofs.Names.{IsExtended, Field, Entries, choice, encoding_of_field, after_choice}
+use Rattle.hpack.proofs.Names.{encoding_of_fields, after_fields}
 
 -- what is written for fields, the first of them first
 encoding_of_field-drop : (table : Entries) (fields : List Field) (index : ℕ) (field : Field)
@@ -46,8 +41,7 @@ write_step old out new table after fields index field all lt is wrote changed so
     ap (λ (o : List ℕ). o ++ encoding_of_fields after rest) wrote
     ∙ (append_assoc out (encoding_of_field (choice table field) field)
     (encoding_of_fields after rest)
-    ∙ (ap
-    (λ (t : Entries). out ++ (encoding_of_field (choice table field) field
+    ∙ (ap (λ (t : Entries). out ++ (encoding_of_field (choice table field) field
     ++ encoding_of_fields t rest)) changed
     ∙ (ap (λ (o : List ℕ). out ++ o) (sym (encoding_of_field-drop table fields index field lt is))
     ∙ so_far)))

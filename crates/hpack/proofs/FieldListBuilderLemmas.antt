@@ -1,21 +1,13 @@
 -- Building a list of fields: what is represented before and after a field is added.
-use Rattle.std.proofs.Common.{◌≡◌, ℕ, ◌+◌, ◌-◌, ◌^◌, ◌<◌, ◌≤◌, min, Bool, List, [], ◌∷◌, ◌++◌}
-use Rattle.std.proofs.Common.{length, Option, Some, None, refl, sym, ap, ap₂, ◌∙◌, subst, arith}
-use Rattle.std.proofs.Common.{length-append}
+use Rattle.hpack.proofs.Names.{◌≡◌, ℕ, ◌+◌, ◌-◌, ◌^◌, ◌<◌, ◌≤◌, min, Bool, List, [], ◌∷◌, ◌++◌}
+use Rattle.hpack.proofs.Names.{length, Option, Some, None, refl, sym, ap, ap₂, ◌∙◌, subst, arith}
+use Rattle.hpack.proofs.Names.{length-append, sum_by-append, Field, FieldPlace, ReadField}
+use Rattle.hpack.proofs.Names.{AreWithin, IsWithin, field_of, fields_of, octets_between, list_size}
 use Rattle.std.proofs.lemmas.List.{map-append}
-use Rattle.std.proofs.lemmas.List.Sums.{sum_by-append}
 use Rattle.std.specs.Option.{unwrap_or}
-use Rattle.hpack.specs.declared.types.field.Field.{Field}
-use Rattle.hpack.specs.declared.types.field.Decoded.{Decoded}
-use Rattle.hpack.specs.declared.types.field.Decoded.TheVariants as answers
-use Rattle.hpack.specs.declared.types.field_place.FieldPlace.{FieldPlace}
-use Rattle.hpack.specs.declared.types.read_field.ReadField.{ReadField}
 use Rattle.hpack.specs.declared.decode.field_list_builder.FieldListBuilder.{FieldListBuilder}
-use Rattle.hpack.specs.FieldLists.{AreWithin, IsWithin, field_of, fields_of, octets_between}
 use Rattle.hpack.specs.FieldListBuilder.{Adds, AddsRead, ReadsInto, RepresentsList}
-use Rattle.hpack.specs.Lists.{HoldsList, list_size}
-use Rattle.hpack.proofs.FieldListLemmas.{are_between, fields_of-more, within-append}
-use Rattle.hpack.proofs.FieldListLemmas.{within-more}
+use Rattle.hpack.proofs.FieldListLemmas.{are_between, fields_of-more, within-append, within-more}
 
 -- the size of a list with one field more
 list_size-more : (fields : List Field) (field : Field)
@@ -67,21 +59,6 @@ too_large_stays old new field large places remaining list_limit fields has =
 pub record IsSize (field : Field) (size : ℕ) : Type 0 where
   pub computed : size ≡ min (length field.name + length field.value + 32) (2 ^ 64 - 1)
 
--- A field that the limit has no room for makes the list too large.
-above_limit_by : (has_remaining : Option ℕ) (old new : FieldListBuilder) (field : Field) (size : ℕ)
-    → IsSize field size → unwrap_or has_remaining 0 < size → old.remaining ≡ has_remaining
-    → new.places.items ≡ [] → new.remaining ≡ None → Adds old field new
-above_limit_by None old new field size is_size above remains places remaining list_limit fields
-    has =
-    let (empty, over) = has.too_large remains in
-    represents_too_large new list_limit (fields ++ field ∷ []) places remaining
-    (omega (arith, over, list_size-more fields field))
-above_limit_by (Some left) old new field size is_size above remains places remaining list_limit
-    fields has =
-    let (same, sum) = has.whole left remains in
-    represents_too_large new list_limit (fields ++ field ∷ []) places remaining
-    (omega (arith, sum, above, is_size.computed, list_size-more fields field))
-
 -- the size of what was read
 size_read : (old builder : FieldListBuilder) (field : Field) (read : ReadField) (start size : ℕ)
     → ReadsInto old field read builder → start ≡ length old.octets.items
@@ -97,19 +74,6 @@ size_read old builder field read start size reads starts computed =
           ∙ ap₂ (λ (n v : List ℕ). min (length n + length v + 32) (2 ^ 64 - 1)) slices.name_there
           slices.value_there;
     }
-
--- A field that was read, and that the limit has no room for, makes the list too large.
-pub read_above_limit : (builder new : FieldListBuilder) (read : ReadField) (start size : ℕ)
-    → size ≡ min (length (octets_between builder.octets.items start (start + read.name_len))
-    + length (octets_between builder.octets.items (start + read.name_len)
-    (length builder.octets.items)) + 32) (2 ^ 64 - 1)
-    → unwrap_or builder.remaining 0 < size → new.places.items ≡ [] → new.remaining ≡ None
-    → AddsRead builder start read new
-read_above_limit builder new read start size computed above places remaining old field reads
-    starts =
-    above_limit_by builder.remaining old new field size
-    (size_read old builder field read start size reads starts computed) above (sym reads.2) places
-    remaining
 
 -- the field at the place of what was read
 field_read : (old builder : FieldListBuilder) (field : Field) (read : ReadField) (start end : ℕ)
@@ -170,8 +134,7 @@ read_within_limit builder new read start size remaining end computed remains fit
     let (same, sum) = has.whole remaining (sym reads.2 ∙ kept) in
     let before : builder.places.items ≡ old.places.items = ap (λ p. p.items) reads.1 in
     let grown : length builder.octets.items ≡ length old.octets.items + (length field.name
-    + length field.value) =
-    ap (λ (xs : List ℕ). length xs) reads.0.joined
+    + length field.value) = ap (λ (xs : List ℕ). length xs) reads.0.joined
     ∙ (length-append old.octets.items (field.name ++ field.value)
     ∙ ap (λ (n : ℕ). length old.octets.items + n) (length-append field.name field.value)) in
     let within_before : AreWithin builder.octets.items builder.places.items =
@@ -203,26 +166,3 @@ read_within_limit builder new read start size remaining end computed remains fit
           );
       too_large = λ e. absurd (none_is_some new.remaining (remaining - size) e left);
     }
-
--- the same by what remains
-holds_by : (left : Option ℕ) (decoded : Decoded) (builder : FieldListBuilder) (list_limit : ℕ)
-    (fields : List Field) → builder.remaining ≡ left
-    → ((remaining : ℕ) → left ≡ Some remaining → decoded ≡ answers.Whole)
-    → (left ≡ None → decoded ≡ answers.TooLarge) → RepresentsList list_limit fields builder
-    → HoldsList list_limit fields decoded (fields_of builder.octets.items builder.places.items)
-holds_by None decoded builder list_limit fields remains is_whole is_large has =
-    let (empty, above) = has.too_large remains in
-    rw (is_large refl) (ap (fields_of builder.octets.items) empty, above)
-holds_by (Some left) decoded builder list_limit fields remains is_whole is_large has =
-    let (same, sum) = has.whole left remains in
-    rw (is_whole left refl) (same, omega (arith, sum))
-
--- What a builder that represents the fields holds.
-pub holds_list : (decoded : Decoded) (builder : FieldListBuilder) (list_limit : ℕ)
-    (fields : List Field)
-    → ((remaining : ℕ) → builder.remaining ≡ Some remaining → decoded ≡ answers.Whole)
-    → (builder.remaining ≡ None → decoded ≡ answers.TooLarge)
-    → RepresentsList list_limit fields builder
-    → HoldsList list_limit fields decoded (fields_of builder.octets.items builder.places.items)
-holds_list decoded builder list_limit fields is_whole is_large has =
-    holds_by builder.remaining decoded builder list_limit fields refl is_whole is_large has

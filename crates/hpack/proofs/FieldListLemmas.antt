@@ -1,33 +1,19 @@
 -- Lists of fields by their places.
-use Rattle.std.proofs.Common.{Bool, ◌≡◌, ℕ, zero, suc, ◌+◌, ◌-◌, ◌<◌, ◌≤◌, List, [], ◌∷◌}
-use Rattle.std.proofs.Common.{◌++◌, length}
-use Rattle.std.proofs.Common.{take, drop, get_or, Some, refl, sym, ap, ap₂, ◌∙◌}
-use Rattle.std.proofs.Common.{arith, append_assoc, length-append, length-drop}
+use Rattle.hpack.proofs.Names.{Bool, ◌≡◌, ℕ, suc, ◌+◌, ◌-◌, ◌<◌, ◌≤◌, List, [], ◌∷◌, ◌++◌, length}
+use Rattle.hpack.proofs.Names.{take, drop, get_or, Some, refl, sym, ap, ap₂, ◌∙◌, arith}
+use Rattle.hpack.proofs.Names.{append_assoc, length-append, length-drop, slice_get-get_or}
+use Rattle.hpack.proofs.Names.{slice_get, option_map, Field, FieldPlace, ReadField, AreWithin}
+use Rattle.hpack.proofs.Names.{IsWithin, field_of, fields_of, octets_between}
 use Rattle.std.proofs.lemmas.List.{take-append-le, drop-append-le}
-use Rattle.std.proofs.lemmas.Option.{slice_get-map, slice_get-get_or}
+use Rattle.std.proofs.lemmas.Option.{slice_get-map}
 use Rattle.std.proofs.Math.Seq.{drop-append_seam, take-append_seam, take-length}
-use Rattle.std.specs.List.{slice_get}
-use Rattle.std.specs.Option.{option_map}
-use Rattle.hpack.specs.declared.types.field.Field.{Field}
-use Rattle.hpack.specs.declared.types.field_place.FieldPlace.{FieldPlace}
-use Rattle.hpack.specs.declared.types.read_field.ReadField.{ReadField}
 use Rattle.hpack.specs.FieldListBuilder.{AppendsField}
-use Rattle.hpack.specs.FieldLists.{AreWithin, IsWithin, field_of, fields_of, octets_between}
 
 -- as many fields as places
 pub length-fields_of : (octets : List ℕ) (places : List FieldPlace)
     → length (fields_of octets places) ≡ length places
 length-fields_of octets [] = refl
 length-fields_of octets (place ∷ places) = ap suc (length-fields_of octets places)
-
--- A place of a list is among its octets.
-pub within-at : (octets : List ℕ) (places : List FieldPlace) (i : ℕ) (other : FieldPlace)
-    → AreWithin octets places → i < length places
-    → IsWithin (length octets) (get_or places i other)
-within-at octets [] i other all lt = absurd (omega arith)
-within-at octets (place ∷ places) zero other all lt = all.0
-within-at octets (place ∷ places) (suc i) other all lt =
-    within-at octets places i other all.1 (omega arith)
 
 -- the field at a place of a list
 pub fields_of-at : (octets : List ℕ) (places : List FieldPlace) (i : ℕ) (other : FieldPlace)
@@ -54,8 +40,7 @@ field_of-more octets more place within =
       name = name;
       value = value;
       sensitive = place.sensitive;
-    })
-    (between-more octets more place.start place.name_end within.name
+    }) (between-more octets more place.start place.name_end within.name
     (omega (arith, within.value, within.end)))
     (between-more octets more place.name_end place.value_end within.value within.end)
 

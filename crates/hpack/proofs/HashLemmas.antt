@@ -1,9 +1,8 @@
 -- What octets are hashed to.
-use Rattle.std.proofs.Common.{◌≡◌, ℕ, suc, ◌+◌, ◌-◌, ◌*◌, ◌/◌, ◌%◌, ◌^◌, ◌<◌, ◌≤◌, if◌then◌else◌}
-use Rattle.std.proofs.Common.{Bool, List, length, take, drop, sym, ap, ◌∙◌, arith}
+use Rattle.hpack.proofs.Names.{◌≡◌, ℕ, suc, ◌+◌, ◌-◌, ◌*◌, ◌/◌, ◌%◌, ◌^◌, ◌<◌, ◌≤◌, if◌then◌else◌}
+use Rattle.hpack.proofs.Names.{Bool, List, length, take, drop, sym, ap, ◌∙◌, arith, lt-ltb, le-ltb}
+use Rattle.hpack.proofs.Names.{mixed, word_of, short_word, hash_words, hash_from}
 use Rattle.std.specs.Int.{w32, w64, from_le_bytes}
-use Rattle.std.proofs.lemmas.Bool.{lt-ltb, le-ltb}
-use Rattle.hpack.specs.Hashes.{mixed, word_of, short_word, hash_words, hash_from}
 
 -- One word more of eight octets.
 pub hash_words_more : (hash next : ℕ) (octets word more : List ℕ) → 8 < length octets
@@ -77,5 +76,4 @@ word_short octets first last low high long is_first is_last is_low is_high =
     (is_low ∙ ap (λ (os : List ℕ). from_le_bytes w32 os) is_first)
     ∙ (ap (λ (n : ℕ). from_le_bytes w32 (take 4 octets) + n * 2 ^ 32 % 2 ^ 64)
     (is_high ∙ ap (λ (os : List ℕ). from_le_bytes w32 os) is_last)
-    ∙ sym (ap (λ (b : Bool). if b then word_of octets else other)
-    (le-ltb (length octets) 4 long)))
+    ∙ sym (ap (λ (b : Bool). if b then word_of octets else other) (le-ltb (length octets) 4 long)))

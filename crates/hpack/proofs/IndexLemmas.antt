@@ -1,23 +1,14 @@
 -- The index of a table's entries.
-use Rattle.std.proofs.Common.{◌≡◌, ℕ, suc, ◌+◌, ◌-◌, ◌<◌, ◌≤◌, ◌⊎◌, inl, inr, List, [], ◌∷◌, ◌++◌}
-use Rattle.std.proofs.Common.{length, take, drop, Some, sym, ap, ◌∙◌, subst}
-use Rattle.std.proofs.Common.{arith, reverse, true}
-use Rattle.std.proofs.lemmas.Bool.{and_parts}
-use Rattle.std.specs.List.{slice_get}
-use Rattle.std.proofs.lemmas.List.{drop_more, reverse-append}
-use Rattle.std.proofs.lemmas.Option.{get_or_from_slice_get}
-use Rattle.std.proofs.Math.ListN.{drop_of_length-le}
-use Rattle.hpack.specs.Entry.{Entry}
-use Rattle.hpack.specs.declared.encode.search.Sought.TheVariants.{Exact, Name}
+use Rattle.hpack.proofs.Names.{◌≡◌, ℕ, suc, ◌+◌, ◌-◌, ◌<◌, ◌≤◌, ◌⊎◌, inl, inr, List, [], ◌∷◌, ◌++◌}
+use Rattle.hpack.proofs.Names.{length, take, drop, Some, sym, ap, ◌∙◌, subst, arith, reverse, true}
+use Rattle.hpack.proofs.Names.{and_parts, slice_get, drop_more, get_or_from_slice_get}
+use Rattle.hpack.proofs.Names.{drop_of_length-le, Entry, Exact, Name, Field, Sought, fit}
+use Rattle.hpack.proofs.Names.{same_octets, is_sought, bucket_of, LeadsTo, AreLinked, AreChains}
+use Rattle.hpack.proofs.Names.{IsIndexOf, bucket_by}
+use Rattle.std.proofs.lemmas.List.{reverse-append}
 use Rattle.hpack.specs.declared.types.chains.Chains.{Chains}
 use Rattle.hpack.specs.declared.types.chains.Index.{Index}
-use Rattle.hpack.specs.declared.types.field.Field.{Field}
-use Rattle.hpack.specs.declared.encode.search.Sought.{Sought}
-use Rattle.hpack.specs.Sizes.{fit}
-use Rattle.hpack.specs.Choice.{same_octets}
-use Rattle.hpack.specs.Sought.{is_sought}
-use Rattle.hpack.specs.Hashes.{bucket_of}
-use Rattle.hpack.specs.Chains.{LeadsTo, AreLinked, AreChains, IsIndexOf, bucket_by, sought_hash}
+use Rattle.hpack.specs.Chains.{sought_hash}
 use Rattle.hpack.proofs.ChainLemmas.{leads_prefix, linked_prefix}
 use Rattle.hpack.proofs.SizeLemmas.{fit-prefix}
 use Rattle.hpack.proofs.WrittenTables.{same_octets-true}
@@ -38,11 +29,10 @@ index_empty index entries none =
 -- The chains are those of the entries that are left.
 chains_prefix : (bucket : Entry → ℕ) (entries others : List Entry) (chains : Chains)
     → AreChains bucket (entries ++ others) chains → AreChains bucket entries chains
-chains_prefix bucket entries others chains are =
-    record {
-      heads = λ one lt. leads_prefix bucket one entries others _ (are.heads one lt);
-      linked = linked_prefix bucket entries others chains.skips.items are.linked;
-    }
+chains_prefix bucket entries others chains are = record {
+  heads = λ one lt. leads_prefix bucket one entries others _ (are.heads one lt);
+  linked = linked_prefix bucket entries others chains.skips.items are.linked;
+}
 
 -- The index is that of the entries that are left.
 pub index_prefix : (index : Index) (all entries others : List Entry) → all ≡ entries ++ others
@@ -135,8 +125,7 @@ index_added index added new_added own entry live left bound more fitting is =
     ∙ ap (λ (es : List Entry). es ++ own) (reverse-append added (entry ∷ [])) in
     let next : live + 1 ≡ suc live = omega arith in
     let all : take (live + 1) (reverse new_added ++ own)
-    ≡ entry ∷ take live (reverse added ++ own) =
-    ap (λ (es : List Entry). take (live + 1) es) first
+    ≡ entry ∷ take live (reverse added ++ own) = ap (λ (es : List Entry). take (live + 1) es) first
     ∙ ap (λ (n : ℕ). take n (entry ∷ (reverse added ++ own))) next in
     index_fit index (take (live + 1) (reverse new_added ++ own))
     (take left (reverse new_added ++ own)) bound fitting

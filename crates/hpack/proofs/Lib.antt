@@ -1,5 +1,6 @@
 pub mod BlockLemmas
 pub mod ChoiceLemmas
+mod Names
 pub mod PendingTableLemmas
 pub mod FieldLemmas
 pub mod FieldListBuilderLemmas

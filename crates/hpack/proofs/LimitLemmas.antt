@@ -1,14 +1,10 @@
 -- The limits set between two blocks: what the least and the last of them decide.
-use Rattle.std.proofs.Common.{◌≡◌, ℕ, ◌^◌, ◌<◌, ◌≤◌, nat_lt, ◌||◌, Bool, true, false, min, List, []}
-use Rattle.std.proofs.Common.{◌∷◌, refl, sym, ◌∙◌, arith, fold}
-use Rattle.std.proofs.lemmas.Bool.Decides.{nat_tests}
-use Rattle.hpack.specs.declared.types.field.Field.{Field}
-use Rattle.hpack.specs.Lists.{EncoderState}
-use Rattle.hpack.specs.Choice.{size_updates, block_of, after_block}
-use Rattle.hpack.specs.Written.{IsValidEncoder}
+use Rattle.hpack.proofs.Names.{◌≡◌, ℕ, ◌^◌, ◌<◌, ◌≤◌, nat_lt, Bool, true, false, min, List, [], ◌∷◌}
+use Rattle.hpack.proofs.Names.{refl, sym, ◌∙◌, arith, nat_tests, Field, EncoderState, size_updates}
+use Rattle.hpack.proofs.Names.{block_of, after_block, IsValidEncoder, updates_for_limits}
+use Rattle.std.proofs.Common.{◌||◌, fold}
 use Rattle.hpack.proofs.WrittenBlocks.{block_preserves}
-use Rattle.hpack.specs.Limits.{after_limit, least_of, last_of, fell_below, updates_for_limits}
-use Rattle.hpack.specs.Limits.{chosen, IsSettled}
+use Rattle.hpack.specs.Limits.{after_limit, least_of, last_of, fell_below, chosen, IsSettled}
 
 -- setting limits leaves the table, the least of them all, and the last
 pub fold_limits : (state : EncoderState) (limits : List ℕ)

@@ -1,10 +1,8 @@
 -- The entry that an index names.
-use Rattle.std.proofs.Common.{◌≡◌, ℕ, zero, suc, ◌+◌, ◌-◌, ◌<◌, ◌≤◌, ◌⊎◌, inl, inr, List, [], ◌∷◌}
-use Rattle.std.proofs.Common.{◌++◌, length, Option, None, Some, MatchOption, refl, ap, ◌∙◌, arith}
-use Rattle.std.specs.List.{slice_get}
-use Rattle.std.proofs.lemmas.Option.{slice_get_past}
-use Rattle.hpack.specs.Entry.{Entry}
-use Rattle.hpack.specs.Static.{static_entries, entry}
+use Rattle.hpack.proofs.Names.{◌≡◌, ℕ, zero, suc, ◌+◌, ◌-◌, ◌<◌, ◌≤◌, ◌⊎◌, inl, inr, List, [], ◌∷◌}
+use Rattle.hpack.proofs.Names.{◌++◌, length, Option, None, Some, refl, ap, ◌∙◌, arith, slice_get}
+use Rattle.hpack.proofs.Names.{slice_get_past, Entry, static_entries, entry}
+use Rattle.std.proofs.Common.{MatchOption}
 
 -- Within the first list, the second doesn't matter.
 pub slice_get-left : (xs ys : List Entry) (place : ℕ) → place < length xs

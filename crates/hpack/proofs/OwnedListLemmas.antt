@@ -1,11 +1,8 @@
 -- Building a list of its own.
-use Rattle.std.proofs.Common.{◌≡◌, ℕ, ◌+◌, ◌<◌, List, [], ◌∷◌, ◌++◌, length, arith}
-use Rattle.std.proofs.lemmas.List.Sums.{sum_by-append}
-use Rattle.hpack.specs.declared.types.field.Field.{Field}
+use Rattle.hpack.proofs.Names.{◌≡◌, ℕ, ◌+◌, ◌<◌, List, [], ◌∷◌, ◌++◌, length, arith, sum_by-append}
+use Rattle.hpack.proofs.Names.{Field, IsList, list_size, RepresentsOwned, AddsOwned}
 use Rattle.hpack.specs.declared.types.field.List.{List as AnsweredList}
 use Rattle.hpack.specs.declared.types.field.List.TheVariants.{Whole, TooLarge}
-use Rattle.hpack.specs.Lists.{IsList, list_size}
-use Rattle.hpack.specs.OwnedLists.{RepresentsOwned, AddsOwned}
 
 -- the list that a builder answers
 pub has_owned_list : (list_limit : ℕ) (fields : List Field) (list : AnsweredList) (remaining : ℕ)

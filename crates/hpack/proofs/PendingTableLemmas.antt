@@ -1,16 +1,11 @@
 -- Pending tables.
-use Rattle.std.proofs.Common.{if◌then◌else◌, ◌≡◌, ℕ, zero, suc, ◌+◌, ◌-◌, ◌*◌, ◌^◌, ◌<◌, ◌≤◌, min}
-use Rattle.std.proofs.Common.{true, false, Bool, List, [], ◌∷◌, ◌++◌, length, get_or, take, drop}
-use Rattle.std.proofs.Common.{sym, ap, ◌∙◌}
-use Rattle.std.proofs.Common.{arith}
-use Rattle.std.proofs.lemmas.List.{take_more, length-take-le, get_or-take}
-use Rattle.hpack.specs.Entry.{Entry}
-use Rattle.hpack.specs.declared.encode.pending_table.PendingTable.{PendingTable}
-use Rattle.hpack.specs.Sizes.{entry_size, table_size, fit}
-use Rattle.hpack.specs.Tables.{Entries}
-use Rattle.hpack.specs.PendingTable.{newest_first, IsPendingTable, capacity_of}
+use Rattle.hpack.proofs.Names.{if◌then◌else◌, ◌≡◌, ℕ, zero, suc, ◌+◌, ◌-◌, ◌*◌, ◌^◌, ◌<◌, ◌≤◌, min}
+use Rattle.hpack.proofs.Names.{true, false, Bool, List, [], ◌∷◌, ◌++◌, length, get_or, take, drop}
+use Rattle.hpack.proofs.Names.{sym, ap, ◌∙◌, arith, take_more, length-take-le, Entry, PendingTable}
+use Rattle.hpack.proofs.Names.{entry_size, table_size, fit, Entries, newest_first, IsPendingTable}
+use Rattle.hpack.proofs.Names.{capacity_of, first_index}
+use Rattle.std.proofs.lemmas.List.{get_or-take}
 use Rattle.hpack.proofs.SizeLemmas.{entries_are_large, popped, table_size-push}
-use Rattle.hpack.specs.Sought.{first_index}
 use Rattle.hpack.proofs.SearchLemmas.{first_index-drop, first_index-none}
 
 -- an entry, for places past the last one

@@ -1,23 +1,16 @@
 -- Prefixes of octets: no encoding begins another one, so a fault of a part is one of all the
 -- octets.
-use Rattle.std.proofs.Common.{◌≡◌, ℕ, ◌+◌, ◌-◌, ◌≤◌, inl, inr, List, ◌++◌, length, take, drop}
-use Rattle.std.proofs.Common.{Option, None, Some, Result, Ok, Err, refl, sym, ap, ◌∙◌, subst, arith}
-use Rattle.std.proofs.Common.{append_assoc, length-append, length-drop, take_at, take-add}
-use Rattle.std.proofs.Common.{take-append-drop}
+use Rattle.hpack.proofs.Names.{◌≡◌, ℕ, ◌+◌, ◌-◌, ◌≤◌, inl, inr, List, ◌++◌, length, take, drop}
+use Rattle.hpack.proofs.Names.{Option, None, Some, Result, Ok, Err, refl, sym, ap, ◌∙◌, subst}
+use Rattle.hpack.proofs.Names.{arith, append_assoc, length-append, length-drop, Int, Str}
+use Rattle.hpack.proofs.Names.{Int-unique, Str-unique, Entry, Fault, entry, LiteralName, NoPrefix}
+use Rattle.hpack.proofs.Names.{IsInt, IsStr, IsName, IsLiteral, IsIndex}
+use Rattle.std.proofs.Common.{take_at, take-add, take-append-drop}
 use Rattle.std.proofs.lemmas.List.{append_cancel_left, take_rest}
 use Rattle.hpack_text.specs.declared.fault.TextFault.{TextFault}
 use Rattle.hpack_text.specs.declared.fault.TextFault.TheVariants as text_faults
-use Rattle.hpack_text.specs.Integers.{Int}
-use Rattle.hpack_text.specs.Strings.{Str}
-use Rattle.hpack_text.proofs.IntegerLemmas.{Int-unique}
-use Rattle.hpack_text.proofs.StringLemmas.{Str-unique}
-use Rattle.hpack.specs.Entry.{Entry}
-use Rattle.hpack.specs.declared.types.fault.Fault.{Fault}
 use Rattle.hpack.specs.declared.types.fault.Fault.TheVariants as faults
-use Rattle.hpack.specs.Static.{entry}
-use Rattle.hpack.specs.Blocks.{LiteralName}
-use Rattle.hpack.specs.Prefixes.{NoPrefix, PrefixFault, fault_of_text, IsInt, IsStr, IsName}
-use Rattle.hpack.specs.Prefixes.{EncodesLiteral, IsLiteral, IsIndex}
+use Rattle.hpack.specs.Prefixes.{PrefixFault, fault_of_text, EncodesLiteral}
 use Rattle.hpack.proofs.LookupLemmas.{entry-zero}
 
 -- the octets after the first ones, as a slice of them
@@ -162,8 +155,7 @@ literal_no_name entries prefix_bits index octets head following joined int none 
     encoded.head_encoded int split in
     none encoded.name_octets _ (sym (same_following _ _ _ _ heads split)) (
       name,
-      subst (λ i. LiteralName entries i name encoded.name_octets) indices
-          encoded.name_encoded,
+      subst (λ i. LiteralName entries i name encoded.name_octets) indices encoded.name_encoded,
     )
 
 -- No value after the name, no literal.
@@ -229,12 +221,6 @@ literal_found entries prefix_bits index octets name value a b c first int second
       },
     )
 
--- No integer, no index.
-pub index_no_head : (entries : List Entry) (octets : List ℕ) → NoPrefix (IsInt 7) octets
-    → NoPrefix (IsIndex entries) octets
-index_no_head entries octets none =
-    λ prefix others e (name, value, encoded). none prefix others e (encoded.index, encoded.encoded)
-
 -- No entry, no index.
 pub index_no_entry : (entries : List Entry) (index : ℕ) (octets head following : List ℕ)
     → octets ≡ head ++ following → Int 7 index head → entry entries index ≡ None
@@ -254,13 +240,4 @@ name_no_str entries index octets zero_index none = λ prefix others e (name, nam
     elim named [
       | inl a ↦ none prefix others e (name, a.1)
       | inr a ↦ zero_names_none entries index _ zero_index a.1.1
-    ]
-
--- No entry, no name where the index isn't 0.
-pub name_no_entry : (entries : List Entry) (index : ℕ) (octets : List ℕ) → (index ≡ 0 → ⊥)
-    → entry entries index ≡ None → NoPrefix (IsName entries index) octets
-name_no_entry entries index octets not_zero no_entry = λ prefix others e (name, named).
-    elim named [
-      | inl a ↦ not_zero a.0
-      | inr a ↦ let some = a.1.1 in cc
     ]

@@ -1,5 +1,5 @@
 -- Results.
-use Rattle.std.proofs.Common.{◌≡◌, false, Result, Ok, Err, OnOk}
+use Rattle.hpack.proofs.Names.{◌≡◌, false, Result, Ok, Err, OnOk}
 use Rattle.std.specs.Result.{is_err}
 
 -- What holds of each `Ok` holds where there is no error.

@@ -1,13 +1,8 @@
 -- Rings of entries, the newest at the front.
-use Rattle.std.proofs.Common.{◌≡◌, ℕ, ◌+◌, ◌-◌, ◌/◌, ◌<◌, ◌≤◌, max, List, [], ◌∷◌, ◌++◌}
-use Rattle.std.proofs.Common.{length, take, get_or, Option, None, Some, sym, ap, ◌∙◌, arith}
-use Rattle.std.proofs.Common.{take_all, append_assoc, length-append, refl}
-use Rattle.std.specs.List.{slice_get}
-use Rattle.std.proofs.lemmas.List.{take_more}
-use Rattle.std.proofs.lemmas.Option.{slice_get_past, slice_get-get_or}
-use Rattle.circular_buffer.specs.Buffer.{Buffer, buffer}
-use Rattle.hpack.specs.Entry.{Entry}
-use Rattle.hpack.specs.Sizes.{table_size}
+use Rattle.hpack.proofs.Names.{◌≡◌, ℕ, ◌+◌, ◌-◌, ◌/◌, ◌<◌, ◌≤◌, max, List, [], ◌∷◌, ◌++◌, length}
+use Rattle.hpack.proofs.Names.{take, get_or, Option, None, Some, sym, ap, ◌∙◌, arith, take_all}
+use Rattle.hpack.proofs.Names.{append_assoc, length-append, refl, slice_get, take_more}
+use Rattle.hpack.proofs.Names.{slice_get_past, slice_get-get_or, Buffer, buffer, Entry, table_size}
 use Rattle.hpack.proofs.SizeLemmas.{entries_are_large}
 
 -- the last entry, and those before it
@@ -74,8 +69,7 @@ pub moved_oldest : (from to new_from new_to : Buffer Entry) (all : List Entry)
     → IsMoved from to new_from new_to all
 moved_oldest from to new_from new_to all popped oldest joined room value is taken put =
     let split = popped_oldest from new_from popped oldest value is taken in
-    let more : length from.items ≡ length new_from.items + 1 =
-    omega (
+    let more : length from.items ≡ length new_from.items + 1 = omega (
       arith,
       ap (λ (es : List Entry). length es) split,
       length-append new_from.items (oldest ∷ []),

@@ -1,22 +1,14 @@
 -- How many octets a block has at most.
-use Rattle.std.proofs.Common.{◌≡◌, ℕ, zero, suc, ◌+◌, ◌-◌, ◌*◌, ◌%◌, ◌/◌, ◌≤◌, ◌==◌, nat_lt, nat_le}
-use Rattle.std.proofs.Common.{if◌then◌else◌, Bool, true, false, List, [], ◌∷◌, ◌++◌, length, refl}
-use Rattle.std.proofs.Common.{arith, length-append}
-use Rattle.std.specs.List.{flat_map, sum_by}
-use Rattle.std.proofs.lemmas.Bool.{leb-true}
-use Rattle.std.proofs.lemmas.List.Sums.{sum_by-cons}
+use Rattle.hpack.proofs.Names.{◌≡◌, ℕ, zero, suc, ◌+◌, ◌-◌, ◌*◌, ◌%◌, ◌/◌, ◌≤◌, ◌==◌, nat_lt}
+use Rattle.hpack.proofs.Names.{if◌then◌else◌, Bool, true, false, List, [], ◌∷◌, ◌++◌, length, refl}
+use Rattle.hpack.proofs.Names.{arith, length-append, flat_map, sum_by, leb-true, sum_by-cons}
+use Rattle.hpack.proofs.Names.{all_ones, continuation_of, integer, string, Field, Literal}
+use Rattle.hpack.proofs.Names.{WithIndexing, WithoutIndexing, NeverIndexed, Entries, EncoderState}
+use Rattle.hpack.proofs.Names.{list_size, Choice, indexed, literal, choice, literal_head}
+use Rattle.hpack.proofs.Names.{encoding_of_field, encoding_of_fields, after_choice, size_updates}
+use Rattle.hpack.proofs.Names.{after_updates, block_of, most_octets}
+use Rattle.std.proofs.Common.{nat_le}
 use Rattle.hpack_text.specs.Huffman.{huffman_bits}
-use Rattle.hpack_text.specs.Integers.{all_ones, continuation_of, integer}
-use Rattle.hpack_text.specs.Strings.{string}
-use Rattle.hpack.specs.declared.types.field.Field.{Field}
-use Rattle.hpack.specs.declared.types.literal.Literal.{Literal}
-use Rattle.hpack.specs.declared.types.literal.Literal.TheVariants.{WithIndexing}
-use Rattle.hpack.specs.declared.types.literal.Literal.TheVariants.{WithoutIndexing, NeverIndexed}
-use Rattle.hpack.specs.Tables.{Entries}
-use Rattle.hpack.specs.Lists.{EncoderState, list_size}
-use Rattle.hpack.specs.Choice.{Choice, indexed, literal, choice, literal_head, encoding_of_field}
-use Rattle.hpack.specs.Choice.{encoding_of_fields, after_choice, size_updates, after_updates}
-use Rattle.hpack.specs.Choice.{block_of, most_octets}
 
 -- Both of two lists are short enough.
 if_short : (b : Bool) (xs ys : List ℕ) (most : ℕ) → length xs ≤ most → length ys ≤ most

@@ -1,18 +1,11 @@
 -- The first entry that is looked for.
-use Rattle.std.proofs.Common.{◌≡◌, inl, inr, ℕ, suc, ◌+◌, ◌<◌, ◌≤◌, ◌==◌, ◌&&◌}
-use Rattle.std.proofs.Common.{nat_eq, if◌then◌else◌, not, nat_lt, Bool, true, false, List, [], ◌∷◌}
-use Rattle.std.proofs.Common.{◌++◌, length, get_or, drop, Option, Some, None, position, refl, sym}
-use Rattle.std.proofs.Common.{ap, ◌∙◌, arith}
-use Rattle.std.specs.Option.{option_map_or}
-use Rattle.std.specs.List.{prefix_len}
+use Rattle.hpack.proofs.Names.{◌≡◌, inl, inr, ℕ, suc, ◌+◌, ◌<◌, ◌≤◌, ◌==◌, ◌&&◌, nat_eq}
+use Rattle.hpack.proofs.Names.{if◌then◌else◌, not, nat_lt, Bool, true, false, List, [], ◌∷◌, ◌++◌}
+use Rattle.hpack.proofs.Names.{length, get_or, drop, Option, Some, None, position, refl, sym, ap}
+use Rattle.hpack.proofs.Names.{◌∙◌, arith, option_map_or, prefix_len, cases_lt, ne_eqb, lt-ltb}
+use Rattle.hpack.proofs.Names.{le-ltb, drop_more, drop_of_length-le, Entry, static_entries}
+use Rattle.hpack.proofs.Names.{same_octets, least_index, first_index}
 use Rattle.std.specs.Cmp.Lexicographic.{pointwise}
-use Rattle.std.proofs.lemmas.Bool.{cases_lt, ne_eqb, lt-ltb, le-ltb}
-use Rattle.std.proofs.lemmas.List.{drop_more}
-use Rattle.std.proofs.Math.ListN.{drop_of_length-le}
-use Rattle.hpack.specs.Entry.{Entry}
-use Rattle.hpack.specs.Static.{static_entries}
-use Rattle.hpack.specs.Choice.{same_octets, least_index}
-use Rattle.hpack.specs.Sought.{first_index}
 
 -- Two lists are the same octets just where they are so octet by octet.
 pub same_octets-pointwise : (xs ys : List ℕ) → pointwise nat_eq xs ys ≡ same_octets xs ys

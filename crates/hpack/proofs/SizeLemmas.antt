@@ -1,12 +1,9 @@
 -- The size of entries, and what of a table fits.
-use Rattle.std.proofs.Common.{◌≡◌, ℕ, ◌+◌, ◌-◌, ◌*◌, ◌/◌, ◌^◌, ◌<◌, ◌≤◌, if◌then◌else◌, min, inl}
-use Rattle.std.proofs.Common.{inr, Bool, List, [], ◌∷◌, ◌++◌, length, refl, sym, ap, ◌∙◌}
-use Rattle.std.proofs.Common.{arith, le-leb}
-use Rattle.std.proofs.lemmas.Bool.{cases_lt, lt-leb}
-use Rattle.std.proofs.lemmas.List.Sums.{sum_by-cons, sum_by_push}
-use Rattle.hpack.specs.Entry.{Entry}
-use Rattle.hpack.specs.Tables.{Entries, resized}
-use Rattle.hpack.specs.Sizes.{entry_size, table_size, fit, add}
+use Rattle.hpack.proofs.Names.{◌≡◌, ℕ, ◌+◌, ◌-◌, ◌*◌, ◌/◌, ◌^◌, ◌<◌, ◌≤◌, if◌then◌else◌, min, inl}
+use Rattle.hpack.proofs.Names.{inr, Bool, List, [], ◌∷◌, ◌++◌, length, refl, sym, ap, ◌∙◌, arith}
+use Rattle.hpack.proofs.Names.{cases_lt, lt-leb, sum_by-cons, sum_by_push, Entry, Entries, resized}
+use Rattle.hpack.proofs.Names.{entry_size, table_size, fit, add}
+use Rattle.std.proofs.Common.{le-leb}
 
 -- the size of a table with one more entry at the beginning
 pub table_size-cons : (entry : Entry) (entries : List Entry)
@@ -101,16 +98,8 @@ pub added : (entries new fitting : List Entry) (entry : Entry) (maximum : ℕ)
     → entry_size entry ≤ maximum → fitting ≡ fit entries (maximum - entry_size entry)
     → new ≡ entry ∷ fitting → table_of new maximum ≡ table_of (add entries entry maximum) maximum
 added entries new fitting entry maximum small rest e =
-    ap (λ (xs : List Entry). table_of xs maximum)
-    (e ∙ (ap (λ (xs : List Entry). entry ∷ xs) rest
+    ap (λ (xs : List Entry). table_of xs maximum) (e ∙ (ap (λ (xs : List Entry). entry ∷ xs) rest
     ∙ sym (fit-first entry entries maximum small)))
-
--- An entry that doesn't fit leaves nothing.
-pub added_none : (entries new : List Entry) (entry : Entry) (maximum : ℕ)
-    → maximum < entry_size entry → new ≡ []
-    → table_of new maximum ≡ table_of (add entries entry maximum) maximum
-added_none entries new entry maximum large e =
-    ap (λ (xs : List Entry). table_of xs maximum) (e ∙ sym (fit-none entry entries maximum large))
 
 -- What fits is a prefix.
 pub fit-prefix : (entries : List Entry) (bound : ℕ)

@@ -1,18 +1,9 @@
 -- An encoder, between blocks.
-use Rattle.std.proofs.Common.{◌≡◌, ℕ, ◌+◌, ◌^◌, ◌<◌, ◌≤◌, List, ◌∷◌, length, take, drop, get_or, ap}
-use Rattle.std.proofs.Common.{sym, subst, ◌∙◌, arith}
-use Rattle.std.proofs.lemmas.List.{drop_more}
-use Rattle.std.proofs.Math.ListN.{drop_of_length-le}
-use Rattle.std.specs.List.{AllByRecursion}
-use Rattle.hpack_text.specs.Bits.{IsOctet}
-use Rattle.hpack.specs.declared.types.field.Field.{Field}
-use Rattle.hpack.specs.Written.{AreOctets}
-use Rattle.hpack.specs.declared.encode.pending_table.PendingTable.{PendingTable}
-use Rattle.hpack.specs.Sizes.{table_size}
-use Rattle.hpack.specs.Tables.{Entries}
-use Rattle.hpack.specs.PendingTable.{newest_first, represented, IsPendingTable}
-use Rattle.hpack.specs.Lists.{EncoderState}
-use Rattle.hpack.specs.Written.{IsValidEncoder}
+use Rattle.hpack.proofs.Names.{◌≡◌, ℕ, ◌+◌, ◌^◌, ◌<◌, ◌≤◌, List, ◌∷◌, length, take, drop, get_or}
+use Rattle.hpack.proofs.Names.{ap, sym, subst, ◌∙◌, arith, drop_more, drop_of_length-le}
+use Rattle.hpack.proofs.Names.{AllByRecursion, IsOctet, Field, AreOctets, IsValidEncoder}
+use Rattle.hpack.proofs.Names.{PendingTable, table_size, Entries, newest_first, represented}
+use Rattle.hpack.proofs.Names.{IsPendingTable, EncoderState}
 
 -- A new pending table shows that the encoder's table is within its maximum.
 pub writing_of : (state : EncoderState) (pending : PendingTable)
@@ -29,8 +20,7 @@ writing_of state pending is same least limit =
       least = least;
       limit = limit;
       maximum = omega (arith, maximum, small);
-      within =
-          omega (arith, counted, entries, within, maximum);
+      within = omega (arith, counted, entries, within, maximum);
     }
 
 -- a field of octets
@@ -43,8 +33,7 @@ pub octets_step : (fields : List Field) (index : ℕ) (field : Field) → index 
     → IsOctetField field → (AreOctets (drop index fields) → AreOctets fields)
     → AreOctets (drop (index + 1) fields) → AreOctets fields
 octets_step fields index field lt is one so_far rest =
-    so_far
-    (subst AreOctets (sym (drop_more fields index field lt
+    so_far (subst AreOctets (sym (drop_more fields index field lt
     ∙ ap (λ (f : Field). f ∷ drop (index + 1) fields) (sym is))) (one, rest))
 
 -- All fields are.

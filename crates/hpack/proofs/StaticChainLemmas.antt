@@ -1,16 +1,11 @@
 -- Chains through the entries of the static table.
-use Rattle.std.proofs.Common.{◌≡◌, ◌≢◌, ℕ, zero, suc, ◌+◌, ◌<◌, ◌==◌, ◌&&◌, not, Bool, true, false}
-use Rattle.std.proofs.Common.{List, [], ◌∷◌, length, get_or, map, refl, sym, ap, ◌∙◌, arith}
-use Rattle.std.proofs.Common.{eqb-true}
-use Rattle.std.proofs.lemmas.Bool.{and_parts, eq-eqb}
-use Rattle.hpack.specs.Entry.{Entry}
+use Rattle.hpack.proofs.Names.{◌≡◌, ◌≢◌, ℕ, zero, suc, ◌+◌, ◌<◌, ◌==◌, ◌&&◌, not, Bool, true, false}
+use Rattle.hpack.proofs.Names.{List, [], ◌∷◌, length, get_or, refl, sym, ap, ◌∙◌, arith, and_parts}
+use Rattle.hpack.proofs.Names.{Entry, static_entries, mixed, hash_words, short_word, hash_from}
+use Rattle.hpack.proofs.Names.{bucket_of, Field, Sought, is_sought, LeadsTo, AreLinked, name_bucket}
+use Rattle.std.proofs.Common.{map, eqb-true}
+use Rattle.std.proofs.lemmas.Bool.{eq-eqb}
 use Rattle.hpack.specs.declared.encode.static_chains.TheConstants.{FIRST_PLACES, SKIPS}
-use Rattle.hpack.specs.Static.{static_entries}
-use Rattle.hpack.specs.Hashes.{mixed, hash_words, short_word, hash_from, bucket_of}
-use Rattle.hpack.specs.declared.types.field.Field.{Field}
-use Rattle.hpack.specs.declared.encode.search.Sought.{Sought}
-use Rattle.hpack.specs.Sought.{is_sought}
-use Rattle.hpack.specs.Chains.{LeadsTo, AreLinked, name_bucket}
 use Rattle.hpack.proofs.IndexLemmas.{sought_name}
 
 -- the buckets of the static table's names

@@ -1,21 +1,12 @@
 -- Fields: what the first octet says of one, that none begins another one, and what a fault says.
-use Rattle.std.proofs.Common.{◌≡◌, ℕ, ◌<◌, ◌≤◌, ◌⊎◌, inl, inr, Bool, false, List, [], ◌∷◌, ◌++◌}
-use Rattle.std.proofs.Common.{length, get_or, Option, Some, refl, sym, ap, ap₂, ◌∙◌, subst, arith}
-use Rattle.std.proofs.Common.{append_assoc, append-nil, length-append}
-use Rattle.hpack_text.specs.Integers.{Int}
-use Rattle.hpack_text.proofs.IntegerLemmas.{Int-unique}
-use Rattle.hpack_text.proofs.StringLemmas.{Str-unique}
-use Rattle.hpack.specs.Entry.{Entry}
-use Rattle.hpack.specs.declared.types.field.Field.{Field}
-use Rattle.hpack.specs.declared.types.literal.Literal.{Literal}
-use Rattle.hpack.specs.declared.types.literal.Literal.TheVariants.{WithIndexing, WithoutIndexing}
-use Rattle.hpack.specs.declared.types.literal.Literal.TheVariants.{NeverIndexed}
-use Rattle.hpack.specs.Static.{entry}
-use Rattle.hpack.specs.Tables.{Entries}
-use Rattle.hpack.specs.Blocks.{FirstOctet, LiteralHead, LiteralName, after_literal, is_sensitive}
-use Rattle.hpack.specs.Blocks.{Step, by_index, by_literal}
-use Rattle.hpack.specs.Prefixes.{NoPrefix, IsStep, EncodesLiteral, IsLiteral, EncodesIndex, IsIndex}
-use Rattle.hpack.specs.Prefixes.{prefix_bits_of, IsKind}
+use Rattle.hpack.proofs.Names.{◌≡◌, ℕ, ◌<◌, ◌≤◌, ◌⊎◌, inl, inr, Bool, false, List, [], ◌∷◌, ◌++◌}
+use Rattle.hpack.proofs.Names.{length, get_or, Option, Some, refl, sym, ap, ap₂, ◌∙◌, subst, arith}
+use Rattle.hpack.proofs.Names.{append_assoc, append-nil, length-append, Int, Int-unique, Str-unique}
+use Rattle.hpack.proofs.Names.{Entry, Field, Literal, WithIndexing, WithoutIndexing, NeverIndexed}
+use Rattle.hpack.proofs.Names.{entry, Entries, FirstOctet, LiteralHead, LiteralName, after_literal}
+use Rattle.hpack.proofs.Names.{is_sensitive, Step, by_index, by_literal, NoPrefix, IsStep}
+use Rattle.hpack.proofs.Names.{IsLiteral, IsIndex, prefix_bits_of}
+use Rattle.hpack.specs.Prefixes.{EncodesLiteral, EncodesIndex, IsKind}
 use Rattle.hpack.proofs.PrefixLemmas.{same_following, name_unique, literal_split}
 
 -- the first octet, or 0
@@ -89,8 +80,7 @@ step_reads : (table after : Entries) (octets prefix others : List ℕ) (field : 
     → ReadsIndex table (first_of octets) prefix field after
     ⊎ ReadsLiteral table (first_of octets) prefix field after
 step_reads table after octets prefix others field e
-    (by_index index encoded named sensitive table_after) =
-    inl (record {
+    (by_index index encoded named sensitive table_after) = inl (record {
       high = (prefix_first_octet 0x80 0x100 octets prefix others e encoded.0).0;
       encoded = record { index = index; encoded = encoded.1; named = named };
       sensitive = sensitive;
@@ -125,8 +115,7 @@ pub index_step : (table : Entries) (octets prefix others : List ℕ) (field : Fi
     → Step table prefix field table
 index_step table octets prefix others field e high below encoded sensitive =
     by_index encoded.index (
-      int_first 0x80 0x100 7 encoded.index octets prefix others e
-          encoded.encoded high below,
+      int_first 0x80 0x100 7 encoded.index octets prefix others e encoded.encoded high below,
       encoded.encoded,
     ) encoded.named sensitive refl
 
@@ -139,11 +128,9 @@ pub literal_step : (table after : Entries) (octets prefix others : List ℕ) (fi
     → Step table prefix field after
 literal_step table after octets prefix others field kind e is_kind encoded sensitive table_after =
     by_literal kind encoded.index encoded.head encoded.name_octets encoded.value_octets
-    encoded.joined
-    (kind_head kind encoded.index octets encoded.head
+    encoded.joined (kind_head kind encoded.index octets encoded.head
     (encoded.name_octets ++ (encoded.value_octets ++ others)) (e ∙ literal_split encoded others)
-    is_kind encoded.head_encoded) encoded.name_encoded encoded.value_encoded sensitive
-    table_after
+    is_kind encoded.head_encoded) encoded.name_encoded encoded.value_encoded sensitive table_after
 
 -- The first octet of a literal is below that of an index.
 kind_below : (kind : Literal) (first : ℕ) → IsKind kind first → first < 0x80
@@ -222,17 +209,6 @@ step_long table after prefix field
     (head_kind kind index head head [] (sym (append-nil head)) encoded).1 in
     omega (arith, long, ap (λ (xs : List ℕ). length xs) joined, length-append head (name ++ value))
 
--- Where there is no octet, there is no field.
-pub no_empty_step : (table : Entries) (octets : List ℕ) → length octets ≡ 0
-    → NoPrefix (IsStep table) octets
-no_empty_step table octets empty = λ prefix others e (field, after, step).
-    omega (
-      arith,
-      step_long table after prefix field step,
-      ap (λ (xs : List ℕ). length xs) e,
-      length-append prefix others,
-    )
-
 -- Octets begin with one literal at most, for so many bits of its prefix.
 literal_unique : (entries : List Entry) (prefix_bits : ℕ)
     (prefix other name value text others more rest : List ℕ)
@@ -281,31 +257,26 @@ same_field field other names values sensitive =
     let one : Field = record {
       name = field.name;
       value = field.value;
-      sensitive =
-          field.sensitive;
+      sensitive = field.sensitive;
     } in
     let two : Field = record {
       name = other.name;
       value = field.value;
-      sensitive =
-          field.sensitive;
+      sensitive = field.sensitive;
     } in
     let three : Field = record {
       name = other.name;
       value = other.value;
-      sensitive =
-          field.sensitive;
+      sensitive = field.sensitive;
     } in
     let first : one ≡ two = ap (λ (n : List ℕ). let f : Field =
     record { name = n; value = field.value; sensitive = field.sensitive } in f) names in
     let second : two ≡ three = ap (λ (v : List ℕ). let f : Field =
     record { name = other.name; value = v; sensitive = field.sensitive } in f) values in
-    let third : three ≡ other = ap
-    (λ (s : Bool). let f : Field = record {
+    let third : three ≡ other = ap (λ (s : Bool). let f : Field = record {
       name = other.name;
       value = other.value;
-      sensitive =
-          s;
+      sensitive = s;
     } in f) sensitive in
     first ∙ (second ∙ third)
 

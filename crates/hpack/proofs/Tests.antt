@@ -1,5 +1,5 @@
 -- Facts of tests, and of values that may be there, which the standard library lacks.
-use Rattle.std.proofs.Common.{◌≡◌, Bool, true, false, not, ◌&&◌, Option, None, Some, refl, sym, ap}
+use Rattle.hpack.proofs.Names.{◌≡◌, Bool, true, false, not, ◌&&◌, Option, None, Some, refl, sym, ap}
 use Rattle.std.specs.Option.{is_some}
 
 -- A value that isn't there is none.

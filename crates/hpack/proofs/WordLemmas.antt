@@ -1,14 +1,10 @@
 -- Octets that are compared by words.
-use Rattle.std.proofs.Common.{◌≡◌, ◌≢◌, ℕ, zero, suc, ◌+◌, ◌-◌, ◌<◌, ◌≤◌, ◌==◌, ◌&&◌, nat_eq, Bool}
-use Rattle.std.proofs.Common.{true, false}
-use Rattle.std.proofs.Common.{List, [], ◌∷◌, length, get_or, take, drop, refl, sym, ap, ◌∙◌}
-use Rattle.std.proofs.Common.{subst, arith, length-drop}
+use Rattle.hpack.proofs.Names.{◌≡◌, ◌≢◌, ℕ, zero, suc, ◌+◌, ◌-◌, ◌<◌, ◌≤◌, ◌==◌, ◌&&◌, nat_eq, Bool}
+use Rattle.hpack.proofs.Names.{true, false, List, [], ◌∷◌, length, get_or, take, drop, refl, sym}
+use Rattle.hpack.proofs.Names.{ap, ◌∙◌, subst, arith, length-drop, and_parts, ne_eqb, get_or-drop}
+use Rattle.hpack.proofs.Names.{length-take-le, drop-drop, le_bytes_8, same_octets, AreOctetsByPlace}
 use Rattle.std.specs.Int.{w64, from_le_bytes, to_le_bytes}
-use Rattle.std.proofs.lemmas.Bool.{and_parts, eq-eqb, ne_eqb}
-use Rattle.std.proofs.lemmas.List.{get_or-drop, length-take-le, drop-drop}
-use Rattle.std.proofs.lemmas.Nat.{le_bytes_8}
-use Rattle.hpack.specs.Choice.{same_octets}
-use Rattle.hpack.specs.Sought.{AreOctetsByPlace}
+use Rattle.std.proofs.lemmas.Bool.{eq-eqb}
 use Rattle.hpack.proofs.SearchLemmas.{fails}
 use Rattle.hpack.proofs.WrittenTables.{same_octets-true}
 
@@ -121,8 +117,7 @@ left_same all others left others_left is long short last =
     let place : length all - 8 + skip ≡ length all - length left = omega (arith, is.within) in
     let mine : left ≡ drop skip (drop (length all - 8) all) =
     is.from ∙ sym (drop-drop skip (length all - 8) all ∙ ap (λ (n : ℕ). drop n all) place) in
-    let theirs : others_left ≡ drop skip (drop (length all - 8) others) =
-    is.others_from
+    let theirs : others_left ≡ drop skip (drop (length all - 8) others) = is.others_from
     ∙ sym (drop-drop skip (length all - 8) others ∙ ap (λ (n : ℕ). drop n others) place) in
     let equal : left ≡ others_left =
     mine ∙ (ap (λ (os : List ℕ). drop skip os) last ∙ sym theirs) in

@@ -1,15 +1,8 @@
 -- A complete block that is written by a pending table.
-use Rattle.std.proofs.Common.{◌≡◌, ℕ, List, [], ◌++◌, sym, ap, ◌∙◌, append_assoc}
-use Rattle.std.specs.List.{flat_map}
-use Rattle.hpack_text.specs.Integers.{integer}
-use Rattle.hpack.specs.Entry.{Entry}
-use Rattle.hpack.specs.declared.types.field.Field.{Field}
-use Rattle.hpack.specs.declared.encode.pending_table.PendingTable.{PendingTable}
-use Rattle.hpack.specs.Tables.{Entries}
-use Rattle.hpack.specs.Lists.{EncoderState}
-use Rattle.hpack.specs.Choice.{encoding_of_fields, after_fields, size_updates, after_updates}
-use Rattle.hpack.specs.Choice.{block_of, after_block}
-use Rattle.hpack.specs.PendingTable.{represented, all_added, PreservesAdded}
+use Rattle.hpack.proofs.Names.{◌≡◌, ℕ, List, [], ◌++◌, sym, ap, ◌∙◌, append_assoc, flat_map}
+use Rattle.hpack.proofs.Names.{integer, Entry, Field, PendingTable, Entries, EncoderState}
+use Rattle.hpack.proofs.Names.{encoding_of_fields, after_fields, size_updates, after_updates}
+use Rattle.hpack.proofs.Names.{block_of, after_block, represented, all_added, PreservesAdded}
 
 -- A pending table was made of the encoder's, and the updates were applied to it.
 pub record IsBegun (state : EncoderState) (maxima : List ℕ) (begun updated : PendingTable) : Type 0
@@ -66,7 +59,6 @@ block_is_done state maxima begun updated ended fields between table is none same
     ∙ ap (λ (es : List Entry). all_added between es) none in
     let same : between ≡ represented updated state.table = updates
     ∙ (ap (λ (ns : List ℕ). after_updates state.table ns) is.due ∙ sym start) in
-    ap (λ (t : Entries). encoder_after state t)
-    (added
+    ap (λ (t : Entries). encoder_after state t) (added
     ∙ (preserves between (nothing ∙ same) ∙ (after
     ∙ ap (λ (t : Entries). after_fields t fields) start)))

@@ -1,18 +1,11 @@
 -- Blocks as they are written: the updates at the beginning, and the fields after them.
-use Rattle.std.proofs.Common.{◌≡◌, ℕ, ◌+◌, ◌^◌, ◌<◌, ◌≤◌, ◌==◌, nat_lt, if◌then◌else◌, Bool, true}
-use Rattle.std.proofs.Common.{false, List, [], ◌∷◌, ◌++◌, length, refl, sym, arith, append_assoc}
-use Rattle.std.specs.List.{AllByRecursion, flat_map}
-use Rattle.std.proofs.lemmas.Bool.{ltb-false, eqb-true}
-use Rattle.std.proofs.lemmas.List.Sums.{sum_by-cons}
-use Rattle.hpack_text.specs.Integers.{integer}
-use Rattle.hpack.specs.declared.types.field.Field.{Field}
-use Rattle.hpack.specs.Sizes.{table_size, fit}
-use Rattle.hpack.specs.Tables.{Entries, resized}
-use Rattle.hpack.specs.Blocks.{Fields, Updates, Block}
-use Rattle.hpack.specs.Lists.{EncoderState, list_size}
-use Rattle.hpack.specs.Choice.{choice, encoding_of_field, after_choice, encoding_of_fields}
-use Rattle.hpack.specs.Choice.{after_fields, size_updates, after_updates, block_of, after_block}
-use Rattle.hpack.specs.Written.{IsValidEncoder, AreOctets}
+use Rattle.hpack.proofs.Names.{◌≡◌, ℕ, ◌+◌, ◌^◌, ◌<◌, ◌≤◌, ◌==◌, nat_lt, if◌then◌else◌, Bool, true}
+use Rattle.hpack.proofs.Names.{false, List, [], ◌∷◌, ◌++◌, length, refl, sym, arith, append_assoc}
+use Rattle.hpack.proofs.Names.{AllByRecursion, flat_map, ltb-false, eqb-true, sum_by-cons, integer}
+use Rattle.hpack.proofs.Names.{Field, table_size, fit, Entries, resized, Fields, Updates, Block}
+use Rattle.hpack.proofs.Names.{EncoderState, list_size, choice, encoding_of_field, after_choice}
+use Rattle.hpack.proofs.Names.{encoding_of_fields, after_fields, size_updates, after_updates}
+use Rattle.hpack.proofs.Names.{block_of, after_block, IsValidEncoder, AreOctets}
 use Rattle.hpack.proofs.WrittenTables.{fit_within}
 use Rattle.hpack.proofs.WrittenFields.{IsTableOf, IsWritable, update_written, choice_encodes}
 use Rattle.hpack.proofs.WrittenFields.{choice_preserves}
@@ -30,13 +23,11 @@ fields_encode maximum table [] small is octets few = (refl, refl)
 fields_encode maximum table (field ∷ fields) small is (first, others) few =
     let sizes : list_size (field ∷ fields) ≡ field_size field + list_size fields =
     sum_by-cons field_size field fields in
-    let writable : IsWritable field =
-    record {
+    let writable : IsWritable field = record {
       name = first.0;
       value = first.1;
       short_name = omega (arith, sizes);
-      short_value =
-          omega (arith, sizes);
+      short_value = omega (arith, sizes);
     } in
     let chosen = choice table field in (
       encoding_of_field chosen field,
@@ -86,8 +77,7 @@ pub record AreUpdates (state : EncoderState) (maxima : List ℕ) : Type 0 where
 update_once : (state : EncoderState) → AreUpdates state (state.limit ∷ [])
 update_once state = record {
   below = (omega arith, tt);
-  table =
-      resized_preserves state.table state.limit;
+  table = resized_preserves state.table state.limit;
 }
 
 -- the updates that are written, by their tests
@@ -102,15 +92,12 @@ updates_fit_by state true true rose writing fell same is_rose =
     fit_within state.table.entries state.least in
     record {
       below = (writing.least, tt);
-      table =
-          record { same = sym one; within = omega (arith, preserved, one) };
+      table = record { same = sym one; within = omega (arith, preserved, one) };
     }
-updates_fit_by state true false rose writing fell same is_rose =
-    record {
-      below = (writing.least, (omega arith, tt));
-      table =
-          resized_preserves (resized state.table state.least) state.limit;
-    }
+updates_fit_by state true false rose writing fell same is_rose = record {
+  below = (writing.least, (omega arith, tt));
+  table = resized_preserves (resized state.table state.least) state.limit;
+}
 updates_fit_by state false alike true writing fell same is_rose = update_once state
 updates_fit_by state false alike false writing fell same is_rose =
     let least = ltb-false state.least state.table.maximum fell in
@@ -121,8 +108,7 @@ updates_fit_by state false alike false writing fell same is_rose =
       below = tt;
       table = record {
         same = omega (arith, least, most, below);
-        within =
-            omega (arith, least, below, within);
+        within = omega (arith, least, below, within);
       };
     }
 
@@ -175,6 +161,5 @@ block_goes_on state fields writing =
       least = omega arith;
       limit = limit;
       maximum = omega (arith, same, limit);
-      within =
-          omega (arith, same, within);
+      within = omega (arith, same, within);
     }

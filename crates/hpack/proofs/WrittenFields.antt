@@ -1,26 +1,17 @@
 -- One field as it is written: its octets encode it, and the table after it is within its maximum.
-use Rattle.std.proofs.Common.{◌≡◌, inl, inr, ℕ, zero, suc, ◌+◌, ◌^◌, ◌<◌, ◌≤◌, ◌==◌, ◌&&◌, nat_lt}
-use Rattle.std.proofs.Common.{if◌then◌else◌, Bool, true, false, List, [], ◌∷◌, length, Some, refl}
-use Rattle.std.proofs.Common.{sym, ap, ◌∙◌, subst, arith, pow_pos}
-use Rattle.std.specs.List.{AllByRecursion}
-use Rattle.std.proofs.lemmas.Bool.{cases_lt, ltb-true, ne_eqb, and_parts}
-use Rattle.hpack_text.specs.Bits.{IsOctet}
-use Rattle.hpack_text.specs.Integers.{all_ones, integer}
-use Rattle.hpack_text.specs.Strings.{string}
+use Rattle.hpack.proofs.Names.{◌≡◌, inl, inr, ℕ, zero, suc, ◌+◌, ◌^◌, ◌<◌, ◌≤◌, ◌==◌, ◌&&◌, nat_lt}
+use Rattle.hpack.proofs.Names.{if◌then◌else◌, Bool, true, false, List, [], ◌∷◌, length, Some, refl}
+use Rattle.hpack.proofs.Names.{sym, ap, ◌∙◌, subst, arith, AllByRecursion, cases_lt, ne_eqb}
+use Rattle.hpack.proofs.Names.{and_parts, IsOctet, all_ones, integer, string, string_encodes, Entry}
+use Rattle.hpack.proofs.Names.{Field, Literal, WithIndexing, WithoutIndexing, NeverIndexed}
+use Rattle.hpack.proofs.Names.{table_size, fit, entry, Entries, FirstOctet, Update, LiteralHead}
+use Rattle.hpack.proofs.Names.{LiteralName, after_literal, is_sensitive, Step, by_index, by_literal}
+use Rattle.hpack.proofs.Names.{same_octets, exact_index, name_index, Choice, indexed, literal}
+use Rattle.hpack.proofs.Names.{choice, literal_head, encoding_of_field, after_choice}
+use Rattle.std.proofs.Common.{pow_pos}
+use Rattle.std.proofs.lemmas.Bool.{ltb-true}
 use Rattle.hpack_text.proofs.IntegerWriting.{integer-short, integer-long, integer_encodes}
-use Rattle.hpack_text.proofs.StringLemmas.{string_encodes}
-use Rattle.hpack.specs.Entry.{Entry}
-use Rattle.hpack.specs.declared.types.field.Field.{Field}
-use Rattle.hpack.specs.declared.types.literal.Literal.{Literal}
-use Rattle.hpack.specs.declared.types.literal.Literal.TheVariants.{WithIndexing, WithoutIndexing}
-use Rattle.hpack.specs.declared.types.literal.Literal.TheVariants.{NeverIndexed}
-use Rattle.hpack.specs.Sizes.{table_size, fit}
-use Rattle.hpack.specs.Static.{entry}
-use Rattle.hpack.specs.Tables.{Entries}
-use Rattle.hpack.specs.Blocks.{FirstOctet, Indexed, Update, LiteralHead, LiteralName, after_literal}
-use Rattle.hpack.specs.Blocks.{is_sensitive, Step, by_index, by_literal}
-use Rattle.hpack.specs.Choice.{same_octets, exact_index, name_index, Choice, indexed, literal}
-use Rattle.hpack.specs.Choice.{choice, literal_head, encoding_of_field, after_choice}
+use Rattle.hpack.specs.Blocks.{Indexed}
 use Rattle.hpack.proofs.WrittenTables.{fit_within, same_octets-true, least_index_found}
 use Rattle.hpack.proofs.WrittenTables.{least_index_small}
 
@@ -49,8 +40,7 @@ indexed_written index small = (
 pub update_written : (maximum : ℕ) → maximum < 2 ^ 35 → Update maximum (integer 5 0x20 maximum)
 update_written maximum small = (
   first_octet 5 0x20 maximum,
-  integer_encodes 5 0x20 maximum (omega arith) (omega arith) refl
-      small,
+  integer_encodes 5 0x20 maximum (omega arith) (omega arith) refl small,
 )
 
 -- what is written for a literal's head
@@ -103,8 +93,7 @@ pub exact_index_names : (entries : List Entry) (field : Field) → 0 < exact_ind
     ≡ Some (record { name = field.name; value = field.value })
 unfolding entry_of
 exact_index_names entries field some =
-    let at =
-    least_index_found (λ one. same_octets one.name field.name
+    let at = least_index_found (λ one. same_octets one.name field.name
     && same_octets one.value field.value) entries some in
     let both = and_parts (same_octets at.found.name field.name)
     (same_octets at.found.value field.value) at.passes in
@@ -155,8 +144,7 @@ choice_encodes_by : (maximum : ℕ) (table : Entries) (field : Field) (sensitive
 choice_encodes_by maximum table field true exact large small is writable sensitive found =
     literal_encodes maximum table field NeverIndexed small is writable sensitive
 choice_encodes_by maximum table field false true large small is writable sensitive found =
-    by_index (exact_index table.entries field)
-    (indexed_written (exact_index table.entries field)
+    by_index (exact_index table.entries field) (indexed_written (exact_index table.entries field)
     (least_index_small _ table.entries maximum is.within small))
     (exact_index_names table.entries field (ltb-true 0 (exact_index table.entries field) found))
     sensitive refl
@@ -172,8 +160,7 @@ unfolding choice
 choice_encodes maximum table field small is writable =
     choice_encodes_by maximum table field field.sensitive
     (nat_lt 0 (exact_index table.entries field))
-    (nat_lt table.maximum (length field.name + length field.value + 32))
-    small is writable refl refl
+    (nat_lt table.maximum (length field.name + length field.value + 32)) small is writable refl refl
 
 -- After a literal the table is within its maximum.
 literal_preserves : (maximum : ℕ) (table : Entries) (kind : Literal) (one : Entry)

@@ -1,33 +1,12 @@
 -- Tables as they are written for: their sizes, and the entries that indices name.
-use Rattle.std.proofs.Common.{◌≡◌, inl, inr, ℕ, suc, ◌+◌, ◌-◌, ◌*◌, ◌^◌, ◌<◌, ◌≤◌, ◌==◌}
-use Rattle.std.proofs.Common.{if◌then◌else◌, Bool, true, List, [], ◌∷◌, ◌++◌, length, get_or}
-use Rattle.std.proofs.Common.{Option, Some, None, position, refl, sym, ap, subst, arith}
-use Rattle.std.proofs.Common.{length-append}
-use Rattle.std.specs.Option.{option_map_or}
-use Rattle.std.proofs.lemmas.Bool.{cases_lt, le-leb, lt-leb, eqb-true, and_parts}
-use Rattle.std.proofs.lemmas.List.Sums.{sum_by-cons}
+use Rattle.hpack.proofs.Names.{◌≡◌, inl, inr, ℕ, suc, ◌+◌, ◌-◌, ◌^◌, ◌<◌, ◌≤◌, ◌==◌}
+use Rattle.hpack.proofs.Names.{if◌then◌else◌, Bool, true, List, [], ◌∷◌, ◌++◌, length, get_or}
+use Rattle.hpack.proofs.Names.{Option, Some, None, position, refl, sym, ap, subst, arith}
+use Rattle.hpack.proofs.Names.{length-append, option_map_or, cases_lt, eqb-true}
+use Rattle.hpack.proofs.Names.{and_parts, sum_by-cons, slice_get-get_or, Entry, entry_size}
+use Rattle.hpack.proofs.Names.{table_size, fit, static_entries, entry, same_octets, least_index}
 use Rattle.std.proofs.lemmas.List.Quantifiers.{position-Some}
-use Rattle.std.proofs.lemmas.Option.{slice_get-get_or}
-use Rattle.hpack.specs.Entry.{Entry}
-use Rattle.hpack.specs.Sizes.{entry_size, table_size, fit}
-use Rattle.hpack.specs.Static.{static_entries, entry}
-use Rattle.hpack.specs.Choice.{same_octets, least_index}
-
--- what fits of entries whose first one does
-fit-fits : (one : Entry) (entries : List Entry) (bound : ℕ) → entry_size one ≤ bound
-    → fit (one ∷ entries) bound ≡ one ∷ fit entries (bound - entry_size one)
-unfolding fit
-fit-fits one entries bound le =
-    ap (λ (b : Bool). if b then one ∷ fit entries (bound - entry_size one) else [])
-    (le-leb (entry_size one) bound le)
-
--- Where the first entry doesn't fit, nothing does.
-fit-nothing : (one : Entry) (entries : List Entry) (bound : ℕ) → bound < entry_size one
-    → fit (one ∷ entries) bound ≡ []
-unfolding fit
-fit-nothing one entries bound lt =
-    ap (λ (b : Bool). if b then one ∷ fit entries (bound - entry_size one) else [])
-    (lt-leb (entry_size one) bound lt)
+use Rattle.hpack.proofs.SizeLemmas.{entries_are_large, fit-first, fit-none}
 
 -- What fits is within the bound.
 pub fit_within : (entries : List Entry) (bound : ℕ) → table_size (fit entries bound) ≤ bound
@@ -36,19 +15,14 @@ fit_within [] bound = omega arith
 fit_within (one ∷ entries) bound =
     elim (cases_lt bound (entry_size one)) [
       | inl larger ↦ subst (λ (left : List Entry). table_size left ≤ bound)
-          (sym (fit-nothing one entries bound larger)) (omega arith)
+          (sym (fit-none one entries bound larger)) (omega arith)
       | inr fits ↦
           let rest : table_size (fit entries (bound - entry_size one)) ≤ bound - entry_size one =
           fit_within entries (bound - entry_size one) in
           subst (λ (left : List Entry). table_size left ≤ bound)
-          (sym (fit-fits one entries bound fits))
+          (sym (fit-first one entries bound fits))
           (omega (arith, rest, sum_by-cons entry_size one (fit entries (bound - entry_size one))))
     ]
-
--- Each entry counts 32 at least.
-pub few_entries : (entries : List Entry) → 32 * length entries ≤ table_size entries
-few_entries [] = omega arith
-few_entries (one ∷ entries) = omega (arith, few_entries entries, sum_by-cons entry_size one entries)
 
 -- Octets that are the same by the test are equal.
 pub same_octets-true : (xs ys : List ℕ) → same_octets xs ys ≡ true → xs ≡ ys
@@ -118,4 +92,4 @@ least_index_within test entries =
 pub least_index_small : (test : Entry → Bool) (entries : List Entry) (maximum : ℕ)
     → table_size entries ≤ maximum → maximum < 2 ^ 32 → least_index test entries < 2 ^ 35
 least_index_small test entries maximum within small =
-    omega (arith, least_index_within test entries, few_entries entries)
+    omega (arith, least_index_within test entries, entries_are_large entries)

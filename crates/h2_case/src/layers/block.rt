@@ -1,14 +1,15 @@
 //! Field blocks in a stream of frames.
 //!
-//! - `take FRAME`: what a gatherer, new at the beginning of a case, makes of the frame: `pass` and
-//!   the frame; `more`; `block`, its stream, `end` where END_STREAM is set, and its octets; or the
-//!   fault with its code. While it is inside a block, a second line says how many octets it holds.
-//! - `take COUNT times FRAME`: the answer to the last of so many frames.
+//! - `take FRAME`: what a gatherer, new at the beginning of a case, returns for the frame: `pass`
+//!   and the frame; `more`; `block`, its stream, `end` where END_STREAM is set, and its octets; or
+//!   the fault with its code. While it is inside a block, a second line has the number of octets
+//!   that it holds.
+//! - `take COUNT times FRAME`: the answer to the last of `COUNT` frames.
 //! - `new`: the gatherer is a new one.
 //! - `spread STREAM [end] [most N] OCTETS`: the head of each frame over which a block is spread,
-//!   with `N` octets of payload at most, or 16,384, and which of the block's octets its payload is.
-//!   That what was written before stays as it is, and that the frames are gathered to the block
-//!   again, is seen to.
+//!   with `N` octets of payload at most, or 16,384, and which of the block's octets its payload
+//!   is. What was written before must be unchanged, and the frames must be gathered to the block
+//!   again.
 
 use crate::case::{Case, CaseError};
 use crate::driver::{Answer, Driver, answers};
@@ -22,7 +23,7 @@ use h2_block::{Gather, Gathered, spread};
 use h2_frame::{FrameRef, write};
 use std::alloc::Global;
 
-// What answers the commands.
+// The driver of these commands.
 #[derive(Drop)]
 struct Blocks {
     alloc: Global,
@@ -47,7 +48,7 @@ fn add_block(text: &mut Text, stream: u32, end: bool, octets: &[u8]) {
     add_last(text, octets);
 }
 
-// Adds what a frame comes to.
+// Adds the result of a frame.
 fn add_taken(gather: &mut Gather, text: &mut Text, frame: FrameRef<'_>) {
     match gather.take(frame) {
         Ok(Gathered::Pass(frame)) => {
@@ -69,7 +70,8 @@ fn add_taken(gather: &mut Gather, text: &mut Text, frame: FrameRef<'_>) {
     }
 }
 
-// Adds the answer to the last of so many frames, and how many octets the gatherer holds then.
+// Adds the answer to the last of `count` frames, and the number of octets that the gatherer holds
+// then.
 fn add_last_taken(gather: &mut Gather, text: &mut Text, count: u32, frame: FrameRef<'_>) {
     for _ in 1..count {
         let _ = gather.take(frame);
@@ -95,7 +97,7 @@ fn encoded(alloc: Global, words: &mut Words<'_>) -> Vec<u8> {
     octets
 }
 
-// Takes a frame, so many times.
+// Takes a frame, once or `N times`.
 fn take(blocks: &mut Blocks, words: &mut Words<'_>, text: &mut Text) {
     let count = words.times();
     let octets = encoded(blocks.alloc, words);
@@ -137,7 +139,7 @@ fn add_parts(text: &mut Text, octets: &[u8], block: &[u8]) {
     }
 }
 
-// Whether the last of the frames of octets comes to this block, by a gatherer.
+// Whether a gatherer completes this block with the last of the frames of octets.
 fn is_gathered(gather: &mut Gather, octets: &[u8], block: Block<'_>) -> bool {
     let mut others = octets;
     let mut is_last = false;

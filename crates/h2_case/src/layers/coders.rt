@@ -22,7 +22,7 @@ pub(crate) struct Coders {
 }
 
 impl Drop for Coders {
-    /// Drops each by a call, so that what drops it is proved once.
+    /// Each is dropped by a call, so that its drop is proved once.
     fn drop(self) {
         let Coders {
             alloc: _,
@@ -38,13 +38,13 @@ impl Drop for Coders {
     }
 }
 
-// Lets go of an encoder.
+// Drops the encoder.
 fn let_go_of_encoder(_encoder: Encoder) {}
 
-// Lets go of a decoder.
+// Drops the decoder.
 fn let_go(_decoder: Decoder) {}
 
-// Lets go of a list.
+// Drops the list.
 fn let_go_of_list(_list: FieldList) {}
 
 // Decodes a block.
@@ -208,7 +208,7 @@ impl Coders {
             && are_same_tables(self.encoder.table(), self.keeper.table())
     }
 
-    /// How many entries the encoder's table has.
+    /// The number of entries in the encoder's table.
     pub(crate) fn entries(&self) -> usize {
         self.encoder.table().len()
     }

@@ -23,7 +23,7 @@ use h2_spec_log::Role;
 use std::alloc::Global;
 use std::fmt::Display;
 
-// What answers the commands.
+// The driver of these commands.
 #[derive(Drop)]
 struct Flow {
     alloc: Global,

@@ -6,10 +6,10 @@
 //! - `kinds NUMBERS`: a line for each number of a kind: the kind, and the number again.
 //! - `codes NUMBERS`: a line for each number of a code: its name, or `none`.
 //! - `read OCTETS`: the frame that the octets are, whose payload may have 16,384 octets; or its
-//!   fault. That the frame has the kind, the stream and the length of its head is seen to.
-//! - `write FRAME`: the head and the payload of the frame's encoding; or why it is refused. That
-//!   what was written before stays as it is, that the encoding is read as the frame again, and that
-//!   the frame as it was read, whose payload is lent, has the same encoding, is seen to.
+//!   fault. The frame must have the kind, the stream and the length of its head.
+//! - `write FRAME`: the head and the payload of the frame's encoding; or why it is refused. What
+//!   was written before must be unchanged, the encoding must be read as the frame again, and the
+//!   frame as it was read, whose payload is lent, must have the same encoding.
 
 use crate::case::Case;
 use crate::driver::{Answer, Driver, answers};
@@ -26,7 +26,7 @@ use std::alloc::Global;
 /// The most octets of a payload that is read.
 const LIMIT: u32 = 16_384;
 
-// What answers the commands.
+// The driver of these commands.
 #[derive(Drop)]
 struct Frames {
     alloc: Global,

@@ -98,7 +98,7 @@ fn read_tagged<'a>(words: &mut Words<'a>, tag: &str) -> Option<&'a str> {
     found
 }
 
-// How much padding there is, where that is the next word.
+// The length of the padding, where that is the next word.
 fn read_pad(words: &mut Words<'_>) -> Option<u8> {
     match read_tagged(words, "pad:") {
         Some(pad) => Some(words.parse(pad)),
@@ -118,7 +118,7 @@ fn read_priority(alloc: Global, words: &mut Words<'_>) -> Option<[u8; 5]> {
     }
 }
 
-// All octets that are left, which have to be so many.
+// All octets that are left, which must be `N`.
 fn read_exactly<const N: usize>(alloc: Global, words: &mut Words<'_>) -> [u8; N] {
     let octets = read_octets(alloc, words);
     array_of(words, &octets)
@@ -158,7 +158,7 @@ fn add_word(text: &mut Text, is_said: bool, word: &str) {
     }
 }
 
-// Adds how much padding there is.
+// Adds the length of the padding.
 fn add_pad(text: &mut Text, pad: Option<u8>) {
     if let Some(pad) = pad {
         text.push_labeled(" pad:", pad);

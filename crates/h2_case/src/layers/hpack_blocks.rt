@@ -6,12 +6,12 @@
 //! - `decode OCTETS`, `decode within LIMIT OCTETS`: the fields of a block, a line each; `too
 //!   large`, where their list is above the limit; or the fault. One decoder makes a list, the other
 //!   fills one that is kept, which is empty where there is none; where they differ, that is said.
-//! - `encode FIELDS`: the octets of the fields' block. That what was written before stays as it is,
-//!   that the block is decoded to the fields, and that all have the same table then, is seen to.
-//! - `numbered COUNT`: the same of so many fields whose name and value are the numbers from 0 on,
-//!   two octets each: how many octets the block has, and how many entries the table.
-//! - `table`: how many entries the decoders' table has, their size and its maximum; and the line of
-//!   each, the newest first.
+//! - `encode FIELDS`: the octets of the fields' block. What was written before must be unchanged,
+//!   the block must be decoded to the fields, and all must have the same table then.
+//! - `numbered COUNT`: the same of `COUNT` fields whose name and value are the numbers from 0 on,
+//!   two octets each: the number of octets of the block, and of entries in the table.
+//! - `table`: the number of entries in the decoders' table, their size and its maximum; and the
+//!   line of each, the newest first.
 //! - `fill`: another decoder puts a field into the list that is kept, whose lines are the answer.
 //! - `clear`: the list that is kept is cleared.
 
@@ -81,7 +81,7 @@ fn encode(coders: &mut Coders, words: &mut Words<'_>, text: &mut Text) {
     add_block(coders, text, block, &fields);
 }
 
-// So many fields, each with a name and a value of its own.
+// `count` fields, each with a name and a value of its own.
 fn numbered_fields(alloc: Global, words: &mut Words<'_>, count: u16) -> Vec<Field> {
     let mut fields = Vec::new(alloc);
     for number in 0..count {
@@ -97,7 +97,7 @@ fn numbered_fields(alloc: Global, words: &mut Words<'_>, count: u16) -> Vec<Fiel
     fields
 }
 
-// Adds how many octets a list's block has, and how many entries the table.
+// Adds the number of octets of a list's block, and of entries in the table.
 fn add_counts(coders: &mut Coders, text: &mut Text, block: &[u8], fields: &[Field]) {
     let is_passed = is_passed(coders, block, fields);
     text.push_value(block.len());
@@ -108,7 +108,7 @@ fn add_counts(coders: &mut Coders, text: &mut Text, block: &[u8], fields: &[Fiel
     }
 }
 
-// Encodes so many fields.
+// Encodes the fields of `numbered COUNT`.
 fn encode_numbered(coders: &mut Coders, words: &mut Words<'_>, text: &mut Text) {
     let count = words.number();
     let fields = numbered_fields(coders.alloc, words, count);

@@ -61,8 +61,8 @@ fn add_entry(alloc: Global, text: &mut Text, table: &Table, place: usize) {
     add_field(alloc, text, field);
 }
 
-/// Adds how many entries a table has, their size and its maximum; and the line of each entry, the
-/// newest first.
+/// Adds the number of entries in a table, their size and its maximum; and the line of each entry,
+/// the newest first.
 pub(crate) fn add_table(alloc: Global, text: &mut Text, table: &Table) {
     text.push_labeled("entries ", table.len());
     text.push_labeled(", size ", table.size());

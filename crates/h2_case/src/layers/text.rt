@@ -1,17 +1,17 @@
 //! The texts of HPACK: integers, the Huffman code, and strings.
 //!
-//! - `integers PREFIX VALUES`: a line for each value: its octets, with this prefix. That they are
-//!   read again, whatever follows, is seen to.
+//! - `integers PREFIX VALUES`: a line for each value: its octets, with this prefix. They must be
+//!   read again, whatever follows.
 //! - `below PREFIX FIRST VALUE ..`: the octets of the values below these first bits, one after
 //!   another; the prefix is 4 or 7.
-//! - `read PREFIX OCTETS`: the integer with which the octets begin, and of how many it is; or the
-//!   fault.
-//! - `text TEXT`, which [`read_text`] reads: the text in the code, and as a string. That both are
-//!   read again, that the code's length is the one that is measured, and that its half octets lead
-//!   to the text and to padding, is seen to.
+//! - `read PREFIX OCTETS`: the integer with which the octets begin, and its length in octets; or
+//!   the fault.
+//! - `text TEXT`, which [`read_text`] reads: the text in the code, and as a string. Both must be
+//!   read again, the code's length must be the one that is measured, and its half octets must lead
+//!   to the text and to padding.
 //! - `huffman OCTETS`: the octets of the text in the code, or the fault.
-//! - `string OCTETS`: of how many octets the string is with which these begin, and its text; or the
-//!   fault. It is read alone, and after an octet that stays as it is.
+//! - `string OCTETS`: the length of the string with which these begin, in octets, and its text; or
+//!   the fault. It is read alone, and after an octet, which must not change.
 //! - `append OCTETS`: these octets, and then `302` as a string and `a` in the code.
 //! - `steps DIGITS`: the state to which half octets lead, where it is below 8, or `end`, where they
 //!   come to the end symbol; and the text.
@@ -33,7 +33,7 @@ use hpack_text::{
 };
 use std::alloc::Global;
 
-// What answers the commands.
+// The driver of these commands.
 #[derive(Drop)]
 struct Texts {
     alloc: Global,
@@ -146,8 +146,8 @@ fn add_huffman(alloc: Global, words: &mut Words<'_>, text: &mut Text) {
     }
 }
 
-// Adds of how many octets a string is, and its text; or the fault. It is read again after an octet,
-// which stays as it is.
+// Adds the length of a string in octets, and its text; or the fault. It is read again after an
+// octet, which must not change.
 fn add_found(
     alloc: Global,
     text: &mut Text,

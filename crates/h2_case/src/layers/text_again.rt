@@ -98,7 +98,7 @@ fn is_code_again(alloc: Global, text: &[u8]) -> bool {
     }
 }
 
-// Whether a string is read as its text, of so many octets.
+// Whether a string is read as its text, and has `count` octets.
 fn reads(alloc: Global, string: &[u8], text: &[u8], count: usize) -> bool {
     match read_string(alloc, string) {
         Ok((read, used)) => read.as_slice() == text && used == count,

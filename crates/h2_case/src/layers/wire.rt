@@ -2,10 +2,10 @@
 //!
 //! - `cut client LIMIT OCTETS`, `cut server LIMIT OCTETS`: a line for each frame of a stream from
 //!   that end, whose payloads may have `LIMIT` octets; `in the preface`, where the client's isn't
-//!   complete; how many octets are unparsed, and the place in the stream; and the fault with its
-//!   code, if there is one. The stream is cut whole, one octet a piece, and in two at each place; a
-//!   long one 1,000 octets a piece, and in two at the first and the last 12 places. Where the
-//!   answers differ, and where a fault isn't answered again, that is said.
+//!   complete; the number of unparsed octets, and the place in the stream; and the fault with its
+//!   code, if there is one. The stream is cut in one piece, one octet a piece, and in two at each
+//!   place; a long one 1,000 octets a piece, and in two at the first and the last 12 places. Where
+//!   the answers differ, and where a fault isn't returned again, that is said.
 //! - `cut server LIMIT then LIMIT after N OCTETS`, and so of a client: the limit is the second one
 //!   after `N` octets.
 
@@ -21,10 +21,10 @@ use std::alloc::Global;
 /// A stream of more octets than this is long.
 const LONG: usize = 512;
 
-/// At how many places from its ends a long one is cut in two.
+/// The number of places at each of its ends where a long one is cut in two.
 const ENDS: usize = 12;
 
-// What answers the commands.
+// The driver of these commands.
 #[derive(Drop)]
 struct Streams {
     alloc: Global,
@@ -39,7 +39,7 @@ struct Stream<'a> {
     change: Option<Change>,
 }
 
-/// Another limit, which is set after so many octets.
+/// Another limit, which is set after `place` octets.
 #[derive(Clone, Copy)]
 struct Change {
     limit: u32,
@@ -94,7 +94,7 @@ fn feed_part(
     feed(cutter, text, between(stream, change.place, end))
 }
 
-// Whether a fault is answered again, whatever follows, and the place stays.
+// Whether a fault is returned again, whatever follows, and the place stays.
 fn is_again(cutter: &mut Cutter, fault: WireFault) -> bool {
     let place = cutter.place();
     cutter.cut(b"\x00").err() == Some(fault)
@@ -120,7 +120,7 @@ fn add_end(cutter: &mut Cutter, text: &mut Text, fault: Option<WireFault>) {
     }
 }
 
-// What a stream comes to, cut in two at a place.
+// The result of a stream that is cut in two at a place.
 fn in_two(alloc: Global, stream: Stream<'_>, at: usize) -> Text {
     let mut text = Text::new(alloc);
     let mut cutter = Cutter::new(alloc, stream.limit, stream.client);
@@ -134,7 +134,7 @@ fn in_two(alloc: Global, stream: Stream<'_>, at: usize) -> Text {
     text
 }
 
-// What it comes to, in pieces of so many octets.
+// The result of a stream in pieces of at most `most` octets.
 fn in_pieces(alloc: Global, stream: Stream<'_>, most: usize) -> Text {
     let mut text = Text::new(alloc);
     let mut cutter = Cutter::new(alloc, stream.limit, stream.client);
@@ -153,7 +153,7 @@ fn in_pieces(alloc: Global, stream: Stream<'_>, most: usize) -> Text {
     text
 }
 
-// Whether it comes to the same, cut in two at a place.
+// Whether the result is the same where the stream is cut in two at a place.
 fn is_same_in_two(alloc: Global, stream: Stream<'_>, at: usize, whole: &str) -> bool {
     in_two(alloc, stream, at).as_str() == whole
 }
@@ -163,7 +163,7 @@ fn is_cut_at(at: usize, len: usize) -> bool {
     len <= LONG || at < ENDS || len.saturating_sub(at) < ENDS
 }
 
-// Adds where a stream comes to something else in pieces.
+// Adds where the result of a stream differs in pieces.
 fn add_differences(alloc: Global, text: &mut Text, stream: Stream<'_>, whole: &str) {
     let len = stream.octets.len();
     let most = if len <= LONG { 1 } else { 1_000 };
@@ -190,7 +190,7 @@ fn read_change(words: &mut Words<'_>) -> Option<Change> {
     })
 }
 
-// Adds what a stream comes to, and where it comes to something else in pieces.
+// Adds the result of a stream, and where it differs in pieces.
 fn add_cut(alloc: Global, words: &mut Words<'_>, text: &mut Text) {
     let client = words.has("client");
     if !client {

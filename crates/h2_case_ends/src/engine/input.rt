@@ -1,4 +1,4 @@
-//! What a peer sends.
+//! The octets that a peer sends.
 
 use h2_case::case::CaseError;
 use h2_case::octets::read_octets;
@@ -29,15 +29,15 @@ fn add_frame(octets: &mut Vec<u8>, id: u32, piece: &[u8], end: bool, words: &mut
     extend(octets, piece, words);
 }
 
-/// Adds a body in the longest frames of DATA: the next words are its stream, and how many octets it
-/// has.
+/// Adds a body in the longest frames of DATA: the next words are its stream, and its number of
+/// octets.
 pub(crate) fn add_data(alloc: Global, octets: &mut Vec<u8>, end: bool, words: &mut Words<'_>) {
     let id = words.number();
     let body = counted(alloc, words.number(), words);
     add_body(octets, id, &body, end, words);
 }
 
-// Octets that count on, so many.
+// `count` octets that count up.
 fn counted(alloc: Global, count: u32, words: &mut Words<'_>) -> Vec<u8> {
     let mut octets = Vec::new(alloc);
     for place in 0..count {
@@ -63,7 +63,7 @@ fn add_body(octets: &mut Vec<u8>, id: u32, body: &[u8], end: bool, words: &mut W
     }
 }
 
-/// Adds whole requests with `:path` in place of `:scheme`.
+/// Adds complete requests with `:path` in place of `:scheme`.
 pub(crate) fn add_malformed(octets: &mut Vec<u8>, words: &mut Words<'_>) {
     let count: u32 = words.number();
     for place in 0..count {

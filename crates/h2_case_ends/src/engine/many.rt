@@ -20,7 +20,7 @@ use std::alloc::Global;
 struct Response {
     head: Text,
     body: Vec<u8>,
-    /// Whether it is whole.
+    /// Whether it is complete.
     ended: bool,
 }
 
@@ -29,7 +29,7 @@ struct Response {
 struct Heard {
     alloc: Global,
     responses: Vec<Response>,
-    /// Whether all that has come is to come.
+    /// Whether all that has come is as expected.
     is_good: bool,
     is_refused: bool,
 }
@@ -63,8 +63,8 @@ impl Heard {
         }
     }
 
-    // Keeps what is handed out, if something is; whether it is.
-    fn keep(&mut self, handed: Option<EndEvent<'_>>) -> bool {
+    // Keeps what is handed out, if something is; returns whether it is.
+    fn keep(&mut self, handed: Option<EndEvent<&FieldList, &[u8]>>) -> bool {
         match handed {
             Some(EndEvent::Head { id, list, end }) => self.keep_head(id, list, end),
             Some(EndEvent::Body { id, bytes, end }) => self.keep_body(id, bytes, end),
@@ -129,7 +129,7 @@ fn ask(alloc: Global, client: &mut Side, place: u32, words: &mut Words<'_>) {
     }
 }
 
-// What a client has written that makes so many requests.
+// The octets that a client writes to make `count` requests.
 fn asked(alloc: Global, client: &mut Side, count: u32, words: &mut Words<'_>) -> Vec<u8> {
     let mut out = Vec::new(alloc);
     for place in 0..count {
@@ -144,7 +144,7 @@ fn asked(alloc: Global, client: &mut Side, count: u32, words: &mut Words<'_>) ->
     out
 }
 
-// Adds what a server answers that is asked so much, and what the client hands out then.
+// Adds what a server answers to these requests, and what the client hands out then.
 fn add_exchange(
     alloc: Global,
     client: &mut Side,
@@ -167,7 +167,7 @@ fn add_exchange(
     heard.add_to(words, text);
 }
 
-// What comes of so many requests, with a server whose link has these calls.
+// The result of `count` requests, with a server whose link has these calls.
 fn exchanged(alloc: Global, count: u32, calls: Calls, words: &mut Words<'_>) -> Text {
     let mut text = Text::new(alloc);
     match Side::new(alloc, Role::Client, Config::default()) {
@@ -177,8 +177,8 @@ fn exchanged(alloc: Global, count: u32, calls: Calls, words: &mut Words<'_>) -> 
     text
 }
 
-/// Adds what comes of so many requests, of a server with a link that reads and writes all, and with
-/// one that reads and writes little.
+/// Adds the result of a number of requests, with a server whose link reads and writes all, and
+/// with one whose link reads and writes little.
 pub(crate) fn add_many(alloc: Global, words: &mut Words<'_>, text: &mut Text) {
     let count = words.number();
     let lines = exchanged(alloc, count, WHOLE, words);

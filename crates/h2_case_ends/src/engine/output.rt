@@ -1,4 +1,4 @@
-//! What an engine has written.
+//! The octets that an engine has written.
 
 use h2_case::octets::{add_frames, add_hex, add_octets, split_frame};
 use h2_case::text::Text;
@@ -23,7 +23,7 @@ fn stream_of(head: &[u8; 9]) -> u32 {
     u32::from_be_bytes([a, b, c, d])
 }
 
-// Adds the octets of the frames of a type; how many there are.
+// Adds the octets of the frames of a type; returns the number of frames.
 fn add_frames_of(found: &mut Vec<u8>, frames: &[u8], kind: u8, words: &mut Words<'_>) -> u64 {
     let mut count = 0u64;
     let mut unread = frames;
@@ -61,7 +61,7 @@ fn add_payloads(body: &mut Vec<u8>, frames: &[u8], id: u32, words: &mut Words<'_
     }
 }
 
-// Adds the line of a body: what precedes its first zero, and then the others, which may count on.
+// Adds the line of a body: what precedes its first zero, and then the others, which may count up.
 fn add_body(text: &mut Text, body: &[u8]) {
     let place = body.iter().position(|octet| *octet == 0).unwrap_or(0);
     let (first, others) = body.split_at(place.min(body.len()));
@@ -89,7 +89,7 @@ fn add_type(alloc: Global, output: &[u8], words: &mut Words<'_>, text: &mut Text
     add_frames(text, &frames);
 }
 
-// Adds how many frames of a type there are.
+// Adds the number of frames of a type.
 fn add_count(alloc: Global, output: &[u8], words: &mut Words<'_>, text: &mut Text) {
     let kind = words.number();
     let mut frames = Vec::new(alloc);
@@ -97,7 +97,7 @@ fn add_count(alloc: Global, output: &[u8], words: &mut Words<'_>, text: &mut Tex
     add_value(text, count);
 }
 
-/// Does a command about an output.
+/// Runs a command about an output.
 pub(crate) fn show(
     alloc: Global,
     output: &[u8],

@@ -19,11 +19,11 @@ pub(crate) enum Engine {
 /// How a link reads and writes.
 #[derive(Clone, Copy)]
 pub(crate) struct Calls {
-    /// So many octets a read at most.
+    /// The most octets of a read.
     pub(crate) read: usize,
-    /// So many octets a write at most.
+    /// The most octets of a write.
     pub(crate) written: usize,
-    /// After so many calls one fails.
+    /// The number of calls after which one fails.
     pub(crate) fails_after: u64,
 }
 
@@ -51,23 +51,23 @@ pub(crate) const SINGLE: Calls = Calls {
     fails_after: NEVER,
 };
 
-/// What a case has.
+/// The state of a case.
 #[derive(Drop)]
 pub(crate) struct Setup {
     pub(crate) alloc: Global,
     pub(crate) config: Config,
-    /// The message that the client asks.
+    /// The request of the client.
     pub(crate) request: String,
-    /// What the peer sends.
+    /// The octets that the peer sends.
     pub(crate) input: Vec<u8>,
-    /// What was written last.
+    /// The octets that were written last.
     pub(crate) output: Vec<u8>,
 }
 
 /// How a run has ended.
 #[derive(Drop)]
 pub(crate) struct Run {
-    /// What was answered, and how many calls of the link have failed, if any.
+    /// What was answered, and the number of calls of the link that have failed, if any.
     pub(crate) answer: String,
     pub(crate) output: Vec<u8>,
 }
@@ -128,7 +128,7 @@ impl Setup {
         }
     }
 
-    /// The message that the client asks.
+    /// The request of the client.
     pub(crate) fn message(&self, words: &mut Words<'_>) -> Message {
         let mut given = Words::of(&self.request);
         let message = read_message(self.alloc, &mut given);

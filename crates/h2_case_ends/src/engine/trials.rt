@@ -20,8 +20,8 @@ fn add_other(
     }
 }
 
-/// Adds what the engine answers in whole pieces; where it answers something else in others, that
-/// too.
+/// Adds what the engine answers to all octets at once; where it answers something else in pieces,
+/// that too.
 pub(crate) fn add_alike(setup: &mut Setup, engine: Engine, words: &mut Words<'_>, text: &mut Text) {
     let run = setup.run(engine, WHOLE, words);
     text.push_str(&run.answer);
@@ -52,7 +52,7 @@ fn add_range(text: &mut Text, first: usize, last: usize, answer: &str) {
     }
 }
 
-// What the engine answers to so many first octets, and how many octets it writes.
+// The engine's answer to the first `count` octets, and the number of octets that it writes.
 fn answer_to(setup: &Setup, engine: Engine, count: usize, words: &mut Words<'_>) -> String {
     let input = setup.input.get(..count).unwrap_or(&setup.input);
     let run = setup.run_on(engine, input, WHOLE, words);
@@ -63,7 +63,8 @@ fn answer_to(setup: &Setup, engine: Engine, count: usize, words: &mut Words<'_>)
     answer
 }
 
-/// Adds what the engine answers to each number of first octets, and how many octets it writes.
+/// Adds what the engine answers to each number of first octets, and the number of octets that it
+/// writes.
 pub(crate) fn add_prefixes(setup: &Setup, engine: Engine, words: &mut Words<'_>, text: &mut Text) {
     let mut first = 0usize;
     let mut answer = answer_to(setup, engine, 0, words);
@@ -83,8 +84,9 @@ fn is_reported(run: &Run, output: &[u8]) -> bool {
     run.answer.as_str() == "N1 Device\nfailures 1\n" && output.starts_with(&run.output)
 }
 
-// Adds what comes of a failure after so many calls, if that ends the trial: how many calls a run
-// makes, since none has failed; or what was answered in place of the failure. Whether it ends.
+// Adds what comes of a failure after `count` calls, where that ends the trial: the number of calls
+// that a run makes, since none has failed; or what was answered in place of the failure. Returns
+// whether it ends.
 fn ends_trial(complete: &Run, run: &Run, count: u64, text: &mut Text) -> bool {
     if run.answer == complete.answer && run.output == complete.output {
         write!(text, "{count} calls\n");
@@ -97,7 +99,7 @@ fn ends_trial(complete: &Run, run: &Run, count: u64, text: &mut Text) -> bool {
     }
 }
 
-/// Adds how many calls of the link a run makes, each of which fails in turn.
+/// Adds the number of calls of the link that a run makes, each of which fails in turn.
 pub(crate) fn add_failing(
     setup: &Setup,
     engine: Engine,

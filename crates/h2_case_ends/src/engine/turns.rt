@@ -8,7 +8,7 @@ use h2_engines::{Fetched, Fetcher, LinkError, Responder};
 
 /// An engine that takes octets, and puts octets out.
 trait Turning {
-    /// Takes octets; whether the work is done.
+    /// Takes octets; returns whether the work is done.
     fn take_in(&mut self, piece: &[u8]) -> Result<bool, LinkError>;
 
     /// Puts out all octets.
@@ -44,7 +44,7 @@ impl Turning for Fetcher {
     }
 }
 
-// Hands a piece to an engine, and puts out all after that; whether the work is done.
+// Hands a piece to an engine, and puts out all after that; returns whether the work is done.
 fn turn<T: Turning>(engine: &mut T, piece: &[u8], output: &mut Vec<u8>) -> Result<bool, LinkError> {
     let taken = engine.take_in(piece);
     match engine.put_all(output) {
@@ -53,8 +53,8 @@ fn turn<T: Turning>(engine: &mut T, piece: &[u8], output: &mut Vec<u8>) -> Resul
     }
 }
 
-// Hands octets to an engine, so many at once, and puts out all after each time; whether the work is
-// done.
+// Hands octets to an engine, `most` at once, and puts out all after each time; returns whether the
+// work is done.
 fn run<T: Turning>(
     engine: &mut T,
     input: &[u8],
@@ -126,7 +126,7 @@ fn fetch_in_turns(setup: &mut Setup, most: usize, words: &mut Words<'_>, text: &
     }
 }
 
-/// Adds what the engine answers that takes so many octets at once.
+/// Adds what the engine answers when it takes at most `COUNT` octets at once.
 pub(crate) fn add_turns(setup: &mut Setup, engine: Engine, words: &mut Words<'_>, text: &mut Text) {
     let most = words.number();
     setup.output.clear();

@@ -1,8 +1,9 @@
 //! Two joined ends, and what their cases see of them.
 
 use super::acts::{add_acted, read_act, read_config, read_side};
-use super::events::{add_accepted, add_event};
+use super::events::add_accepted;
 use super::heard::is_whole;
+use crate::end_events::add_event;
 use h2_case::case::CaseError;
 use h2_case::octets::add_frames;
 use h2_case::text::Text;
@@ -22,7 +23,7 @@ pub(crate) struct Pair {
 }
 
 impl Drop for Pair {
-    /// Drops each part by a call, so that what drops it is proved once.
+    /// Each part is dropped by a call, so that its drop is proved once.
     fn drop(self) {
         let Pair {
             alloc: _alloc,
@@ -37,19 +38,19 @@ impl Drop for Pair {
     }
 }
 
-/// What is kept of an end.
+/// The state of an end.
 #[derive(Drop)]
 struct Kept {
     /// The octets of its output that were moved, and how many of them were delivered.
     moved: Vec<u8>,
     delivered: usize,
-    /// How many of its events were answered.
+    /// The number of its events that were added to an answer.
     read: usize,
-    /// What was last said to be seen of it.
+    /// What was last printed of it.
     seen: Option<Half>,
 }
 
-/// What is seen of an end.
+/// What a case sees of an end.
 #[derive(Clone, Copy, PartialEq, Eq)]
 struct Half {
     accepted: usize,
@@ -60,14 +61,14 @@ struct Half {
     failed: Option<Code>,
 }
 
-// Adds the line of what is seen of an end.
+// Adds the line of what a case sees of an end.
 fn add_half(name: &str, half: Half, text: &mut Text) {
     write!(text, "{name} {} {} ", half.accepted, half.handed);
     write!(text, "{} {} ", half.waiting, half.piped);
     add_option(text, half.room);
 }
 
-// What is kept of a new end.
+// The state of a new end.
 fn new_kept(alloc: Global) -> Kept {
     Kept {
         moved: Vec::new(alloc),
@@ -113,7 +114,7 @@ fn new_pair(alloc: Global, joined: Joined, most: usize) -> Pair {
     }
 }
 
-// Makes an act. What its contract says is not said of this, since no case needs it.
+// Makes an act. It has no contract, since no case needs one.
 fn make(joined: &mut Joined, act: &JointAct) -> Acted {
     joined.act(act)
 }
@@ -160,7 +161,7 @@ impl Pair {
         }
     }
 
-    // What is kept of an end.
+    // The state of an end.
     fn kept(&mut self, side: Side) -> &mut Kept {
         match side {
             Side::Client => &mut self.client,
@@ -168,7 +169,7 @@ impl Pair {
         }
     }
 
-    // What is seen of an end.
+    // What a case sees of an end.
     fn half(&self, side: Side) -> Half {
         let conn = self.conn(side);
         Half {
@@ -181,7 +182,7 @@ impl Pair {
         }
     }
 
-    // The first octets of an end's output, so many at most.
+    // The first octets of an end's queued output, at most `count`.
     fn first_waiting(&self, side: Side, count: usize, words: &mut Words<'_>) -> Vec<u8> {
         let mut octets = Vec::new(self.alloc);
         let (first, second) = self.conn(side).waiting_octets();
@@ -212,8 +213,8 @@ impl Pair {
         acted
     }
 
-    // Moves or delivers octets where so many are done already, at most so many at once; another act
-    // is made.
+    // Moves or delivers octets, of which `done` are done already, at most `self.most` at once;
+    // makes any other act.
     fn act_once(&mut self, act: &JointAct, done: usize, words: &mut Words<'_>) -> Acted {
         match act {
             JointAct::Move { from, count } => {
@@ -250,7 +251,7 @@ impl Pair {
         }
     }
 
-    // What is seen of both ends.
+    // What a case sees of both ends.
     fn halves(&self) -> (Half, Half) {
         (self.half(Side::Client), self.half(Side::Server))
     }
@@ -265,8 +266,8 @@ impl Pair {
         }
     }
 
-    // An end pumps, releases and moves all, and the other takes all; the first answer that is
-    // another one than it is to be.
+    // An end pumps, releases and moves all, and the other takes all; the first answer that is not
+    // the expected one.
     fn send_all(&mut self, from: Side, words: &mut Words<'_>) -> Option<Acted> {
         for step in 0..4 {
             match self.act(&sending_act(step, from), words) {
@@ -277,7 +278,7 @@ impl Pair {
         None
     }
 
-    // Both ends send all; the first answer that is another one than it is to be.
+    // Both ends send all; the first answer that is not the expected one.
     fn exchange(&mut self, words: &mut Words<'_>) -> Option<Acted> {
         match self.send_all(Side::Client, words) {
             None => self.send_all(Side::Server, words),
@@ -311,7 +312,7 @@ impl Pair {
         self.kept(side).read = all;
     }
 
-    // Adds the line of what is seen of an end, if that has changed.
+    // Adds the line of what a case sees of an end, if that has changed.
     fn add_changed_half(&mut self, name: &str, side: Side, text: &mut Text) {
         let half = self.half(side);
         let kept = self.kept(side);
@@ -360,7 +361,7 @@ impl Pair {
         }
     }
 
-    /// Does a command: an act, or another one.
+    /// Runs a command: an act, or another one.
     pub(crate) fn answer(&mut self, name: &str, words: &mut Words<'_>, text: &mut Text) {
         match read_act(self.alloc, name, words) {
             Some(act) => self.add_act(&act, words, text),
@@ -368,7 +369,7 @@ impl Pair {
         }
     }
 
-    // Does a command that is no act.
+    // Runs a command that is no act.
     fn show(&mut self, name: &str, words: &mut Words<'_>, text: &mut Text) {
         match name {
             "settle" => self.settle(words, text),
@@ -382,7 +383,7 @@ impl Pair {
         }
     }
 
-    // Does a command on one end.
+    // Runs a command on one end.
     fn show_side(&mut self, name: &str, side: Side, words: &mut Words<'_>, text: &mut Text) {
         match name {
             "waits" => add_value(text, self.conn(side).waiting()),

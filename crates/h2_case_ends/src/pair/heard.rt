@@ -1,13 +1,13 @@
 //! Whether what an end has handed out on a stream is a prefix of a message, or all of it.
 
-use h2_joined::{Accepted, Field, FieldRef, HandedEvents, JointEvent, KeptFields, Message};
+use h2_joined::{Accepted, EndEvent, Field, FieldRef, HandedEvents, KeptFields, Message};
 
-/// How much of a message was handed out.
+/// The part of a message that was handed out.
 #[derive(Clone, Copy)]
 struct Heard {
     /// Whether its head was.
     has_head: bool,
-    /// How many octets of its body were.
+    /// The number of octets of its body.
     count: usize,
     /// Whether its trailers were.
     has_trailers: bool,
@@ -46,12 +46,12 @@ fn are_same(list: KeptFields<'_>, other: &[Field]) -> bool {
 }
 
 /// The stream of whose message an event is a part.
-fn stream_of(event: JointEvent<'_>) -> Option<u32> {
+fn stream_of(event: EndEvent<KeptFields<'_>, &[u8]>) -> Option<u32> {
     match event {
-        JointEvent::Interim { id, .. }
-        | JointEvent::Head { id, .. }
-        | JointEvent::Body { id, .. }
-        | JointEvent::Trailers { id, .. } => Some(id),
+        EndEvent::Interim { id, .. }
+        | EndEvent::Head { id, .. }
+        | EndEvent::Body { id, .. }
+        | EndEvent::Trailers { id, .. } => Some(id),
         _ => None,
     }
 }
@@ -108,11 +108,11 @@ impl Heard {
     }
 
     // With a part of this message.
-    fn with(self, message: &Message, event: JointEvent<'_>) -> Heard {
+    fn with(self, message: &Message, event: EndEvent<KeptFields<'_>, &[u8]>) -> Heard {
         match event {
-            JointEvent::Head { list, end, .. } => self.with_head(message, list, end),
-            JointEvent::Body { bytes, end, .. } => self.with_body(message, bytes, end),
-            JointEvent::Trailers { list, .. } => self.with_trailers(message, list),
+            EndEvent::Head { list, end, .. } => self.with_head(message, list, end),
+            EndEvent::Body { bytes, end, .. } => self.with_body(message, bytes, end),
+            EndEvent::Trailers { list, .. } => self.with_trailers(message, list),
             _ => Heard {
                 fits: false,
                 ..self
@@ -135,7 +135,7 @@ impl Heard {
 }
 
 // The message with an event, if that is a part of it.
-fn hear(heard: Heard, event: JointEvent<'_>, accepted: &Accepted) -> Heard {
+fn hear(heard: Heard, event: EndEvent<KeptFields<'_>, &[u8]>, accepted: &Accepted) -> Heard {
     if stream_of(event) == Some(accepted.id) {
         return heard.with(&accepted.message, event);
     }
@@ -165,7 +165,7 @@ fn is_accepted(accepted: &[Accepted], id: u32) -> bool {
 }
 
 // Whether an event is no part of a message, or of one that was accepted.
-fn is_accepted_part(event: JointEvent<'_>, accepted: &[Accepted]) -> bool {
+fn is_accepted_part(event: EndEvent<KeptFields<'_>, &[u8]>, accepted: &[Accepted]) -> bool {
     match stream_of(event) {
         Some(id) => is_accepted(accepted, id),
         None => true,
@@ -184,7 +184,7 @@ fn are_accepted(events: HandedEvents<'_>, accepted: &[Accepted]) -> bool {
     true
 }
 
-/// Whether all of the message that was accepted for a stream was handed out there; nothing where
+/// Whether all of the message that was accepted for a stream was handed out there; `None` where
 /// what was handed out on some stream is no prefix of the message that was accepted for it.
 pub(crate) fn is_whole(events: HandedEvents<'_>, accepted: &[Accepted], id: u32) -> Option<bool> {
     let mut is_whole = false;

@@ -1,12 +1,11 @@
 -- A client that changes the limit of its table while a field block is under way: each block decodes
 -- with the limit that is in force at its place (RFC 9113, section 4.3.1; RFC 7541, section 4.2).
-use Rattle.h2_laws_pair.proofs.Names.{codes, empty_table, Settings, Item, alone, block, Open}
-use Rattle.h2_laws_pair.proofs.Names.{SendFields, ChangeSettings, PutOut, Done, FieldsEvent}
-use Rattle.h2_laws_pair.proofs.Names.{AckedEvent, acked, log_view, computing, octets}
-use Rattle.h2_laws_pair.proofs.Names.{acknowledgment, answered, default_values, get_block}
-use Rattle.h2_laws_pair.proofs.Names.{short_answer, short_request, lists_accepted, AreUnderWay}
-use Rattle.h2_laws_pair.proofs.Names.{HeaderTablesInStep, block_count, ◌≡◌, true, false, List, []}
-use Rattle.h2_laws_pair.proofs.Names.{◌∷◌, ◌++◌, refl, None, remembered_answer, tableless_values}
+use Rattle.h2_laws_pair.proofs.Names
+use Names.{codes, empty_table, Settings, Item, alone, block, Open, SendFields, ChangeSettings}
+use Names.{PutOut, Done, FieldsEvent, AckedEvent, acked, log_view, computing, octets}
+use Names.{acknowledgment, answered, default_values, get_block, short_answer, short_request}
+use Names.{lists_accepted, AreUnderWay, HeaderTablesInStep, block_count, ◌≡◌, true, false, List, []}
+use Names.{◌∷◌, ◌++◌, refl, None, remembered_answer, tableless_values}
 use Rattle.h2_laws_pair.proofs.examples.Steps.{Pair, new_pair}
 use Rattle.h2_laws_pair.proofs.examples.Moves.{client_call, server_call, to_client, to_server}
 use Rattle.h2_laws_pair.proofs.examples.Moves.{block_to_client, block_to_server, after_move}
@@ -142,44 +141,41 @@ tables = (refl, refl, refl, refl, refl, refl, refl, refl, refl, refl, refl)
 tables_while_both_are_under_way :
     HeaderTablesInStep both_answered.server.log both_answered.client.log way_of_both
 unfolding computing after_moves after_move lists_accepted block_count
-tables_while_both_are_under_way =
-    record {
-      read = [];
-      under_way = remembered_answer ∷ remembered_answer ∷ [];
-      accepted = refl;
-      count = refl;
-      decode = (
-        remembered_answer,
-        remembered_answer ∷ [],
-        remembering_table,
-        refl,
-        (remembered_answer, [], empty_table 4096, refl, (refl, refl), remembered_block),
-        forgetting_block,
-      );
-    }
+tables_while_both_are_under_way = record {
+  read = [];
+  under_way = remembered_answer ∷ remembered_answer ∷ [];
+  accepted = refl;
+  count = refl;
+  decode = (
+    remembered_answer,
+    remembered_answer ∷ [],
+    remembering_table,
+    refl,
+    (remembered_answer, [], empty_table 4096, refl, (refl, refl), remembered_block),
+    forgetting_block,
+  );
+}
 
 -- Once the first was read, the other one does.
 tables_while_one_is_under_way :
     HeaderTablesInStep one_delivered.server.log one_delivered.client.log way_of_one
 unfolding computing after_moves after_move lists_accepted block_count
-tables_while_one_is_under_way =
-    record {
-      read = remembered_answer ∷ [];
-      under_way = remembered_answer ∷ [];
-      accepted = refl;
-      count = refl;
-      decode = (remembered_answer, [], remembering_table, refl, (refl, refl), forgetting_block);
-    }
+tables_while_one_is_under_way = record {
+  read = remembered_answer ∷ [];
+  under_way = remembered_answer ∷ [];
+  accepted = refl;
+  count = refl;
+  decode = (remembered_answer, [], remembering_table, refl, (refl, refl), forgetting_block);
+}
 
 -- After the change back a block raises the table's maximum again.
 tables_after_the_change_back :
     HeaderTablesInStep ended_pair.server.log ended_pair.client.log way_of_end
 unfolding computing after_moves after_move lists_accepted block_count
-tables_after_the_change_back =
-    record {
-      read = remembered_answer ∷ remembered_answer ∷ [];
-      under_way = short_answer ∷ [];
-      accepted = refl;
-      count = refl;
-      decode = (short_answer, [], empty_table 0, refl, (refl, refl), growing_answer);
-    }
+tables_after_the_change_back = record {
+  read = remembered_answer ∷ remembered_answer ∷ [];
+  under_way = short_answer ∷ [];
+  accepted = refl;
+  count = refl;
+  decode = (short_answer, [], empty_table 0, refl, (refl, refl), growing_answer);
+}

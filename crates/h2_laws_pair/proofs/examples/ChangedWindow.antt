@@ -1,15 +1,14 @@
 -- A server that changes its initial window while a body is under way: the client's window becomes
 -- negative, and grows again by what is released (RFC 9113, section 6.9.2).
-use Rattle.h2_laws_pair.proofs.Names.{map, replicate, codes, empty_table, Data, Settings}
-use Rattle.h2_laws_pair.proofs.Names.{WindowUpdate, Open, SendData, Release, ChangeSettings, PutOut}
-use Rattle.h2_laws_pair.proofs.Names.{Count, Done, Refused, send_window, log_view, computing}
-use Rattle.h2_laws_pair.proofs.Names.{octets, answered, default_values, get_block, short_request}
-use Rattle.h2_laws_pair.proofs.Names.{sum_below, ◌≡◌, true, false, List, [], ◌∷◌, ◌++◌, None, pos}
-use Rattle.h2_laws_pair.proofs.Names.{refl}
 use Rattle.std.specs.Prelude.{negsuc}
 use Rattle.h2_spec_log.specs.Log.{recv_window}
 use Rattle.h2_spec_log.specs.declared.refusal.Refusal.TheVariants.{SettingsWait}
 use Rattle.h2_spec_log.proofs.examples.Words.{small_values}
+use Rattle.h2_laws_pair.proofs.Names
+use Names.{map, replicate, codes, empty_table, Data, Settings, WindowUpdate, Open, SendData}
+use Names.{Release, ChangeSettings, PutOut, Count, Done, Refused, send_window, log_view, computing}
+use Names.{octets, answered, default_values, get_block, short_request, sum_below, ◌≡◌, true, false}
+use Names.{List, [], ◌∷◌, ◌++◌, None, pos, refl}
 use Rattle.h2_laws_pair.proofs.examples.Steps.{Pair, new_pair}
 use Rattle.h2_laws_pair.proofs.examples.SmallPair.{client_opening, server_opening}
 use Rattle.h2_laws_pair.proofs.examples.Moves.{Move, client_call, server_call, to_client, to_server}

@@ -1,14 +1,13 @@
 -- A server that resets a stream whose DATA is under way: the DATA is dropped, its octets go back to
 -- the connection's window, and the other stream's body is heard whole (RFC 9113, sections 5.1,
 -- 5.4.2 and 6.9).
-use Rattle.h2_laws_pair.proofs.Names.{map, replicate, codes, empty_table, Data, Reset, Settings}
-use Rattle.h2_laws_pair.proofs.Names.{WindowUpdate, Open, SendData, ResetStream, Release, PutOut}
-use Rattle.h2_laws_pair.proofs.Names.{computing, octets, acknowledgment, default_values, get_block}
-use Rattle.h2_laws_pair.proofs.Names.{server_settings, short_request, sum_below, ◌≡◌, true, false}
-use Rattle.h2_laws_pair.proofs.Names.{List, [], ◌∷◌, ◌++◌, None, pos, refl, length, FieldsToken}
-use Rattle.h2_laws_pair.proofs.Names.{OctetToken, EndToken, tokens_sent, tokens_heard}
-use Rattle.h2_laws_pair.proofs.Names.{tokens_of_call, tokens_of_event, end_tokens}
 use Rattle.h2_spec_log.proofs.examples.Words.{reset_frame}
+use Rattle.h2_laws_pair.proofs.Names
+use Names.{map, replicate, codes, empty_table, Data, Reset, Settings, WindowUpdate, Open, SendData}
+use Names.{ResetStream, Release, PutOut, computing, octets, acknowledgment, default_values}
+use Names.{get_block, server_settings, short_request, sum_below, ◌≡◌, true, false, List, [], ◌∷◌}
+use Names.{◌++◌, None, pos, refl, length, FieldsToken, OctetToken, EndToken, tokens_sent}
+use Names.{tokens_heard, tokens_of_call, tokens_of_event, end_tokens}
 use Rattle.h2_laws_pair.proofs.examples.Steps.{Pair, new_pair}
 use Rattle.h2_laws_pair.proofs.examples.SmallPair.{client_opening, server_opening}
 use Rattle.h2_laws_pair.proofs.examples.Moves.{Move, client_call, server_call, to_client, to_server}

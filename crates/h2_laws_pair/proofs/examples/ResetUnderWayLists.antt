@@ -1,11 +1,10 @@
 -- What is under way as a stream is reset, what is conserved meanwhile, and that the pair is quiet
 -- at the end.
-use Rattle.h2_laws_pair.proofs.Names.{◌≡◌, ℕ, ◌+◌, ◌-◌, Bool, true, false, if◌then◌else◌, List, []}
-use Rattle.h2_laws_pair.proofs.Names.{◌∷◌, ◌++◌, length, refl, sym, ◌∙◌, replicate, Data, Reset}
-use Rattle.h2_laws_pair.proofs.Names.{Settings, WindowUpdate, Item, alone, block, unreleased}
-use Rattle.h2_laws_pair.proofs.Names.{next_unprocessed, computing, get_block, sum_below}
-use Rattle.h2_laws_pair.proofs.Names.{AreUnderWay, ConservesConnection, ConservesStream, IsQuiet}
-use Rattle.h2_laws_pair.proofs.Names.{None, ◌==◌}
+use Rattle.h2_laws_pair.proofs.Names
+use Names.{◌≡◌, ℕ, ◌+◌, ◌-◌, Bool, true, false, if◌then◌else◌, List, [], ◌∷◌, ◌++◌, length, refl}
+use Names.{sym, ◌∙◌, replicate, Data, Reset, Settings, WindowUpdate, Item, alone, block, unreleased}
+use Names.{next_unprocessed, computing, get_block, sum_below, AreUnderWay, ConservesConnection}
+use Names.{ConservesStream, IsQuiet, None, ◌==◌}
 use Rattle.h2_laws_pair.proofs.examples.Steps.{Pair}
 use Rattle.h2_laws_pair.proofs.examples.SmallPair.{client_opening, server_opening}
 use Rattle.h2_laws_end.proofs.OverRoom.{owed_none}
@@ -107,19 +106,18 @@ nothing_due = (refl, refl, refl)
 
 -- The pair is quiet.
 is_quiet : IsQuiet quiet_pair.client quiet_pair.server
-is_quiet =
-    record {
-      to_server = record {
-        given = client_output.0 ∙ sym client_output.1;
-        delivered = client_output.2;
-        none_owed = λ i. owed_none quiet_pair.server.log i (server_owes_nothing i);
-        none_unreturned = nothing_due.0;
-      };
-      to_client = record {
-        given = server_output.0 ∙ sym server_output.1;
-        delivered = server_output.2;
-        none_owed = λ i. owed_none quiet_pair.client.log i (client_owes_nothing i);
-        none_unreturned = nothing_due.1;
-      };
-      all_reported = nothing_due.2;
-    }
+is_quiet = record {
+  to_server = record {
+    given = client_output.0 ∙ sym client_output.1;
+    delivered = client_output.2;
+    none_owed = λ i. owed_none quiet_pair.server.log i (server_owes_nothing i);
+    none_unreturned = nothing_due.0;
+  };
+  to_client = record {
+    given = server_output.0 ∙ sym server_output.1;
+    delivered = server_output.2;
+    none_owed = λ i. owed_none quiet_pair.client.log i (client_owes_nothing i);
+    none_unreturned = nothing_due.1;
+  };
+  all_reported = nothing_due.2;
+}

@@ -1,13 +1,12 @@
 -- A request and its answer, from two new ends to a quiet pair, octet for octet.
-use Rattle.h2_laws_pair.proofs.Names.{map, codes, arith, refl, empty_table, Settings, alone, block}
-use Rattle.h2_laws_pair.proofs.Names.{Open, SendFields, PutOut, Number, Count, Done, FieldsEvent}
-use Rattle.h2_laws_pair.proofs.Names.{AckedEvent, owed, waiting, computing, octets, acknowledgment}
-use Rattle.h2_laws_pair.proofs.Names.{default_values, request, request_block, server_settings}
-use Rattle.h2_laws_pair.proofs.Names.{short_answer, table_with_authority, AreUnderWay, IsQuiet, ◌≡◌}
-use Rattle.h2_laws_pair.proofs.Names.{ℕ, true, false, List, [], ◌∷◌, ◌++◌, length, FieldsToken}
-use Rattle.h2_laws_pair.proofs.Names.{EndToken, tokens_sent, tokens_heard, tokens_of_call}
-use Rattle.h2_laws_pair.proofs.Names.{tokens_of_event, end_tokens}
 use Rattle.h2_spec_log.proofs.examples.Words.{client_settings, preface_octets, request_octets}
+use Rattle.h2_laws_pair.proofs.Names
+use Names.{map, codes, arith, refl, empty_table, Settings, alone, block, Open, SendFields, PutOut}
+use Names.{Number, Count, Done, FieldsEvent, AckedEvent, owed, waiting, computing, octets}
+use Names.{acknowledgment, default_values, request, request_block, server_settings, short_answer}
+use Names.{table_with_authority, AreUnderWay, IsQuiet, ◌≡◌, ℕ, true, false, List, [], ◌∷◌, ◌++◌}
+use Names.{length, FieldsToken, EndToken, tokens_sent, tokens_heard, tokens_of_call}
+use Names.{tokens_of_event, end_tokens}
 use Rattle.h2_laws_pair.proofs.examples.Steps.{Pair, new_pair, client_calls, server_calls}
 use Rattle.h2_laws_pair.proofs.examples.Steps.{client_takes, server_takes, client_takes_block}
 use Rattle.h2_laws_pair.proofs.examples.Steps.{server_takes_block, either_zero}
@@ -139,19 +138,18 @@ nothing_owed i = (either_zero _, either_zero _)
 -- Once it has come, the pair is quiet.
 is_quiet : IsQuiet quiet_pair.client quiet_pair.server
 unfolding computing
-is_quiet =
-    record {
-      to_server = record {
-        given = refl;
-        delivered = refl;
-        none_owed = λ i. (nothing_owed i).1;
-        none_unreturned = refl;
-      };
-      to_client = record {
-        given = refl;
-        delivered = refl;
-        none_owed = λ i. (nothing_owed i).0;
-        none_unreturned = refl;
-      };
-      all_reported = refl;
-    }
+is_quiet = record {
+  to_server = record {
+    given = refl;
+    delivered = refl;
+    none_owed = λ i. (nothing_owed i).1;
+    none_unreturned = refl;
+  };
+  to_client = record {
+    given = refl;
+    delivered = refl;
+    none_owed = λ i. (nothing_owed i).0;
+    none_unreturned = refl;
+  };
+  all_reported = refl;
+}

@@ -1,17 +1,5 @@
 -- The steps of the examples: calls with the rules' answers, frames that are delivered, and output
 -- that is put out; and that pairs come about by them.
-use Rattle.h2_laws_pair.proofs.Names.{◌≡◌, ℕ, nat_le, true, List, [], ◌∷◌, ◌++◌, length, drop}
-use Rattle.h2_laws_pair.proofs.Names.{Option, None, Some, Bool, false, if◌then◌else◌, refl, sym}
-use Rattle.h2_laws_pair.proofs.Names.{subst, Field, Entries, Frame, Headers, Role, Client, Server}
-use Rattle.h2_laws_pair.proofs.Names.{is_server, payload_limit, Values, Act, Answer, OutOfMemory}
-use Rattle.h2_laws_pair.proofs.Names.{View, Log, acked, next_unprocessed, log_view, MayAnswer}
-use Rattle.h2_laws_pair.proofs.Names.{accepts, refuses, with_call, opened, limits_from, used}
-use Rattle.h2_laws_pair.proofs.Names.{refusal_of, answer_of, Decoded, IsLog, IsDecodedFor}
-use Rattle.h2_laws_pair.proofs.Names.{stream_of_log, Keeps-frame, answered, Frames, ends_frame}
-use Rattle.h2_laws_pair.proofs.Names.{runs_out_of_memory, is_called, MayStep, log_after, Half}
-use Rattle.h2_laws_pair.proofs.Names.{HalfStep, calls, takes, IsPair, begins, client_steps}
-use Rattle.h2_laws_pair.proofs.Names.{server_steps, given_since, IsUndisturbed, IsUndisturbedStep}
-use Rattle.h2_laws_pair.proofs.Names.{LeavesUp, ◌≢◌}
 use Rattle.h2_spec_log.specs.LogSteps.{took_frame}
 use Rattle.h2_spec_log.specs.Histories.{TakesFrame, TakesOctets}
 use Rattle.h2_frame.specs.Encoding.{payload_of, encoding_of, refusal, IsTyped}
@@ -21,6 +9,15 @@ use Rattle.h2_spec_log.specs.WrittenFrames.{before}
 use Rattle.h2_spec_log.proofs.EncodingLemmas.{taken_frame}
 use Rattle.h2_spec_log.proofs.examples.Words.{answer_by}
 use Rattle.h2_spec_log.proofs.examples.Coming.{within}
+use Rattle.h2_laws_pair.proofs.Names
+use Names.{◌≡◌, ℕ, nat_le, true, List, [], ◌∷◌, ◌++◌, length, drop, Option, None, Some, Bool, false}
+use Names.{if◌then◌else◌, refl, sym, subst, Field, Entries, Frame, Headers, Role, Client, Server}
+use Names.{is_server, payload_limit, Values, Act, Answer, OutOfMemory, View, Log, acked}
+use Names.{next_unprocessed, log_view, MayAnswer, accepts, refuses, with_call, opened, limits_from}
+use Names.{used, refusal_of, answer_of, Decoded, IsLog, IsDecodedFor, stream_of_log, Keeps-frame}
+use Names.{answered, Frames, ends_frame, runs_out_of_memory, is_called, MayStep, log_after, Half}
+use Names.{HalfStep, calls, takes, IsPair, begins, client_steps, server_steps, given_since}
+use Names.{IsUndisturbed, IsUndisturbedStep, LeavesUp, ◌≢◌}
 use Rattle.h2_laws_pair.proofs.PairLogs.{both_logs}
 use Rattle.h2_laws_log.proofs.CallConditions.{answer_in_memory}
 
@@ -31,11 +28,10 @@ pub record Pair : Type 0 where
 
 -- two new ends
 abbrev pub new_pair : (client_values server_values : Values) → Pair
-new_pair client_values server_values =
-    record {
-      client = record { log = opened Client client_values; incoming = []; lost = [] };
-      server = record { log = opened Server server_values; incoming = []; lost = [] };
-    }
+new_pair client_values server_values = record {
+  client = record { log = opened Client client_values; incoming = []; lost = [] };
+  server = record { log = opened Server server_values; incoming = []; lost = [] };
+}
 
 -- the log after a call with the answer of the rules
 abbrev pub log_called : Log → Act → Log
@@ -56,11 +52,10 @@ next_octets log frame = before log ++ encoding_of frame
 
 -- the end to which a frame is delivered, of which this was decoded
 abbrev pub reader : Half → Option Decoded → Frame → Half
-reader one decoded frame =
-    record one {
-      log = took_frame one.log (next_octets one.log frame) decoded frame;
-      incoming = drop (length (next_octets one.log frame)) one.incoming;
-    }
+reader one decoded frame = record one {
+  log = took_frame one.log (next_octets one.log frame) decoded frame;
+  incoming = drop (length (next_octets one.log frame)) one.incoming;
+}
 
 -- a call at the client, and at the server
 abbrev pub client_calls : Pair → Act → Pair
@@ -81,19 +76,17 @@ server_takes pair frame = record pair { server = reader pair.server None frame }
 -- a field block is, in one HEADERS frame
 abbrev pub client_takes_block : Pair → (stream : ℕ) (end : Bool) (octets : List ℕ) → List Field
     → Entries → Pair
-client_takes_block pair stream end octets fields after =
-    record pair {
-      client = reader pair.client (Some (record { fields = fields; after = after }))
-          (Headers stream end true octets None None);
-    }
+client_takes_block pair stream end octets fields after = record pair {
+  client = reader pair.client (Some (record { fields = fields; after = after }))
+      (Headers stream end true octets None None);
+}
 
 abbrev pub server_takes_block : Pair → (stream : ℕ) (end : Bool) (octets : List ℕ) → List Field
     → Entries → Pair
-server_takes_block pair stream end octets fields after =
-    record pair {
-      server = reader pair.server (Some (record { fields = fields; after = after }))
-          (Headers stream end true octets None None);
-    }
+server_takes_block pair stream end octets fields after = record pair {
+  server = reader pair.server (Some (record { fields = fields; after = after }))
+      (Headers stream end true octets None None);
+}
 
 -- The pair comes about, and was never disturbed.
 pub record Comes (client_values server_values : Values) (pair : Pair) : Type 0 where
@@ -128,21 +121,19 @@ pub client_calls_comes : {client_values server_values : Values} (pair : Pair) (a
     → Comes client_values server_values pair → IsTypedAct act → LeavesUp pair.client.log act
     → Comes client_values server_values (client_calls pair act)
 unfolding IsUndisturbed IsUndisturbedStep
-client_calls_comes pair act comes typed up =
-    record {
-      steps = client_steps comes.steps (calls act _ typed (may_answer pair.client.log act));
-      undisturbed = (comes.undisturbed, (in_memory_by (log_view pair.client.log) act _, up));
-    }
+client_calls_comes pair act comes typed up = record {
+  steps = client_steps comes.steps (calls act _ typed (may_answer pair.client.log act));
+  undisturbed = (comes.undisturbed, (in_memory_by (log_view pair.client.log) act _, up));
+}
 
 pub server_calls_comes : {client_values server_values : Values} (pair : Pair) (act : Act)
     → Comes client_values server_values pair → IsTypedAct act → LeavesUp pair.server.log act
     → Comes client_values server_values (server_calls pair act)
 unfolding IsUndisturbed IsUndisturbedStep
-server_calls_comes pair act comes typed up =
-    record {
-      steps = server_steps comes.steps (calls act _ typed (may_answer pair.server.log act));
-      undisturbed = (comes.undisturbed, (in_memory_by (log_view pair.server.log) act _, up));
-    }
+server_calls_comes pair act comes typed up = record {
+  steps = server_steps comes.steps (calls act _ typed (may_answer pair.server.log act));
+  undisturbed = (comes.undisturbed, (in_memory_by (log_view pair.server.log) act _, up));
+}
 
 -- What is tested of a frame that is delivered, for P to hold: the end takes octets and has no part
 -- of a frame; the frame can be written, and stands first on the pipe; and the end doesn't fail.

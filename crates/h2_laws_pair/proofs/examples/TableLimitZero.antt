@@ -1,15 +1,14 @@
 -- A client that allows no table of fields: what its server writes, and that both tables stay in
 -- step (RFC 9113, section 4.3.1; RFC 7541, section 4.2).
-use Rattle.h2_laws_pair.proofs.Names.{codes, empty_table, Settings, Headers, Item, alone, block}
-use Rattle.h2_laws_pair.proofs.Names.{Open, SendFields, PutOut, FieldsEvent, AckedEvent, acked}
-use Rattle.h2_laws_pair.proofs.Names.{output, computing, octets, acknowledgment, default_values}
-use Rattle.h2_laws_pair.proofs.Names.{get_block, server_settings, short_answer, short_request}
-use Rattle.h2_laws_pair.proofs.Names.{lists_accepted, AreUnderWay, HeaderTablesInStep, block_count}
-use Rattle.h2_laws_pair.proofs.Names.{◌≡◌, ℕ, true, false, List, [], ◌∷◌, ◌++◌, refl, Some, None}
-use Rattle.h2_laws_pair.proofs.Names.{tableless_values}
 use Rattle.h2_spec_log.proofs.examples.Coming.{values_are, are_octets, are_pairs, fields_are_octets}
 use Rattle.h2_spec_log.proofs.examples.Coming.{fields_are, pairs_are, short_block}
 use Rattle.h2_frame.proofs.EncodingLemmas.{below_test as below}
+use Rattle.h2_laws_pair.proofs.Names
+use Names.{codes, empty_table, Settings, Headers, Item, alone, block, Open, SendFields, PutOut}
+use Names.{FieldsEvent, AckedEvent, acked, output, computing, octets, acknowledgment}
+use Names.{default_values, get_block, server_settings, short_answer, short_request, lists_accepted}
+use Names.{AreUnderWay, HeaderTablesInStep, block_count, ◌≡◌, ℕ, true, false, List, [], ◌∷◌, ◌++◌}
+use Names.{refl, Some, None, tableless_values}
 use Rattle.h2_laws_pair.proofs.examples.Steps.{Pair, Comes, new_pair, client_calls, server_calls}
 use Rattle.h2_laws_pair.proofs.examples.Steps.{client_takes, server_takes, client_takes_block}
 use Rattle.h2_laws_pair.proofs.examples.Steps.{server_takes_block, new_pair_comes}
@@ -95,26 +94,24 @@ tables = (refl, refl, refl, refl, refl)
 tables_while_under_way :
     HeaderTablesInStep answer_on_pipe.server.log answer_on_pipe.client.log way_of_answer
 unfolding computing lists_accepted block_count
-tables_while_under_way =
-    record {
-      read = [];
-      under_way = short_answer ∷ [];
-      accepted = refl;
-      count = refl;
-      decode = (short_answer, [], empty_table 4096, refl, (refl, refl), tableless_answer);
-    }
+tables_while_under_way = record {
+  read = [];
+  under_way = short_answer ∷ [];
+  accepted = refl;
+  count = refl;
+  decode = (short_answer, [], empty_table 4096, refl, (refl, refl), tableless_answer);
+}
 
 tables_once_delivered :
     HeaderTablesInStep answer_delivered.server.log answer_delivered.client.log []
 unfolding computing lists_accepted block_count
-tables_once_delivered =
-    record {
-      read = short_answer ∷ [];
-      under_way = [];
-      accepted = refl;
-      count = refl;
-      decode = (refl, refl);
-    }
+tables_once_delivered = record {
+  read = short_answer ∷ [];
+  under_way = [];
+  accepted = refl;
+  count = refl;
+  decode = (refl, refl);
+}
 
 request_on_pipe_comes : Comes tableless_values default_values request_on_pipe
 unfolding computing fields_are_octets are_octets
@@ -135,8 +132,7 @@ answer_on_pipe_comes =
     (Headers 1 true true get_block None None)
     (server_takes_comes request_on_pipe None (Settings false tableless_opening)
     request_on_pipe_comes refl refl refl (pairs_are tableless_opening refl) refl refl refl refl
-    refl)
-    refl refl refl (tt, tt) refl refl short_block refl refl)
+    refl) refl refl refl (tt, tt) refl refl short_block refl refl)
     (below _ _ refl, fields_are short_answer refl) tt) (below _ _ refl) tt
 
 -- The pair comes about.

@@ -26,23 +26,21 @@ way_between writer reader = take (length writer.sent - length reader.received) w
 
 -- the connection's, with all streams below 4
 abbrev pub connection_terms : (writer reader : Log) → Terms
-connection_terms writer reader =
-    record {
-      window = connection_send_window writer.received writer.sent;
-      way = total data_of (way_between writer reader);
-      back = total (increment_on 0) (way_between reader writer);
-      owed = sum_below 4 (owed reader) + reader.unreturned;
-    }
+connection_terms writer reader = record {
+  window = connection_send_window writer.received writer.sent;
+  way = total data_of (way_between writer reader);
+  back = total (increment_on 0) (way_between reader writer);
+  owed = sum_below 4 (owed reader) + reader.unreturned;
+}
 
 -- a stream's
 abbrev pub stream_terms : (i : ℕ) (writer reader : Log) → Terms
-stream_terms i writer reader =
-    record {
-      window = send_window writer i;
-      way = total (data_on i) (way_between writer reader);
-      back = total (increment_on i) (way_between reader writer);
-      owed = owed reader i;
-    }
+stream_terms i writer reader = record {
+  window = send_window writer i;
+  way = total (data_on i) (way_between writer reader);
+  back = total (increment_on i) (way_between reader writer);
+  owed = owed reader i;
+}
 
 -- those of the connection and of a stream, from the client to the server
 abbrev pub both_terms : ℕ → Pair → Terms × Terms

@@ -17,14 +17,12 @@ block_written : (state : EncoderState) (limit : ℕ) (fields : List Field)
     → nat_le state.limit limit ≡ true
     → Block state.table limit (block_of state fields) fields (after_block state fields).table
 block_written state limit fields least small maximum size octets few le =
-    block_encodes state limit fields
-    (record {
+    block_encodes state limit fields (record {
       least = within _ _ least;
       limit = below _ _ small;
       maximum = below _ _ maximum;
       within = within _ _ size;
-    })
-    (fields_are fields octets) (below _ _ few) (within _ _ le)
+    }) (fields_are fields octets) (below _ _ few) (within _ _ le)
 
 -- the table that has the answer's second field
 abbrev pub remembering_table : Entries

@@ -1,11 +1,10 @@
 -- What a client has written on two streams: the lists of its field blocks, the octets of its DATA,
 -- and the end (RFC 9113, sections 6.1 and 8.1).
-use Rattle.h2_laws_pair.proofs.Names.{codes, Field, Data, Settings, Item, alone, block, Open}
-use Rattle.h2_laws_pair.proofs.Names.{SendData, Log, computing, octets, default_values, get_block}
-use Rattle.h2_laws_pair.proofs.Names.{request, request_block, short_request, lists_accepted, ◌≡◌}
-use Rattle.h2_laws_pair.proofs.Names.{true, false, List, [], ◌∷◌, None, refl, Token, FieldsToken}
-use Rattle.h2_laws_pair.proofs.Names.{OctetToken, EndToken, end_tokens, tokens_sent, tokens_of_call}
-use Rattle.h2_laws_pair.proofs.Names.{tokens_written}
+use Rattle.h2_laws_pair.proofs.Names
+use Names.{codes, Field, Data, Settings, Item, alone, block, Open, SendData, Log, computing, octets}
+use Names.{default_values, get_block, request, request_block, short_request, lists_accepted, ◌≡◌}
+use Names.{true, false, List, [], ◌∷◌, None, refl, Token, FieldsToken, OctetToken, EndToken}
+use Names.{end_tokens, tokens_sent, tokens_of_call, tokens_written}
 use Rattle.h2_laws_pair.proofs.examples.Steps.{new_pair, log_called}
 use Rattle.h2_laws_pair.proofs.examples.SmallPair.{client_opening}
 

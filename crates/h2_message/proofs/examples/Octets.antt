@@ -1,8 +1,8 @@
 -- Octets of names and values, methods, paths, statuses and lengths.
+use Rattle.h2_message.proofs.Names.{is_bad_in_name, is_bad_name, is_bad_value, is_bad_method}
+use Rattle.h2_message.proofs.Names.{is_bad_path, is_bad_status, is_interim_status, is_bad_length}
+use Rattle.h2_message.proofs.Names.{number_written, is_token_octet}
 use Rattle.std.specs.Prelude.{[], ◌∷◌, map, replicate, codes, true, false, ◌≡◌, refl}
-use Rattle.h2_message.specs.Octets.{is_bad_in_name, is_bad_name, is_bad_value, is_bad_method}
-use Rattle.h2_message.specs.Octets.{is_bad_path, is_bad_status, is_interim_status, is_bad_length}
-use Rattle.h2_message.specs.Octets.{number_written, is_token_octet}
 use Rattle.h2_message.proofs.examples.Words.{computing}
 
 -- The ends of the ranges that no name has, and their neighbours (RFC 9113, section 8.2.1).

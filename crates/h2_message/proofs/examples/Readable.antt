@@ -1,24 +1,19 @@
 -- What is readable: the beginning of a whole message, and nothing else.
-use Rattle.std.proofs.Common.{ℕ, Bool, true, false, List, [], ◌∷◌, ◌++◌, map, Some, ◌≡◌, refl, sym}
-use Rattle.std.proofs.Common.{ap, ◌∙◌}
-use Rattle.std.proofs.lemmas.Bool.{false≢true}
-use Rattle.hpack.specs.declared.types.field.Field.{Field}
-use Rattle.h2_message.specs.declared.reading.Reads.{Reads}
-use Rattle.h2_message.specs.declared.reading.Reads.TheVariants.{Responses}
-use Rattle.h2_message.specs.Reading.{Part, FieldsPart, OctetsPart, ReadMessage, IsWellRead}
-use Rattle.h2_message.specs.Reading.{IsReadable, message_parts, final_parts, trailers_parts, ended}
+use Rattle.h2_message.proofs.Names.{ℕ, Bool, true, false, List, [], ◌∷◌, ◌++◌, map, Some, ◌≡◌, refl}
+use Rattle.h2_message.proofs.Names.{sym, ap, ◌∙◌, false≢true, Field, Reads, Responses, Part}
+use Rattle.h2_message.proofs.Names.{FieldsPart, OctetsPart, ReadMessage, IsWellRead, IsReadable}
+use Rattle.h2_message.proofs.Names.{message_parts, final_parts, trailers_parts, ended}
 use Rattle.h2_message.proofs.examples.Words.{computing, answering, body_of}
 use Rattle.h2_message.proofs.examples.Readings.{block, data_of, five, trailer}
 
 -- a response of all parts
 abbrev pub whole : ReadMessage
-whole =
-    record {
-      interims = answering "103" ∷ answering "100" ∷ [];
-      head = answering "200" ++ five;
-      data_parts = body_of 2 ∷ [] ∷ body_of 3 ∷ [];
-      trailers = Some trailer;
-    }
+whole = record {
+  interims = answering "103" ∷ answering "100" ∷ [];
+  head = answering "200" ++ five;
+  data_parts = body_of 2 ∷ [] ∷ body_of 3 ∷ [];
+  trailers = Some trailer;
+}
 
 -- its parts: the last one alone has END_STREAM (RFC 9113, section 8.1)
 parts_of_the_whole :
@@ -42,13 +37,12 @@ reads_its_beginning : IsReadable (Responses false) (
     block (answering "103") false ∷ block (answering "100") false
     ∷ block (answering "200" ++ five) false ∷ data_of 2 false ∷ [])
 unfolding computing
-reads_its_beginning =
-    record {
-      message = whole;
-      more = data_of 0 false ∷ data_of 3 false ∷ block trailer true ∷ [];
-      well = whole_is_well;
-      begins = refl;
-    }
+reads_its_beginning = record {
+  message = whole;
+  more = data_of 0 false ∷ data_of 3 false ∷ block trailer true ∷ [];
+  well = whole_is_well;
+  begins = refl;
+}
 
 -- Whether parts begin with a field block.
 unfoldable pub begin_with_fields : List (Part × Bool) → Bool

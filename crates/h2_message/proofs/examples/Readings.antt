@@ -1,14 +1,10 @@
 -- What a reading is after the parts of messages, in the order in which they come.
+use Rattle.h2_message.proofs.Names.{Field, Reads, Requests, Responses, Phase, AtHead, InBody, AtEnd}
+use Rattle.h2_message.proofs.Names.{Part, FieldsPart, OctetsPart, phase_after_all, place_after}
+use Rattle.h2_message.proofs.Names.{asks_head_first, ends_message}
 use Rattle.std.specs.Prelude.{ℕ, Bool, true, false, List, [], ◌∷◌, ◌++◌, map, replicate, Option}
 use Rattle.std.specs.Prelude.{Some, None, ◌≡◌, refl}
-use Rattle.hpack.specs.declared.types.field.Field.{Field}
-use Rattle.h2_message.specs.declared.reading.Reads.{Reads}
-use Rattle.h2_message.specs.declared.reading.Reads.TheVariants.{Requests, Responses}
-use Rattle.h2_message.specs.declared.reading.Phase.{Phase}
-use Rattle.h2_message.specs.declared.reading.Phase.TheVariants.{AtHead, InBody, AtEnd}
 use Rattle.h2_message.specs.declared.reading.Place.TheVariants as places
-use Rattle.h2_message.specs.Reading.{Part, FieldsPart, OctetsPart}
-use Rattle.h2_message.specs.Phases.{phase_after_all, place_after, asks_head_first, ends_message}
 use Rattle.h2_message.proofs.examples.Words.{computing, field, r, asking, answering, body_of}
 
 -- a field block and DATA of so many octets, with END_STREAM or not

@@ -1,14 +1,10 @@
 -- Requests that are to be sent, and the rule that each breaks.
+use Rattle.h2_message.proofs.Names.{BadName, BadValue, PseudoPlace, PseudoUnknown, PseudoTwice}
+use Rattle.h2_message.proofs.Names.{PseudoMissing, BadMethod, BadPath, ConnectionField, BadLength}
+use Rattle.h2_message.proofs.Names.{broken_by_request}
 use Rattle.std.specs.Prelude.{[], ◌∷◌, ◌++◌, map, replicate, Some, None, ◌≡◌, refl}
-use Rattle.h2_message.specs.declared.malformed.Malformed.TheVariants.{BadName, BadValue}
-use Rattle.h2_message.specs.declared.malformed.Malformed.TheVariants.{PseudoPlace, PseudoUnknown}
-use Rattle.h2_message.specs.declared.malformed.Malformed.TheVariants.{PseudoTwice}
-use Rattle.h2_message.specs.declared.malformed.Malformed.TheVariants.{PseudoMissing, BadMethod}
-use Rattle.h2_message.specs.declared.malformed.Malformed.TheVariants.{BadPath, ConnectionField}
-use Rattle.h2_message.specs.declared.malformed.Malformed.TheVariants.{BadLength}
-use Rattle.h2_message.specs.Messages.{broken_by_request}
-use Rattle.h2_message.proofs.examples.Words.{computing, field, with_body}
-use Rattle.h2_message.proofs.examples.Words.{with_trailers, of_requests, r, asking}
+use Rattle.h2_message.proofs.examples.Words.{computing, field, with_body, with_trailers}
+use Rattle.h2_message.proofs.examples.Words.{of_requests, r, asking}
 
 -- M1 and M2 hold of regular fields and of pseudo-fields.
 names_and_values :

@@ -1,12 +1,8 @@
 -- Responses that are to be sent, and the rule that each breaks.
-use Rattle.std.specs.Prelude.{true, false, [], ◌∷◌, ◌++◌, map, replicate, Some, None}
-use Rattle.std.specs.Prelude.{◌≡◌, refl}
-use Rattle.h2_message.specs.declared.malformed.Malformed.TheVariants.{BadName, BadValue}
-use Rattle.h2_message.specs.declared.malformed.Malformed.TheVariants.{PseudoPlace, PseudoUnknown}
-use Rattle.h2_message.specs.declared.malformed.Malformed.TheVariants.{PseudoTwice}
-use Rattle.h2_message.specs.declared.malformed.Malformed.TheVariants.{PseudoMissing, BadStatus}
-use Rattle.h2_message.specs.declared.malformed.Malformed.TheVariants.{ConnectionField, BadLength}
-use Rattle.h2_message.specs.Messages.{broken_by_response}
+use Rattle.h2_message.proofs.Names.{BadName, BadValue, PseudoPlace, PseudoUnknown, PseudoTwice}
+use Rattle.h2_message.proofs.Names.{PseudoMissing, BadStatus, ConnectionField, BadLength}
+use Rattle.h2_message.proofs.Names.{broken_by_response}
+use Rattle.std.specs.Prelude.{true, false, [], ◌∷◌, ◌++◌, map, replicate, Some, None, ◌≡◌, refl}
 use Rattle.h2_message.proofs.examples.Words.{computing, field, with_body, with_trailers}
 use Rattle.h2_message.proofs.examples.Words.{of_responses, r, answering}
 

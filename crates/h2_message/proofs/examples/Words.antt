@@ -1,32 +1,23 @@
 -- The words of the examples: fields and messages of texts, and what is said of each of a list.
 use Prim.Native.String.{String}
 use Rattle.std.specs.Prelude.{ℕ, false, List, [], ◌∷◌, map, replicate, codes, Option, Some, None}
-use Rattle.hpack.specs.declared.types.field.Field.{Field}
-use Rattle.h2_message.specs.declared.malformed.Malformed.{Malformed}
-use Rattle.h2_message.specs.Octets.{is_bad_in_name, is_bad_after_first, is_bad_name}
-use Rattle.h2_message.specs.Octets.{is_bad_in_value, is_blank, begins_blank, is_bad_value}
-use Rattle.h2_message.specs.Octets.{is_token_octet, is_token, is_bad_method, begins_with_slash}
-use Rattle.h2_message.specs.Octets.{is_bad_path, is_status_code, is_bad_status}
-use Rattle.h2_message.specs.Octets.{is_interim_status, is_bad_length, number_written}
-use Rattle.h2_message.specs.Fields.{is_colon_first, is_pseudo, is_regular, is_named, value_of}
-use Rattle.h2_message.specs.Fields.{pseudo_names, required_names, has_bad_name, has_bad_value}
-use Rattle.h2_message.specs.Fields.{has_late_pseudo, has_pseudo, is_unknown_pseudo}
-use Rattle.h2_message.specs.Fields.{has_unknown_pseudo, has_pseudo_twice, lacks_pseudo}
-use Rattle.h2_message.specs.Fields.{or_nothing, value_or_nothing, has_bad_method, has_bad_path}
-use Rattle.h2_message.specs.Fields.{has_bad_status, is_interim, connection_names}
-use Rattle.h2_message.specs.Fields.{is_connection_field, has_connection_field, lengths_of, differ}
-use Rattle.h2_message.specs.Fields.{has_bad_length, first_number, declared_length}
-use Rattle.h2_message.specs.Messages.{SentMessage, first_broken, trailer_fields, differs_from}
-use Rattle.h2_message.specs.Messages.{is_without_content, head_rules, request_head_rules}
-use Rattle.h2_message.specs.Messages.{response_head_rules, interim_rules, trailer_rules}
-use Rattle.h2_message.specs.Messages.{has_wrong_body, request_rules, response_rules}
-use Rattle.h2_message.specs.Messages.{broken_by_request, broken_by_response}
-use Rattle.h2_message.specs.Reading.{final_rules, compared_length, trailers_parts, final_parts}
-use Rattle.h2_message.specs.Reading.{ended, message_parts, IsDeclared, AreSoundTrailers}
-use Rattle.h2_message.specs.Reading.{AreSoundInterims}
-use Rattle.h2_message.specs.Phases.{is_short, phase_in_body, phase_after_final, phase_after_head}
-use Rattle.h2_message.specs.Phases.{phase_after_data, phase_after, phase_after_all}
-use Rattle.h2_message.specs.Phases.{asks_head_first, ends_message, place_at_head, place_in}
+use Rattle.h2_message.specs.Octets.{is_bad_value}
+use Rattle.h2_message.proofs.Names
+use Names.{Field, Malformed, is_bad_in_name, is_bad_after_first, is_bad_name, is_bad_in_value}
+use Names.{is_blank, begins_blank, is_token_octet, is_token, is_bad_method}
+use Names.{begins_with_slash, is_bad_path, is_status_code, is_bad_status, is_interim_status}
+use Names.{is_bad_length, number_written, is_colon_first, is_pseudo, is_regular, is_named, value_of}
+use Names.{pseudo_names, required_names, has_bad_name, has_bad_value, has_late_pseudo, has_pseudo}
+use Names.{is_unknown_pseudo, has_unknown_pseudo, has_pseudo_twice, lacks_pseudo, or_nothing}
+use Names.{value_or_nothing, has_bad_method, has_bad_path, has_bad_status, is_interim}
+use Names.{connection_names, is_connection_field, has_connection_field, lengths_of, differ}
+use Names.{has_bad_length, first_number, declared_length, SentMessage, first_broken, trailer_fields}
+use Names.{differs_from, is_without_content, head_rules, request_head_rules, response_head_rules}
+use Names.{interim_rules, trailer_rules, has_wrong_body, request_rules, response_rules}
+use Names.{broken_by_request, broken_by_response, final_rules, compared_length, trailers_parts}
+use Names.{final_parts, ended, message_parts, IsDeclared, AreSoundTrailers, AreSoundInterims}
+use Names.{is_short, phase_in_body, phase_after_final, phase_after_head, phase_after_data}
+use Names.{phase_after, phase_after_all, asks_head_first, ends_message, place_at_head, place_in}
 
 -- opens all that computes
 unfoldable pub computing : Unit {0}
@@ -78,8 +69,7 @@ r =
 
 -- the pseudo-fields of a request, with this method and this path
 abbrev pub asking : String → String → List Field
-asking method path =
-    field ":method" method ∷ field ":scheme" "http" ∷ field ":path" path ∷ []
+asking method path = field ":method" method ∷ field ":scheme" "http" ∷ field ":path" path ∷ []
 
 -- the head of a response
 abbrev pub answering : String → List Field

@@ -1,13 +1,12 @@
 -- Any body of 70,000 octets goes like the one of the example, cut into DATA.
-use Rattle.h2_spec_log.proofs.Names.{length, sym, ap, ◌∙◌, arith, Data, Item, alone, SendData}
-use Rattle.h2_spec_log.proofs.Names.{Count, Log, output, log_view, data_frames}
 use Rattle.std.proofs.Common.{◌≡◌, ℕ, true, false, List, [], ◌∷◌, ◌++◌, take, drop, None, refl}
-use Rattle.std.proofs.Common.{append_assoc, length-take, length-drop}
+use Rattle.std.proofs.Common.{append_assoc, length-take}
 use Rattle.std.proofs.lemmas.List.{take-append-drop}
 use Rattle.h2_spec_log.specs.Log.{max_payload_sent}
-use Rattle.h2_spec_log.specs.LogSteps.{with_sent, with_unreturned, owed_at_close}
-use Rattle.h2_spec_log.specs.LogCalls.{called, with_items, with_call}
-use Rattle.h2_spec_log.specs.CallRules.{data_items, items_of, stream_of_act}
+use Rattle.h2_spec_log.proofs.Names.{length, sym, ap, ◌∙◌, arith, Data, Item, alone, SendData}
+use Rattle.h2_spec_log.proofs.Names.{Count, Log, output, log_view, data_frames, length-drop}
+use Rattle.h2_spec_log.proofs.Names.{with_sent, with_unreturned, owed_at_close, called, with_items}
+use Rattle.h2_spec_log.proofs.Names.{with_call, data_items, items_of, stream_of_act}
 use Rattle.h2_spec_log.proofs.Computing.{computing}
 use Rattle.h2_spec_log.proofs.examples.Words.{answered}
 use Rattle.h2_spec_log.proofs.examples.Ends.{asking_client, asked_output}
@@ -84,8 +83,7 @@ output_of_four : (octets first second third fourth : List ℕ) → length first
     ++ last_head ++ fourth
 unfolding computing sends
 output_of_four octets first second third fourth a b c d =
-    rw (a, b, c, d)
-    (ap (λ (others : List ℕ). (asked_output ++ full_head) ++ others)
+    rw (a, b, c, d) (ap (λ (others : List ℕ). (asked_output ++ full_head) ++ others)
     (after_one_another first full_head second full_head third last_head fourth))
 
 -- four pieces of octets, joined
@@ -101,8 +99,7 @@ joined_four octets =
     one ∙ ap (λ (others : List ℕ). take 16384 octets ++ others) (two ∙ ap (λ
     (others : List ℕ). take 16384 (drop 16384 octets) ++ others) three)
     ∙ pieces_after (take 16384 octets) (take 16384 (drop 16384 octets)) (take 16384 (drop 16384
-    (drop 16384 octets))) (drop 16384 (drop 16384
-    (drop 16384 octets)))
+    (drop 16384 octets))) (drop 16384 (drop 16384 (drop 16384 octets)))
 
 -- what the call answers
 answers_any : (octets : List ℕ) → length octets
@@ -123,8 +120,7 @@ goes_in_four octets all =
     omega (arith, length-take 16384 (drop 16384 body)) in
     let third_length : length (take 16384 (drop 16384 (drop 16384 body))) ≡ 16384 =
     omega (arith, length-take 16384 (drop 16384 (drop 16384 body))) in
-    let fourth_length : length (drop 16384 (drop 16384 (drop 16384 body))) ≡ 16383 =
-    omega arith in
+    let fourth_length : length (drop 16384 (drop 16384 (drop 16384 body))) ≡ 16383 = omega arith in
     record {
       first = take 16384 body;
       second = take 16384 (drop 16384 body);
@@ -135,8 +131,7 @@ goes_in_four octets all =
       second_length = second_length;
       third_length = third_length;
       fourth_length = fourth_length;
-      out =
-          ap output (call_sends octets ∙ ap (λ (items : List Item). sends octets items)
+      out = ap output (call_sends octets ∙ ap (λ (items : List Item). sends octets items)
           (items_of_body octets all ∙ frames_four body front))
           ∙ output_of_four octets _ _ _ _ first_length second_length third_length fourth_length;
     }

@@ -1,18 +1,14 @@
 -- Field blocks: how they are gathered, and the verdicts on them.
-use Rattle.h2_spec_log.proofs.Names.{List, None, Some, [], codes, false, map, refl, replicate, true}
-use Rattle.h2_spec_log.proofs.Names.{ℕ, ◌++◌, ◌+◌, ◌-◌, ◌∷◌, ◌≡◌, empty_table, Entries, Field}
-use Rattle.h2_spec_log.proofs.Names.{Continuation, Data, Headers, Ping, Priority, Settings}
-use Rattle.h2_spec_log.proofs.Names.{EnhanceYourCalm, ProtocolError, alone, block, Done}
-use Rattle.h2_spec_log.proofs.Names.{ResetStream, FieldsEvent, ResetEvent, Decoded, completes}
-use Rattle.h2_spec_log.proofs.Names.{fails_with, frame_step, Log, active_count, state, with_call}
-use Rattle.h2_spec_log.proofs.Names.{took_frame, log_view, Active, Closed, ClosedByUs, Idle}
-use Rattle.h2_spec_log.proofs.Names.{ConnectionFault, NoEvent, Reported, StreamFault, takes}
-use Rattle.h2_spec_log.proofs.Names.{takes_block, Option}
-use Rattle.h2_frame.specs.Frames.{Unknown}
 use Rattle.h2_frame.specs.declared.code.Code.TheVariants.{CompressionError, RefusedStream}
-use Rattle.h2_frame.specs.declared.code.Code.TheVariants.{StreamClosed}
 use Rattle.h2_block.specs.Grouping.{Begun}
-use Rattle.h2_spec_log.specs.ItemRules.{begins_block, opened_by}
+use Rattle.h2_spec_log.proofs.Names
+use Names.{List, None, Some, [], codes, false, map, refl, replicate, true, ℕ, ◌++◌, ◌+◌, ◌-◌, ◌∷◌}
+use Names.{◌≡◌, empty_table, Entries, Field, Continuation, Data, Headers, Ping, Priority, Settings}
+use Names.{EnhanceYourCalm, ProtocolError, alone, block, Done, ResetStream, FieldsEvent, ResetEvent}
+use Names.{Decoded, completes, fails_with, frame_step, Log, active_count, state, with_call}
+use Names.{took_frame, log_view, Active, Closed, ClosedByUs, Idle, ConnectionFault, NoEvent}
+use Names.{Reported, StreamFault, takes, takes_block, Option, Unknown, StreamClosed, begins_block}
+use Names.{opened_by}
 use Rattle.h2_spec_log.proofs.Computing.{computing}
 use Rattle.h2_spec_log.proofs.examples.Ends.{active_output, active_server, active_view, asking_view}
 use Rattle.h2_spec_log.proofs.examples.Ends.{server_with_request, settled_server}
@@ -225,12 +221,10 @@ abbrev pub large_field : Field
 large_field = plain (codes "a") (replicate 4000 0x62)
 
 abbrev pub full_table : Entries
-full_table =
-    record {
-      entries = record { name = codes "a"; value = replicate 4000 0x62 } ∷
-          [];
-      maximum = 4096;
-    }
+full_table = record {
+  entries = record { name = codes "a"; value = replicate 4000 0x62 } ∷ [];
+  maximum = 4096;
+}
 
 -- the octets of a block that has it once, and so many times more from the table
 abbrev pub large_block : ℕ → List ℕ

@@ -1,16 +1,12 @@
 -- DATA: the verdicts on it, and what it takes of windows.
-use Rattle.h2_spec_log.proofs.Names.{arith, List, None, Some, [], codes, false, negsuc, pos, refl}
-use Rattle.h2_spec_log.proofs.Names.{replicate, true, ℕ, ◌++◌, ◌∷◌, ◌≡◌, empty_table, Data}
-use Rattle.h2_spec_log.proofs.Names.{Settings, FlowControlError, ProtocolError, Item, alone}
-use Rattle.h2_spec_log.proofs.Names.{DataEvent, FieldsEvent, ResetEvent, Log, recv_window}
-use Rattle.h2_spec_log.proofs.Names.{send_window, opened, log_view, ConnectionFault, NoEvent}
-use Rattle.h2_spec_log.proofs.Names.{Reported, StreamFault, takes, takes_block, Server}
-use Rattle.std.specs.Prelude.{Bool, ℤ}
-use Rattle.h2_frame.specs.declared.code.Code.TheVariants.{FrameSizeError, StreamClosed}
-use Rattle.h2_wire.specs.Streams.{WireFaultAt}
+use Rattle.std.specs.Prelude.{Bool}
 use Rattle.h2_wire.specs.declared.fault.WireFault.TheVariants.{HeadFault, PayloadFault}
-use Rattle.h2_spec_log.specs.Events.{AckedEvent}
-use Rattle.h2_spec_log.specs.View.{StreamView}
+use Rattle.h2_spec_log.proofs.Names
+use Names.{arith, List, None, Some, [], codes, false, negsuc, pos, refl, replicate, true, ℕ, ◌++◌}
+use Names.{◌∷◌, ◌≡◌, empty_table, Data, Settings, FlowControlError, ProtocolError, Item, alone}
+use Names.{DataEvent, FieldsEvent, ResetEvent, Log, recv_window, send_window, opened, log_view}
+use Names.{ConnectionFault, NoEvent, Reported, StreamFault, takes, takes_block, Server, ℤ}
+use Names.{FrameSizeError, StreamClosed, WireFaultAt, AckedEvent, StreamView}
 use Rattle.h2_spec_log.proofs.Computing.{computing}
 use Rattle.h2_spec_log.proofs.examples.Blocks.{resetting_server, server_with_third}
 use Rattle.h2_spec_log.proofs.examples.Ends.{active_octets, active_output, active_server}
@@ -24,8 +20,7 @@ use Rattle.h2_spec_log.proofs.examples.Words.{short_request, small_settings, sma
 -- an active stream with this window for the peer
 abbrev pub stream_with : ℤ → Bool → StreamView
 stream_with =
-    λ window ended.
-    record {
+    λ window ended. record {
       send_window = pos 65535;
       recv_window = window;
       owed = 0;
@@ -36,8 +31,7 @@ stream_with =
 -- DATA of no octets, of one, of four and of five, on a stream
 abbrev pub bodies : ℕ → List Item
 bodies =
-    λ stream.
-    alone (Data stream false [] None) ∷ alone (Data stream false (0x61 ∷ []) None)
+    λ stream. alone (Data stream false [] None) ∷ alone (Data stream false (0x61 ∷ []) None)
     ∷ alone (Data stream false abcd None) ∷ alone (Data stream false (0x60 ∷ abcd) None) ∷ []
 
 -- DATA of one octet more than the connection's window ends the connection; DATA of no octets never
@@ -202,8 +196,7 @@ faults_of_padding = (
 abbrev pub server_with_small_window : Log
 server_with_small_window =
     takes_block (takes (opened Server small_values) (Settings false
-    [])) 1 false get_block short_request
-    (empty_table 4096)
+    [])) 1 false get_block short_request (empty_table 4096)
 
 -- eleven octets come before its SETTINGS are acknowledged
 abbrev pub before_the_acknowledgment : Log

@@ -1,9 +1,8 @@
 -- The logs of the examples' clients come about.
-use Rattle.h2_spec_log.proofs.Names.{None, [], codes, false, refl, replicate, true, ℕ, ◌∷◌}
-use Rattle.h2_spec_log.proofs.Names.{empty_table, Data, GoAway, Ping, Reset, Settings, WindowUpdate}
-use Rattle.h2_spec_log.proofs.Names.{ChangeSettings, IsTypedAct, Open, PutOut, SendData, SendGoAway}
-use Rattle.h2_spec_log.proofs.Names.{SendPing, IsLog, begins, took_none, takes, Client}
-use Rattle.h2_spec_log.specs.Histories.{reported_one}
+use Rattle.h2_spec_log.proofs.Names
+use Names.{None, [], codes, false, refl, replicate, true, ℕ, ◌∷◌, empty_table, Data, GoAway, Ping}
+use Names.{Reset, Settings, WindowUpdate, ChangeSettings, IsTypedAct, Open, PutOut, SendData}
+use Names.{SendGoAway, SendPing, IsLog, begins, took_none, takes, Client, reported_one}
 use Rattle.h2_spec_log.proofs.examples.Coming.{ClientComes, answer_block, block_comes, calls_come}
 use Rattle.h2_spec_log.proofs.examples.Coming.{comes, coming, fields_are, octets_are, settings_come}
 use Rattle.h2_spec_log.proofs.examples.Coming.{values_are, zeros_are}

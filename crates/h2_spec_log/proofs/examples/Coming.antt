@@ -1,28 +1,22 @@
 -- What shows that the logs of the examples come about: numbers, octets and blocks that are tested.
-use Rattle.h2_spec_log.proofs.Names.{suc, ◌≤◌, ◌<◌, nat_lt, nat_le, ◌&&◌, Bool, ◌==◌, length}
-use Rattle.h2_spec_log.proofs.Names.{Option, arith, codes, nat_tests, Field, empty_table, Entries}
-use Rattle.h2_spec_log.proofs.Names.{Frame, Headers, Settings, encoding_of, refusal, Role}
-use Rattle.h2_spec_log.proofs.Names.{payload_limit, Values, Act, IsTypedAct, Log, next_unprocessed}
-use Rattle.h2_spec_log.proofs.Names.{log_view, with_call, took_frame, Decoded, IsLog, called_one}
-use Rattle.h2_spec_log.proofs.Names.{Client, Server}
 use Rattle.std.proofs.Common.{◌≡◌, ℕ, zero, replicate, ◌^◌, true, false, List, [], ◌∷◌, ◌++◌, Some}
-use Rattle.std.proofs.Common.{None, is_none, refl}
+use Rattle.std.proofs.Common.{None, refl}
 use Rattle.std.specs.List.{AllByRecursion}
-use Rattle.std.proofs.lemmas.Bool.{and_parts, leb-true, eqb-true}
-use Rattle.std.proofs.lemmas.List.{nil_from_length}
+use Rattle.std.proofs.lemmas.Bool.{leb-true}
 use Rattle.hpack_text.specs.Bits.{IsOctet}
 use Rattle.hpack.specs.Blocks.{Block}
-use Rattle.hpack.specs.Lists.{EncoderState}
 use Rattle.hpack.specs.Written.{IsValidEncoder, AreOctets}
 use Rattle.hpack.proofs.WrittenBlocks.{block_encodes}
-use Rattle.h2_frame.specs.Encoding.{payload_of, IsTyped}
 use Rattle.h2_frame.proofs.EncodingLemmas.{below_test as below}
 use Rattle.h2_spec_log.specs.Acts.{AreInRange}
-use Rattle.h2_spec_log.specs.Log.{acked}
-use Rattle.h2_spec_log.specs.CallRules.{refusal_of, answer_of}
 use Rattle.h2_spec_log.specs.LogCalls.{accepts}
-use Rattle.h2_spec_log.specs.Histories.{IsDecodedFor}
-use Rattle.h2_spec_log.specs.WrittenFrames.{before, takes, takes_block}
+use Rattle.h2_spec_log.proofs.Names
+use Names.{suc, ◌≤◌, ◌<◌, nat_lt, nat_le, ◌&&◌, Bool, ◌==◌, length, Option, arith, codes, nat_tests}
+use Names.{Field, empty_table, Entries, Frame, Headers, Settings, encoding_of, refusal, Role}
+use Names.{payload_limit, Values, Act, IsTypedAct, Log, next_unprocessed, log_view, with_call}
+use Names.{took_frame, Decoded, IsLog, called_one, Client, Server, is_none, and_parts, eqb-true}
+use Names.{nil_from_length, EncoderState, payload_of, IsTyped, acked, refusal_of, answer_of}
+use Names.{IsDecodedFor, before, takes, takes_block}
 use Rattle.h2_spec_log.proofs.Computing.{computing}
 use Rattle.h2_spec_log.proofs.EncodingLemmas.{taken_frame}
 use Rattle.h2_spec_log.proofs.examples.Octets.{octets}
@@ -208,18 +202,16 @@ with_authority = record { table = table_with_authority; least = 4096; limit = 40
 
 with_authority_writes : IsValidEncoder with_authority
 unfolding computing with_authority
-with_authority_writes =
-    record {
-      least = omega arith;
-      limit = omega arith;
-      maximum = omega arith;
-      within = within _ _ refl;
-    }
+with_authority_writes = record {
+  least = omega arith;
+  limit = omega arith;
+  maximum = omega arith;
+  within = within _ _ refl;
+}
 
 -- the block of the short request after it
 pub later_block : Block table_with_authority 4096 get_block short_request table_with_authority
 unfolding computing with_authority are_octets fields_are_octets
 later_block =
     block_encodes with_authority 4096 short_request with_authority_writes
-    (fields_are short_request refl) (below _ _ refl)
-    (within 4096 4096 refl)
+    (fields_are short_request refl) (below _ _ refl) (within 4096 4096 refl)

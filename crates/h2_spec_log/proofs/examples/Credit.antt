@@ -1,9 +1,8 @@
 -- Credit: what is released, and what is returned for octets that nobody will release.
-use Rattle.h2_spec_log.proofs.Names.{None, [], codes, false, map, refl, true, ◌++◌, ◌∷◌, ◌≡◌, Data}
-use Rattle.h2_spec_log.proofs.Names.{GoAway, Reset, Count, Done, PutOut, Refused, Release}
-use Rattle.h2_spec_log.proofs.Names.{DataEvent, FieldsEvent, Log, output, waiting, with_call}
-use Rattle.h2_spec_log.proofs.Names.{took_none, log_view, takes, NotOwed}
-use Rattle.h2_spec_log.specs.Events.{GoAwayEvent, UnprocessedEvent}
+use Rattle.h2_spec_log.proofs.Names
+use Names.{None, [], codes, false, map, refl, true, ◌++◌, ◌∷◌, ◌≡◌, Data, GoAway, Reset, Count}
+use Names.{Done, PutOut, Refused, Release, DataEvent, FieldsEvent, Log, output, waiting, with_call}
+use Names.{took_none, log_view, takes, NotOwed, GoAwayEvent, UnprocessedEvent}
 use Rattle.h2_spec_log.proofs.Computing.{computing}
 use Rattle.h2_spec_log.proofs.examples.Ends.{active_octets, active_output, client_with_two}
 use Rattle.h2_spec_log.proofs.examples.Ends.{server_with_body, server_with_release}

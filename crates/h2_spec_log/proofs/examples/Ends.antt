@@ -44,8 +44,7 @@ server_with_release end = with_call (server_with_body end) (Release 1 4) Done
 abbrev pub server_with_request : Log
 server_with_request =
     takes_block (takes new_server (Settings false ((1, 4096) ∷ (2, 0) ∷ (4, 65535) ∷
-    (6, 65536) ∷ [])))
-    1 true request_block request table_with_authority
+    (6, 65536) ∷ []))) 1 true request_block request table_with_authority
 
 -- a client that has read a server's SETTINGS and has opened stream 1; what it has written
 abbrev pub asking_client : Log

@@ -1,12 +1,9 @@
 -- GOAWAY of either end.
-use Rattle.h2_spec_log.proofs.Names.{None, [], codes, false, map, refl, true, ◌++◌, ◌∷◌, ◌≡◌}
-use Rattle.h2_spec_log.proofs.Names.{empty_table, Data, GoAway, Count, Done, Number, Open, Refused}
-use Rattle.h2_spec_log.proofs.Names.{SendData, SendGoAway, FieldsEvent, Log, next_unprocessed}
-use Rattle.h2_spec_log.proofs.Names.{state, with_call, took_none, log_view, Active, Closed}
-use Rattle.h2_spec_log.proofs.Names.{ClosedByUs, Idle, takes, takes_block}
-use Rattle.h2_spec_log.specs.Events.{GoAwayEvent, UnprocessedEvent}
-use Rattle.h2_spec_log.specs.States.{lesser_number}
-use Rattle.h2_spec_log.specs.declared.refusal.Refusal.TheVariants.{GoingAway}
+use Rattle.h2_spec_log.proofs.Names
+use Names.{None, [], codes, false, map, refl, true, ◌++◌, ◌∷◌, ◌≡◌, empty_table, Data, GoAway}
+use Names.{Count, Done, Number, Open, Refused, SendData, SendGoAway, FieldsEvent, Log}
+use Names.{next_unprocessed, state, with_call, took_none, log_view, Active, Closed, ClosedByUs}
+use Names.{Idle, takes, takes_block, GoAwayEvent, UnprocessedEvent, lesser_number, GoingAway}
 use Rattle.h2_spec_log.proofs.Computing.{computing}
 use Rattle.h2_spec_log.proofs.examples.Ends.{active_octets, active_output, active_server}
 use Rattle.h2_spec_log.proofs.examples.Ends.{asked_output, asking_client, asking_view}

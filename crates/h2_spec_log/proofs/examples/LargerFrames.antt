@@ -1,15 +1,13 @@
 -- How the greatest payload decides what is written of an item.
-use Rattle.h2_spec_log.proofs.Names.{◌≡◌, ℕ, true, false, List, [], ◌∷◌, ◌++◌, None, codes, ap, ◌∙◌}
-use Rattle.h2_spec_log.proofs.Names.{arith, Frame, Data, Headers, Settings, Continuation}
-use Rattle.h2_spec_log.proofs.Names.{encoding_of, Item, alone, block, Client, Server, Values}
-use Rattle.h2_spec_log.proofs.Names.{data_frames, payload_limit, output, opened}
 use Rattle.std.specs.Prelude.{length, take, drop}
-use Rattle.std.proofs.Common.{refl, append-nil, length-drop}
-use Rattle.h2_block.specs.Spread.{continuations, encoding_of_frames}
+use Rattle.std.proofs.Common.{refl}
+use Rattle.h2_block.specs.Spread.{encoding_of_frames}
 use Rattle.h2_block.proofs.SpreadLemmas.{continuations-few, spread_frames-few, spread_frames-more}
-use Rattle.h2_spec_log.specs.CallRules.{opening_pairs, changed_pairs}
-use Rattle.h2_spec_log.specs.Items.{encoding_of_item}
-use Rattle.h2_spec_log.specs.Log.{max_payload_sent_by}
+use Rattle.h2_spec_log.proofs.Names
+use Names.{◌≡◌, ℕ, true, false, List, [], ◌∷◌, ◌++◌, None, codes, ap, ◌∙◌, arith, Frame, Data}
+use Names.{Headers, Settings, Continuation, encoding_of, Item, alone, block, Client, Server, Values}
+use Names.{data_frames, payload_limit, output, opened, append-nil, length-drop, continuations}
+use Names.{opening_pairs, changed_pairs, encoding_of_item, max_payload_sent_by}
 use Rattle.h2_spec_log.proofs.Computing.{computing}
 use Rattle.h2_spec_log.proofs.DataFrames.{frames_last}
 use Rattle.h2_spec_log.proofs.examples.Octets.{octets}
@@ -34,8 +32,7 @@ unfolding encoding_of_item
 block_in_two octets long =
     ap encoding_of_frames (spread_frames-more 16384 1 false octets (omega (arith, long)))
     ∙ ap (λ (frames : List Frame). encoding_of_frames
-    (Headers 1 false false (take 16384 octets) None None ∷ frames))
-    (continuations_of octets long)
+    (Headers 1 false false (take 16384 octets) None None ∷ frames)) (continuations_of octets long)
     ∙ ap (λ (other : List ℕ). encoding_of (Headers 1 false false (take 16384 octets) None None)
     ++ other) (append-nil (encoding_of (Continuation 1 true (drop 16384 octets))))
 

@@ -1,12 +1,9 @@
 -- The limits on replies and on resets.
-use Rattle.h2_spec_log.proofs.Names.{List, None, Some, [], false, map, refl, true, ℕ, ◌*◌, ◌++◌}
-use Rattle.h2_spec_log.proofs.Names.{◌+◌, ◌-◌, ◌∷◌, ◌≡◌, Data, Ping, Priority, Settings}
-use Rattle.h2_spec_log.proofs.Names.{WindowUpdate, EnhanceYourCalm, ProtocolError, alone, block}
-use Rattle.h2_spec_log.proofs.Names.{replies_to, waiting, ConnectionFault, NoEvent, Reported}
-use Rattle.h2_spec_log.proofs.Names.{StreamFault, View, length}
-use Rattle.h2_spec_log.specs.Items.{encoding_of_items}
-use Rattle.h2_spec_log.specs.Limits.{max_frame_size_sent}
-use Rattle.h2_spec_log.specs.LogSteps.{with_verdict}
+use Rattle.h2_spec_log.proofs.Names
+use Names.{List, None, Some, [], false, map, refl, true, ℕ, ◌*◌, ◌++◌, ◌+◌, ◌-◌, ◌∷◌, ◌≡◌, Data}
+use Names.{Ping, Priority, Settings, WindowUpdate, EnhanceYourCalm, ProtocolError, alone, block}
+use Names.{replies_to, waiting, ConnectionFault, NoEvent, Reported, StreamFault, View, length}
+use Names.{encoding_of_items, max_frame_size_sent, with_verdict}
 use Rattle.h2_spec_log.proofs.Computing.{computing}
 use Rattle.h2_spec_log.proofs.examples.Blocks.{decoded_request}
 use Rattle.h2_spec_log.proofs.examples.Ends.{active_output, active_view, settled_server}

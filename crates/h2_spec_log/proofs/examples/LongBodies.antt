@@ -1,11 +1,10 @@
 -- Bodies that are longer than the windows.
+use Rattle.std.specs.Prelude.{length, take}
 use Rattle.h2_spec_log.proofs.Names.{List, None, Some, [], codes, false, map, negsuc, pos, refl}
 use Rattle.h2_spec_log.proofs.Names.{replicate, true, ℕ, ◌++◌, ◌∷◌, ◌≡◌, Data, WindowUpdate, alone}
 use Rattle.h2_spec_log.proofs.Names.{Count, PutOut, Refused, SendData, items_of, Log, output}
 use Rattle.h2_spec_log.proofs.Names.{recv_window, send_window, waiting, with_call, log_view, takes}
-use Rattle.std.specs.Prelude.{length, take, ℤ}
-use Rattle.h2_spec_log.specs.View.{StreamView}
-use Rattle.h2_spec_log.specs.declared.refusal.Refusal.TheVariants.{OutputFull}
+use Rattle.h2_spec_log.proofs.Names.{ℤ, StreamView, OutputFull}
 use Rattle.h2_spec_log.proofs.Computing.{computing}
 use Rattle.h2_spec_log.proofs.examples.Ends.{asked_output, asking_client, asking_view}
 use Rattle.h2_spec_log.proofs.examples.Octets.{octets}
@@ -72,8 +71,7 @@ sends_a_body = (refl, refl, refl, refl, refl, refl, refl, refl, refl)
 -- a stream with this window for its DATA
 abbrev pub wide : ℤ → StreamView
 wide =
-    λ window.
-    record {
+    λ window. record {
       send_window = window;
       recv_window = pos 0;
       owed = 0;

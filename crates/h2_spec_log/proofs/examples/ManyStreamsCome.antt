@@ -1,14 +1,12 @@
 -- The logs of servers with many streams come about.
-use Rattle.h2_spec_log.proofs.Names.{suc, ◌==◌, ◌&&◌, Bool, length, ap, ◌∙◌, Entries, empty_table}
-use Rattle.h2_spec_log.proofs.Names.{Data, Headers, Log, takes_block}
-use Rattle.std.proofs.Common.{◌≡◌, ℕ, zero, ◌+◌, ◌*◌, true, false, List, [], None, is_none, refl}
-use Rattle.std.proofs.Common.{subst, not}
-use Rattle.std.proofs.lemmas.Bool.{and_parts, eqb-true, not-true}
-use Rattle.std.proofs.lemmas.List.{nil_from_length}
+use Rattle.std.proofs.Common.{◌≡◌, ℕ, zero, ◌+◌, ◌*◌, true, false, List, [], None, refl, not}
+use Rattle.std.proofs.lemmas.Bool.{not-true}
 use Rattle.hpack.specs.Entry.{Entry}
-use Rattle.h2_block.specs.Grouping.{fault_outside}
-use Rattle.h2_spec_log.specs.ItemRules.{may_be_first, frame_step, grouping_step, grouped}
 use Rattle.h2_spec_log.specs.Histories.{table_limit}
+use Rattle.h2_spec_log.proofs.Names.{suc, ◌==◌, ◌&&◌, Bool, length, ap, ◌∙◌, Entries, empty_table}
+use Rattle.h2_spec_log.proofs.Names.{Data, Headers, Log, takes_block, is_none, subst, and_parts}
+use Rattle.h2_spec_log.proofs.Names.{eqb-true, nil_from_length, fault_outside, may_be_first}
+use Rattle.h2_spec_log.proofs.Names.{frame_step, grouping_step, grouped}
 use Rattle.h2_spec_log.proofs.examples.Octets.{octets_after}
 use Rattle.h2_spec_log.proofs.examples.Words.{short_request, get_block, abcd}
 use Rattle.h2_spec_log.proofs.examples.Ends.{settled_server}
@@ -76,8 +74,7 @@ run_log : (count : ℕ) → (run_of count).log ≡ server_with_streams count
 unfolding run_of run_on server_with_streams
 run_log zero = refl
 run_log (suc count) = ap (λ (log : Log). takes_block log
-    (2 * count + 1) false get_block short_request (empty_table 4096))
-    (run_log count)
+    (2 * count + 1) false get_block short_request (empty_table 4096)) (run_log count)
 
 -- Where all were taken the log comes about.
 run_comes : (count : ℕ) → (run_of count).ready

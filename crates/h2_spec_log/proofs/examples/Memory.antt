@@ -1,21 +1,16 @@
 -- Memory that is refused.
-use Rattle.h2_spec_log.proofs.Names.{Some, None, [], false, map, refl, replicate, true, ◌++◌, ◌∷◌}
-use Rattle.h2_spec_log.proofs.Names.{◌≡◌, ℕ, List, pos, arith, ap, InternalError, NoError}
-use Rattle.h2_spec_log.proofs.Names.{Continuation, Data, GoAway, Headers, Ping, Priority, Reset}
-use Rattle.h2_spec_log.proofs.Names.{Settings, WindowUpdate, Done, Open, OutOfMemory, PutOut}
-use Rattle.h2_spec_log.proofs.Names.{Refuse, Refused, ResetStream, SendData, SendFields, SendPing}
-use Rattle.h2_spec_log.proofs.Names.{DataEvent, FieldsEvent, with_call, log_view, alone, completes}
-use Rattle.h2_spec_log.proofs.Names.{Log, NoEvent, Reported, ◌≤◌, ◌<◌}
 use Rattle.std.proofs.Math.ListN.{get_or}
-use Rattle.h2_frame.specs.declared.code.Code.TheVariants.{FrameSizeError}
-use Rattle.h2_frame.specs.Frames.{Unknown}
-use Rattle.h2_wire.specs.Streams.{preface}
-use Rattle.h2_spec_log.specs.CallRules.{may_fail_for_memory, may_lack_memory, sends_no_data}
-use Rattle.h2_spec_log.specs.LogCalls.{MayAnswer, fails, lacks}
-use Rattle.h2_spec_log.specs.LogSteps.{took_out_of_memory}
+use Rattle.h2_spec_log.specs.CallRules.{sends_no_data}
+use Rattle.h2_spec_log.specs.LogCalls.{MayAnswer}
 use Rattle.h2_spec_log.specs.Memory.{KeepsOctets, credit_needs_memory, frame_needs_memory}
 use Rattle.h2_spec_log.specs.Memory.{needs_memory, step_needs_memory}
-use Rattle.h2_spec_log.specs.declared.refusal.Refusal.TheVariants.{Memory}
+use Rattle.h2_spec_log.proofs.Names
+use Names.{Some, None, [], false, map, refl, replicate, true, ◌++◌, ◌∷◌, ◌≡◌, ℕ, List, pos, arith}
+use Names.{ap, InternalError, NoError, Continuation, Data, GoAway, Headers, Ping, Priority, Reset}
+use Names.{Settings, WindowUpdate, Done, Open, OutOfMemory, PutOut, Refuse, Refused, ResetStream}
+use Names.{SendData, SendFields, SendPing, DataEvent, FieldsEvent, with_call, log_view, alone}
+use Names.{completes, Log, NoEvent, Reported, ◌≤◌, ◌<◌, FrameSizeError, Unknown, preface}
+use Names.{may_fail_for_memory, may_lack_memory, fails, lacks, took_out_of_memory, Memory}
 use Rattle.h2_spec_log.proofs.Computing.{computing}
 use Rattle.h2_spec_log.proofs.examples.Blocks.{resetting_server}
 use Rattle.h2_spec_log.proofs.examples.Ends.{active_octets, active_output, active_server}
@@ -209,13 +204,12 @@ first_frames_that_need_none = refl
 -- Octets of a frame that is cut in two have to be kept: a part of a head, or of a payload.
 part_of_a_frame_is_kept : KeepsOctets active_server (0 ∷ 0 ∷ 1 ∷ 0 ∷ 0 ∷ 0 ∷ 0 ∷ 0 ∷ 1 ∷ [])
 unfolding computing
-part_of_a_frame_is_kept =
-    record {
-      some = λ none. cc;
-      past_preface = λ inside. cc;
-      no_faulty_head = λ code faulty. let is : None ≡ Some code = faulty.head.faulty in cc;
-      cut_in_two = λ begins. let whole : 10 ≤ 9 = begins.whole in omega (arith, whole);
-    }
+part_of_a_frame_is_kept = record {
+  some = λ none. cc;
+  past_preface = λ inside. cc;
+  no_faulty_head = λ code faulty. let is : None ≡ Some code = faulty.head.faulty in cc;
+  cut_in_two = λ begins. let whole : 10 ≤ 9 = begins.whole in omega (arith, whole);
+}
 
 -- A frame that lies whole in the octets isn't, nor is a head at fault, nor are no octets.
 whole_frame_is_not_kept : KeepsOctets active_server (0 ∷ 0 ∷ 0 ∷ 0 ∷ 0 ∷ 0 ∷ 0 ∷ 0 ∷ 1 ∷ []) → ⊥
@@ -269,13 +263,12 @@ other_octets_are_not_kept keeps =
 -- What follows it is.
 octet_after_the_preface_is_kept : KeepsOctets new_server (preface ++ 0 ∷ [])
 unfolding computing preface
-octet_after_the_preface_is_kept =
-    record {
-      some = λ none. cc;
-      past_preface = λ inside. (record { following = 0 ∷ []; joined = refl }, omega arith);
-      no_faulty_head = λ code faulty. let nine : 9 ≤ 1 = faulty.head.nine in omega (arith, nine);
-      cut_in_two = λ begins. let nine : 9 ≤ 1 = begins.nine in omega (arith, nine);
-    }
+octet_after_the_preface_is_kept = record {
+  some = λ none. cc;
+  past_preface = λ inside. (record { following = 0 ∷ []; joined = refl }, omega arith);
+  no_faulty_head = λ code faulty. let nine : 9 ≤ 1 = faulty.head.nine in omega (arith, nine);
+  cut_in_two = λ begins. let nine : 9 ≤ 1 = begins.nine in omega (arith, nine);
+}
 
 -- DATA of no octets sends nothing unless it ends the stream; nor does DATA without room.
 data_that_sends_nothing :

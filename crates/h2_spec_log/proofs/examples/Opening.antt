@@ -1,12 +1,10 @@
 -- How connections open.
+use Rattle.h2_spec_log.specs.LogSteps.{took_fault}
 use Rattle.h2_spec_log.proofs.Names.{arith, List, None, Some, [], codes, false, map, refl, true, ℕ}
 use Rattle.h2_spec_log.proofs.Names.{◌++◌, ◌∷◌, ◌≡◌, Continuation, Headers, Ping, Settings}
 use Rattle.h2_spec_log.proofs.Names.{ProtocolError, alone, Number, Open, FieldsEvent, completes}
 use Rattle.h2_spec_log.proofs.Names.{fails_with, frame_step, Log, state, with_call, log_view}
-use Rattle.h2_spec_log.proofs.Names.{Active, Idle, takes}
-use Rattle.h2_wire.specs.Streams.{Limits, WireFaultAt}
-use Rattle.h2_wire.specs.declared.fault.WireFault.TheVariants.{BadPreface}
-use Rattle.h2_spec_log.specs.LogSteps.{took_fault}
+use Rattle.h2_spec_log.proofs.Names.{Active, Idle, takes, Limits, WireFaultAt, BadPreface}
 use Rattle.h2_spec_log.proofs.Computing.{computing}
 use Rattle.h2_spec_log.proofs.examples.Ends.{active_octets, active_output, active_server}
 use Rattle.h2_spec_log.proofs.examples.Ends.{new_client, new_server, server_with_request}

@@ -1,9 +1,8 @@
 -- PING.
+use Rattle.h2_spec_log.specs.Events.{PongEvent}
 use Rattle.h2_spec_log.proofs.Names.{List, None, [], codes, false, refl, true, ℕ, ◌++◌, ◌∷◌, ◌≡◌}
 use Rattle.h2_spec_log.proofs.Names.{Ping, Done, Refused, SendPing, FieldsEvent, Log, output}
-use Rattle.h2_spec_log.proofs.Names.{with_call, log_view, takes}
-use Rattle.h2_spec_log.specs.Events.{PongEvent}
-use Rattle.h2_spec_log.specs.declared.refusal.Refusal.TheVariants.{PingWaits}
+use Rattle.h2_spec_log.proofs.Names.{with_call, log_view, takes, PingWaits}
 use Rattle.h2_spec_log.proofs.Computing.{computing}
 use Rattle.h2_spec_log.proofs.examples.Ends.{asked_output, asking_client, asking_view}
 use Rattle.h2_spec_log.proofs.examples.Ends.{server_with_request}

@@ -1,15 +1,13 @@
 -- The conditions that refuse calls, each with a call that just isn't refused.
-use Rattle.h2_spec_log.proofs.Names.{List, None, Some, [], false, map, pos, refl, replicate, true}
-use Rattle.h2_spec_log.proofs.Names.{ℕ, ◌++◌, ◌∷◌, ◌≡◌, Settings, NoError, Act, ChangeSettings}
-use Rattle.h2_spec_log.proofs.Names.{Count, Done, Number, Open, PutOut, Refuse, Refused, Release}
-use Rattle.h2_spec_log.proofs.Names.{ResetStream, SendData, SendFields, SendGoAway, SendPing}
-use Rattle.h2_spec_log.proofs.Names.{active_count, recv_window, send_window, waiting, with_call}
-use Rattle.h2_spec_log.proofs.Names.{log_view, View, takes, NotOwed}
-use Rattle.h2_spec_log.specs.declared.refusal.Refusal.TheVariants.{Closed, Ended, GoingAway}
-use Rattle.h2_spec_log.specs.declared.refusal.Refusal.TheVariants.{ListTooLarge, NoSuchStream}
-use Rattle.h2_spec_log.specs.declared.refusal.Refusal.TheVariants.{OutputFull, PingWaits}
-use Rattle.h2_spec_log.specs.declared.refusal.Refusal.TheVariants.{SettingsWait, StreamsExhausted}
-use Rattle.h2_spec_log.specs.declared.refusal.Refusal.TheVariants.{TooManyResets, TooManyStreams}
+use Rattle.h2_spec_log.specs.declared.refusal.Refusal.TheVariants.{Closed, Ended, ListTooLarge}
+use Rattle.h2_spec_log.specs.declared.refusal.Refusal.TheVariants.{StreamsExhausted, TooManyResets}
+use Rattle.h2_spec_log.specs.declared.refusal.Refusal.TheVariants.{TooManyStreams}
+use Rattle.h2_spec_log.proofs.Names
+use Names.{List, None, Some, [], false, map, pos, refl, replicate, true, ℕ, ◌++◌, ◌∷◌, ◌≡◌}
+use Names.{Settings, NoError, Act, ChangeSettings, Count, Done, Number, Open, PutOut, Refuse}
+use Names.{Refused, Release, ResetStream, SendData, SendFields, SendGoAway, SendPing, active_count}
+use Names.{recv_window, send_window, waiting, with_call, log_view, View, takes, NotOwed, GoingAway}
+use Names.{NoSuchStream, OutputFull, PingWaits, SettingsWait}
 use Rattle.h2_spec_log.proofs.Computing.{computing}
 use Rattle.h2_spec_log.proofs.examples.Blocks.{list_of_size}
 use Rattle.h2_spec_log.proofs.examples.Ends.{active_server, active_view, asking_view, new_client}
@@ -58,16 +56,15 @@ refused_without_a_stream = (refl, refl)
 
 -- stream 1 of this view, on which this end has sent END_STREAM
 abbrev pub ended_view : View
-ended_view =
-    record body_view {
-      stream = λ i. Some (record {
-        send_window = pos 9;
-        recv_window = pos 9;
-        owed = 4;
-        ended_in = false;
-        ended_out = true;
-      });
-    }
+ended_view = record body_view {
+  stream = λ i. Some (record {
+    send_window = pos 9;
+    recv_window = pos 9;
+    owed = 4;
+    ended_in = false;
+    ended_out = true;
+  });
+}
 
 -- C3: this end has ended the stream.
 -- rule (best): 5.1 Each frame is sent only in states that allow it
@@ -163,14 +160,13 @@ settings_wait = refl
 
 -- a view of which every condition of `Open` holds
 abbrev pub refusing_view : View
-refusing_view =
-    record asking_view {
-      failed = Some NoError;
-      active_count = 1000;
-      next_number = 2147483649;
-      goaway_sent = true;
-      waiting = 65536;
-    }
+refusing_view = record asking_view {
+  failed = Some NoError;
+  active_count = 1000;
+  next_number = 2147483649;
+  goaway_sent = true;
+  waiting = 65536;
+}
 
 -- opening a stream with a list that is too large
 abbrev pub large_open : Act

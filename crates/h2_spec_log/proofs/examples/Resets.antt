@@ -1,12 +1,10 @@
 -- RST_STREAM of either end, and streams that the layer above refuses.
-use Rattle.h2_spec_log.proofs.Names.{List, None, Some, [], codes, false, map, refl, replicate, true}
-use Rattle.h2_spec_log.proofs.Names.{◌++◌, ◌∷◌, ◌≡◌, Data, Reset, EnhanceYourCalm, InternalError}
-use Rattle.h2_spec_log.proofs.Names.{ProtocolError, Item, alone, Done, Refuse, Refused, ResetStream}
-use Rattle.h2_spec_log.proofs.Names.{DataEvent, FieldsEvent, ResetEvent, Log, output, state}
-use Rattle.h2_spec_log.proofs.Names.{waiting, with_call, log_view, Closed, ClosedByUs}
-use Rattle.h2_spec_log.proofs.Names.{ConnectionFault, NoEvent, Reported, takes}
-use Rattle.h2_spec_log.specs.CallRules.{refuse_fault}
-use Rattle.h2_spec_log.specs.declared.refusal.Refusal.TheVariants.{NoSuchStream}
+use Rattle.h2_spec_log.proofs.Names
+use Names.{List, None, Some, [], codes, false, map, refl, replicate, true, ◌++◌, ◌∷◌, ◌≡◌, Data}
+use Names.{Reset, EnhanceYourCalm, InternalError, ProtocolError, Item, alone, Done, Refuse, Refused}
+use Names.{ResetStream, DataEvent, FieldsEvent, ResetEvent, Log, output, state, waiting, with_call}
+use Names.{log_view, Closed, ClosedByUs, ConnectionFault, NoEvent, Reported, takes, refuse_fault}
+use Names.{NoSuchStream}
 use Rattle.h2_spec_log.proofs.Computing.{computing}
 use Rattle.h2_spec_log.proofs.examples.Blocks.{resetting_server, server_with_third}
 use Rattle.h2_spec_log.proofs.examples.Ends.{active_octets, active_output, active_view}

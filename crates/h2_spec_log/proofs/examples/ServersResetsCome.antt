@@ -1,15 +1,12 @@
 -- The logs of the examples' servers that reset streams, refuse calls, leave or fail come about:
 -- each step is a frame in its encoding, or a call with its answer.
-use Rattle.h2_spec_log.proofs.Names.{arith, None, [], false, refl, replicate, true, ℕ, ◌∷◌}
-use Rattle.h2_spec_log.proofs.Names.{empty_table, Data, GoAway, Ping, Reset, Settings, Done}
-use Rattle.h2_spec_log.proofs.Names.{OutOfMemory, Refuse, Refused, Release, ResetStream, SendGoAway}
-use Rattle.h2_spec_log.proofs.Names.{SendPing, IsLog, called_one, with_call, takes, NotOwed, Server}
-use Rattle.h2_spec_log.proofs.Names.{◌≤◌}
-use Rattle.h2_wire.specs.declared.fault.WireFault.TheVariants.{BadPreface}
-use Rattle.h2_spec_log.specs.Histories.{met_fault, ran_out_of_memory, to_keep}
-use Rattle.h2_spec_log.specs.LogCalls.{fails, lacks, refuses}
-use Rattle.h2_spec_log.specs.LogSteps.{limits_from, took_out_of_memory}
-use Rattle.h2_spec_log.specs.declared.refusal.Refusal.TheVariants.{Memory}
+use Rattle.h2_spec_log.specs.Histories.{to_keep}
+use Rattle.h2_spec_log.specs.LogCalls.{refuses}
+use Rattle.h2_spec_log.proofs.Names
+use Names.{arith, None, [], false, refl, replicate, true, ℕ, ◌∷◌, empty_table, Data, GoAway, Ping}
+use Names.{Reset, Settings, Done, OutOfMemory, Refuse, Refused, Release, ResetStream, SendGoAway}
+use Names.{SendPing, IsLog, called_one, with_call, takes, NotOwed, Server, ◌≤◌, BadPreface}
+use Names.{met_fault, ran_out_of_memory, fails, lacks, limits_from, took_out_of_memory, Memory}
 use Rattle.h2_spec_log.proofs.examples.Blocks.{resetting_server}
 use Rattle.h2_spec_log.proofs.examples.Coming.{ServerComes, block_comes, calls_come, comes, coming}
 use Rattle.h2_spec_log.proofs.examples.Coming.{octets_are, short_block}
@@ -96,8 +93,7 @@ server_out_of_memory_comes =
 server_at_a_wrong_preface_comes : ServerComes server_at_a_wrong_preface
 unfolding coming
 server_at_a_wrong_preface_comes =
-    met_fault new_server_comes
-    (record { up = refl; all_reported = refl }) wrong_octets BadPreface
+    met_fault new_server_comes (record { up = refl; all_reported = refl }) wrong_octets BadPreface
     (fault_of_the_preface (limits_from new_server))
 
 first_acknowledgment_at_a_server_comes :

@@ -1,16 +1,11 @@
 -- SETTINGS: faults of values, and how they change what an end does.
-use Rattle.h2_spec_log.proofs.Names.{List, None, Some, [], codes, false, map, pos, refl, true, ℕ}
-use Rattle.h2_spec_log.proofs.Names.{◌++◌, ◌∷◌, ◌≡◌, empty_table, Field, Ping, Settings, Item}
-use Rattle.h2_spec_log.proofs.Names.{alone, FlowControlError, ProtocolError, ChangeSettings, Done}
-use Rattle.h2_spec_log.proofs.Names.{Refused, SendFields, Values, FieldsEvent, settings_fault, Log}
-use Rattle.h2_spec_log.proofs.Names.{output, recv_window, opened, with_call, log_view, takes}
-use Rattle.h2_spec_log.proofs.Names.{takes_block, Server}
-use Rattle.hpack.specs.Lists.{EncoderState}
-use Rattle.h2_spec_log.specs.Events.{AckedEvent}
-use Rattle.h2_spec_log.specs.ItemEffects.{encoder_after_settings}
-use Rattle.h2_spec_log.specs.Log.{max_streams}
-use Rattle.h2_spec_log.specs.Settings.{own_value, settings_of}
-use Rattle.h2_spec_log.specs.declared.refusal.Refusal.TheVariants.{SettingsWait}
+use Rattle.h2_spec_log.specs.Settings.{own_value}
+use Rattle.h2_spec_log.proofs.Names
+use Names.{List, None, Some, [], codes, false, map, pos, refl, true, ℕ, ◌++◌, ◌∷◌, ◌≡◌, empty_table}
+use Names.{Field, Ping, Settings, Item, alone, FlowControlError, ProtocolError, ChangeSettings}
+use Names.{Done, Refused, SendFields, Values, FieldsEvent, settings_fault, Log, output, recv_window}
+use Names.{opened, with_call, log_view, takes, takes_block, Server, EncoderState, AckedEvent}
+use Names.{encoder_after_settings, max_streams, settings_of, SettingsWait}
 use Rattle.h2_spec_log.proofs.Computing.{computing}
 use Rattle.h2_spec_log.proofs.examples.Ends.{active_octets, active_output, active_server}
 use Rattle.h2_spec_log.proofs.examples.Ends.{active_view, asked_output, asking_client, new_client}

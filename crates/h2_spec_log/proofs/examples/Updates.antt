@@ -1,10 +1,9 @@
 -- WINDOW_UPDATE, and windows that SETTINGS change.
-use Rattle.h2_spec_log.proofs.Names.{List, None, Some, [], codes, false, negsuc, pos, refl}
-use Rattle.h2_spec_log.proofs.Names.{replicate, true, ℕ, ◌++◌, ◌∷◌, ◌≡◌, Settings, WindowUpdate}
-use Rattle.h2_spec_log.proofs.Names.{FlowControlError, ProtocolError, Item, alone, Count, SendData}
-use Rattle.h2_spec_log.proofs.Names.{FieldsEvent, ResetEvent, settings_fault, Log, output}
-use Rattle.h2_spec_log.proofs.Names.{send_window, with_call, log_view, ConnectionFault, NoEvent}
-use Rattle.h2_spec_log.proofs.Names.{StreamFault, takes}
+use Rattle.h2_spec_log.proofs.Names
+use Names.{List, None, Some, [], codes, false, negsuc, pos, refl, replicate, true, ℕ, ◌++◌, ◌∷◌}
+use Names.{◌≡◌, Settings, WindowUpdate, FlowControlError, ProtocolError, Item, alone, Count}
+use Names.{SendData, FieldsEvent, ResetEvent, settings_fault, Log, output, send_window, with_call}
+use Names.{log_view, ConnectionFault, NoEvent, StreamFault, takes}
 use Rattle.h2_spec_log.proofs.Computing.{computing}
 use Rattle.h2_spec_log.proofs.examples.Blocks.{resetting_server, server_with_third}
 use Rattle.h2_spec_log.proofs.examples.Ends.{active_octets, active_output, active_server}
@@ -19,8 +18,7 @@ use Rattle.h2_spec_log.proofs.examples.Words.{reset_frame, short_request, verdic
 -- WINDOW_UPDATE of none, of as many as bring a first window to the greatest, and of one more
 abbrev pub updates : ℕ → List Item
 updates =
-    λ stream.
-    alone (WindowUpdate stream 0) ∷ alone (WindowUpdate stream 2147418112)
+    λ stream. alone (WindowUpdate stream 0) ∷ alone (WindowUpdate stream 2147418112)
     ∷ alone (WindowUpdate stream 2147418113) ∷ []
 
 -- Faults of the connection's window end the connection; those of a stream's reset it (RFC 9113,

@@ -1,14 +1,10 @@
 -- The words of the examples: what an end comes to, values, fields, and frames in hexadecimal text.
+use Rattle.std.specs.Prelude.{reverse, Option}
+use Rattle.h2_spec_log.specs.declared.refusal.Refusal.{Refusal}
 use Rattle.h2_spec_log.proofs.Names.{ℕ, false, List, [], ◌∷◌, ◌++◌, map, codes, Some, None, Field}
 use Rattle.h2_spec_log.proofs.Names.{Entries, empty_table, Item, Event, Values, Act, Refused, Log}
-use Rattle.h2_spec_log.proofs.Names.{output, View}
-use Rattle.std.specs.Prelude.{reverse, Option}
-use Rattle.h2_frame.specs.declared.code.Code.{Code}
-use Rattle.h2_spec_log.specs.declared.refusal.Refusal.{Refusal}
-use Rattle.h2_spec_log.specs.Acts.{Answer}
-use Rattle.h2_spec_log.specs.Verdicts.{Verdict}
-use Rattle.h2_spec_log.specs.ItemRules.{verdict_of}
-use Rattle.h2_spec_log.specs.CallRules.{refusal_of, answer_of}
+use Rattle.h2_spec_log.proofs.Names.{output, View, Code, Answer, Verdict, verdict_of, refusal_of}
+use Rattle.h2_spec_log.proofs.Names.{answer_of}
 use Rattle.h2_spec_log.proofs.examples.Octets.{octets}
 
 -- What an end has come to: the octets that it used, the events that it reported, the oldest first,
@@ -20,13 +16,12 @@ pub record Outcome : Type 0 where
   pub failed : Option Code
 
 abbrev pub outcome : Log → Outcome
-outcome log =
-    record {
-      input = log.input;
-      events = reverse log.reported;
-      output = output log;
-      failed = log.failed;
-    }
+outcome log = record {
+  input = log.input;
+  events = reverse log.reported;
+  output = output log;
+  failed = log.failed;
+}
 
 abbrev pub come_to : List ℕ → List Event → List ℕ → Option Code → Outcome
 come_to input events output failed =
@@ -95,11 +90,10 @@ abbrev pub request_block : List ℕ
 request_block = octets (codes "828684418cf1e3c2e5f23a6ba0ab90f4ff")
 
 abbrev pub table_with_authority : Entries
-table_with_authority =
-    record {
-      entries = record { name = codes ":authority"; value = codes "www.example.com" } ∷ [];
-      maximum = 4096;
-    }
+table_with_authority = record {
+  entries = record { name = codes ":authority"; value = codes "www.example.com" } ∷ [];
+  maximum = 4096;
+}
 
 -- the fields of an answer
 abbrev pub short_answer : List Field

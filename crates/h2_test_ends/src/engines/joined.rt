@@ -2,18 +2,18 @@
 
 use super::acts::acts;
 use h2_joined::{
-    Acted, Code, Config, EndRefusal, HandedEvents, Joined, JointAct, JointEvent, Refusal, Side,
+    Acted, Code, Config, EndEvent, EndRefusal, HandedEvents, Joined, JointAct, Refusal, Side,
     connection_windows_are_conserved, handed_out_is_a_prefix, header_tables_are_in_step, headline,
     joined_ends_are_a_pair, no_fault_is_reported, quiet_ends_have_all, quiet_ends_hold_nothing,
     run, stream_windows_are_conserved,
 };
 use std::alloc::{AllocError, Global};
 
-/// What is seen of an end.
+/// What can be read of an end.
 type Half = (usize, usize, usize, Option<Code>);
 
-/// How many messages an end has accepted, how much it has handed out, how many octets are on its
-/// pipe, and with what it has failed.
+/// The number of messages that an end has accepted, how much it has handed out, the number of
+/// octets on its pipe, and the code with which it has failed.
 fn half_of(joined: &Joined, side: Side) -> Half {
     let conn = match side {
         Side::Client => joined.client().conn(),
@@ -27,21 +27,22 @@ fn half_of(joined: &Joined, side: Side) -> Half {
     )
 }
 
-/// Whether this was handed out at a place: a head of stream 1, which is whole or not.
+/// Whether this was handed out at a place: a head of stream 1, which is complete or not.
 fn is_head(events: HandedEvents<'_>, place: usize, is_whole: bool) -> bool {
     match events.get(place) {
-        Some(JointEvent::Head { id, list, end }) => {
+        Some(EndEvent::Head { id, list, end }) => {
             id == 1 && end == is_whole && !list.is_empty() && list.get(list.len()).is_none()
         }
         _ => false,
     }
 }
 
-/// Whether the acts have done this: the request was handed out whole, and of the response the head.
+/// Whether the acts have done this: the complete request was handed out, and the head of the
+/// response.
 fn are_done(joined: &Joined) -> bool {
     let (client, server) = (joined.handed(Side::Client), joined.handed(Side::Server));
     is_head(server, 0, true)
-        && matches!(client.get(0), Some(JointEvent::Acked))
+        && matches!(client.get(0), Some(EndEvent::Acked))
         && is_head(client, 1, false)
         && half_of(joined, Side::Client) == (1, 2, 5, None)
         && half_of(joined, Side::Server) == (1, 1, 10, None)

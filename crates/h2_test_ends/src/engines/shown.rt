@@ -1,7 +1,7 @@
 //! What `Debug` prints.
 
 use h2_engines::{Fetched, LinkError, LinkFault};
-use h2_joined::{Acted, JointAct, JointEvent, Side};
+use h2_joined::{Acted, EndEvent, JointAct, Side};
 use std::alloc::{AllocError, Global};
 
 /// Whether what was fetched is printed so.
@@ -18,11 +18,8 @@ fn prints_fetched(alloc: Global) -> Result<bool, AllocError> {
 
 /// Whether an act, its answer and an event are printed so.
 fn prints_acts(alloc: Global) -> Result<bool, AllocError> {
-    let (act, acted, event) = (
-        JointAct::Pump(Side::Client),
-        Acted::Count(4),
-        JointEvent::Unprocessed { id: 3 },
-    );
+    let (act, acted) = (JointAct::Pump(Side::Client), Acted::Count(4));
+    let event: EndEvent<(), ()> = EndEvent::Unprocessed { id: 3 };
     let text = format!(in alloc; "{act:?} {acted:?} {event:?}")?;
     Ok(text.as_str() == "Pump(Client) Count(4) Unprocessed { id: 3 }")
 }

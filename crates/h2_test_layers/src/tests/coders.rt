@@ -1,6 +1,6 @@
 //! An encoder of field blocks, and two decoders: one makes a list of each block, the other fills a
-//! list that is kept. Each call answers a plain value, without what its contract says, which no
-//! test needs.
+//! list that is kept. Each call returns a plain value, without a contract, since no test needs
+//! one.
 
 use hpack::{Decoded, Decoder, Encoder, Fault, Field, FieldList, FieldRef, List, Table, list_size};
 use std::alloc::Global;
@@ -15,7 +15,7 @@ pub(crate) struct Coders {
 }
 
 impl Drop for Coders {
-    /// Drops each by a call, so that what drops it is proved once.
+    /// Each is dropped by a call, so that its drop is proved once.
     fn drop(self) {
         let Coders {
             alloc: _,
@@ -31,13 +31,13 @@ impl Drop for Coders {
     }
 }
 
-// Lets go of an encoder.
+// Drops the encoder.
 fn let_go_of_encoder(_encoder: Encoder) {}
 
-// Lets go of a decoder.
+// Drops the decoder.
 fn let_go(_decoder: Decoder) {}
 
-// Lets go of a list.
+// Drops the list.
 fn let_go_of_list(_list: FieldList) {}
 
 // A new decoder.
@@ -198,8 +198,8 @@ impl Coders {
             && self.are_in_step()
     }
 
-    /// Whether a block is decoded into the list that is kept, with so many fields; or, where none
-    /// are said, it is above the limit.
+    /// Whether a block is decoded into the list that is kept, with `fields` fields; or, where that
+    /// is `None`, it is above the limit.
     pub(crate) fn keeps(&mut self, octets: &[u8], limit: u32, fields: Option<usize>) -> bool {
         let found = decode_into(&mut self.keeper, octets, limit, &mut self.kept);
         match fields {

@@ -1,4 +1,4 @@
-//! Debug forms in HPACK, and octets that are given back.
+//! Debug forms in HPACK, and octets that are returned.
 
 use super::coders::Coders;
 use hpack::{Field, FieldRef, Octets};
@@ -105,7 +105,7 @@ fn debug_form_of_an_encoder(rt: HostRuntime) {
     assert!(rt; is_encoder(rt.alloc(), 64, shown));
 }
 
-// Whether octets are given back as a vector.
+// Whether octets are returned as a vector.
 fn are_given_back(alloc: Global) -> bool {
     match Octets::copy_of(alloc, b":path") {
         Ok(octets) => octets.into_vec().as_slice() == b":path".as_slice(),

@@ -3,7 +3,7 @@
 use h2_frame::{Frame, Unwritable, write};
 use std::alloc::Global;
 
-// A frame of an unknown kind, whose payload is so many zeros; none where memory was refused.
+// A frame of an unknown type, whose payload is `count` zeros; `None` where memory was refused.
 fn unknown(alloc: Global, kind: u8, stream: u32, count: usize) -> Option<Frame> {
     match vec![in alloc; 0; count] {
         Ok(payload) => Some(Frame::Unknown {
@@ -33,7 +33,7 @@ fn the_longest_frame_is_written(rt: HostRuntime) {
     assert!(rt; longest_is_written(rt.alloc()));
 }
 
-// Whether a longer frame is refused, and what is there stays.
+// Whether a longer frame is refused, and what is there is unchanged.
 fn longer_is_refused(alloc: Global) -> bool {
     let Some(longer) = unknown(alloc, 4, 0x8000_0000, 0x100_0000) else {
         return false;

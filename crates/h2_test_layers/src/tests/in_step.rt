@@ -5,10 +5,10 @@ use super::draw::{Draw, MOST_FIELDS};
 use hpack::{Field, list_size};
 use std::alloc::Global;
 
-/// How many lists go through each encoder.
+/// The number of lists that go through each encoder.
 const LISTS: usize = 600;
 
-/// The maxima that they are made with, and at how many of 64 blocks limits are set.
+/// The maxima that they are made with, and the number of blocks of 64 at which limits are set.
 const MAXIMA: [(u32, usize); 7] = [
     (0, 32),
     (40, 32),
@@ -19,7 +19,7 @@ const MAXIMA: [(u32, usize); 7] = [
     (65_536, 1),
 ];
 
-// Sets up to three limits, at so many of 64 blocks.
+// Sets up to three limits, at `often` of 64 blocks.
 fn set_limits(draw: &mut Draw, coders: &mut Coders, often: usize) {
     if draw.below(64) >= often {
         return;
@@ -29,8 +29,8 @@ fn set_limits(draw: &mut Draw, coders: &mut Coders, often: usize) {
     }
 }
 
-// Whether a list goes through whole, or, one in eight of those with fields, with a limit just below
-// its size.
+// Whether a list goes through unchanged, or, one in eight of those with fields, with a limit just
+// below its size.
 fn passes(draw: &mut Draw, coders: &mut Coders, fields: &[Field]) -> bool {
     if draw.below(8) > 0 || fields.is_empty() {
         return coders.pass_whole(fields);
@@ -41,7 +41,7 @@ fn passes(draw: &mut Draw, coders: &mut Coders, fields: &[Field]) -> bool {
     }
 }
 
-// A list goes through; how many fields it has.
+// A list goes through; returns the number of its fields.
 fn one_list(alloc: Global, draw: &mut Draw, coders: &mut Coders, often: usize) -> Option<usize> {
     set_limits(draw, coders, often);
     match draw.list(alloc) {

@@ -1,4 +1,4 @@
-//! Frames lent: from the piece where they lie whole in it, and else from the cutter.
+//! Frames lent: from the piece where they are complete in it, and else from the cutter.
 
 use h2_frame::FrameRef;
 use h2_wire::Cutter;

@@ -4,7 +4,7 @@ use super::coders::Coders;
 use hpack::{Fault, Field};
 use std::alloc::{AllocError, Global};
 
-/// What is seen of a table and an output.
+/// What can be read of a table and an output.
 #[derive(Clone, Copy, PartialEq, Eq)]
 struct Seen {
     octets: usize,
@@ -13,7 +13,7 @@ struct Seen {
     maximum: u32,
 }
 
-// What is seen of an encoder and its output.
+// What can be read of an encoder and its output.
 fn seen_of(coders: &Coders, out: &[u8]) -> Seen {
     Seen {
         octets: out.len(),
@@ -23,8 +23,8 @@ fn seen_of(coders: &Coders, out: &[u8]) -> Seen {
     }
 }
 
-// Encodes the fields, and once more where memory was refused: whether nothing had changed then,
-// and the table has so many entries now.
+// Encodes the fields, and once more where memory was refused: returns whether nothing had changed
+// then, and the table has `entries` entries now.
 fn encodes_again(coders: &mut Coders, fields: &[Field], out: &mut Vec<u8>, entries: usize) -> bool {
     let before = seen_of(coders, out);
     let encoded = match coders.encode(fields, out) {
@@ -53,7 +53,7 @@ fn nothing_changes(coders: &mut Coders, fields: &[Field], out: &mut Vec<u8>) -> 
     encodes_again(coders, &[], out, 0)
 }
 
-// So many fields, each with a name and a value of its own.
+// `count` fields, each with a name and a value of its own.
 fn new_fields(alloc: Global, count: u16) -> Result<Vec<Field>, AllocError> {
     let mut fields = Vec::new(alloc);
     for number in 0..count {
@@ -85,7 +85,7 @@ const FIRST: &[u8] = b"\x82\x40\x01a\x01b\x04\x8c\xf1\xe3\xc2\xe5\xf2\x3a\x6b\xa
 /// The same fields, the second by its index.
 const NEXT: &[u8] = b"\x82\xbe\x04\x8c\xf1\xe3\xc2\xe5\xf2\x3a\x6b\xa0\xab\x90\xf4\xff";
 
-// The first of so many blocks that is not decoded into a list that is kept, after the one that
+// The first of `blocks` blocks that is not decoded into a list that is kept, after the one that
 // adds an entry. Each third list is above its limit.
 fn first_not_kept(alloc: Global, blocks: usize) -> Option<usize> {
     let Some(mut coders) = Coders::new(alloc, 4096) else {

@@ -10,7 +10,7 @@ use std::alloc::Global;
 pub(crate) const GOAWAY: &[u8] =
     b"\x00\x00\x08\x07\x00\x00\x00\x00\x00\x00\x00\x00\x05\x00\x00\x00\x01";
 
-// Whether these octets are given out after the one that is there, and nothing waits then.
+// Whether these octets are put out after the one that is there, and nothing is queued then.
 fn gives_all(output: &mut Output, out: &mut Vec<u8>, octets: &[u8]) -> bool
     ensures { output.new.ended ≡ output.old.ended }
 {
@@ -22,7 +22,7 @@ fn gives_all(output: &mut Output, out: &mut Vec<u8>, octets: &[u8]) -> bool
     }
 }
 
-/// Whether these octets wait, and are given out once.
+/// Whether these octets are queued, and are put out once.
 pub(crate) fn gives(alloc: Global, output: &mut Output, octets: &[u8]) -> bool
     ensures { output.new.ended ≡ output.old.ended }
 {
@@ -47,7 +47,7 @@ fn nothing_waits_at_first(rt: HostRuntime) {
     );
 }
 
-// Whether a frame waits in its encoding, these octets.
+// Whether a frame is queued as these octets, its encoding.
 fn adds_frame(alloc: Global, output: &mut Output, frame: FrameRef<'_>, octets: &[u8]) -> bool
     requires up { output.old.ended ≡ false }
 {
@@ -62,7 +62,7 @@ fn adds_frame(alloc: Global, output: &mut Output, frame: FrameRef<'_>, octets: &
     gives(alloc, output, octets)
 }
 
-// Whether a frame waits so in a new output.
+// Whether a frame is queued so in a new output.
 fn is_added(alloc: Global, frame: FrameRef<'_>, octets: &[u8]) -> bool {
     match Output::new(alloc) {
         Ok(mut output) => adds_frame(alloc, &mut output, frame, octets),
@@ -100,7 +100,7 @@ const FRAMES: &[(FrameRef<'static>, &[u8])] = &[
     ),
 ];
 
-// The place of the first frame that waits otherwise.
+// The place of the first frame that is queued otherwise.
 fn first_wrong(alloc: Global) -> Option<usize> {
     for (place, (frame, octets)) in FRAMES.iter().enumerate() {
         if !is_added(alloc, *frame, octets) {
@@ -154,7 +154,7 @@ pub(crate) fn adds_data(output: &mut Output, octets: &[u8], end: bool) -> bool
     adds_data_of(output, 1, octets, end)
 }
 
-// Whether DATA is added, and given out as these octets.
+// Whether DATA is added, and put out as these octets.
 fn gives_data(alloc: Global, output: &mut Output, data: &[u8], end: bool, octets: &[u8]) -> bool
     requires up { output.old.ended ≡ false }
     ensures { output.new.ended ≡ false }
@@ -162,7 +162,7 @@ fn gives_data(alloc: Global, output: &mut Output, data: &[u8], end: bool, octets
     adds_data(output, data, end) && gives(alloc, output, octets)
 }
 
-// Whether DATA waits in its encoding.
+// Whether DATA is queued in its encoding.
 fn is_data_given(alloc: Global) -> bool {
     let Ok(mut output) = Output::new(alloc) else {
         return false;
@@ -195,7 +195,7 @@ fn data_waits_in_its_encoding(rt: HostRuntime) {
     assert!(rt; is_data_given(rt.alloc()) && is_long_data_given(rt.alloc()));
 }
 
-// Whether octets, for which room is made, wait.
+// Whether octets, for which room is made, are queued.
 fn adds_octets(output: &mut Output, octets: &[u8]) -> bool
     requires up { output.old.ended ≡ false }
     ensures { output.new.ended ≡ false }
@@ -207,7 +207,7 @@ fn adds_octets(output: &mut Output, octets: &[u8]) -> bool
     true
 }
 
-// Whether HEADERS of stream 1 with END_HEADERS, and then DATA, wait.
+// Whether HEADERS of stream 1 with END_HEADERS, and then DATA, are queued.
 fn are_in_order(alloc: Global) -> bool {
     let Ok(mut output) = Output::new(alloc) else {
         return false;
@@ -245,7 +245,7 @@ fn a_failed_connection_leaves_with_goaway(rt: HostRuntime) {
     );
 }
 
-// Whether the next piece of this size is given out, of what waits.
+// Whether the next piece of this size is put out, of the queued output.
 fn gives_piece(output: &mut Output, size: usize, out: &mut Vec<u8>) -> bool {
     let wait = output.len();
     match output.put_out(size, out) {
@@ -258,7 +258,7 @@ fn gives_piece(output: &mut Output, size: usize, out: &mut Vec<u8>) -> bool {
     }
 }
 
-// Whether what waits, 22 octets, is given out in pieces of this size.
+// Whether the queued output, 22 octets, is put out in pieces of this size.
 fn gives_pieces(output: &mut Output, size: usize, out: &mut Vec<u8>) -> bool {
     for _ in 0..22 {
         if !gives_piece(output, size, out) {
@@ -268,7 +268,7 @@ fn gives_pieces(output: &mut Output, size: usize, out: &mut Vec<u8>) -> bool {
     output.is_empty()
 }
 
-// Whether octets and GOAWAY are given out in pieces of this size.
+// Whether octets and GOAWAY are put out in pieces of this size.
 fn is_given_in_pieces(alloc: Global, size: usize) -> bool {
     let octets = b"hello\x00\x00\x08\x07\x00\x00\x00\x00\x00\x00\x00\x00\x05\x00\x00\x00\x01";
     let Ok(mut output) = Output::new(alloc) else {

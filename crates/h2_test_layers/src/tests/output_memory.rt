@@ -18,7 +18,7 @@ fn makes_room(output: &mut Output, waiting: usize) -> bool
     output.len() == waiting && output.reserve(100).is_ok()
 }
 
-// Whether a hundred octets follow what waits.
+// Whether a hundred octets follow the queued output.
 fn adds_hundred(output: &mut Output, waiting: usize) -> bool
     requires up { output.old.ended ≡ false }
     ensures { output.new.ended ≡ false }
@@ -30,8 +30,8 @@ fn adds_hundred(output: &mut Output, waiting: usize) -> bool
     true
 }
 
-// Whether so many octets are given out, also where an allocation was refused first, and then
-// nothing is lost.
+// Whether `count` octets are put out, also where an allocation was refused first, and then nothing
+// is lost.
 fn gives_again(output: &mut Output, count: usize, out: &mut Vec<u8>) -> bool {
     let (wait, before) = (output.len(), out.len());
     match output.put_out(count, out) {
@@ -42,7 +42,7 @@ fn gives_again(output: &mut Output, count: usize, out: &mut Vec<u8>) -> bool {
     }
 }
 
-// Whether all that waits is given out.
+// Whether all queued output is put out.
 fn gives_all(alloc: Global, output: &mut Output) -> bool {
     let mut out = Vec::new(alloc);
     gives_again(output, 150, &mut out)
@@ -87,7 +87,7 @@ fn a_refused_allocation_loses_nothing(rt: HostRuntime) {
     assert!(rt; loses_nothing(rt.alloc()));
 }
 
-// Whether two frames are added, and given out in two pieces.
+// Whether two frames are added, and put out in two pieces.
 fn is_filled_again(output: &mut Output, out: &mut Vec<u8>) -> bool
     requires up { output.old.ended ≡ false }
     ensures { output.new.ended ≡ false }
@@ -123,7 +123,7 @@ fn an_emptied_queue_is_filled_again(rt: HostRuntime) {
     assert_eq!(rt; first_not_filled(rt.alloc(), 10_000), None);
 }
 
-// Whether a frame is added, and another one that waited is given out.
+// Whether a frame is added, and another one that was queued is put out.
 fn goes_on(output: &mut Output, out: &mut Vec<u8>) -> bool
     requires up { output.old.ended ≡ false }
     ensures { output.new.ended ≡ false }

@@ -10,7 +10,7 @@ use std::alloc::Global;
 /// The initial window of both directions.
 pub(crate) const INITIAL: u32 = 65_535;
 
-/// What is done with a table, or what is to hold of it.
+/// What is done with a table, or what must hold of it.
 #[derive(Clone, Copy)]
 enum Step {
     /// A stream is opened, with a number of which nothing is kept.
@@ -61,7 +61,7 @@ fn is_near(window: i64) -> bool
     window <= 1 << 32 && window >= -(1 << 32)
 }
 
-/// Opens a stream; whether nothing was kept of its number.
+/// Opens a stream; returns whether nothing was kept of its number.
 pub(crate) fn opens(table: &mut StreamTable, id: u32, stream: Stream) -> bool {
     if table.get(id).is_some() || !is_near(stream.send_window) || !is_near(stream.recv_window) {
         return false;
@@ -69,7 +69,7 @@ pub(crate) fn opens(table: &mut StreamTable, id: u32, stream: Stream) -> bool {
     table.open(id, stream).is_ok()
 }
 
-// Changes a stream; whether it is active.
+// Changes a stream; returns whether it is active.
 fn sets(table: &mut StreamTable, id: u32, stream: Stream) -> bool {
     if table.stream(id).is_none() || !is_near(stream.send_window) || !is_near(stream.recv_window) {
         return false;
@@ -78,7 +78,7 @@ fn sets(table: &mut StreamTable, id: u32, stream: Stream) -> bool {
     true
 }
 
-/// Closes a stream; whether it is active.
+/// Closes a stream; returns whether it is active.
 pub(crate) fn closes(table: &mut StreamTable, id: u32) -> bool {
     if table.stream(id).is_none() {
         return false;
@@ -104,7 +104,7 @@ fn is_active(table: &StreamTable, id: u32, stream: Stream) -> bool {
     table.stream(id) == Some(stream) && table.get(id) == Some(Entry::Active(stream))
 }
 
-// Whether what is kept of a number is that it was reset, or nothing.
+// Whether a number is kept as reset, or not at all.
 fn is_inactive(table: &StreamTable, id: u32, entry: Option<Entry>) -> bool {
     table.stream(id).is_none() && table.get(id) == entry
 }
@@ -148,8 +148,7 @@ fn a_new_table_is_empty(rt: HostRuntime) {
     assert_eq!(rt; first_undone(rt.alloc(), INITIAL, NEW), None);
 }
 
-/// What is kept of a stream is what it was opened with, and then what it was changed to; another
-/// stream is as it was.
+/// A stream is kept as it was opened, and then as it was changed; another stream is unchanged.
 const CHANGED: &[Step] = &[
     Step::Open(1, stream!(65_535, 1000, 0)),
     Step::Open(3, stream!(-5, 999, 1)),

@@ -20,7 +20,7 @@ fn id_at(place: u32) -> u32 {
     place.wrapping_mul(2).wrapping_add(1)
 }
 
-// What is kept of the stream at a place, once some are reset and some closed.
+// The stream at a place as it is kept, once some are reset and some closed.
 fn kept_at(place: u32) -> Option<Entry> {
     match place % 3 {
         0 => Some(Entry::Reset),
@@ -62,7 +62,7 @@ fn changes_all(table: &mut StreamTable) -> bool {
     true
 }
 
-// Whether what is kept of each is as it was left.
+// Whether each is kept as it was left.
 fn keeps_all(table: &StreamTable) -> bool {
     for place in 0..1000_u32 {
         if table.get(id_at(place)) != kept_at(place) {
@@ -72,7 +72,7 @@ fn keeps_all(table: &StreamTable) -> bool {
     table.greatest_send_window() == Some(999) && table.next_active(0) == Some(5)
 }
 
-// Whether all of it holds.
+// Whether all of these hold.
 fn all_hold(alloc: Global) -> bool {
     let mut table = StreamTable::new(alloc, INITIAL, INITIAL);
     if !opens_all(&mut table) {

@@ -11,7 +11,7 @@ pub(super) struct Pieces<'a> {
 }
 
 impl<'a> Pieces<'a> {
-    /// Each piece has so many octets at most.
+    /// Each piece has at most `most` octets.
     pub(super) fn new(octets: &'a [u8], most: usize) -> Pieces<'a> {
         Pieces { octets, most }
     }
@@ -34,7 +34,7 @@ pub(super) struct Halves<'a> {
 }
 
 impl<'a> Halves<'a> {
-    /// The first piece has so many octets.
+    /// The first piece has `place` octets.
     pub(super) fn new(octets: &'a [u8], place: usize) -> Halves<'a> {
         let (first, second) = octets.split_at_checked(place).unwrap_or((octets, &[]));
         Halves { first, second }
@@ -54,7 +54,7 @@ impl Read for Halves<'_> {
     }
 }
 
-/// Fails once, after so many reads or writes.
+/// Fails once, after `before` reads or writes.
 #[derive(Drop)]
 pub(super) struct Faulty<D> {
     pub(super) inner: D,
@@ -100,7 +100,7 @@ impl<D: Write> Write for Faulty<D> {
     }
 }
 
-/// Keeps so many octets, and takes none after them.
+/// Keeps `room` octets, and takes none after them.
 #[derive(Drop)]
 pub(super) struct Full {
     pub(super) octets: Vec<u8>,

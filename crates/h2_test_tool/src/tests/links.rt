@@ -6,7 +6,7 @@ use std::test::Fail;
 
 const OCTETS: &[u8] = b"abcdefghijklmnopqrs";
 
-/// A link that gives OCTETS, so many a call at most; the call after so many fails.
+/// A link that gives OCTETS, at most `most` a call; the call after `fails_after` others fails.
 fn new_link(
     alloc: Global,
     most: usize,
@@ -19,7 +19,7 @@ fn new_link(
     })
 }
 
-/// Whether a write of OCTETS has this answer, and so many of them are then in the output.
+/// Whether a write of OCTETS has this answer, and `written` of them are then in the output.
 fn writes(link: &mut MemoryLink, answer: Result<(), LinkError>, written: usize) -> bool {
     if link.failures() != 0 || write_all(link, OCTETS) != answer {
         return false;
@@ -29,10 +29,10 @@ fn writes(link: &mut MemoryLink, answer: Result<(), LinkError>, written: usize) 
 }
 
 // rule: links (own) Writing all octets ends once they are taken, or with N1 or N5
-// How many octets a call takes at most, which call fails, the answer, and how many are written.
+// The most octets of a call, the call that fails, the answer, and the number of octets written.
 #[test]
 fn writes_of_all_octets(rt: HostRuntime) -> Result<(), Fail> {
-    let rules = [
+    let cases = [
         (1, None, Ok(()), 19),
         (5, None, Ok(()), 19),
         (usize::MAX, None, Ok(()), 19),
@@ -42,7 +42,7 @@ fn writes_of_all_octets(rt: HostRuntime) -> Result<(), Fail> {
         (1, Some(18), Err(LinkError::Device), 18),
         (5, Some(4), Ok(()), 19),
     ];
-    for (most, fails_after, answer, written) in rules {
+    for (most, fails_after, answer, written) in cases {
         let mut link = new_link(rt.alloc(), most, fails_after)?;
         assert!(rt; writes(&mut link, answer, written), "{most}");
     }
@@ -74,7 +74,7 @@ fn reads(link: &mut MemoryLink, given: Option<&[u8]>) -> bool {
     }
 }
 
-/// Whether reads of at most 7 octets give these; the call after so many fails.
+/// Whether reads of at most 7 octets give these; the call after `fails_after` others fails.
 fn reads_all(
     alloc: Global,
     fails_after: Option<u64>,
@@ -114,7 +114,7 @@ fn reads_of_the_input(rt: HostRuntime) -> Result<(), Fail> {
 // rule: links (own) N1 to N7 are printed with their names and codes
 #[test]
 fn errors_have_their_texts(rt: HostRuntime) -> Result<(), Fail> {
-    let rules = [
+    let cases = [
         (LinkError::Device, "N1 Device"),
         (LinkError::Stream(11), "N2 Stream 11"),
         (LinkError::Memory, "N3 Memory"),
@@ -123,7 +123,7 @@ fn errors_have_their_texts(rt: HostRuntime) -> Result<(), Fail> {
         (LinkError::Reset(8), "N6 Reset 8"),
         (LinkError::Refused, "N7 Refused"),
     ];
-    for (error, text) in rules {
+    for (error, text) in cases {
         let shown = format!(in rt.alloc(); "{error}")?;
         assert_eq!(rt; shown.as_str(), text);
     }

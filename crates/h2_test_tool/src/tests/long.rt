@@ -1,4 +1,4 @@
-//! Streams of a server too long to be cut at each place in a row, and their writers.
+//! Streams of a server too long to be cut at each place in a case, and their writers.
 
 use super::devices::{Full, Halves};
 use h2_cli::{Failure, Status};
@@ -100,7 +100,7 @@ fn lines_of_long_field(alloc: Global) -> Result<Vec<u8>, AllocError> {
     Ok(lines)
 }
 
-/// Whether a writer with so much room has that many octets of the lines, and the failure is
+/// Whether a writer with room for `room` octets has that many of the lines, and the failure is
 /// reported where there are more.
 fn fills(alloc: Global, stream: &[u8], lines: &[u8], room: usize) -> bool {
     let mut out = Full::new(alloc, room);

@@ -5,8 +5,8 @@ use std::cell::Cell;
 use std::io::{self, ErrorKind, Read, Write};
 use std::net::{OpenStream, Shutdown};
 
-// A stream that keeps what is written, and gives so many octets. One of its writes and its first
-// read may go wrong.
+// A stream that keeps what is written, and gives a number of octets. One of its writes and its
+// first read may go wrong.
 #[derive(Drop)]
 pub struct Recorder {
     pub sent: Vec<u8>,
@@ -22,7 +22,7 @@ pub struct Recorder {
 }
 
 impl Recorder {
-    // A stream that takes at most so many octets a write, and gives so many.
+    // A stream that takes at most `most_written` octets a write, and gives `unread` octets.
     pub fn new(alloc: Global, most_written: usize, unread: usize) -> Recorder {
         Recorder {
             sent: Vec::new(alloc),
@@ -38,7 +38,8 @@ impl Recorder {
         }
     }
 
-    // The same stream, whose write after so many has this error; with `WriteZero` it takes none.
+    // The same stream, whose write after `after` others has this error; with `WriteZero` it takes
+    // none.
     pub fn with_wrong_write(mut self, after: usize, kind: ErrorKind) -> Recorder {
         self.wrong_write = after;
         self.kind = kind;

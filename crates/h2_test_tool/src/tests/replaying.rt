@@ -37,7 +37,7 @@ const FAULT: &Replayed = &Replayed {
         0000000401000000000000080700000000000000000100000001\n",
 };
 
-/// Whether a writer with so much room has that many octets of the lines, and the failure is
+/// Whether a writer with room for `room` octets has that many of the lines, and the failure is
 /// reported.
 fn fails(alloc: Global, replayed: &Replayed, room: usize) -> bool {
     let Ok(octets) = from_hex(alloc, replayed.text.as_bytes()) else {

@@ -15,7 +15,7 @@ const REQUEST: &[u8] = b"PRI * HTTP/2.0\r\n\r\nSM\r\n\r\n\
     \x00\x00\x11\x01\x05\x00\x00\x00\x01\x82\x86\x84\
     \x41\x8c\xf1\xe3\xc2\xe5\xf2\x3a\x6b\xa0\xab\x90\xf4\xff";
 
-/// The octets of the answer's DATA.
+/// The octets of the response's DATA.
 const ANSWER: &[u8] = b"\x00\x00\x06\x00\x01\x00\x00\x00\x01GET /\n";
 
 /// GOAWAY with PROTOCOL_ERROR, after which no stream is processed.

@@ -65,7 +65,8 @@ fn is_printed(
     lines.starts_with(printed) && ended == Err(Failure::Device)
 }
 
-/// Whether a stream in single octets is shown, of which a read and a write fail after so many.
+/// Whether a stream in single octets is shown, of which a read fails after `reads` others, and a
+/// write after `writes`.
 fn shows(alloc: Global, stream: &Stream, reads: usize, writes: usize, is_complete: bool) -> bool {
     let Ok(octets) = from_hex(alloc, stream.text.as_bytes()) else {
         return false;
@@ -119,7 +120,7 @@ fn failing_writes_in_hexadecimal(rt: HostRuntime) {
     }
 }
 
-/// Whether a writer with so much room has that many octets of the lines, and the failure is
+/// Whether a writer with room for `room` octets has that many of the lines, and the failure is
 /// reported where there are more.
 fn fills(alloc: Global, stream: &Stream, hex: bool, room: usize) -> bool {
     let Ok(octets) = from_hex(alloc, stream.text.as_bytes()) else {
@@ -146,7 +147,7 @@ fn full_writers(rt: HostRuntime) {
     }
 }
 
-/// Whether a stream is shown of which a read is interrupted after so many.
+/// Whether a stream is shown of which a read is interrupted after `reads` others.
 fn shows_interrupted(alloc: Global, stream: &Stream, reads: usize) -> bool {
     let Ok(octets) = from_hex(alloc, stream.text.as_bytes()) else {
         return false;

@@ -16,12 +16,12 @@ fn new_link(alloc: Global, stream: Recorder) -> Option<Recorded> {
     StreamLink::new(alloc, stream).ok()
 }
 
-/// Whether so many of these octets are taken, or the write fails.
+/// Whether a write of these octets returns this: the number of octets taken, or the failure.
 fn writes(link: &mut Recorded, octets: &[u8], answer: Result<usize, LinkFault>) -> bool {
     link.failures() < 9 && link.write(octets) == answer
 }
 
-/// Whether a read to 16 octets gives so many, or fails.
+/// Whether a read to 16 octets returns this: the number of octets, or the failure.
 fn reads(link: &mut Recorded, answer: Result<usize, LinkFault>) -> bool {
     let mut buffer = [0; 16];
     if link.failures() > 9 || link.read(&mut buffer) != answer {
@@ -39,7 +39,7 @@ fn flushes(link: &mut Recorded, answer: Result<(), LinkFault>) -> bool {
     link.failures() < 9 && link.flush() == answer
 }
 
-/// Whether these octets were sent, in so many writes, after so many failures.
+/// Whether these octets were sent, in `writes` writes, after `failures` failures.
 fn has_sent(link: &Recorded, octets: &[u8], writes: usize, failures: u64) -> bool {
     let stream = link.get_ref();
     stream.sent.as_slice() == octets && stream.writes == writes && link.failures() == failures
@@ -71,12 +71,11 @@ fn octets_are_sent_at_the_next_read(rt: HostRuntime) {
 }
 
 // rule: engines (own) A link over TCP holds 65,536 octets at most, then sends them
-// Each write, how many of its octets are taken, and how many octets are sent then, in how many
-// writes.
+// Each write, the number of its octets that are taken, and the octets and the writes sent then.
 #[test]
 fn octets_are_sent_once_65536_are_held(rt: HostRuntime) -> Result<(), Fail> {
     let octets = vec![in rt.alloc(); b'w'; 262_144]?;
-    let rules = [
+    let cases = [
         (65_535, 65_535, 0, 0),
         (1, 1, 65_536, 1),
         (65_536, 65_536, 131_072, 2),
@@ -87,7 +86,7 @@ fn octets_are_sent_once_65536_are_held(rt: HostRuntime) -> Result<(), Fail> {
     let Some(mut link) = new_link(rt.alloc(), Recorder::new(rt.alloc(), usize::MAX, 0)) else {
         panic!(rt; "no link")
     };
-    for (length, taken, sent, count) in rules {
+    for (length, taken, sent, count) in cases {
         let is_taken = writes(&mut link, &octets[..octets.len().min(length)], Ok(taken));
         let all = &octets[..octets.len().min(sent)];
         assert!(rt; is_taken && has_sent(&link, all, count, 0), "{length}");
@@ -129,7 +128,7 @@ fn reports(alloc: Global, most: usize, count: usize, wrong: usize, kind: ErrorKi
 
 // rule: engines (own) A link over TCP sends octets in order and once
 // rule: engines (own) A link over TCP counts the calls that have failed
-// Octets that are held are sent in writes of so many, with the wrong one so many writes.
+// Octets that are held are sent in writes of `most`, in `count` of them with the wrong one.
 #[test]
 fn writes_that_go_wrong(rt: HostRuntime) {
     for (most, count) in [(1, 11), (3, 5), (10, 2)] {
@@ -141,7 +140,7 @@ fn writes_that_go_wrong(rt: HostRuntime) {
     }
 }
 
-/// Whether octets are sent in writes of 3, of which the one after so many is interrupted.
+/// Whether octets are sent in writes of 3, of which the one after `after` others is interrupted.
 fn sends_interrupted(alloc: Global, after: usize) -> bool {
     let stream = Recorder::new(alloc, 3, 0).with_wrong_write(after, ErrorKind::Interrupted);
     let Some(mut link) = new_link(alloc, stream) else {
@@ -179,7 +178,7 @@ fn reads_that_fail(rt: HostRuntime) {
     }
 }
 
-/// How many octets are left unread after those that are dropped, where the stream is shut down.
+/// The number of octets left unread after those that are dropped, where the stream is shut down.
 fn left_of(alloc: Global, stream: Recorder) -> Option<usize> {
     let mut link = new_link(alloc, stream)?;
     link.drain();
@@ -192,7 +191,7 @@ fn left_of(alloc: Global, stream: Recorder) -> Option<usize> {
 }
 
 // rule: engines (own) After N2 and N3 input is dropped up to 16 MiB
-// How many octets come, and how many of them are left unread: at most 16 MiB are dropped.
+// The number of octets that come, and of those that are left unread: at most 16 MiB are dropped.
 #[test]
 fn octets_are_dropped(rt: HostRuntime) {
     for (unread, left) in [(0, 0), (10_000, 0), (16_777_216, 0), (16_777_219, 3)] {

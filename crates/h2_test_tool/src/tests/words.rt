@@ -61,7 +61,7 @@ fn words_that_cannot_be_had(rt: HostRuntime) {
     assert!(rt; ends(rt.alloc(), memory, text, Status::Memory, Status::Memory));
 }
 
-/// What is shown of a text, and how it ends; standard error can't be written.
+/// The output and the status of a text; standard error can't be written.
 fn shown(alloc: Global, line: &str, text: &str) -> Result<(Vec<u8>, Status), Fail> {
     let words = words_of(alloc, line)?;
     let mut out = Vec::new(alloc);

@@ -1,7 +1,6 @@
 -- A new end represents the log of one.
-use Rattle.std.proofs.Common.{◌∙◌, ℕ, Bool, [], subst, ap}
-use Rattle.h2_wire.specs.Cutter.{CutterState, CutterRepresents, CutterLimited}
-use Rattle.h2_flow.specs.ConfigValues.{values_of}
+use Rattle.h2_conn.proofs.Names.{◌∙◌, ℕ, Bool, [], subst, ap, CutterState, CutterRepresents}
+use Rattle.h2_conn.proofs.Names.{CutterLimited, values_of}
 use Rattle.h2_conn.proofs.TakeStart.{is_a_server, new_sound, new_parts, first_limits}
 use Rattle.h2_conn.proofs.conn.new_inner.Goals as goal
 

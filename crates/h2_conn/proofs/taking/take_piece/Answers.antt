@@ -1,33 +1,22 @@
 -- A piece is a step of each log that the parts represent: by the lemmas on each.
-use Rattle.std.proofs.Common.{◌≡◌, ◌∙◌, sym, ap, subst, ℕ, take, Err}
-use Rattle.std.proofs.Math.Seq.{take-length}
-use Rattle.h2_frame.specs.Frames.{Encodes, frame_of}
-use Rattle.h2_wire.specs.Cutter.{CutterState, CutterLimited, octets_of}
-use Rattle.h2_wire.specs.Faults.{wire_fault_code}
-use Rattle.h2_core.specs.Endpoint.{end_of}
-use Rattle.h2_spec_machine.specs.End.{payload_limit_of}
-use Rattle.h2_spec_machine.specs.Machine.{fail}
-use Rattle.h2_laws_machine.proofs.ReadLimits.{limit_in_range}
-use Rattle.h2_conn.proofs.SetLimits.{lies_limited, octets_limited}
-use Rattle.h2_conn.proofs.TakeFrames.{lies_there, same_body}
+use Rattle.h2_conn.proofs.Names.{◌≡◌, ◌∙◌, sym, ap, subst, ℕ, List, take, Option, Some, IfSome, Err}
+use Rattle.h2_conn.proofs.Names.{refl, take-length, Frame, Complete, CutterState, CutterLimited}
+use Rattle.h2_conn.proofs.Names.{data_of_frame, wire_fault_code, end_of, payload_limit_of, fail}
+use Rattle.h2_conn.proofs.Names.{limit_in_range, err_from_is_err_and}
+use Rattle.h2_frame.specs.Frames.{frame_of}
+use Rattle.h2_conn.proofs.SetLimits.{body_limited}
+use Rattle.h2_conn.proofs.TakeFrames.{HasBody, located, lies_there, frame_happens}
 use Rattle.h2_conn.proofs.TakeParts.{no_frame_taken, takes_octets, frame_taken, frame_stops}
-use Rattle.h2_conn.proofs.TakeParts.{cut_stopped, code_of, said_so}
+use Rattle.h2_conn.proofs.TakeParts.{cut_stopped}
 use Rattle.h2_conn.proofs.TakeMemory.{cutter_lacks}
 use Rattle.h2_conn.proofs.TakeSound.{frame_sound}
+use Rattle.h2_conn.proofs.taking.take_piece.Goals.{in-Some-event, in-None}
 use Rattle.h2_conn.proofs.taking.take_piece.Goals as goal
-use Rattle.h2_conn.proofs.taking.take_piece.Goals.{in-BadPreface, in-Memory}
-use Rattle.h2_conn.proofs.taking.take_piece.Goals.{in-HeadFault, in-HeadFault-2}
 
 pub returns-in-Err-clause-takes : goal.returns-in-Err-clause-takes
 returns-in-Err-clause-takes c = λ octets body values log p.
     let fails = c.in-Err.ensures.advances in
-    let code : c.match-fault.code ≡ wire_fault_code c.in-Err.fault =
-    elim c.match-fault.branch [
-      | in-BadPreface w ↦ w.code-is ∙ sym (ap wire_fault_code w.in-BadPreface.is)
-      | in-Memory w ↦ w.code-is ∙ sym (ap wire_fault_code w.in-Memory.is)
-      | in-HeadFault w ↦ w.code-is ∙ sym (code_of _ _ w.in-HeadFault.is)
-      | in-HeadFault-2 w ↦ w.code-is ∙ sym (code_of _ _ w.in-HeadFault.is)
-    ] in
+    let code : c.code-code.result ≡ wire_fault_code c.in-Err.fault = c.code-code.ensures in
     rw code (cut_stopped values _ _ _ _ log c.args.piece.now c.in-Err.fault p
     (takes_octets values _ log p.machine c.requires.up c.requires.reported) fails
     (λ memory. cutter_lacks _ c.args.piece.now _ (ap Err memory) c.requires.cuts
@@ -45,64 +34,82 @@ returns-in_default-clause-takes c = λ octets body values log p.
     (takes_octets values _ log p.machine c.requires.up c.requires.reported) c.requires.up passes.all
     (rw all_of passes.continues)
 
-pub returns-in-Ok-take_frame-clause-sound : goal.returns-in-Ok-take_frame-clause-sound
-returns-in-Ok-take_frame-clause-sound c = λ up.
-    frame_sound _ _ _ _ _ c.in-Ok-take_frame.happened c.requires.sound c.requires.up
-    c.frame.ensures.good c.in-Ok-take_frame.ensures.happens
+pub returns-clause-sound : goal.returns-clause-sound
+returns-clause-sound c = λ up.
+    frame_sound _ _ _ _ c.in_ok-event.event c.requires.sound c.requires.up
+    c.frame.ensures.good c.in_ok-event.ensures
 
-pub returns-in-Ok-take_frame-clause-lies : goal.returns-in-Ok-take_frame-clause-lies
-returns-in-Ok-take_frame-clause-lies c =
-    let ends = rw c.in-Some.is at c.in-Ok.ensures.advances in
-    lies_there _ c.args.piece.now c.in-Some.complete c.in-Ok.advance.used
-    c.in-Ok-take_frame.happened
-    (lies_limited _ _ _ c.args.piece.now c.in-Some.complete c.set_limit.ensures ends.lies)
-    c.in-Ok-take_frame.ensures.lies
+-- The frame's body still lies there.
+has_body : (cutter limited : CutterState) (limit : ℕ) (piece : List ℕ) (complete : Complete)
+    (frame : Frame) → CutterLimited cutter limit limited → HasBody cutter piece complete frame
+    → HasBody limited piece complete frame
+has_body cutter limited limit piece complete frame set has =
+    subst (λ (body : Option (List ℕ)). IfSome (data_of_frame frame) (λ octets. body ≡ Some octets))
+    (sym (body_limited cutter limited limit piece complete set)) has
 
-pub returns-in-Ok-take_frame-clause-takes : goal.returns-in-Ok-take_frame-clause-takes
-returns-in-Ok-take_frame-clause-takes c = λ octets body values log p.
+pub returns-clause-lies : goal.returns-clause-lies
+returns-clause-lies c =
+    let piece = c.args.piece.now in
+    let complete = c.in-Some.complete in
+    let has = has_body _ _ _ piece complete _ c.set_limit.ensures c.frame.ensures.body in
+    let is : c.match-event.happened ≡ located complete c.in_ok-event.event =
+    elim c.match-event.branch [
+      | in-Some-event w ↦ rw (w.happened-is, w.in-Some-event.is, w.with_parts.ensures) refl
+      | in-None w ↦ rw (w.happened-is, w.in-None.is) refl
+    ] in
+    rw is (lies_there c.set_limit.new.self piece complete c.in-Ok.advance.used _ _
+    (frame_of c.frame.result) _ c.in_ok-event.event has c.in_ok-event.ensures)
+
+pub returns-clause-takes : goal.returns-clause-takes
+returns-clause-takes c = λ octets body values log p.
     let ends = rw c.in-Some.is at c.in-Ok.ensures.advances in
     let piece = c.args.piece.now in
+    let complete = c.in-Some.complete in
     let cut = c.advance.new.self in
     let limited = c.set_limit.new.self in
-    let e = end_of c.take_frame.new.end in
-    let lent : Encodes (frame_of c.frame.result) (octets_of limited piece c.in-Some.complete) =
-    rw (octets_limited cut limited _ piece c.in-Some.complete c.set_limit.ensures)
-    c.frame.ensures.value in
+    let e = end_of c.take_frame.new.self in
     let set : CutterLimited cut (payload_limit_of e.own) limited =
     subst (λ (limit : ℕ). CutterLimited cut limit limited) c.payload_limit.ensures
     c.set_limit.ensures in
-    let sound = frame_sound _ e _ _ _ c.in-Ok-take_frame.happened c.requires.sound c.requires.up
-    c.frame.ensures.good c.in-Ok-take_frame.ensures.happens in
-    said_so values log piece c.in-Ok.advance.used _ _ _ _
-    (same_body limited piece c.in-Some.complete (frame_of c.frame.result) _ octets
-    c.in-Ok.advance.used c.in-Ok-take_frame.happened lent c.in-Ok-take_frame.ensures.lies body)
-    (frame_taken values _ cut limited _ e log piece c.in-Ok.advance.used (frame_of c.frame.result)
-    _ _ c.in-Ok-take_frame.happened p
+    let sound = frame_sound _ e _ _ c.in_ok-event.event c.requires.sound c.requires.up
+    c.frame.ensures.good c.in_ok-event.ensures in
+    let has = has_body cut limited _ piece complete _ set c.frame.ensures.body in
+    let is : c.match-event.happened ≡ located complete c.in_ok-event.event =
+    elim c.match-event.branch [
+      | in-Some-event w ↦ rw (w.happened-is, w.in-Some-event.is, w.with_parts.ensures) refl
+      | in-None w ↦ rw (w.happened-is, w.in-None.is) refl
+    ] in
+    let happens = frame_happens limited piece octets complete c.in-Ok.advance.used _ e
+    (frame_of c.frame.result) _ c.in_ok-event.event has (rw is at body)
+    c.in_ok-event.ensures in
+    rw is (frame_taken values _ cut limited _ e log piece c.in-Ok.advance.used
+    (frame_of c.frame.result) _ octets (located complete c.in_ok-event.event) p
     (takes_octets values _ log p.machine c.requires.up c.requires.reported) c.requires.up
     (record {
       continues = ends.continues (frame_of c.frame.result) c.frame.ensures.value;
       within = ends.within;
       none = ends.none_unparsed;
-    }) c.in-Ok-take_frame.ensures.happens set (limit_in_range e sound.ranges))
+    }) happens set (limit_in_range e sound.ranges))
 
-pub returns-in-Err-take_frame-clause-takes : goal.returns-in-Err-take_frame-clause-takes
-returns-in-Err-take_frame-clause-takes c = λ octets body values log p.
+pub returns-in_err-event-clause-takes : goal.returns-in_err-event-clause-takes
+returns-in_err-event-clause-takes c = λ octets body values log p.
     let ends = rw c.in-Some.is at c.in-Ok.ensures.advances in
-    frame_stops values _ _ _ _ log c.args.piece.now c.in-Ok.advance.used (frame_of c.frame.result)
-    c.in-Err-take_frame.code p
+    let fault = err_from_is_err_and c.from_residual.result c.from_residual.ensures.1 in
+    rw (fault.1, fault.2) (frame_stops values _ _ _ _ log c.args.piece.now c.in-Ok.advance.used
+    (frame_of c.frame.result) c.in_err-event.field-0.0 p
     (takes_octets values _ log p.machine c.requires.up c.requires.reported) c.requires.up
     (record {
       continues = ends.continues (frame_of c.frame.result) c.frame.ensures.value;
       within = ends.within;
       none = ends.none_unparsed;
-    }) c.in-Err-take_frame.ensures.happens
+    }) c.in_err-event.ensures)
 
 pub returns-in_default-clause-cuts : goal.returns-in_default-clause-cuts
 returns-in_default-clause-cuts c = λ up.
     (rw c.in_default.is at c.in-Ok.ensures.advances).continues.sound
 
-pub returns-in-Ok-take_frame-clause-cuts : goal.returns-in-Ok-take_frame-clause-cuts
-returns-in-Ok-take_frame-clause-cuts c = λ up.
+pub returns-clause-cuts : goal.returns-clause-cuts
+returns-clause-cuts c = λ up.
     let ends = rw c.in-Some.is at c.in-Ok.ensures.advances in
     ap (λ (state : CutterState). state.fault) c.set_limit.ensures.same
     ∙ (ends.continues (frame_of c.frame.result) c.frame.ensures.value).sound

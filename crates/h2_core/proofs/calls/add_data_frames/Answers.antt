@@ -1,8 +1,6 @@
 -- The first frame of what is left is added, and the last one once the loop ends.
-use Rattle.std.proofs.Common.{◌≡◌, ◌+◌, ◌++◌, false, None, length, ap, sym, ◌∙◌, append_assoc}
-use Rattle.std.proofs.Common.{arith}
-use Rattle.h2_frame.specs.Frames.{Data}
-use Rattle.h2_frame.specs.Encoding.{encoding_of}
+use Rattle.h2_core.proofs.Names.{◌≡◌, ◌+◌, ◌++◌, false, None, length, ap, sym, ◌∙◌, append_assoc}
+use Rattle.h2_core.proofs.Names.{arith, Data, encoding_of}
 use Rattle.h2_core.proofs.CallData.{data_octets, data_first, data_last}
 use Rattle.h2_core.proofs.calls.add_data_frames.Goals as goal
 

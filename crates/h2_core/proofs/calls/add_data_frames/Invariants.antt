@@ -1,5 +1,5 @@
 -- What was added, and the frames of what is left, are those of all octets.
-use Rattle.std.proofs.Common.{◌≡◌, ◌+◌, ◌*◌, ◌/◌, ◌≤◌, ◌++◌, length, false}
+use Rattle.h2_core.proofs.Names.{◌≡◌, ◌+◌, ◌*◌, ◌/◌, ◌≤◌, ◌++◌, length, false}
 use Rattle.h2_core.proofs.CallData.{data_octets}
 use Rattle.h2_core.proofs.calls.add_data_frames.Given as goal
 

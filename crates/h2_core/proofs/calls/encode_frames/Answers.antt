@@ -1,6 +1,5 @@
 -- A block of a list that may be sent has 65,548 octets at most.
-use Rattle.std.proofs.Common.{◌≡◌, arith}
-use Rattle.hpack.specs.Choice.{block_of}
+use Rattle.h2_core.proofs.Names.{◌≡◌, arith, block_of}
 use Rattle.hpack.proofs.ResultLemmas.{on_ok as unless_err}
 use Rattle.h2_core.proofs.CallOutput.{block_within}
 use Rattle.h2_core.proofs.calls.encode_frames.Goals as goal

@@ -1,6 +1,5 @@
 -- A block has few octets more than its list's size.
-use Rattle.std.proofs.Common.{arith}
-use Rattle.hpack.specs.Choice.{block_of}
+use Rattle.h2_core.proofs.Names.{arith, block_of}
 use Rattle.h2_core.proofs.CallOutput.{block_within, frames_within}
 use Rattle.h2_core.proofs.calls.frames_room.Goals as goal
 

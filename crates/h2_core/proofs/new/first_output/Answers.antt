@@ -1,13 +1,10 @@
 -- At a client the preface precedes SETTINGS.
-use Rattle.std.proofs.Common.{◌≡◌, true, false, not, [], refl}
+use Rattle.h2_core.proofs.Names.{◌≡◌, true, false, not, [], refl, is_server, Role, Client, Server}
+use Rattle.h2_core.proofs.Names.{sameb}
 use Rattle.h2_wire.specs.Streams.{expected_preface, preface}
-use Rattle.h2_spec_log.specs.Settings.{is_server}
-use Rattle.h2_spec_log.specs.declared.role.Role.{Role}
-use Rattle.h2_spec_log.specs.declared.role.Role.TheVariants.{Client, Server}
 use Rattle.h2_spec_log.specs.contracts.role.Role.{the_type}
-use denote.Enum.Bare.{sameb}
-use Rattle.h2_core.proofs.new.first_output.Goals as goal
 use Rattle.h2_core.proofs.new.first_output.Goals.{then-eq, else-eq}
+use Rattle.h2_core.proofs.new.first_output.Goals as goal
 
 at_client : (role : Role) → true ≡ sameb the_type role Client
     → expected_preface (not (is_server role)) ≡ preface

@@ -1,9 +1,9 @@
 -- Pair by pair.
-use Rattle.std.proofs.Common.{◌≡◌, ◌==◌, true, false, refl, sym, ◌∙◌, ℕ, List, ◌∷◌, min}
-use Rattle.std.proofs.lemmas.Bool.{eq-eqb, ne_eqb}
-use Rattle.hpack.specs.Lists.{EncoderState}
-use Rattle.hpack.specs.Limits.{after_limit}
+use Rattle.h2_core.proofs.Names.{◌≡◌, ◌==◌, true, false, refl, sym, ◌∙◌, ℕ, List, ◌∷◌, min}
+use Rattle.h2_core.proofs.Names.{EncoderState}
 use Rattle.h2_spec_log.specs.ItemEffects.{encoder_after_settings}
+use Rattle.std.proofs.lemmas.Bool.{eq-eqb, ne_eqb}
+use Rattle.hpack.specs.Limits.{after_limit}
 use Rattle.h2_core.proofs.receive_settings.limit_encoder.Goals as goal
 
 taken : (encoder : EncoderState) (left pairs : List (ℕ × ℕ)) (id value : ℕ)

@@ -1,7 +1,5 @@
 -- The pairs that are left give the encoder after all.
-use Rattle.std.proofs.Common.{◌≡◌}
-use Rattle.h2_frame.specs.Pairs.{lent_pairs, pairs_left}
-use Rattle.h2_spec_log.specs.ItemEffects.{encoder_after_settings}
+use Rattle.h2_core.proofs.Names.{◌≡◌, lent_pairs, pairs_left, encoder_after_settings}
 use Rattle.h2_core.proofs.receive_settings.limit_encoder.Given as goal
 
 abbrev pub invariant-loop-id : goal.invariant-loop-id

@@ -1,15 +1,16 @@
 -- The pairs are those of the role, with the greatest frame where it isn't 16,384.
-use Rattle.std.proofs.Common.{◌≡◌, ◌==◌, true, false, sym, ◌∙◌, eq-eqb, ne_eqb}
-use Rattle.h2_spec_log.specs.CallRules.{opening_pairs, with_max_frame}
-use Rattle.h2_core.proofs.settings_frame.add_opening_settings.Goals as goal
+use Rattle.h2_core.proofs.Names.{◌≡◌, ◌==◌, true, false, sym, ◌∙◌}
+use Rattle.h2_spec_log.specs.CallRules.{with_max_frame, opening_pairs}
+use Rattle.std.proofs.Common.{eq-eqb, ne_eqb}
 use Rattle.h2_core.proofs.settings_frame.add_opening_settings.Goals.{in-Client, in-Server}
+use Rattle.h2_core.proofs.settings_frame.add_opening_settings.Goals as goal
 
-pub returns-then-max_frame-eq-LEAST_FRAME-clause-waiting :
-    goal.returns-then-max_frame-eq-LEAST_FRAME-clause-waiting
+pub returns-then-max_frame-eq-LEAST_MAX_FRAME-clause-waiting :
+    goal.returns-then-max_frame-eq-LEAST_MAX_FRAME-clause-waiting
 unfolding opening_pairs with_max_frame
-returns-then-max_frame-eq-LEAST_FRAME-clause-waiting c =
+returns-then-max_frame-eq-LEAST_MAX_FRAME-clause-waiting c =
     let same : (c.args.config.max_frame == 16384) ≡ true =
-    eq-eqb _ _ (sym c.max_frame-2.ensures ∙ c.if-max_frame-eq-LEAST_FRAME.true) in
+    eq-eqb _ _ (sym c.max_frame-2.ensures ∙ c.if-max_frame-eq-LEAST_MAX_FRAME.true) in
     elim c.match-role.branch [
       | in-Client w ↦
           rw (
@@ -30,12 +31,12 @@ returns-then-max_frame-eq-LEAST_FRAME-clause-waiting c =
           ) c.add_settings.ensures.waiting
     ]
 
-pub returns-else-max_frame-eq-LEAST_FRAME-clause-waiting :
-    goal.returns-else-max_frame-eq-LEAST_FRAME-clause-waiting
+pub returns-else-max_frame-eq-LEAST_MAX_FRAME-clause-waiting :
+    goal.returns-else-max_frame-eq-LEAST_MAX_FRAME-clause-waiting
 unfolding opening_pairs with_max_frame
-returns-else-max_frame-eq-LEAST_FRAME-clause-waiting c =
+returns-else-max_frame-eq-LEAST_MAX_FRAME-clause-waiting c =
     let other : (c.args.config.max_frame == 16384) ≡ false =
-    ne_eqb _ _ (λ same. c.if-max_frame-eq-LEAST_FRAME.false (c.max_frame-2.ensures ∙ same)) in
+    ne_eqb _ _ (λ same. c.if-max_frame-eq-LEAST_MAX_FRAME.false (c.max_frame-2.ensures ∙ same)) in
     elim c.match-role.branch [
       | in-Client w ↦
           rw (
@@ -45,7 +46,7 @@ returns-else-max_frame-eq-LEAST_FRAME-clause-waiting c =
             ← c.table_limit.ensures,
             ← c.initial_window.ensures,
             ← c.max_frame.ensures,
-          ) c.add_settings-else-max_frame-eq-LEAST_FRAME.ensures.waiting
+          ) c.add_settings-else-max_frame-eq-LEAST_MAX_FRAME.ensures.waiting
       | in-Server w ↦
           rw (
             w.in-Server.is,
@@ -55,5 +56,5 @@ returns-else-max_frame-eq-LEAST_FRAME-clause-waiting c =
             ← c.table_limit.ensures,
             ← c.initial_window.ensures,
             ← c.max_frame.ensures,
-          ) c.add_settings-else-max_frame-eq-LEAST_FRAME.ensures.waiting
+          ) c.add_settings-else-max_frame-eq-LEAST_MAX_FRAME.ensures.waiting
     ]

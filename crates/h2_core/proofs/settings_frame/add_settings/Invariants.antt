@@ -1,6 +1,7 @@
--- What waits, with the pairs to come, is what waited with the frame; and there is room for these.
-use Rattle.std.proofs.Common.{◌≡◌, ◌*◌, ◌-◌, ◌≤◌, ◌++◌, length, drop, flat_map, false}
-use Rattle.h2_frame.specs.Encoding.{pair_octets}
+-- The queued output, with the pairs to come, is that of before with the frame; and there is room
+-- for these.
+use Rattle.h2_core.proofs.Names.{◌≡◌, ◌*◌, ◌-◌, ◌≤◌, ◌++◌, length, drop, flat_map, false}
+use Rattle.h2_core.proofs.Names.{pair_octets}
 use Rattle.h2_core.proofs.settings_frame.add_settings.Given as goal
 
 abbrev pub invariant-loop-pair : goal.invariant-loop-pair

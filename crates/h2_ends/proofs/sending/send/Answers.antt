@@ -1,8 +1,9 @@
 -- Call by call, by the lemmas on what is sent.
-use Rattle.h2_ends.proofs.Names.{arith, true, sym, ◌∙◌}
+use Rattle.h2_ends.proofs.Names.{arith, true}
 use Rattle.h2_ends.proofs.SendingBody.{going_begins, none_by, going_on, going_stuck, going_ends}
 use Rattle.h2_ends.proofs.SendingBody.{going_refused, trailers_go, trailers_refused, rest_is}
-use Rattle.h2_ends.proofs.SendingBody.{fields_are, typed_data, typed_fields}
+use Rattle.h2_ends.proofs.SendingBody.{fields_are, typed_data}
+use Rattle.h2_ends.proofs.RequestSends.{fields_typed}
 use Rattle.h2_ends.proofs.sending.send.Goals as goal
 
 pub loop-waiting-init : goal.loop-waiting-init
@@ -16,7 +17,7 @@ returns-in-Ok-eq0 c =
     c.data.new.self left c.loop-waiting.count c.loop-waiting.invariant _ _
     (omega (arith, c.loop-waiting-test.true)) (rest_is left _ c.deref.ensures.value)
     (none_by left.trailers _ c.is_none.ensures)
-    (typed_data c.args.id _ _ (omega arith) c.check_octets.ensures) c.in-Ok-eq0.field-0
+    (typed_data c.args.id _ _ (omega arith) c.data.ensures.octets) c.in-Ok-eq0.field-0
     c.in-Ok-eq0.field-0-test c.in-Ok-eq0.ensures.answers
 
 pub loop-waiting-smaller : goal.loop-waiting-smaller
@@ -29,7 +30,7 @@ loop-waiting-preserved c =
     c.data.new.self left c.loop-waiting.count c.loop-waiting.invariant _ _
     (omega (arith, c.loop-waiting-test.true)) (rest_is left _ c.deref.ensures.value)
     (none_by left.trailers _ c.is_none.ensures)
-    (typed_data c.args.id _ _ (omega arith) c.check_octets.ensures) c.in-Ok.sent
+    (typed_data c.args.id _ _ (omega arith) c.data.ensures.octets) c.in-Ok.sent
     c.saturating_add.result c.saturating_add.ensures c.in-Ok.ensures.answers
 
 pub returns-in-Err : goal.returns-in-Err
@@ -39,7 +40,7 @@ returns-in-Err c =
     c.data.new.self left c.loop-waiting.count c.loop-waiting.invariant _ _
     (omega (arith, c.loop-waiting-test.true)) (rest_is left _ c.deref.ensures.value)
     (none_by left.trailers _ c.is_none.ensures)
-    (typed_data c.args.id _ _ (omega arith) c.check_octets.ensures) c.in-Err.refusal _
+    (typed_data c.args.id _ _ (omega arith) c.data.ensures.octets) c.in-Err.refusal _
     c.stopped_by.ensures c.in-Err.ensures.answers
 
 pub returns-in_default : goal.returns-in_default
@@ -55,10 +56,9 @@ returns-in-Ok-fields c =
     trailers_go c.args.conn.now c.args.id c.args.waiting.now c.args.count.now c.loop-waiting.conn
     c.fields.new.self left c.loop-waiting.count c.loop-waiting.invariant _
     (omega (arith, c.loop-waiting-test.false))
-    (fields_are left.trailers c.in-Some.trailers _ c.in-Some.is c.deref-3.ensures.value)
-    (typed_fields c.args.id _ _ true (omega arith)
-    (c.deref-2.ensures.value ∙ sym c.deref-3.ensures.value) c.check_fields.ensures)
-    c.in-Ok-fields.ensures
+    (fields_are left.trailers c.in-Some.trailers _ c.in-Some.is c.deref-2.ensures.value)
+    (fields_typed c.args.id _ true (omega arith) c.fields.ensures.octets)
+    c.in-Ok-fields.ensures.answers
 
 pub returns-in-Err-fields : goal.returns-in-Err-fields
 returns-in-Err-fields c =
@@ -66,7 +66,6 @@ returns-in-Err-fields c =
     trailers_refused c.args.conn.now c.args.id c.args.waiting.now c.args.count.now
     c.loop-waiting.conn c.fields.new.self left c.loop-waiting.count c.loop-waiting.invariant _
     (omega (arith, c.loop-waiting-test.false))
-    (fields_are left.trailers c.in-Some.trailers _ c.in-Some.is c.deref-3.ensures.value)
-    (typed_fields c.args.id _ _ true (omega arith)
-    (c.deref-2.ensures.value ∙ sym c.deref-3.ensures.value) c.check_fields.ensures)
-    c.in-Err-fields.refusal _ c.stopped_by-in-Err-fields.ensures c.in-Err-fields.ensures
+    (fields_are left.trailers c.in-Some.trailers _ c.in-Some.is c.deref-2.ensures.value)
+    (fields_typed c.args.id _ true (omega arith) c.fields.ensures.octets)
+    c.in-Err-fields.refusal _ c.stopped_by-in-Err-fields.ensures c.in-Err-fields.ensures.answers

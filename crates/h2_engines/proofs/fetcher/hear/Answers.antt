@@ -1,9 +1,12 @@
 -- By the lemmas on what a client hears.
-use Rattle.h2_engines.proofs.Names.{refl, ap, arith, false, true, inl, inr, event_handed}
+use Rattle.h2_engines.proofs.Names.{◌≡◌, refl, ap, arith, inl, inr, err_from_is_err_and}
+use Rattle.h2_engines.proofs.Names.{event_handed}
+use Rattle.std.proofs.Common.{if◌then◌else◌}
 use Rattle.h2_engines.specs.ClientSteps.{ErrsFetching}
 use Rattle.h2_engines.proofs.FetcherHears.{heard_nothing, heard_part, heard_error, heard_fault}
 use Rattle.h2_engines.proofs.FetcherHears.{errs_reset}
 use Rattle.h2_engines.specs.declared.request.Next.TheVariants as goes
+use Rattle.h2_engines.proofs.fetcher.hear.Goals.{then-is_whole, else-is_whole}
 use Rattle.h2_engines.proofs.fetcher.hear.Goals as goal
 
 pub returns-in-Some-Reset-clause-hears : goal.returns-in-Some-Reset-clause-hears
@@ -21,16 +24,17 @@ returns-in-Some-Unprocessed-clause-hears c =
     let is = rw c.in-Some-Unprocessed.is at c.in-Some-Unprocessed.field-0-is in
     heard_error c.args.client.now.end c.take.follows.lender-at-none.end c.args.stream
     c.args.coming.now c.args.coming.now c.args.piece.now c.in-Ok.taken _ _
-    c.in-Some-Unprocessed.is (inr (inr (rw (is, c.if-id-stream-2.true) refl, refl)))
+    c.in-Some-Unprocessed.is (inr (inr (rw (is, c.if-id-stream-2.true) refl, rw c.number.ensures refl)))
     (rw c.in-Ok.is at c.take.follows.holds-at-none)
 
-pub returns-in-Err-note-clause-hears : goal.returns-in-Err-note-clause-hears
+pub returns-in_err-is_whole-in-Some-clause-hears : goal.returns-in_err-is_whole-in-Some-clause-hears
 unfolding ErrsFetching
-returns-in-Err-note-clause-hears c =
-    heard_error c.args.client.now.end c.take.follows.lender-at-none.end c.args.stream
-    c.args.coming.now c.note.new.self c.args.piece.now c.in-Ok.taken c.in-Some.event _ c.in-Some.is
-    (inl (refl, c.in-Err-note.ensures.err))
-    (rw c.in-Ok.is at c.take.follows.holds-at-none)
+returns-in_err-is_whole-in-Some-clause-hears c =
+    let answer = err_from_is_err_and c.from_residual.result c.from_residual.ensures.1 in
+    rw (answer.1, answer.2) (heard_error c.args.client.now.end
+    c.take.follows.lender-at-none.end c.args.stream c.args.coming.now c.note.new.self
+    c.args.piece.now c.in-Ok.taken c.in-Some.event _ c.in-Some.is
+    (inl (refl, c.in_err-is_whole-in-Some.ensures.err)) (rw c.in-Ok.is at c.take.follows.holds-at-none))
 
 pub returns-then-used-piece-clause-hears : goal.returns-then-used-piece-clause-hears
 returns-then-used-piece-clause-hears c =
@@ -45,18 +49,16 @@ returns-else-used-piece-clause-hears c =
     (λ done. omega (arith, c.in-Ok.ensures.used, c.if-used-piece.false))
     (rw c.in-Ok.is at c.take.follows.holds-at-none)
 
-pub returns-in-Ok-true-clause-hears : goal.returns-in-Ok-true-clause-hears
-returns-in-Ok-true-clause-hears c =
+pub returns-after-is_whole-clause-hears : goal.returns-after-is_whole-clause-hears
+returns-after-is_whole-clause-hears c =
+    let next : c.if-is_whole.next ≡ (if c.in_ok-is_whole-in-Some.is_whole then goes.Whole else goes.Again) =
+    elim c.if-is_whole.branch [
+      | then-is_whole w ↦ rw w.if-is_whole.true w.next-is
+      | else-is_whole w ↦ rw w.if-is_whole.false w.next-is
+    ] in
     heard_part c.args.client.now.end c.take.follows.lender-at-none.end c.args.stream
-    c.args.coming.now c.note.new.self c.args.piece.now c.in-Ok.taken c.in-Some.event true
-    goes.Whole c.in-Some.is refl (rw c.in-Ok-true.field-0-test at c.in-Ok-true.ensures.notes)
-    (rw c.in-Ok.is at c.take.follows.holds-at-none)
-
-pub returns-in-Ok-false-clause-hears : goal.returns-in-Ok-false-clause-hears
-returns-in-Ok-false-clause-hears c =
-    heard_part c.args.client.now.end c.take.follows.lender-at-none.end c.args.stream
-    c.args.coming.now c.note.new.self c.args.piece.now c.in-Ok.taken c.in-Some.event false
-    goes.Again c.in-Some.is refl (rw c.in-Ok-false.field-0-test at c.in-Ok-false.ensures.notes)
+    c.args.coming.now c.note.new.self c.args.piece.now c.in-Ok.taken c.in-Some.event
+    c.in_ok-is_whole-in-Some.is_whole c.if-is_whole.next c.in-Some.is next c.in_ok-is_whole-in-Some.ensures.notes
     (rw c.in-Ok.is at c.take.follows.holds-at-none)
 
 pub returns-in-Err-clause-hears : goal.returns-in-Err-clause-hears

@@ -46,41 +46,45 @@ loop-preserved-then-is_full g c =
           c.in_ok-send_waiting.ensures.sends;
     }
 
-pub returns-in-Ok-eq0-clause-drives : goal.returns-in-Ok-eq0-clause-drives
-returns-in-Ok-eq0-clause-drives g c course end is sent =
+pub returns-then-count-eq0-clause-drives : goal.returns-then-count-eq0-clause-drives
+returns-then-count-eq0-clause-drives g c course end is sent =
     let self = g.M.Machine.held c.write_out.new.machine in
     let all = sent_on self (rw c.conn.ensures at c.waiting-is_full.ensures.count)
     c.if-is_full.false (c.loop.invariant.drives course end is sent)
     c.in_ok-write_out.ensures.kept c.in_ok-write_out.ensures.writes in
-    read_ends _ self all (gives_none _ _ c.read.new.buffer c.in-Ok-eq0.field-0
-    c.in-Ok-eq0.field-0-test c.in-Ok-eq0.ensures.gives.1) c.in-Ok-eq0.ensures.takes_none
+    read_ends _ self all (gives_none _ _ c.read.new.buffer c.in_ok-count.count
+    c.if-count-eq0.true c.in_ok-count.ensures.gives.1) c.in_ok-count.ensures.takes_none
 
-pub returns-in-Ok-eq0-clause-ended : goal.returns-in-Ok-eq0-clause-ended
-returns-in-Ok-eq0-clause-ended g c =
-    meets_end (g.L.Link.ended c.write_out.new.link) c.in-Ok-eq0.ensures.ended
-    c.in-Ok-eq0.field-0-test
+pub returns-then-count-eq0-clause-ended : goal.returns-then-count-eq0-clause-ended
+returns-then-count-eq0-clause-ended g c =
+    meets_end (g.L.Link.ended c.write_out.new.link) c.in_ok-count.ensures.ended
+    c.if-count-eq0.true
     (c.deref_mut.ensures.len ∙ c.loop.input.ok.0 ∙ c.loop.invariant.room)
 
-pub returns-in-Err-clause-drives : goal.returns-in-Err-clause-drives
-returns-in-Err-clause-drives g c course end is sent =
+pub returns-in_err-count-clause-drives : goal.returns-in_err-count-clause-drives
+returns-in_err-count-clause-drives g c course end is sent =
+    let answer = err_from_is_err_and c.from_residual-in_err-count.result
+    c.from_residual-in_err-count.ensures.1 in
     let self = g.M.Machine.held c.write_out.new.machine in
     let go = written_on self (c.loop.invariant.drives course end is sent)
     c.in_ok-write_out.ensures.kept c.in_ok-write_out.ensures.writes in
-    read_fails _ self go c.in-Err.ensures.gives c.in-Err.ensures.takes_none
+    rw (answer.1, answer.2)
+    (read_fails _ self go c.in_err-count.ensures.gives c.in_err-count.ensures.takes_none)
 
-pub returns-in_err-is_whole-in-Ok-clause-drives : goal.returns-in_err-is_whole-in-Ok-clause-drives
-returns-in_err-is_whole-in-Ok-clause-drives g c course end is sent =
-    let answer = err_from_is_err_and c.from_residual-in_err-is_whole-in-Ok.result
-    c.from_residual-in_err-is_whole-in-Ok.ensures.1 in
+pub returns-in_err-is_whole-clause-drives : goal.returns-in_err-is_whole-clause-drives
+returns-in_err-is_whole-clause-drives g c course end is sent =
+    let answer = err_from_is_err_and c.from_residual-in_err-is_whole.result
+    c.from_residual-in_err-is_whole.ensures.1 in
     let go = written_on (g.M.Machine.held c.write_out.new.machine)
     (c.loop.invariant.drives course end is sent) c.in_ok-write_out.ensures.kept
     c.in_ok-write_out.ensures.writes in
     rw (answer.1, answer.2) (taken_last _ (g.M.Machine.held c.take_all.new.machine)
-    (take c.in-Ok.count c.deref.result.now) c.in_err-is_whole-in-Ok.field-0.0 (read_on _ go
-    (gives_piece _ _ c.in-Ok.count c.loop.input.len c.read.new.buffer
+    (take c.in_ok-count.count c.deref.result.now) c.in_err-is_whole.field-0.0 (read_on _ go
+    (gives_piece _ _ c.in_ok-count.count c.loop.input.len c.read.new.buffer
     (drop (length c.read.new.buffer) c.loop.input.items) c.deref.result.now
-    c.deref.ensures.value (c.in-Ok.ensures.length ∙ c.deref_mut.ensures.len)
-    c.in-Ok.ensures.gives.1) c.in-Ok.ensures.takes_none) c.in_err-is_whole-in-Ok.ensures.takes)
+    c.deref.ensures.value (c.in_ok-count.ensures.length ∙ c.deref_mut.ensures.len)
+    c.in_ok-count.ensures.gives.1) c.in_ok-count.ensures.takes_none)
+    c.in_err-is_whole.ensures.takes)
 
 pub returns-then-is_whole-clause-drives : goal.returns-then-is_whole-clause-drives
 returns-then-is_whole-clause-drives g c course end is sent =
@@ -88,11 +92,11 @@ returns-then-is_whole-clause-drives g c course end is sent =
     (c.loop.invariant.drives course end is sent) c.in_ok-write_out.ensures.kept
     c.in_ok-write_out.ensures.writes in
     taken_whole _ (g.M.Machine.held c.take_all.new.machine)
-    (take c.in-Ok.count c.deref.result.now) c.if-is_whole.true (read_on _ go (gives_piece _ _
-    c.in-Ok.count c.loop.input.len c.read.new.buffer (drop (length c.read.new.buffer)
-    c.loop.input.items) c.deref.result.now c.deref.ensures.value
-    (c.in-Ok.ensures.length ∙ c.deref_mut.ensures.len) c.in-Ok.ensures.gives.1)
-    c.in-Ok.ensures.takes_none) c.in_ok-is_whole-in-Ok.ensures.takes
+    (take c.in_ok-count.count c.deref.result.now) c.if-is_whole.true (read_on _ go
+    (gives_piece _ _ c.in_ok-count.count c.loop.input.len c.read.new.buffer
+    (drop (length c.read.new.buffer) c.loop.input.items) c.deref.result.now c.deref.ensures.value
+    (c.in_ok-count.ensures.length ∙ c.deref_mut.ensures.len) c.in_ok-count.ensures.gives.1)
+    c.in_ok-count.ensures.takes_none) c.in_ok-is_whole.ensures.takes
 
 pub returns-in_err-send_waiting-2-clause-drives : goal.returns-in_err-send_waiting-2-clause-drives
 returns-in_err-send_waiting-2-clause-drives g c course end is sent =
@@ -103,10 +107,10 @@ returns-in_err-send_waiting-2-clause-drives g c course end is sent =
     c.in_ok-write_out.ensures.writes in
     rw (answer.1, answer.2) (waiting_last _ (g.M.Machine.held c.send_waiting-in-loop.new.machine)
     c.in_err-send_waiting-2.field-0.0 (taken_on c.if-is_whole.false (read_on _ go (gives_piece _ _
-    c.in-Ok.count c.loop.input.len c.read.new.buffer (drop (length c.read.new.buffer)
+    c.in_ok-count.count c.loop.input.len c.read.new.buffer (drop (length c.read.new.buffer)
     c.loop.input.items) c.deref.result.now c.deref.ensures.value
-    (c.in-Ok.ensures.length ∙ c.deref_mut.ensures.len) c.in-Ok.ensures.gives.1)
-    c.in-Ok.ensures.takes_none) c.in_ok-is_whole-in-Ok.ensures.takes)
+    (c.in_ok-count.ensures.length ∙ c.deref_mut.ensures.len) c.in_ok-count.ensures.gives.1)
+    c.in_ok-count.ensures.takes_none) c.in_ok-is_whole.ensures.takes)
     c.in_err-send_waiting-2.ensures.kept c.in_err-send_waiting-2.ensures.sends)
 
 pub returns-clause-drives : goal.returns-clause-drives
@@ -125,7 +129,7 @@ loop-init g c =
 pub loop-preserved : goal.loop-preserved
 loop-preserved g c =
     record {
-      failures = c.in_ok-is_whole-in-Ok.ensures.failures ∙ c.in-Ok.ensures.failures
+      failures = c.in_ok-is_whole.ensures.failures ∙ c.in_ok-count.ensures.failures
           ∙ c.in_ok-write_out.ensures.failures ∙ c.loop.invariant.failures;
       room = sym
           (length_refill c.loop.input.len c.loop.input.items c.read.new.buffer c.loop.input.ok.0)
@@ -135,10 +139,11 @@ loop-preserved g c =
           (c.loop.invariant.drives course end is sent) c.in_ok-write_out.ensures.kept
           c.in_ok-write_out.ensures.writes in
           waiting_on (g.M.Machine.held c.send_waiting-in-loop.new.machine) (taken_on
-          c.if-is_whole.false (read_on _ go (gives_piece _ _ c.in-Ok.count c.loop.input.len
+          c.if-is_whole.false (read_on _ go (gives_piece _ _ c.in_ok-count.count c.loop.input.len
           c.read.new.buffer (drop (length c.read.new.buffer) c.loop.input.items)
-          c.deref.result.now c.deref.ensures.value (c.in-Ok.ensures.length
-          ∙ c.deref_mut.ensures.len) c.in-Ok.ensures.gives.1) c.in-Ok.ensures.takes_none)
-          c.in_ok-is_whole-in-Ok.ensures.takes) c.in_ok-send_waiting-2.ensures.kept
+          c.deref.result.now c.deref.ensures.value (c.in_ok-count.ensures.length
+          ∙ c.deref_mut.ensures.len) c.in_ok-count.ensures.gives.1)
+          c.in_ok-count.ensures.takes_none)
+          c.in_ok-is_whole.ensures.takes) c.in_ok-send_waiting-2.ensures.kept
           c.in_ok-send_waiting-2.ensures.sends;
     }

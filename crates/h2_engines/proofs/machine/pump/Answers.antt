@@ -1,13 +1,17 @@
 -- By what the end's pump has answered.
-use Rattle.h2_engines.proofs.Names.{Ok, Err}
+use Rattle.h2_engines.proofs.Names.{Ok, Err, ap, ◌∙◌, error_after, err_from_is_err_and}
 use Rattle.h2_engines.specs.ServerSteps.{EndsAfter}
 use Rattle.h2_engines.proofs.machine.pump.Goals as goal
 
-pub returns-in-Ok-clause-pumps : goal.returns-in-Ok-clause-pumps
+pub returns-clause-pumps : goal.returns-clause-pumps
 unfolding EndsAfter
-returns-in-Ok-clause-pumps g c = (Ok _, c.in-Ok.ensures.pumps, tt)
+returns-clause-pumps g c =
+    (Ok _, rw c.in_ok-unless_refused.ensures.ok at c.pump.ensures.pumps, tt)
 
-pub returns-in-Err-clause-pumps : goal.returns-in-Err-clause-pumps
+pub returns-in_err-unless_refused-clause-pumps : goal.returns-in_err-unless_refused-clause-pumps
 unfolding EndsAfter
-returns-in-Err-clause-pumps g c =
-    (Err c.in-Err.refusal, c.in-Err.ensures.pumps, c.error_of_refusal.ensures.error)
+returns-in_err-unless_refused-clause-pumps g c =
+    let answer = err_from_is_err_and c.from_residual.result c.from_residual.ensures.1 in
+    let (refused, refusal, is, made, ends) = c.in_err-unless_refused.ensures.err in
+    rw (answer.1, answer.2)
+    (Err refused, rw is at c.pump.ensures.pumps, ends ∙ ap error_after made)

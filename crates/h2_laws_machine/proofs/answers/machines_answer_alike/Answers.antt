@@ -5,14 +5,13 @@ use Rattle.h2_laws_machine.proofs.AlikeAnswers.{live_alike}
 use Rattle.h2_laws_machine.proofs.answers.machines_answer_alike.Goals as goal
 
 pub returns : goal.returns
-returns c =
-    record {
-      answer = answer_alike;
-      put_out = put_out_alike;
-      waiting = waiting_alike;
-      room = room_alike;
-      owed = owed_alike;
-      due = due_alike;
-      next = next_alike;
-      live = live_alike;
-    }
+returns c = record {
+  answer = answer_alike;
+  put_out = put_out_alike;
+  waiting = waiting_alike;
+  room = room_alike;
+  owed = owed_alike;
+  due = due_alike;
+  next = next_alike;
+  live = live_alike;
+}

@@ -18,8 +18,7 @@ returns-clause-call c e act accepted h =
     is_counted (after_call e act) (call_counts e act accepted (counted e h))
 
 pub returns-clause-most : goal.returns-clause-most
-returns-clause-most c e bounded counted =
-    omega (arith, active_counted, reset_counted, all_counted)
+returns-clause-most c e bounded counted = omega (arith, active_counted, reset_counted, all_counted)
 
 pub returns-clause-unprocessed : goal.returns-clause-unprocessed
 returns-clause-unprocessed c e i is some h = unprocessed_counts e i is some h

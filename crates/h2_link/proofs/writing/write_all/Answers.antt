@@ -1,38 +1,40 @@
 -- Each write takes the octets that follow those taken before; where none is left, all are taken.
 use Rattle.std.proofs.Common.{◌+◌, [], ◌∙◌, ap, arith}
 use Rattle.std.proofs.KnownBytes.{Appends-trans}
+use Rattle.std.proofs.lemmas.Result.{err_from_is_err_and}
 use Rattle.h2_link.specs.Links.{WritesAll}
 use Rattle.h2_link.proofs.TakesLemmas.{takes_more, takes_all}
 use Rattle.h2_link.proofs.writing.write_all.Goals as goal
 
-pub returns-in-Ok-eq0-clause-writes : goal.returns-in-Ok-eq0-clause-writes
+pub returns-then-count-eq0-clause-writes : goal.returns-then-count-eq0-clause-writes
 unfolding WritesAll
-returns-in-Ok-eq0-clause-writes g c =
+returns-then-count-eq0-clause-writes g c =
     let kept = c.loop.invariant in (
-      (_, takes_more _ _ _ _ _ _ kept.within kept.taken c.in-Ok-eq0.ensures.takes),
-      c.in-Ok-eq0.ensures.failures ∙ kept.failures,
+      (_, takes_more _ _ _ _ _ _ kept.within kept.taken c.in_ok-count.ensures.takes),
+      c.in_ok-count.ensures.failures ∙ kept.failures,
     )
 
-pub returns-in-Err-clause-writes : goal.returns-in-Err-clause-writes
+pub returns-in_err-count-clause-writes : goal.returns-in_err-count-clause-writes
 unfolding WritesAll
-returns-in-Err-clause-writes g c =
+returns-in_err-count-clause-writes g c =
+    let error = err_from_is_err_and c.from_residual.result c.from_residual.ensures.1 in
     let kept = c.loop.invariant in
-    let took = c.in-Err.ensures.takes in (
+    let took = c.in_err-count.ensures.takes in rw (error.1, error.2) (
       (_, takes_more _ _ _ _ _ _ kept.within kept.taken took.1),
-      c.in-Err.ensures.failures ∙ ap (λ n. n + 1) kept.failures,
+      c.in_err-count.ensures.failures ∙ ap (λ n. n + 1) kept.failures,
     )
 
 pub loop-preserved : goal.loop-preserved
 loop-preserved g c =
     let kept = c.loop.invariant in
-    let took = takes_more _ _ _ _ _ _ kept.within kept.taken c.in-Ok.ensures.takes in
+    let took = takes_more _ _ _ _ _ _ kept.within kept.taken c.in_ok-count.ensures.takes in
     record {
       within = took.within;
       counted = omega arith;
-      failures = c.in-Ok.ensures.failures ∙ kept.failures;
+      failures = c.in_ok-count.ensures.failures ∙ kept.failures;
       taken = took.took;
-      ended = c.in-Ok.ensures.ended ∙ kept.ended;
-      given = Appends-trans _ _ _ [] [] kept.given c.in-Ok.ensures.gives_none;
+      ended = c.in_ok-count.ensures.ended ∙ kept.ended;
+      given = Appends-trans _ _ _ [] [] kept.given c.in_ok-count.ensures.gives_none;
     }
 
 pub returns-after-loop-clause-writes : goal.returns-after-loop-clause-writes

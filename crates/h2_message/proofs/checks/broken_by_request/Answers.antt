@@ -1,7 +1,4 @@
-use Rattle.std.proofs.Common.{◌≡◌, length, ap, ◌∙◌, arith}
-use Rattle.h2_message.specs.declared.kind.Kind.TheVariants.{Request}
-use Rattle.h2_message.specs.Messages.{differs_from}
-use Rattle.h2_message.specs.Scans.{IsScan}
+use Rattle.h2_message.proofs.Names.{◌≡◌, length, ap, ◌∙◌, arith, Request, differs_from, IsScan}
 use Rattle.h2_message.specs.Values.{message_value}
 use Rattle.h2_message.proofs.CheckRules.{request-broken}
 use Rattle.h2_message.proofs.checks.broken_by_request.Goals as goal

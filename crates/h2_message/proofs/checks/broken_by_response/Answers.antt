@@ -1,7 +1,4 @@
-use Rattle.std.proofs.Common.{◌≡◌, length, ◌∙◌, arith}
-use Rattle.h2_message.specs.declared.kind.Kind.TheVariants.{Response}
-use Rattle.h2_message.specs.Messages.{has_wrong_body}
-use Rattle.h2_message.specs.Scans.{IsScan}
+use Rattle.h2_message.proofs.Names.{◌≡◌, length, ◌∙◌, arith, Response, has_wrong_body, IsScan}
 use Rattle.h2_message.specs.Values.{message_value}
 use Rattle.h2_message.proofs.CheckRules.{response-broken}
 use Rattle.h2_message.proofs.checks.broken_by_response.Goals as goal

@@ -1,5 +1,4 @@
-use Rattle.std.proofs.Common.{Option, ℕ, sym, ap}
-use Rattle.h2_message.specs.Messages.{differs_from}
+use Rattle.h2_message.proofs.Names.{Option, ℕ, sym, ap, differs_from}
 use Rattle.h2_message.proofs.checks.differs_from.Goals as goal
 
 pub returns-in-None : goal.returns-in-None

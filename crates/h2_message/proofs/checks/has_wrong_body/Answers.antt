@@ -1,4 +1,4 @@
-use Rattle.std.proofs.Common.{sym, ◌∙◌}
+use Rattle.h2_message.proofs.Names.{sym, ◌∙◌}
 use Rattle.std.proofs.lemmas.Bool.{cond-true}
 use Rattle.h2_message.proofs.CheckBodies.{without}
 use Rattle.h2_message.proofs.checks.has_wrong_body.Goals as goal

@@ -1,4 +1,4 @@
-use Rattle.h2_message.specs.Messages.{trailer_fields}
+use Rattle.h2_message.proofs.Names.{trailer_fields}
 use Rattle.h2_message.proofs.checks.scan_trailers.Goals as goal
 
 pub returns-in-None : goal.returns-in-None
@@ -7,5 +7,4 @@ returns-in-None c = rw c.in-None.is c.scan_fields.ensures
 
 pub returns-in-Some : goal.returns-in-Some
 unfolding trailer_fields
-returns-in-Some c =
-    rw (c.in-Some.is, ← c.deref.ensures.value) c.scan_fields-in-Some.ensures
+returns-in-Some c = rw (c.in-Some.is, ← c.deref.ensures.value) c.scan_fields-in-Some.ensures

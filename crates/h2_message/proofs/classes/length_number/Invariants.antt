@@ -1,6 +1,4 @@
-use Rattle.std.proofs.Common.{◌≡◌, ◌<◌, ◌^◌, drop}
-use Rattle.std.specs.Str.{all_ascii_digits}
-use Rattle.h2_message.specs.Octets.{number_written}
+use Rattle.h2_message.proofs.Names.{◌≡◌, ◌<◌, ◌^◌, drop, all_ascii_digits, number_written}
 use Rattle.h2_message.proofs.ClassLemmas.{number_from}
 use Rattle.h2_message.proofs.classes.length_number.Given as goal
 

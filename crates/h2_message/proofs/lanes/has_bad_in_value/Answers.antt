@@ -1,5 +1,4 @@
-use Rattle.std.proofs.Common.{sym, ◌∙◌}
-use Rattle.h2_message.specs.Octets.{is_bad_in_value}
+use Rattle.h2_message.proofs.Names.{sym, ◌∙◌, is_bad_in_value}
 use Rattle.h2_message.proofs.LaneLemmas.{run_settles, rest_settles}
 use Rattle.h2_message.proofs.lanes.has_bad_in_value.Goals as goal
 

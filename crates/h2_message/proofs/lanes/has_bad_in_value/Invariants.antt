@@ -1,6 +1,4 @@
-use Rattle.std.proofs.Common.{◌≡◌, ◌||◌, drop}
-use Rattle.std.specs.List.{list_any}
-use Rattle.h2_message.specs.Octets.{is_bad_in_value}
+use Rattle.h2_message.proofs.Names.{◌≡◌, ◌||◌, drop, list_any, is_bad_in_value}
 use Rattle.h2_message.proofs.lanes.has_bad_in_value.Given as goal
 
 abbrev pub invariant-loop-lane : goal.invariant-loop-lane

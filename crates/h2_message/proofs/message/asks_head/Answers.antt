@@ -1,7 +1,4 @@
-use Rattle.std.proofs.Common.{◌≡◌, refl, sym, ap, ap₂, ◌∙◌}
-use Rattle.hpack.specs.declared.types.field.Field.{Field}
-use Rattle.std.specs.Str.{bytes_eq}
-use Rattle.h2_message.specs.Fields.{is_named}
+use Rattle.h2_message.proofs.Names.{◌≡◌, refl, sym, ap, ap₂, ◌∙◌, Field, bytes_eq, is_named}
 use Rattle.h2_message.proofs.MessageHeads.{method-here, method-later, no-method}
 use Rattle.h2_message.proofs.message.asks_head.Goals as goal
 
@@ -20,8 +17,7 @@ returns-then-eq c =
 pub loop-field-preserved : goal.loop-field-preserved
 unfolding is_named
 loop-field-preserved c =
-    method-later c.args.head.now c.loop-field.field-index c.field-item.result
-    c.loop-field-test.true
+    method-later c.args.head.now c.loop-field.field-index c.field-item.result c.loop-field-test.true
     (sym (ap₂ bytes_eq (c.as_slice.ensures ∙ ap (λ (f : Field). f.name) c.field-item.is)
     c.as_slice-in-loop-field.ensures)
     ∙ sym c.if-eq.ensures) c.loop-field.invariant

@@ -1,5 +1,4 @@
-use Rattle.std.proofs.Common.{◌≡◌, drop}
-use Rattle.h2_message.specs.Messages.{asks_head}
+use Rattle.h2_message.proofs.Names.{◌≡◌, drop, asks_head}
 use Rattle.h2_message.proofs.message.asks_head.Given as goal
 
 abbrev pub invariant-loop-field : goal.invariant-loop-field

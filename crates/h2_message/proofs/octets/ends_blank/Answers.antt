@@ -1,4 +1,4 @@
-use Rattle.std.proofs.Common.{◌∙◌}
+use Rattle.h2_message.proofs.Names.{◌∙◌}
 use Rattle.h2_message.proofs.OctetLemmas.{ends_at, ends_empty}
 use Rattle.h2_message.proofs.octets.ends_blank.Goals as goal
 

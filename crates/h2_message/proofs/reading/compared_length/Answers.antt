@@ -1,9 +1,9 @@
 use Rattle.h2_message.proofs.reading.compared_length.Goals as goal
+use Rattle.h2_message.proofs.Names.{inl, inr, sym, ◌∙◌}
 use Rattle.h2_message.proofs.reading.compared_length.Goals.{then-to_head-via-then-to_head}
 use Rattle.h2_message.proofs.reading.compared_length.Goals.{
   then-to_head-via-else-to_head+then-has_no_content,
 }
-use Rattle.std.proofs.Common.{inl, inr, sym, ◌∙◌}
 use Rattle.h2_message.proofs.ReadingRules.{length_of_none, length_of_some}
 
 pub returns-then-to_head : goal.returns-then-to_head

@@ -1,4 +1,4 @@
-use Rattle.h2_message.specs.Phases.{phase_in_body}
+use Rattle.h2_message.proofs.Names.{phase_in_body}
 use Rattle.h2_message.proofs.PhaseSteps.{is_short_above, not_short_at}
 use Rattle.h2_message.proofs.reading.in_body.Goals as goal
 

@@ -1,10 +1,8 @@
-use Rattle.std.proofs.Common.{◌≡◌, codes, ◌||◌, sym, ◌∙◌}
-use Rattle.std.specs.Str.{bytes_eq}
-use Rattle.h2_message.specs.Fields.{connection_names}
+use Rattle.h2_message.proofs.Names.{◌≡◌, codes, ◌||◌, sym, ◌∙◌, bytes_eq, connection_names}
 use Rattle.h2_message.proofs.ScanNames.{compared-as, or-then, or-else, or-five}
 use Rattle.h2_message.proofs.scan.is_connection_name.Goals as goal
-use Rattle.h2_message.proofs.scan.is_connection_name.Goals.{then-eq, else-eq, then-eq-2}
-use Rattle.h2_message.proofs.scan.is_connection_name.Goals.{else-eq-2, then-eq-3, else-eq-3}
+use Rattle.h2_message.proofs.scan.is_connection_name.Goals.{then-eq, else-eq, then-eq-2, else-eq-2}
+use Rattle.h2_message.proofs.scan.is_connection_name.Goals.{then-eq-3, else-eq-3}
 
 pub returns-then-eq-4 : goal.returns-then-eq-4
 unfolding connection_names

@@ -1,5 +1,4 @@
-use Rattle.std.proofs.Common.{take}
-use Rattle.h2_message.specs.Scans.{IsScan}
+use Rattle.h2_message.proofs.Names.{take, IsScan}
 use Rattle.h2_message.proofs.scan.scan_fields.Given as goal
 
 abbrev pub invariant-loop-field : goal.invariant-loop-field

@@ -1,5 +1,4 @@
-use Rattle.std.proofs.Common.{◌<◌, ◌≤◌, length, take, refl, arith}
-use Rattle.hpack.specs.declared.types.field.Field.{Field}
+use Rattle.h2_message.proofs.Names.{◌<◌, ◌≤◌, length, take, refl, arith, Field}
 use Rattle.h2_message.proofs.ScanAdds.{scan-step, scan-end, field-at}
 use Rattle.h2_message.proofs.scan.scan_list.Goals as goal
 use Rattle.h2_message.proofs.scan.scan_list.Goals.{in-Some, in_default}

@@ -1,5 +1,4 @@
-use Rattle.std.proofs.Common.{◌≡◌, drop}
-use Rattle.h2_message.specs.Messages.{first_broken}
+use Rattle.h2_message.proofs.Names.{◌≡◌, drop, first_broken}
 use Rattle.h2_message.proofs.verdict.first_broken.Given as goal
 
 abbrev pub invariant-loop-holds : goal.invariant-loop-holds

@@ -15,7 +15,7 @@ flush-requires g c =
 pub returns-clause-failures : goal.returns-clause-failures
 unfolding WritesAll
 returns-clause-failures g c = (
-  c.in-Ok.ensures.failures ∙ (c.in_ok-write_all.ensures.writes.1 ∙ c.requires.0),
+  c.in_ok-flush.ensures.failures ∙ (c.in_ok-write_all.ensures.writes.1 ∙ c.requires.0),
   c.in_ok-read_all.ensures.failures ∙ c.requires.1,
 )
 

@@ -10,12 +10,12 @@ returns-in_err-new-clause-err g c =
     c.from_residual-in_err-new.ensures.1 in
     let is = c.default.ensures in
     rw (answer.1, answer.2) (post_not_refused c.args.count _ _ c.in_err-new.field-0.0
-    (of_fields _ _ _ _ is.0 is.1 is.2 is.3) c.in-Ok.ensures
+    (of_fields _ _ _ _ is.0 is.1 is.2 is.3) c.in_ok-message.ensures
     c.in_err-new.ensures.refused)
 
 pub returns-clause-posts : goal.returns-clause-posts
 returns-clause-posts g c =
     let is = c.default.ensures in
     begins_posting c.args.count _ _ c.in_ok-new.field-0
-    (of_fields _ _ _ _ is.0 is.1 is.2 is.3) c.in-Ok.ensures c.in_ok-new.ensures.ok
+    (of_fields _ _ _ _ is.0 is.1 is.2 is.3) c.in_ok-message.ensures c.in_ok-new.ensures.ok
     c.in_ok-new.ensures.unfinished

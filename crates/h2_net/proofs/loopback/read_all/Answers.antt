@@ -9,16 +9,16 @@ loop-filled-preserved g c =
     let kept = c.loop-filled.invariant in
     let room = c.loop-filled.room in
     let filled = c.loop-filled.filled in
-    let given = c.in-Ok.ensures.gives in
+    let given = c.in_ok-count.ensures.gives in
     let few = given.0 in
     let rest = length-drop filled room in
     let most = length-take (length room - filled) (drop filled room) in
-    let long = c.in-Ok.ensures.length in
+    let long = c.in_ok-count.ensures.length in
     let same = same_len_mid filled (length room - filled) room c.read.new.buffer long in
     record {
       within = omega arith;
       length = same ∙ kept.length;
-      given = reads_more _ _ _ room c.read.new.buffer filled _ c.in-Ok.count kept.within few
+      given = reads_more _ _ _ room c.read.new.buffer filled _ c.in_ok-count.count kept.within few
           kept.given given.1;
-      failures = c.in-Ok.ensures.failures ∙ kept.failures;
+      failures = c.in_ok-count.ensures.failures ∙ kept.failures;
     }

@@ -14,7 +14,7 @@ pub returns-in-Open-clause-typed : goal.returns-in-Open-clause-typed
 unfolding IsTypedAct
 returns-in-Open-clause-typed c =
     typed_as _ _ c.in-Open.is (subst (λ (f : List Field). AreOctets f) c.deref.ensures.value
-    c.check_octets.ensures)
+    c.open.ensures.octets)
 
 pub returns-in-Open-clause-makes : goal.returns-in-Open-clause-makes
 returns-in-Open-clause-makes c =
@@ -22,8 +22,8 @@ returns-in-Open-clause-makes c =
     (answered_call c.args.conn.now c.open.new.self _ _ _ _ c.opened.ensures
     (shows_itself (λ id. Number id) c.open.result (λ id. refl)) tt c.requires.none
     (subst (λ (f : List Field). ConnAnswers c.args.conn.now (Open f c.in-Open.end)
-    (answer_by (λ id. Number id) c.open.result) c.open.new.self) c.deref-in-Open.ensures.value
-    c.open.ensures))
+    (answer_by (λ id. Number id) c.open.result) c.open.new.self) c.deref.ensures.value
+    c.open.ensures.answers))
 
 pub returns-in-Fields-clause-typed : goal.returns-in-Fields-clause-typed
 unfolding IsTypedAct
@@ -31,7 +31,7 @@ returns-in-Fields-clause-typed c =
     typed_as _ _ c.in-Fields.is (
       omega arith,
       subst (λ (f : List Field). AreOctets f)
-          c.deref-in-Fields.ensures.value c.check_octets-in-Fields.ensures,
+          c.deref-in-Fields.ensures.value c.fields.ensures.octets,
     )
 
 pub returns-in-Fields-clause-makes : goal.returns-in-Fields-clause-makes
@@ -41,7 +41,7 @@ returns-in-Fields-clause-makes c =
     (shows_itself (λ done. Done) c.fields.result (λ id. refl)) tt c.requires.none
     (subst (λ (f : List Field). ConnAnswers c.args.conn.now (SendFields c.in-Fields.id f
     c.in-Fields.end) (answer_by (λ done. Done) c.fields.result) c.fields.new.self)
-    c.deref-in-Fields-2.ensures.value c.fields.ensures))
+    c.deref-in-Fields.ensures.value c.fields.ensures.answers))
 
 pub returns-in-Data-clause-typed : goal.returns-in-Data-clause-typed
 unfolding IsTypedAct
@@ -49,7 +49,7 @@ returns-in-Data-clause-typed c =
     typed_as _ _ c.in-Data.is (
       omega arith,
       subst (λ (o : List ℕ). AllByRecursion IsOctet o)
-          c.deref-in-Data.ensures.value c.check_data.ensures,
+          c.deref-in-Data.ensures.value c.data.ensures.octets,
     )
 
 pub returns-in-Data-clause-makes : goal.returns-in-Data-clause-makes
@@ -59,7 +59,7 @@ returns-in-Data-clause-makes c =
     (shows_itself (λ count. Count count) c.data.result (λ id. refl)) tt c.requires.none
     (subst (λ (o : List ℕ). ConnAnswers c.args.conn.now (SendData c.in-Data.id o c.in-Data.end)
     (answer_by (λ count. Count count) c.data.result) c.data.new.self)
-    c.deref-in-Data-2.ensures.value c.data.ensures.answers))
+    c.deref-in-Data.ensures.value c.data.ensures.answers))
 
 pub returns-in-Release-clause-typed : goal.returns-in-Release-clause-typed
 unfolding IsTypedAct
@@ -93,14 +93,12 @@ returns-in-Refuse-clause-makes c =
     tt c.requires.none c.refuse.ensures)
 
 pub returns-in-Ping-clause-typed : goal.returns-in-Ping-clause-typed
-unfolding IsTypedAct
-returns-in-Ping-clause-typed c = typed_as _ _ c.in-Ping.is c.check_ping.ensures
+returns-in-Ping-clause-typed c = typed_as _ _ c.in-Ping.is c.pinged.ensures.typed
 
 pub returns-in-Ping-clause-makes : goal.returns-in-Ping-clause-makes
 returns-in-Ping-clause-makes c =
-    makes_as _ _ c.args.conn.now c.ping.new.self _ _ c.in-Ping.is
-    (answered_call c.args.conn.now c.ping.new.self _ _ _ _ c.done-in-Ping.ensures
-    (shows_itself (λ done. Done) c.ping.result (λ id. refl)) tt c.requires.none c.ping.ensures)
+    makes_as _ _ c.args.conn.now c.pinged.new.conn _ _ c.in-Ping.is
+    (rw c.requires.none c.pinged.ensures.makes)
 
 pub returns-in-GoAway-clause-typed : goal.returns-in-GoAway-clause-typed
 unfolding IsTypedAct

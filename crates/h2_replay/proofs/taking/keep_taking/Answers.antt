@@ -3,9 +3,8 @@ use Rattle.std.proofs.Common.{◌∙◌, ap, sym, refl, None, Option, List, map}
 use Rattle.h2_spec_log.specs.Acts.{In, Happened}
 use Rattle.h2_spec_log.specs.Events.{Event}
 use Rattle.h2_frame.specs.declared.code.Code.{Code}
-use Rattle.h2_replay.specs.declared.events.ReplayEvent.{ReplayEvent}
 use Rattle.h2_replay.specs.Replay.{each_octet, all_by_octets}
-use Rattle.h2_replay.specs.Values.{replay_event_value}
+use Rattle.h2_replay.specs.Values.{KeptEvent, kept_event_value}
 use Rattle.h2_replay.specs.Taking.{reported_by, taken_events}
 use Rattle.h2_replay.proofs.TakingLemmas.{kept_twice, kept_without, kept_with, one_event}
 use Rattle.h2_replay.proofs.taking.keep_taking.Goals as goal
@@ -23,7 +22,7 @@ returns-then-used-piece-clause-kept c =
     c.in_ok-push.ensures.items c.in_ok-push-2.ensures.items
     (ap (each_octet In) c.in_ok-from_slice.ensures.items) refl)
     (ap (λ (f : Option Code). reported_by f c.args.taking.event) c.in_default.is
-    ∙ ap (λ (e : Option ReplayEvent). reported_by None e) c.in_default-event.is)
+    ∙ ap (λ (e : Option KeptEvent). reported_by None e) c.in_default-event.is)
 
 pub returns-else-used-piece-clause-kept : goal.returns-else-used-piece-clause-kept
 returns-else-used-piece-clause-kept c =
@@ -31,7 +30,7 @@ returns-else-used-piece-clause-kept c =
     c.in_ok-push.ensures.items c.in_ok-push-2.ensures.items
     (ap (each_octet In) c.in_ok-from_slice.ensures.items) refl)
     (ap (λ (f : Option Code). reported_by f c.args.taking.event) c.in_default.is
-    ∙ ap (λ (e : Option ReplayEvent). reported_by None e) c.in_default-event.is)
+    ∙ ap (λ (e : Option KeptEvent). reported_by None e) c.in_default-event.is)
 
 pub returns-clause-kept : goal.returns-clause-kept
 returns-clause-kept c =
@@ -39,7 +38,7 @@ returns-clause-kept c =
     c.in_ok-push.ensures.items c.in_ok-push-2.ensures.items
     (ap (each_octet In) c.in_ok-from_slice.ensures.items) refl)
     c.in_ok-push-3.ensures.items
-    (one_event (replay_event_value c.in-Some-event.event)
+    (one_event (kept_event_value c.in-Some-event.event)
     ∙ ap (λ (e : List Event). all_by_octets (map Happened e))
     (sym (ap (λ (f : Option Code). reported_by f c.args.taking.event) c.in_default.is
-    ∙ ap (λ (e : Option ReplayEvent). reported_by None e) c.in-Some-event.is)))
+    ∙ ap (λ (e : Option KeptEvent). reported_by None e) c.in-Some-event.is)))

@@ -3,23 +3,23 @@ use Rattle.std.proofs.Common.{◌≡◌, ap, sym, refl, subst, Some, Option}
 use Rattle.std.specs.Option.{option_map}
 use Rattle.h2_spec_log.specs.Events.{Event}
 use Rattle.h2_laws_end.specs.Takes.{Took, MayTake}
-use Rattle.h2_conn.specs.Events as conn
-use Rattle.h2_replay.specs.Values.{replay_event_value}
+use Rattle.h2_conn.specs.Events.{lent_value}
+use Rattle.h2_replay.specs.Values.{KeptEvent, kept_event_value}
 use Rattle.h2_replay.proofs.TakingLemmas.{took_input, failed_input}
 use Rattle.h2_replay.proofs.taking.take_once.Goals as goal
-use Rattle.h2_replay.proofs.taking.take_once.Goals.{in-Some+in_ok-copy_of-in-Some, in-None}
+use Rattle.h2_replay.proofs.taking.take_once.Goals.{in-Some+in_ok-copy_event-in-Some, in-None}
 
 pub returns-in-Ok-clause-takes : goal.returns-in-Ok-clause-takes
 returns-in-Ok-clause-takes c values log represents =
     let taken = (rw c.in-Ok.is at c.take.follows.holds-at-none) values log represents in
     let piece = c.args.piece.now in
     let used = c.in-Ok.taken.used in
-    let same : option_map conn.event_value c.in-Ok.taken.event
-    ≡ option_map replay_event_value c.match-taken.event =
+    let same : option_map lent_value c.in-Ok.taken.event
+    ≡ option_map kept_event_value c.match-taken.event =
     elim c.match-taken.branch [
-      | in-Some+in_ok-copy_of-in-Some w ↦
+      | in-Some+in_ok-copy_event-in-Some w ↦
           rw (w.event-is, w.in-Some.is)
-          (ap (λ (e : Event). Some e) (sym w.in_ok-copy_of-in-Some.ensures))
+          (ap (λ (e : Event). Some e) (sym w.in_ok-copy_event-in-Some.ensures))
       | in-None w ↦ rw (w.event-is, w.in-None.is) refl
     ] in
     record {

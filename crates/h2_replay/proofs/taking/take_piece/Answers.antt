@@ -1,4 +1,4 @@
--- By the lemmas on what a call of `take` makes of what is kept.
+-- By the lemmas on a call of `take`, and what is kept of it.
 use Rattle.std.proofs.Common.{sym, subst, take, length}
 use Rattle.h2_replay.specs.declared.taking.Next.{Next}
 use Rattle.h2_replay.specs.Taking.{GoesOn, IsWithinPiece, taken_answer, taken_events}

@@ -1,4 +1,4 @@
--- What waits lies in two slices.
+-- The queued output lies in two slices.
 use Rattle.std.proofs.Common.{◌∙◌, ◌++◌, ◌-◌, ℕ, List, ap, sym, append_assoc, drop}
 use Rattle.h2_output.proofs.PieceLemmas.{drop-parts}
 use Rattle.h2_replay.proofs.Octets.{drop_min, rest_of}

@@ -1,4 +1,4 @@
--- What was given out comes before what waits.
+-- What was put out comes before the queued output.
 use Rattle.std.proofs.Common.{◌∙◌, ◌++◌, ◌-◌, ℕ, List, ap, sym, drop}
 use Rattle.h2_output.proofs.PieceLemmas.{drop-parts}
 use Rattle.h2_replay.proofs.Octets.{rest_of}

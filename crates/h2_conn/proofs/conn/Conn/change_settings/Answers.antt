@@ -1,11 +1,8 @@
 -- By the lemmas on a call's answer, and on the cutter's limit that is set.
-use Rattle.std.proofs.Common.{◌≡◌, None, refl, rules}
-use Rattle.std.proofs.lemmas.Result.{err_from_is_err_and}
-use Rattle.h2_spec_log.specs.Acts.{ChangeSettings, IsTypedAct}
+use Rattle.h2_conn.proofs.Names.{◌≡◌, None, refl, rules, err_from_is_err_and, ChangeSettings}
+use Rattle.h2_conn.proofs.Names.{values_of, end_of, limit_in_range}
+use Rattle.h2_spec_log.specs.Acts.{IsTypedAct}
 use Rattle.h2_spec_log.specs.CallRules.{may_lack_memory}
-use Rattle.h2_flow.specs.ConfigValues.{values_of}
-use Rattle.h2_core.specs.Endpoint.{end_of}
-use Rattle.h2_laws_machine.proofs.ReadLimits.{limit_in_range}
 use Rattle.h2_conn.proofs.AskCalls.{change_answers, refused_answers, up_if_free}
 use Rattle.h2_conn.proofs.AskSound.{was_up, sound_by}
 use Rattle.h2_conn.proofs.conn.Conn.change_settings.Goals as goal

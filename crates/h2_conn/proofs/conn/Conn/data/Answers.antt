@@ -1,10 +1,9 @@
 -- By the lemmas on a call's answer.
-use Rattle.std.proofs.Common.{◌≡◌, not, None, refl, ap, rules}
-use Rattle.std.proofs.lemmas.Bool.{false_from_ne_true}
-use Rattle.hpack_text.proofs.ReadLemmas.{all_octets}
-use Rattle.h2_spec_log.specs.Acts.{SendData, Count, IsTypedAct}
+use Rattle.h2_conn.proofs.Names.{◌≡◌, not, None, refl, ap, rules, all_octets, SendData, Count}
+use Rattle.h2_conn.proofs.Names.{end_of}
+use Rattle.h2_spec_log.specs.Acts.{IsTypedAct}
 use Rattle.h2_spec_log.specs.CallRules.{may_lack_memory}
-use Rattle.h2_core.specs.Endpoint.{end_of}
+use Rattle.std.proofs.lemmas.Bool.{false_from_ne_true}
 use Rattle.h2_conn.proofs.AskCalls.{answers_by, value_as}
 use Rattle.h2_conn.proofs.AskMemory.{nothing_taken}
 use Rattle.h2_conn.proofs.AskSound.{was_up, sound_by, beside_value}
@@ -34,6 +33,9 @@ returns-clause-answers c =
     (λ lacks. ap not (false_from_ne_true _ (λ none. c.send_data.ensures.nothing none lacks)))
     (value_as _ _ _ c.send_data.result (λ value is. ap Count is)
     c.send_data.ensures.ok) c.send_data.ensures.err
+
+pub returns-clause-octets : goal.returns-clause-octets
+returns-clause-octets c = all_octets c.args.octets.now c.type_inv.octets
 
 pub returns-clause-nothing : goal.returns-clause-nothing
 returns-clause-nothing c = λ values log parts none.

@@ -1,8 +1,7 @@
 -- By the lemmas on a call's answer.
-use Rattle.std.proofs.Common.{◌≡◌, None, refl, rules}
-use Rattle.h2_spec_log.specs.Acts.{SendFields, Done, IsTypedAct}
+use Rattle.h2_conn.proofs.Names.{◌≡◌, None, refl, rules, SendFields, Done, end_of}
+use Rattle.h2_spec_log.specs.Acts.{IsTypedAct}
 use Rattle.h2_spec_log.specs.CallRules.{may_lack_memory}
-use Rattle.h2_core.specs.Endpoint.{end_of}
 use Rattle.h2_conn.proofs.AskCalls.{done_by}
 use Rattle.h2_conn.proofs.AskSound.{was_up, sound_by}
 use Rattle.h2_conn.proofs.conn.Conn.fields.Goals as goal
@@ -23,9 +22,9 @@ invariant_of-self c =
       cuts = λ up. let before : e.failed ≡ None = was up in search rules;
     }
 
-pub returns : goal.returns
+pub returns-clause-answers : goal.returns-clause-answers
 unfolding IsTypedAct may_lack_memory
-returns c =
+returns-clause-answers c =
     done_by Done c.send_fields.result _ _ _ _ refl refl
     (c.ranges.id.fits, c.send_fields.ensures.octets) (λ lacks. refl) refl
     c.send_fields.ensures.ok c.send_fields.ensures.err

@@ -1,6 +1,5 @@
 -- A head and the greatest payload are kept at most.
-use Rattle.std.proofs.Common.{◌≡◌, ◌∙◌, sym, None}
-use Rattle.h2_core.specs.Endpoint.{end_of}
+use Rattle.h2_conn.proofs.Names.{◌≡◌, ◌∙◌, sym, None, end_of}
 use Rattle.h2_conn.proofs.AskMemory.{held_at_most, none_of}
 use Rattle.h2_conn.proofs.conn.Conn.held.Goals as goal
 

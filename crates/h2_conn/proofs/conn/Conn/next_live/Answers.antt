@@ -1,6 +1,5 @@
--- The machine answers as the log does.
-use Rattle.std.proofs.Common.{◌∙◌}
-use Rattle.h2_core.specs.Endpoint.{end_of}
+-- The machine's value is the log's.
+use Rattle.h2_conn.proofs.Names.{◌∙◌, end_of}
 use Rattle.h2_laws_machine.proofs.AlikeAnswers.{live_alike}
 use Rattle.h2_conn.proofs.AskReaders.{live_by}
 use Rattle.h2_conn.proofs.conn.Conn.next_live.Goals as goal

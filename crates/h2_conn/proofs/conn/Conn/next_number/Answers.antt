@@ -1,7 +1,5 @@
--- The machine answers as the log does.
-use Rattle.std.proofs.Common.{◌≡◌, false, Some, is_some, ap, sym, ◌∙◌}
-use Rattle.h2_spec_log.specs.Settings.{is_server}
-use Rattle.h2_core.specs.Endpoint.{end_of}
+-- The machine's value is the log's.
+use Rattle.h2_conn.proofs.Names.{◌≡◌, false, Some, is_some, ap, sym, ◌∙◌, is_server, end_of}
 use Rattle.h2_conn.proofs.AskNumbers.{number_by}
 use Rattle.h2_conn.proofs.TakeStart.{is_a_server}
 use Rattle.h2_conn.proofs.conn.Conn.next_number.Goals as goal

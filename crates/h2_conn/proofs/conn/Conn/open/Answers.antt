@@ -1,8 +1,7 @@
 -- By the lemmas on a call's answer.
-use Rattle.std.proofs.Common.{◌≡◌, None, refl, ap, rules}
-use Rattle.h2_spec_log.specs.Acts.{Open, Number, IsTypedAct}
+use Rattle.h2_conn.proofs.Names.{◌≡◌, None, refl, ap, rules, Open, end_of}
+use Rattle.h2_spec_log.specs.Acts.{IsTypedAct, Number}
 use Rattle.h2_spec_log.specs.CallRules.{may_lack_memory}
-use Rattle.h2_core.specs.Endpoint.{end_of}
 use Rattle.h2_conn.proofs.AskCalls.{answers_by, value_as}
 use Rattle.h2_conn.proofs.AskSound.{was_up, sound_by, beside_value}
 use Rattle.h2_conn.proofs.conn.Conn.open.Goals as goal
@@ -22,9 +21,9 @@ invariant_of-self c =
       cuts = λ up. let before : e.failed ≡ None = was up in search rules;
     }
 
-pub returns : goal.returns
+pub returns-clause-answers : goal.returns-clause-answers
 unfolding IsTypedAct may_lack_memory
-returns c =
+returns-clause-answers c =
     answers_by Number _ _ _ _ _ refl refl
     c.open.ensures.octets (λ lacks. refl)
     (value_as _ _ _ c.open.result (λ value is. ap Number is)

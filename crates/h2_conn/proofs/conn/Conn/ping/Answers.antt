@@ -1,9 +1,7 @@
 -- By the lemmas on a call's answer.
-use Rattle.std.proofs.Common.{◌≡◌, None, refl, rules}
-use Rattle.hpack_text.proofs.ReadLemmas.{all_octets}
-use Rattle.h2_spec_log.specs.Acts.{SendPing, Done, IsTypedAct}
+use Rattle.h2_conn.proofs.Names.{◌≡◌, None, refl, rules, all_octets, SendPing, Done, end_of}
+use Rattle.h2_spec_log.specs.Acts.{IsTypedAct}
 use Rattle.h2_spec_log.specs.CallRules.{may_lack_memory}
-use Rattle.h2_core.specs.Endpoint.{end_of}
 use Rattle.h2_conn.proofs.AskCalls.{done_by}
 use Rattle.h2_conn.proofs.AskSound.{was_up, sound_by}
 use Rattle.h2_conn.proofs.conn.Conn.ping.Goals as goal

@@ -1,5 +1,5 @@
 -- The cutter's place is that of the last octet used.
-use Rattle.std.proofs.Common.{◌∙◌}
+use Rattle.h2_conn.proofs.Names.{◌∙◌}
 use Rattle.h2_conn.proofs.conn.Conn.place.Goals as goal
 
 pub returns : goal.returns

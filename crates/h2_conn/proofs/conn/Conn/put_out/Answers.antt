@@ -1,10 +1,8 @@
 -- By the lemmas on putting output out.
-use Rattle.std.proofs.Common.{◌≡◌, None, length, min, sym, ◌∙◌, rules}
+use Rattle.h2_conn.proofs.Names.{◌≡◌, None, length, min, sym, ◌∙◌, rules, returns_before_put_out}
+use Rattle.h2_conn.proofs.Names.{end_view, end_of, waiting_alike}
 use Rattle.h2_spec_log.specs.Acts.{IsTypedAct}
-use Rattle.h2_spec_log.specs.CallRules.{may_lack_memory, returns_before_put_out}
-use Rattle.h2_spec_machine.specs.End.{end_view}
-use Rattle.h2_core.specs.Endpoint.{end_of}
-use Rattle.h2_laws_machine.proofs.AlikeAnswers.{waiting_alike}
+use Rattle.h2_spec_log.specs.CallRules.{may_lack_memory}
 use Rattle.h2_conn.proofs.AskMemory.{returns_alike}
 use Rattle.h2_conn.proofs.AskOutput.{put_out_answers, lacks_by, given_out, ok_as}
 use Rattle.h2_conn.proofs.AskSound.{put_out_sound, still_failed}

@@ -1,7 +1,6 @@
 -- By the lemmas on refusing a stream.
-use Rattle.std.proofs.Common.{◌≡◌, None, rules}
+use Rattle.h2_conn.proofs.Names.{◌≡◌, None, rules, end_of}
 use Rattle.h2_spec_log.specs.Acts.{IsTypedAct}
-use Rattle.h2_core.specs.Endpoint.{end_of}
 use Rattle.h2_conn.proofs.AskRefusing.{refusing_shows}
 use Rattle.h2_conn.proofs.AskSound.{was_up_refusing, refusing_sound}
 use Rattle.h2_conn.proofs.conn.Conn.refuse.Goals as goal

@@ -1,8 +1,7 @@
 -- By the lemmas on a call's answer.
-use Rattle.std.proofs.Common.{◌≡◌, None, refl, rules}
-use Rattle.h2_spec_log.specs.Acts.{Release, Done, IsTypedAct}
+use Rattle.h2_conn.proofs.Names.{◌≡◌, None, refl, rules, Release, Done, end_of}
+use Rattle.h2_spec_log.specs.Acts.{IsTypedAct}
 use Rattle.h2_spec_log.specs.CallRules.{may_lack_memory}
-use Rattle.h2_core.specs.Endpoint.{end_of}
 use Rattle.h2_conn.proofs.AskCalls.{done_by}
 use Rattle.h2_conn.proofs.AskSound.{was_up, sound_by}
 use Rattle.h2_conn.proofs.conn.Conn.release.Goals as goal

@@ -1,16 +1,11 @@
 -- What is lent is what has happened.
-use Rattle.std.proofs.Common.{◌∙◌, ℕ, refl, sym, ap, Some, List, []}
-use Rattle.std.proofs.lemmas.Result.{err_from_is_err_and}
-use Rattle.std.specs.Option.{option_map}
-use Rattle.hpack.specs.declared.types.field.Field.{Field}
-use Rattle.h2_spec_log.specs.Events.{FieldsEvent}
-use Rattle.h2_spec_machine.specs.End.{End}
-use Rattle.h2_core.specs.Endpoint.{end_of}
-use Rattle.h2_conn.specs.Events.{happened_value}
+use Rattle.h2_conn.proofs.Names.{◌∙◌, ℕ, refl, sym, ap, Some, List, [], err_from_is_err_and}
+use Rattle.h2_conn.proofs.Names.{◌≡◌, option_map, happened_value, Event, CutterState, body_at}
+use Rattle.h2_conn.proofs.Names.{Complete, IfSome, None}
+use Rattle.std.proofs.Common.{Option, IsSome}
+use Rattle.h2_conn.specs.Loans.{frame_in}
 use Rattle.h2_conn.proofs.TakeParts.{said_so}
 use Rattle.h2_conn.proofs.conn.Conn.take.Goals as goal
-use Rattle.h2_conn.proofs.conn.Conn.take.Goals.{in-Fields, in-Data, in-Reset, in-GoAway}
-use Rattle.h2_conn.proofs.conn.Conn.take.Goals.{in-Unprocessed, in-Acked, in-Pong}
 
 pub returns-in_err-progress : goal.returns-in_err-progress
 returns-in_err-progress c =
@@ -38,134 +33,33 @@ returns-in_default c =
       },
     )
 
+-- The octets of a body that lies there.
+some_of : (body : Option (List ℕ)) → IsSome body → (octets : List ℕ) × (body ≡ Some octets)
+some_of None lies = cc
+some_of (Some octets) lies = (octets, refl)
+
+body_of : (cutter : CutterState) (piece : List ℕ) (frame : Option Complete)
+    → IfSome frame (λ one. IsSome (body_at cutter piece one))
+    → (octets : List ℕ) × IfSome frame (λ one. body_at cutter piece one ≡ Some octets)
+body_of cutter piece None lies = ([], tt)
+body_of cutter piece (Some one) lies = some_of (body_at cutter piece one) lies
+
 pub returns : goal.returns
 returns c =
-    let e : End = end_of c.advance.new.self.inner.end in
-    let value = option_map (happened_value c.advance.new.self.inner.end.list
-    []) in
-    elim c.match-happened.branch [
-      | in-Fields w ↦
-          rw (w.self-is, w.event-is) (
-            (
-              refl,
-              λ _. tt,
-              λ values log p.
-                  said_so values log c.args.piece.now c.in_ok-progress.progress.used _ _ _ e
-                  (ap (λ (l : List Field). Some (FieldsEvent w.in-Fields.id l w.in-Fields.end))
-                  w.list.ensures
-                  ∙ sym (ap value (c.in-Some.is ∙ ap Some w.in-Fields.is)))
-                  (c.in_ok-progress.ensures.takes []
-                  (rw (c.in-Some.is ∙ ap Some w.in-Fields.is) tt) values log p),
-            ),
-            record {
-              used = c.in_ok-progress.ensures.used;
-              after = tt;
-              promised = λ values log p promised. tt;
-            },
-          )
-      | in-Data w ↦
-          let lent : List ℕ = w.octets.result.now in
-          rw (w.self-is, w.event-is) (
-            (
-              refl,
-              λ _. tt,
-              λ values log p.
-                  said_so values log c.args.piece.now c.in_ok-progress.progress.used _ _ _ e
-                  (sym (ap (option_map (happened_value c.advance.new.self.inner.end.list lent))
-                  (c.in-Some.is ∙ ap Some w.in-Data.is)))
-                  (c.in_ok-progress.ensures.takes lent
-                  (rw (c.in-Some.is ∙ ap Some w.in-Data.is) w.octets.ensures)
-                  values log p),
-            ),
-            record {
-              used = c.in_ok-progress.ensures.used;
-              after = tt;
-              promised = λ values log p promised. tt;
-            },
-          )
-      | in-Reset w ↦
-          rw (w.self-is, w.event-is) (
-            (
-              refl,
-              λ _. tt,
-              λ values log p.
-                  said_so values log c.args.piece.now c.in_ok-progress.progress.used _ _ _ e
-                  (sym (ap value (c.in-Some.is ∙ ap Some w.in-Reset.is)))
-                  (c.in_ok-progress.ensures.takes []
-                  (rw (c.in-Some.is ∙ ap Some w.in-Reset.is) tt) values log p),
-            ),
-            record {
-              used = c.in_ok-progress.ensures.used;
-              after = tt;
-              promised = λ values log p promised. tt;
-            },
-          )
-      | in-GoAway w ↦
-          rw (w.self-is, w.event-is) (
-            (
-              refl,
-              λ _. tt,
-              λ values log p.
-                  said_so values log c.args.piece.now c.in_ok-progress.progress.used _ _ _ e
-                  (sym (ap value (c.in-Some.is ∙ ap Some w.in-GoAway.is)))
-                  (c.in_ok-progress.ensures.takes []
-                  (rw (c.in-Some.is ∙ ap Some w.in-GoAway.is) tt) values log p),
-            ),
-            record {
-              used = c.in_ok-progress.ensures.used;
-              after = tt;
-              promised = λ values log p promised. tt;
-            },
-          )
-      | in-Unprocessed w ↦
-          rw (w.self-is, w.event-is) (
-            (
-              refl,
-              λ _. tt,
-              λ values log p.
-                  said_so values log c.args.piece.now c.in_ok-progress.progress.used _ _ _ e
-                  (sym (ap value (c.in-Some.is ∙ ap Some w.in-Unprocessed.is)))
-                  (c.in_ok-progress.ensures.takes []
-                  (rw (c.in-Some.is ∙ ap Some w.in-Unprocessed.is) tt) values log p),
-            ),
-            record {
-              used = c.in_ok-progress.ensures.used;
-              after = tt;
-              promised = λ values log p promised. tt;
-            },
-          )
-      | in-Acked w ↦
-          rw (w.self-is, w.event-is) (
-            (
-              refl,
-              λ _. tt,
-              λ values log p.
-                  said_so values log c.args.piece.now c.in_ok-progress.progress.used _ _ _ e
-                  (sym (ap value (c.in-Some.is ∙ ap Some w.in-Acked.is)))
-                  (c.in_ok-progress.ensures.takes []
-                  (rw (c.in-Some.is ∙ ap Some w.in-Acked.is) tt) values log p),
-            ),
-            record {
-              used = c.in_ok-progress.ensures.used;
-              after = tt;
-              promised = λ values log p promised. tt;
-            },
-          )
-      | in-Pong w ↦
-          rw (w.self-is, w.event-is) (
-            (
-              refl,
-              λ _. tt,
-              λ values log p.
-                  said_so values log c.args.piece.now c.in_ok-progress.progress.used _ _ _ e
-                  (sym (ap value (c.in-Some.is ∙ ap Some w.in-Pong.is)))
-                  (c.in_ok-progress.ensures.takes []
-                  (rw (c.in-Some.is ∙ ap Some w.in-Pong.is) tt) values log p),
-            ),
-            record {
-              used = c.in_ok-progress.ensures.used;
-              after = tt;
-              promised = λ values log p promised. tt;
-            },
-          )
-    ]
+    let body = body_of c.advance.new.self.inner.cutter c.args.piece.now
+    (frame_in (Some c.in-Some.event)) (rw c.in-Some.is at c.in_ok-progress.ensures.lies) in (
+      (
+        refl,
+        λ _. tt,
+        λ values log p. said_so values log c.args.piece.now c.in_ok-progress.progress.used _ _ _ _
+            (ap (λ (o : Event). Some o) (c.lent.ensures body.0 body.1)
+            ∙ sym (ap (option_map (happened_value c.advance.new.self.inner.end.list body.0))
+            c.in-Some.is))
+            (c.in_ok-progress.ensures.takes body.0 (rw c.in-Some.is body.1) values log p),
+      ),
+      record {
+        used = c.in_ok-progress.ensures.used;
+        after = tt;
+        promised = λ values log p promised. tt;
+      },
+    )

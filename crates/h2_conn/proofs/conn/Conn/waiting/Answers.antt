@@ -1,7 +1,5 @@
--- The machine answers as the log does, and every log is bounded.
-use Rattle.std.proofs.Common.{◌∙◌, arith}
-use Rattle.h2_core.specs.Endpoint.{end_of}
-use Rattle.h2_laws_machine.proofs.AlikeAnswers.{waiting_alike}
+-- The machine's value is the log's, and every log is bounded.
+use Rattle.h2_conn.proofs.Names.{◌∙◌, arith, end_of, waiting_alike}
 use Rattle.h2_laws_machine.proofs.BoundedLogs.{few_wait}
 use Rattle.h2_conn.proofs.conn.Conn.waiting.Goals as goal
 

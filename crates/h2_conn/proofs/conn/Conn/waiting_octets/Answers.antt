@@ -1,5 +1,5 @@
--- What waits is what the log has written and not given out.
-use Rattle.std.proofs.Common.{◌∙◌}
+-- What is queued is what the log has written and not put out.
+use Rattle.h2_conn.proofs.Names.{◌∙◌}
 use Rattle.h2_conn.proofs.conn.Conn.waiting_octets.Goals as goal
 
 pub returns : goal.returns

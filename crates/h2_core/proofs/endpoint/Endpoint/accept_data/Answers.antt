@@ -1,18 +1,11 @@
 -- DATA on an active stream takes of both windows.
-use Rattle.std.proofs.Common.{◌≡◌, ◌&&◌, ℕ, Option, true, arith, ap, ◌∙◌}
-use Rattle.std.proofs.Common.{[], ◌∷◌}
-use Rattle.h2_spec_log.specs.Events.{DataEvent}
+use Rattle.h2_core.proofs.Names.{◌≡◌, ◌&&◌, ℕ, Option, true, arith, ap, ◌∙◌, [], ◌∷◌, stream_view}
+use Rattle.h2_core.proofs.Names.{frame_of_data, end_of, err_from_is_err_and, alone, needs_memory}
+use Rattle.h2_core.proofs.Names.{end_view, Reported}
 use Rattle.h2_spec_log.specs.ItemEffects.{events_of}
-use Rattle.h2_streams.specs.Streams.{stream_view}
-use Rattle.h2_core.specs.DataFrames.{frame_of_data}
-use Rattle.h2_core.specs.Endpoint.{end_of}
+use Rattle.h2_spec_log.specs.Events.{DataEvent}
 use Rattle.h2_core.proofs.SoundFacts.{counted, owed_fits, send_near, recv_near}
-use Rattle.std.proofs.lemmas.Result.{err_from_is_err_and}
 use Rattle.std.proofs.lemmas.Bool.{and_from}
-use Rattle.h2_block.specs.Grouping.{alone}
-use Rattle.h2_spec_log.specs.Memory.{needs_memory}
-use Rattle.h2_spec_machine.specs.End.{end_view}
-use Rattle.h2_spec_log.specs.Verdicts.{Reported}
 use Rattle.h2_core.proofs.ItemVerdicts.{report_taken, lacks_memory, with_waiting}
 use Rattle.h2_core.proofs.ItemWindows.{narrowed_is, narrowed_near}
 use Rattle.h2_core.proofs.ItemData.{HasFlow, reported_data, reported_after}

@@ -1,6 +1,5 @@
 -- The code's two tests are the machine's.
-use Rattle.std.proofs.Common.{arith, sym, ◌∙◌}
-use Rattle.h2_core.specs.Endpoint.{end_of}
+use Rattle.h2_core.proofs.Names.{arith, sym, ◌∙◌, end_of}
 use Rattle.h2_core.proofs.StepCredit.{returned, kept_when_full, kept_without_more}
 use Rattle.h2_core.proofs.endpoint.Endpoint.add_unreturned.Goals as goal
 

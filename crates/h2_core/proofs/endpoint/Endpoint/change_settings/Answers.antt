@@ -1,16 +1,13 @@
--- The first condition that holds refuses; where none holds, SETTINGS joins the output and waits.
-use Rattle.std.proofs.Common.{◌≡◌, Option, Some, None, false, ◌++◌, ap, sym, ◌∙◌, refl}
-use Rattle.std.specs.Prelude.{is_some}
-use Rattle.std.proofs.lemmas.Result.{err_from_is_err_and}
-use Rattle.h2_frame.specs.Frames.{Settings}
-use Rattle.h2_frame.specs.Encoding.{encoding_of}
-use Rattle.h2_flow.specs.ConfigValues.{values_of}
-use Rattle.h2_spec_log.specs.Acts.{Values}
-use Rattle.h2_spec_log.specs.CallRules.{conditions, first_of, changed_pairs, items_of}
-use Rattle.h2_spec_log.specs.CallRules.{encoder_after_call}
-use Rattle.h2_spec_machine.specs.End.{end_view, values_or}
+-- The first condition that holds refuses; where none holds, SETTINGS joins the output and awaits
+-- its acknowledgment.
+use Rattle.h2_core.proofs.Names.{◌≡◌, Option, Some, None, false, ◌++◌, ap, sym, ◌∙◌, refl}
+use Rattle.h2_core.proofs.Names.{err_from_is_err_and, encoding_of, values_of, Values, changed_pairs}
+use Rattle.h2_core.proofs.Names.{end_view, end_of}
+use Rattle.h2_spec_log.specs.CallRules.{conditions, first_of, items_of, encoder_after_call}
 use Rattle.h2_spec_machine.specs.Machine.{after_call}
-use Rattle.h2_core.specs.Endpoint.{end_of}
+use Rattle.std.specs.Prelude.{is_some}
+use Rattle.h2_frame.specs.Frames.{Settings}
+use Rattle.h2_spec_machine.specs.End.{values_or}
 use Rattle.h2_core.proofs.CallConditions.{holds_first, others_decide, refused, lacks_memory}
 use Rattle.h2_core.proofs.CallConditions.{is_some_mapped}
 use Rattle.h2_core.proofs.CallOutput.{with_waiting, octets_of_frame}

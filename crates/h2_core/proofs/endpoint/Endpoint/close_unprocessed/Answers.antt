@@ -1,7 +1,5 @@
 -- The next stream is active, and by the facts of a sound end what it owes can be returned.
-use Rattle.std.proofs.Common.{arith, sym}
-use Rattle.h2_streams.specs.Streams.{stream_view}
-use Rattle.h2_core.specs.Endpoint.{end_of}
+use Rattle.h2_core.proofs.Names.{arith, sym, stream_view, end_of}
 use Rattle.h2_core.proofs.SoundFacts.{counted, owed_fits}
 use Rattle.h2_core.proofs.OwnNumbers.{unprocessed_active}
 use Rattle.h2_core.proofs.endpoint.Endpoint.close_unprocessed.Goals as goal

@@ -1,14 +1,9 @@
 -- The code's tests are the conditions of GOAWAY in their order; the frame and its stream are kept.
-use Rattle.std.proofs.Common.{ℕ, ◌<◌, ◌^◌, List, [], ◌∷◌, ◌++◌, Some, is_some, refl, sym, ap, arith}
-use Rattle.std.proofs.Common.{◌∙◌}
-use Rattle.std.proofs.lemmas.Result.{err_from_is_err_and}
-use Rattle.h2_frame.specs.Frames.{GoAway}
-use Rattle.h2_block.specs.Grouping.{alone}
-use Rattle.h2_spec_log.specs.Items.{encoding_of_items}
-use Rattle.h2_spec_log.specs.Acts.{SendGoAway}
+use Rattle.h2_core.proofs.Names.{ℕ, ◌<◌, ◌^◌, List, [], ◌∷◌, ◌++◌, Some, refl, sym, ap, arith, ◌∙◌}
+use Rattle.h2_core.proofs.Names.{err_from_is_err_and, GoAway, alone, encoding_of_items, SendGoAway}
+use Rattle.h2_core.proofs.Names.{End, end_view, end_of}
 use Rattle.h2_spec_log.specs.CallRules.{conditions}
-use Rattle.h2_spec_machine.specs.End.{End, end_view}
-use Rattle.h2_core.specs.Endpoint.{end_of}
+use Rattle.std.proofs.Common.{is_some}
 use Rattle.h2_core.proofs.SoundFacts.{last_small}
 use Rattle.h2_core.proofs.StepCalls.{first-here, first-later, first-none, refused, without_memory}
 use Rattle.h2_core.proofs.StepCalls.{after-goaway, at_ok}

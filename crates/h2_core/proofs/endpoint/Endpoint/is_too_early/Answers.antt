@@ -1,8 +1,8 @@
-use Rattle.std.proofs.Common.{◌≡◌, ℕ, Bool, true, false, not, ◌&&◌, List, refl, sym, ap, ◌∙◌}
-use Rattle.h2_frame.specs.Frames.{Settings, frame_of}
-use Rattle.h2_frame.specs.declared.frame.FrameRef.{FrameRef}
-use Rattle.h2_frame.specs.declared.frame.FrameRef.TheVariants as lent
+use Rattle.h2_core.proofs.Names.{◌≡◌, ℕ, Bool, true, false, not, ◌&&◌, List, refl, sym, ap, ◌∙◌}
+use Rattle.h2_core.proofs.Names.{frame_of, FrameRef}
 use Rattle.h2_spec_log.specs.ItemRules.{may_be_first}
+use Rattle.h2_frame.specs.Frames.{Settings}
+use Rattle.h2_frame.specs.declared.frame.FrameRef.TheVariants as lent
 use Rattle.h2_core.proofs.endpoint.Endpoint.is_too_early.Goals as goal
 
 settings_first : (ack : Bool) (pairs : List (ℕ × ℕ)) → not (may_be_first (Settings ack pairs)) ≡ ack

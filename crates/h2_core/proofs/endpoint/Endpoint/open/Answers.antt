@@ -1,15 +1,10 @@
 -- Where no condition refuses, a stream is added to the table, and taken away again where the block
 -- cannot be written.
-use Rattle.std.proofs.Common.{◌≡◌, false, ap, sym, ◌∙◌, arith, rules}
-use Rattle.h2_flow.specs.declared.stream_state.StreamState.{StreamState}
-use Rattle.h2_streams.specs.Streams.{stream_view}
-use Rattle.h2_streams.specs.Table.{TableState}
-use Rattle.h2_spec_machine.specs.End.{End, end_view, active_entry}
-use Rattle.h2_spec_machine.specs.Machine.{new_stream}
-use Rattle.h2_core.specs.Endpoint.{end_of, IsSoundEnd}
+use Rattle.h2_core.proofs.Names.{◌≡◌, false, ap, sym, ◌∙◌, arith, rules, StreamState, stream_view}
+use Rattle.h2_core.proofs.Names.{TableState, End, end_view, active_entry, new_stream, end_of}
+use Rattle.h2_core.proofs.Names.{IsSoundEnd, get_set_same}
 use Rattle.h2_core.proofs.CallConditions.{lacks_memory, if_err}
 use Rattle.hpack.proofs.ResultLemmas.{on_ok as unless_err}
-use Rattle.h2_spec_machine.proofs.SetEntries.{get_set_same}
 use Rattle.h2_core.proofs.CallOpen.{may_open, number_above, with_table, with_stream, without}
 use Rattle.h2_core.proofs.CallOpen.{table_of, taken_away, with_count, opened}
 use Rattle.h2_core.proofs.SoundFacts.{absent_above}

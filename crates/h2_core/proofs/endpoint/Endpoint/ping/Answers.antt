@@ -1,11 +1,8 @@
 -- The code's tests are the conditions of PING in their order; the frame and its octets are kept.
-use Rattle.std.proofs.Common.{ℕ, List, Some, false, is_some, refl, sym, ap, arith, ◌∙◌}
-use Rattle.std.proofs.lemmas.Result.{err_from_is_err_and}
-use Rattle.h2_frame.specs.Frames.{Ping}
-use Rattle.h2_spec_log.specs.Acts.{SendPing}
+use Rattle.h2_core.proofs.Names.{ℕ, List, Some, false, refl, sym, ap, arith, ◌∙◌}
+use Rattle.h2_core.proofs.Names.{err_from_is_err_and, Ping, SendPing, End, end_view, end_of}
 use Rattle.h2_spec_log.specs.CallRules.{conditions}
-use Rattle.h2_spec_machine.specs.End.{End, end_view}
-use Rattle.h2_core.specs.Endpoint.{end_of}
+use Rattle.std.proofs.Common.{is_some}
 use Rattle.h2_core.proofs.StepCalls.{first-here, first-later, first-none, refused, without_memory}
 use Rattle.h2_core.proofs.StepCalls.{after-ping, at_ok}
 use Rattle.h2_core.proofs.StepEnds.{with_waiting, item-added}

@@ -1,17 +1,11 @@
--- The vector has the capacity for all that is given out before anything is changed.
-use Rattle.std.proofs.Common.{◌≡◌, refl}
-use Rattle.std.proofs.Common.{if◌then◌else◌}
+-- The vector has the capacity for all that is put out before anything is changed.
+use Rattle.h2_core.proofs.Names.{◌≡◌, refl, if◌then◌else◌, ◌++◌, take, returns_before_put_out}
+use Rattle.h2_core.proofs.Names.{end_view, before_put_out_at, end_of}
 use Rattle.std.proofs.lemmas.Bool.{false≢true}
-use Rattle.std.proofs.Common.{◌++◌, take}
-use Rattle.h2_spec_log.specs.CallRules.{returns_before_put_out}
-use Rattle.h2_spec_machine.specs.End.{end_view}
-use Rattle.h2_spec_machine.specs.Machine.{before_put_out_at}
-use Rattle.h2_core.specs.Endpoint.{end_of}
 use Rattle.h2_core.proofs.OwnOutput.{without_error, waiting_ready, given_out}
-use Rattle.h2_core.proofs.endpoint.Endpoint.put_out.Goals as goal
-use Rattle.h2_core.proofs.endpoint.Endpoint.put_out.Goals.{In-Err}
-use Rattle.h2_core.proofs.endpoint.Endpoint.put_out.Goals.{then-returns_before_output}
+use Rattle.h2_core.proofs.endpoint.Endpoint.put_out.Goals.{In-Err, then-returns_before_output}
 use Rattle.h2_core.proofs.endpoint.Endpoint.put_out.Goals.{else-returns_before_output}
+use Rattle.h2_core.proofs.endpoint.Endpoint.put_out.Goals as goal
 
 pub returns-in-Ok-clause-ok : goal.returns-in-Ok-clause-ok
 returns-in-Ok-clause-ok c =
@@ -26,7 +20,7 @@ returns-in-Ok-clause-ok c =
     rw put.2
     (given_out e ready _ c.args.count c.in-Ok.given _ _ is put.0 octets refl)
 
--- No memory is refused later, since the vector has the capacity for all that waits by then.
+-- No memory is refused later, since the vector has the capacity for all that is queued by then.
 never_later : (c : In-Err) → ⊥
 never_later c =
     let e = end_of c.args.self.now in

@@ -1,14 +1,7 @@
 -- The code's tests are the condition of a refusal and the causes for which the connection fails.
-use Rattle.std.proofs.Common.{◌≡◌, ◌≢◌, ◌+◌, ◌≤◌, max, ℕ, inl, inr, ap, subst, refl, sym}
-use Rattle.std.proofs.Common.{arith, ◌∙◌}
-use Rattle.std.proofs.lemmas.Result.{err_from_is_err_and}
-use Rattle.h2_frame.specs.declared.code.Code.TheVariants.{InternalError, EnhanceYourCalm}
-use Rattle.h2_spec_machine.specs.End.{End}
-use Rattle.h2_spec_machine.specs.Machine.{fail}
-use Rattle.h2_streams.specs.Streams.{stream_view}
-use Rattle.h2_core.specs.declared.reader.StepError.{StepError}
-use Rattle.h2_core.specs.Endpoint.{end_of}
-use Rattle.h2_core.specs.Stops.{FailsBy}
+use Rattle.h2_core.proofs.Names.{◌≡◌, ◌≢◌, ◌+◌, ◌≤◌, max, ℕ, inl, inr, ap, subst, refl, sym, arith}
+use Rattle.h2_core.proofs.Names.{◌∙◌, err_from_is_err_and, InternalError, EnhanceYourCalm, End}
+use Rattle.h2_core.proofs.Names.{fail, stream_view, StepError, end_of, FailsBy}
 use Rattle.h2_core.proofs.SoundFacts.{counted, owed_fits}
 use Rattle.h2_core.proofs.StepCalls.{no-stream, some-stream, at_ok, at_err}
 use Rattle.h2_core.proofs.StepRefuse.{refuse-closed, refuse-no-stream, refuse-internal}

@@ -1,18 +1,10 @@
 -- The code's tests are the conditions of a release in their order, and what it writes is the
 -- machine's.
-use Rattle.std.proofs.Common.{◌+◌, ◌≤◌, ◌-◌, ◌++◌, ℤ, is_some, refl, sym, ap, ap₂, arith, ◌∙◌, List}
-use Rattle.std.proofs.Common.{ℕ}
-use Rattle.std.proofs.lemmas.Result.{err_from_is_err_and}
-use Rattle.h2_spec_log.specs.Acts.{Release}
+use Rattle.h2_core.proofs.Names.{◌+◌, ◌≤◌, ◌-◌, ◌++◌, ℤ, refl, sym, ap, ap₂, arith, ◌∙◌, List, ℕ}
+use Rattle.h2_core.proofs.Names.{err_from_is_err_and, Release, StreamView, WindowUpdate}
+use Rattle.h2_core.proofs.Names.{encoding_of, End, Stream, stream_view, is_far, TableState, end_of}
 use Rattle.h2_spec_log.specs.CallRules.{conditions}
-use Rattle.h2_spec_log.specs.View.{StreamView}
-use Rattle.h2_frame.specs.Frames.{WindowUpdate}
-use Rattle.h2_frame.specs.Encoding.{encoding_of}
-use Rattle.h2_spec_machine.specs.End.{End}
-use Rattle.h2_streams.specs.declared.entry.Stream.{Stream}
-use Rattle.h2_streams.specs.Streams.{stream_view, is_far}
-use Rattle.h2_streams.specs.Table.{TableState}
-use Rattle.h2_core.specs.Endpoint.{end_of}
+use Rattle.std.proofs.Common.{is_some}
 use Rattle.h2_core.proofs.SoundFacts.{owed_fits, send_near, recv_near}
 use Rattle.h2_core.proofs.StepCalls.{first-here, first-later, first-none, refused, without_memory}
 use Rattle.h2_core.proofs.StepCalls.{no-stream, some-stream, at_ok}
@@ -22,8 +14,8 @@ use Rattle.h2_core.proofs.StepRelease.{owed-not, owed-enough, active-number, wid
 use Rattle.h2_core.proofs.StepRelease.{release-test, widened-fits, widened-value, not-ended}
 use Rattle.h2_core.proofs.StepRelease.{released, release-ended, release-open}
 use Rattle.hpack.proofs.Tests.{not_false as is-ended}
-use Rattle.h2_core.proofs.endpoint.Endpoint.release.Goals as goal
 use Rattle.h2_core.proofs.endpoint.Endpoint.release.Goals.{then-not-stream, else-not-stream}
+use Rattle.h2_core.proofs.endpoint.Endpoint.release.Goals as goal
 
 pub returns-in_err-check_up-clause-err : goal.returns-in_err-check_up-clause-err
 unfolding conditions
@@ -184,11 +176,11 @@ overflow_add-self c =
     owed_fits e c.args.id stream sound (sym c.in-Some.ensures) in
     omega (arith, fits)
 
--- an end to which the peer may send so many octets more
+-- an end whose peer may send `count` octets more
 abbrev with_recv : End → ℕ → End
 with_recv e count = record e { windows = record e.windows { recv = e.windows.recv + count } }
 
--- a stream on which so many octets were released
+-- a stream on which `count` octets were released
 abbrev less_owed : StreamView → ℕ → StreamView
 less_owed stream count = record stream { owed = stream.owed - count }
 

@@ -1,15 +1,12 @@
 -- The code's tests are the conditions of a reset in their order, and `reset_stream` does the rest.
-use Rattle.std.proofs.Common.{◌+◌, ◌≤◌, is_some, refl, sym, ap, arith, ◌∙◌}
-use Rattle.std.proofs.lemmas.Result.{err_from_is_err_and}
-use Rattle.h2_spec_log.specs.Acts.{ResetStream}
+use Rattle.h2_core.proofs.Names.{◌+◌, ◌≤◌, refl, sym, ap, arith, ◌∙◌, err_from_is_err_and}
+use Rattle.h2_core.proofs.Names.{ResetStream, stream_view, end_of}
 use Rattle.h2_spec_log.specs.CallRules.{conditions}
-use Rattle.h2_streams.specs.Streams.{stream_view}
-use Rattle.h2_core.specs.Endpoint.{end_of}
+use Rattle.std.proofs.Common.{is_some}
 use Rattle.h2_core.proofs.SoundFacts.{counted, owed_fits}
 use Rattle.h2_core.proofs.StepCalls.{first-here, first-later, first-none, refused, without_memory}
-use Rattle.h2_core.proofs.StepCalls.{no-stream, some-stream, after-reset, at_ok}
+use Rattle.h2_core.proofs.StepCalls.{no-stream, some-stream, after-reset, at_ok, at_err}
 use Rattle.h2_frame.proofs.EncodingLemmas.{le_passes as le-true, le_fails as le-false}
-use Rattle.h2_core.proofs.StepCalls.{at_err}
 use Rattle.h2_core.proofs.endpoint.Endpoint.reset.Goals as goal
 
 pub returns-in_err-check_up-clause-err : goal.returns-in_err-check_up-clause-err

@@ -1,9 +1,6 @@
-use Rattle.std.proofs.Common.{◌≡◌, ◌≢◌, ◌≤◌, ◌<◌, ◌^◌, ◌+◌, ℕ, None, Some, Option, refl, arith}
-use Rattle.std.specs.Option.{option_map}
-use Rattle.h2_streams.specs.Streams.{stream_view}
-use Rattle.h2_streams.specs.declared.entry.Stream.{Stream}
-use Rattle.h2_spec_machine.specs.End.{End, stream_at}
-use Rattle.h2_core.specs.Endpoint.{end_of, IsSoundEnd}
+use Rattle.h2_core.proofs.Names.{◌≡◌, ◌≢◌, ◌≤◌, ◌<◌, ◌^◌, ◌+◌, ℕ, None, Some, Option, refl, arith}
+use Rattle.h2_core.proofs.Names.{option_map, stream_view, Stream, End, stream_at, end_of}
+use Rattle.h2_core.proofs.Names.{IsSoundEnd}
 use Rattle.h2_core.specs.Streams.{owed_by}
 use Rattle.h2_core.proofs.SoundFacts.{counted, owed_fits, connection_fits}
 use Rattle.h2_core.proofs.endpoint.Endpoint.reset_for_fault.Goals as goal

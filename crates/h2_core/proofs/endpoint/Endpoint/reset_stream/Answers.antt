@@ -1,19 +1,13 @@
 -- RST_STREAM is written, and the table, the counts and the credit are the machine's.
-use Rattle.std.proofs.Common.{ℕ, ◌≤◌, ◌+◌, ◌-◌, arith, sym, ap, ap₂, List, [], ◌∷◌, ◌∙◌}
-use Rattle.std.specs.Option.{option_map}
-use Rattle.h2_block.specs.Grouping.{alone}
+use Rattle.h2_core.proofs.Names.{ℕ, ◌≤◌, ◌+◌, ◌-◌, arith, sym, ap, ap₂, List, [], ◌∷◌, ◌∙◌}
+use Rattle.h2_core.proofs.Names.{option_map, alone, End, end_view, queue_output, add_unreturned}
+use Rattle.h2_core.proofs.Names.{stream_view, TableState, Endpoint, end_of}
 use Rattle.h2_frame.specs.Frames.{Reset as ResetFrame}
-use Rattle.h2_spec_machine.specs.End.{End, end_view}
-use Rattle.h2_spec_machine.specs.Machine.{queue_output, add_unreturned}
-use Rattle.h2_streams.specs.Streams.{stream_view}
-use Rattle.h2_streams.specs.Table.{TableState}
-use Rattle.h2_core.specs.declared.endpoint.Endpoint.{Endpoint}
-use Rattle.h2_core.specs.Endpoint.{end_of}
 use Rattle.h2_core.proofs.StepFrames.{reset-written, length-reset}
 use Rattle.h2_core.proofs.StepEnds.{with_table, with_waiting, item-added}
 use Rattle.h2_core.proofs.StepStreams.{reset-active, reset-inactive}
-use Rattle.h2_core.proofs.endpoint.Endpoint.reset_stream.Goals as goal
 use Rattle.h2_core.proofs.endpoint.Endpoint.reset_stream.Goals.{in-Some, in_default}
+use Rattle.h2_core.proofs.endpoint.Endpoint.reset_stream.Goals as goal
 
 pub add_frame-requires-clause-writable : goal.add_frame-requires-clause-writable
 add_frame-requires-clause-writable c =
@@ -40,7 +34,7 @@ add_unreturned-requires-clause-room c = λ returns.
       | in_default w ↦ rw (w.self-is) left
     ]
 
--- an end with one more reset, and so many active streams
+-- an end with one more reset, and `count` active streams
 abbrev with_counts : End → ℕ → End
 with_counts e count =
     record e {

@@ -1,5 +1,5 @@
 -- By the machine's condition.
-use Rattle.std.proofs.Common.{refl}
+use Rattle.h2_core.proofs.Names.{refl}
 use Rattle.h2_spec_machine.specs.Machine.{before_put_out_at}
 use Rattle.h2_core.proofs.endpoint.Endpoint.return_before_output.Goals as goal
 

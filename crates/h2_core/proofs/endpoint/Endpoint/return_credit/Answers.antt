@@ -1,8 +1,5 @@
--- A WINDOW_UPDATE without stream has 13 octets, and those wait then.
-use Rattle.std.proofs.Common.{arith}
-use Rattle.h2_frame.specs.Frames.{WindowUpdate}
-use Rattle.h2_spec_machine.specs.End.{end_view}
-use Rattle.h2_core.specs.Endpoint.{end_of}
+-- A WINDOW_UPDATE on stream 0 has 13 octets, which are then queued.
+use Rattle.h2_core.proofs.Names.{arith, WindowUpdate, end_view, end_of}
 use Rattle.h2_core.proofs.StepFrames.{update-written, length-update, one-item}
 use Rattle.h2_core.proofs.endpoint.Endpoint.return_credit.Goals as goal
 

@@ -1,18 +1,15 @@
 -- The first condition that holds refuses; where none holds, the octets that both windows let
 -- through join the output, and the windows are without them.
-use Rattle.std.proofs.Common.{◌≡◌, ◌+◌, ◌==◌, ◌&&◌, length, take, ap, sym, ◌∙◌, arith}
-use Rattle.std.proofs.lemmas.Bool.{and_parts, eqb-true}
-use Rattle.std.proofs.lemmas.Result.{err_from_is_err_and}
-use Rattle.h2_spec_log.specs.CallRules.{conditions, data_frames}
-use Rattle.h2_spec_machine.specs.End.{end_view}
-use Rattle.h2_streams.specs.Streams.{stream_view}
-use Rattle.h2_core.specs.Endpoint.{end_of}
+use Rattle.h2_core.proofs.Names.{◌≡◌, ◌+◌, ◌==◌, ◌&&◌, length, take, ap, sym, ◌∙◌, arith, and_parts}
+use Rattle.h2_core.proofs.Names.{err_from_is_err_and, data_frames, end_view, stream_view, end_of}
+use Rattle.h2_spec_log.specs.CallRules.{conditions}
+use Rattle.std.proofs.lemmas.Bool.{eqb-true}
 use Rattle.h2_core.proofs.CallConditions.{refused, lacks_memory}
 use Rattle.h2_core.proofs.CallOutput.{with_waiting}
 use Rattle.h2_core.proofs.CallSend.{data_free, data_unsent, after_sent, data_written}
 use Rattle.h2_core.proofs.SoundFacts.{send_near}
-use Rattle.h2_core.proofs.endpoint.Endpoint.send_data.Goals as goal
 use Rattle.h2_core.proofs.endpoint.Endpoint.send_data.Goals.{then-end, else-end}
+use Rattle.h2_core.proofs.endpoint.Endpoint.send_data.Goals as goal
 
 pub returns-in_err-stream-clause-err : goal.returns-in_err-stream-clause-err
 unfolding conditions

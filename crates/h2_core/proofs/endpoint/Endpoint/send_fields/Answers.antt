@@ -1,12 +1,8 @@
 -- The first condition that holds refuses; where none holds, the block joins the output, and the
 -- stream is changed.
-use Rattle.std.proofs.Common.{◌≡◌, ◌∷◌, [], ap, sym, ◌∙◌, arith}
-use Rattle.std.proofs.lemmas.Result.{err_from_is_err_and}
+use Rattle.h2_core.proofs.Names.{◌≡◌, ◌∷◌, [], ap, sym, ◌∙◌, arith, err_from_is_err_and}
+use Rattle.h2_core.proofs.Names.{stream_view, update_stream, End, end_of}
 use Rattle.h2_spec_log.specs.CallRules.{conditions}
-use Rattle.h2_streams.specs.Streams.{stream_view}
-use Rattle.h2_spec_machine.specs.Machine.{update_stream}
-use Rattle.h2_spec_machine.specs.End.{End}
-use Rattle.h2_core.specs.Endpoint.{end_of}
 use Rattle.h2_core.proofs.CallConditions.{refused, lacks_memory, if_err}
 use Rattle.hpack.proofs.ResultLemmas.{on_ok as unless_err}
 use Rattle.h2_core.proofs.CallSend.{fields_free, fields_large, fields_sent}

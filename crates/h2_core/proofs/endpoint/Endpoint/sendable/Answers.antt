@@ -1,9 +1,6 @@
 -- The first condition that holds refuses; those before it don't hold.
-use Rattle.std.proofs.Common.{◌≡◌, None, Some, refl, arith}
-use Rattle.std.proofs.lemmas.Bool.{le-leb}
-use Rattle.h2_streams.specs.Streams.{stream_view}
-use Rattle.h2_spec_machine.specs.End.{stream_at}
-use Rattle.h2_core.specs.Endpoint.{end_of}
+use Rattle.h2_core.proofs.Names.{◌≡◌, None, Some, refl, arith, le-leb, stream_view, stream_at}
+use Rattle.h2_core.proofs.Names.{end_of}
 use Rattle.h2_core.proofs.CallConditions.{holds_first, others_decide}
 use Rattle.h2_core.proofs.endpoint.Endpoint.sendable.Goals as goal
 

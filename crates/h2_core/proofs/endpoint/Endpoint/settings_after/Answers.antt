@@ -1,8 +1,6 @@
 -- Pair by pair, by the lemmas on SETTINGS.
-use Rattle.std.proofs.Common.{◌≡◌, ℕ, ◌==◌, ◌&&◌, true, false, Some, None, refl, sym, ◌∙◌}
-use Rattle.h2_spec_log.specs.Settings.{value_fault, peer_of}
-use Rattle.h2_spec_machine.specs.End.{end_view}
-use Rattle.h2_core.specs.Endpoint.{end_of}
+use Rattle.h2_core.proofs.Names.{◌≡◌, ℕ, ◌==◌, ◌&&◌, true, false, Some, None, refl, sym, ◌∙◌}
+use Rattle.h2_core.proofs.Names.{value_fault, peer_of, end_view, end_of}
 use Rattle.h2_core.proofs.OwnSettings.{value_faults, window_faults, later_fault, no_fault}
 use Rattle.h2_core.proofs.OwnSettings.{next_value, last_value}
 use Rattle.h2_core.proofs.endpoint.Endpoint.settings_after.Goals as goal

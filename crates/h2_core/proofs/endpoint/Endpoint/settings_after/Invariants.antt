@@ -1,10 +1,7 @@
 -- The pairs that are left have the fault of all, and give the settings after all.
-use Rattle.std.proofs.Common.{◌≡◌}
-use Rattle.h2_frame.specs.Pairs.{lent_pairs, pairs_left}
-use Rattle.h2_spec_log.specs.ItemRules.{settings_fault}
-use Rattle.h2_spec_machine.specs.End.{end_view}
-use Rattle.h2_core.specs.Endpoint.{end_of}
-use Rattle.h2_core.specs.Settings.{KnowsGreatest, with_values}
+use Rattle.h2_core.proofs.Names.{◌≡◌, lent_pairs, pairs_left, settings_fault, end_view, end_of}
+use Rattle.h2_core.proofs.Names.{with_values}
+use Rattle.h2_core.specs.Settings.{KnowsGreatest}
 use Rattle.h2_core.proofs.endpoint.Endpoint.settings_after.Given as goal
 
 abbrev pub invariant-loop-id : goal.invariant-loop-id

@@ -1,7 +1,5 @@
 -- By whether own SETTINGS await it.
-use Rattle.std.proofs.Common.{refl}
-use Rattle.h2_flow.specs.ConfigValues.{values_of}
-use Rattle.h2_core.specs.Endpoint.{end_of}
+use Rattle.h2_core.proofs.Names.{refl, values_of, end_of}
 use Rattle.h2_core.proofs.OwnItems.{ack_ignored, ack_taken}
 use Rattle.h2_core.proofs.endpoint.Endpoint.take_acknowledgment.Goals as goal
 

@@ -1,15 +1,18 @@
-use Rattle.std.proofs.Common.{◌≡◌, true, ap, inl, inr, arith}
-use Rattle.h2_frame.specs.Frames.{frame_of}
-use Rattle.h2_frame.specs.declared.frame.FrameRef.{FrameRef}
-use Rattle.h2_core.specs.Endpoint.{end_of}
-use Rattle.h2_core.proofs.FrameWritable.{writable, data_number, update_number}
-use Rattle.h2_core.proofs.FrameWritable.{update_increment, is_quiet, quiet_taken}
+use Rattle.h2_core.proofs.Names.{◌≡◌, ◌≤◌, length, true, ap, inl, inr, arith, frame_of, FrameRef}
+use Rattle.h2_core.proofs.Names.{end_of}
+use Rattle.h2_frame.specs.Encoding.{payload_of, padded}
+use Rattle.h2_core.proofs.FrameWritable.{writable, data_number, update_number, update_increment}
+use Rattle.h2_core.proofs.FrameWritable.{is_quiet, quiet_taken}
 use Rattle.h2_core.proofs.endpoint.Endpoint.take_alone.Goals as goal
 
-pub overflow_cast-payload_len : goal.overflow_cast-payload_len
-overflow_cast-payload_len c =
+pub flow_of-requires : goal.flow_of-requires
+unfolding payload_of
+flow_of-requires c =
     let good = writable (frame_of c.args.frame) c.requires.good in
-    omega (arith, good.payload, c.payload_len.ensures)
+    let within : length (payload_of (frame_of c.args.frame)) ≤ 16777215 = good.payload in
+    let short : length (padded c.in-Data.octets.now c.in-Data.pad) ≤ 16777215 =
+    rw c.in-Data.is at within in
+    omega (arith, short)
 
 pub take_data-requires-clause-number : goal.take_data-requires-clause-number
 take_data-requires-clause-number c =
@@ -41,3 +44,7 @@ returns-in-Headers c =
       ]
     ] in
     quiet_taken (end_of c.args.self.now) (frame_of c.args.frame) c.args.self.now.list quiet
+
+pub returns-in-Data : goal.returns-in-Data
+unfolding payload_of
+returns-in-Data c = rw c.in-Data.is (c.take_data.ensures c.in-Data.pad c.flow_of.ensures)

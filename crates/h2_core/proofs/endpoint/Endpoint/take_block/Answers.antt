@@ -1,16 +1,10 @@
-use Rattle.std.proofs.Common.{◌≡◌, ◌++◌, ℕ, [], Some, Ok, Err, refl, sym, ap}
-use Rattle.std.proofs.Common.{subst, ◌∙◌}
-use Rattle.hpack.specs.Lists.{DecoderState}
-use Rattle.h2_frame.specs.Encoding.{encoding_of}
-use Rattle.h2_frame.specs.Frames.{GoAway}
-use Rattle.h2_block.specs.Grouping.{block}
-use Rattle.h2_spec_log.specs.ItemRules.{Decoded}
-use Rattle.h2_spec_machine.specs.End.{End}
-use Rattle.h2_core.specs.Endpoint.{end_of, IsSoundEnd}
-use Rattle.h2_core.specs.Items.{TakesItem}
+use Rattle.h2_core.proofs.Names.{◌≡◌, ◌++◌, ℕ, [], Some, refl, sym, ap, subst, ◌∙◌, DecoderState}
+use Rattle.h2_core.proofs.Names.{encoding_of, GoAway, block, Decoded, End, end_of, IsSoundEnd}
+use Rattle.h2_core.proofs.Names.{TakesItem}
+use Rattle.std.proofs.Common.{Ok, Err}
 use Rattle.h2_core.proofs.FrameFailures.{table_sound, block_taken, block_stopped, undecoded_fails}
-use Rattle.h2_core.proofs.FrameFailures.{alike, at_table, from_table, stopped_same}
-use Rattle.h2_core.proofs.FrameFailures.{stopped_small, held, with_decoder}
+use Rattle.h2_core.proofs.FrameFailures.{alike, at_table, from_table, stopped_same, stopped_small}
+use Rattle.h2_core.proofs.FrameFailures.{held, with_decoder}
 use Rattle.h2_core.proofs.endpoint.Endpoint.take_block.Goals as goal
 
 pub returns-in-Err : goal.returns-in-Err

@@ -1,25 +1,18 @@
 -- DATA by the state of its stream, and within both windows.
-use Rattle.std.proofs.Common.{◌≡◌, ◌⊎◌, ℕ, Option, Some, sym, ap, ◌∙◌, inl, inr, refl}
-use Rattle.std.proofs.Common.{true}
-use Rattle.h2_frame.specs.declared.code.Code.TheVariants.{ProtocolError, FlowControlError}
-use Rattle.h2_frame.specs.declared.code.Code.TheVariants.{StreamClosed}
-use Rattle.h2_spec_log.specs.States.{Active, ClosedByUs}
-use Rattle.h2_spec_log.specs.ItemRules.{exceeds}
+use Rattle.h2_core.proofs.Names.{◌≡◌, ◌⊎◌, ℕ, Option, Some, sym, ap, ◌∙◌, inl, inr, refl, true}
+use Rattle.h2_core.proofs.Names.{ProtocolError, FlowControlError, StreamClosed, Active, exceeds}
+use Rattle.h2_core.proofs.Names.{stream_view, state_at, stream_at, frame_of_data, end_of, Stream}
 use Rattle.h2_frame.specs.Encoding.{stream_of}
 use Rattle.h2_spec_log.specs.Items.{stream_of_item}
-use Rattle.h2_streams.specs.Streams.{stream_view}
 use Rattle.h2_spec_machine.specs.Machine.{after_stream_fault}
-use Rattle.h2_spec_machine.specs.End.{state_at, stream_at}
-use Rattle.h2_core.specs.DataFrames.{frame_of_data}
-use Rattle.h2_core.specs.Endpoint.{end_of}
-use Rattle.h2_streams.specs.declared.entry.Stream.{Stream}
+use Rattle.h2_spec_log.specs.States.{ClosedByUs}
 use Rattle.h2_core.proofs.SoundFacts.{recv_near}
 use Rattle.h2_core.proofs.ItemWindows.{kept_is}
 use Rattle.h2_core.proofs.ItemVerdicts.{fault_taken, fault_item}
-use Rattle.h2_core.proofs.ItemData.{HasFlow, idle_data, past_data, beyond_connection}
-use Rattle.h2_core.proofs.ItemData.{beyond_stream, discarded_taken, late_data}
-use Rattle.h2_core.proofs.endpoint.Endpoint.take_data.Goals as goal
+use Rattle.h2_core.proofs.ItemData.{HasFlow, idle_data, past_data, beyond_connection, beyond_stream}
+use Rattle.h2_core.proofs.ItemData.{discarded_taken, late_data}
 use Rattle.h2_core.proofs.endpoint.Endpoint.take_data.Goals.{in-ClosedByUs, in-Active}
+use Rattle.h2_core.proofs.endpoint.Endpoint.take_data.Goals as goal
 
 pub returns-in-Idle : goal.returns-in-Idle
 returns-in-Idle c =

@@ -1,8 +1,5 @@
-use Rattle.std.proofs.Common.{false, refl, sym, ◌∙◌}
-use Rattle.h2_spec_machine.specs.End.{End}
-use Rattle.h2_core.specs.Endpoint.{end_of}
+use Rattle.h2_core.proofs.Names.{false, refl, sym, ◌∙◌, End, end_of, is_fresh}
 use Rattle.h2_spec_log.specs.States.{ClosedByUs}
-use Rattle.h2_spec_machine.specs.Machine.{is_fresh}
 use Rattle.h2_core.proofs.FrameVerdicts.{stale_of, ignored_rule, ignored_taken, idle_unwanted}
 use Rattle.h2_core.proofs.FrameVerdicts.{closed_unwanted}
 use Rattle.h2_core.proofs.endpoint.Endpoint.take_decoded.Goals as goal

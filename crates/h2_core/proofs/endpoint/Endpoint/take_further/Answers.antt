@@ -1,27 +1,19 @@
-use Rattle.std.proofs.Common.{◌≡◌, ℕ, Bool, true, false, if◌then◌else◌, List}
-use Rattle.std.proofs.Common.{Some, arith, refl, sym, ap, ◌∙◌, ◌||◌, inl, inr, ◌⊎◌}
-use Rattle.h2_frame.specs.declared.code.Code.{Code}
-use Rattle.h2_frame.specs.declared.code.Code.TheVariants.{StreamClosed, EnhanceYourCalm}
-use Rattle.h2_streams.specs.Streams.{stream_view}
-use Rattle.h2_spec_log.specs.ItemRules.{Decoded}
-use Rattle.h2_spec_log.specs.Verdicts.{StreamFault, Reported}
-use Rattle.h2_spec_log.specs.View.{StreamView}
-use Rattle.h2_spec_machine.specs.End.{End, stream_at}
-use Rattle.h2_spec_machine.specs.Machine.{update_stream, receive_block}
-use Rattle.h2_core.specs.Endpoint.{end_of}
+use Rattle.h2_core.proofs.Names.{◌≡◌, ℕ, Bool, true, false, if◌then◌else◌, List, Some, arith, refl}
+use Rattle.h2_core.proofs.Names.{sym, ap, ◌∙◌, ◌||◌, inl, inr, ◌⊎◌, Code, StreamClosed}
+use Rattle.h2_core.proofs.Names.{EnhanceYourCalm, stream_view, Decoded, StreamFault, Reported}
+use Rattle.h2_core.proofs.Names.{StreamView, End, stream_at, update_stream, receive_block, end_of}
+use Rattle.h2_core.proofs.Names.{err_from_is_err_and}
 use Rattle.h2_core.proofs.SoundFacts.{counted, owed_fits, send_near, recv_near}
 use Rattle.h2_core.proofs.FrameVerdicts.{active_stale, by_block, is_too_large, further_rule}
-use Rattle.h2_core.proofs.FrameVerdicts.{further_opens, fault_item, reported_taken}
-use Rattle.h2_core.proofs.FrameVerdicts.{report_lacks}
-use Rattle.std.proofs.lemmas.Result.{err_from_is_err_and}
-use Rattle.h2_core.proofs.endpoint.Endpoint.take_further.Goals as goal
+use Rattle.h2_core.proofs.FrameVerdicts.{further_opens, fault_item, reported_taken, report_lacks}
 use Rattle.h2_core.proofs.endpoint.Endpoint.take_further.Goals.{then-stream-2, else-stream-2}
+use Rattle.h2_core.proofs.endpoint.Endpoint.take_further.Goals as goal
 
 -- the code of a fault
 abbrev code_of : Bool → Code
 code_of ended = if ended then StreamClosed else EnhanceYourCalm
 
--- Where the peer has ended the stream, or the list is too large, it is a fault of the stream.
+-- Where the stream is half-closed (remote), or the list is too large, it is a stream error.
 at_fault : (e : End) (id : ℕ) (end : Bool) (octets : List ℕ) (decoded : Decoded)
     (stream : StreamView) (ended large : Bool) → stream_at e id ≡ Some stream
     → stream.ended_in ≡ ended → is_too_large decoded ≡ large
@@ -74,11 +66,11 @@ update_stream-requires-clause-window c =
           c.requires.sound c.requires.active,
     )
 
--- an end whose output waits so
+-- an end with this queued output
 abbrev with_waiting : End → List ℕ → End
 with_waiting e waiting = record e { output = record e.output { waiting = waiting } }
 
--- A block that is reported on an active stream which the peer has not ended.
+-- A block that is reported on a stream that is open or half-closed (local).
 received : (e : End) (id : ℕ) (end : Bool) (stream : StreamView) (waiting : List ℕ) (new : End)
     → stream_at e id ≡ Some stream → stream.ended_in ≡ false → waiting ≡ e.output.waiting
     → new ≡ update_stream (with_waiting e waiting) id (record stream { ended_in = end })

@@ -1,23 +1,17 @@
-use Rattle.std.proofs.Common.{◌≡◌, ℕ, ◌+◌, Bool, true, false, max, not}
-use Rattle.std.proofs.Common.{if◌then◌else◌, List, None, Some, arith, refl, sym}
-use Rattle.std.proofs.Common.{ap, ◌∙◌, is_some, ltb-true}
-use Rattle.std.specs.FinMap as map
-use Rattle.std.proofs.lemmas.Result.{err_from_is_err_and}
-use Rattle.h2_frame.specs.declared.code.Code.TheVariants.{RefusedStream, EnhanceYourCalm}
-use Rattle.h2_flow.specs.declared.stream_state.StreamState.{StreamState}
-use Rattle.h2_streams.specs.Table.{TableState}
-use Rattle.h2_spec_log.specs.ItemRules.{Decoded, opened_by, is_at_capacity}
-use Rattle.h2_spec_log.specs.Verdicts.{StreamFault, Reported, NoEvent, opening_verdict}
-use Rattle.h2_spec_log.specs.View.{StreamView}
-use Rattle.h2_block.specs.Grouping.{block}
-use Rattle.h2_spec_machine.specs.End.{End, end_view, stream_at, active_entry}
-use Rattle.h2_spec_machine.specs.Machine.{receive_block, new_stream}
-use Rattle.h2_core.specs.declared.endpoint.Endpoint.{Endpoint}
-use Rattle.h2_core.specs.Endpoint.{end_of}
+use Rattle.h2_core.proofs.Names.{◌≡◌, ℕ, ◌+◌, Bool, true, false, max, not, if◌then◌else◌, List}
+use Rattle.h2_core.proofs.Names.{None, Some, arith, refl, sym, ap, ◌∙◌, ltb-true}
+use Rattle.h2_core.proofs.Names.{err_from_is_err_and, EnhanceYourCalm, StreamState, TableState}
+use Rattle.h2_core.proofs.Names.{Decoded, opened_by, is_at_capacity, StreamFault, Reported, NoEvent}
+use Rattle.h2_core.proofs.Names.{StreamView, block, End, end_view, stream_at, active_entry}
+use Rattle.h2_core.proofs.Names.{receive_block, new_stream, Endpoint, end_of}
+use Rattle.h2_spec_log.specs.Verdicts.{opening_verdict}
+use Rattle.std.proofs.Common.{is_some}
+use Rattle.h2_frame.specs.declared.code.Code.TheVariants.{RefusedStream}
 use Rattle.h2_core.proofs.FrameVerdicts.{by_block, is_too_large, Fresh, fresh_of, fresh_no_stream}
 use Rattle.h2_core.proofs.FrameVerdicts.{opening_rule, fresh_opens, fault_error, fault_answer}
 use Rattle.h2_core.proofs.FrameVerdicts.{ignored_taken, reported_taken, report_lacks}
 use Rattle.h2_core.proofs.ItemVerdicts.{with_table}
+use Rattle.std.specs.FinMap as map
 use Rattle.h2_core.proofs.endpoint.Endpoint.take_opening.Goals as goal
 
 -- the rule, by what is known of the end

@@ -1,19 +1,13 @@
 -- RST_STREAM closes an active stream.
-use Rattle.std.proofs.Common.{ℕ, List, length, Option, arith, refl, sym, ap, ◌∙◌}
-use Rattle.h2_frame.specs.Frames.{Reset}
-use Rattle.h2_frame.specs.declared.code.Code.TheVariants.{ProtocolError}
+use Rattle.h2_core.proofs.Names.{ℕ, List, length, Option, arith, refl, sym, ap, ◌∙◌, ProtocolError}
+use Rattle.h2_core.proofs.Names.{stream_view, state_at, close_stream, end_of, err_from_is_err_and}
+use Rattle.h2_core.proofs.Names.{StreamView, owed_on, returns_credit, Reported}
 use Rattle.h2_spec_log.specs.ItemEffects.{events_of}
-use Rattle.h2_streams.specs.Streams.{stream_view}
-use Rattle.h2_spec_machine.specs.End.{state_at}
-use Rattle.h2_spec_machine.specs.Machine.{after_ignored, after_reported, close_stream}
-use Rattle.h2_core.specs.Endpoint.{end_of}
+use Rattle.h2_spec_machine.specs.Machine.{after_ignored, after_reported}
+use Rattle.h2_frame.specs.Frames.{Reset}
 use Rattle.h2_core.proofs.SoundFacts.{counted, owed_fits}
 use Rattle.h2_core.proofs.ItemVerdicts.{fault_taken, ignored_taken, report_taken, with_waiting}
 use Rattle.h2_core.proofs.ItemVerdicts.{lacks_memory}
-use Rattle.std.proofs.lemmas.Result.{err_from_is_err_and}
-use Rattle.h2_spec_log.specs.View.{StreamView, owed_on}
-use Rattle.h2_spec_log.specs.CallRules.{returns_credit}
-use Rattle.h2_spec_log.specs.Verdicts.{Reported}
 use Rattle.h2_core.proofs.ItemStatuses.{closed_state}
 use Rattle.h2_core.proofs.ItemResets.{idle_reset, active_reset, closed_reset}
 use Rattle.h2_core.proofs.endpoint.Endpoint.take_reset.Goals as goal

@@ -1,13 +1,10 @@
 -- By the lemmas on SETTINGS as an item.
-use Rattle.std.proofs.Common.{◌≡◌, ◌+◌, ◌<◌, ◌≤◌, length, min, true, ap, arith}
-use Rattle.std.proofs.lemmas.Result.{err_from_is_err_and}
-use Rattle.h2_frame.specs.Pairs.{lent_pairs}
-use Rattle.h2_spec_log.specs.Settings.{value_after}
-use Rattle.h2_spec_machine.specs.Machine.{first_allowed}
-use Rattle.h2_core.specs.Endpoint.{end_of, streams_allowed_by}
-use Rattle.h2_core.specs.Settings.{with_values}
+use Rattle.h2_core.proofs.Names.{◌≡◌, ◌+◌, ◌<◌, ◌≤◌, length, min, true, ap, arith}
+use Rattle.h2_core.proofs.Names.{err_from_is_err_and, lent_pairs, value_after, first_allowed}
+use Rattle.h2_core.proofs.Names.{end_of, streams_allowed_by, with_values}
 use Rattle.h2_core.proofs.OwnItems.{settings_stop, settings_over, settings_taken, window_after}
 use Rattle.h2_core.proofs.OwnItems.{frame_after, streams_after, settings_lacks}
+use Rattle.h2_core.proofs.OwnItems.{acknowledgment_octets}
 use Rattle.h2_core.proofs.ItemVerdicts.{with_waiting}
 use Rattle.h2_core.proofs.endpoint.Endpoint.take_settings.Goals as goal
 
@@ -42,7 +39,8 @@ returns c =
     rw values (frame_after one.peer pairs) in
     rw (
       c.set_send_initial.ensures,
-      c.add_octets.ensures.waiting,
+      c.add_settings.ensures.waiting,
+      acknowledgment_octets,
       c.limit_encoder.ensures,
       c.reserve.ensures.waiting,
     )

@@ -1,10 +1,6 @@
 -- WINDOW_UPDATE of a stream that isn't active.
-use Rattle.std.proofs.Common.{sym}
-use Rattle.h2_frame.specs.Frames.{WindowUpdate}
-use Rattle.h2_frame.specs.declared.code.Code.TheVariants.{ProtocolError}
-use Rattle.h2_spec_machine.specs.End.{stream_at, state_at}
+use Rattle.h2_core.proofs.Names.{sym, WindowUpdate, ProtocolError, stream_at, state_at, end_of}
 use Rattle.h2_spec_machine.specs.Machine.{after_ignored}
-use Rattle.h2_core.specs.Endpoint.{end_of}
 use Rattle.h2_core.proofs.ItemVerdicts.{fault_taken, ignored_taken}
 use Rattle.h2_core.proofs.ItemStatuses.{closed_state, closed_stream}
 use Rattle.h2_core.proofs.ItemUpdates.{idle_update, closed_update, widen_none}

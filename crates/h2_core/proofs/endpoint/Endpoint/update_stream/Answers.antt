@@ -1,10 +1,6 @@
 -- A stream that is over is removed; what was set of it before doesn't count.
-use Rattle.std.proofs.Common.{◌-◌, sym, ap, ◌∙◌}
-use Rattle.h2_spec_machine.specs.End.{End}
-use Rattle.h2_spec_machine.specs.Machine.{add_unreturned}
-use Rattle.h2_streams.specs.Streams.{stream_view}
-use Rattle.h2_streams.specs.Table.{TableState}
-use Rattle.h2_core.specs.Endpoint.{end_of}
+use Rattle.h2_core.proofs.Names.{◌-◌, sym, ap, ◌∙◌, End, add_unreturned, stream_view, TableState}
+use Rattle.h2_core.proofs.Names.{end_of}
 use Rattle.h2_core.proofs.StepEnds.{with_table}
 use Rattle.h2_core.proofs.StepStreams.{updated-over}
 use Rattle.h2_core.proofs.endpoint.Endpoint.update_stream.Goals as goal

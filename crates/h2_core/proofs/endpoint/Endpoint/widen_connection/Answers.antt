@@ -1,9 +1,7 @@
 -- WINDOW_UPDATE of the connection widens its window.
-use Rattle.std.proofs.Common.{◌≤◌, arith, refl}
-use Rattle.h2_frame.specs.Frames.{WindowUpdate}
-use Rattle.h2_frame.specs.declared.code.Code.TheVariants.{ProtocolError, FlowControlError}
+use Rattle.h2_core.proofs.Names.{◌≤◌, arith, refl, WindowUpdate, ProtocolError, FlowControlError}
+use Rattle.h2_core.proofs.Names.{end_of}
 use Rattle.h2_spec_machine.specs.Machine.{after_ignored}
-use Rattle.h2_core.specs.Endpoint.{end_of}
 use Rattle.h2_core.proofs.ItemVerdicts.{fault_taken, ignored_taken}
 use Rattle.h2_core.proofs.ItemUpdates.{empty_is_fault, great_is_fault, widens_connection}
 use Rattle.h2_core.proofs.endpoint.Endpoint.widen_connection.Goals as goal

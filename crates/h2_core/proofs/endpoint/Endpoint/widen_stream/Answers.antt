@@ -1,27 +1,20 @@
 -- WINDOW_UPDATE of an active stream widens its window, or resets it.
-use Rattle.std.proofs.Common.{◌≡◌, ◌≢◌, ℤ, false, true, arith}
-use Rattle.std.proofs.Common.{None, sym, ap, ◌∙◌, [], ◌∷◌}
-use Rattle.h2_frame.specs.Frames.{WindowUpdate, Reset}
+use Rattle.h2_core.proofs.Names.{◌≡◌, ◌≢◌, ℤ, false, true, arith, None, sym, ap, ◌∙◌, [], ◌∷◌}
+use Rattle.h2_core.proofs.Names.{WindowUpdate, alone, StreamFault, verdict_by_rules, overflows_by}
+use Rattle.h2_core.proofs.Names.{stream_view, is_far, End, end_view, set_stream, widen_send_window}
+use Rattle.h2_core.proofs.Names.{reset_stream, queue_output, code_number, end_of}
 use Rattle.h2_frame.specs.Encoding.{stream_of}
-use Rattle.h2_block.specs.Grouping.{alone}
 use Rattle.h2_spec_log.specs.Items.{stream_of_item}
-use Rattle.h2_spec_log.specs.Verdicts.{StreamFault}
-use Rattle.h2_spec_log.specs.ItemRules.{verdict_by_rules, overflows_by}
-use Rattle.h2_streams.specs.Streams.{stream_view, is_far}
-use Rattle.h2_spec_machine.specs.End.{End, end_view}
-use Rattle.h2_spec_machine.specs.Machine.{after_ignored, after_stream_fault, set_stream}
-use Rattle.h2_spec_machine.specs.Machine.{widen_send_window}
-use Rattle.h2_spec_machine.specs.Machine.{reset_stream, queue_output}
-use Rattle.h2_frame.specs.Codes.{code_number}
-use Rattle.h2_core.specs.Endpoint.{end_of}
+use Rattle.h2_spec_machine.specs.Machine.{after_ignored, after_stream_fault}
+use Rattle.h2_frame.specs.Frames.{Reset}
 use Rattle.h2_core.proofs.SoundFacts.{send_near, recv_near}
 use Rattle.h2_core.proofs.ItemVerdicts.{ignored_taken, fault_item, with_table}
 use Rattle.h2_core.proofs.StepStreams.{narrow_none}
 use Rattle.h2_core.proofs.ItemWindows.{widened_fits, widened_is, widened_near, passes_as}
 use Rattle.h2_core.proofs.ItemUpdates.{empty_resets, great_resets, widens_stream}
-use Rattle.h2_core.proofs.endpoint.Endpoint.widen_stream.Goals as goal
 use Rattle.h2_core.proofs.endpoint.Endpoint.widen_stream.Goals.{then-increment-eq0}
 use Rattle.h2_core.proofs.endpoint.Endpoint.widen_stream.Goals.{else-increment-eq0+then-window-from}
+use Rattle.h2_core.proofs.endpoint.Endpoint.widen_stream.Goals as goal
 
 pub overflow_add-window : goal.overflow_add-window
 overflow_add-window c =

@@ -1,11 +1,7 @@
 -- The frames of the block join the output, and the encoder is the one after it.
-use Rattle.std.proofs.Common.{◌≡◌, ◌∷◌, [], ◌++◌, length, ap, sym, ◌∙◌, arith}
-use Rattle.hpack.specs.Choice.{block_of, after_block}
-use Rattle.h2_block.specs.Grouping.{block}
-use Rattle.h2_spec_log.specs.Items.{encoding_of_items}
-use Rattle.h2_spec_machine.specs.End.{end_view}
-use Rattle.h2_spec_machine.specs.Machine.{with_encoder}
-use Rattle.h2_core.specs.Endpoint.{end_of}
+use Rattle.h2_core.proofs.Names.{◌≡◌, ◌∷◌, [], ◌++◌, length, ap, sym, ◌∙◌, arith, block_of}
+use Rattle.h2_core.proofs.Names.{after_block, block, encoding_of_items, end_view, with_encoder}
+use Rattle.h2_core.proofs.Names.{end_of}
 use Rattle.h2_core.proofs.CallOutput.{octets_of_block, with_waiting}
 use Rattle.h2_core.proofs.endpoint.Endpoint.write_block.Goals as goal
 

@@ -1,7 +1,5 @@
 -- The stream's windows stay near zero, and DATA leaves what is counted and owed.
-use Rattle.std.proofs.Common.{length, ap, arith}
-use Rattle.h2_spec_machine.specs.End.{End}
-use Rattle.h2_core.specs.Endpoint.{end_of}
+use Rattle.h2_core.proofs.Names.{length, ap, arith, End, end_of}
 use Rattle.h2_core.proofs.CallWindows.{narrowed_near, narrowed_value}
 use Rattle.h2_core.proofs.SoundFacts.{counted, owed_fits, send_near, recv_near}
 use Rattle.h2_core.proofs.endpoint.Endpoint.write_data.Goals as goal

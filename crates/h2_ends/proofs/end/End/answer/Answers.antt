@@ -1,11 +1,11 @@
 -- What is kept of the stream says which refusal comes first.
 use Rattle.h2_ends.proofs.Names.{◌≡◌, refl, sym, ◌∙◌, both_ways, SendFields, Refused, with_call}
-use Rattle.h2_ends.proofs.Names.{message_value, end_with_log}
+use Rattle.h2_ends.proofs.Names.{message_value, end_with_log, err_from_is_err_and}
 use Rattle.h2_ends.proofs.InSteps.{called_as}
 use Rattle.h2_ends.proofs.EndTokens.{refused_tokens}
-use Rattle.h2_ends.proofs.RequestSends.{unchanged_by, is_client, is_server_by}
+use Rattle.h2_ends.proofs.RequestSends.{unchanged_by, is_client}
 use Rattle.h2_ends.proofs.RequestSteps.{refused_fields_keep}
-use Rattle.h2_ends.proofs.RespondHeads.{nothing_asked, client_asked, active_stream, asked_stream}
+use Rattle.h2_ends.proofs.RespondHeads.{nothing_asked, client_asked, asked_here}
 use Rattle.h2_ends.proofs.RespondHeads.{was_answered, breaks_response, refuses_response}
 use Rattle.h2_ends.proofs.RespondHeads.{may_respond}
 use Rattle.h2_ends.proofs.end.End.answer.Goals.{in-NotGiven, in_default-matches}
@@ -31,12 +31,8 @@ returns-then-eq c = λ values end is. (
 pub returns-then-not-matches : goal.returns-then-not-matches
 returns-then-not-matches c = λ values end is.
     let stream = c.in-Some.stream.now in
-    let alive = active_stream values c.args.self.now end c.args.id stream
-    c.in-Some.ensures.value is in
-    let server = sym is.streams.role ∙ is_server_by c.args.self.now.role
-    (sym c.eq.ensures ∙ c.if-eq.false) in
-    let asked = asked_stream end c.args.id stream alive server
-    (rw (← c.in-Some.ensures.value) at (is.streams.streams c.args.id)) in (
+    let asked = asked_here values c.args.self.now end c.args.id stream c.in-Some.ensures.value is
+    (sym c.eq.ensures ∙ c.if-eq.false) in (
       end,
       was_answered end c.args.id (message_value c.args.message.now) stream asked.0 asked.1
           (λ given. elim c.match-matches.branch [
@@ -49,12 +45,8 @@ returns-then-not-matches c = λ values end is.
 pub returns-in-Err : goal.returns-in-Err
 returns-in-Err c = λ values end is.
     let stream = c.in-Some.stream.now in
-    let alive = active_stream values c.args.self.now end c.args.id stream
-    c.in-Some.ensures.value is in
-    let server = sym is.streams.role ∙ is_server_by c.args.self.now.role
+    let asked = asked_here values c.args.self.now end c.args.id stream c.in-Some.ensures.value is
     (sym c.eq.ensures ∙ c.if-eq.false) in
-    let asked = asked_stream end c.args.id stream alive server
-    (rw (← c.in-Some.ensures.value) at (is.streams.streams c.args.id)) in
     let given : stream.outgoing ≡ outgoings.NotGiven = elim c.match-matches.branch [
       | in-NotGiven w ↦ w.in-NotGiven.is
       | in_default-matches w ↦
@@ -66,21 +58,17 @@ returns-in-Err c = λ values end is.
       is,
     )
 
-pub returns-in-Ok : goal.returns-in-Ok
-returns-in-Ok c = λ values end is.
+pub returns : goal.returns
+returns c = λ values end is.
     let stream = c.in-Some.stream.now in
-    let alive = active_stream values c.args.self.now end c.args.id stream
-    c.in-Some.ensures.value is in
-    let server = sym is.streams.role ∙ is_server_by c.args.self.now.role
+    let asked = asked_here values c.args.self.now end c.args.id stream c.in-Some.ensures.value is
     (sym c.eq.ensures ∙ c.if-eq.false) in
-    let asked = asked_stream end c.args.id stream alive server
-    (rw (← c.in-Some.ensures.value) at (is.streams.streams c.args.id)) in
     let given : stream.outgoing ≡ outgoings.NotGiven = elim c.match-matches.branch [
       | in-NotGiven w ↦ w.in-NotGiven.is
       | in_default-matches w ↦
           absurd (both_ways _ w.matches-is c.if-not-matches.false)
     ] in
-    let sends = c.in-Ok.ensures values end.log is.streams.conn in
+    let sends = c.in_ok-send_head.ensures values end.log is.streams.conn in
     record {
       may = may_respond end c.args.id (message_value c.args.message.now) stream asked.0 asked.1
           given (rw c.asks_head.ensures at c.in_default-check_response.ensures.ok) sends.0
@@ -91,23 +79,21 @@ returns-in-Ok c = λ values end is.
       spans = refl;
     }
 
-pub returns-in-Err-send_head : goal.returns-in-Err-send_head
-returns-in-Err-send_head c = λ values end is.
+pub returns-in_err-send_head : goal.returns-in_err-send_head
+returns-in_err-send_head c = λ values end is.
     let stream = c.in-Some.stream.now in
-    let alive = active_stream values c.args.self.now end c.args.id stream
-    c.in-Some.ensures.value is in
-    let server = sym is.streams.role ∙ is_server_by c.args.self.now.role
+    let asked = asked_here values c.args.self.now end c.args.id stream c.in-Some.ensures.value is
     (sym c.eq.ensures ∙ c.if-eq.false) in
-    let asked = asked_stream end c.args.id stream alive server
-    (rw (← c.in-Some.ensures.value) at (is.streams.streams c.args.id)) in
     let given : stream.outgoing ≡ outgoings.NotGiven = elim c.match-matches.branch [
       | in-NotGiven w ↦ w.in-NotGiven.is
       | in_default-matches w ↦
           absurd (both_ways _ w.matches-is c.if-not-matches.false)
     ] in
-    let refusal = c.in-Err-send_head.refusal in
-    let sends = c.in-Err-send_head.ensures values end.log is.streams.conn in
-    let act = SendFields c.args.id sends.0 sends.1 in (
+    let made = err_from_is_err_and c.from_residual.result c.from_residual.ensures.1 in
+    let refusal = c.in_err-send_head.field-0.0 in
+    let sends = c.in_err-send_head.ensures values end.log is.streams.conn in
+    let act = SendFields c.args.id sends.0 sends.1 in
+    rw (made.1, made.2) (
       end_with_log end (with_call end.log act (Refused refusal)),
       refuses_response end _ c.args.id (message_value c.args.message.now) stream refusal asked.0
           asked.1 given (rw c.asks_head.ensures at c.in_default-check_response.ensures.ok)

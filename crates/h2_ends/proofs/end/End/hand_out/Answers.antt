@@ -1,5 +1,5 @@
 -- What is reported is handed out, or the stream is refused.
-use Rattle.h2_ends.proofs.Names.{[], refl, ap, length, ResetEvent, UnprocessedEvent, Conn}
+use Rattle.h2_ends.proofs.Names.{◌≡◌, [], refl, ap, length, ResetEvent, UnprocessedEvent, Conn}
 use Rattle.h2_ends.proofs.Names.{end_with_log, code_unread}
 use Rattle.h2_laws_pair.specs.Tokens.{tokens_of_event}
 use Rattle.h2_ends.specs.Ends.{part_of_event}
@@ -7,9 +7,8 @@ use Rattle.h2_ends.specs.Loans.{BodyLiesIn, IsBodyIn}
 use Rattle.h2_laws_end.specs.Activity.{take_has_fields, take_has_data, take_may_close}
 use Rattle.h2_laws_end.specs.Activity.{event_may_close}
 use Rattle.h2_spec_log.specs.Events.{GoAwayEvent, AckedEvent, PongEvent}
-use Rattle.h2_ends.proofs.TakeHands.{fields_on, data_on, event_passed, fields_handed}
-use Rattle.h2_ends.proofs.TakeHands.{fields_not_handed, data_handed, data_not_handed, same_body}
-use Rattle.h2_ends.proofs.TakeHands.{reset_lies}
+use Rattle.h2_ends.proofs.TakeHands.{fields_on, data_on, event_passed, fields_handed, part_lies}
+use Rattle.h2_ends.proofs.TakeHands.{fields_not_handed, data_handed, data_not_handed, reset_lies}
 use Rattle.h2_ends.proofs.TakeInStep.{reported_as, reset_but, unprocessed_but}
 use Rattle.h2_ends.proofs.end.End.hand_out.Goals as goal
 
@@ -22,9 +21,9 @@ pub returns-then-read_data-clause-hands : goal.returns-then-read_data-clause-han
 unfolding IsBodyIn
 returns-then-read_data-clause-hands c = λ octets body.
     let lies = rw c.read_data.ensures.conn at body in
-    let lent = c.octets-count.ensures in
-    let counted = ap length (same_body _ octets c.octets-count.result.now lies.0 lent.0 lies.1
-    lent.1 lies.2 lent.2) in (
+    let lent = rw c.in-Some.is at c.octets.ensures in
+    let same : octets ≡ c.in-Some.octets.now = cc in
+    let counted = ap length same in (
       octets,
       rw c.in-Data.is lies,
       λ values end count log reported.
@@ -44,9 +43,9 @@ returns-else-read_data-clause-lies c =
 
 pub returns-else-read_data-clause-hands : goal.returns-else-read_data-clause-hands
 returns-else-read_data-clause-hands c = λ octets none.
-    let lent = c.octets-count.result.now in (
+    let lent = c.in-Some.octets.now in (
       lent,
-      rw c.in-Data.is c.octets-count.ensures,
+      rw c.in-Data.is (rw c.in-Some.is at c.octets.ensures),
       λ values end count log reported.
           let said = rw c.in-Data.is at reported in
           data_not_handed values c.args.self.now c.read_data.new.self c.refuse-in-Data.new.self end
@@ -61,8 +60,9 @@ returns-else-read_data-clause-hands c = λ octets none.
     )
 
 pub returns-in-Ok-clause-lies : goal.returns-in-Ok-clause-lies
-unfolding BodyLiesIn
-returns-in-Ok-clause-lies c = tt
+returns-in-Ok-clause-lies c =
+    rw c.part_at.ensures
+    (part_lies _ c.args.piece.now c.in-Ok.place c.in-Fields.id c.in-Fields.end)
 
 pub returns-in-Ok-clause-hands : goal.returns-in-Ok-clause-hands
 returns-in-Ok-clause-hands c = λ octets none. (
@@ -70,12 +70,12 @@ returns-in-Ok-clause-hands c = λ octets none. (
   rw c.in-Fields.is tt,
   λ values end count log reported.
       let said = rw c.in-Fields.is at reported in
-      fields_handed values c.args.self.now c.read_fields.new.self end c.args.piece.now count
-      c.in-Fields.id _ c.in-Fields.end c.in-Ok.place log said
+      rw c.part_at.ensures (fields_handed values c.args.self.now c.read_fields.new.self end
+      c.args.piece.now count c.in-Fields.id _ c.in-Fields.end c.in-Ok.place log said
       (c.in-Ok.ensures.reads values (end_with_log end log)
       (fields_on values c.args.self.now end c.args.piece.now count c.in-Fields.id _
-      c.in-Fields.end log said)) _
-      (ap (λ (conn : Conn). conn.inner.end.list) c.read_fields.ensures.conn),
+      c.in-Fields.end log said)) _ octets
+      (ap (λ (conn : Conn). conn.inner.end.list) c.read_fields.ensures.conn)),
 )
 
 pub returns-in-Err-clause-lies : goal.returns-in-Err-clause-lies

@@ -1,5 +1,5 @@
 -- Step by step, by the lemmas on a release.
-use Rattle.h2_ends.proofs.Names.{refl, arith}
+use Rattle.h2_ends.proofs.Names.{refl, arith, err_from_is_err_and}
 use Rattle.h2_ends.proofs.SendingRelease.{closed_from_start, begins_release, comes_to}
 use Rattle.h2_ends.proofs.SendingRelease.{passes_stream, releases_stream, refuses_stream}
 use Rattle.h2_ends.proofs.SendingRelease.{ends_release}
@@ -31,14 +31,15 @@ loop-id-preserved c =
     releases_stream c.args.self.now c.loop-id.self _ c.in-Some.id c.owed-owed.result
     (comes_to c.args.self.now c.loop-id.self c.loop-id.last c.in-Some.id c.loop-id.invariant
     c.in-Some.ensures.next) c.owed-owed.ensures c.if-owed-eq0.false (omega arith) (omega arith)
-    c.in-Ok.ensures refl refl refl
+    c.in_ok-release.ensures refl refl refl
 
-pub returns-in-Err : goal.returns-in-Err
-returns-in-Err c =
-    refuses_stream c.args.self.now c.loop-id.self _ c.in-Some.id c.owed-owed.result
-    c.in-Err.refusal (comes_to c.args.self.now c.loop-id.self c.loop-id.last c.in-Some.id
+pub returns-in_err-release : goal.returns-in_err-release
+returns-in_err-release c =
+    let made = err_from_is_err_and c.from_residual.result c.from_residual.ensures.1 in
+    rw (made.1, made.2) (refuses_stream c.args.self.now c.loop-id.self _ c.in-Some.id c.owed-owed.result
+    _ (comes_to c.args.self.now c.loop-id.self c.loop-id.last c.in-Some.id
     c.loop-id.invariant c.in-Some.ensures.next) c.owed-owed.ensures c.if-owed-eq0.false
-    (omega arith) (omega arith) c.in-Err.ensures refl refl refl
+    (omega arith) (omega arith) c.in_err-release.ensures refl refl refl)
 
 pub returns : goal.returns
 returns c =

@@ -30,7 +30,7 @@ returns-in-Ok c = (
 )
 
 pub returns-in-Err-open : goal.returns-in-Err-open
-returns-in-Err-open c = (
+returns-in-Err-open c = rw c.into.ensures (
   refl,
   λ values end is.
       let refuses = c.in-Err-open.ensures values end is in (

@@ -1,5 +1,5 @@
 -- By the lemmas on a call of `take`.
-use Rattle.h2_engines.proofs.Names.{inl, inr, arith}
+use Rattle.h2_engines.proofs.Names.{inl, inr, arith, err_from_is_err_and}
 use Rattle.h2_engines.proofs.ResponderHears.{hears_nothing, hears_event, hears_lost, hears_fault}
 use Rattle.h2_engines.proofs.responder.Responder.hear.Goals.{then-used-piece, else-used-piece}
 use Rattle.h2_engines.proofs.responder.Responder.hear.Goals as goal
@@ -18,18 +18,19 @@ returns-after-used-piece-clause-hears c =
     ])
     (rw c.in-Ok.is at c.take.follows.holds-at-none)
 
-pub returns-in-Ok-note-clause-hears : goal.returns-in-Ok-note-clause-hears
-returns-in-Ok-note-clause-hears c =
+pub returns-in_ok-next-in-Some-clause-hears : goal.returns-in_ok-next-in-Some-clause-hears
+returns-in_ok-next-in-Some-clause-hears c =
     hears_event c.args.self.now.server.end c.take.follows.lender-at-none.end
     c.args.self.now.requests c.note.new.self c.args.piece.now c.in-Ok.taken c.in-Some.event
-    c.in-Ok-note.next c.in-Some.is c.in-Ok-note.ensures
+    c.in_ok-next-in-Some.next c.in-Some.is c.in_ok-next-in-Some.ensures
     (rw c.in-Ok.is at c.take.follows.holds-at-none)
 
-pub returns-in-Err-note-clause-hears : goal.returns-in-Err-note-clause-hears
-returns-in-Err-note-clause-hears c =
-    hears_lost c.args.self.now.server.end c.take.follows.lender-at-none.end
-    c.args.self.now.requests c.note.new.self c.args.piece.now c.in-Ok.taken
-    (rw c.in-Ok.is at c.take.follows.holds-at-none)
+pub returns-in_err-next-in-Some-clause-hears : goal.returns-in_err-next-in-Some-clause-hears
+returns-in_err-next-in-Some-clause-hears c =
+    let answer = err_from_is_err_and c.from_residual.result c.from_residual.ensures.1 in
+    rw (answer.1, answer.2) (hears_lost c.args.self.now.server.end
+    c.take.follows.lender-at-none.end c.args.self.now.requests c.note.new.self c.args.piece.now
+    c.in-Ok.taken (rw c.in-Ok.is at c.take.follows.holds-at-none))
 
 pub returns-in-Err-clause-hears : goal.returns-in-Err-clause-hears
 returns-in-Err-clause-hears c =

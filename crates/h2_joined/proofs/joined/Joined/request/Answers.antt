@@ -42,7 +42,7 @@ returns-in-Ok-request c =
       other_kept = refl;
     })
     (ap (λ (m : SentMessage). (c.in-Ok-request.id, m)) c.in-Ok.ensures.kept)
-    c.copy_twice.ensures.typed
+    c.in-Ok.ensures.octets
     (subst (λ (m : SentMessage). EndRequests c.args.self.now.client.end m (Ok c.in-Ok-request.id)
     c.request.new.self.end) c.in-Ok.ensures.given c.in-Ok-request.ensures)
 
@@ -59,7 +59,7 @@ returns-in-Err c =
         unfinished = refl;
       };
       other_kept = refl;
-    }) c.copy_twice.ensures.typed
+    }) c.in-Ok.ensures.octets
     (subst (λ (m : SentMessage). EndRequests c.args.self.now.client.end m
     (Err (c.in-Err.field-0-0, c.in-Err.refusal)) c.request.new.self.end) c.in-Ok.ensures.given
     c.in-Err.ensures)

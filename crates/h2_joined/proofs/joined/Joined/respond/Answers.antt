@@ -43,7 +43,7 @@ returns-in-Ok-respond c =
       other_kept = refl;
     })
     (ap (λ (m : SentMessage). (c.args.id, m)) c.in-Ok.ensures.kept) (omega arith)
-    c.copy_twice.ensures.typed
+    c.in-Ok.ensures.octets
     (subst (λ (m : SentMessage). EndResponds c.args.self.now.server.end c.args.id m
     (Ok c.in-Ok-respond.field-0) c.respond.new.self.end) c.in-Ok.ensures.given
     c.in-Ok-respond.ensures)
@@ -61,7 +61,7 @@ returns-in-Err c =
         unfinished = refl;
       };
       other_kept = refl;
-    }) (omega arith) c.copy_twice.ensures.typed
+    }) (omega arith) c.in-Ok.ensures.octets
     (subst (λ (m : SentMessage). EndResponds c.args.self.now.server.end c.args.id m
     (Err (c.in-Err.field-0-0, c.in-Err.refusal)) c.respond.new.self.end) c.in-Ok.ensures.given
     c.in-Err.ensures)

@@ -3,7 +3,7 @@ use Rattle.h2_joined.proofs.Names.{refl, ap, Field, InterimHanded, HeadHanded, T
 use Rattle.h2_joined.specs.Stored.{event_kept, Fits, IsEventPlace}
 use Rattle.std.proofs.Common.{List}
 use Rattle.h2_joined.proofs.KeptStore.{list_event, body_event, bare_event}
-use Rattle.h2_joined.specs.declared.store.EventPlace.TheVariants as places
+use Rattle.h2_ends.specs.declared.event.EndEvent.TheVariants as places
 use Rattle.h2_joined.proofs.store.Store.place_of.Goals as goal
 
 pub returns-in-Interim : goal.returns-in-Interim

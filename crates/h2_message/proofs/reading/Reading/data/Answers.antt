@@ -1,6 +1,5 @@
-use Rattle.std.proofs.Common.{◌≡◌, sym, ◌∙◌, refl}
-use Rattle.h2_message.specs.declared.reading.Phase.TheVariants.{InBody}
-use Rattle.h2_message.specs.Phases.{phase_after, phase_after_data, phase_in_body}
+use Rattle.h2_message.proofs.Names.{◌≡◌, sym, ◌∙◌, refl, InBody, phase_after, phase_after_data}
+use Rattle.h2_message.proofs.Names.{phase_in_body}
 use Rattle.h2_message.proofs.ReadingParts.{no_octets, too_many, octets_of_any, octets_of_some}
 use Rattle.h2_message.proofs.ReadingParts.{nothing_else}
 use Rattle.h2_message.proofs.ReadingFollows.{data_follows, data_refused}
@@ -18,8 +17,7 @@ unfolding phase_after
 returns-in-Some c reads parts octets counted follows =
     let left = c.in-InBody.left in
     data_refused reads parts octets c.args.end (InBody left) c.args.self.now c.args.self.now follows
-    c.in-InBody.is
-    (rw counted
+    c.in-InBody.is (rw counted
     (too_many left c.in-Some.number c.args.count c.args.end c.in-Some.is c.if-number-count.true))
     refl
 
@@ -37,10 +35,8 @@ returns-in_default-in_body c reads parts octets counted follows =
           w.in-Some-2.is w.if-number-count.false w.rest-is
     ] in
     data_refused reads parts octets end (InBody left) c.args.self.now c.args.self.now follows
-    c.in-InBody.is
-    (rw counted (sym same ∙ sym c.in_body.ensures
-    ∙ nothing_else c.in_body.result c.in_default-in_body.not-Some))
-    refl
+    c.in-InBody.is (rw counted (sym same ∙ sym c.in_body.ensures
+    ∙ nothing_else c.in_body.result c.in_default-in_body.not-Some)) refl
 
 pub returns : goal.returns
 returns c reads parts octets counted follows =

@@ -1,6 +1,4 @@
-use Rattle.std.proofs.Common.{◌≡◌, false, sym, ap, refl, ◌∙◌}
-use Rattle.h2_message.specs.declared.reading.Phase.{Phase}
-use Rattle.h2_message.specs.declared.reading.Phase.TheVariants.{AtHead, InBody, AtEnd}
+use Rattle.h2_message.proofs.Names.{◌≡◌, false, sym, ap, refl, ◌∙◌, Phase, AtHead, InBody, AtEnd}
 use Rattle.h2_message.proofs.PhaseEnds.{is_end, over_where_ended}
 use Rattle.h2_message.proofs.reading.Reading.is_over.Goals as goal
 

@@ -1,6 +1,4 @@
-use Rattle.std.proofs.Common.{[], refl}
-use Rattle.h2_message.specs.declared.reading.Phase.TheVariants.{AtHead}
-use Rattle.h2_message.specs.Phases.{phase_after_all, asks_head_first}
+use Rattle.h2_message.proofs.Names.{[], refl, AtHead, phase_after_all, asks_head_first}
 use Rattle.h2_message.proofs.ReadingSteps.{readable}
 use Rattle.h2_message.proofs.reading.Reading.new.Goals as goal
 

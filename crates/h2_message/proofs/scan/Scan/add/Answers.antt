@@ -1,5 +1,4 @@
-use Rattle.std.proofs.Common.{◌≡◌, true, false, refl, sym, ◌∙◌}
-use Rattle.h2_message.specs.declared.kind.Kind.TheVariants.{Request, Response}
+use Rattle.h2_message.proofs.Names.{◌≡◌, true, false, refl, sym, ◌∙◌, Request, Response}
 use Rattle.h2_message.proofs.ScanAdds.{colon-from, pseudo-added, regular-added}
 use Rattle.h2_message.proofs.scan.Scan.add.Goals as goal
 

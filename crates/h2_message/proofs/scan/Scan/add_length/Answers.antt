@@ -1,5 +1,4 @@
-use Rattle.std.proofs.Common.{◌≡◌, refl, sym, ap, ◌∙◌}
-use Rattle.std.proofs.Math.Bool.{or-false}
+use Rattle.h2_message.proofs.Names.{◌≡◌, refl, sym, ap, ◌∙◌, or-false}
 use Rattle.h2_message.proofs.ScanRegular.{bad-length-added, length-added, is_other}
 use Rattle.h2_message.proofs.scan.Scan.add_length.Goals as goal
 

@@ -1,8 +1,7 @@
-use Rattle.std.proofs.Common.{◌≡◌, true, false, codes}
-use Rattle.std.specs.Str.{bytes_eq}
+use Rattle.h2_message.proofs.Names.{◌≡◌, true, false, codes, bytes_eq}
 use Rattle.h2_message.proofs.ScanPseudo.{compared}
-use Rattle.h2_message.proofs.ScanRequests.{method-added, scheme-added, path-added}
-use Rattle.h2_message.proofs.ScanRequests.{authority-added, unknown-added}
+use Rattle.h2_message.proofs.ScanRequests.{method-added, scheme-added, path-added, authority-added}
+use Rattle.h2_message.proofs.ScanRequests.{unknown-added}
 use Rattle.h2_message.proofs.scan.Scan.add_of_request.Goals as goal
 
 pub returns-then-eq-clause-seen : goal.returns-then-eq-clause-seen
@@ -39,6 +38,5 @@ returns-else-eq-4-clause-seen c fields sensitive colon seen =
     (compared _ _ (codes ":scheme") _ false c.eq-else-eq.ensures c.as_slice-else-eq.ensures
     c.if-eq-2.false)
     (compared _ _ (codes ":path") _ false c.eq-else-eq-2.ensures c.as_slice-else-eq-2.ensures
-    c.if-eq-3.false)
-    (compared _ _ (codes ":authority") _ false c.eq-else-eq-3.ensures
+    c.if-eq-3.false) (compared _ _ (codes ":authority") _ false c.eq-else-eq-3.ensures
     c.as_slice-else-eq-3.ensures c.if-eq-4.false) colon seen

@@ -1,4 +1,4 @@
-use Rattle.std.proofs.Common.{◌≡◌, true, false, codes}
+use Rattle.h2_message.proofs.Names.{◌≡◌, true, false, codes}
 use Rattle.h2_message.proofs.ScanPseudo.{compared}
 use Rattle.h2_message.proofs.ScanResponses.{status-added, unknown-added}
 use Rattle.h2_message.proofs.scan.Scan.add_of_response.Goals as goal

@@ -1,6 +1,5 @@
-use Rattle.std.proofs.Common.{◌≡◌, true, false, codes, refl, sym, ◌∙◌}
+use Rattle.h2_message.proofs.Names.{◌≡◌, true, false, codes, refl, sym, ◌∙◌, bytes_eq-Decides}
 use Rattle.std.proofs.lemmas.Bool.Decides.{same_from_decides}
-use Rattle.std.proofs.lemmas.Slice.Eq.{bytes_eq-Decides}
 use Rattle.h2_message.proofs.ScanPseudo.{compared}
 use Rattle.h2_message.proofs.ScanRegular.{regular-length, regular-connection, regular-te}
 use Rattle.h2_message.proofs.ScanRegular.{regular-any}

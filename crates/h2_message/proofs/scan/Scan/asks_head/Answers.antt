@@ -1,6 +1,4 @@
-use Rattle.std.proofs.Common.{codes}
-use Rattle.h2_message.specs.Fields.{value_of, value_or_nothing}
-use Rattle.h2_message.specs.Scans.{HasPseudo}
+use Rattle.h2_message.proofs.Names.{codes, value_of, value_or_nothing, HasPseudo}
 use Rattle.h2_message.proofs.VerdictMethods.{head-method}
 use Rattle.h2_message.proofs.scan.Scan.asks_head.Goals as goal
 

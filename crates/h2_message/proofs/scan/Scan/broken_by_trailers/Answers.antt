@@ -1,5 +1,4 @@
-use Rattle.std.proofs.Common.{◌∙◌}
-use Rattle.h2_message.specs.Messages.{trailer_rules}
+use Rattle.h2_message.proofs.Names.{◌∙◌, trailer_rules}
 use Rattle.h2_message.proofs.scan.Scan.broken_by_trailers.Goals as goal
 
 pub returns : goal.returns

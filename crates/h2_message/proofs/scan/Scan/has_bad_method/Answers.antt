@@ -1,6 +1,4 @@
-use Rattle.std.proofs.Common.{codes}
-use Rattle.h2_message.specs.Fields.{has_bad_method, value_of, value_or_nothing}
-use Rattle.h2_message.specs.Scans.{HasPseudo}
+use Rattle.h2_message.proofs.Names.{codes, has_bad_method, value_of, value_or_nothing, HasPseudo}
 use Rattle.h2_message.proofs.VerdictMethods.{bad-method}
 use Rattle.h2_message.proofs.scan.Scan.has_bad_method.Goals as goal
 

@@ -1,6 +1,5 @@
-use Rattle.std.proofs.Common.{codes, not, sym, ap, ◌∙◌}
-use Rattle.h2_message.specs.Fields.{has_bad_path, value_of, value_or_nothing, or_nothing}
-use Rattle.h2_message.specs.Scans.{HasPseudo}
+use Rattle.h2_message.proofs.Names.{codes, not, sym, ap, ◌∙◌, has_bad_path, value_of}
+use Rattle.h2_message.proofs.Names.{value_or_nothing, or_nothing, HasPseudo}
 use Rattle.h2_message.proofs.VerdictMethods.{options-method, slash-path, star-path, no-path}
 use Rattle.h2_message.proofs.scan.Scan.has_bad_path.Goals as goal
 

@@ -1,6 +1,5 @@
-use Rattle.std.proofs.Common.{codes}
-use Rattle.h2_message.specs.Fields.{has_bad_status, is_interim, value_of, value_or_nothing}
-use Rattle.h2_message.specs.Scans.{HasPseudo}
+use Rattle.h2_message.proofs.Names.{codes, has_bad_status, is_interim, value_of, value_or_nothing}
+use Rattle.h2_message.proofs.Names.{HasPseudo}
 use Rattle.h2_message.proofs.VerdictStatuses.{interim-status}
 use Rattle.h2_message.proofs.scan.Scan.has_interim_status.Goals as goal
 

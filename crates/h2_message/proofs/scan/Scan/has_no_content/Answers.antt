@@ -1,7 +1,5 @@
-use Rattle.std.proofs.Common.{codes}
-use Rattle.h2_message.specs.Fields.{value_of, value_or_nothing}
-use Rattle.h2_message.specs.Messages.{is_without_content}
-use Rattle.h2_message.specs.Scans.{HasPseudo}
+use Rattle.h2_message.proofs.Names.{codes, value_of, value_or_nothing, is_without_content}
+use Rattle.h2_message.proofs.Names.{HasPseudo}
 use Rattle.h2_message.proofs.VerdictStatuses.{no-content}
 use Rattle.h2_message.proofs.scan.Scan.has_no_content.Goals as goal
 

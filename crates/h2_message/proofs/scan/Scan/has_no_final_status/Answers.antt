@@ -1,6 +1,5 @@
-use Rattle.std.proofs.Common.{codes, sym, ◌∙◌}
-use Rattle.h2_message.specs.Fields.{has_bad_status, is_interim, value_of, value_or_nothing}
-use Rattle.h2_message.specs.Scans.{HasPseudo}
+use Rattle.h2_message.proofs.Names.{codes, sym, ◌∙◌, has_bad_status, is_interim, value_of}
+use Rattle.h2_message.proofs.Names.{value_or_nothing, HasPseudo}
 use Rattle.h2_message.proofs.ScanNames.{or-then, or-else}
 use Rattle.h2_message.proofs.VerdictStatuses.{no-final-status}
 use Rattle.h2_message.proofs.scan.Scan.has_no_final_status.Goals as goal

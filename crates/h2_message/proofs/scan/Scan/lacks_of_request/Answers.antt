@@ -1,5 +1,4 @@
-use Rattle.std.proofs.Common.{◌≡◌, Bool, not, ◌||◌, sym, ap, ◌∙◌}
-use Rattle.std.specs.Option.{is_some}
+use Rattle.h2_message.proofs.Names.{◌≡◌, Bool, not, ◌||◌, sym, ap, ◌∙◌, is_some}
 use Rattle.h2_message.proofs.ScanNames.{or-then, or-else}
 use Rattle.h2_message.proofs.VerdictRules.{lacks-request}
 use Rattle.hpack.proofs.Tests.{not_back as none-is}

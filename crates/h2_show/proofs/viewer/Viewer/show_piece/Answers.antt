@@ -1,4 +1,4 @@
--- Each call of the cutter, and of the blocks where it answers a frame, shows more of the piece, or
+-- Each call of the cutter, and of the blocks where it returns a frame, shows more of the piece, or
 -- fails.
 use Rattle.h2_show.proofs.Names.{err_from_is_err_and, rules, [], Appends-nil, Appends-trans}
 use Rattle.h2_show.proofs.ViewerLemmas.{continues_nothing, used_within, continues_without_frame}

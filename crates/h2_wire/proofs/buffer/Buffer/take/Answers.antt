@@ -1,7 +1,6 @@
 -- By the phase.
-use Rattle.std.proofs.Common.{◌≡◌, ◌<◌, length, arith, ap, refl, None}
-use Rattle.h2_wire.specs.declared.buffer.Buffer.{Buffer}
-use Rattle.h2_wire.specs.Buffer.{state_of, fault_of}
+use Rattle.std.proofs.Common.{◌<◌, length, arith, refl}
+use Rattle.h2_wire.specs.Buffer.{state_of}
 use Rattle.h2_wire.proofs.BufferLemmas.{starts_head, starts_payload}
 use Rattle.h2_wire.proofs.KeptLemmas.{takes_forgotten}
 use Rattle.h2_wire.proofs.buffer.Buffer.take.Goals as goal
@@ -20,14 +19,12 @@ take_payload-requires c =
 
 pub take_head-requires-in-Lent : goal.take_head-requires-in-Lent
 take_head-requires-in-Lent c =
-    let after = c.forget.ensures.after in
-    let few : length c.forget.new.self.octets.items < 9 = rw c.forget.ensures.none (omega arith) in
+    let few : length c.clear.new.self.items < 9 = rw c.clear.ensures.items (omega arith) in
     record {
-      starts = starts_head c.forget.new.self c.args.piece.now (ap (λ (b : Buffer). b.phase) after)
-          (record {
-            within = rw after c.requires.within;
-            fits = rw (ap (λ (b : Buffer). b.phase) after) few;
-          });
+      starts = starts_head _ c.args.piece.now refl (record {
+        within = c.requires.within;
+        fits = few;
+      });
     }
 
 pub returns-in-Head-clause-checked : goal.returns-in-Head-clause-checked
@@ -36,18 +33,13 @@ returns-in-Head-clause-checked c = λ code faulty.
 
 pub returns-in-Lent-clause-checked : goal.returns-in-Lent-clause-checked
 returns-in-Lent-clause-checked c = λ code faulty.
-    let limit = ap (λ (b : Buffer). b.limit) c.forget.ensures.after in
     c.take_head-in-Lent.ensures.checked code
-    (rw (c.forget.ensures.none, limit) (rw c.in-Lent.is at faulty.head))
+    (rw c.clear.ensures.items (rw c.in-Lent.is at faulty.head))
 
 pub returns-in-Lent-clause-takes : goal.returns-in-Lent-clause-takes
 returns-in-Lent-clause-takes c =
-    let after = c.forget.ensures.after in
-    let sound : fault_of c.forget.new.self.phase ≡ None =
-    rw (ap (λ (b : Buffer). b.phase) after) refl in
-    takes_forgotten (state_of c.args.self.now) (state_of c.forget.new.self) c.args.piece.now
-    c.take_head-in-Lent.result c.take_head-in-Lent.new.self
-    (rw (after, c.forget.ensures.none, c.in-Lent.is) refl) sound
+    takes_forgotten (state_of c.args.self.now) _ c.args.piece.now c.take_head-in-Lent.result
+    c.take_head-in-Lent.new.self (rw (c.clear.ensures.items, c.in-Lent.is) refl) refl
     c.take_head-in-Lent.ensures.takes
 
 pub returns-in-Preface-clause-checked : goal.returns-in-Preface-clause-checked

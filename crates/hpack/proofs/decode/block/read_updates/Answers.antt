@@ -1,4 +1,4 @@
-use Rattle.std.proofs.Common.{arith}
+use Rattle.hpack.proofs.Names.{arith}
 use Rattle.hpack.proofs.BlockLemmas.{above_limit}
 use Rattle.hpack.proofs.decode.block.read_updates.Goals as goal
 

@@ -1,6 +1,5 @@
-use Rattle.std.proofs.Common.{take, false, refl, arith}
-use Rattle.std.proofs.lemmas.Result.{IfOk-weaker, IfErr-weaker, err_from_is_err_and}
-use Rattle.hpack.specs.Prefixes.{IsIndex, IsLiteral, IsStep, prefix_bits_of}
+use Rattle.hpack.proofs.Names.{take, false, refl, arith, IfOk-weaker, IfErr-weaker}
+use Rattle.hpack.proofs.Names.{err_from_is_err_and, IsIndex, IsLiteral, IsStep, prefix_bits_of}
 use Rattle.hpack.proofs.PrefixLemmas.{octets_after, split_at_count, fault_moves}
 use Rattle.hpack.proofs.StepLemmas.{index_step, literal_step, no_index_step, no_literal_step}
 use Rattle.hpack.proofs.decode.field.field_at.Goals as goal
@@ -29,8 +28,7 @@ returns-then-first-ge128-clause-ok c =
 pub returns-clause-ok : goal.returns-clause-ok
 returns-clause-ok c =
     let octets = c.args.octets.now in
-    IfOk-weaker c.literal_at.result _ _
-    (λ read h. (
+    IfOk-weaker c.literal_at.result _ _ (λ read h. (
       record { name = h.0; value = h.1; sensitive = read.sensitive },
       record { joined = h.2; named = h.3; marked = refl },
       h.4,
@@ -38,8 +36,7 @@ returns-clause-ok c =
           (octets_after octets read.count)
           (record { name = h.0; value = h.1; sensitive = read.sensitive }) c.in-Some.kind
           (split_at_count octets read.count) c.in-Some.ensures h.5 h.6 h.7,
-    ))
-    c.literal_at.ensures.ok
+    )) c.literal_at.ensures.ok
 
 pub returns-clause-fault : goal.returns-clause-fault
 returns-clause-fault c =

@@ -1,8 +1,5 @@
-use Rattle.std.proofs.Common.{take, false, sym, subst, ◌∙◌, refl}
-use Rattle.std.proofs.lemmas.Result.{err_from_is_err_and}
-use Rattle.hpack.specs.declared.types.field.Field.{Field}
-use Rattle.hpack.specs.Blocks.{Step}
-use Rattle.hpack.specs.Prefixes.{IsIndex, IsStep}
+use Rattle.hpack.proofs.Names.{take, false, sym, subst, ◌∙◌, refl, err_from_is_err_and, Field, Step}
+use Rattle.hpack.proofs.Names.{IsIndex, IsStep}
 use Rattle.hpack.proofs.FieldListLemmas.{read_alone}
 use Rattle.hpack.proofs.PrefixLemmas.{octets_after, split_at_count, fault_moves}
 use Rattle.hpack.proofs.StepLemmas.{index_first, index_step, no_index_step}
@@ -10,12 +7,9 @@ use Rattle.hpack.proofs.decode.field.owned_at.Goals as goal
 
 pub returns-in_err-name-clause-fault : goal.returns-in_err-name-clause-fault
 returns-in_err-name-clause-fault c =
-    let octets = c.args.octets.now in
-    let table = c.args.table.now in
     let p = err_from_is_err_and c.from_residual.result c.from_residual.ensures.1 in
-    let first = index_first octets (c.begins_with_index.ensures.0 c.if-begins_with_index.true) in
-    rw (p.1, p.2) (fault_moves (IsIndex table.entries) (IsStep table) octets octets _
-    (no_index_step table octets first.0) c.in_err-name.ensures.fault)
+    let first = index_first _ (c.begins_with_index.ensures.0 c.if-begins_with_index.true) in
+    rw (p.1, p.2) (fault_moves _ _ _ _ _ (no_index_step _ _ first.0) c.in_err-name.ensures.fault)
 
 pub returns-then-begins_with_index-clause-ok : goal.returns-then-begins_with_index-clause-ok
 returns-then-begins_with_index-clause-ok c =
@@ -40,8 +34,7 @@ returns-clause-ok c =
     let octets = c.args.octets.now in
     let count = c.in_ok-read.read.count in
     let read = c.in_ok-read.ensures.ok in
-    let same =
-    (rw (c.split_at.ensures.front, c.split_at.ensures.back, c.deref.ensures.value) at
+    let same = (rw (c.split_at.ensures.front, c.split_at.ensures.back, c.deref.ensures.value) at
     c.in_ok-field.ensures)
     ∙ read_alone c.reserve.new.self.items c.field_at.new.out.items read.0 c.in_ok-read.read read.1
     (c.reserve.ensures.items ∙ c.clear.ensures.items) in (

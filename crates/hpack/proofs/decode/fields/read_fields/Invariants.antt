@@ -1,5 +1,4 @@
-use Rattle.std.proofs.Common.{List, length}
-use Rattle.hpack.specs.declared.types.field.Field.{Field}
+use Rattle.hpack.proofs.Names.{List, length, Field}
 use Rattle.hpack.specs.FieldListBuilder.{Builds}
 use Rattle.hpack.proofs.BlockLemmas.{ReadsSoFar}
 use Rattle.hpack.proofs.decode.fields.read_fields.Given as goal

@@ -1,21 +1,16 @@
-use Rattle.std.proofs.Common.{List, ℕ, length, ap, refl, length-append, arith}
-use Rattle.std.proofs.Common.{◌++◌}
-use Rattle.std.proofs.lemmas.Result.{IfOk-weaker}
+use Rattle.hpack.proofs.Names.{List, ℕ, length, ap, refl, length-append, arith, ◌++◌, IfOk-weaker}
 use Rattle.hpack.proofs.FieldListBuilderLemmas.{too_large_stays}
 use Rattle.hpack.proofs.decode.fields.read_one.Goals as goal
 
 pub returns-then-is_too_large-clause-ok : goal.returns-then-is_too_large-clause-ok
 returns-then-is_too_large-clause-ok c =
-    IfOk-weaker c.skip_at.result _ _
-    (λ count h. (
+    IfOk-weaker c.skip_at.result _ _ (λ count h. (
       h.0,
       h.1,
       h.2,
       too_large_stays c.args.builder.now _ h.0
-          (c.is_too_large.ensures.0 c.if-is_too_large.true) refl
-          refl,
-    ))
-    c.skip_at.ensures.ok
+          (c.is_too_large.ensures.0 c.if-is_too_large.true) refl refl,
+    )) c.skip_at.ensures.ok
 
 pub add-requires : goal.add-requires
 add-requires c =

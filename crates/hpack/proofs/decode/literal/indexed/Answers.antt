@@ -1,4 +1,4 @@
-use Rattle.std.proofs.Common.{take}
+use Rattle.hpack.proofs.Names.{take}
 use Rattle.hpack.proofs.PrefixLemmas.{octets_after, split_at_count, index_no_entry}
 use Rattle.hpack.proofs.decode.literal.indexed.Goals as goal
 

@@ -1,5 +1,4 @@
-use Rattle.std.proofs.Common.{rules, ℕ, List, length, refl, ap₂, ◌∙◌, arith}
-use Rattle.hpack.specs.Blocks.{after_literal}
+use Rattle.hpack.proofs.Names.{rules, ℕ, List, length, refl, ap₂, ◌∙◌, arith, after_literal}
 use Rattle.hpack.proofs.FieldListLemmas.{are_between}
 use Rattle.hpack.proofs.decode.literal.literal_at.Goals as goal
 

@@ -1,5 +1,4 @@
-use Rattle.std.proofs.lemmas.Result.{IfErr-weaker}
-use Rattle.hpack.specs.Prefixes.{IsStr, IsName}
+use Rattle.hpack.proofs.Names.{IfErr-weaker, IsStr, IsName}
 use Rattle.hpack.proofs.PrefixLemmas.{fault_moves, name_no_str}
 use Rattle.hpack.proofs.decode.literal.name_at.Goals as goal
 

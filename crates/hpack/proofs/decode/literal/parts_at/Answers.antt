@@ -1,7 +1,5 @@
-use Rattle.std.proofs.Common.{List, ℕ, ◌++◌, length, take, ap, ◌∙◌, length-append, append_assoc}
-use Rattle.std.proofs.Common.{arith}
-use Rattle.std.proofs.lemmas.Result.{err_from_is_err_and}
-use Rattle.hpack.specs.Prefixes.{IsInt, IsStr, IsName, IsLiteral}
+use Rattle.hpack.proofs.Names.{List, ℕ, ◌++◌, length, take, ap, ◌∙◌, length-append, append_assoc}
+use Rattle.hpack.proofs.Names.{arith, err_from_is_err_and, IsInt, IsStr, IsName, IsLiteral}
 use Rattle.hpack.proofs.PrefixLemmas.{fault_moves, octets_after, split_at_count, literal_no_name}
 use Rattle.hpack.proofs.PrefixLemmas.{literal_no_head, literal_no_value, literal_found}
 use Rattle.hpack.proofs.decode.literal.parts_at.Goals as goal

@@ -1,5 +1,4 @@
-use Rattle.std.proofs.Common.{◌∷◌, [], ◌++◌, take}
-use Rattle.std.proofs.lemmas.Result.{err_from_is_err_and}
+use Rattle.hpack.proofs.Names.{◌∷◌, [], ◌++◌, take, err_from_is_err_and}
 use Rattle.hpack.proofs.PrefixLemmas.{octets_after, split_at_count}
 use Rattle.hpack.proofs.BlockLemmas.{reads_more, reads_all, reads_fault, none_left, some_left}
 use Rattle.hpack.proofs.OwnedListLemmas.{has_owned_list}

@@ -1,6 +1,4 @@
-use Rattle.std.proofs.Common.{List, length}
-use Rattle.hpack.specs.declared.types.field.Field.{Field}
-use Rattle.hpack.specs.OwnedLists.{RepresentsOwned}
+use Rattle.hpack.proofs.Names.{List, length, Field, RepresentsOwned}
 use Rattle.hpack.proofs.BlockLemmas.{ReadsSoFar}
 use Rattle.hpack.proofs.decode.owned_fields.read_owned_fields.Given as goal
 

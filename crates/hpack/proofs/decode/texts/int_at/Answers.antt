@@ -1,4 +1,4 @@
-use Rattle.std.proofs.lemmas.Result.{err_from_is_err_and}
+use Rattle.hpack.proofs.Names.{err_from_is_err_and}
 use Rattle.hpack.proofs.PrefixLemmas.{int_fault}
 use Rattle.hpack.proofs.decode.texts.int_at.Goals as goal
 

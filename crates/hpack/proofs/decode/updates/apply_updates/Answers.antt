@@ -1,7 +1,5 @@
-use Rattle.std.proofs.Common.{take, refl, subst, sym, arith}
-use Rattle.std.proofs.lemmas.Result.{err_from_is_err_and}
-use Rattle.hpack.specs.Tables.{Entries, after_maxima}
-use Rattle.hpack.specs.Prefixes.{UpdatesSoFar}
+use Rattle.hpack.proofs.Names.{take, refl, subst, sym, arith, err_from_is_err_and, Entries}
+use Rattle.hpack.proofs.Names.{after_maxima, UpdatesSoFar}
 use Rattle.hpack.proofs.PrefixLemmas.{octets_after, split_at_count}
 use Rattle.hpack.proofs.BlockLemmas.{updates_fault, updates_above, updates_more, update_read}
 use Rattle.hpack.proofs.decode.updates.apply_updates.Goals as goal

@@ -1,6 +1,4 @@
-use Rattle.std.proofs.Common.{length}
-use Rattle.hpack.specs.Tables.{after_maxima}
-use Rattle.hpack.specs.Prefixes.{UpdatesSoFar}
+use Rattle.hpack.proofs.Names.{length, after_maxima, UpdatesSoFar}
 use Rattle.hpack.proofs.decode.updates.apply_updates.Given as goal
 
 abbrev pub invariant-loop-unparsed : goal.invariant-loop-unparsed

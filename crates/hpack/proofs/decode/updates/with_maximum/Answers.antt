@@ -1,11 +1,9 @@
-use Rattle.std.proofs.Common.{ap, sym, ◌∙◌, Option, ℕ}
-use Rattle.hpack.specs.Tables.{resized, after_maxima}
+use Rattle.hpack.proofs.Names.{ap, sym, ◌∙◌, Option, ℕ, resized, after_maxima}
 use Rattle.hpack.proofs.SizeLemmas.{resized_again, resized_same}
 use Rattle.hpack.proofs.decode.updates.with_maximum.Goals as goal
 
 pub returns-in-None : goal.returns-in-None
-returns-in-None c = λ table.
-    resized_same table c.args.maximum
+returns-in-None c = λ table. resized_same table c.args.maximum
     ∙ ap (λ (maxima : Option (ℕ × ℕ)). resized (after_maxima table maxima) c.args.maximum)
     (sym c.in-None.is)
 

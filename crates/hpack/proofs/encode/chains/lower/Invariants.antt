@@ -1,4 +1,4 @@
-use Rattle.std.proofs.Common.{◌≡◌, ℕ, ◌-◌, ◌^◌, ◌<◌, ◌≤◌, length, get_or}
+use Rattle.hpack.proofs.Names.{◌≡◌, ℕ, ◌-◌, ◌^◌, ◌<◌, ◌≤◌, length, get_or}
 use Rattle.hpack.proofs.encode.chains.lower.Given as goal
 
 abbrev pub invariant-loop-one : goal.invariant-loop-one

@@ -1,6 +1,4 @@
-use Rattle.std.proofs.Common.{◌<◌, ℕ, List, ◌++◌, sym, ap, ◌∙◌, arith}
-use Rattle.std.proofs.lemmas.Nat.{one_shl}
-use Rattle.hpack_text.specs.Integers.{all_ones}
+use Rattle.hpack.proofs.Names.{◌<◌, ℕ, List, ◌++◌, sym, ap, ◌∙◌, arith, one_shl, all_ones}
 use Rattle.hpack_text.proofs.IntegerWriting.{integer-short, first_octet_fits}
 use Rattle.hpack.proofs.encode.field.append_int.Goals as goal
 

@@ -1,8 +1,5 @@
-use Rattle.hpack.specs.PendingTable.{represented}
+use Rattle.hpack.proofs.Names.{represented, subst, ◌∙◌, AllByRecursion, IsOctet}
 use Rattle.hpack.proofs.FieldLemmas.{write_step, after_step, write_end, after_end, extended_more}
-use Rattle.std.proofs.Common.{subst, ◌∙◌}
-use Rattle.std.specs.List.{AllByRecursion}
-use Rattle.hpack_text.specs.Bits.{IsOctet}
 use Rattle.hpack.proofs.StateLemmas.{octets_step, octets_end}
 use Rattle.hpack.proofs.encode.fields.append_fields.Goals as goal
 

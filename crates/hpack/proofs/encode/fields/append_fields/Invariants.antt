@@ -1,8 +1,5 @@
-use Rattle.std.proofs.Common.{◌≡◌, ◌++◌, drop}
-use Rattle.hpack_text.specs.Appended.{IsExtended}
-use Rattle.hpack.specs.Choice.{encoding_of_fields, after_fields}
-use Rattle.hpack.specs.Written.{AreOctets}
-use Rattle.hpack.specs.PendingTable.{represented, IsPendingTable, PreservesAdded, capacity_of}
+use Rattle.hpack.proofs.Names.{◌≡◌, ◌++◌, drop, IsExtended, encoding_of_fields, after_fields}
+use Rattle.hpack.proofs.Names.{AreOctets, represented, IsPendingTable, PreservesAdded, capacity_of}
 use Rattle.hpack.proofs.encode.fields.append_fields.Given as goal
 
 abbrev pub invariant-loop-field : goal.invariant-loop-field

@@ -1,5 +1,4 @@
-use Rattle.std.proofs.Common.{◌≡◌, ◌-◌, ◌/◌, length}
-use Rattle.hpack.specs.Hashes.{hash_words}
+use Rattle.hpack.proofs.Names.{◌≡◌, ◌-◌, ◌/◌, length, hash_words}
 use Rattle.hpack.proofs.encode.hash.hash_from.Given as goal
 
 abbrev pub invariant-loop-rest : goal.invariant-loop-rest

@@ -1,5 +1,4 @@
-use Rattle.std.proofs.Common.{◌∙◌, ap, take_all}
-use Rattle.hpack.specs.Hashes.{word_of}
+use Rattle.hpack.proofs.Names.{◌∙◌, ap, take_all, word_of}
 use Rattle.hpack.proofs.HashLemmas.{word_tiny, word_short}
 use Rattle.hpack.proofs.encode.hash.short_word.Goals as goal
 

@@ -1,5 +1,4 @@
-use Rattle.std.proofs.Common.{◌≡◌, take}
-use Rattle.hpack.specs.Hashes.{word_of}
+use Rattle.hpack.proofs.Names.{◌≡◌, take, word_of}
 use Rattle.hpack.proofs.encode.hash.short_word.Given as goal
 
 abbrev pub invariant-loop-octet : goal.invariant-loop-octet

@@ -1,4 +1,4 @@
-use Rattle.std.proofs.Common.{arith}
+use Rattle.hpack.proofs.Names.{arith}
 use Rattle.hpack.proofs.RoomLemmas.{most_octets-list_size}
 use Rattle.hpack.proofs.encode.room.octets_of_block.Goals as goal
 

@@ -1,4 +1,4 @@
-use Rattle.std.proofs.Common.{arith}
+use Rattle.hpack.proofs.Names.{arith}
 use Rattle.hpack.proofs.WordLemmas.{words_same, octets_drop, left_same, left_more}
 use Rattle.hpack.proofs.encode.search.have_same_beginnings.Goals as goal
 

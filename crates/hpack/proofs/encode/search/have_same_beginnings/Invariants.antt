@@ -1,5 +1,4 @@
-use Rattle.std.proofs.Common.{◌≡◌, length}
-use Rattle.hpack.specs.Sought.{AreOctetsByPlace}
+use Rattle.hpack.proofs.Names.{◌≡◌, length, AreOctetsByPlace}
 use Rattle.hpack.proofs.WordLemmas.{IsLeft}
 use Rattle.hpack.proofs.encode.search.have_same_beginnings.Given as goal
 

@@ -1,6 +1,4 @@
-use Rattle.std.proofs.Common.{◌∙◌, ℕ, List, length, ap, sym, subst}
-use Rattle.hpack.specs.Sought.{AreOctetsByPlace}
-use Rattle.hpack.specs.Choice.{same_octets}
+use Rattle.hpack.proofs.Names.{◌∙◌, ℕ, List, length, ap, sym, subst, AreOctetsByPlace, same_octets}
 use Rattle.hpack.proofs.SearchLemmas.{same_octets-pointwise}
 use Rattle.hpack.proofs.WordLemmas.{last_same, last_differs}
 use Rattle.hpack.proofs.encode.search.have_same_words.Goals as goal

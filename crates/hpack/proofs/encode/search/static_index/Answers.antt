@@ -1,8 +1,5 @@
-use Rattle.std.proofs.Common.{◌≡◌, ◌∙◌, ◌<◌, ◌+◌, sym, refl, length, arith}
-use Rattle.hpack.specs.Static.{static_entries}
-use Rattle.hpack.specs.Sought.{is_sought}
-use Rattle.hpack.specs.Hashes.{bucket_of}
-use Rattle.hpack.specs.Chains.{name_bucket}
+use Rattle.hpack.proofs.Names.{◌≡◌, ◌∙◌, ◌<◌, ◌+◌, sym, refl, length, arith, static_entries}
+use Rattle.hpack.proofs.Names.{is_sought, bucket_of, name_bucket}
 use Rattle.hpack.proofs.ChainLemmas.{reached_first, reached_next, reached_here, reached_end}
 use Rattle.hpack.proofs.StaticChainLemmas.{name_in_bucket, static_length}
 use Rattle.hpack.proofs.encode.search.static_index.Goals as goal

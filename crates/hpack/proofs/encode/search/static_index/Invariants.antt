@@ -1,8 +1,4 @@
-use Rattle.std.proofs.Common.{◌-◌}
-use Rattle.hpack.specs.Static.{static_entries}
-use Rattle.hpack.specs.Sought.{is_sought}
-use Rattle.hpack.specs.Hashes.{bucket_of}
-use Rattle.hpack.specs.Chains.{name_bucket}
+use Rattle.hpack.proofs.Names.{◌-◌, static_entries, is_sought, bucket_of, name_bucket}
 use Rattle.hpack.proofs.ChainLemmas.{IsReached}
 use Rattle.hpack.proofs.encode.search.static_index.Given as goal
 

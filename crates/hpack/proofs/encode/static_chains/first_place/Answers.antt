@@ -1,6 +1,4 @@
-use Rattle.std.proofs.Common.{ℕ, sym, subst}
-use Rattle.hpack.specs.Static.{static_entries}
-use Rattle.hpack.specs.Chains.{LeadsTo, name_bucket}
+use Rattle.hpack.proofs.Names.{ℕ, sym, subst, static_entries, LeadsTo, name_bucket}
 use Rattle.hpack.proofs.StaticChainLemmas.{place_leads}
 use Rattle.hpack.proofs.encode.static_chains.first_place.Goals as goal
 

@@ -1,7 +1,6 @@
-use Rattle.std.proofs.Common.{ℕ, suc, ◌≡◌, ◌+◌, drop, get_or, sym, subst, arith}
+use Rattle.hpack.proofs.Names.{ℕ, suc, ◌≡◌, ◌+◌, drop, get_or, sym, subst, arith, static_entries}
+use Rattle.hpack.proofs.Names.{LeadsTo, name_bucket}
 use Rattle.hpack.specs.declared.encode.static_chains.TheConstants.{SKIPS}
-use Rattle.hpack.specs.Static.{static_entries}
-use Rattle.hpack.specs.Chains.{LeadsTo, name_bucket}
 use Rattle.hpack.proofs.StaticChainLemmas.{static_linked, static_length}
 use Rattle.hpack.proofs.ChainLemmas.{linked_at}
 use Rattle.hpack.proofs.encode.static_chains.skip_after.Goals as goal

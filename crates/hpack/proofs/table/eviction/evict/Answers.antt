@@ -1,7 +1,4 @@
-use Rattle.std.proofs.Common.{◌∙◌, sym, ap, arith}
-use Rattle.circular_buffer.specs.Buffer.{Buffer}
-use Rattle.hpack.specs.Entry.{Entry}
-use Rattle.hpack.specs.Sizes.{table_size}
+use Rattle.hpack.proofs.Names.{◌∙◌, sym, ap, arith, Buffer, Entry, table_size}
 use Rattle.hpack.proofs.SizeLemmas.{popped, fit-all, table_size-push}
 use Rattle.hpack.proofs.RingLemmas.{popped_oldest}
 use Rattle.hpack.proofs.table.eviction.evict.Goals as goal

@@ -1,5 +1,4 @@
-use Rattle.std.proofs.Common.{◌≡◌, length}
-use Rattle.hpack.specs.Sizes.{table_size, fit}
+use Rattle.hpack.proofs.Names.{◌≡◌, length, table_size, fit}
 use Rattle.hpack.proofs.table.eviction.evict.Given as goal
 
 abbrev pub invariant-loop-remaining : goal.invariant-loop-remaining

@@ -1,4 +1,4 @@
-use Rattle.std.proofs.Common.{◌≡◌, ◌++◌, length}
+use Rattle.hpack.proofs.Names.{◌≡◌, ◌++◌, length}
 use Rattle.hpack.proofs.table.eviction.move_entries.Given as goal
 
 abbrev pub invariant-loop-oldest : goal.invariant-loop-oldest

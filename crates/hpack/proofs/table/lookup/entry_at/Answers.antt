@@ -1,4 +1,4 @@
-use Rattle.std.proofs.Common.{◌∙◌, arith}
+use Rattle.hpack.proofs.Names.{◌∙◌, arith}
 use Rattle.hpack.proofs.LookupLemmas.{entry-static, entry-dynamic, entry-zero, entry-no_static}
 use Rattle.hpack.proofs.LookupLemmas.{entry-no_dynamic, option_weaker}
 use Rattle.hpack.proofs.table.lookup.entry_at.Goals as goal

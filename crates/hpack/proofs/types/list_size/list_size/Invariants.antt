@@ -1,7 +1,5 @@
 -- The size of the fields so far, whose names and values are octets.
-use Rattle.std.proofs.Common.{◌≡◌, ◌-◌, ◌^◌, min, take, drop}
-use Rattle.hpack.specs.Lists.{list_size}
-use Rattle.hpack.specs.Written.{AreOctets}
+use Rattle.hpack.proofs.Names.{◌≡◌, ◌-◌, ◌^◌, min, take, drop, list_size, AreOctets}
 use Rattle.hpack.proofs.types.list_size.list_size.Given as goal
 
 abbrev pub invariant-loop-field : goal.invariant-loop-field

@@ -1,4 +1,4 @@
-use Rattle.std.proofs.lemmas.Result.{IfErr-weaker}
+use Rattle.hpack.proofs.Names.{IfErr-weaker}
 use Rattle.hpack.proofs.BlockLemmas.{fault_of_block}
 use Rattle.hpack.proofs.decode.decoder.Decoder.decode.Goals as goal
 

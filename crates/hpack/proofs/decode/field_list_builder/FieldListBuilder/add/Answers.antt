@@ -1,4 +1,4 @@
-use Rattle.std.proofs.Common.{refl, arith}
+use Rattle.hpack.proofs.Names.{refl, arith}
 use Rattle.hpack.proofs.FieldListBuilderLemmas.{read_within_limit}
 use Rattle.hpack.proofs.decode.field_list_builder.FieldListBuilder.add.Goals as goal
 

@@ -1,4 +1,4 @@
-use Rattle.std.proofs.Common.{refl}
+use Rattle.hpack.proofs.Names.{refl}
 use Rattle.hpack.proofs.FieldListBuilderLemmas.{represents_none}
 use Rattle.hpack.proofs.decode.field_list_builder.FieldListBuilder.in_room_of.Goals as goal
 

@@ -1,5 +1,4 @@
-use Rattle.std.proofs.Common.{take, arith}
-use Rattle.hpack.specs.PendingTable.{newest_first}
+use Rattle.hpack.proofs.Names.{take, arith, newest_first}
 use Rattle.hpack.proofs.IndexLemmas.{index_added, added_length}
 use Rattle.hpack.proofs.PendingTableLemmas.{live_is_small, live_is_few}
 use Rattle.hpack.proofs.encode.pending_table.PendingTable.add.Goals as goal

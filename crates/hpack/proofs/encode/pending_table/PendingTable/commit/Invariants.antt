@@ -1,5 +1,4 @@
-use Rattle.std.proofs.Common.{◌≡◌, length, reverse}
-use Rattle.hpack.specs.PendingTable.{all_added}
+use Rattle.hpack.proofs.Names.{◌≡◌, length, reverse, all_added}
 use Rattle.hpack.proofs.encode.pending_table.PendingTable.commit.Given as goal
 
 abbrev pub invariant-loop-entry : goal.invariant-loop-entry

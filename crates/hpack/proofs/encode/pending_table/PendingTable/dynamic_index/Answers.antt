@@ -43,8 +43,7 @@ loop-place-preserved c =
     let newest = newest_first c.args.self.now c.args.table.now in
     let entries = take c.args.self.now.live newest in
     let count = length c.chains-chains.result.now.newest.items in
-    let short : c.loop-place.place < length entries =
-    omega (
+    let short : c.loop-place.place < length entries = omega (
       arith,
       c.loop-place-test.true,
       live_length c.args.self.now c.args.table.now c.requires.pending,
@@ -57,8 +56,7 @@ loop-place-preserved c =
     c.loop-place.place c.is_match_at.result c.requires.pending c.loop-place-test.true
     c.is_match_at.ensures c.if-is_match_at.false)
     (λ other. c.skip.ensures.leads (bucket_by c.args.sought count) entries other
-    (c.chains-chains.ensures entries c.requires.pending.index) short)
-    refl
+    (c.chains-chains.ensures entries c.requires.pending.index) short) refl
 
 pub returns : goal.returns
 returns c =

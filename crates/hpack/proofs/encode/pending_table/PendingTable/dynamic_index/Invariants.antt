@@ -1,8 +1,4 @@
-use Rattle.std.proofs.Common.{◌-◌, length, take}
-use Rattle.hpack.specs.Sought.{is_sought}
-use Rattle.hpack.specs.PendingTable.{newest_first}
-use Rattle.hpack.specs.Chains.{bucket_by}
-use Rattle.hpack.specs.Hashes.{bucket_of}
+use Rattle.hpack.proofs.Names.{◌-◌, length, take, is_sought, newest_first, bucket_by, bucket_of}
 use Rattle.hpack.proofs.ChainLemmas.{IsReached}
 use Rattle.hpack.proofs.encode.pending_table.PendingTable.dynamic_index.Given as goal
 

@@ -1,6 +1,4 @@
-use Rattle.std.proofs.Common.{◌≡◌, ◌≤◌, take}
-use Rattle.hpack.specs.Sizes.{table_size, fit}
-use Rattle.hpack.specs.PendingTable.{newest_first}
+use Rattle.hpack.proofs.Names.{◌≡◌, ◌≤◌, take, table_size, fit, newest_first}
 use Rattle.hpack.proofs.encode.pending_table.PendingTable.fitting.Given as goal
 
 abbrev pub invariant-loop-size : goal.invariant-loop-size

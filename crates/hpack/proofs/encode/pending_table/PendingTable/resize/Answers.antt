@@ -1,5 +1,4 @@
-use Rattle.std.proofs.Common.{take, arith}
-use Rattle.hpack.specs.PendingTable.{newest_first}
+use Rattle.hpack.proofs.Names.{take, arith, newest_first}
 use Rattle.hpack.proofs.IndexLemmas.{index_fit}
 use Rattle.hpack.proofs.encode.pending_table.PendingTable.resize.Goals as goal
 

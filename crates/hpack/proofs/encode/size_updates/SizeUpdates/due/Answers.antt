@@ -1,4 +1,4 @@
-use Rattle.std.proofs.Common.{◌∙◌, ℕ, [], ◌∷◌, sym, ap, arith}
+use Rattle.hpack.proofs.Names.{◌∙◌, ℕ, [], ◌∷◌, sym, ap, arith}
 use Rattle.hpack.proofs.ChoiceLemmas.{updates_fell, updates_changed, updates_rose, updates_not_due}
 use Rattle.hpack.proofs.encode.size_updates.SizeUpdates.due.Goals as goal
 

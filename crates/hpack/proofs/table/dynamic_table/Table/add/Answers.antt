@@ -1,8 +1,5 @@
-use Rattle.std.proofs.Common.{◌≡◌, ℕ, ◌-◌, ap, ◌∙◌, arith}
-use Rattle.circular_buffer.specs.Buffer.{Buffer}
-use Rattle.hpack.specs.Entry.{Entry}
-use Rattle.hpack.specs.Sizes.{entry_size, table_size, fit}
-use Rattle.hpack.specs.Tables.{Entries}
+use Rattle.hpack.proofs.Names.{◌≡◌, ℕ, ◌-◌, ap, ◌∙◌, arith, Buffer, Entry, entry_size, table_size}
+use Rattle.hpack.proofs.Names.{fit, Entries}
 use Rattle.hpack.proofs.SizeLemmas.{table_size-cons, fit-none, added}
 use Rattle.hpack.proofs.RingLemmas.{one_more_fits, pushed_newest}
 use Rattle.hpack.proofs.table.dynamic_table.Table.add.Goals as goal
@@ -48,6 +45,5 @@ returns c =
     c.push_front.ensures.items in
     rw (← c.self.view_is) (added c.self.inside.ring.items c.push_front.new.self.items
     c.evict.new.ring.items c.args.entry c.self.inside.maximum
-    (omega (arith, exact, c.if-size-maximum.false))
-    (c.evict.ensures.fitting
+    (omega (arith, exact, c.if-size-maximum.false)) (c.evict.ensures.fitting
     ∙ ap (λ (n : ℕ). fit c.self.inside.ring.items (c.self.inside.maximum - n)) exact) items)

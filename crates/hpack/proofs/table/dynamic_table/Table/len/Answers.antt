@@ -1,5 +1,4 @@
-use Rattle.std.proofs.Common.{ap, arith}
-use Rattle.hpack.specs.Tables.{Entries}
+use Rattle.hpack.proofs.Names.{ap, arith, Entries}
 use Rattle.hpack.proofs.SizeLemmas.{entries_are_few}
 use Rattle.hpack.proofs.table.dynamic_table.Table.len.Goals as goal
 

@@ -1,5 +1,4 @@
-use Rattle.std.proofs.Common.{◌≡◌, OnOk, subst}
-use Rattle.hpack.specs.Tables.{Entries}
+use Rattle.hpack.proofs.Names.{◌≡◌, OnOk, subst, Entries}
 use Rattle.hpack.proofs.SizeLemmas.{resized_same}
 use Rattle.hpack.proofs.table.dynamic_table.Table.resize.Goals as goal
 

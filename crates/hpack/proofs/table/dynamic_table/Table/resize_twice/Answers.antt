@@ -1,7 +1,5 @@
-use Rattle.std.proofs.Common.{◌≡◌, ◌/◌, [], max, ap, arith}
+use Rattle.hpack.proofs.Names.{◌≡◌, ◌/◌, [], max, ap, arith, Buffer, buffer, Entry}
 use Rattle.std.proofs.lemmas.Option.{MatchOption-at_some}
-use Rattle.circular_buffer.specs.Buffer.{Buffer, buffer}
-use Rattle.hpack.specs.Entry.{Entry}
 use Rattle.hpack.proofs.RingLemmas.{entries_fit}
 use Rattle.hpack.proofs.table.dynamic_table.Table.resize_twice.Goals as goal
 

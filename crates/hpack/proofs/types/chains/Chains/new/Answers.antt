@@ -1,4 +1,4 @@
-use Rattle.hpack.specs.Chains.{LeadsTo, AreLinked}
+use Rattle.hpack.proofs.Names.{LeadsTo, AreLinked}
 use Rattle.hpack.proofs.types.chains.Chains.new.Goals as goal
 
 pub returns-clause-chains : goal.returns-clause-chains

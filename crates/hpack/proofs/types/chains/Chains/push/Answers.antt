@@ -1,8 +1,6 @@
-use Rattle.std.proofs.Common.{◌≡◌, ◌∙◌, ℕ, ◌-◌, ◌<◌, get_or, length, ◌∷◌, sym, ap, subst, arith}
+use Rattle.hpack.proofs.Names.{◌≡◌, ◌∙◌, ℕ, ◌-◌, ◌<◌, get_or, length, ◌∷◌, sym, ap, subst, arith}
+use Rattle.hpack.proofs.Names.{Buffer, bucket_of, LeadsTo, AreLinked}
 use Rattle.std.proofs.lemmas.List.{get_or_read}
-use Rattle.circular_buffer.specs.Buffer.{Buffer}
-use Rattle.hpack.specs.Hashes.{bucket_of}
-use Rattle.hpack.specs.Chains.{LeadsTo, AreLinked}
 use Rattle.hpack.proofs.ChainLemmas.{heads_pushed, linked_pushed}
 use Rattle.hpack.proofs.types.chains.Chains.push.Goals as goal
 

@@ -1,7 +1,5 @@
-use Rattle.std.proofs.Common.{◌≡◌, ◌<◌, ◌∙◌, length, get_or, None, Some, sym, ap, arith}
-use Rattle.std.specs.List.{slice_get}
-use Rattle.std.specs.Option.{option_copied}
-use Rattle.std.proofs.lemmas.Option.{slice_get-get_or}
+use Rattle.hpack.proofs.Names.{◌≡◌, ◌<◌, ◌∙◌, length, get_or, None, Some, sym, ap, arith, slice_get}
+use Rattle.hpack.proofs.Names.{option_copied, slice_get-get_or}
 use Rattle.hpack.proofs.ChainLemmas.{linked_read, linked_length}
 use Rattle.hpack.proofs.types.chains.Chains.skip.Goals as goal
 

@@ -1,4 +1,4 @@
-use Rattle.std.proofs.Common.{[], refl}
+use Rattle.hpack.proofs.Names.{[], refl}
 use Rattle.hpack.proofs.IndexLemmas.{index_empty}
 use Rattle.hpack.proofs.types.chains.Index.new.Goals as goal
 

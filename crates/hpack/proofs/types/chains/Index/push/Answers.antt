@@ -1,7 +1,5 @@
-use Rattle.std.proofs.Common.{ℕ, ◌∷◌, length, sym, ap, subst, arith}
-use Rattle.hpack.specs.declared.encode.search.Sought.TheVariants.{Exact, Name}
-use Rattle.hpack.specs.Hashes.{bucket_of}
-use Rattle.hpack.specs.Chains.{AreChains, bucket_by}
+use Rattle.hpack.proofs.Names.{ℕ, ◌∷◌, length, sym, ap, subst, arith, Exact, Name, bucket_of}
+use Rattle.hpack.proofs.Names.{AreChains, bucket_by}
 use Rattle.hpack.proofs.types.chains.Index.push.Goals as goal
 
 pub returns-clause-entries : goal.returns-clause-entries

@@ -1,6 +1,5 @@
-use Rattle.std.proofs.Common.{◌≡◌, ◌∙◌, ◌-◌, List, ◌∷◌, drop, refl, sym, subst, arith, length-drop}
-use Rattle.hpack.specs.Entry.{Entry}
-use Rattle.hpack.specs.Chains.{IsIndexOf}
+use Rattle.hpack.proofs.Names.{◌≡◌, ◌∙◌, ◌-◌, List, ◌∷◌, drop, refl, sym, subst, arith, length-drop}
+use Rattle.hpack.proofs.Names.{Entry, IsIndexOf}
 use Rattle.hpack.proofs.IndexLemmas.{index_empty, drop_back, drop_end, drop_all}
 use Rattle.hpack.proofs.types.chains.Index.rebuild.Goals as goal
 
@@ -25,8 +24,7 @@ loop-name-preserved c =
     record {
       index = subst (λ (es : List Entry). IsIndexOf c.push.new.self es) (sym next)
           (c.push.ensures.entries (drop place entries) one c.loop-name.invariant.index
-          c.hashes_of.ensures
-          (omega (
+          c.hashes_of.ensures (omega (
             arith,
             c.requires,
             c.len-place.ensures.value,

@@ -1,5 +1,4 @@
-use Rattle.std.proofs.Common.{◌≡◌, ◌≤◌, length, drop}
-use Rattle.hpack.specs.Chains.{IsIndexOf}
+use Rattle.hpack.proofs.Names.{◌≡◌, ◌≤◌, length, drop, IsIndexOf}
 use Rattle.hpack.proofs.types.chains.Index.rebuild.Given as goal
 
 abbrev pub invariant-loop-name : goal.invariant-loop-name

@@ -1,6 +1,4 @@
-use Rattle.std.proofs.Common.{Some, ap, sym, ◌∙◌, arith}
-use Rattle.hpack.specs.declared.types.field_place.FieldPlace.{FieldPlace}
-use Rattle.hpack.specs.FieldLists.{field_of}
+use Rattle.hpack.proofs.Names.{Some, ap, sym, ◌∙◌, arith, FieldPlace, field_of}
 use Rattle.hpack.proofs.FieldListLemmas.{fields_of-at, length-fields_of}
 use Rattle.hpack.proofs.types.field_list.FieldList.get.Goals as goal
 

@@ -1,5 +1,5 @@
-use Rattle.std.proofs.Common.{◌≡◌, ℕ, ◌==◌, length, ap, ◌∙◌, vec_len, arith}
-use Rattle.hpack.specs.FieldLists.{fields_of}
+use Rattle.hpack.proofs.Names.{◌≡◌, ℕ, ◌==◌, length, ap, ◌∙◌, arith, fields_of}
+use Rattle.std.proofs.Common.{vec_len}
 use Rattle.hpack.proofs.FieldListLemmas.{length-fields_of}
 use Rattle.hpack.proofs.types.field_list.FieldList.is_empty.Goals as goal
 

@@ -1,4 +1,4 @@
-use Rattle.std.proofs.Common.{arith}
+use Rattle.hpack.proofs.Names.{arith}
 use Rattle.hpack.proofs.FieldListLemmas.{length-fields_of}
 use Rattle.hpack.proofs.types.field_list.FieldList.len.Goals as goal
 

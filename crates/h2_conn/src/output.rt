@@ -1,5 +1,4 @@
-//! What a replay reads of a connection: the output that waits, and how much of the input was used.
-//! None of it takes memory.
+//! The queued output, lent, and the number of octets used. None of it takes memory.
 
 ghost use Rattle.std.specs.Prelude.{◌≡◌, ◌++◌, drop, length};
 ghost use Rattle.h2_wire.specs.Cutter.{saturated};
@@ -12,8 +11,8 @@ use crate::conn::Conn;
 impl Conn {
     // contract: calls (own) An end lends its output, and says the place of a fault
     // rule: calls (own) An end lends its output, and says the place of a fault
-    /// Lends the octets of the output that wait, in two slices, the first of which comes first. It
-    /// goes on once the connection has failed.
+    /// Lends the queued output, in two slices, the first of which comes first. It works after a
+    /// failure too.
     pub fn waiting_octets(&self) -> (&[u8], &[u8])
         ensures { (values : Values) (log : Log) → ConnRepresents values self.now log
             → result.0.now ++ result.1.now ≡ drop log.given log.written }
@@ -22,8 +21,8 @@ impl Conn {
     }
 
     // rule: calls (own) An end lends its output, and says the place of a fault
-    /// How many octets of input were used; the greatest number of 64 bits where it is more than
-    /// that. After a fault of the peer the octet that made it is the last one of them.
+    /// The number of octets of input that were used; the greatest number of 64 bits where it is
+    /// more than that. After a fault of the peer the octet that made it is the last one of them.
     pub fn place(&self) -> u64
         ensures { (values : Values) (log : Log) → ConnRepresents values self.now log
             → result ≡ saturated (length log.input) }

@@ -1,0 +1,48 @@
+//! The results of `take` and `advance`.
+
+ghost use Rattle.std.specs.Prelude.{◌≡◌};
+
+use h2_core::Event;
+use h2_frame::Code;
+use h2_wire::Complete;
+use hpack::FieldList;
+use thiserror::Error;
+
+/// The result of [`Conn::take`](crate::Conn::take).
+#[derive(Clone, Copy, Debug)]
+pub struct Taken<'a> {
+    /// The number of octets of the piece that were used: up to the end of one frame, or else all
+    /// of them.
+    pub used: usize,
+    /// What is reported. Its fields are lent from the connection until the next call; the octets of
+    /// a body are lent from the piece, or from the connection where their frame was cut in two.
+    pub event: Option<Event<&'a FieldList, &'a [u8]>>,
+}
+
+/// The result of [`Conn::advance`](crate::Conn::advance).
+#[derive(Clone, Copy, Debug)]
+pub struct Progress {
+    /// The number of octets of the piece that were used: up to the end of one frame, or else all
+    /// of them.
+    pub used: usize,
+    /// What is reported: the connection keeps the fields of a block, and says where the octets of a
+    /// body lie.
+    pub happened: Option<Event<(), Complete>>,
+}
+
+/// The connection has failed with this code; GOAWAY with it is the last frame of the output
+/// (RFC 9113, section 5.4.1). INTERNAL_ERROR means out of memory.
+#[derive(Clone, Copy, Debug, PartialEq, Eq, Hash, Error)]
+#[error("the connection has failed: {code}")]
+pub struct ConnFault {
+    /// The error code.
+    pub code: Code,
+}
+
+impl From<Code> for ConnFault {
+    ghost from_gives = { λ code fault. fault.code ≡ code };
+
+    fn from(code: Code) -> ConnFault {
+        ConnFault { code }
+    }
+}

@@ -1,0 +1,87 @@
+//! What an end reports.
+
+ghost use Rattle.std.specs.Prelude.{◌≡◌};
+ghost use Rattle.h2_core.specs.Events.{with_parts};
+
+/// What an end reports (RFC 9113). `F` holds the fields of a block and `B` the octets of a body: a
+/// loan, a copy, a place, or `()` where the end keeps them.
+#[derive(Clone, Copy, Debug, PartialEq, Eq)]
+pub enum Event<F, B> {
+    /// A field section was received (section 8.1).
+    Fields {
+        /// The stream.
+        id: u32,
+        /// The fields, in order.
+        list: F,
+        /// Whether END_STREAM is set: nothing follows on the stream.
+        end: bool,
+    },
+    /// Octets of a body were received (section 6.1).
+    Data {
+        /// The stream.
+        id: u32,
+        /// The octets, without padding.
+        bytes: B,
+        /// What they took of the windows, padding included: it is owed on the stream.
+        flow: u32,
+        /// Whether END_STREAM is set: nothing follows on the stream.
+        end: bool,
+    },
+    /// A stream was reset (section 6.4).
+    Reset {
+        /// The stream.
+        id: u32,
+        /// The error code (section 7).
+        code: u32,
+        /// Whether this end has reset it, for a fault of the peer.
+        ours: bool,
+    },
+    /// The peer takes no streams above this one (section 6.8).
+    GoAway {
+        /// The least last stream that it has named.
+        last: u32,
+        /// The error code (section 7).
+        code: u32,
+    },
+    /// The peer has not processed this stream of ours, and will not: it is over (section 6.8).
+    Unprocessed {
+        /// The stream.
+        id: u32,
+    },
+    /// The peer has applied this end's settings (section 6.5.3).
+    Acked,
+    /// The peer has answered this end's PING (section 6.7).
+    Pong {
+        /// The octets of the PING.
+        octets: [u8; 8],
+    },
+}
+
+impl<F, B> Event<F, B> {
+    // rule: calls (own) An event has the octets, the fields and the numbers of its frame
+    /// The same event, with `list` where it has fields and with `bytes` where it has octets; else
+    /// they are dropped.
+    pub fn with_parts<G, C>(self, list: G, bytes: C) -> Event<G, C>
+    where
+        F: Drop,
+        B: Drop,
+        G: Drop,
+        C: Drop,
+        ensures { result ≡ with_parts list bytes self }
+    {
+        match self {
+            Event::Fields { id, end, .. } => Event::Fields { id, list, end },
+            Event::Data { id, flow, end, .. } => Event::Data {
+                id,
+                bytes,
+                flow,
+                end,
+            },
+            Event::Reset { id, code, ours } => Event::Reset { id, code, ours },
+            Event::GoAway { last, code } => Event::GoAway { last, code },
+            Event::Unprocessed { id } => Event::Unprocessed { id },
+            Event::Acked => Event::Acked,
+            Event::Pong { octets } => Event::Pong { octets },
+        }
+    }
+}

@@ -1,0 +1,119 @@
+//! The readers of an end.
+
+ghost use Rattle.std.specs.Prelude.{◌≡◌, ◌<◌, is_some, if◌then◌else◌, IfSome};
+ghost use Rattle.std.specs.FinMap as map;
+ghost use Rattle.h2_streams.specs.Streams.{number_or_none};
+ghost use Rattle.h2_spec_machine.specs.End.{payload_limit_of, stream_at};
+ghost use Rattle.h2_spec_machine.specs.Machine.{first_active};
+ghost use Rattle.h2_core.specs.Endpoint.{end_of};
+ghost use Rattle.h2_core.specs.Readers.{room_of, owed_of};
+
+use crate::endpoint::Endpoint;
+use h2_frame::Code;
+use h2_spec_log::Role;
+use hpack::FieldList;
+
+impl Endpoint {
+    /// The code with which the connection has failed, if it has. It takes no memory.
+    pub fn failed(&self) -> Option<Code>
+        ensures { result ≡ self.now.failed }
+    {
+        self.failed
+    }
+
+    // contract: 4.2 The limit of an end is its greatest MAX_FRAME_SIZE of those in force
+    // rule: 4.2 The limit of an end is its greatest MAX_FRAME_SIZE of those in force
+    /// The greatest payload that may be read now, in octets (RFC 9113, sections 4.2 and 6.5.3): by
+    /// the own settings in force and those that await their acknowledgment, which the peer may
+    /// have applied already. It takes no memory.
+    pub fn payload_limit(&self) -> u32
+        ensures { result ≡ payload_limit_of (end_of self.now).own }
+    {
+        match self.awaited {
+            Some(config) => self.max_frame.max(config.max_frame()),
+            None => self.max_frame,
+        }
+    }
+
+    /// The fields of the block that was reported last. It takes no memory.
+    pub fn fields(&self) -> &FieldList
+        ensures { result.now ≡ self.now.list }
+    {
+        &self.list
+    }
+
+    /// Which of the two ends it is. It takes no memory.
+    pub fn role(&self) -> Role
+        ensures { result ≡ self.now.role }
+    {
+        self.role
+    }
+
+    /// Whether a stream is active: open or half-closed (RFC 9113, section 5.1). That does not end
+    /// with the connection. It takes no memory.
+    pub fn is_active(&self, id: u32) -> bool
+        ensures { result ≡ is_some (stream_at (end_of self.now) id) }
+    {
+        self.streams.stream(id).is_some()
+    }
+
+    // contract: calls (own) An end answers of its state, and of little once it has failed
+    // rule: calls (own) An end answers of its state, and of little once it has failed
+    /// The number of octets that this end may send: on the connection where `id` is 0, else on an
+    /// active stream; below zero where settings have shifted its window so. `None` for other
+    /// streams, and once the connection has failed. It takes no memory.
+    pub fn room(&self, id: u32) -> Option<i64>
+        ensures { result ≡ room_of (end_of self.now) id }
+    {
+        if self.failed.is_some() {
+            return None;
+        }
+        if id == 0 {
+            return Some(i64::from(self.send_window));
+        }
+        let stream = self.streams.stream(id)?;
+        Some(stream.send_window)
+    }
+
+    // contract: calls (own) An end answers of its state, and of little once it has failed
+    // rule: calls (own) An end answers of its state, and of little once it has failed
+    /// The number of octets of a stream that were reported and are not released; 0 where it is not
+    /// active, and once the connection has failed. It takes no memory.
+    pub fn owed(&self, id: u32) -> u32
+        ensures { result ≡ owed_of (end_of self.now) id }
+    {
+        if self.failed.is_some() {
+            return 0;
+        }
+        match self.streams.stream(id) {
+            Some(stream) => stream.owed,
+            None => 0,
+        }
+    }
+
+    // rule: calls (own) An end answers of its state, and of little once it has failed
+    /// The number of octets of the connection's window that are still to be returned; 0 once the
+    /// connection has failed. It takes no memory.
+    pub fn due(&self) -> u32
+        ensures { result ≡ (if is_some self.now.failed then 0 else self.now.unreturned) }
+    {
+        if self.failed.is_some() {
+            0
+        } else {
+            self.unreturned
+        }
+    }
+
+    /// The least active stream above the number `above`, if there is one; `None` once the
+    /// connection has failed. It takes no memory.
+    pub fn next_live(&self, above: u32) -> Option<u32>
+        ensures number { number_or_none result ≡ (if is_some self.now.failed then 0
+            else first_active above (map.entries self.now.streams.entries)) }
+        ensures above { IfSome result (λ number. above < number) }
+    {
+        if self.failed.is_some() {
+            return None;
+        }
+        self.streams.next_active(above)
+    }
+}

@@ -1,0 +1,98 @@
+//! A connection that is driven by hand, as the `CALLING.md` of `h2_conn` shows it.
+
+// calling: h2_conn
+ghost use Rattle.std.specs.Prelude.{◌≡◌, ◌≢◌, ◌≤◌, Err, IfOk, IfSome, length};
+
+use h2_conn::{Conn, Event, Refusal};
+
+/// Sends the next part of a body, and returns the number of its octets that were sent, 0 where a
+/// window is closed; or `None` where the output is full: then it is written, and the call made
+/// again.
+pub fn send_part(
+    conn: &mut Conn,
+    id: u32,
+    part: &[u8],
+    is_last: bool,
+) -> Result<Option<usize>, Refusal>
+    ensures within { IfOk result (λ sent. IfSome sent (λ count. count ≤ length part.now)) }
+    ensures full { result ≢ Err Refusal.OutputFull }
+{
+    match conn.data(id, part, is_last) {
+        Ok(count) => Ok(Some(count)),
+        Err(Refusal::OutputFull) => Ok(None),
+        Err(refusal) => Err(refusal),
+    }
+}
+// end
+
+// calling: h2_conn refusals
+use anyhow::Result as Answer;
+
+/// Takes a piece that was read, and releases the octets of all bodies in it, with what was owed on
+/// their streams before. Where the output is full they stay owed: the caller writes it, and then
+/// releases [`Conn::owed`] of each stream that [`Conn::next_live`] names. Where a stream is over
+/// the end returns them by itself.
+pub fn discard_bodies(conn: &mut Conn, piece: &[u8]) -> Answer<()> {
+    let mut unused = piece;
+    for _ in 0..u64::MAX {
+        let taken = conn.take(unused)?;
+        unused = &unused[taken.used..];
+        match taken.event {
+            Some(Event::Data { id, .. }) => release_owed(conn, id)?,
+            None if unused.is_empty() => break, // an event need not use octets
+            _ => {}
+        }
+    }
+    Ok(())
+}
+
+/// Releases all that is owed on a stream, unless the output is full.
+fn release_owed(conn: &mut Conn, id: u32) -> Answer<()> {
+    let owed = conn.owed(id);
+    if owed == 0 {
+        return Ok(());
+    }
+    match conn.release(id, owed) {
+        Ok(()) | Err(Refusal::OutputFull) => Ok(()),
+        Err(refusal) => Err(refusal.into()),
+    }
+}
+// end
+
+// calling: h2_conn next
+/// What a program does after a call was refused.
+#[derive(Clone, Copy, Debug, PartialEq, Eq)]
+pub enum Next {
+    /// Nothing more on this stream: it is over, or this end has ended it.
+    LeaveStream,
+    /// The output is written, and the call made again.
+    Write,
+    /// The call is made again after more was read: an `Acked`, a `Pong`, the end of a stream, or
+    /// SETTINGS of the peer, which are not reported.
+    ReadMore,
+    /// Another connection is opened for it.
+    Connect,
+    /// The call is made again later, or the connection given up: there was no memory.
+    Retry,
+    /// GOAWAY is sent, the streams under way end, and then the connection is closed.
+    GoAway,
+    /// The output is written, and the connection closed.
+    Close,
+    /// The program has made a call that it must not make.
+    Mend,
+}
+
+/// What to do after a refusal, whichever call gave it.
+pub fn after_refusal(refusal: Refusal) -> Next {
+    match refusal {
+        Refusal::NoSuchStream | Refusal::Ended => Next::LeaveStream,
+        Refusal::OutputFull => Next::Write,
+        Refusal::TooManyStreams | Refusal::PingWaits | Refusal::SettingsWait => Next::ReadMore,
+        Refusal::StreamsExhausted | Refusal::GoingAway => Next::Connect,
+        Refusal::Memory => Next::Retry,
+        Refusal::TooManyResets => Next::GoAway,
+        Refusal::Closed => Next::Close,
+        Refusal::ListTooLarge | Refusal::NotOwed => Next::Mend,
+    }
+}
+// end
