@@ -214,7 +214,8 @@ impl Endpoint {
 }
 
 // rule: 6.1 The complete payload of DATA, padding included, counts for windows
-/// What DATA takes of the windows: its octets, and with padding that and the pad length too.
+/// What DATA takes of the windows: its octets and, where it has a pad length, that octet and the
+/// padding.
 pub(crate) fn flow_of(octets: &[u8], pad: Option<u8>) -> u32
     requires { length (padded octets.now pad) < 2 ^ 24 }
     ensures { result ≡ length (padded octets.now pad) }

@@ -35,8 +35,8 @@ struct Ended {
 // contract: replay (own) The status is 1 only where that end has failed
 /// Replays the input: hands its octets to one end of a connection, which is new and has the
 /// default configuration, and prints a line for each event, the fields of a block under its line;
-/// then a line for the fault with which the connection fails, if it does; and then the octets that
-/// the end puts out, which are put out once the input is used.
+/// then a line for the fault with which the connection fails, if it does; and then its output,
+/// which is put out once the input is used.
 ///
 /// Of a reader whose octets are known, in whatever pieces it gives them, [`Status::Good`] comes
 /// only where the end took all of them and hasn't failed; and [`Status::Fault`] only where it has

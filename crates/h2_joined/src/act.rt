@@ -49,7 +49,7 @@ pub enum JointAct {
         side: Side,
         /// The stream.
         id: u32,
-        /// The error code (section 7).
+        /// The error code (RFC 9113, section 7).
         code: u32,
     },
     /// An end sends PING: [`Client::ping`](h2_ends::Client::ping).

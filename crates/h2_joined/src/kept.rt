@@ -64,7 +64,8 @@ pub struct Accepted {
     pub message: Message,
 }
 
-/// A field of copies of a name and a value, which are octets, as those of slices are.
+/// A field of copies of a name and a value. The items of slices are octets, so its contract can
+/// say it.
 fn copy_field(
     alloc: Global,
     name: &[u8],

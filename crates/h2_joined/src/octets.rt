@@ -27,7 +27,7 @@ pub(crate) enum Taking {
 /// How a delivery goes on after a call of `take`.
 #[derive(Clone, Copy)]
 pub(crate) enum Next {
-    /// This many octets were used: with those that follow.
+    /// With the octets after the first ones, of which this many were used.
     Again(usize),
     /// It is over: all octets were used.
     Whole,

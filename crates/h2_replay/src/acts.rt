@@ -45,14 +45,14 @@ pub enum Act {
     Reset {
         /// The stream.
         id: u32,
-        /// The error code (section 7).
+        /// The error code (RFC 9113, section 7).
         code: u32,
     },
     /// [`Conn::refuse`](h2_conn::Conn::refuse).
     Refuse {
         /// The stream.
         id: u32,
-        /// The error code (section 7).
+        /// The error code (RFC 9113, section 7).
         code: u32,
     },
     /// [`Conn::ping`](h2_conn::Conn::ping).

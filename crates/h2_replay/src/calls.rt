@@ -34,7 +34,8 @@ pub(crate) fn make_call(conn: &mut Conn, act: &Act, out: &mut Vec<u8>) -> Answer
     }
 }
 
-/// Sends PING. Its octets are octets by their type, as those of a parameter are known to be.
+/// Sends PING. It is a function of its own, since the prover knows of a parameter that its octets
+/// are octets.
 fn pinged(conn: &mut Conn, octets: [u8; 8]) -> Answer
     ensures typed { IsTypedAct (logs.SendPing octets) }
     ensures makes { MakesCall conn.old (logs.SendPing octets) (answer_value result) [] conn.new }
