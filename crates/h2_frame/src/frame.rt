@@ -198,5 +198,5 @@ fn priority_len(priority: Option<[u8; 5]>) -> usize
 pub enum PayloadError {
     /// The payload breaks a rule of its kind; the connection ends with this code.
     #[error("fault of a payload: {0}")]
-    Code(Code),
+    Code(#[from] Code),
 }

@@ -77,10 +77,8 @@ pub fn read_payload<'a>(head: &Head, payload: &'a [u8]) -> Result<FrameRef<'a>, 
         × Carries head.now payload.now (frame_of frame))
         (Refuses head.now payload.now) }
 {
-    match pad_length(head, payload) {
-        Ok(pad) => Ok(payload_frame(head, pad, payload)),
-        Err(code) => Err(PayloadError::Code(code)),
-    }
+    let pad = pad_length(head, payload)?;
+    Ok(payload_frame(head, pad, payload))
 }
 
 // rule: 4.1 Flags that the type does not define are ignored when received

@@ -352,22 +352,6 @@ pub full_on_err : {T E : Type 0} (result : Result T E) (need capacity : ℕ)
 full_on_err (Ok value) need capacity succeeds = tt
 full_on_err (Err fault) need capacity succeeds = no_room need capacity succeeds
 
--- A fact of an error is one of another result that fails with it.
-pub on_err_other : {T E S D : Type 0} (P : Type 0) (result : Result T E) (other : Result S D)
-    → is_ok other ≡ is_ok result → OnErr result P → OnErr other P
-on_err_other P (Ok value) (Ok other) same p = tt
-on_err_other P (Ok value) (Err other) same p = absurd (false≢true same)
-on_err_other P (Err fault) (Ok other) same p = tt
-on_err_other P (Err fault) (Err other) same p = p
-
--- what was appended where a result that fails with it is `Ok`
-pub on_ok_other : {T E S D A : Type 0} (result : Result T E) (other : Result S D) (new xs ys : A)
-    → is_ok other ≡ is_ok result → new ≡ (if is_ok result then xs else ys) → OnOk other (new ≡ xs)
-on_ok_other (Ok value) (Ok other) new xs ys same e = e
-on_ok_other (Ok value) (Err other) new xs ys same e = tt
-on_ok_other (Err fault) (Ok other) new xs ys same e = absurd (false≢true (sym same))
-on_ok_other (Err fault) (Err other) new xs ys same e = tt
-
 -- A head and what is after it are what is written for the text.
 pub record AreParts (text head body : List ℕ) : Type 0 where
   pub counted : length (string text) ≡ length head + length body

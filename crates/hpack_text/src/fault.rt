@@ -1,5 +1,9 @@
 //! The faults of HPACK's texts.
 
+ghost use Rattle.std.specs.Prelude.{◌≡◌};
+
+use std::alloc::AllocError;
+
 use thiserror::Error;
 
 /// Why octets are not read as a text, or a text is not written.
@@ -21,4 +25,14 @@ pub enum TextFault {
     /// Memory was refused.
     #[error("X5 Memory: out of memory")]
     Memory,
+}
+
+impl From<AllocError> for TextFault {
+    ghost use Rattle.hpack_text.specs.declared.fault.TextFault.TheVariants.{Memory};
+
+    ghost from_gives = { λ _ fault. fault ≡ Memory };
+
+    fn from(_error: AllocError) -> TextFault {
+        TextFault::Memory
+    }
 }

@@ -141,7 +141,8 @@ fn append_body(is_huffman: bool, body: &[u8], out: &mut Vec<u8>) -> Result<(), T
     if is_huffman {
         return append_text(body, out);
     }
-    out.extend_from_slice(body).map_err(|_| TextFault::Memory)
+    out.extend_from_slice(body)?;
+    Ok(())
 }
 
 // rule: HPACK 5.2 (own) A string is Huffman-encoded where that is not longer
@@ -161,5 +162,6 @@ fn append_string(text: &[u8], out: &mut Vec<u8>) -> Result<(), TextFault>
         return huff_write(text, out);
     }
     write_int(PREFIX, 0, text.len() as u64, out)?;
-    out.extend_from_slice(text).map_err(|_| TextFault::Memory)
+    out.extend_from_slice(text)?;
+    Ok(())
 }

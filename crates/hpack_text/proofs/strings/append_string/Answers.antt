@@ -1,7 +1,6 @@
 use Rattle.hpack_text.proofs.Names.{List, ℕ, length, length-append, ap, ◌∙◌, arith, on_ok_weaker}
 use Rattle.hpack_text.proofs.Names.{on_err_weaker, integer}
 use Rattle.hpack_text.proofs.StringLemmas.{huffman_parts, raw_parts, no_room, full_on_err}
-use Rattle.hpack_text.proofs.StringLemmas.{on_err_other, on_ok_other}
 use Rattle.hpack_text.proofs.WriteLemmas.{OnErr-from}
 use Rattle.hpack_text.proofs.strings.append_string.Goals as goal
 
@@ -56,25 +55,21 @@ pub returns-clause-ok : goal.returns-clause-ok
 returns-clause-ok c =
     let parts = raw_parts c.args.text.now c.huff_len-huffman_len.result
     c.huff_len-huffman_len.ensures c.if-huffman_len-text.false in
-    on_ok_weaker c.map_err.result (λ e. parts.appended _ _ _ c.in_ok-write_int-2.ensures.ok e)
-    (on_ok_other c.extend_from_slice.result c.map_err.result _ _ _ c.map_err.ensures.variant
-    c.extend_from_slice.ensures.items)
+    parts.appended _ _ _ c.in_ok-write_int-2.ensures.ok c.in_ok-extend_from_slice.ensures.items
 
-pub returns-clause-full : goal.returns-clause-full
-returns-clause-full c =
+pub returns-in_err-extend_from_slice-clause-full : goal.returns-in_err-extend_from_slice-clause-full
+returns-in_err-extend_from_slice-clause-full c =
     let parts = raw_parts c.args.text.now c.huff_len-huffman_len.result
     c.huff_len-huffman_len.ensures c.if-huffman_len-text.false in
     let written = ap (λ (xs : List ℕ). length xs) c.in_ok-write_int-2.ensures.ok
     ∙ length-append c.args.out.now.items (integer 7 0 (length c.args.text.now)) in
-    on_err_weaker c.map_err.result
-    (λ full. omega (
+    OnErr-from c.from_residual-in_err-extend_from_slice.result
+    (omega (
       arith,
-      full,
+      c.in_err-extend_from_slice.ensures.full,
       written,
       parts.counted,
       c.write_int-2.ensures.capacity,
       c.args.out.now.ok.0,
       c.write_int-2.new.out.ok.0,
     ))
-    (on_err_other _ c.extend_from_slice.result c.map_err.result c.map_err.ensures.variant
-    c.extend_from_slice.ensures.full)
