@@ -3,7 +3,6 @@
 ghost use Rattle.std.specs.Prelude.{◌≡◌};
 
 use std::alloc::AllocError;
-
 use thiserror::Error;
 
 /// Why octets are not read as a text, or a text is not written.
