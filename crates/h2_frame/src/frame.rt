@@ -198,5 +198,15 @@ fn priority_len(priority: Option<[u8; 5]>) -> usize
 pub enum PayloadError {
     /// The payload breaks a rule of its kind; the connection ends with this code.
     #[error("fault of a payload: {0}")]
-    Code(#[from] Code),
+    Code(Code),
+}
+
+impl From<Code> for PayloadError {
+    ghost use Rattle.h2_frame.specs.declared.frame.PayloadError.TheVariants as errors;
+
+    ghost from_gives = { λ code error. error ≡ errors.Code code };
+
+    fn from(code: Code) -> PayloadError {
+        PayloadError::Code(code)
+    }
 }
