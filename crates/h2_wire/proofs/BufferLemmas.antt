@@ -4,6 +4,9 @@ use Rattle.std.proofs.Common.{take, drop, [], ◌∷◌, Option, None, Some, Mat
 use Rattle.std.proofs.Common.{refl, arith, length-append, length-take, length-drop, append_assoc}
 use Rattle.std.proofs.Common.{subst, ap, sym, ◌∙◌}
 use Rattle.std.proofs.lemmas.List.{take_rest, take-append-drop, length-take-le, drop-append-le}
+use Rattle.std.proofs.lemmas.List.{take_at}
+use Rattle.std.proofs.lemmas.Slice.{take-put_mid}
+use borrow.Rule.Slice.PartMut.{put_mid}
 use Rattle.std.proofs.lemmas.List.{get_or-drop, get_or_append_left}
 use Rattle.std.proofs.Math.ListN.{get_or}
 use Rattle.std.proofs.Math.Seq.{drop-append_seam, drop-append-add}
@@ -85,22 +88,6 @@ pub sound_head : (partial more : List ℕ) (limit : ℕ) (head : Head) → IsPar
 sound_head partial more limit head fits is_head nine =
     rw (is_head, head_of-append partial more nine) (fits nine).0
 
--- The head that nine octets of two slices give is that of the octets joined.
-pub read_head : (partial lent piece octets : List ℕ) (start : ℕ) (head : Head) → lent ≡ partial
-    → 9 ≤ length lent + length (take (length piece - start) (drop start piece))
-    → octets ≡ take 9 (lent ++ take (length piece - start) (drop start piece))
-    → head ≡ head_of octets
-    → (9 ≤ length partial + length (drop start piece))
-    × (head ≡ head_of (partial ++ drop start piece))
-read_head partial lent piece octets start head same enough prefix is_head =
-    let following : take (length piece - start) (drop start piece) ≡ drop start piece =
-    take_rest piece start in
-    let nine : 9 ≤ length partial + length (drop start piece) = rw (same, following) at enough in (
-      nine,
-      is_head ∙ ap head_of (prefix ∙ rw (same, following) refl)
-          ∙ head_of-take (partial ++ drop start piece) 9 (omega arith) (simp length-append nine),
-    )
-
 -- A frame's head is that of the octets up to its end.
 pub complete_head : (partial more : List ℕ) (missing_octets : ℕ)
     → 9 ≤ length (partial ++ take missing_octets more)
@@ -110,6 +97,41 @@ complete_head partial more missing_octets nine =
     (sym (take-append-drop missing_octets more))
     ∙ ap head_of (sym (append_assoc partial (take missing_octets more) (drop missing_octets more)))
     ∙ head_of-append (partial ++ take missing_octets more) (drop missing_octets more) nine
+
+-- The head of what is kept and of the octets missing to nine, one written after the other, is that
+-- of the octets joined.
+pub read_head : (partial lent piece first more second : List ℕ) (kept start : ℕ) (head : Head)
+    → kept ≡ length partial → length partial < 9
+    → 9 - kept ≤ length (take (length piece - start) (drop start piece))
+    → lent ≡ partial → first ≡ lent
+    → second ≡ take (9 - kept) (take (length piece - start) (drop start piece))
+    → head ≡ head_of (put_mid kept (9 - kept) (first ++ more) second)
+    → (9 ≤ length partial + length (drop start piece))
+    × (head ≡ head_of (partial ++ drop start piece))
+read_head partial lent piece first more second kept start head counted few enough same is_lent rest
+    is_head =
+    let following = take_rest piece start in
+    let all : 9 - kept ≤ length (drop start piece) = rw following at enough in
+    let octets = put_mid kept (9 - kept) (first ++ more) second in
+    let missing : second ≡ take (9 - kept) (drop start piece) = rw following at rest in
+    let long : length second ≡ 9 - kept =
+    rw (missing, length-take (9 - kept) (drop start piece)) (omega arith) in
+    let shown : first ≡ partial = is_lent ∙ same in
+    let begun : take kept (first ++ more) ≡ partial =
+    take_at first more kept (rw shown (sym counted)) ∙ shown in
+    let within : kept ≤ length (first ++ more) =
+    rw (length-append first more, shown) (omega (arith, counted)) in
+    let nine : take 9 octets ≡ partial ++ take (9 - kept) (drop start piece) =
+    take-put_mid kept (9 - kept) (first ++ more) second 9 (omega (arith, long, counted)) within
+    ∙ rw (begun, missing) refl in
+    let whole : 9 ≤ length (partial ++ take (9 - kept) (drop start piece)) =
+    rw (length-append, ← missing, long) (omega (arith, counted)) in (
+      omega (arith, all, counted),
+      is_head
+          ∙ sym (head_of-take octets 9 (omega arith) (rw (begun, length-append, length-append)
+          (omega (arith, long, counted))))
+          ∙ ap head_of nine ∙ sym (complete_head partial (drop start piece) (9 - kept) whole),
+    )
 
 -- so many octets more complete a frame
 pub length-complete : (partial more : List ℕ) (missing_octets : ℕ) (head : Head)

@@ -178,18 +178,22 @@ impl Buffer {
         ensures takes { BufferTakes (state_of self.old) piece.now result self.new }
     {
         let following = &piece[start..];
-        let Some(octets) = nine(&self.octets, following) else {
+        let kept = self.octets.len();
+        let missing = HEAD_LEN - kept;
+        if following.len() < missing {
             self.append(following)?;
             self.pass(Phase::Head, piece.len());
             return Ok(Advance {
                 used: piece.len(),
                 frame: None,
             });
-        };
+        }
+        let mut octets = [0; HEAD_LEN];
+        octets[..kept].copy_from_slice(&self.octets);
+        octets[kept..].copy_from_slice(&following[..missing]);
         let head = head(&octets);
         if let Some(code) = head_fault(&head, self.limit) {
-            let used = start + (HEAD_LEN - self.octets.len());
-            return Err(self.fail(WireFault::HeadFault(code), used));
+            return Err(self.fail(WireFault::HeadFault(code), start + missing));
         }
         self.take_payload(piece, start, head)
     }
@@ -302,22 +306,4 @@ impl Buffer {
         self.pass(Phase::Failed(fault), used);
         fault
     }
-}
-
-// rule: 4.2 A fault of a head is known at its ninth octet, whatever memory is
-// The first nine octets of two slices, joined, where there are so many.
-fn nine(partial: &[u8], following: &[u8]) -> Option<[u8; HEAD_LEN]>
-    requires { length partial.now < 9 }
-    ensures some { IfSome result (λ octets. (9 ≤ length partial.now + length following.now)
-        × (octets ≡ take 9 (partial.now ++ following.now))) }
-    ensures none { IfNone result (length partial.now + length following.now < 9) }
-{
-    let missing = HEAD_LEN - partial.len();
-    if following.len() < missing {
-        return None;
-    }
-    let mut octets = [0; HEAD_LEN];
-    octets[..partial.len()].copy_from_slice(partial);
-    octets[partial.len()..].copy_from_slice(&following[..missing]);
-    Some(octets)
 }

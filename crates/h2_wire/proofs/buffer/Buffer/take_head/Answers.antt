@@ -15,18 +15,18 @@ use Rattle.h2_wire.proofs.ReadingLemmas.{none_some, one_code}
 use Rattle.h2_wire.proofs.StepLemmas.{wrong_head, limit_ahead}
 use Rattle.h2_wire.proofs.buffer.Buffer.take_head.Goals as goal
 
-pub returns-in_default-clause-takes : goal.returns-in_default-clause-takes
-returns-in_default-clause-takes c =
+pub returns-then-following-missing-clause-takes : goal.returns-then-following-missing-clause-takes
+returns-then-following-missing-clause-takes c =
     let old = c.args.self.now in
     let piece = c.args.piece.now in
     let following : take (length piece - c.args.start) (drop c.args.start piece)
     ≡ drop c.args.start piece = take_rest piece c.args.start in
     let items = rw following at c.in_ok-append.ensures.ok in
-    let none = c.in_default.ensures.none in
     let limit = ap (λ (b : Buffer). b.limit) c.in_ok-append.ensures.same in
     let greatest = ap (λ (b : Buffer). b.greatest) c.in_ok-append.ensures.same in
+    let missing = rw following at c.if-following-missing.true in
     let few : length old.octets.items + length (drop c.args.start piece) < 9 =
-    rw (c.deref.ensures.value, following) at none in
+    omega (arith, missing, c.len-kept.ensures, old.octets.ok.0) in
     let short : length (old.octets.items ++ drop c.args.start piece) < 9 = rw length-append few in
     record {
       invariant = rw c.pass.ensures (record {
@@ -42,32 +42,34 @@ returns-in_default-clause-takes c =
           ));
     }
 
-pub returns-in-Some-head_fault-clause-takes : goal.returns-in-Some-head_fault-clause-takes
-returns-in-Some-head_fault-clause-takes c =
+pub returns-in-Some-clause-takes : goal.returns-in-Some-clause-takes
+returns-in-Some-clause-takes c =
     let old = c.args.self.now in
     let piece = c.args.piece.now in
     let starts = c.requires.starts in
-    let some = c.in-Some.ensures.some in
     let (nine, is_head) =
-    read_head old.octets.items c.deref.result.now piece c.in-Some.octets c.args.start
-    c.head-head.result c.deref.ensures.value some.0 some.1 c.head-head.ensures.value in
+    read_head old.octets.items c.deref.result.now c.args.piece.now _ _ _ c.len-kept.result
+    c.args.start c.head-head.result (omega (arith, c.len-kept.ensures, old.octets.ok.0))
+    c.requires.starts.few (omega (arith, c.if-following-missing.false)) c.deref.ensures.value
+    c.copy_from_slice.ensures.after c.copy_from_slice-2.ensures.after c.head-head.ensures.value in
     let few : length old.octets.items < 9 = starts.few in
     let within : c.args.start ≤ length piece = starts.within in
     let faulty : head_fault (head_of (old.octets.items ++ drop c.args.start piece)) old.limit
-    ≡ Some c.in-Some-head_fault.code =
+    ≡ Some c.in-Some.code =
     ap (λ (head : Head). head_fault head old.limit) (sym is_head) ∙ sym c.head_fault.ensures.value
-    ∙ c.in-Some-head_fault.is in
-    let used : c.args.start + (9 - c.len.result) ≡ c.args.start + (9 - length old.octets.items) =
-    omega (arith, c.len.ensures, old.octets.ok.0) in
+    ∙ c.in-Some.is in
+    let used : c.args.start + (9 - c.len-kept.result)
+    ≡ c.args.start + (9 - length old.octets.items) =
+    omega (arith, c.len-kept.ensures, old.octets.ok.0) in
     record {
       invariant =
           rw c.fail.ensures.after (record { within = starts.invariant.within; fits = tt });
       makes = rw (c.fail.ensures.fault, c.fail.ensures.after, used)
-          (fails_head (state_of old) piece c.in-Some-head_fault.code _ starts.sound
-          (fails_at (state_of old) _ piece (faults.HeadFault c.in-Some-head_fault.code)
+          (fails_head (state_of old) piece c.in-Some.code _ starts.sound
+          (fails_at (state_of old) _ piece (faults.HeadFault c.in-Some.code)
           (c.args.start + (9 - length old.octets.items)) refl refl refl refl refl
           (omega (arith, nine, within, length-drop c.args.start piece)) refl
-          (wrong_head (state_of old) piece old.octets.items c.args.start c.in-Some-head_fault.code
+          (wrong_head (state_of old) piece old.octets.items c.args.start c.in-Some.code
           starts.opens few nine faulty)));
     }
 
@@ -76,12 +78,13 @@ take_payload-requires c =
     let old = c.args.self.now in
     let piece = c.args.piece.now in
     let starts = c.requires.starts in
-    let some = c.in-Some.ensures.some in
     let (nine, is_head) =
-    read_head old.octets.items c.deref.result.now piece c.in-Some.octets c.args.start
-    c.head-head.result c.deref.ensures.value some.0 some.1 c.head-head.ensures.value in
+    read_head old.octets.items c.deref.result.now c.args.piece.now _ _ _ c.len-kept.result
+    c.args.start c.head-head.result (omega (arith, c.len-kept.ensures, old.octets.ok.0))
+    c.requires.starts.few (omega (arith, c.if-following-missing.false)) c.deref.ensures.value
+    c.copy_from_slice.ensures.after c.copy_from_slice-2.ensures.after c.head-head.ensures.value in
     let few : length old.octets.items < 9 = starts.few in
-    let sound = sym c.head_fault.ensures.value ∙ c.in_default-head_fault.is in
+    let sound = sym c.head_fault.ensures.value ∙ c.in_default.is in
     let length = length-head_fault c.head-head.result old.limit sound in
     record {
       starts = record {
@@ -103,39 +106,39 @@ take_payload-requires c =
       };
     }
 
-pub returns-in-Some-head_fault-clause-checked : goal.returns-in-Some-head_fault-clause-checked
-returns-in-Some-head_fault-clause-checked c = λ code faulty.
+pub returns-in-Some-clause-checked : goal.returns-in-Some-clause-checked
+returns-in-Some-clause-checked c = λ code faulty.
     let old = c.args.self.now in
-    let some = c.in-Some.ensures.some in
     let is_head =
-    (read_head old.octets.items c.deref.result.now c.args.piece.now c.in-Some.octets
-    c.args.start c.head-head.result c.deref.ensures.value some.0 some.1
-    c.head-head.ensures.value).1 in
-    let reported : head_fault c.head-head.result old.limit ≡ Some c.in-Some-head_fault.code =
-    sym c.head_fault.ensures.value ∙ c.in-Some-head_fault.is in
+    (read_head old.octets.items c.deref.result.now c.args.piece.now _ _ _ c.len-kept.result
+    c.args.start c.head-head.result (omega (arith, c.len-kept.ensures, old.octets.ok.0))
+    c.requires.starts.few (omega (arith, c.if-following-missing.false)) c.deref.ensures.value
+    c.copy_from_slice.ensures.after c.copy_from_slice-2.ensures.after c.head-head.ensures.value).1 in
+    let reported : head_fault c.head-head.result old.limit ≡ Some c.in-Some.code =
+    sym c.head_fault.ensures.value ∙ c.in-Some.is in
     let found : head_fault c.head-head.result old.limit ≡ Some code =
     ap (λ (head : Head). head_fault head old.limit) is_head ∙ faulty.faulty in
-    let same : c.in-Some-head_fault.code ≡ code = one_code _ _ (sym reported ∙ found) in
+    let same : c.in-Some.code ≡ code = one_code _ _ (sym reported ∙ found) in
     rw (c.fail.ensures.fault, same) refl
 
 pub returns-clause-checked : goal.returns-clause-checked
 returns-clause-checked c = λ code faulty.
     let old = c.args.self.now in
-    let some = c.in-Some.ensures.some in
     let is_head =
-    (read_head old.octets.items c.deref.result.now c.args.piece.now c.in-Some.octets
-    c.args.start c.head-head.result c.deref.ensures.value some.0 some.1
-    c.head-head.ensures.value).1 in
+    (read_head old.octets.items c.deref.result.now c.args.piece.now _ _ _ c.len-kept.result
+    c.args.start c.head-head.result (omega (arith, c.len-kept.ensures, old.octets.ok.0))
+    c.requires.starts.few (omega (arith, c.if-following-missing.false)) c.deref.ensures.value
+    c.copy_from_slice.ensures.after c.copy_from_slice-2.ensures.after c.head-head.ensures.value).1 in
     let found : head_fault c.head-head.result old.limit ≡ Some code =
     ap (λ (head : Head). head_fault head old.limit) is_head ∙ faulty.faulty in
-    none_some code (sym (sym c.head_fault.ensures.value ∙ c.in_default-head_fault.is) ∙ found)
+    none_some code (sym (sym c.head_fault.ensures.value ∙ c.in_default.is) ∙ found)
 
 pub returns-clause-lent : goal.returns-clause-lent
 returns-clause-lent c = λ none nine enough.
     let old = c.args.self.now in
-    let some = c.in-Some.ensures.some in
     let is_head =
-    (read_head old.octets.items c.deref.result.now c.args.piece.now c.in-Some.octets
-    c.args.start c.head-head.result c.deref.ensures.value some.0 some.1
-    c.head-head.ensures.value).1 in
+    (read_head old.octets.items c.deref.result.now c.args.piece.now _ _ _ c.len-kept.result
+    c.args.start c.head-head.result (omega (arith, c.len-kept.ensures, old.octets.ok.0))
+    c.requires.starts.few (omega (arith, c.if-following-missing.false)) c.deref.ensures.value
+    c.copy_from_slice.ensures.after c.copy_from_slice-2.ensures.after c.head-head.ensures.value).1 in
     c.take_payload.ensures.lent none (rw (is_head, none) enough)
