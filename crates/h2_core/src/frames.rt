@@ -13,7 +13,7 @@ ghost use Rattle.h2_core.specs.Stops.{FailsBy, IsSmall};
 
 use crate::endpoint::Endpoint;
 use crate::event::Event;
-use crate::receive::{DataFrame, flow_of};
+use crate::receive::DataFrame;
 use crate::step_error::StepError;
 use h2_block::Gathered;
 use h2_frame::limits::MAX_BLOCK;
@@ -56,7 +56,7 @@ impl Endpoint {
         ensures { EndTakesFrame (end_of self.old) (frame_of frame.entry) self.new.list result
             (end_of self.new) }
     {
-        if self.is_too_early(frame) {
+        if !self.started && !matches!(frame, FrameRef::Settings { ack: false, .. }) {
             return Err(self.fail_by(StepError::fault(Code::ProtocolError)));
         }
         if self.gather.is_inside() {
@@ -81,19 +81,6 @@ impl Endpoint {
                 Ok(event) => Ok(event),
                 Err(stop) => Err(self.fail_by(stop)),
             },
-        }
-    }
-
-    /// Whether no frame has come yet, and this one may not be the first (section 3.4).
-    fn is_too_early(&self, frame: FrameRef<'_>) -> bool
-        ensures { result ≡ (not self.now.started && not (may_be_first (frame_of frame.entry))) }
-    {
-        if self.started {
-            return false;
-        }
-        match frame {
-            FrameRef::Settings { ack, .. } => ack,
-            _ => true,
         }
     }
 
@@ -155,12 +142,18 @@ impl Endpoint {
                 end,
                 octets,
                 pad,
-            } => self.take_data(DataFrame {
-                stream,
-                end,
-                octets,
-                flow: flow_of(octets, pad),
-            }),
+            } => {
+                let padding = match pad {
+                    Some(count) => 1 + u32::from(count),
+                    None => 0,
+                };
+                self.take_data(DataFrame {
+                    stream,
+                    end,
+                    octets,
+                    flow: octets.len() as u32 + padding,
+                })
+            }
             FrameRef::Reset { stream, code } => self.take_reset(stream, code),
             FrameRef::Settings { ack: false, pairs } => self.take_settings(pairs),
             FrameRef::Settings { ack: true, .. } => self.take_acknowledgment(),

@@ -18,11 +18,9 @@ use h2_frame::limits::{FIRST_TABLE, FIRST_WINDOW, LEAST_MAX_FRAME};
 use h2_output::Output;
 use h2_spec_log::{Refusal, Role};
 use h2_streams::StreamTable;
+use h2_wire::PREFACE;
 use hpack::{Decoder, Encoder, FieldList};
 use std::alloc::{AllocError, Global};
-
-/// The client's preface (RFC 9113, section 3.4).
-const PREFACE: [u8; 24] = *b"PRI * HTTP/2.0\r\n\r\nSM\r\n\r\n";
 
 /// The octets of the first SETTINGS, at most: a head and five pairs.
 const OPENING_SETTINGS: usize = 39;

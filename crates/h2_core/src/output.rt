@@ -55,10 +55,7 @@ impl Endpoint {
             return Err(Refusal::Memory);
         }
         self.return_before_output();
-        match self.output.put_out(count, out) {
-            Ok(given) => Ok(given),
-            Err(_) => Err(Refusal::Memory),
-        }
+        Ok(self.output.put_out(count, out).unwrap())
     }
 
     /// Whether all that is unreturned is returned before output is put out.

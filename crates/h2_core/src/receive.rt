@@ -5,10 +5,7 @@ ghost use Rattle.std.specs.Prelude.{true, false};
 ghost use Rattle.std.specs.Option.{option_map};
 ghost use Rattle.h2_block.specs.Grouping.{alone};
 ghost use Rattle.h2_frame.specs.Frames.{Reset as ResetFrame, Ping, GoAway as GoAwayFrame};
-ghost use Rattle.h2_frame.specs.Encoding.{payload_of, padded};
-ghost use Rattle.h2_spec_log.specs.ItemRules.{exceeds};
-ghost use Rattle.h2_streams.specs.Streams.{stream_view};
-ghost use Rattle.h2_spec_machine.specs.End.{stream_at};
+ghost use Rattle.h2_frame.specs.Encoding.{payload_of};
 ghost use Rattle.h2_core.specs.Endpoint.{end_of, IsSoundEnd};
 ghost use Rattle.h2_core.specs.Items.{TakesItem, DiscardsData};
 ghost use Rattle.h2_core.specs.DataFrames.{frame_of_data};
@@ -39,8 +36,10 @@ impl Endpoint {
     // rule: 5.1 After the peer has ended a stream DATA is STREAM_CLOSED
     // rule: 5.1 On a closed stream DATA is STREAM_CLOSED (its scope: own)
     // rule: 5.1 What comes on a stream that this end has reset is dropped
+    // rule: 6.1 The complete payload of DATA, padding included, counts for windows
     // rule: 6.9.1 DATA above the connection's window is FLOW_CONTROL_ERROR
     // rule: 6.9.1 DATA above its stream's window is FLOW_CONTROL_ERROR (scope: own)
+    // rule: 6.9.1 DATA of no octets is within any window
     /// DATA (section 6.1): it takes of both windows; on a stream that this end has closed it is
     /// discarded, and on one that is half-closed (remote) it is a stream error.
     pub(crate) fn take_data<'a>(
@@ -58,48 +57,29 @@ impl Endpoint {
         let stream = match self.status(frame.stream) {
             Status::Idle => return Err(StepError::fault(Code::ProtocolError)),
             Status::Closed => return Err(StepError::fault(Code::StreamClosed)),
-            Status::ClosedByUs => None,
-            Status::Active(stream) => Some(stream),
+            Status::ClosedByUs if frame.flow <= self.recv_window => {
+                return self.discard_data(frame.flow);
+            }
+            Status::ClosedByUs => return Err(StepError::fault(Code::FlowControlError)),
+            Status::Active(stream) => stream,
         };
         if frame.flow > self.recv_window {
             return Err(StepError::fault(Code::FlowControlError));
         }
-        let Some(stream) = stream else {
-            return self.discard_data(frame.flow);
-        };
         if stream.state.ended_in {
             let (id, code) = (frame.stream, Code::StreamClosed);
             return self.reset_for_fault(id, Some(stream), code, frame.flow, 0);
         }
-        if exceeds(frame.flow, stream.recv_window) {
+        if frame.flow > 0 && stream.recv_window < i64::from(frame.flow) {
             return Err(StepError::fault(Code::FlowControlError));
         }
-        self.accept_data(frame, stream)
-    }
-
-    // rule: 6.1 The complete payload of DATA, padding included, counts for windows
-    /// DATA within both windows on a stream that is open or half-closed (local).
-    fn accept_data<'a>(
-        &mut self,
-        frame: DataFrame<'a>,
-        stream: Stream,
-    ) -> Result<Option<Event<(), &'a [u8]>>, StepError>
-        requires sound { IsSoundEnd (end_of self.old) }
-        requires up { self.old.failed ≡ None }
-        requires active { stream_at (end_of self.old) frame.stream ≡ Some (stream_view stream) }
-        requires open { stream.state.ended_in ≡ false }
-        requires connection { frame.flow ≤ self.old.recv_window }
-        requires within { exceeds frame.flow stream.recv_window ≡ false }
-        ensures { (pad : Option ℕ)
-            → frame.entry.flow ≡ length (payload_of (frame_of_data frame.entry pad))
-            → TakesItem (end_of self.old) None (alone (frame_of_data frame.entry pad)) self.new.list
-            result (end_of self.new) }
-    {
         let mut changed = stream;
         changed.recv_window -= i64::from(frame.flow);
         changed.owed += frame.flow;
         changed.state.ended_in = frame.end;
-        reserve_if_over(&mut self.output, changed)?;
+        if frame.end {
+            reserve_if_over(&mut self.output, changed)?;
+        }
         self.recv_window -= frame.flow;
         self.update_stream(frame.stream, changed);
         Ok(Some(Event::Data {
@@ -211,25 +191,4 @@ impl Endpoint {
         self.goaway_received = Some(least);
         Ok(Some(Event::GoAway { last: least, code }))
     }
-}
-
-// rule: 6.1 The complete payload of DATA, padding included, counts for windows
-/// What DATA takes of the windows: its octets and, where it has a pad length, that octet and the
-/// padding.
-pub(crate) fn flow_of(octets: &[u8], pad: Option<u8>) -> u32
-    requires { length (padded octets.now pad) < 2 ^ 24 }
-    ensures { result ≡ length (padded octets.now pad) }
-{
-    match pad {
-        Some(count) => 1 + octets.len() as u32 + u32::from(count),
-        None => octets.len() as u32,
-    }
-}
-
-// rule: 6.9.1 DATA of no octets is within any window
-/// Whether DATA of `flow` octets exceeds a window; of none it exceeds none (section 6.9.1).
-fn exceeds(flow: u32, window: i64) -> bool
-    ensures { result ≡ exceeds flow window }
-{
-    flow > 0 && window < i64::from(flow)
 }

@@ -18,13 +18,10 @@ use crate::event::Event;
 use crate::settings_frame::add_settings;
 use crate::step_error::StepError;
 use h2_flow::Settings;
-use h2_frame::limits::{GREATEST_WINDOW, MAX_OUTPUT};
+use h2_frame::limits::{GREATEST_WINDOW, MAX_ENCODER_TABLE, MAX_OUTPUT};
 use h2_frame::{Code, HEAD_LEN, Pairs};
 use h2_spec_log::Role;
 use hpack::Encoder;
-
-/// The greatest dynamic table that this end's encoder uses, in octets (own).
-const MAX_ENCODER_TABLE: u32 = 4_096;
 
 impl Endpoint {
     // contract: 4.3.1 The encoder follows each HEADER_TABLE_SIZE, up to 4,096 (own)

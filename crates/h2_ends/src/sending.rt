@@ -19,12 +19,10 @@ use crate::outgoing::{Outgoing, Stream, Waiting};
 use crate::refusal::EndRefusal;
 use crate::span::Span;
 use h2_conn::{Conn, Refusal};
+use h2_frame::limits::MAX_LIST;
 use h2_message::{Message, Reading, Reads, asks_head, check_request, check_response};
 use h2_spec_log::Role;
 use hpack::{Field, list_size};
-
-/// The largest list of fields that is sent (RFC 9113, section 6.5.2; own).
-const MAX_LIST: usize = 65_536;
 
 /// How sending what waits on a stream goes on.
 enum SendState {
@@ -246,7 +244,7 @@ fn large_trailers(message: &Message) -> Option<&[Field]>
         (trailer_fields (message_value message.now).trailers) ≡ false) }
 {
     match &message.trailers {
-        Some(trailers) if list_size(trailers) > MAX_LIST => Some(trailers),
+        Some(trailers) if list_size(trailers) > MAX_LIST as usize => Some(trailers),
         _ => None,
     }
 }

@@ -131,7 +131,9 @@ impl End {
         let Some(place) = stream.reading.fields(self.conn.list(), end) else {
             return Err(Unread::Malformed);
         };
-        self.forget_if_closed(id, end);
+        if end {
+            self.forget_if_over(id);
+        }
         Ok(place)
     }
 
@@ -174,22 +176,10 @@ impl End {
         if !stream.reading.data(count, end) {
             return false;
         }
-        self.forget_if_closed(id, end);
-        true
-    }
-
-    // rule: 8.1 (own) Something is kept of each active stream, and of no other
-    /// Forgets a stream if its last part has closed it.
-    fn forget_if_closed(&mut self, id: u32, end: bool)
-        ensures conn { self.new.conn ≡ self.old.conn }
-        ensures represents { (values : Values) (happened : EndLog)
-            → RepresentsBut values self.old happened id
-            → (end ≡ false → KeepsActive happened.log (kept_at id self.old.streams.entries) id)
-            → EndRepresents values self.new happened }
-    {
         if end {
             self.forget_if_over(id);
         }
+        true
     }
 
     // rule: 8.1.1 (own) How the connection takes a refusal is what is answered
@@ -232,16 +222,24 @@ pub(crate) fn lend<'a>(end: &'a End, piece: &'a [u8], progress: EndProgress) -> 
     let Some(handed) = progress.handed else {
         return EndTaken { used, event: None };
     };
-    let octets = match handed {
-        EndEvent::Body { bytes, .. } => match end.conn.octets(piece, bytes) {
-            Some(octets) => octets,
+    let event = match handed {
+        EndEvent::Body {
+            id,
+            bytes,
+            end: ended,
+        } => match end.conn.octets(piece, bytes) {
+            Some(bytes) => EndEvent::Body {
+                id,
+                bytes,
+                end: ended,
+            },
             None => unreachable!(),
         },
-        _ => &[],
+        other => other.with_parts(end.conn.list(), &[]),
     };
     EndTaken {
         used,
-        event: Some(handed.with_parts(end.conn.list(), octets)),
+        event: Some(event),
     }
 }
 

@@ -2,9 +2,7 @@
 
 use h2_conn::Role;
 use h2_show::Hint;
-
-/// The client's preface (RFC 9113, section 3.4).
-const PREFACE: &[u8] = b"PRI * HTTP/2.0\r\n\r\nSM\r\n\r\n";
+use h2_wire::PREFACE;
 
 /// What is still to come of the preface that an end expects.
 #[derive(Clone, Copy, Debug)]
@@ -19,7 +17,7 @@ impl Opening {
     pub(crate) fn new(role: Role) -> Opening {
         match role {
             Role::Server => Opening {
-                left: PREFACE,
+                left: &PREFACE,
                 is_new: true,
             },
             Role::Client => Opening {

@@ -27,8 +27,8 @@ pub const MAX_BLOCK: usize = 65_552;
 /// (own; RFC 9113, sections 6.5.2 and 10.5.1): `max_list`.
 pub const MAX_LIST: u32 = 65_536;
 
-/// So many octets of waiting output, or more, refuse an end's own calls (own; RFC 9113, section
-/// 10.5): `full_output`.
+/// So many octets of waiting output, or more, refuse an end's own calls, and no credit is returned
+/// by itself (own; RFC 9113, section 10.5): `full_output`.
 pub const FULL_OUTPUT: usize = 65_536;
 
 /// The waiting output, in octets, that no reply may exceed (own; RFC 9113, section 10.5):
@@ -69,3 +69,7 @@ pub const FIRST_TABLE: u32 = 4_096;
 /// The greatest SETTINGS_HEADER_TABLE_SIZE, in octets, that an end may be configured with (own; RFC
 /// 9113, section 6.5.2): `max_table_limit`.
 pub const MAX_TABLE_LIMIT: u32 = 65_536;
+
+/// The greatest header table, in octets as HPACK counts them, that an end's encoder uses, whatever
+/// its peer allows (own; RFC 7541, section 4.2).
+pub const MAX_ENCODER_TABLE: u32 = 4_096;

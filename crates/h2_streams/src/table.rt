@@ -97,8 +97,8 @@ impl StreamTable {
     {
         let kept = self.active.get(&id)?;
         Some(Stream {
-            send_window: window_of(kept.send_offset, self.send_initial),
-            recv_window: window_of(kept.recv_offset, self.recv_initial),
+            send_window: kept.send_offset + i64::from(self.send_initial),
+            recv_window: kept.recv_offset + i64::from(self.recv_initial),
             owed: kept.owed,
             state: kept.state,
         })
@@ -215,7 +215,7 @@ impl StreamTable {
             ≡ is_above_by_shift self.now.send_initial initial result }
     {
         let offset = greatest_send_offset(&self.active)?;
-        Some(window_of(offset, self.send_initial))
+        Some(offset + i64::from(self.send_initial))
     }
 
     // rule: 5.1 (own) The next active stream is the least above a number
@@ -239,28 +239,12 @@ impl StreamTable {
         ensures near { IsNearKept result }
     {
         Kept {
-            send_offset: offset_of(stream.send_window, self.send_initial),
-            recv_offset: offset_of(stream.recv_window, self.recv_initial),
+            send_offset: stream.send_window - i64::from(self.send_initial),
+            recv_offset: stream.recv_window - i64::from(self.recv_initial),
             owed: stream.owed,
             state: stream.state,
         }
     }
-}
-
-/// The difference of a window from an initial window.
-fn offset_of(window: i64, initial: u32) -> i64
-    requires { is_far window ≡ false }
-    ensures { result ≡ window -ℤ pos initial }
-{
-    window - i64::from(initial)
-}
-
-/// The window with a difference from an initial window.
-fn window_of(offset: i64, initial: u32) -> i64
-    requires { is_far_offset offset ≡ false }
-    ensures { result ≡ offset +ℤ pos initial }
-{
-    offset + i64::from(initial)
 }
 
 /// The greatest difference of the send windows from the initial window, if there are any.
