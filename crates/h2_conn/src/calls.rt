@@ -1,19 +1,17 @@
 //! The calls of a connection.
 
-ghost use Rattle.std.specs.Prelude.{◌≡◌, ◌≢◌, ◌≤◌, ◌+◌, min, length, true, false, vec_len, IfOk};
-ghost use Rattle.std.specs.Prelude.{IsOk, OnErr, Err};
+ghost use Rattle.std.specs.Prelude.{◌≡◌, ◌≢◌, ◌≤◌, length, true, IfOk, Err};
 ghost use Rattle.std.specs.List.{AllByRecursion};
-ghost use Rattle.std.specs.Vec.{vec_capacity};
 ghost use Rattle.hpack_text.specs.Bits.{IsOctet};
 ghost use Rattle.hpack.specs.Written.{AreOctets};
 ghost use Rattle.h2_spec_log.specs.Acts.{Open, SendFields, SendData, Release, ResetStream, Refuse};
-ghost use Rattle.h2_spec_log.specs.Acts.{SendPing, SendGoAway, ChangeSettings, PutOut};
-ghost use Rattle.h2_spec_log.specs.Acts.{Values, Number, Count, Done};
-ghost use Rattle.h2_spec_log.specs.CallRules.{returns_before_put_out, sends_no_data};
-ghost use Rattle.h2_spec_log.specs.Log.{Log, waiting};
+ghost use Rattle.h2_spec_log.specs.Acts.{SendPing, SendGoAway, ChangeSettings, Values, Number};
+ghost use Rattle.h2_spec_log.specs.Acts.{Count, Done};
+ghost use Rattle.h2_spec_log.specs.CallRules.{sends_no_data};
+ghost use Rattle.h2_spec_log.specs.Log.{Log};
 ghost use Rattle.h2_spec_log.specs.LogView.{log_view};
 ghost use Rattle.h2_flow.specs.ConfigValues.{values_of};
-ghost use Rattle.h2_conn.specs.Conn.{ConnAnswers, ConnRepresents, ConnShows, GivesOut, answer_by};
+ghost use Rattle.h2_conn.specs.Conn.{ConnAnswers, ConnRepresents, ConnShows, answer_by};
 
 use crate::conn::Conn;
 use h2_flow::Config;
@@ -169,30 +167,5 @@ impl Conn {
         self.inner.end.change_settings(config)?;
         self.inner.limit_payloads();
         Ok(())
-    }
-
-    // rule: calls (own) Output is given out in order and once
-    /// Appends at most `count` octets of the queued output to `out`, removes them from the queue,
-    /// and returns their number. Where less than 65,536 octets are queued, all that is unreturned
-    /// is returned first. It works after a failure too.
-    ///
-    /// # Errors
-    ///
-    /// [`Refusal::Memory`] (C12). Nothing has changed. It does not come where `out` has the
-    /// capacity, unless something is returned first: while the connection is up, [`Conn::due`] is
-    /// not 0, and less than 65,536 octets are queued. Then it may come even for a `count` of 0.
-    pub fn put_out(&mut self, count: usize, out: &mut Vec<u8>) -> Result<usize, Refusal>
-        ensures answers { ConnAnswers self.old (PutOut count)
-            (answer_by (λ given. Count given) result) self.new }
-        ensures ok { IfOk result (λ given. GivesOut self.old count given out.old.items
-            out.new.items) }
-        ensures err { OnErr result (out.new.items ≡ out.old.items) }
-
-        // Where nothing is returned first, the capacity of `out` is enough.
-        ensures room { (values : Values) (log : Log) → ConnRepresents values self.old log
-            → returns_before_put_out (log_view log) ≡ false
-            → vec_len out.old + min count (waiting log) ≤ vec_capacity out.old → IsOk result }
-    {
-        self.inner.end.put_out(count, out)
     }
 }

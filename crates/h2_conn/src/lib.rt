@@ -16,5 +16,8 @@ mod taking;
 pub use conn::Conn;
 pub use h2_core::Event;
 pub use h2_flow::{BadConfig, Config};
+pub use h2_frame::Code;
 pub use h2_spec_log::{Refusal, Role};
+pub use h2_wire::Complete;
+pub use hpack::FieldList;
 pub use taken::{ConnFault, Progress, Taken};

@@ -1,12 +1,16 @@
-//! The queued output, lent, and the number of octets used. None of it takes memory.
+//! The queued output, lent and given out.
 
-ghost use Rattle.std.specs.Prelude.{◌≡◌, ◌++◌, drop, length};
-ghost use Rattle.h2_wire.specs.Cutter.{saturated};
-ghost use Rattle.h2_spec_log.specs.Acts.{Values};
-ghost use Rattle.h2_spec_log.specs.Log.{Log};
-ghost use Rattle.h2_conn.specs.Conn.{ConnRepresents};
+ghost use Rattle.std.specs.Prelude.{◌≡◌, ◌≤◌, ◌+◌, ◌++◌, drop, min, false, vec_len, IfOk, IsOk};
+ghost use Rattle.std.specs.Prelude.{OnErr};
+ghost use Rattle.std.specs.Vec.{vec_capacity};
+ghost use Rattle.h2_spec_log.specs.Acts.{Values, PutOut, Count};
+ghost use Rattle.h2_spec_log.specs.CallRules.{returns_before_put_out};
+ghost use Rattle.h2_spec_log.specs.Log.{Log, waiting};
+ghost use Rattle.h2_spec_log.specs.LogView.{log_view};
+ghost use Rattle.h2_conn.specs.Conn.{ConnAnswers, ConnRepresents, GivesOut, answer_by};
 
 use crate::conn::Conn;
+use h2_spec_log::Refusal;
 
 impl Conn {
     // contract: calls (own) An end lends its output, and says the place of a fault
@@ -20,13 +24,28 @@ impl Conn {
         self.inner.end.waiting_octets()
     }
 
-    // rule: calls (own) An end lends its output, and says the place of a fault
-    /// The number of octets of input that were used; the greatest number of 64 bits where it is
-    /// more than that. After a fault of the peer the octet that made it is the last one of them.
-    pub fn place(&self) -> u64
-        ensures { (values : Values) (log : Log) → ConnRepresents values self.now log
-            → result ≡ saturated (length log.input) }
+    // rule: calls (own) Output is given out in order and once
+    /// Appends at most `count` octets of the queued output to `out`, removes them from the queue,
+    /// and returns their number. Where less than 65,536 octets are queued, all that is unreturned
+    /// is returned first. It works after a failure too.
+    ///
+    /// # Errors
+    ///
+    /// [`Refusal::Memory`] (C12). Nothing has changed. It does not come where `out` has the
+    /// capacity, unless something is returned first: while the connection is up, [`Conn::due`] is
+    /// not 0, and less than 65,536 octets are queued. Then it may come even for a `count` of 0.
+    pub fn put_out(&mut self, count: usize, out: &mut Vec<u8>) -> Result<usize, Refusal>
+        ensures answers { ConnAnswers self.old (PutOut count)
+            (answer_by (λ given. Count given) result) self.new }
+        ensures ok { IfOk result (λ given. GivesOut self.old count given out.old.items
+            out.new.items) }
+        ensures err { OnErr result (out.new.items ≡ out.old.items) }
+
+        // Where nothing is returned first, the capacity of `out` is enough.
+        ensures room { (values : Values) (log : Log) → ConnRepresents values self.old log
+            → returns_before_put_out (log_view log) ≡ false
+            → vec_len out.old + min count (waiting log) ≤ vec_capacity out.old → IsOk result }
     {
-        self.inner.cutter.place()
+        self.inner.end.put_out(count, out)
     }
 }

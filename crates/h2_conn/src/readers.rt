@@ -1,6 +1,7 @@
 //! The readers of a connection. None of them takes memory.
 
-ghost use Rattle.std.specs.Prelude.{◌≡◌, ◌≤◌, ◌<◌, Bool, IfSome};
+ghost use Rattle.std.specs.Prelude.{◌≡◌, ◌≤◌, ◌<◌, Bool, IfSome, length};
+ghost use Rattle.h2_wire.specs.Cutter.{saturated};
 ghost use Rattle.hpack.specs.Written.{AreOctets};
 ghost use Rattle.h2_spec_log.specs.Acts.{Values, Open};
 ghost use Rattle.h2_spec_log.specs.Log.{Log, active, waiting, reader_held, reader_next_live};
@@ -119,5 +120,15 @@ impl Conn {
         ensures octets { AreOctets fields.now }
     {
         self.inner.end.refusal_to_open(fields)
+    }
+
+    // rule: calls (own) An end lends its output, and says the place of a fault
+    /// The number of octets of input that were used; the greatest number of 64 bits where it is
+    /// more than that. After a fault of the peer the octet that made it is the last one of them.
+    pub fn place(&self) -> u64
+        ensures { (values : Values) (log : Log) → ConnRepresents values self.now log
+            → result ≡ saturated (length log.input) }
+    {
+        self.inner.cutter.place()
     }
 }

@@ -1,6 +1,6 @@
 //! Calls that send messages: field blocks and DATA (RFC 9113, sections 6.1, 6.2 and 8.1).
 
-ghost use Rattle.std.specs.Prelude.{◌≡◌, ℕ, ◌+◌, ◌-◌, ◌*◌, ◌/◌, ◌≤◌, ◌<◌, ◌^◌, ◌==◌, Bool, List};
+ghost use Rattle.std.specs.Prelude.{◌≡◌, ◌+◌, ◌-◌, ◌*◌, ◌/◌, ◌≤◌, ◌<◌, ◌^◌, ◌==◌, Bool, List};
 ghost use Rattle.std.specs.Prelude.{[], ◌∷◌, pos, ◌-ℤ◌, not, ◌&&◌, length, None, ◌≢◌, true};
 ghost use Rattle.std.specs.Prelude.{Err, IsSome};
 ghost use Rattle.std.specs.Prelude.{Some, false, is_some, ◌||◌, ◌++◌, IfOk, IfErr, OnOk, OnErr};

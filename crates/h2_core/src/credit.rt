@@ -1,15 +1,13 @@
-//! Credit that is returned to the peer (RFC 9113, section 6.9), and failing (section 5.4.1).
+//! Credit that is returned to the peer (RFC 9113, section 6.9).
 
-ghost use Rattle.std.specs.Prelude.{◌≡◌, ◌+◌, ◌≤◌, ◌<◌, ◌^◌, Some, None, nat_lt, length, true};
+ghost use Rattle.std.specs.Prelude.{◌≡◌, ◌+◌, ◌≤◌, ◌<◌, ◌^◌, None, length, true};
 ghost use Rattle.h2_spec_log.specs.CallRules.{returns_credit};
-ghost use Rattle.h2_spec_machine.specs.Machine.{return_credit, add_unreturned, fail};
-ghost use Rattle.h2_spec_machine.specs.End.{End};
-ghost use Rattle.h2_core.specs.Endpoint.{end_of, IsSoundEnd};
-ghost use Rattle.h2_core.specs.Failure.{FailsAlike};
+ghost use Rattle.h2_spec_machine.specs.Machine.{return_credit, add_unreturned};
+ghost use Rattle.h2_core.specs.Endpoint.{end_of};
 
 use crate::endpoint::Endpoint;
+use h2_frame::FrameRef;
 use h2_frame::limits::FULL_OUTPUT;
-use h2_frame::{Code, FrameRef};
 
 impl Endpoint {
     // rule: 6.9 Nothing of the window of the connection is lost
@@ -45,26 +43,5 @@ impl Endpoint {
         if more > 0 && self.output.len() < FULL_OUTPUT {
             self.return_credit();
         }
-    }
-
-    // rule: 5.4.1 A connection error is answered by GOAWAY, and nothing is sent after
-    /// The connection fails: GOAWAY follows the queued output. It takes no memory.
-    pub(crate) fn fail(&mut self, code: Code, last: u32)
-        requires up { self.old.failed ≡ None }
-        requires number { last < 2 ^ 31 }
-        ensures { end_of self.new ≡ fail code last (end_of self.old) }
-    {
-        self.failed = Some(code);
-        self.output.end_with_goaway(last, code.number());
-    }
-
-    // contract: 5.4.1 A connection error is answered by GOAWAY, and nothing is sent after
-    /// The cutter has met a fault, or memory was refused to it: the connection fails with the code.
-    pub fn fail_with(&mut self, code: Code)
-        requires sound { IsSoundEnd (end_of self.old) }
-        requires up { self.old.failed ≡ None }
-        ensures { end_of self.new ≡ fail code self.old.last_processed (end_of self.old) }
-    {
-        self.fail(code, self.last_processed);
     }
 }

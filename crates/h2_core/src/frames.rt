@@ -2,14 +2,12 @@
 //! sections 3.4 and 6.10).
 
 ghost use Rattle.std.specs.Prelude.{◌≡◌, None, true, false, not, ◌&&◌};
-ghost use Rattle.h2_spec_log.specs.ItemRules.{may_be_first};
 ghost use Rattle.h2_frame.specs.Frames.{frame_of};
 ghost use Rattle.h2_frame.specs.Encoding.{refusal};
 ghost use Rattle.h2_block.specs.Grouping.{alone, is_standalone};
 ghost use Rattle.h2_core.specs.Endpoint.{end_of, IsSoundEnd};
 ghost use Rattle.h2_core.specs.Frames.{EndTakesFrame, IsStarted};
 ghost use Rattle.h2_core.specs.Items.{TakesItem};
-ghost use Rattle.h2_core.specs.Stops.{FailsBy, IsSmall};
 
 use crate::endpoint::Endpoint;
 use crate::event::Event;
@@ -168,21 +166,5 @@ impl Endpoint {
             | FrameRef::Priority { .. }
             | FrameRef::Unknown { .. } => Ok(None),
         }
-    }
-
-    // rule: 5.4.1 A connection error is answered by GOAWAY, and nothing is sent after
-    /// Fails the connection for this cause, and returns the code.
-    pub(crate) fn fail_by(&mut self, stop: StepError) -> Code
-        requires sound { IsSoundEnd (end_of self.old) }
-        requires up { self.old.failed ≡ None }
-        requires opened { IsSmall stop }
-        ensures { FailsBy (end_of self.old) stop result (end_of self.new) }
-    {
-        let (code, last) = match stop {
-            StepError::Fault { code, opened } => (code, opened.max(self.last_processed)),
-            StepError::OutOfMemory => (Code::InternalError, self.last_processed),
-        };
-        self.fail(code, last);
-        code
     }
 }

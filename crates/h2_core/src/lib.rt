@@ -9,6 +9,7 @@ mod control_calls;
 mod credit;
 mod endpoint;
 mod event;
+mod failing;
 mod frames;
 mod new;
 mod output;

@@ -2,7 +2,6 @@
 
 ghost use Rattle.std.specs.Prelude.{◌≡◌, ◌≤◌, ◌<◌, ◌^◌, ℕ, List, length, Option, None, Some};
 ghost use Rattle.std.specs.Prelude.{true, false};
-ghost use Rattle.std.specs.Option.{option_map};
 ghost use Rattle.h2_block.specs.Grouping.{alone};
 ghost use Rattle.h2_frame.specs.Frames.{Reset as ResetFrame, Ping, GoAway as GoAwayFrame};
 ghost use Rattle.h2_frame.specs.Encoding.{payload_of};
@@ -17,7 +16,6 @@ use crate::step_error::StepError;
 use crate::stream_steps::{reserve_credit, reserve_if_over};
 use h2_frame::limits::MAX_OUTPUT;
 use h2_frame::{Code, FrameRef};
-use h2_streams::Stream;
 
 /// The octets of PING.
 const PING: usize = 17;

@@ -5,7 +5,6 @@ ghost use Rattle.std.specs.Prelude.{true};
 ghost use Rattle.h2_streams.specs.Streams.{stream_view};
 ghost use Rattle.h2_spec_machine.specs.End.{stream_at};
 ghost use Rattle.h2_spec_machine.specs.Machine.{is_fresh, new_stream};
-ghost use Rattle.std.specs.Option.{option_map};
 ghost use Rattle.h2_core.specs.Endpoint.{end_of, IsSoundEnd};
 ghost use Rattle.h2_core.specs.Blocks.{TakesBlock, TakesDecoded, decode_fault_code};
 

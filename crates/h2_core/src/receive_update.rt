@@ -1,8 +1,7 @@
 //! WINDOW_UPDATE that is received (RFC 9113, section 6.9), and stream errors (section 5.4.2).
 
-ghost use Rattle.std.specs.Prelude.{◌≡◌, ◌||◌, ◌+◌, ◌<◌, ◌^◌, nat_le, nat_lt, None, Some};
+ghost use Rattle.std.specs.Prelude.{◌≡◌, ◌||◌, ◌+◌, ◌<◌, ◌^◌, None, Some};
 ghost use Rattle.std.specs.Prelude.{◌≤◌};
-ghost use Rattle.std.specs.Prelude.{length};
 ghost use Rattle.std.specs.Option.{option_map};
 ghost use Rattle.h2_block.specs.Grouping.{alone};
 ghost use Rattle.h2_frame.specs.Frames.{WindowUpdate};

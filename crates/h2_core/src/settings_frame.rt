@@ -7,7 +7,7 @@ ghost use Rattle.h2_frame.specs.Encoding.{encoding_of, pair_octets};
 ghost use Rattle.h2_flow.specs.ConfigValues.{values_of};
 ghost use Rattle.h2_spec_log.specs.Acts.{ChangeSettings};
 ghost use Rattle.h2_spec_log.specs.CallRules.{opening_pairs, changed_pairs};
-ghost use Rattle.h2_core.specs.Endpoint.{end_of, IsSoundEnd};
+ghost use Rattle.h2_core.specs.Endpoint.{end_of};
 ghost use Rattle.h2_core.specs.Calls.{CallRefused, CallAccepted};
 
 use crate::endpoint::Endpoint;

@@ -1,20 +1,22 @@
 //! Taking octets at a client and at a server: what is handed out is lent.
 
-ghost use Rattle.std.specs.Prelude.{◌≢◌, ◌≤◌, length, IfOk, IfErr};
+ghost use Rattle.std.specs.Prelude.{◌≡◌, ◌≢◌, ◌≤◌, ℕ, List, length, IfOk, IfErr, Ok};
 ghost use Rattle.std.specs.Borrow.{sem};
 ghost use Rattle.std.specs.Io.BufRead.{Rests};
 ghost use Rattle.h2_frame.specs.declared.code.Code.TheVariants.{InternalError};
 ghost use Rattle.h2_spec_log.specs.Acts.{Values};
 ghost use Rattle.h2_ends.specs.Ends.{EndLog};
 ghost use Rattle.h2_ends.specs.EndTakes.{EndNeedsNoMemory};
+ghost use Rattle.h2_ends.specs.Loans.{BodyLiesIn, IsBodyIn, answer_handed, answer_of_taken};
 ghost use Rattle.h2_ends.specs.Represents.{EndRepresents, EndTakes};
 ghost use Rattle.h2_ends.specs.contracts.client.Client.{the_row as client_row};
 ghost use Rattle.h2_ends.specs.contracts.server.Server.{the_row as server_row};
 
 use crate::client::Client;
-use crate::event::EndTaken;
+use crate::end::End;
+use crate::event::{EndEvent, EndTaken};
 use crate::server::Server;
-use crate::taking::lend;
+use crate::taking::EndProgress;
 use h2_conn::ConnFault;
 
 impl Client {
@@ -81,5 +83,38 @@ impl Server {
     {
         let progress = self.end.advance(piece)?;
         Ok(lend(&self.end, piece, progress))
+    }
+}
+
+// rule: 8.1 (own) What is handed out of a stream is what was reported, in order
+/// Lends the fields, or the octets, of what was handed out of this piece.
+fn lend<'a>(end: &'a End, piece: &'a [u8], progress: EndProgress) -> EndTaken<'a>
+    requires lies { BodyLiesIn end.now piece.now progress.handed }
+    ensures { (octets : List ℕ) × IsBodyIn end.now piece.now octets progress.handed
+        × (answer_of_taken (Ok result)
+        ≡ answer_handed end.now.conn.inner.end.list octets (Ok progress)) }
+{
+    let used = progress.used;
+    let Some(handed) = progress.handed else {
+        return EndTaken { used, event: None };
+    };
+    let event = match handed {
+        EndEvent::Body {
+            id,
+            bytes,
+            end: ended,
+        } => match end.conn.octets(piece, bytes) {
+            Some(bytes) => EndEvent::Body {
+                id,
+                bytes,
+                end: ended,
+            },
+            None => unreachable!(),
+        },
+        other => other.with_parts(end.conn.list(), &[]),
+    };
+    EndTaken {
+        used,
+        event: Some(event),
     }
 }

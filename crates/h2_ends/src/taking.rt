@@ -7,14 +7,13 @@ ghost use Rattle.h2_message.specs.Reading.{FieldsPart, OctetsPart};
 ghost use Rattle.h2_ends.specs.Ends.{EndLog};
 ghost use Rattle.h2_ends.specs.EndTakes.{end_with_log};
 ghost use Rattle.h2_ends.specs.Loans.{BodyLiesIn, BodyLiesThere, IsBodyIn, IsBodyHanded};
-ghost use Rattle.h2_ends.specs.Loans.{answer_of_taken, answer_handed, located_at};
-ghost use Rattle.h2_ends.specs.Represents.{EndAdvances, EndRepresents, RepresentsBut};
-ghost use Rattle.h2_ends.specs.Represents.{KeepsActive, kept_at};
+ghost use Rattle.h2_ends.specs.Loans.{located_at};
+ghost use Rattle.h2_ends.specs.Represents.{EndAdvances, kept_at};
 ghost use Rattle.h2_ends.specs.Taking.{IsReadOn, MustRefuse, ReadsFields, ReadsData, code_unread};
 ghost use Rattle.h2_ends.specs.Taking.{AnswersRefusal, IsResetBy, LiesHere, EndHands};
 
 use crate::end::End;
-use crate::event::{EndEvent, EndTaken};
+use crate::event::EndEvent;
 use crate::outgoing::{Outgoing, Stream};
 use h2_conn::{ConnFault, Event};
 use h2_frame::Code;
@@ -207,39 +206,6 @@ impl End {
                 ours: true,
             }),
         }
-    }
-}
-
-// rule: 8.1 (own) What is handed out of a stream is what was reported, in order
-/// Lends the fields, or the octets, of what was handed out of this piece.
-pub(crate) fn lend<'a>(end: &'a End, piece: &'a [u8], progress: EndProgress) -> EndTaken<'a>
-    requires lies { BodyLiesIn end.now piece.now progress.handed }
-    ensures { (octets : List ℕ) × IsBodyIn end.now piece.now octets progress.handed
-        × (answer_of_taken (Ok result)
-        ≡ answer_handed end.now.conn.inner.end.list octets (Ok progress)) }
-{
-    let used = progress.used;
-    let Some(handed) = progress.handed else {
-        return EndTaken { used, event: None };
-    };
-    let event = match handed {
-        EndEvent::Body {
-            id,
-            bytes,
-            end: ended,
-        } => match end.conn.octets(piece, bytes) {
-            Some(bytes) => EndEvent::Body {
-                id,
-                bytes,
-                end: ended,
-            },
-            None => unreachable!(),
-        },
-        other => other.with_parts(end.conn.list(), &[]),
-    };
-    EndTaken {
-        used,
-        event: Some(event),
     }
 }
 

@@ -10,8 +10,8 @@ use Rattle.h2_joined.specs.declared.act.Side.{Side}
 use Rattle.h2_joined.specs.declared.act.Acted.TheVariants.{Done}
 use Rattle.h2_joined.specs.Joints.{Calls, JointEnd, Made}
 
--- Both ends are quiet, both pipes are empty, and the last delivery to either end has not stopped:
--- so all that was received was handed out.
+-- Both ends are quiet, both pipes are empty, and the last delivery to either end has not stopped
+-- before all its octets were used.
 -- rule: joined (own) Two joined ends are quiet where both are, and both pipes are empty
 pub record AreQuiet (client server : JointEnd) : Type 0 where
   pub quiet_client : IsQuietEnd client.happened

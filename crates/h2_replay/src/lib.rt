@@ -16,6 +16,7 @@ mod waiting;
 
 pub use acts::Act;
 pub use h2_conn::{Config, Event, Refusal, Role};
+pub use hpack::Field;
 pub use laws::{
     calls_of_a_replay, events_of_a_replay, fault_of_a_replay, output_of_a_replay,
     turns_are_of_the_log, windows_of_a_replay,

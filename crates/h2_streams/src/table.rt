@@ -1,6 +1,6 @@
 //! The table of streams.
 
-ghost use Rattle.std.specs.Prelude.{◌≡◌, ◌^◌, ◌<◌, ℕ, pos, ◌+ℤ◌, ◌-ℤ◌, false, None, Some, IsSome};
+ghost use Rattle.std.specs.Prelude.{◌≡◌, ◌^◌, ◌<◌, ℕ, false, None, Some, IsSome};
 ghost use Rattle.std.specs.Prelude.{IfSome, OnOk, OnErr};
 ghost use Rattle.std.specs.Option.{option_map};
 ghost use Rattle.std.specs.FinMap as map;
@@ -9,7 +9,7 @@ ghost use Rattle.h2_spec_machine.specs.Machine.{each_entry, shifted_entry, recv_
 ghost use Rattle.h2_spec_machine.specs.Machine.{first_active};
 ghost use Rattle.h2_streams.specs.Streams.{stream_view, entry_value, is_far, is_above_by_shift};
 ghost use Rattle.h2_streams.specs.Streams.{number_or_none};
-ghost use Rattle.h2_streams.specs.Table.{view_of_kept, is_far_offset, IsNearKept};
+ghost use Rattle.h2_streams.specs.Table.{view_of_kept, IsNearKept};
 ghost use Rattle.h2_streams.specs.Table.{greater_of, IsGreatestOffset};
 
 use crate::entry::{Entry, Stream};

@@ -1,8 +1,8 @@
 //! What a cutter keeps between calls.
 
-ghost use Rattle.std.specs.Prelude.{◌≡◌, ◌≢◌, ◌+◌, ◌<◌, ◌≤◌, ◌++◌, [], length, take, drop, vec_len};
+ghost use Rattle.std.specs.Prelude.{◌≡◌, ◌≢◌, ◌+◌, ◌<◌, ◌≤◌, ◌++◌, [], length, take, drop};
 ghost use Rattle.std.specs.Prelude.{IfSome};
-ghost use Rattle.std.specs.Prelude.{IfNone, IfErr, OnOk, IsOk, None, Some, not, true, false};
+ghost use Rattle.std.specs.Prelude.{IfErr, OnOk, IsOk, None, Some, not, true, false};
 ghost use Rattle.h2_frame.specs.declared.code.Code.{Code as AnyCode};
 ghost use Rattle.h2_frame.specs.Heads.{head_of, form_fault};
 ghost use Rattle.h2_wire.specs.Cutter.{saturated, IsFaultyHead, FaultsAtHead, BeginsWithFrame};
@@ -179,8 +179,8 @@ impl Buffer {
     {
         let following = &piece[start..];
         let kept = self.octets.len();
-        let missing = HEAD_LEN - kept;
-        if following.len() < missing {
+        let lacking = HEAD_LEN - kept;
+        if following.len() < lacking {
             self.append(following)?;
             self.pass(Phase::Head, piece.len());
             return Ok(Advance {
@@ -190,10 +190,10 @@ impl Buffer {
         }
         let mut octets = [0; HEAD_LEN];
         octets[..kept].copy_from_slice(&self.octets);
-        octets[kept..].copy_from_slice(&following[..missing]);
+        octets[kept..].copy_from_slice(&following[..lacking]);
         let head = head(&octets);
         if let Some(code) = head_fault(&head, self.limit) {
-            return Err(self.fail(WireFault::HeadFault(code), start + missing));
+            return Err(self.fail(WireFault::HeadFault(code), start + lacking));
         }
         self.take_payload(piece, start, head)
     }

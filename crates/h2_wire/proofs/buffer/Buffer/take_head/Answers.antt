@@ -15,8 +15,8 @@ use Rattle.h2_wire.proofs.ReadingLemmas.{none_some, one_code}
 use Rattle.h2_wire.proofs.StepLemmas.{wrong_head, limit_ahead}
 use Rattle.h2_wire.proofs.buffer.Buffer.take_head.Goals as goal
 
-pub returns-then-following-missing-clause-takes : goal.returns-then-following-missing-clause-takes
-returns-then-following-missing-clause-takes c =
+pub returns-then-following-lacking-clause-takes : goal.returns-then-following-lacking-clause-takes
+returns-then-following-lacking-clause-takes c =
     let old = c.args.self.now in
     let piece = c.args.piece.now in
     let following : take (length piece - c.args.start) (drop c.args.start piece)
@@ -24,7 +24,7 @@ returns-then-following-missing-clause-takes c =
     let items = rw following at c.in_ok-append.ensures.ok in
     let limit = ap (λ (b : Buffer). b.limit) c.in_ok-append.ensures.same in
     let greatest = ap (λ (b : Buffer). b.greatest) c.in_ok-append.ensures.same in
-    let missing = rw following at c.if-following-missing.true in
+    let missing = rw following at c.if-following-lacking.true in
     let few : length old.octets.items + length (drop c.args.start piece) < 9 =
     omega (arith, missing, c.len-kept.ensures, old.octets.ok.0) in
     let short : length (old.octets.items ++ drop c.args.start piece) < 9 = rw length-append few in
@@ -50,7 +50,7 @@ returns-in-Some-clause-takes c =
     let (nine, is_head) =
     read_head old.octets.items c.deref.result.now c.args.piece.now _ _ _ c.len-kept.result
     c.args.start c.head-head.result (omega (arith, c.len-kept.ensures, old.octets.ok.0))
-    c.requires.starts.few (omega (arith, c.if-following-missing.false)) c.deref.ensures.value
+    c.requires.starts.few (omega (arith, c.if-following-lacking.false)) c.deref.ensures.value
     c.copy_from_slice.ensures.after c.copy_from_slice-2.ensures.after c.head-head.ensures.value in
     let few : length old.octets.items < 9 = starts.few in
     let within : c.args.start ≤ length piece = starts.within in
@@ -81,7 +81,7 @@ take_payload-requires c =
     let (nine, is_head) =
     read_head old.octets.items c.deref.result.now c.args.piece.now _ _ _ c.len-kept.result
     c.args.start c.head-head.result (omega (arith, c.len-kept.ensures, old.octets.ok.0))
-    c.requires.starts.few (omega (arith, c.if-following-missing.false)) c.deref.ensures.value
+    c.requires.starts.few (omega (arith, c.if-following-lacking.false)) c.deref.ensures.value
     c.copy_from_slice.ensures.after c.copy_from_slice-2.ensures.after c.head-head.ensures.value in
     let few : length old.octets.items < 9 = starts.few in
     let sound = sym c.head_fault.ensures.value ∙ c.in_default.is in
@@ -112,7 +112,7 @@ returns-in-Some-clause-checked c = λ code faulty.
     let is_head =
     (read_head old.octets.items c.deref.result.now c.args.piece.now _ _ _ c.len-kept.result
     c.args.start c.head-head.result (omega (arith, c.len-kept.ensures, old.octets.ok.0))
-    c.requires.starts.few (omega (arith, c.if-following-missing.false)) c.deref.ensures.value
+    c.requires.starts.few (omega (arith, c.if-following-lacking.false)) c.deref.ensures.value
     c.copy_from_slice.ensures.after c.copy_from_slice-2.ensures.after c.head-head.ensures.value).1 in
     let reported : head_fault c.head-head.result old.limit ≡ Some c.in-Some.code =
     sym c.head_fault.ensures.value ∙ c.in-Some.is in
@@ -127,7 +127,7 @@ returns-clause-checked c = λ code faulty.
     let is_head =
     (read_head old.octets.items c.deref.result.now c.args.piece.now _ _ _ c.len-kept.result
     c.args.start c.head-head.result (omega (arith, c.len-kept.ensures, old.octets.ok.0))
-    c.requires.starts.few (omega (arith, c.if-following-missing.false)) c.deref.ensures.value
+    c.requires.starts.few (omega (arith, c.if-following-lacking.false)) c.deref.ensures.value
     c.copy_from_slice.ensures.after c.copy_from_slice-2.ensures.after c.head-head.ensures.value).1 in
     let found : head_fault c.head-head.result old.limit ≡ Some code =
     ap (λ (head : Head). head_fault head old.limit) is_head ∙ faulty.faulty in
@@ -139,6 +139,6 @@ returns-clause-lent c = λ none nine enough.
     let is_head =
     (read_head old.octets.items c.deref.result.now c.args.piece.now _ _ _ c.len-kept.result
     c.args.start c.head-head.result (omega (arith, c.len-kept.ensures, old.octets.ok.0))
-    c.requires.starts.few (omega (arith, c.if-following-missing.false)) c.deref.ensures.value
+    c.requires.starts.few (omega (arith, c.if-following-lacking.false)) c.deref.ensures.value
     c.copy_from_slice.ensures.after c.copy_from_slice-2.ensures.after c.head-head.ensures.value).1 in
     c.take_payload.ensures.lent none (rw (is_head, none) enough)

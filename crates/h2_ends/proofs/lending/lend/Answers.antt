@@ -7,8 +7,8 @@ use Rattle.h2_ends.specs.declared.event.EndEvent.TheVariants as events
 use Rattle.h2_wire.specs.Cutter.{body_at}
 use Rattle.h2_wire.specs.declared.cut.Complete.{Complete}
 use Rattle.std.specs.Borrow.{Bor}
-use Rattle.h2_ends.proofs.taking.lend.Goals.{in-Body+in-Some-octets, in_default-handed}
-use Rattle.h2_ends.proofs.taking.lend.Goals as goal
+use Rattle.h2_ends.proofs.lending.lend.Goals.{in-Body+in-Some-octets, in_default-handed}
+use Rattle.h2_ends.proofs.lending.lend.Goals as goal
 
 -- An event is lent with the fields that are kept, and the octets of its body, if it is one.
 lent_as : (end : End) (piece : List ℕ) (fields : Bor (List Field)) (octets : Bor (List ℕ))
