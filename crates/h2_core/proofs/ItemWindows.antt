@@ -1,7 +1,8 @@
 -- Windows of streams in the numbers that the code keeps them in: what is near zero doesn't wrap.
 use Rattle.h2_core.proofs.Names.{◌≡◌, ℕ, ◌<◌, ◌^◌, Bool, false, ℤ, pos, ◌+ℤ◌, ◌-ℤ◌, arith}
 use Rattle.h2_core.proofs.Names.{nat_tests, ints, greatest_window, overflows_by, exceeds, is_far}
-use Rattle.std.proofs.Common.{int_lt, FitsSigned, to_z, of_z, w64}
+use lib.Signed.{mag}
+use Rattle.std.proofs.Common.{int_lt, FitsSigned, to_z, of_z, w64, true, ◌≤◌}
 
 -- A window is itself.
 pub kept_is : (window : ℤ) → is_far window ≡ false → to_z w64 (of_z w64 window) ≡ window
@@ -56,3 +57,20 @@ narrowed_is window less flow near is small = grind (arith, ints)
 pub narrowed_near : (window : ℤ) (flow : ℕ) → is_far window ≡ false
     → exceeds flow window ≡ false → is_far (window -ℤ pos flow) ≡ false
 narrowed_near window flow near within = grind (arith, ints, nat_tests)
+
+-- Whether DATA exceeds a window, by the two questions that are asked.
+pub exceeds_asked : (flow : ℕ) (window from : ℤ) → is_far window ≡ false → from ≡ pos flow
+    → mag from < 2 ^ 63 → 0 < flow
+    → int_lt (to_z w64 (of_z w64 window)) (to_z w64 (of_z w64 from)) ≡ true
+    → exceeds flow window ≡ true
+exceeds_asked flow window from near is fits some below =
+    let small : flow < 2 ^ 63 = rw is at fits in grind (arith, ints, nat_tests)
+
+pub within_asked : (flow : ℕ) (window from : ℤ) → is_far window ≡ false → from ≡ pos flow
+    → mag from < 2 ^ 63 → int_lt (to_z w64 (of_z w64 window)) (to_z w64 (of_z w64 from)) ≡ false
+    → exceeds flow window ≡ false
+within_asked flow window from near is fits above =
+    let small : flow < 2 ^ 63 = rw is at fits in grind (arith, ints, nat_tests)
+
+pub none_exceeds : (flow : ℕ) (window : ℤ) → flow ≤ 0 → exceeds flow window ≡ false
+none_exceeds flow window none = grind (arith, nat_tests)

@@ -54,7 +54,11 @@ impl Endpoint {
         ensures { EndTakesFrame (end_of self.old) (frame_of frame.entry) self.new.list result
             (end_of self.new) }
     {
-        if !self.started && !matches!(frame, FrameRef::Settings { ack: false, .. }) {
+        let may_be_first = match frame {
+            FrameRef::Settings { ack, .. } => !ack,
+            _ => false,
+        };
+        if !self.started && !may_be_first {
             return Err(self.fail_by(StepError::fault(Code::ProtocolError)));
         }
         if self.gather.is_inside() {

@@ -75,9 +75,7 @@ impl Endpoint {
         changed.recv_window -= i64::from(frame.flow);
         changed.owed += frame.flow;
         changed.state.ended_in = frame.end;
-        if frame.end {
-            reserve_if_over(&mut self.output, changed)?;
-        }
+        reserve_if_over(&mut self.output, changed)?;
         self.recv_window -= frame.flow;
         self.update_stream(frame.stream, changed);
         Ok(Some(Event::Data {

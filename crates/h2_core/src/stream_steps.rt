@@ -53,7 +53,7 @@ impl Endpoint {
             ≡ update_stream (end_of self.old) id (stream_view stream) }
         ensures list { self.new.list ≡ self.old.list }
     {
-        if stream.state.closed() {
+        if stream.state.ended_in && stream.state.ended_out {
             self.streams.close(id);
             self.active_count -= 1;
             self.add_unreturned(stream.owed);
@@ -116,7 +116,7 @@ pub(crate) fn reserve_if_over(output: &mut Output, stream: Stream) -> Result<(),
     ensures err { OnErr result ((both_ended stream.state ≡ true)
         × (returns_credit stream.owed (length output.old.waiting) ≡ true)) }
 {
-    if stream.state.closed() {
+    if stream.state.ended_in && stream.state.ended_out {
         reserve_credit(output, stream.owed)?;
     }
     Ok(())

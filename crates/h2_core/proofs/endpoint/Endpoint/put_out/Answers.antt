@@ -1,28 +1,27 @@
 -- The vector has the capacity for all that is put out before anything is changed.
 use Rattle.h2_core.proofs.Names.{◌≡◌, refl, if◌then◌else◌, ◌++◌, take, returns_before_put_out}
 use Rattle.h2_core.proofs.Names.{end_view, before_put_out_at, end_of}
-use Rattle.std.proofs.lemmas.Bool.{false≢true}
 use Rattle.h2_core.proofs.OwnOutput.{without_error, waiting_ready, given_out}
-use Rattle.h2_core.proofs.endpoint.Endpoint.put_out.Goals.{In-Err, then-returns_before_output}
+use Rattle.h2_core.proofs.endpoint.Endpoint.put_out.Goals.{then-returns_before_output}
 use Rattle.h2_core.proofs.endpoint.Endpoint.put_out.Goals.{else-returns_before_output}
 use Rattle.h2_core.proofs.endpoint.Endpoint.put_out.Goals as goal
 
-pub returns-in-Ok-clause-ok : goal.returns-in-Ok-clause-ok
-returns-in-Ok-clause-ok c =
+pub returns-clause-ok : goal.returns-clause-ok
+returns-clause-ok c =
     let e = end_of c.args.self.now in
     let ready = end_of c.return_before_output.new.self in
     let is : ready ≡ before_put_out_at e =
     rw c.reserve-else-is_err.ensures.waiting at c.return_before_output.ensures in
-    let put = c.in-Ok.ensures.ok in
+    let put = rw c.unwrap.ensures at c.put_out.ensures.ok in
     let octets : c.put_out.new.out.items
-    ≡ c.args.out.now.items ++ take c.in-Ok.given ready.output.waiting =
+    ≡ c.args.out.now.items ++ take c.unwrap.result ready.output.waiting =
     rw (← c.reserve.ensures.items) put.1 in
     rw put.2
-    (given_out e ready _ c.args.count c.in-Ok.given _ _ is put.0 octets refl)
+    (given_out e ready _ c.args.count c.unwrap.result _ _ is put.0 octets refl)
 
 -- No memory is refused later, since the vector has the capacity for all that is queued by then.
-never_later : (c : In-Err) → ⊥
-never_later c =
+pub unwrap-requires : goal.unwrap-requires
+unwrap-requires c =
     let e = end_of c.args.self.now in
     let ready = end_of c.return_before_output.new.self in
     let is : ready ≡ before_put_out_at e =
@@ -35,19 +34,4 @@ never_later c =
     ] in
     let room = without_error c.reserve.result c.if-is_err.ensures.value c.reserve.ensures.ok in
     let wait = waiting_ready e ready c.len.result _ is c.len.ensures update in
-    false≢true (c.in-Err.ensures.room (rw wait (rw c.min-given.ensures at room)))
-
-pub returns-in-Err-clause-err : goal.returns-in-Err-clause-err
-returns-in-Err-clause-err c = absurd (never_later (goal.at.returns-in-Err-clause-err c).In-Err)
-
-pub returns-in-Err-clause-nothing : goal.returns-in-Err-clause-nothing
-returns-in-Err-clause-nothing c = λ none few.
-    absurd (never_later (goal.at.returns-in-Err-clause-nothing c).In-Err)
-
-pub returns-in-Err-clause-room : goal.returns-in-Err-clause-room
-returns-in-Err-clause-room c = λ none capacity.
-    absurd (never_later (goal.at.returns-in-Err-clause-room c).In-Err)
-
-pub returns-in-Err-clause-due : goal.returns-in-Err-clause-due
-returns-in-Err-clause-due c = λ spare capacity.
-    absurd (never_later (goal.at.returns-in-Err-clause-due c).In-Err)
+    c.put_out.ensures.room (rw wait (rw c.min-given.ensures at room))

@@ -1,18 +1,12 @@
-use Rattle.h2_core.proofs.Names.{◌≡◌, ◌≤◌, length, true, ap, inl, inr, arith, frame_of, FrameRef}
+use Rattle.std.proofs.lemmas.List.{length-replicate}
+use Rattle.std.proofs.Common.{length-append, replicate, ℕ, List, Some}
+use Rattle.h2_core.proofs.Names.{◌≡◌, ◌≤◌, ◌+◌, length, true, ap, inl, inr, arith, frame_of, FrameRef}
 use Rattle.h2_core.proofs.Names.{end_of}
 use Rattle.h2_frame.specs.Encoding.{payload_of, padded}
 use Rattle.h2_core.proofs.FrameWritable.{writable, data_number, update_number, update_increment}
 use Rattle.h2_core.proofs.FrameWritable.{is_quiet, quiet_taken}
+use Rattle.h2_core.proofs.endpoint.Endpoint.take_alone.Goals.{Joined-pad, in-Some, in-None}
 use Rattle.h2_core.proofs.endpoint.Endpoint.take_alone.Goals as goal
-
-pub flow_of-requires : goal.flow_of-requires
-unfolding payload_of
-flow_of-requires c =
-    let good = writable (frame_of c.args.frame) c.requires.good in
-    let within : length (payload_of (frame_of c.args.frame)) ≤ 16777215 = good.payload in
-    let short : length (padded c.in-Data.octets.now c.in-Data.pad) ≤ 16777215 =
-    rw c.in-Data.is at within in
-    omega (arith, short)
 
 pub take_data-requires-clause-number : goal.take_data-requires-clause-number
 take_data-requires-clause-number c =
@@ -45,6 +39,40 @@ returns-in-Headers c =
     ] in
     quiet_taken (end_of c.args.self.now) (frame_of c.args.frame) c.args.self.now.list quiet
 
-pub returns-in-Data : goal.returns-in-Data
+flow_with : (count : ℕ) (octets : List ℕ)
+    → length octets + (1 + count) ≡ length (padded octets (Some count))
+flow_with count octets =
+    omega (
+      arith,
+      length-append octets (replicate {A = ℕ} count 0),
+      length-replicate {A = ℕ} count 0,
+    )
+
+-- What DATA takes of the windows is its payload.
+counted : (c : Joined-pad) → length c.in-Data.octets.now + c.match-pad.padding
+    ≡ length (padded c.in-Data.octets.now c.in-Data.pad)
+counted c = elim c.match-pad.branch [
+  | in-Some w ↦ rw (w.padding-is, w.from.ensures, w.in-Some.is) (flow_with _ c.in-Data.octets.now)
+  | in-None w ↦ rw (w.padding-is, w.in-None.is) (omega arith)
+]
+
+short : (c : Joined-pad) → length (padded c.in-Data.octets.now c.in-Data.pad) ≤ 16777215
 unfolding payload_of
-returns-in-Data c = rw c.in-Data.is (c.take_data.ensures c.in-Data.pad c.flow_of.ensures)
+short c =
+    let good = writable (frame_of c.args.frame) c.requires.good in
+    let within : length (payload_of (frame_of c.args.frame)) ≤ 16777215 = good.payload in
+    rw c.in-Data.is at within
+
+pub overflow_cast-octets : goal.overflow_cast-octets
+overflow_cast-octets c =
+    let at = (goal.at.overflow_cast-octets c).Joined-pad in omega (arith, counted at, short at)
+
+pub overflow_add-octets : goal.overflow_add-octets
+overflow_add-octets c =
+    let at = (goal.at.overflow_add-octets c).Joined-pad in omega (arith, counted at, short at)
+
+pub returns-after-pad : goal.returns-after-pad
+unfolding payload_of
+returns-after-pad c =
+    rw c.in-Data.is
+    (c.take_data.ensures c.in-Data.pad (counted (goal.at.returns-after-pad c).Joined-pad))

@@ -1,6 +1,6 @@
 -- A stream that is over is removed; what was set of it before doesn't count.
-use Rattle.h2_core.proofs.Names.{◌-◌, sym, ap, ◌∙◌, End, add_unreturned, stream_view, TableState}
-use Rattle.h2_core.proofs.Names.{end_of}
+use Rattle.h2_core.proofs.Names.{◌-◌, refl, sym, ap, ◌∙◌, End, add_unreturned, stream_view}
+use Rattle.h2_core.proofs.Names.{TableState, end_of}
 use Rattle.h2_core.proofs.StepEnds.{with_table}
 use Rattle.h2_core.proofs.StepStreams.{updated-over}
 use Rattle.h2_core.proofs.endpoint.Endpoint.update_stream.Goals as goal
@@ -11,10 +11,11 @@ with_one_less e = record e {
   streams = record e.streams { active_count = e.streams.active_count - 1 };
 }
 
-pub returns-then-closed-clause-after : goal.returns-then-closed-clause-after
-returns-then-closed-clause-after c =
+pub returns-then-stream-2-clause-after : goal.returns-then-stream-2-clause-after
+returns-then-stream-2-clause-after c =
     let e = end_of c.args.self.now in
     c.add_unreturned.ensures.after
     ∙ ap (λ (table : TableState). add_unreturned c.args.stream.owed
     (with_table (with_one_less e) table)) c.close.ensures
-    ∙ sym (updated-over e c.args.id (stream_view c.args.stream) (sym c.if-closed.ensures))
+    ∙ sym (updated-over e c.args.id (stream_view c.args.stream)
+    (rw (c.if-stream.true, c.if-stream-2.true) refl))
