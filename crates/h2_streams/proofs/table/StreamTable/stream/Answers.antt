@@ -1,4 +1,4 @@
-use Rattle.std.proofs.Common.{◌≡◌, ◌^◌, ◌<◌, sym, rules}
+use Rattle.std.proofs.Common.{◌^◌, ◌<◌, sym, rules}
 use Rattle.h2_streams.proofs.KeptEntries.{stream_kept, near_found}
 use Rattle.h2_streams.proofs.Offsets.{window_is}
 use Rattle.h2_streams.specs.Table.{IsNearKept}
@@ -22,6 +22,12 @@ returns c =
     (sym c.in_ok-kept.ensures.value) in
     let send_small : t.send_initial < 2 ^ 32 = search rules in
     let recv_small : t.recv_initial < 2 ^ 32 = search rules in
-    rw (← c.self.view_is, e, ← c.in_ok-kept.ensures.value, c.from.ensures, c.from-2.ensures,
-    window_is kept.send_offset t.send_initial near.0 send_small,
-    window_is kept.recv_offset t.recv_initial near.1 recv_small)
+    rw (
+      ← c.self.view_is,
+      e,
+      ← c.in_ok-kept.ensures.value,
+      c.from.ensures,
+      c.from-2.ensures,
+      window_is kept.send_offset t.send_initial near.0 send_small,
+      window_is kept.recv_offset t.recv_initial near.1 recv_small,
+    )
