@@ -1,5 +1,5 @@
 -- The least active number above another, in the table of streams.
-use Rattle.std.proofs.Common.{◌≡◌, ◌≢◌, ℕ, zero, suc, ◌+◌, ◌<◌, ◌≤◌, Bool, true, false, cond}
+use Rattle.std.proofs.Common.{◌≡◌, ◌≢◌, ℕ, zero, suc, ◌+◌, ◌-◌, ◌%◌, ◌^◌, ◌<◌, ◌≤◌, Bool, true, false}
 use Rattle.std.proofs.Common.{List, [], ◌∷◌, length, min, nat_eq, nat_lt, nat_le, Option, Some, None}
 use Rattle.std.proofs.Common.{IsSome, refl, sym, ap, ◌∙◌, arith}
 use Rattle.std.specs.FinMap as map
@@ -13,7 +13,7 @@ use Rattle.std.proofs.lemmas.Map.Entries.{place_from_lookup, hash_map_get_place}
 use Rattle.h2_spec_machine.specs.End.{StreamEntry, active_entry, reset_entry, StreamMap}
 use Rattle.h2_spec_machine.specs.Machine.{first_active, is_active_entry}
 use Rattle.h2_streams.specs.Streams.{number_or_none}
-use Rattle.h2_streams.specs.Table.{view_of_kept, active_at, is_reset, IsKeptWell, lesser_above}
+use Rattle.h2_streams.specs.Table.{view_of_kept, active_at, is_reset, IsKeptWell}
 use Rattle.h2_streams.specs.Table.{IsLeastAbove}
 use Rattle.h2_streams.specs.declared.table.Kept.{Kept}
 use Rattle.h2_streams.proofs.KeptEntries.{entry_at, get_kept}
@@ -79,17 +79,14 @@ none_is_first send recv above entries numbers none =
     (λ there. let k = first_kept send recv above entries numbers there in
     absurd (both_ways false refl (rw (none (first_active above (map.entries m)) k.1) at k.0)))
 
--- the least number above another among the first of the numbers
+-- what is known of the first of the numbers: `least` is how far the least above another is past the
+-- next one, or, where none is, how far the greatest number would be, and one more
 pub record LeastBefore (n above : ℕ) (numbers : List ℕ) (least : ℕ) : Type 0 where
-  pub most : (i q : ℕ) → i < n → slice_get numbers i ≡ Some q → above < q → least ≤ q
-  pub higher : above < least
-  pub place : ℕ
-  pub found : slice_get numbers place ≡ Some least
-
-abbrev pub IsLeastBefore : (n above : ℕ) → List ℕ → Option ℕ → Type 0
-IsLeastBefore n above numbers None =
-    (i q : ℕ) → i < n → slice_get numbers i ≡ Some q → q ≤ above
-IsLeastBefore n above numbers (Some least) = LeastBefore n above numbers least
+  pub small : (i q : ℕ) → i < n → slice_get numbers i ≡ Some q → q < 2 ^ 32
+  pub most : (i q : ℕ) → i < n → slice_get numbers i ≡ Some q → above < q → above + 1 + least ≤ q
+  pub within : least + above < 2 ^ 32
+  pub found : least + above + 1 < 2 ^ 32 → (place : ℕ) × (slice_get numbers place ≡ Some (above + 1
+      + least))
 
 -- A place below the next one is below this one, or it is this one.
 below_or_here : (P : ℕ → Type 0) (n i number q : ℕ) (numbers : List ℕ)
@@ -105,81 +102,89 @@ below_or_here P n i number q numbers below here this less at = go (nat_lt i n) r
         let one : number ≡ q = cc in
         rw (← one) this
 
--- One more that isn't above the number changes nothing.
-skipped : (n above number : ℕ) (numbers : List ℕ) (least : Option ℕ) → number ≤ above
-    → IsLeastBefore n above numbers least → slice_get numbers n ≡ Some number
-    → IsLeastBefore (n + 1) above numbers least
-skipped n above number numbers None low before here =
-    λ i q less at. below_or_here (λ r. r ≤ above) n i number q numbers before here low less at
-skipped n above number numbers (Some least) low before here = record {
-  most = λ i q less at. below_or_here (λ r. above < r → least ≤ r) n i number q numbers before.most
-      here (λ high. absurd (omega (arith, low, high))) less at;
-  higher = before.higher;
-  place = before.place;
+-- One more number, where the least stays.
+stays : (n above number least : ℕ) (numbers : List ℕ) → number < 2 ^ 32
+    → (above < number → above + 1 + least ≤ number) → LeastBefore n above numbers least
+    → slice_get numbers n ≡ Some number → LeastBefore (n + 1) above numbers least
+stays n above number least numbers small most before here = record {
+  small = λ i q less at. below_or_here (λ r. r < 2 ^ 32) n i number q numbers before.small here
+      small less at;
+  most = λ i q less at. below_or_here (λ r. above < r → above + 1 + least ≤ r) n i number q numbers
+      before.most here most less at;
+  within = before.within;
   found = before.found;
 }
 
--- the lesser of two numbers, of which there may be but one
-abbrev lesser_of : Option ℕ → ℕ → Option ℕ
-lesser_of None number = Some number
-lesser_of (Some least) number = Some (min least number)
-
--- One more that is above the number is the least, or the one before is.
-counted : (n above number : ℕ) (numbers : List ℕ) (least : Option ℕ) → above < number
-    → IsLeastBefore n above numbers least → slice_get numbers n ≡ Some number
-    → IsLeastBefore (n + 1) above numbers (lesser_of least number)
-counted n above number numbers None high before here = record {
-  most = λ i q less at. below_or_here (λ r. above < r → number ≤ r) n i number q numbers
-      (λ j r below found more. absurd (omega (arith, before j r below found, more))) here
-      (λ more. omega arith) less at;
-  higher = high;
-  place = n;
-  found = here;
+-- One more number, which is less than the least.
+moves : (n above number least new : ℕ) (numbers : List ℕ) → number < 2 ^ 32
+    → above + 1 + new ≡ number → new < least → LeastBefore n above numbers least
+    → slice_get numbers n ≡ Some number → LeastBefore (n + 1) above numbers new
+moves n above number least new numbers small same less_than before here = record {
+  small = λ i q less at. below_or_here (λ r. r < 2 ^ 32) n i number q numbers before.small here
+      small less at;
+  most = λ i q less at. below_or_here (λ r. above < r → above + 1 + new ≤ r) n i number q numbers
+      (λ j r below found high. let most = before.most j r below found high in
+      omega (arith, most, less_than)) here (λ high. omega (arith, same)) less at;
+  within = omega (arith, same, small);
+  found = λ more. (n, here ∙ ap (λ (q : ℕ). Some q) (sym same));
 }
-counted n above number numbers (Some least) high before here = go (nat_le least number) refl
-  where
-    go : (b : Bool) → nat_le least number ≡ b
-        → IsLeastBefore (n + 1) above numbers (Some (min least number))
-    go true is =
-        let low : least ≤ number = leb-true least number is in
-        let same : min least number ≡ least = omega (arith, low) in
-        rw (same) (record {
-          most = λ i q less at. below_or_here (λ r. above < r → least ≤ r) n i number q numbers
-              before.most here (λ more. low) less at;
-          higher = before.higher;
-          place = before.place;
-          found = before.found;
-        })
-    go false is =
-        let low : number < least = leb-false least number is in
-        let same : min least number ≡ number = omega (arith, low) in
-        rw (same) (record {
-          most = λ i q less at. below_or_here (λ r. above < r → number ≤ r) n i number q numbers
-              (λ j r below found more. let most = before.most j r below found more in
-              omega (arith, most, low)) here (λ more. omega arith) less at;
-          higher = high;
-          place = n;
-          found = here;
-        })
 
--- One more among the numbers, by whether it is above the number.
-more_by : (n above number : ℕ) (numbers : List ℕ) (least : Option ℕ) (b : Bool)
-    → nat_le number above ≡ b → IsLeastBefore n above numbers least
-    → slice_get numbers n ≡ Some number
-    → IsLeastBefore (n + 1) above numbers (cond b least (lesser_of least number))
-more_by n above number numbers least true is before here =
-    skipped n above number numbers least (leb-true number above is) before here
-more_by n above number numbers least false is before here =
-    counted n above number numbers least (leb-false number above is) before here
+-- A number above another wraps to how far it is past the next one.
+wraps : (above number : ℕ) → above < number → number < 2 ^ 32
+    → (number + (2 ^ 32 - 1 - above)) % 2 ^ 32 ≡ number - above - 1
+wraps above number high small = omega (arith, high, small)
+
+-- A number that isn't above another doesn't wrap.
+doesn't_wrap : (above number : ℕ) → number ≤ above → above < 2 ^ 32
+    → (number + (2 ^ 32 - 1 - above)) % 2 ^ 32 ≡ number + (2 ^ 32 - 1 - above)
+doesn't_wrap above number low small = omega (arith, low, small)
+
+-- One more number, by whether it is above the other, and what it wraps to less than the least.
+more_by : (n above number least : ℕ) (numbers : List ℕ) (b c : Bool) → above < 2 ^ 32
+    → number < 2 ^ 32 → nat_lt above number ≡ b
+    → nat_le least ((number + (2 ^ 32 - 1 - above)) % 2 ^ 32) ≡ c
+    → LeastBefore n above numbers least → slice_get numbers n ≡ Some number
+    → LeastBefore (n + 1) above numbers (min least ((number + (2 ^ 32 - 1 - above)) % 2 ^ 32))
+more_by n above number least numbers true true fits small is by before here =
+    let high : above < number = ltb-true above number is in
+    let low = leb-true least ((number + (2 ^ 32 - 1 - above)) % 2 ^ 32) by in
+    let same : min least ((number + (2 ^ 32 - 1 - above)) % 2 ^ 32) ≡ least = omega (arith, low) in
+    let most : above + 1 + least ≤ number = omega (arith, low, wraps above number high small) in
+    rw (same) (stays n above number least numbers small (λ _. most) before here)
+more_by n above number least numbers true false fits small is by before here =
+    let high : above < number = ltb-true above number is in
+    let low = leb-false least ((number + (2 ^ 32 - 1 - above)) % 2 ^ 32) by in
+    let wrapped = wraps above number high small in
+    let same : min least ((number + (2 ^ 32 - 1 - above)) % 2 ^ 32) ≡ number - above - 1 =
+    omega (arith, low, wrapped) in
+    let less : number - above - 1 < least = omega (arith, low, wrapped) in
+    rw (same) (moves n above number least (number - above - 1) numbers small (omega (arith, high))
+    less before here)
+more_by n above number least numbers false c fits small is by before here =
+    let low : number ≤ above = ltb-false above number is in
+    let within = before.within in
+    let same : min least ((number + (2 ^ 32 - 1 - above)) % 2 ^ 32) ≡ least =
+    omega (arith, low, within, doesn't_wrap above number low fits) in
+    rw (same) (stays n above number least numbers small (λ high. absurd (omega (arith, low, high)))
+    before here)
 
 -- One more among the numbers.
-pub least_more : (n above number : ℕ) (numbers : List ℕ) (least : Option ℕ)
-    → IsLeastBefore n above numbers least → slice_get numbers n ≡ Some number
-    → IsLeastBefore (n + 1) above numbers (lesser_above above least number)
-least_more n above number numbers None before here =
-    more_by n above number numbers None (nat_le number above) refl before here
-least_more n above number numbers (Some least) before here =
-    more_by n above number numbers (Some least) (nat_le number above) refl before here
+pub least_more : (n above number least : ℕ) (numbers : List ℕ) → above < 2 ^ 32 → number < 2 ^ 32
+    → LeastBefore n above numbers least → slice_get numbers n ≡ Some number
+    → LeastBefore (n + 1) above numbers (min least ((number + (2 ^ 32 - 1 - above)) % 2 ^ 32))
+least_more n above number least numbers fits small before here =
+    more_by n above number least numbers (nat_lt above number)
+    (nat_le least ((number + (2 ^ 32 - 1 - above)) % 2 ^ 32)) fits small refl refl before here
+
+-- Of no numbers, none is above another.
+pub least_at_first : (above : ℕ) (numbers : List ℕ) → above < 2 ^ 32
+    → LeastBefore 0 above numbers (2 ^ 32 - 1 - above)
+least_at_first above numbers fits = record {
+  small = λ i q less at. absurd (omega (arith, less));
+  most = λ i q less at. absurd (omega (arith, less));
+  within = omega (arith, fits);
+  found = λ more. absurd (omega (arith, more, fits));
+}
 
 -- A place among entries is one among their keys.
 key_at : (entries : List (ℕ × Kept)) (i : ℕ)
@@ -222,21 +227,28 @@ none_by : (x : Option Kept) → (IsSome x → ⊥) → x ≡ None
 none_by None never = refl
 none_by (Some kept) never = absurd (never refl)
 
+-- Where the least isn't below what is left above a number, none is above it.
+pub none_of_all : (entries : List (ℕ × Kept)) (n above least : ℕ)
+    → n ≡ length (keys_of entries) → LeastBefore n above (keys_of entries) least
+    → 2 ^ 32 - 1 - above ≤ least → IsLeastAbove above entries None
+none_of_all entries n above least all before over = λ q high. none_by (active_at q entries)
+    (λ some. let place = key_place q entries (active_at q entries) refl some in
+    let most = before.most place.0 q (omega (arith, all, place.1)) place.2 high in
+    let small = before.small place.0 q (omega (arith, all, place.1)) place.2 in
+    omega (arith, most, small, over))
+
 -- The least number above another among all that is kept.
-pub least_of_all : {S : Type 0} (table : HashMap ℕ Kept S) (n above : ℕ) (least : Option ℕ)
+pub least_of_all : {S : Type 0} (table : HashMap ℕ Kept S) (n above least : ℕ)
     → IsUnique nat_eq table → n ≡ length (keys_of table.entries)
-    → IsLeastBefore n above (keys_of table.entries) least
-    → IsLeastAbove above table.entries least
-least_of_all table n above None unique all before =
-    λ q high. none_by (active_at q table.entries)
-    (λ some. let place = key_place q table.entries (active_at q table.entries) refl some in
-    let low = before place.0 q (omega (arith, all, place.1)) place.2 in
-    omega (arith, low, high))
-least_of_all table n above (Some least) unique all before =
-    let last = entry_from (slice_get table.entries before.place) least
-    (sym (key_at table.entries before.place) ∙ before.found) in (
-      before.higher,
-      ap is_some (hash_map_get_place nat_eq_equiv table before.place least last.0 unique last.1),
+    → LeastBefore n above (keys_of table.entries) least → least < 2 ^ 32 - 1 - above
+    → IsLeastAbove above table.entries (Some (above + 1 + least))
+least_of_all table n above least unique all before less =
+    let place = before.found (omega (arith, less)) in
+    let last = entry_from (slice_get table.entries place.0) (above + 1 + least)
+    (sym (key_at table.entries place.0) ∙ place.1) in (
+      omega arith,
+      ap is_some (hash_map_get_place nat_eq_equiv table place.0 (above + 1 + least) last.0 unique
+          last.1),
       λ q high some.
           let place = key_place q table.entries (active_at q table.entries) refl some in
           before.most place.0 q (omega (arith, all, place.1)) place.2 high,

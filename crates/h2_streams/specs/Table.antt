@@ -1,6 +1,6 @@
 -- The table of streams as a value, and how its parts make it.
-use Rattle.std.specs.Prelude.{ℕ, ◌^◌, ◌||◌, ◌≡◌, ◌<◌, ◌≤◌, Bool, false, cond, min, ℤ, pos, ◌+ℤ◌}
-use Rattle.std.specs.Prelude.{◌-ℤ◌, ◌≤ℤ◌, int_lt, nat_eq, nat_le, List, [], ◌∷◌, map as each, Option}
+use Rattle.std.specs.Prelude.{ℕ, ◌^◌, ◌||◌, ◌≡◌, ◌<◌, ◌≤◌, Bool, false, ℤ, pos, ◌+ℤ◌}
+use Rattle.std.specs.Prelude.{◌-ℤ◌, ◌≤ℤ◌, int_lt, nat_eq, List, [], ◌∷◌, map as each, Option}
 use Rattle.std.specs.Prelude.{Some, None, IsSome, IfSome}
 use Rattle.std.specs.Int.{int_max}
 use Rattle.std.specs.List.{list_any}
@@ -78,13 +78,6 @@ pub record IsGreatestOf (entries : List (ℕ × Kept)) (offset : ℤ) : Type 0 w
 abbrev pub IsGreatestOffset : List (ℕ × Kept) → Option ℤ → Type 0
 IsGreatestOffset entries None = entries ≡ []
 IsGreatestOffset entries (Some offset) = IsGreatestOf entries offset
-
--- the lesser of two numbers, of which there may be but one, where the second counts only if it is
--- above another
-abbrev pub lesser_above : (above : ℕ) → Option ℕ → ℕ → Option ℕ
-lesser_above above None number = cond (nat_le number above) None (Some number)
-lesser_above above (Some least) number = cond (nat_le number above) (Some least) (Some (min least
-    number))
 
 -- the least number above another among what is kept, if there is any
 abbrev pub IsLeastAbove : (above : ℕ) → List (ℕ × Kept) → Option ℕ → Type 0

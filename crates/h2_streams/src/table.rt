@@ -10,8 +10,7 @@ ghost use Rattle.h2_spec_machine.specs.Machine.{first_active};
 ghost use Rattle.h2_streams.specs.Streams.{stream_view, entry_value, is_far, is_above_by_shift};
 ghost use Rattle.h2_streams.specs.Streams.{number_or_none};
 ghost use Rattle.h2_streams.specs.Table.{view_of_kept, is_far_offset, IsNearKept};
-ghost use Rattle.h2_streams.specs.Table.{greater_of, IsGreatestOffset};
-ghost use Rattle.h2_streams.specs.Table.{lesser_above, IsLeastAbove};
+ghost use Rattle.h2_streams.specs.Table.{greater_of, IsGreatestOffset, IsLeastAbove};
 
 use crate::entry::{Entry, Stream};
 use h2_flow::StreamState;
@@ -268,27 +267,19 @@ fn greater_of(greatest: Option<i64>, offset: i64) -> i64
     }
 }
 
-/// The least active number above another, if there are any.
+/// The least active number above another, if there are any. Those above it wrap to less than
+/// `rest`, in their order, and no others do: so a turn is a sum and a minimum.
 fn least_above(active: &HashMap<u32, Kept>, above: u32) -> Option<u32>
     ensures { IsLeastAbove above active.now.entries result }
 {
-    let mut least = None;
+    let rest = u32::MAX - above;
+    let mut least = rest;
     for number in active.keys() {
-        least = lesser_above(above, least, *number);
+        least = least.min(number.wrapping_add(rest));
     }
-    least
-}
-
-/// The lesser of two numbers, of which there may be but one, where the second counts only if it is
-/// above another.
-fn lesser_above(above: u32, least: Option<u32>, number: u32) -> Option<u32>
-    ensures { result ≡ lesser_above above least number }
-{
-    if number <= above {
-        return least;
-    }
-    match least {
-        Some(other) => Some(other.min(number)),
-        None => Some(number),
+    if least < rest {
+        Some(above + 1 + least)
+    } else {
+        None
     }
 }
