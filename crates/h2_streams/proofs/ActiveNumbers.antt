@@ -8,7 +8,7 @@ use Rattle.std.specs.HashMap.{HashMap, IsUnique}
 use Rattle.std.specs.List.{slice_get}
 use Rattle.std.specs.Map.{keys_of}
 use Rattle.std.specs.Option.{option_map, is_some}
-use Rattle.std.proofs.lemmas.Bool.{both_ways, ltb-true, ltb-false, leb-true, leb-false, eqb-true}
+use Rattle.std.proofs.lemmas.Bool.{both_ways, ltb-true, ltb-false, leb-true, leb-false, eqb-true, eqb-false}
 use Rattle.std.proofs.lemmas.Map.Entries.{place_from_lookup, hash_map_get_place}
 use Rattle.h2_spec_machine.specs.End.{StreamEntry, active_entry, reset_entry, StreamMap}
 use Rattle.h2_spec_machine.specs.Machine.{first_active, is_active_entry}
@@ -253,6 +253,27 @@ least_of_all table n above least unique all before less =
           let place = key_place q table.entries (active_at q table.entries) refl some in
           before.most place.0 q (omega (arith, all, place.1)) place.2 high,
     )
+
+-- The next number is the least above one, if it is active.
+pub first_is_least : (above first : ℕ) (entries : List (ℕ × Kept)) → first ≡ above + 1
+    → is_some (active_at first entries) ≡ true → IsLeastAbove above entries (Some first)
+first_is_least above first entries is some =
+    (omega (arith, is), some, λ q high _. omega (arith, is, high))
+
+-- The one after the next is the least above one, if it is active and the next isn't.
+pub second_is_least : (above first second : ℕ) (entries : List (ℕ × Kept)) → first ≡ above + 1
+    → second ≡ first + 1 → is_some (active_at first entries) ≡ false
+    → is_some (active_at second entries) ≡ true → IsLeastAbove above entries (Some second)
+second_is_least above first second entries is then_is none some =
+    (omega (arith, is, then_is), some, λ q high there. go q high there (nat_eq q first) refl)
+  where
+    go : (q : ℕ) → above < q → IsSome (active_at q entries) → (b : Bool) → nat_eq q first ≡ b
+        → second ≤ q
+    go q high there true same =
+        let one : q ≡ first = eqb-true q first same in
+        absurd (both_ways (is_some (active_at first entries)) none (rw (one) at there))
+    go q high there false same =
+        let other = eqb-false q first same in omega (arith, is, then_is, high, other)
 
 -- The least number above another is the first active one.
 pub least_first : (send recv above : ℕ) (entries : List (ℕ × Kept)) (numbers : List ℕ)

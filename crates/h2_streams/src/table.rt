@@ -218,13 +218,17 @@ impl StreamTable {
     }
 
     // rule: 5.1 (own) The next active stream is the least above a number
-    /// The least active number above another. It goes over all active streams, and takes no memory.
+    /// The least active number above another. Where that isn't one of the next two, it goes over all
+    /// active streams. It takes no memory.
     pub fn next_active(&self, above: u32) -> Option<u32>
         ensures number { number_or_none result
             ≡ first_active above (map.entries self.now.entries) }
         ensures above { IfSome result (λ number. above < number) }
     {
-        least_above(&self.active, above)
+        match next_but_one(&self.active, above) {
+            Some(number) => Some(number),
+            None => least_above(&self.active, above),
+        }
     }
 
     /// How a stream is kept.
@@ -265,6 +269,22 @@ fn greater_of(greatest: Option<i64>, offset: i64) -> i64
         Some(other) => other.max(offset),
         None => offset,
     }
+}
+
+/// The next number or the one after it, if it is active. An end numbers its streams in twos, so it
+/// mostly is while none of them has ended.
+fn next_but_one(active: &HashMap<u32, Kept>, above: u32) -> Option<u32>
+    ensures { IfSome result (λ number. IsLeastAbove above active.now.entries (Some number)) }
+{
+    let first = above.checked_add(1)?;
+    if active.contains_key(&first) {
+        return Some(first);
+    }
+    let second = first.checked_add(1)?;
+    if active.contains_key(&second) {
+        return Some(second);
+    }
+    None
 }
 
 /// The least active number above another, if there are any. Those above it wrap to less than
