@@ -1,18 +1,20 @@
 -- The least active number above another, in the table of streams.
-use Rattle.std.proofs.Common.{◌≡◌, ◌≢◌, ℕ, zero, suc, ◌≤◌, ◌<◌, Bool, true, false, List, Option}
-use Rattle.std.proofs.Common.{[], ◌∷◌, Some, None, IsSome, Ordering, Less, Equal, Greater, refl}
-use Rattle.std.proofs.Common.{sym, ap, ◌∙◌, arith}
+use Rattle.std.proofs.Common.{◌≡◌, ◌≢◌, ℕ, zero, suc, ◌+◌, ◌-◌, ◌%◌, ◌^◌, ◌<◌, ◌≤◌, Bool, true, false}
+use Rattle.std.proofs.Common.{List, [], ◌∷◌, length, min, nat_eq, nat_lt, nat_le, Option, Some, None}
+use Rattle.std.proofs.Common.{IsSome, refl, sym, ap, ◌∙◌, arith}
 use Rattle.std.specs.FinMap as map
-use Rattle.std.specs.Ordering.{nat_cmp, is_gt}
-use Rattle.std.specs.Cmp.{ranked}
-use Rattle.std.specs.BTreeMap.{BTreeMap}
-use Rattle.std.specs.BTreeMap.Range.{IsRangeOf}
-use Rattle.std.specs.declared.ops.Bound.TheVariants.{Excluded, Unbounded}
-use Rattle.std.specs.Option.{is_some}
-use Rattle.std.proofs.lemmas.Bool.{both_ways, ltb-true}
+use Rattle.std.specs.Cmp.{nat_eq_equiv}
+use Rattle.std.specs.HashMap.{HashMap, IsUnique}
+use Rattle.std.specs.List.{slice_get}
+use Rattle.std.specs.Map.{keys_of}
+use Rattle.std.specs.Option.{option_map, is_some}
+use Rattle.std.proofs.lemmas.Bool.{both_ways, ltb-true, ltb-false, leb-true, leb-false, eqb-true, eqb-false}
+use Rattle.std.proofs.lemmas.Map.Entries.{place_from_lookup, hash_map_get_place}
 use Rattle.h2_spec_machine.specs.End.{StreamEntry, active_entry, reset_entry, StreamMap}
 use Rattle.h2_spec_machine.specs.Machine.{first_active, is_active_entry}
+use Rattle.h2_streams.specs.Streams.{number_or_none}
 use Rattle.h2_streams.specs.Table.{view_of_kept, active_at, is_reset, IsKeptWell}
+use Rattle.h2_streams.specs.Table.{IsLeastAbove}
 use Rattle.h2_streams.specs.declared.table.Kept.{Kept}
 use Rattle.h2_streams.proofs.KeptEntries.{entry_at, get_kept}
 use Rattle.h2_spec_machine.proofs.SortedEntries.{first_found, first_least, two_least}
@@ -77,44 +79,207 @@ none_is_first send recv above entries numbers none =
     (λ there. let k = first_kept send recv above entries numbers there in
     absurd (both_ways false refl (rw (none (first_active above (map.entries m)) k.1) at k.0)))
 
--- A number above another is so by the order.
-less_by : (a b : ℕ) → a < b → (r : Ordering) → nat_cmp a b ≡ r → r ≡ Less
-less_by a b below Less is = refl
-less_by a b below Equal is =
-    let same : a ≡ b = map.nat_cmp-IsAntisymmetric a b is in absurd (omega (arith, same))
-less_by a b below Greater is =
-    let above : b < a = ranked a b Greater (sym is) in absurd (omega (arith, above))
+-- what is known of the first of the numbers: `least` is how far the least above another is past the
+-- next one, or, where none is, how far the greatest number would be, and one more
+pub record LeastBefore (n above : ℕ) (numbers : List ℕ) (least : ℕ) : Type 0 where
+  pub small : (i q : ℕ) → i < n → slice_get numbers i ≡ Some q → q < 2 ^ 32
+  pub most : (i q : ℕ) → i < n → slice_get numbers i ≡ Some q → above < q → above + 1 + least ≤ q
+  pub within : least + above < 2 ^ 32
+  pub found : least + above + 1 < 2 ^ 32 → (place : ℕ) × (slice_get numbers place ≡ Some (above + 1
+      + least))
 
--- A number above another is so by the order.
-is_less : (a b : ℕ) → a < b → nat_cmp a b ≡ Less
-is_less a b below = less_by a b below (nat_cmp a b) refl
+-- A place below the next one is below this one, or it is this one.
+below_or_here : (P : ℕ → Type 0) (n i number q : ℕ) (numbers : List ℕ)
+    → ((j r : ℕ) → j < n → slice_get numbers j ≡ Some r → P r)
+    → slice_get numbers n ≡ Some number → P number
+    → i < n + 1 → slice_get numbers i ≡ Some q → P q
+below_or_here P n i number q numbers below here this less at = go (nat_lt i n) refl
+  where
+    go : (b : Bool) → nat_lt i n ≡ b → P q
+    go true is = below i q (ltb-true i n is) at
+    go false is =
+        let same : i ≡ n = omega (arith, ltb-false i n is, less) in
+        let one : number ≡ q = cc in
+        rw (← one) this
 
--- A number that isn't above another by the order is at most that one.
-most_by : (a b : ℕ) → (r : Ordering) → nat_cmp a b ≡ r → is_gt r ≡ false → a ≤ b
-most_by a b Less is low =
-    let below : a < b = ranked a b Less (sym is) in omega (arith, below)
-most_by a b Equal is low =
-    let same : a ≡ b = map.nat_cmp-IsAntisymmetric a b is in omega (arith, same)
-most_by a b Greater is low = absurd (both_ways true low refl)
+-- One more number, where the least stays.
+stays : (n above number least : ℕ) (numbers : List ℕ) → number < 2 ^ 32
+    → (above < number → above + 1 + least ≤ number) → LeastBefore n above numbers least
+    → slice_get numbers n ≡ Some number → LeastBefore (n + 1) above numbers least
+stays n above number least numbers small most before here = record {
+  small = λ i q less at. below_or_here (λ r. r < 2 ^ 32) n i number q numbers before.small here
+      small less at;
+  most = λ i q less at. below_or_here (λ r. above < r → above + 1 + least ≤ r) n i number q numbers
+      before.most here most less at;
+  within = before.within;
+  found = before.found;
+}
 
--- The first of the entries above a number is the first active one.
-pub range_first : (send recv above : ℕ) (tree : BTreeMap ℕ Kept) (numbers : List ℕ)
-    (range rest : List (ℕ × Kept)) (e : ℕ × Kept)
-    → IsKeptWell tree.entries numbers → IsRangeOf nat_cmp (Excluded above) Unbounded tree range
-    → range ≡ e ∷ rest
-    → e.0 ≡ first_active above (map.entries (streams send recv tree.entries numbers))
-range_first send recv above tree numbers range rest e well is starts =
-    let here = rw (starts) at is.1 in
-    least_is_first send recv above e.0 tree.entries numbers well
-    (ranked above e.0 Less (sym here.0.0)) (ap is_some here.1)
-    (λ q higher some. most_by e.0 q (nat_cmp e.0 q) refl
-    (rw (starts) at (is.2 q (is_less above q higher, tt) some)))
+-- One more number, which is less than the least.
+moves : (n above number least new : ℕ) (numbers : List ℕ) → number < 2 ^ 32
+    → above + 1 + new ≡ number → new < least → LeastBefore n above numbers least
+    → slice_get numbers n ≡ Some number → LeastBefore (n + 1) above numbers new
+moves n above number least new numbers small same less_than before here = record {
+  small = λ i q less at. below_or_here (λ r. r < 2 ^ 32) n i number q numbers before.small here
+      small less at;
+  most = λ i q less at. below_or_here (λ r. above < r → above + 1 + new ≤ r) n i number q numbers
+      (λ j r below found high. let most = before.most j r below found high in
+      omega (arith, most, less_than)) here (λ high. omega (arith, same)) less at;
+  within = omega (arith, same, small);
+  found = λ more. (n, here ∙ ap (λ (q : ℕ). Some q) (sym same));
+}
 
--- Where no entry is above a number, there is no first active one.
-pub range_none : (send recv above : ℕ) (tree : BTreeMap ℕ Kept) (numbers : List ℕ)
-    (range : List (ℕ × Kept))
-    → IsRangeOf nat_cmp (Excluded above) Unbounded tree range → range ≡ []
-    → 0 ≡ first_active above (map.entries (streams send recv tree.entries numbers))
-range_none send recv above tree numbers range is none =
-    none_is_first send recv above tree.entries numbers
-    (λ q higher. is.5 none q (is_less above q higher, tt))
+-- A number above another wraps to how far it is past the next one.
+wraps : (above number : ℕ) → above < number → number < 2 ^ 32
+    → (number + (2 ^ 32 - 1 - above)) % 2 ^ 32 ≡ number - above - 1
+wraps above number high small = omega (arith, high, small)
+
+-- A number that isn't above another doesn't wrap.
+doesn't_wrap : (above number : ℕ) → number ≤ above → above < 2 ^ 32
+    → (number + (2 ^ 32 - 1 - above)) % 2 ^ 32 ≡ number + (2 ^ 32 - 1 - above)
+doesn't_wrap above number low small = omega (arith, low, small)
+
+-- One more number, by whether it is above the other, and what it wraps to less than the least.
+more_by : (n above number least : ℕ) (numbers : List ℕ) (b c : Bool) → above < 2 ^ 32
+    → number < 2 ^ 32 → nat_lt above number ≡ b
+    → nat_le least ((number + (2 ^ 32 - 1 - above)) % 2 ^ 32) ≡ c
+    → LeastBefore n above numbers least → slice_get numbers n ≡ Some number
+    → LeastBefore (n + 1) above numbers (min least ((number + (2 ^ 32 - 1 - above)) % 2 ^ 32))
+more_by n above number least numbers true true fits small is by before here =
+    let high : above < number = ltb-true above number is in
+    let low = leb-true least ((number + (2 ^ 32 - 1 - above)) % 2 ^ 32) by in
+    let same : min least ((number + (2 ^ 32 - 1 - above)) % 2 ^ 32) ≡ least = omega (arith, low) in
+    let most : above + 1 + least ≤ number = omega (arith, low, wraps above number high small) in
+    rw (same) (stays n above number least numbers small (λ _. most) before here)
+more_by n above number least numbers true false fits small is by before here =
+    let high : above < number = ltb-true above number is in
+    let low = leb-false least ((number + (2 ^ 32 - 1 - above)) % 2 ^ 32) by in
+    let wrapped = wraps above number high small in
+    let same : min least ((number + (2 ^ 32 - 1 - above)) % 2 ^ 32) ≡ number - above - 1 =
+    omega (arith, low, wrapped) in
+    let less : number - above - 1 < least = omega (arith, low, wrapped) in
+    rw (same) (moves n above number least (number - above - 1) numbers small (omega (arith, high))
+    less before here)
+more_by n above number least numbers false c fits small is by before here =
+    let low : number ≤ above = ltb-false above number is in
+    let within = before.within in
+    let same : min least ((number + (2 ^ 32 - 1 - above)) % 2 ^ 32) ≡ least =
+    omega (arith, low, within, doesn't_wrap above number low fits) in
+    rw (same) (stays n above number least numbers small (λ high. absurd (omega (arith, low, high)))
+    before here)
+
+-- One more among the numbers.
+pub least_more : (n above number least : ℕ) (numbers : List ℕ) → above < 2 ^ 32 → number < 2 ^ 32
+    → LeastBefore n above numbers least → slice_get numbers n ≡ Some number
+    → LeastBefore (n + 1) above numbers (min least ((number + (2 ^ 32 - 1 - above)) % 2 ^ 32))
+least_more n above number least numbers fits small before here =
+    more_by n above number least numbers (nat_lt above number)
+    (nat_le least ((number + (2 ^ 32 - 1 - above)) % 2 ^ 32)) fits small refl refl before here
+
+-- Of no numbers, none is above another.
+pub least_at_first : (above : ℕ) (numbers : List ℕ) → above < 2 ^ 32
+    → LeastBefore 0 above numbers (2 ^ 32 - 1 - above)
+least_at_first above numbers fits = record {
+  small = λ i q less at. absurd (omega (arith, less));
+  most = λ i q less at. absurd (omega (arith, less));
+  within = omega (arith, fits);
+  found = λ more. absurd (omega (arith, more, fits));
+}
+
+-- A place among entries is one among their keys.
+key_at : (entries : List (ℕ × Kept)) (i : ℕ)
+    → slice_get (keys_of entries) i ≡ option_map (λ (e : ℕ × Kept). e.0) (slice_get entries i)
+key_at [] i = refl
+key_at (e ∷ es) zero = refl
+key_at (e ∷ es) (suc i) = key_at es i
+
+-- A place at which something stands is below the length.
+within : (numbers : List ℕ) (i number : ℕ) → slice_get numbers i ≡ Some number
+    → i < length numbers
+within [] i number is = absurd (cc)
+within (n ∷ ns) zero number is = omega arith
+within (n ∷ ns) (suc i) number is = let rest = within ns i number is in omega arith
+
+-- What is at a place among entries, by what is at that place among their keys.
+entry_from : (x : Option (ℕ × Kept)) (number : ℕ)
+    → option_map (λ (e : ℕ × Kept). e.0) x ≡ Some number
+    → (kept : Kept) × (x ≡ Some (number, kept))
+entry_from None number is = absurd (cc)
+entry_from (Some e) number is =
+    let same : e.0 ≡ number = cc in
+    (e.1, ap (λ (n : ℕ). Some (n, e.1)) same)
+
+-- An active number stands at a place among the keys.
+key_place : (q : ℕ) (entries : List (ℕ × Kept)) (x : Option Kept) → active_at q entries ≡ x
+    → IsSome x
+    → (i : ℕ) × (i < length (keys_of entries)) × (slice_get (keys_of entries) i ≡ Some q)
+key_place q entries None is some = absurd (both_ways false refl some)
+key_place q entries (Some kept) is some =
+    let place = place_from_lookup (nat_eq q) entries kept is in
+    let same : q ≡ place.1 = eqb-true q place.1 place.3 in
+    let at : slice_get (keys_of entries) place.0 ≡ Some q =
+    key_at entries place.0 ∙ ap (option_map (λ (e : ℕ × Kept). e.0)) place.2
+    ∙ ap (λ (n : ℕ). Some n) (sym same) in
+    (place.0, within (keys_of entries) place.0 q at, at)
+
+-- Nothing is found where nothing may be.
+none_by : (x : Option Kept) → (IsSome x → ⊥) → x ≡ None
+none_by None never = refl
+none_by (Some kept) never = absurd (never refl)
+
+-- Where the least isn't below what is left above a number, none is above it.
+pub none_of_all : (entries : List (ℕ × Kept)) (n above least : ℕ)
+    → n ≡ length (keys_of entries) → LeastBefore n above (keys_of entries) least
+    → 2 ^ 32 - 1 - above ≤ least → IsLeastAbove above entries None
+none_of_all entries n above least all before over = λ q high. none_by (active_at q entries)
+    (λ some. let place = key_place q entries (active_at q entries) refl some in
+    let most = before.most place.0 q (omega (arith, all, place.1)) place.2 high in
+    let small = before.small place.0 q (omega (arith, all, place.1)) place.2 in
+    omega (arith, most, small, over))
+
+-- The least number above another among all that is kept.
+pub least_of_all : {S : Type 0} (table : HashMap ℕ Kept S) (n above least : ℕ)
+    → IsUnique nat_eq table → n ≡ length (keys_of table.entries)
+    → LeastBefore n above (keys_of table.entries) least → least < 2 ^ 32 - 1 - above
+    → IsLeastAbove above table.entries (Some (above + 1 + least))
+least_of_all table n above least unique all before less =
+    let place = before.found (omega (arith, less)) in
+    let last = entry_from (slice_get table.entries place.0) (above + 1 + least)
+    (sym (key_at table.entries place.0) ∙ place.1) in (
+      omega arith,
+      ap is_some (hash_map_get_place nat_eq_equiv table place.0 (above + 1 + least) last.0 unique
+          last.1),
+      λ q high some.
+          let place = key_place q table.entries (active_at q table.entries) refl some in
+          before.most place.0 q (omega (arith, all, place.1)) place.2 high,
+    )
+
+-- The next number is the least above one, if it is active.
+pub first_is_least : (above first : ℕ) (entries : List (ℕ × Kept)) → first ≡ above + 1
+    → is_some (active_at first entries) ≡ true → IsLeastAbove above entries (Some first)
+first_is_least above first entries is some =
+    (omega (arith, is), some, λ q high _. omega (arith, is, high))
+
+-- The one after the next is the least above one, if it is active and the next isn't.
+pub second_is_least : (above first second : ℕ) (entries : List (ℕ × Kept)) → first ≡ above + 1
+    → second ≡ first + 1 → is_some (active_at first entries) ≡ false
+    → is_some (active_at second entries) ≡ true → IsLeastAbove above entries (Some second)
+second_is_least above first second entries is then_is none some =
+    (omega (arith, is, then_is), some, λ q high there. go q high there (nat_eq q first) refl)
+  where
+    go : (q : ℕ) → above < q → IsSome (active_at q entries) → (b : Bool) → nat_eq q first ≡ b
+        → second ≤ q
+    go q high there true same =
+        let one : q ≡ first = eqb-true q first same in
+        absurd (both_ways (is_some (active_at first entries)) none (rw (one) at there))
+    go q high there false same =
+        let other = eqb-false q first same in omega (arith, is, then_is, high, other)
+
+-- The least number above another is the first active one.
+pub least_first : (send recv above : ℕ) (entries : List (ℕ × Kept)) (numbers : List ℕ)
+    (least : Option ℕ) → IsKeptWell entries numbers → IsLeastAbove above entries least
+    → number_or_none least ≡ first_active above (map.entries (streams send recv entries numbers))
+least_first send recv above entries numbers None well none =
+    none_is_first send recv above entries numbers none
+least_first send recv above entries numbers (Some least) well is =
+    least_is_first send recv above least entries numbers well is.0 is.1 is.2

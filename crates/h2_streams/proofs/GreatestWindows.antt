@@ -1,24 +1,23 @@
 -- The greatest send window of the active streams, and what it tells of all of them.
 use Rattle.std.proofs.Common.{◌≡◌, ℕ, zero, suc, ◌+◌, ◌<◌, Bool, true, false, cond, ℤ, pos, ◌+ℤ◌}
 use Rattle.std.proofs.Common.{int_lt, ◌≤ℤ◌, List, [], ◌∷◌, length, Option, Some, None, IfSome, refl}
-use Rattle.std.proofs.Common.{sym, ap, ◌∙◌, nat_lt, arith}
+use Rattle.std.proofs.Common.{sym, ap, ◌∙◌, nat_eq, nat_lt, arith}
 use Rattle.std.specs.List.{slice_get}
 use Rattle.std.specs.Map.{values_of}
 use Rattle.std.specs.Option.{option_map, is_some}
-use Rattle.std.specs.BTreeMap.{BTreeMap, IsOrdered, is_at}
-use Rattle.std.specs.Ordering.{nat_cmp}
-use Rattle.std.specs.Cmp.{nat_cmp_total}
+use Rattle.std.specs.HashMap.{HashMap, IsUnique}
+use Rattle.std.specs.Cmp.{nat_eq_equiv}
 use Rattle.std.specs.FinMap as map
 use Rattle.std.proofs.lemmas.Int.{ints}
 use Rattle.std.proofs.lemmas.Bool.{both_ways, ltb-true, ltb-false}
-use Rattle.std.proofs.lemmas.Map.Entries.{place_from_lookup, btree_map_get_place}
+use Rattle.std.proofs.lemmas.Map.Entries.{place_from_lookup, hash_map_get_place}
 use Rattle.h2_spec_machine.specs.End.{StreamEntry, active_entry, reset_entry, StreamMap, any_above}
 use Rattle.h2_spec_machine.specs.End.{above_by_shift}
 use Rattle.h2_streams.specs.Streams.{is_above_by_shift}
 use Rattle.h2_streams.specs.Table.{view_of_kept, active_at, is_reset, IsKeptWell, greater_of}
-use Rattle.h2_streams.specs.Table.{IsGreatestOffset}
+use Rattle.h2_streams.specs.Table.{IsGreatestOf, IsGreatestOffset, is_far_offset}
 use Rattle.h2_streams.specs.declared.table.Kept.{Kept}
-use Rattle.h2_streams.proofs.KeptEntries.{entry_at, get_kept}
+use Rattle.h2_streams.proofs.KeptEntries.{entry_at, get_kept, near_found}
 use Rattle.h2_spec_machine.proofs.SortedEntries.{above_found, any_found, both_same}
 use Rattle.h2_streams.proofs.TableSteps.{streams}
 
@@ -125,27 +124,34 @@ no_entries [] none = refl
 no_entries (e ∷ es) none = absurd (omega (arith, none))
 
 -- The greatest difference among all that is kept.
-pub greatest_of_all : (tree : BTreeMap ℕ Kept) (n : ℕ) (greatest : Option ℤ)
-    → IsOrdered nat_cmp tree → n ≡ length (values_of tree.entries)
-    → IsGreatestBefore n (values_of tree.entries) greatest
-    → IsGreatestOffset tree.entries greatest
-greatest_of_all tree n None ordered all before = no_entries tree.entries (sym all ∙ before)
-greatest_of_all tree n (Some offset) ordered all before =
-    let last = entry_from (slice_get tree.entries before.place) before.kept
-    (sym (value_at tree.entries before.place) ∙ before.found) in
+pub greatest_of_all : {S : Type 0} (table : HashMap ℕ Kept S) (n : ℕ) (greatest : Option ℤ)
+    → IsUnique nat_eq table → n ≡ length (values_of table.entries)
+    → IsGreatestBefore n (values_of table.entries) greatest
+    → IsGreatestOffset table.entries greatest
+greatest_of_all table n None unique all before = no_entries table.entries (sym all ∙ before)
+greatest_of_all table n (Some offset) unique all before =
+    let last = entry_from (slice_get table.entries before.place) before.kept
+    (sym (value_at table.entries before.place) ∙ before.found) in
     record {
-      most = λ q. if_found (λ kept. kept.send_offset ≤ℤ offset) (active_at q tree.entries)
+      most = λ q. if_found (λ kept. kept.send_offset ≤ℤ offset) (active_at q table.entries)
           (λ kept is.
-          let place = place_from_lookup (is_at (nat_cmp q)) tree.entries kept is in
-          let at : slice_get (values_of tree.entries) place.0 ≡ Some kept =
-          value_at tree.entries place.0 ∙ ap (option_map (λ (e : ℕ × Kept). e.1)) place.2 in
+          let place = place_from_lookup (nat_eq q) table.entries kept is in
+          let at : slice_get (values_of table.entries) place.0 ≡ Some kept =
+          value_at table.entries place.0 ∙ ap (option_map (λ (e : ℕ × Kept). e.1)) place.2 in
           before.most place.0 kept
-          (omega (arith, all, within (values_of tree.entries) place.0 kept at)) at);
+          (omega (arith, all, within (values_of table.entries) place.0 kept at)) at);
       number = last.0;
       kept = before.kept;
-      found = btree_map_get_place nat_cmp_total tree before.place last.0 before.kept ordered last.1;
+      found = hash_map_get_place nat_eq_equiv table before.place last.0 before.kept unique last.1;
       same = before.same;
     }
+
+-- The greatest difference is near.
+pub greatest_near : (entries : List (ℕ × Kept)) (numbers : List ℕ) (offset : ℤ)
+    → IsKeptWell entries numbers → IsGreatestOf entries offset → is_far_offset offset ≡ false
+greatest_near entries numbers offset well is =
+    let near = near_found is.number is.kept entries numbers well is.found in
+    rw (← is.same) near.0
 
 -- An active stream is brought above the greatest window, by its difference.
 above_kept : (send recv new : ℕ) (kept : Kept)

@@ -1,9 +1,9 @@
 -- What the table of streams answers of each number, and when two tables are the same.
 use Rattle.std.proofs.Common.{◌≡◌, ℕ, Bool, true, false, cond, List, [], ◌∷◌, Option, Some, None}
-use Rattle.std.proofs.Common.{map as each, ◌||◌, IsSome, refl, ap, ◌∙◌}
+use Rattle.std.proofs.Common.{map as each, ◌||◌, IsSome, IfSome, nat_eq, refl, ap, subst, ◌∙◌}
 use Rattle.std.proofs.Common.{ℤ, pos, ◌+ℤ◌, ◌-ℤ◌, arith}
-use Rattle.std.specs.Ordering.{nat_cmp, is_eq}
-use Rattle.std.specs.Cmp.{nat_cmp_total}
+use Rattle.std.specs.Ordering.{nat_cmp}
+use Rattle.std.specs.Cmp.{nat_cmp_total, unsigned_tied}
 use Rattle.std.specs.FinMap as map
 use Rattle.std.specs.Option.{option_map}
 use Rattle.std.proofs.lemmas.Bool.{both_ways}
@@ -11,7 +11,7 @@ use Rattle.std.proofs.lemmas.Int.{ints}
 use Rattle.h2_spec_machine.specs.End.{StreamEntry, active_entry, reset_entry, StreamMap, stream_in}
 use Rattle.h2_streams.specs.Streams.{stream_view}
 use Rattle.h2_streams.specs.Table.{view_of_kept, active_map, with_resets, active_at, is_reset}
-use Rattle.h2_streams.specs.Table.{IsKeptWell}
+use Rattle.h2_streams.specs.Table.{IsKeptWell, IsNearKept}
 use Rattle.h2_streams.specs.declared.entry.Stream.{Stream}
 use Rattle.h2_streams.specs.declared.table.Kept.{Kept}
 
@@ -43,7 +43,9 @@ found : (send recv q : ℕ) (entries : List (ℕ × Kept))
     ≡ entry_at send recv false (active_at q entries)
 found send recv q [] = refl
 found send recv q (e ∷ es) =
-    found_by send recv (is_eq (nat_cmp q e.0)) e.1
+    ap (λ (b : Bool). cond b (Some (active_entry (view_of_kept send recv e.1))) (map.find nat_cmp q
+    (entries_of send recv es))) (unsigned_tied q e.0)
+    ∙ found_by send recv (nat_eq q e.0) e.1
     (map.find nat_cmp q (entries_of send recv es)) (active_at q es) (found send recv q es)
 
 -- What is found among the active streams.
@@ -70,7 +72,9 @@ get_kept send recv q entries [] = get_active send recv q entries
 get_kept send recv q entries (number ∷ numbers) =
     map.get-insert nat_cmp_total (with_resets (active_map send recv entries) numbers) number
     reset_entry q
-    ∙ reset_by send recv (is_eq (nat_cmp q number)) (is_reset q numbers)
+    ∙ ap (λ (b : Bool). cond b (Some reset_entry) (map.get (with_resets (active_map send recv
+    entries) numbers) q)) (unsigned_tied q number)
+    ∙ reset_by send recv (nat_eq q number) (is_reset q numbers)
     (map.get (with_resets (active_map send recv entries) numbers) q) (active_at q entries)
     (get_kept send recv q entries numbers)
 
@@ -110,6 +114,12 @@ pub nothing_kept : (send recv q : ℕ) (entries : List (ℕ × Kept)) (numbers :
 nothing_kept send recv q entries numbers apart none =
     let is = get_kept send recv q entries numbers in
     is ∙ nothing_by send recv (is_reset q numbers) (active_at q entries) apart (rw (is) at none)
+
+-- The windows of what is kept of an active number are near.
+pub near_found : (number : ℕ) (kept : Kept) (entries : List (ℕ × Kept)) (numbers : List ℕ)
+    → IsKeptWell entries numbers → active_at number entries ≡ Some kept → IsNearKept kept
+near_found number kept entries numbers well is =
+    subst (λ (x : Option Kept). IfSome x IsNearKept) is (well.near number)
 
 -- A window is its difference from an initial window, and that.
 window_back : (window : ℤ) (initial : ℕ) → (window -ℤ pos initial) +ℤ pos initial ≡ window

@@ -1,5 +1,6 @@
 pub mod ActiveNumbers
 pub mod GreatestWindows
 pub mod KeptEntries
+pub mod Offsets
 pub mod Shifts
 pub mod TableSteps

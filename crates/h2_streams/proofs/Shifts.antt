@@ -1,12 +1,9 @@
 -- What becomes of the table of streams where all windows are shifted.
-use Rattle.std.proofs.Common.{◌≡◌, ℕ, Bool, true, false, cond, T, ◌&&◌, List, [], ◌∷◌, Option}
-use Rattle.std.proofs.Common.{Some, None, map as each, refl, sym, ap, ap₂, subst, ◌∙◌, arith}
+use Rattle.std.proofs.Common.{◌≡◌, ℕ, Bool, true, false, List, Option}
+use Rattle.std.proofs.Common.{Some, None, refl, sym, ap, ◌∙◌, arith}
 use Rattle.std.proofs.Common.{ℤ, pos, ◌+ℤ◌, ◌-ℤ◌}
 use Rattle.std.proofs.lemmas.Int.{ints}
-use Rattle.std.specs.Ordering.{nat_cmp, is_eq, is_lt}
-use Rattle.std.specs.FinMap as map
-use Rattle.std.specs.FinMap.Entries.{below_all}
-use Rattle.h2_spec_machine.specs.End.{StreamEntry, active_entry, reset_entry, StreamMap}
+use Rattle.h2_spec_machine.specs.End.{StreamEntry, active_entry, reset_entry}
 use Rattle.h2_spec_machine.specs.Machine.{each_entry, shifted_entry, recv_shifted_entry}
 use Rattle.h2_spec_machine.proofs.ChangedEntries.{changed_entry, get_each}
 use Rattle.h2_streams.specs.Table.{view_of_kept, active_at, is_reset}

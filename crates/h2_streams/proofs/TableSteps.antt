@@ -1,10 +1,10 @@
 -- What becomes of the table of streams where one is opened, changed, closed or reset, and where
 -- windows are shifted.
 use Rattle.std.proofs.Common.{◌≡◌, ℕ, Bool, true, false, cond, List, [], Option, Some, None}
-use Rattle.std.proofs.Common.{IsSome, IfSome, refl, sym, ap, ◌∙◌, ◌==◌, eqb-true}
+use Rattle.std.proofs.Common.{IsSome, IfSome, nat_eq, refl, sym, ap, ◌∙◌, eqb-true}
 use Rattle.std.proofs.lemmas.Bool.{both_ways}
 use Rattle.std.specs.Ordering.{nat_cmp, is_eq}
-use Rattle.std.specs.Cmp.{nat_cmp_total, unsigned_tied, eq_by_cmp_equiv}
+use Rattle.std.specs.Cmp.{nat_cmp_total, unsigned_tied, nat_eq_equiv}
 use Rattle.std.specs.FinMap as map
 use Rattle.h2_spec_log.specs.View.{StreamView}
 use Rattle.h2_spec_machine.specs.End.{active_entry, reset_entry, StreamMap, stream_in}
@@ -20,8 +20,7 @@ streams send recv entries numbers = with_resets (active_map send recv entries) n
 -- other entries, with another one at a number
 abbrev pub ChangesAt : ℕ → Option Kept → List (ℕ × Kept) → List (ℕ × Kept) → Type 0
 ChangesAt id kept old new = (q : ℕ)
-    → active_at q new ≡ cond (is_eq (nat_cmp id q)) kept (active_at q
-    old)
+    → active_at q new ≡ cond (nat_eq id q) kept (active_at q old)
 
 -- A number of which nothing is kept wasn't reset.
 absent_by : (send recv : ℕ) (b : Bool) (kept : Option Kept) → entry_at send recv b kept ≡ None
@@ -53,13 +52,9 @@ active send recv id entries numbers some =
     active_by send recv (is_reset id numbers) (active_at id entries)
     (rw (get_kept send recv id entries numbers) at some)
 
--- How a test of two numbers reads.
-test_from : (id q : ℕ) (b : Bool) → is_eq (nat_cmp id q) ≡ b → (id == q) ≡ b
-test_from id q b is = sym (unsigned_tied id q) ∙ is
-
--- The same test, with its numbers in turn.
-turned : (id q : ℕ) → is_eq (nat_cmp q id) ≡ is_eq (nat_cmp id q)
-turned id q = (eq_by_cmp_equiv nat_cmp_total).symm q id
+-- The map's test of two numbers, with its numbers in turn.
+turned : (id q : ℕ) → is_eq (nat_cmp q id) ≡ nat_eq id q
+turned id q = unsigned_tied q id ∙ nat_eq_equiv.symm q id
 
 -- Entries with another one at a number that wasn't reset, by whether a number is that one.
 set_by : (send recv id q : ℕ) (b c : Bool) (kept : Kept) (old : Option Kept)
@@ -72,9 +67,9 @@ set_by send recv id q false c kept old apart = refl
 
 -- A number that is another's, by the test, was reset where that was.
 same_reset : (id q : ℕ) (numbers : List ℕ) → is_reset id numbers ≡ false
-    → is_eq (nat_cmp id q) ≡ true → is_reset q numbers ≡ false
+    → nat_eq id q ≡ true → is_reset q numbers ≡ false
 same_reset id q numbers apart same =
-    ap (λ (i : ℕ). is_reset i numbers) (sym (eqb-true id q (test_from id q true same))) ∙ apart
+    ap (λ (i : ℕ). is_reset i numbers) (sym (eqb-true id q same)) ∙ apart
 
 -- Where a stream is opened, or changed, its entry is set.
 pub streams_set : (send recv id : ℕ) (kept : Kept) (stream : StreamView)
@@ -88,14 +83,14 @@ streams_set send recv id kept stream old new numbers changes apart view =
     (map.insert (streams send recv old numbers) id (active_entry stream))
     (λ q. get_kept send recv q new numbers
     ∙ ap (entry_at send recv (is_reset q numbers)) (changes q)
-    ∙ set_by send recv id q (is_eq (nat_cmp id q)) (is_reset q numbers) kept (active_at q old)
+    ∙ set_by send recv id q (nat_eq id q) (is_reset q numbers) kept (active_at q old)
     (same_reset id q numbers apart)
-    ∙ ap (λ (s : StreamView). cond (is_eq (nat_cmp id q)) (Some (active_entry s)) (entry_at send
+    ∙ ap (λ (s : StreamView). cond (nat_eq id q) (Some (active_entry s)) (entry_at send
     recv (is_reset q numbers) (active_at q old))) view
     ∙ sym (map.get-insert nat_cmp_total (streams send recv old numbers) id (active_entry stream) q
     ∙ ap (λ (b : Bool). cond b (Some (active_entry stream)) (map.get (streams send recv old numbers)
     q)) (turned id q)
-    ∙ ap (cond (is_eq (nat_cmp id q)) (Some (active_entry stream))) (get_kept send recv q old
+    ∙ ap (cond (nat_eq id q) (Some (active_entry stream))) (get_kept send recv q old
     numbers)))
 
 -- Entries without one at a number that wasn't reset, by whether a number is that one.
@@ -113,11 +108,11 @@ streams_closed send recv id old new numbers changes apart =
     same_streams (streams send recv new numbers) (map.remove (streams send recv old numbers) id)
     (λ q. get_kept send recv q new numbers
     ∙ ap (entry_at send recv (is_reset q numbers)) (changes q)
-    ∙ closed_by send recv (is_eq (nat_cmp id q)) (is_reset q numbers) (active_at q old)
+    ∙ closed_by send recv (nat_eq id q) (is_reset q numbers) (active_at q old)
     (same_reset id q numbers apart)
     ∙ sym (map.get-remove nat_cmp_total (streams send recv old numbers) id q
     ∙ ap (λ (b : Bool). cond b None (map.get (streams send recv old numbers) q)) (turned id q)
-    ∙ ap (cond (is_eq (nat_cmp id q)) None) (get_kept send recv q old numbers)))
+    ∙ ap (cond (nat_eq id q) None) (get_kept send recv q old numbers)))
 
 -- Entries without one at a number that is reset, by whether a number is that one.
 reset_by : (send recv : ℕ) (b c : Bool) (old : Option Kept)
@@ -129,19 +124,19 @@ reset_by send recv false c old = refl
 -- Where a stream is reset, that is kept of its number.
 pub streams_reset : (send recv id : ℕ) (old new : List (ℕ × Kept)) (numbers more : List ℕ)
     → ChangesAt id None old new
-    → ((q : ℕ) → is_reset q more ≡ cond (is_eq (nat_cmp id q)) true (is_reset q numbers))
+    → ((q : ℕ) → is_reset q more ≡ cond (nat_eq id q) true (is_reset q numbers))
     → streams send recv new more ≡ map.insert (streams send recv old numbers) id reset_entry
 streams_reset send recv id old new numbers more changes resets =
     same_streams (streams send recv new more)
     (map.insert (streams send recv old numbers) id reset_entry)
     (λ q. get_kept send recv q new more
     ∙ ap (λ (b : Bool). entry_at send recv b (active_at q new)) (resets q)
-    ∙ ap (entry_at send recv (cond (is_eq (nat_cmp id q)) true (is_reset q numbers))) (changes q)
-    ∙ reset_by send recv (is_eq (nat_cmp id q)) (is_reset q numbers) (active_at q old)
+    ∙ ap (entry_at send recv (cond (nat_eq id q) true (is_reset q numbers))) (changes q)
+    ∙ reset_by send recv (nat_eq id q) (is_reset q numbers) (active_at q old)
     ∙ sym (map.get-insert nat_cmp_total (streams send recv old numbers) id reset_entry q
     ∙ ap (λ (b : Bool). cond b (Some reset_entry) (map.get (streams send recv old numbers) q))
     (turned id q)
-    ∙ ap (cond (is_eq (nat_cmp id q)) (Some reset_entry)) (get_kept send recv q old numbers)))
+    ∙ ap (cond (nat_eq id q) (Some reset_entry)) (get_kept send recv q old numbers)))
 
 -- Another one at a number is near, if what was kept is.
 near_by : (b : Bool) (kept : Kept) (old : Option Kept) → IsNearKept kept → IfSome old IsNearKept
@@ -161,9 +156,9 @@ pub well_set : (id : ℕ) (kept : Kept) (old new : List (ℕ × Kept)) (numbers 
     → IsNearKept kept → IsKeptWell new numbers
 well_set id kept old new numbers well changes apart near =
     record {
-      near = λ q. rw (changes q) (near_by (is_eq (nat_cmp id q)) kept (active_at q old) near
+      near = λ q. rw (changes q) (near_by (nat_eq id q) kept (active_at q old) near
           (well.near q));
-      apart = λ q some. apart_by (is_eq (nat_cmp id q)) (is_reset q numbers) kept (active_at q old)
+      apart = λ q some. apart_by (nat_eq id q) (is_reset q numbers) kept (active_at q old)
           (same_reset id q numbers apart) (well.apart q) (rw (changes q) at some);
     }
 
@@ -184,8 +179,8 @@ pub well_closed : (id : ℕ) (old new : List (ℕ × Kept)) (numbers : List ℕ)
     → IsKeptWell old numbers → ChangesAt id None old new → IsKeptWell new numbers
 well_closed id old new numbers well changes =
     record {
-      near = λ q. rw (changes q) (left_near (is_eq (nat_cmp id q)) (active_at q old) (well.near q));
-      apart = λ q some. left_as_it_was (is_eq (nat_cmp id q)) (is_reset q numbers) (active_at q old)
+      near = λ q. rw (changes q) (left_near (nat_eq id q) (active_at q old) (well.near q));
+      apart = λ q some. left_as_it_was (nat_eq id q) (is_reset q numbers) (active_at q old)
           (well.apart q) (rw (changes q) at some);
     }
 
@@ -223,6 +218,6 @@ pub gone_already : (id : ℕ) (entries : List (ℕ × Kept)) (numbers : List ℕ
 gone_already id entries numbers well reset = λ q.
     let none : active_at id entries ≡ None =
     none_kept (is_reset id numbers) (active_at id entries) reset (well.apart id) in
-    gone_by (is_eq (nat_cmp id q)) (active_at q entries)
-    (λ same. ap (λ (i : ℕ). active_at i entries) (sym (eqb-true id q (test_from id q true same)))
+    gone_by (nat_eq id q) (active_at q entries)
+    (λ same. ap (λ (i : ℕ). active_at i entries) (sym (eqb-true id q same))
     ∙ none)

@@ -1,11 +1,10 @@
 -- The table of streams as a value, and how its parts make it.
-use Rattle.std.specs.Prelude.{ℕ, ◌^◌, ◌||◌, ◌≡◌, Bool, false, ℤ, pos, ◌+ℤ◌, ◌-ℤ◌, int_lt, List, []}
-use Rattle.std.specs.Prelude.{◌∷◌, map as each, Option, Some, None, IsSome, IfSome, ◌≤ℤ◌}
+use Rattle.std.specs.Prelude.{ℕ, ◌^◌, ◌||◌, ◌≡◌, ◌<◌, ◌≤◌, Bool, false, ℤ, pos, ◌+ℤ◌}
+use Rattle.std.specs.Prelude.{◌-ℤ◌, ◌≤ℤ◌, int_lt, nat_eq, List, [], ◌∷◌, map as each, Option}
+use Rattle.std.specs.Prelude.{Some, None, IsSome, IfSome}
 use Rattle.std.specs.Int.{int_max}
 use Rattle.std.specs.List.{list_any}
 use Rattle.std.specs.Map.{lookup}
-use Rattle.std.specs.BTreeMap.{is_at}
-use Rattle.std.specs.Ordering.{nat_cmp}
 use Rattle.std.specs.FinMap as map
 use Rattle.h2_spec_log.specs.View.{StreamView}
 use Rattle.h2_spec_machine.specs.End.{active_entry, reset_entry, StreamMap}
@@ -43,11 +42,11 @@ with_resets streams (number ∷ numbers) = map.insert (with_resets streams numbe
 
 -- what is kept of an active number
 abbrev pub active_at : ℕ → List (ℕ × Kept) → Option Kept
-active_at number entries = lookup (is_at (nat_cmp number)) entries
+active_at number entries = lookup (nat_eq number) entries
 
 -- Whether a number is among those that were reset.
 abbrev pub is_reset : ℕ → List ℕ → Bool
-is_reset number numbers = list_any (is_at (nat_cmp number)) numbers
+is_reset number numbers = list_any (nat_eq number) numbers
 
 -- Whether a difference of windows is further than 2^33 from zero.
 abbrev pub is_far_offset : ℤ → Bool
@@ -79,3 +78,9 @@ pub record IsGreatestOf (entries : List (ℕ × Kept)) (offset : ℤ) : Type 0 w
 abbrev pub IsGreatestOffset : List (ℕ × Kept) → Option ℤ → Type 0
 IsGreatestOffset entries None = entries ≡ []
 IsGreatestOffset entries (Some offset) = IsGreatestOf entries offset
+
+-- the least number above another among what is kept, if there is any
+abbrev pub IsLeastAbove : (above : ℕ) → List (ℕ × Kept) → Option ℕ → Type 0
+IsLeastAbove above entries None = (q : ℕ) → above < q → active_at q entries ≡ None
+IsLeastAbove above entries (Some number) = (above < number) × IsSome (active_at number entries)
+    × ((q : ℕ) → above < q → IsSome (active_at q entries) → number ≤ q)

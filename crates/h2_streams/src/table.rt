@@ -1,6 +1,6 @@
 //! The table of streams.
 
-ghost use Rattle.std.specs.Prelude.{◌≡◌, ◌^◌, ◌<◌, ℕ, false, None, Some, IsSome};
+ghost use Rattle.std.specs.Prelude.{◌≡◌, ◌^◌, ◌<◌, ℕ, pos, ◌+ℤ◌, ◌-ℤ◌, false, None, Some, IsSome};
 ghost use Rattle.std.specs.Prelude.{IfSome, OnOk, OnErr};
 ghost use Rattle.std.specs.Option.{option_map};
 ghost use Rattle.std.specs.FinMap as map;
@@ -9,15 +9,14 @@ ghost use Rattle.h2_spec_machine.specs.Machine.{each_entry, shifted_entry, recv_
 ghost use Rattle.h2_spec_machine.specs.Machine.{first_active};
 ghost use Rattle.h2_streams.specs.Streams.{stream_view, entry_value, is_far, is_above_by_shift};
 ghost use Rattle.h2_streams.specs.Streams.{number_or_none};
-ghost use Rattle.h2_streams.specs.Table.{view_of_kept, IsNearKept};
-ghost use Rattle.h2_streams.specs.Table.{greater_of, IsGreatestOffset};
+ghost use Rattle.h2_streams.specs.Table.{view_of_kept, is_far_offset, IsNearKept};
+ghost use Rattle.h2_streams.specs.Table.{greater_of, IsGreatestOffset, IsLeastAbove};
 
 use crate::entry::{Entry, Stream};
 use h2_flow::StreamState;
 use std::alloc::{AllocError, Global};
-use std::collections::{BTreeMap, BTreeSet};
+use std::collections::{HashMap, HashSet};
 use std::marker::Model;
-use std::ops::Bound;
 
 /// What is kept of an active stream. Windows are kept as their difference from the initial window
 /// in force, so that SETTINGS, which shift all of them (RFC 9113, section 6.9.2), change none.
@@ -29,14 +28,14 @@ pub(crate) struct Kept {
     pub(crate) state: StreamState,
 }
 
-/// The streams of one end. Numbers are looked up in a tree, so that a call costs about the same for
-/// a thousand streams as for one.
+/// The streams of one end. Numbers are looked up by their hashes, so that a call costs about the
+/// same for a thousand streams as for one.
 #[derive(Drop)]
 pub struct StreamTable {
     /// The active streams, by number.
-    active: BTreeMap<u32, Kept>,
+    active: HashMap<u32, Kept>,
     /// The numbers that this end has reset.
-    resets: BTreeSet<u32>,
+    resets: HashSet<u32>,
     /// The initial window of this end's sending side: the peer's value.
     send_initial: u32,
     /// That of the receiving side: the own value in force.
@@ -71,8 +70,8 @@ impl StreamTable {
         } }
     {
         StreamTable {
-            active: BTreeMap::new(alloc),
-            resets: BTreeSet::new(alloc),
+            active: HashMap::new(alloc),
+            resets: HashSet::new(alloc),
             send_initial,
             recv_initial,
         }
@@ -219,15 +218,17 @@ impl StreamTable {
     }
 
     // rule: 5.1 (own) The next active stream is the least above a number
-    /// The least active number above another. It takes no memory.
+    /// The least active number above another. Where that isn't one of the next two, it goes over all
+    /// active streams. It takes no memory.
     pub fn next_active(&self, above: u32) -> Option<u32>
         ensures number { number_or_none result
             ≡ first_active above (map.entries self.now.entries) }
         ensures above { IfSome result (λ number. above < number) }
     {
-        let above = (Bound::Excluded(above), Bound::Unbounded);
-        let (number, _) = self.active.range(above).next()?;
-        Some(*number)
+        match next_but_one(&self.active, above) {
+            Some(number) => Some(number),
+            None => least_above(&self.active, above),
+        }
     }
 
     /// How a stream is kept.
@@ -238,9 +239,11 @@ impl StreamTable {
             ≡ stream_view stream }
         ensures near { IsNearKept result }
     {
+        let send_initial = i64::from(self.send_initial);
+        let recv_initial = i64::from(self.recv_initial);
         Kept {
-            send_offset: stream.send_window - i64::from(self.send_initial),
-            recv_offset: stream.recv_window - i64::from(self.recv_initial),
+            send_offset: stream.send_window - send_initial,
+            recv_offset: stream.recv_window - recv_initial,
             owed: stream.owed,
             state: stream.state,
         }
@@ -248,7 +251,7 @@ impl StreamTable {
 }
 
 /// The greatest difference of the send windows from the initial window, if there are any.
-fn greatest_send_offset(active: &BTreeMap<u32, Kept>) -> Option<i64>
+fn greatest_send_offset(active: &HashMap<u32, Kept>) -> Option<i64>
     ensures { IsGreatestOffset active.now.entries result }
 {
     let mut greatest = None;
@@ -265,5 +268,38 @@ fn greater_of(greatest: Option<i64>, offset: i64) -> i64
     match greatest {
         Some(other) => other.max(offset),
         None => offset,
+    }
+}
+
+/// The next number or the one after it, if it is active. An end numbers its streams in twos, so it
+/// mostly is while none of them has ended.
+fn next_but_one(active: &HashMap<u32, Kept>, above: u32) -> Option<u32>
+    ensures { IfSome result (λ number. IsLeastAbove above active.now.entries (Some number)) }
+{
+    let first = above.checked_add(1)?;
+    if active.contains_key(&first) {
+        return Some(first);
+    }
+    let second = first.checked_add(1)?;
+    if active.contains_key(&second) {
+        return Some(second);
+    }
+    None
+}
+
+/// The least active number above another, if there are any. Those above it wrap to less than
+/// `rest`, in their order, and no others do: so a turn is a sum and a minimum.
+fn least_above(active: &HashMap<u32, Kept>, above: u32) -> Option<u32>
+    ensures { IsLeastAbove above active.now.entries result }
+{
+    let rest = u32::MAX - above;
+    let mut least = rest;
+    for number in active.keys() {
+        least = least.min(number.wrapping_add(rest));
+    }
+    if least < rest {
+        Some(above + 1 + least)
+    } else {
+        None
     }
 }

@@ -38,4 +38,4 @@ returns c =
     c.into_iter-kept-iterator.result c.loop-kept.kept-iterator c.next.new.self c.next.result start
     c.loop-kept.yielded_by c.in-None.is c.next.ensures.steps in
     greatest_of_all c.args.active.now (length c.loop-kept.yielded) c.loop-kept.greatest
-    c.values-kept-items.ensures.ordered end.1 c.loop-kept.invariant
+    c.values-kept-items.ensures.unique end.1 c.loop-kept.invariant

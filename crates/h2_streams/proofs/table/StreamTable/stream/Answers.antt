@@ -1,8 +1,7 @@
-use Rattle.std.proofs.Common.{◌≡◌, pos, ◌+ℤ◌, arith, rules}
-use mir.Syntax.{w64}
-use mir.Val.{SFits}
-use Rattle.std.proofs.lemmas.Int.{ints, to_z-of_z}
-use Rattle.h2_streams.proofs.KeptEntries.{stream_kept}
+use Rattle.std.proofs.Common.{◌^◌, ◌<◌, sym, rules}
+use Rattle.h2_streams.proofs.KeptEntries.{stream_kept, near_found}
+use Rattle.h2_streams.proofs.Offsets.{window_is}
+use Rattle.h2_streams.specs.Table.{IsNearKept}
 use Rattle.h2_streams.proofs.table.StreamTable.stream.Goals as goal
 
 pub returns-in_err-kept : goal.returns-in_err-kept
@@ -18,12 +17,17 @@ returns c =
     let e = stream_kept t.send_initial t.recv_initial c.args.id t.active.entries t.resets.keys
     c.self.invariant in
     let kept = c.in_ok-kept.kept.now in
-    let send : c.window_of.result ≡ kept.send_offset +ℤ pos t.send_initial =
-    omega (arith, ints, c.window_of.ensures) in
-    let recv : c.window_of-2.result ≡ kept.recv_offset +ℤ pos t.recv_initial =
-    omega (arith, ints, c.window_of-2.ensures) in
-    let send_fits : SFits w64 c.window_of.result = search rules in
-    let recv_fits : SFits w64 c.window_of-2.result = search rules in
-    let send_kept = to_z-of_z w64 c.window_of.result send_fits in
-    let recv_kept = to_z-of_z w64 c.window_of-2.result recv_fits in
-    rw (← c.self.view_is, e, ← c.in_ok-kept.ensures.value, send_kept, recv_kept, send, recv)
+    let near : IsNearKept kept =
+    near_found c.args.id kept t.active.entries t.resets.keys c.self.invariant
+    (sym c.in_ok-kept.ensures.value) in
+    let send_small : t.send_initial < 2 ^ 32 = search rules in
+    let recv_small : t.recv_initial < 2 ^ 32 = search rules in
+    rw (
+      ← c.self.view_is,
+      e,
+      ← c.in_ok-kept.ensures.value,
+      c.from.ensures,
+      c.from-2.ensures,
+      window_is kept.send_offset t.send_initial near.0 send_small,
+      window_is kept.recv_offset t.recv_initial near.1 recv_small,
+    )

@@ -1,0 +1,8 @@
+use Rattle.std.proofs.Common.{length}
+use Rattle.std.specs.Map.{keys_of}
+use Rattle.h2_streams.proofs.ActiveNumbers.{LeastBefore}
+use Rattle.h2_streams.proofs.table.least_above.Given as goal
+
+abbrev pub invariant-loop-number : goal.invariant-loop-number
+invariant-loop-number l =
+    LeastBefore (length l.yielded) l.above (keys_of l.active.entries) l.least
