@@ -56,6 +56,7 @@ TEXTS = "hpack reads into a text that it has, with the function that appends"
 API = {
     "h2_frame::FrameRef::payload_len": "an end counts the payload of DATA alone; for users that count any frame",
     "h2_flow::Config::with_max_frame": "a program with larger frames configures its ends so",
+    "h2_flow::StreamState::closed": "an end asks for both sides at once",
     "h2_flow::StreamState::end_in": "an end sets the side with the rest of its stream",
     "h2_flow::StreamState::end_out": "an end sets the side with the rest of its stream",
     "h2_flow::Window::give": WINDOWS,
