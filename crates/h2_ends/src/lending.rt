@@ -111,7 +111,7 @@ fn lend<'a>(end: &'a End, piece: &'a [u8], progress: EndProgress) -> EndTaken<'a
             },
             None => unreachable!(),
         },
-        other => other.with_parts(end.conn.list(), &[]),
+        other => other.with_parts(end.conn.list(), [].as_slice()),
     };
     EndTaken {
         used,

@@ -41,25 +41,20 @@ unreachable-requires c =
     (rw c.in-None.ensures at (rw (c.in-Some.is, c.in-Body.is) at c.requires.lies))
 
 pub returns : goal.returns
-returns c =
-    let lies : (id : ℕ) (frame : Complete) (last : Bool)
-    → c.match-handed.handed ≡ events.Body id frame last
-    → body_at c.args.end.now.conn.inner.cutter c.args.piece.now frame
-    ≡ Some c.match-handed.octets.now = elim c.match-handed.branch [
-      | in-Body+in-Some-octets w ↦ λ id frame last is.
-          let same : frame ≡ w.in-Body.bytes = cc in
-          rw (same, w.octets-is) w.in-Some-octets.ensures
-      | in_default-handed w ↦ λ id frame last is.
-          absurd (w.in_default-handed.not-Body _ _ _ (sym w.handed-is ∙ is))
-    ] in
-    let same : c.match-handed.handed ≡ c.in-Some.handed = elim c.match-handed.branch [
-      | in-Body+in-Some-octets w ↦ w.handed-is ∙ sym w.in-Body.is
-      | in_default-handed w ↦ w.handed-is
-    ] in
-    let lent = lent_as c.args.end.now c.args.piece.now c.list.result c.match-handed.octets
-    c.match-handed.handed c.list.ensures lies in (
-      c.match-handed.octets.now,
-      rw (c.in-Some.is, ← same) lent.0,
-      rw (c.in-Some.is, ← same, c.with_parts.ensures)
-          (ap (λ (one : Handed). EndTook c.args.progress.used (Some one)) lent.1),
-    )
+unfolding IsBodyIn
+returns c = elim c.match-handed.branch [
+  | in-Body+in-Some-octets w ↦ (
+    w.in-Some-octets.bytes.now,
+    rw (c.in-Some.is, w.in-Body.is) w.in-Some-octets.ensures,
+    rw (w.event-is, c.in-Some.is, w.in-Body.is) refl,
+  )
+  | in_default-handed w ↦
+      let lent = lent_as c.args.end.now c.args.piece.now w.list.result w.as_slice.result
+      c.in-Some.handed w.list.ensures
+      (λ id frame last is. absurd (w.in_default-handed.not-Body _ _ _ is)) in (
+        w.as_slice.result.now,
+        rw c.in-Some.is lent.0,
+        rw (w.event-is, w.with_parts-event.ensures, c.in-Some.is)
+            (ap (λ (one : Handed). EndTook c.args.progress.used (Some one)) lent.1),
+      )
+]

@@ -1,8 +1,10 @@
-use Rattle.h2_ends.proofs.Names.{Some, refl, sym, ap}
-use Rattle.h2_ends.specs.Taking.{ReadsData}
+use Rattle.h2_ends.proofs.Names.{◌≡◌, ℕ, List, length, true, Some, refl, sym, ap, Values, EndLog, OctetsPart}
+use Rattle.h2_ends.specs.Taking.{ReadsData, IsReadOn}
 use Rattle.std.specs.Option.{is_some}
 use Rattle.h2_ends.proofs.TableSteps.{keeps_but}
-use Rattle.h2_ends.proofs.TakeReads.{with_reading, first_data, data_taken, data_refused}
+use Rattle.h2_ends.proofs.TakeReads.{IsReadBut, with_reading, first_data, data_taken, data_refused}
+use Rattle.h2_ends.proofs.TakeInStep.{represents_all}
+use Rattle.h2_ends.proofs.end.End.read_data.Goals.{After-data}
 use Rattle.h2_ends.proofs.end.End.read_data.Goals as goal
 
 pub returns-in_default-clause-reads : goal.returns-in_default-clause-reads
@@ -23,20 +25,32 @@ returns-then-not-data-clause-reads c = λ values happened octets counted is.
     (keeps_but c.args.self.now _ c.args.id (Some (with_reading stream c.data.new.self))
     (holds.3 (ap is_some found)).0) refl refl refl
 
-pub returns-clause-reads : goal.returns-clause-reads
-unfolding ReadsData
-returns-clause-reads c = λ values happened octets counted is.
+-- What is kept once the octets were read.
+taken : (c : After-data) → c.data.result ≡ true → (values : Values) (happened : EndLog)
+    (octets : List ℕ) → length octets ≡ c.args.count
+    → IsReadOn values c.args.self.now happened c.args.id (OctetsPart octets, c.args.end)
+    → IsReadBut values happened c.args.id (OctetsPart octets, c.args.end) (record c.args.self.now {
+      streams = c.get_mut.follows.lender (with_reading c.in-Some.stream.now c.data.new.self);
+    })
+taken c read values happened octets counted is =
     let stream = c.in-Some.stream.now in
     let found = sym c.in-Some.ensures.value in
     let holds = c.get_mut.follows.holds (with_reading stream c.data.new.self) in
-    let read = data_taken values c.args.self.now
-    (record c.args.self.now {
-      streams = c.get_mut.follows.lender
-          (with_reading stream c.data.new.self);
-    }) happened c.args.id octets c.args.end
-    stream c.data.new.self is found
-    (λ reads parts follows.
-    rw c.if-not-data.false at c.data.ensures reads parts octets counted follows)
+    data_taken values c.args.self.now _ happened c.args.id octets c.args.end stream c.data.new.self
+    is found (λ reads parts follows. rw read at c.data.ensures reads parts octets counted follows)
     (keeps_but c.args.self.now _ c.args.id (Some (with_reading stream c.data.new.self))
-    (holds.3 (ap is_some found)).0) refl refl refl in
-    (read.0, c.forget_if_closed.ensures.represents values _ read.1 read.2)
+    (holds.3 (ap is_some found)).0) refl refl refl
+
+pub returns-then-end-clause-reads : goal.returns-then-end-clause-reads
+unfolding ReadsData
+returns-then-end-clause-reads c = λ values happened octets counted is.
+    let read = taken (goal.at.returns-then-end-clause-reads c).After-data c.if-not-data.false
+    values happened octets counted is in
+    (read.0, c.forget_if_over.ensures.represents values _ read.1)
+
+pub returns-else-end-clause-reads : goal.returns-else-end-clause-reads
+unfolding ReadsData
+returns-else-end-clause-reads c = λ values happened octets counted is.
+    let read = taken (goal.at.returns-else-end-clause-reads c).After-data c.if-not-data.false
+    values happened octets counted is in
+    (read.0, represents_all values _ _ c.args.id read.1 (read.2 c.if-end.false))

@@ -1,8 +1,11 @@
-use Rattle.h2_ends.proofs.Names.{Some, refl, sym, ap}
-use Rattle.h2_ends.specs.Taking.{ReadsFields}
+use Rattle.h2_ends.proofs.Names.{◌≡◌, Some, refl, sym, ap, Values, EndLog, FieldsPart, Place, place_after, parts_on}
+use Rattle.h2_ends.specs.Taking.{ReadsFields, IsReadOn}
 use Rattle.std.specs.Option.{is_some}
 use Rattle.h2_ends.proofs.TableSteps.{keeps_but}
-use Rattle.h2_ends.proofs.TakeReads.{with_reading, fields_taken, fields_refused}
+use Rattle.h2_ends.proofs.TakeReads.{IsReadBut, with_reading, fields_taken, fields_refused}
+use Rattle.h2_ends.specs.Ends.{reads_on}
+use Rattle.h2_ends.proofs.TakeInStep.{represents_all}
+use Rattle.h2_ends.proofs.end.End.read_fields.Goals.{After-fields}
 use Rattle.h2_ends.proofs.end.End.read_fields.Goals as goal
 
 pub returns-in_default-fields-clause-reads : goal.returns-in_default-fields-clause-reads
@@ -16,21 +19,39 @@ returns-in_default-fields-clause-reads c = λ values happened is.
     (keeps_but c.args.self.now _ c.args.id (Some (with_reading stream c.fields.new.self))
     (holds.3 (ap is_some found)).0) refl refl refl
 
-pub returns-clause-reads : goal.returns-clause-reads
-unfolding ReadsFields
-returns-clause-reads c = λ values happened is.
+-- What is kept once the fields were read.
+taken : (c : After-fields) (place : Place) → c.fields.result ≡ Some place → (values : Values)
+    (happened : EndLog)
+    → IsReadOn values c.args.self.now happened c.args.id
+    (FieldsPart c.args.self.now.conn.inner.end.list, c.args.end)
+    → IsReadBut values happened c.args.id
+    (FieldsPart c.args.self.now.conn.inner.end.list, c.args.end) (record c.args.self.now {
+      streams = c.get_mut.follows.lender (with_reading c.in-Some.stream.now c.fields.new.self);
+    })
+    × (place ≡ place_after (reads_on happened c.args.id) (parts_on c.args.id happened.handed)
+    c.args.self.now.conn.inner.end.list)
+taken c place read values happened is =
     let stream = c.in-Some.stream.now in
     let found = sym c.in-Some.ensures.value in
     let holds = c.get_mut.follows.holds (with_reading stream c.fields.new.self) in
-    let read = fields_taken values c.args.self.now
-    (record c.args.self.now {
-      streams = c.get_mut.follows.lender
-          (with_reading stream c.fields.new.self);
-    }) happened c.args.id _ c.args.end
-    c.in-Some-fields.place stream c.fields.new.self is found
-    (λ reads parts follows. rw c.list.ensures at c.in-Some-fields.ensures reads parts follows)
+    fields_taken values c.args.self.now _ happened c.args.id _ c.args.end place stream
+    c.fields.new.self is found
+    (λ reads parts follows. rw (c.list.ensures, read) at c.fields.ensures reads parts follows)
     (keeps_but c.args.self.now _ c.args.id (Some (with_reading stream c.fields.new.self))
-    (holds.3 (ap is_some found)).0) refl refl refl in (
-      (read.0.0, c.forget_if_closed.ensures.represents values _ read.0.1 read.0.2),
+    (holds.3 (ap is_some found)).0) refl refl refl
+
+pub returns-then-end-clause-reads : goal.returns-then-end-clause-reads
+unfolding ReadsFields
+returns-then-end-clause-reads c = λ values happened is.
+    let read = taken (goal.at.returns-then-end-clause-reads c).After-fields
+    c.in-Some-fields.place c.in-Some-fields.is values happened is in
+    ((read.0.0, c.forget_if_over.ensures.represents values _ read.0.1), read.1)
+
+pub returns-else-end-clause-reads : goal.returns-else-end-clause-reads
+unfolding ReadsFields
+returns-else-end-clause-reads c = λ values happened is.
+    let read = taken (goal.at.returns-else-end-clause-reads c).After-fields
+    c.in-Some-fields.place c.in-Some-fields.is values happened is in (
+      (read.0.0, represents_all values _ _ c.args.id read.0.1 (read.0.2 c.if-end.false)),
       read.1,
     )
