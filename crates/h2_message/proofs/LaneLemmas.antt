@@ -1,8 +1,9 @@
 -- From many octets at once to each of them, and from runs of 32 to the whole.
-use Rattle.h2_message.proofs.Names.{◌≡◌, ℕ, ◌+◌, ◌-◌, ◌^◌, ◌<◌, ◌≤◌, eqb, leb, Bool, true, false, cond}
-use Rattle.h2_message.proofs.Names.{not, ◌||◌, ◌&&◌, bit_or, List, [], ◌∷◌, length, map, drop, take}
-use Rattle.h2_message.proofs.Names.{get_or, refl, sym, ap, ap₂, ◌∙◌, arith, inl, inr, ◌⊎◌, true≢false}
-use Rattle.h2_message.proofs.Names.{list_any-append, list_any_at, drop_all, list_any, eqb-true}
+use Rattle.h2_message.proofs.Names.{◌≡◌, ℕ, ◌+◌, ◌-◌, ◌^◌, ◌<◌, ◌≤◌, eqb, leb, Bool, true, false}
+use Rattle.h2_message.proofs.Names.{cond, not, ◌||◌, ◌&&◌, bit_or, List, [], ◌∷◌, length, map, drop}
+use Rattle.h2_message.proofs.Names.{take, get_or, refl, sym, ap, ap₂, ◌∙◌, arith, inl, inr, ◌⊎◌}
+use Rattle.h2_message.proofs.Names.{true≢false, list_any-append, list_any_at, drop_all, list_any}
+use Rattle.h2_message.proofs.Names.{eqb-true}
 use Rattle.h2_message.proofs.Names.{is_bad_in_name, is_bad_after_first, is_bad_in_value, is_low}
 use Rattle.h2_message.proofs.Names.{is_unusual}
 use Rattle.std.proofs.Common.{◌≢◌, zero, suc, ◌*◌, ◌/◌, ◌%◌, bit_and, replicate, ltb}

@@ -1,7 +1,8 @@
 -- The blank at the end of a value.
 use Rattle.h2_message.proofs.Names.{◌≡◌, ℕ, ◌-◌, ◌<◌, false, List, [], ◌∷◌, length, reverse, get_or}
 use Rattle.h2_message.proofs.Names.{refl, sym, ap, ◌∙◌, arith, begins_blank, is_blank, true, Bool}
-use Rattle.h2_message.proofs.Names.{◌||◌, eqb, eqb-true, or-false, list_any, codes, bytes_eq, bytes_eq-Decides}
+use Rattle.h2_message.proofs.Names.{◌||◌, eqb, eqb-true, or-false, list_any, codes, bytes_eq}
+use Rattle.h2_message.proofs.Names.{bytes_eq-Decides}
 use Rattle.h2_message.proofs.Names.{is_bad_name, is_bad_in_name, is_bad_after_first, is_colon_first}
 use Rattle.std.proofs.lemmas.List.{get_or-reverse}
 

@@ -25,8 +25,8 @@ is_bad_in_name octet =
 unfoldable pub is_bad_after_first : ℕ → Bool
 is_bad_after_first octet = is_bad_in_name octet || octet == byte ":"
 
--- Whether an octet is neither a small letter nor a hyphen nor one of the four signs after "z": those
--- that a name must not have are among these.
+-- Whether an octet is no small letter, no hyphen and none of the four signs after "z": those that a
+-- name must not have are among these.
 -- rule: 8.2.1 (own) A scan of 32 octets at once answers what each octet's condition says
 unfoldable pub is_unusual : ℕ → Bool
 is_unusual octet = (nat_lt octet 0x61 && not (octet == byte "-")) || nat_le 0x7f octet

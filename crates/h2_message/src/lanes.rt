@@ -225,6 +225,9 @@ fn few_have_low(octets: &[u8]) -> bool
     if octets.len() >= 4 {
         return ends_have_low::<4>(octets);
     }
+    if octets.len() >= 2 {
+        return ends_have_low::<2>(octets);
+    }
     let mut found = false;
     for octet in octets {
         found |= is_low(*octet);

@@ -1,6 +1,7 @@
 //! The octets of names and values (RFC 9113, section 8.2.1).
 
 ghost use Rattle.std.specs.Prelude.{◌≡◌, true, false, reverse};
+ghost use Rattle.std.specs.Str.{bytes_eq};
 ghost use Rattle.h2_message.specs.Fields.{is_colon_first};
 ghost use Rattle.h2_message.specs.Octets.{begins_blank, is_bad_name, is_bad_value, is_blank};
 ghost use Rattle.h2_message.specs.Octets.{names_user};
@@ -75,11 +76,32 @@ fn ends_blank(value: &[u8]) -> bool
 }
 
 /// A space or a tab.
+#[inline(always)]
 #[tactic(auto, unfolding(crate::specs::Octets::is_blank))]
 fn is_blank(octet: u8) -> bool
     ensures { result ≡ is_blank octet }
 {
+    octet <= b' ' && is_blank_of_low(octet)
+}
+
+/// The same of an octet up to a space, which few values begin or end with.
+#[inline(never)]
+#[tactic(auto, unfolding(crate::specs::Octets::is_blank))]
+fn is_blank_of_low(octet: u8) -> bool
+    ensures { result ≡ is_blank octet }
+{
     octet == b' ' || octet == b'\t'
+}
+
+/// Whether octets are a text.
+#[inline(always)]
+pub(crate) fn is_text<const N: usize>(octets: &[u8], text: &[u8; N]) -> bool
+    ensures { result ≡ bytes_eq octets.now text.now }
+{
+    match octets.as_array::<N>() {
+        None => false,
+        Some(array) => *array == *text,
+    }
 }
 
 // rule: 8.3.1 An :authority with an @ in it names a user, and a call says so

@@ -1,4 +1,4 @@
-use Rattle.h2_message.proofs.Names.{◌≡◌, true, false, refl, sym, ◌∙◌}
+use Rattle.h2_message.proofs.Names.{refl, sym, ◌∙◌}
 use Rattle.h2_message.proofs.ScanAdds.{colon-from, pseudo-added, regular-added}
 use Rattle.h2_message.proofs.scan.Scan.add.Goals as goal
 

@@ -1,4 +1,3 @@
-use Rattle.h2_message.proofs.Names.{◌≡◌}
 use Rattle.h2_message.proofs.scan.Scan.add_pseudo.Goals as goal
 
 pub returns-in-Request-clause-seen : goal.returns-in-Request-clause-seen
