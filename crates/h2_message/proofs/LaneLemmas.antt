@@ -97,13 +97,13 @@ module _ (v : List ℕ) (n y : ℕ) (long : length v ≡ n) where
       ≡ map (λ x. full (leb y x)) v
   lanes_from = zip2_splat_left (λ (a b : ℕ). full (leb a b)) y n v long
 
--- the tests of an octet of a name, joined: below the small letters and no hyphen, or high
-pub one_of_unusual : (below other high : Bool)
-    → top 7 (bit_or (bit_and (full below) (full other)) (full high)) ≡ ((below && other) || high)
-one_of_unusual below other high =
-    ap (λ n. top 7 (bit_or n (full high))) (and_full below other)
-    ∙ ap (top 7) (or_full (below && other) high)
-    ∙ top_full ((below && other) || high)
+-- the tests of an octet of a name, joined: below the small letters or high, and no hyphen
+pub one_of_unusual : (below high other : Bool)
+    → top 7 (bit_and (bit_or (full below) (full high)) (full other)) ≡ ((below || high) && other)
+one_of_unusual below high other =
+    ap (λ n. top 7 (bit_and n (full other))) (or_full below high)
+    ∙ ap (top 7) (and_full (below || high) other)
+    ∙ top_full ((below || high) && other)
 
 or_none : (a b : Bool) → (a || b) ≡ false → (a ≡ false) × (b ≡ false)
 or_none false b nothing = (refl, nothing)
@@ -130,11 +130,11 @@ not_low x nothing =
 pub none_low : (xs : List ℕ) → list_any is_low xs ≡ false → list_any is_bad_in_value xs ≡ false
 none_low xs nothing = covers is_low is_bad_in_value not_low xs nothing
 
-usual_cases : (x : ℕ) (below hyphen : Bool) → ltb x 97 ≡ below → eqb x 45 ≡ hyphen
-    → (below && not hyphen) ≡ false → (97 ≤ x) ⊎ (x ≡ 45)
-usual_cases x false hyphen is_below is_hyphen nothing = inl (ltb-false x 97 is_below)
-usual_cases x true true is_below is_hyphen nothing = inr (eqb-true x 45 is_hyphen)
-usual_cases x true false is_below is_hyphen nothing = absurd (true≢false nothing)
+usual_cases : (x : ℕ) (outside hyphen : Bool) → eqb x 45 ≡ hyphen
+    → (outside && not hyphen) ≡ false → (outside ≡ false) ⊎ (x ≡ 45)
+usual_cases x false hyphen is_hyphen nothing = inl refl
+usual_cases x true true is_hyphen nothing = inr (eqb-true x 45 is_hyphen)
+usual_cases x true false is_hyphen nothing = absurd (true≢false nothing)
 
 letter_is_good : (x : ℕ) → 97 ≤ x → leb 127 x ≡ false → is_bad_after_first x ≡ false
 unfolding is_bad_in_name is_bad_after_first
@@ -152,9 +152,10 @@ hyphen_is_good = refl
 not_unusual : (x : ℕ) → is_unusual x ≡ false → is_bad_after_first x ≡ false
 unfolding is_unusual
 not_unusual x nothing =
-    let parts = or_none (ltb x 97 && not (eqb x 45)) (leb 127 x) nothing in
-    elim (usual_cases x (ltb x 97) (eqb x 45) refl refl parts.0) [
-      | inl from ↦ letter_is_good x from parts.1
+    elim (usual_cases x (ltb x 97 || leb 127 x) (eqb x 45) refl nothing) [
+      | inl inside ↦
+          let parts = or_none (ltb x 97) (leb 127 x) inside in
+          letter_is_good x (ltb-false x 97 parts.0) parts.1
       | inr is ↦ ap is_bad_after_first is ∙ hyphen_is_good
     ]
 

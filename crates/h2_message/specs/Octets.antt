@@ -29,7 +29,7 @@ is_bad_after_first octet = is_bad_in_name octet || octet == byte ":"
 -- name must not have are among these.
 -- rule: 8.2.1 (own) A scan of 32 octets at once answers what each octet's condition says
 unfoldable pub is_unusual : ℕ → Bool
-is_unusual octet = (nat_lt octet 0x61 && not (octet == byte "-")) || nat_le 0x7f octet
+is_unusual octet = (nat_lt octet 0x61 || nat_le 0x7f octet) && not (octet == byte "-")
 
 -- Whether the octets are not a name. That a name is not empty is an own choice.
 -- rule: 8.2.1 A name with an octet that it must not have breaks M1

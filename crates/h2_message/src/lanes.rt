@@ -142,9 +142,8 @@ fn run_has_unusual<const N: usize>(octets: &[u8]) -> bool
     ensures { result ≡ list_any is_unusual (take N octets.now) }
 {
     let v = Simd::<u8, N>::from_slice(octets);
-    let below = v.simd_lt(Simd::splat(b'a')) & v.simd_ne(Simd::splat(b'-'));
-    let high = v.simd_ge(Simd::splat(0x7f));
-    (below | high).any()
+    let outside = v.simd_lt(Simd::splat(b'a')) | v.simd_ge(Simd::splat(0x7f));
+    (outside & v.simd_ne(Simd::splat(b'-'))).any()
 }
 
 // rule: 8.2.1 (own) A scan of 32 octets at once answers what each octet's condition says
@@ -154,7 +153,7 @@ fn run_has_unusual<const N: usize>(octets: &[u8]) -> bool
 fn is_unusual(octet: u8) -> bool
     ensures { result ≡ is_unusual octet }
 {
-    (octet < b'a' && octet != b'-') || octet >= 0x7f
+    (octet < b'a' || octet >= 0x7f) && octet != b'-'
 }
 
 // rule: 8.2.1 A value with NUL, CR or LF breaks M2

@@ -11,7 +11,7 @@ unfolding is_unusual
 returns g c =
     let v = take g.row.N c.args.octets.now in
     let long = length-take-le g.row.N c.args.octets.now c.requires.least in
-    lanes_any is_unusual v _ long c.requires.lanes (zip2_of_maps bit_or _ _ v
-    (zip2_of_maps bit_and _ _ v (lanes_below v g.row.N 97 long) (other_lanes v g.row.N 45 long))
-    (lanes_from v g.row.N 127 long))
-    (λ x. one_of_unusual (ltb x 97) (not (eqb x 45)) (leb 127 x))
+    lanes_any is_unusual v _ long c.requires.lanes (zip2_of_maps bit_and _ _ v
+    (zip2_of_maps bit_or _ _ v (lanes_below v g.row.N 97 long) (lanes_from v g.row.N 127 long))
+    (other_lanes v g.row.N 45 long))
+    (λ x. one_of_unusual (ltb x 97) (leb 127 x) (not (eqb x 45)))
