@@ -79,8 +79,11 @@ fn scan_after_first(octets: &[u8]) -> bool
 fn has_unusual(octets: &[u8]) -> bool
     ensures { result ≡ list_any is_unusual octets.now }
 {
-    if octets.len() < LANES {
+    if octets.len() < 16 {
         return few_have_unusual(octets);
+    }
+    if octets.len() < LANES {
+        return ends_have_unusual::<16>(octets);
     }
     let (lanes, _) = octets.as_chunks::<LANES>();
     for lane in lanes {
@@ -99,15 +102,12 @@ fn lane_has_unusual(lane: &[u8; LANES]) -> bool
     run_has_unusual::<LANES>(lane.as_slice())
 }
 
-/// The same of fewer than 32 octets.
+/// The same of fewer than 16 octets.
 #[inline(always)]
 fn few_have_unusual(octets: &[u8]) -> bool
-    requires { length octets.now < 32 }
+    requires { length octets.now < 16 }
     ensures { result ≡ list_any is_unusual octets.now }
 {
-    if octets.len() >= 16 {
-        return ends_have_unusual::<16>(octets);
-    }
     if octets.len() >= 8 {
         return ends_have_unusual::<8>(octets);
     }
@@ -189,8 +189,11 @@ fn scan_value(octets: &[u8]) -> bool
 fn has_low(octets: &[u8]) -> bool
     ensures { result ≡ list_any is_low octets.now }
 {
-    if octets.len() < LANES {
+    if octets.len() < 16 {
         return few_have_low(octets);
+    }
+    if octets.len() < LANES {
+        return ends_have_low::<16>(octets);
     }
     let (lanes, _) = octets.as_chunks::<LANES>();
     for lane in lanes {
@@ -209,15 +212,12 @@ fn lane_has_low(lane: &[u8; LANES]) -> bool
     run_has_low::<LANES>(lane.as_slice())
 }
 
-/// The same of fewer than 32 octets.
+/// The same of fewer than 16 octets.
 #[inline(always)]
 fn few_have_low(octets: &[u8]) -> bool
-    requires { length octets.now < 32 }
+    requires { length octets.now < 16 }
     ensures { result ≡ list_any is_low octets.now }
 {
-    if octets.len() >= 16 {
-        return ends_have_low::<16>(octets);
-    }
     if octets.len() >= 8 {
         return ends_have_low::<8>(octets);
     }
