@@ -79,8 +79,12 @@ and_full true false = refl
 and_full false true = refl
 and_full false false = refl
 
--- each lane against one number: at most it, below it, another one, at least it
+-- each lane against one number: equal to it, at most it, below it, another one, at least it
 module _ (v : List ℕ) (n y : ℕ) (long : length v ≡ n) where
+  pub equal_lanes : zip2 (λ (a b : ℕ). full (eqb a b)) v (replicate n y)
+      ≡ map (λ x. full (eqb x y)) v
+  equal_lanes = zip2_splat (λ (a b : ℕ). full (eqb a b)) v n y long
+
   pub lanes_up_to : zip2 (λ (a b : ℕ). full (leb a b)) v (replicate n y)
       ≡ map (λ x. full (leb x y)) v
   lanes_up_to = zip2_splat (λ (a b : ℕ). full (leb a b)) v n y long
@@ -96,6 +100,14 @@ module _ (v : List ℕ) (n y : ℕ) (long : length v ≡ n) where
   pub lanes_from : zip2 (λ (a b : ℕ). full (leb a b)) (replicate n y) v
       ≡ map (λ x. full (leb y x)) v
   lanes_from = zip2_splat_left (λ (a b : ℕ). full (leb a b)) y n v long
+
+-- three tests of a lane, joined
+pub one_of_three : (a b c : Bool)
+    → top 7 (bit_or (bit_or (full a) (full b)) (full c)) ≡ ((a || b) || c)
+one_of_three a b c =
+    ap (λ n. top 7 (bit_or n (full c))) (or_full a b)
+    ∙ ap (top 7) (or_full (a || b) c)
+    ∙ top_full ((a || b) || c)
 
 -- the tests of an octet of a name, joined: below the small letters or high, and no hyphen
 pub one_of_unusual : (below high other : Bool)
@@ -287,7 +299,18 @@ module _ (q : ℕ → Bool) (xs back : List ℕ) (front : List (List ℕ))
       (sym none ∙ ap (list_any (list_any q)) (drop_all i front past)))
       ∙ both_any
 
-  -- Then the last 32 octets settle the answer.
+  -- Then what is found in the rest, octet by octet, settles the answer.
+  pub rest_settles : (i : ℕ) → length front ≤ i
+      → list_any (list_any q) (drop i front) ≡ list_any (list_any q) front
+      → (bad : Bool) (j : ℕ) → length back ≤ j → (bad || list_any q (drop j back)) ≡ list_any q back
+      → bad ≡ list_any q xs
+  rest_settles i past none bad j end all =
+      or_with_false bad
+      ∙ sym (ap (λ (ys : List ℕ). bad || list_any q ys) (drop_all j back end))
+      ∙ all
+      ∙ in_rest i past none
+
+  -- Or the last 32 octets do.
   pub last_settles : (i : ℕ) → length front ≤ i
       → list_any (list_any q) (drop i front) ≡ list_any (list_any q) front
       → 32 ≤ length xs → (m : ℕ) → 32 ≤ m → (last : Bool)
