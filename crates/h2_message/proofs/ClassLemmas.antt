@@ -3,6 +3,9 @@ use Rattle.h2_message.proofs.Names.{◌≡◌, ℕ, ◌+◌, ◌-◌, ◌^◌, �
 use Rattle.h2_message.proofs.Names.{◌&&◌, not, leb, eqb, length, drop, true, false, Bool, arith}
 use Rattle.h2_message.proofs.Names.{get_or, if◌then◌else◌, eqb-true, le-ltb, lt-ltb, drop_more}
 use Rattle.h2_message.proofs.Names.{all_ascii_digits, byte, is_bad_length, number_written}
+use Rattle.h2_message.proofs.Names.{method_class, is_bad_method, is_token, is_token_octet, refl}
+use Rattle.h2_message.proofs.Names.{codes, bytes_eq, bytes_eq-Decides}
+use Rattle.h2_message.specs.declared.classes.Method.TheVariants.{Other}
 use Rattle.std.proofs.Common.{◌*◌, ltb, fold}
 use Rattle.std.proofs.Math.Nat.{pow-le-pow_right}
 use Rattle.std.proofs.lemmas.Bool.{and_left, and_right, and_from, eqb-false, lt-leb, le-leb}
@@ -67,3 +70,22 @@ pub some_length : (value : List ℕ) → is_bad_length value ≡ false → (n : 
 some_length value good n is =
     ap (λ m. Some m) is
     ∙ sym (ap (λ (b : Bool). if b then None else Some (number_written value)) good)
+
+-- GET and POST are methods of which nothing is said.
+get_is_other : Other ≡ method_class (codes "GET")
+unfolding method_class is_bad_method is_token is_token_octet
+get_is_other = refl
+
+post_is_other : Other ≡ method_class (codes "POST")
+unfolding method_class is_bad_method is_token is_token_octet
+post_is_other = refl
+
+pub get-class : (value : List ℕ) → bytes_eq value (codes "GET") ≡ true
+    → Other ≡ method_class value
+get-class value is =
+    get_is_other ∙ sym (ap method_class ((bytes_eq-Decides value (codes "GET")).0 is))
+
+pub post-class : (value : List ℕ) → bytes_eq value (codes "POST") ≡ true
+    → Other ≡ method_class value
+post-class value is =
+    post_is_other ∙ sym (ap method_class ((bytes_eq-Decides value (codes "POST")).0 is))

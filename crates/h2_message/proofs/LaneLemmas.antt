@@ -1,11 +1,15 @@
--- From 32 octets at once to each of them, and from runs of 32 to the whole.
-use Rattle.h2_message.proofs.Names.{◌≡◌, ℕ, ◌+◌, ◌^◌, ◌<◌, ◌≤◌, eqb, leb, Bool, true, false, cond}
-use Rattle.h2_message.proofs.Names.{not, ◌||◌, ◌&&◌, bit_or, List, [], ◌∷◌, length, map, drop, take}
-use Rattle.h2_message.proofs.Names.{get_or, refl, sym, ap, ap₂, ◌∙◌, arith, inl, inr}
-use Rattle.h2_message.proofs.Names.{list_any-append, list_any_at, drop_all, list_any}
-use Rattle.std.proofs.Common.{◌≢◌, zero, suc, ◌*◌, ◌/◌, ◌%◌, bit_and, replicate}
-use Rattle.std.proofs.lemmas.Bool.{cases_eq, eq-eqb, ne_eqb}
-use Rattle.std.proofs.lemmas.List.{take-append-drop, drop-drop, length-map}
+-- From many octets at once to each of them, and from runs of 32 to the whole.
+use Rattle.h2_message.proofs.Names.{◌≡◌, ℕ, ◌+◌, ◌-◌, ◌^◌, ◌<◌, ◌≤◌, eqb, leb, Bool, true, false}
+use Rattle.h2_message.proofs.Names.{cond, not, ◌||◌, ◌&&◌, bit_or, List, [], ◌∷◌, length, map, drop}
+use Rattle.h2_message.proofs.Names.{take, get_or, refl, sym, ap, ap₂, ◌∙◌, arith, inl, inr, ◌⊎◌}
+use Rattle.h2_message.proofs.Names.{true≢false, list_any-append, list_any_at, drop_all, list_any}
+use Rattle.h2_message.proofs.Names.{eqb-true}
+use Rattle.h2_message.proofs.Names.{is_bad_in_name, is_bad_after_first, is_bad_in_value, is_low}
+use Rattle.h2_message.proofs.Names.{is_unusual}
+use Rattle.std.proofs.Common.{◌≢◌, zero, suc, ◌*◌, ◌/◌, ◌%◌, bit_and, replicate, ltb}
+use Rattle.std.proofs.lemmas.Bool.{cases_eq, eq-eqb, ne_eqb, leb-false, ltb-false, lt-leb}
+use Rattle.std.proofs.lemmas.Bool.{and_right}
+use Rattle.std.proofs.lemmas.List.{take-append-drop, drop-drop, length-map, length-drop, take_all}
 use Rattle.std.proofs.lemmas.Simd.{map-map, mask_l-mod, zip2_splat, zip2_splat_left}
 use Rattle.std.specs.Simd.{first_chunks}
 use lib.Lanes.{mask_l, top, zip2}
@@ -43,10 +47,10 @@ any_alike p q same [] = refl
 any_alike p q same (x ∷ xs) = ap₂ ◌||◌ (same x) (any_alike p q same xs)
 
 -- Whether a lane of the vector is set: whether an octet passes the test that the lanes compute.
-pub lanes_any : (q : ℕ → Bool) (v : List ℕ) (f : ℕ → ℕ) {z : List ℕ} → length v ≡ 32
-    → z ≡ map f v → ((x : ℕ) → top 7 (f x) ≡ q x)
+pub lanes_any : (q : ℕ → Bool) (v : List ℕ) (f : ℕ → ℕ) {z : List ℕ} {n : ℕ} → length v ≡ n
+    → n ≤ 64 → z ≡ map f v → ((x : ℕ) → top 7 (f x) ≡ q x)
     → not (eqb (mask_l (map (top 7) z) % 2 ^ 64) 0) ≡ list_any q v
-lanes_any q v f long lanes same =
+lanes_any q v f long fits lanes same =
     let set : ℕ → Bool = λ x. top 7 (f x) in
     let few : length (map set v) ≤ 64 = omega (arith, length-map v set) in
     ap (λ z. not (eqb (mask_l (map (top 7) z) % 2 ^ 64) 0)) lanes
@@ -59,7 +63,7 @@ lanes_any q v f long lanes same =
 abbrev pub full : Bool → ℕ
 full b = cond b 255 0
 
-top_full : (a : Bool) → top 7 (full a) ≡ a
+pub top_full : (a : Bool) → top 7 (full a) ≡ a
 top_full true = refl
 top_full false = refl
 
@@ -75,19 +79,27 @@ and_full true false = refl
 and_full false true = refl
 and_full false false = refl
 
--- each lane against one number: equal to it, at most it, at least it
-module _ (v : List ℕ) (y : ℕ) (long : length v ≡ 32) where
-  pub equal_lanes : zip2 (λ (a b : ℕ). full (eqb a b)) v (replicate 32 y)
+-- each lane against one number: equal to it, at most it, below it, another one, at least it
+module _ (v : List ℕ) (n y : ℕ) (long : length v ≡ n) where
+  pub equal_lanes : zip2 (λ (a b : ℕ). full (eqb a b)) v (replicate n y)
       ≡ map (λ x. full (eqb x y)) v
-  equal_lanes = zip2_splat (λ (a b : ℕ). full (eqb a b)) v 32 y long
+  equal_lanes = zip2_splat (λ (a b : ℕ). full (eqb a b)) v n y long
 
-  pub lanes_up_to : zip2 (λ (a b : ℕ). full (leb a b)) v (replicate 32 y)
+  pub lanes_up_to : zip2 (λ (a b : ℕ). full (leb a b)) v (replicate n y)
       ≡ map (λ x. full (leb x y)) v
-  lanes_up_to = zip2_splat (λ (a b : ℕ). full (leb a b)) v 32 y long
+  lanes_up_to = zip2_splat (λ (a b : ℕ). full (leb a b)) v n y long
 
-  pub lanes_from : zip2 (λ (a b : ℕ). full (leb a b)) (replicate 32 y) v
+  pub lanes_below : zip2 (λ (a b : ℕ). full (ltb a b)) v (replicate n y)
+      ≡ map (λ x. full (ltb x y)) v
+  lanes_below = zip2_splat (λ (a b : ℕ). full (ltb a b)) v n y long
+
+  pub other_lanes : zip2 (λ (a b : ℕ). full (not (eqb a b))) v (replicate n y)
+      ≡ map (λ x. full (not (eqb x y))) v
+  other_lanes = zip2_splat (λ (a b : ℕ). full (not (eqb a b))) v n y long
+
+  pub lanes_from : zip2 (λ (a b : ℕ). full (leb a b)) (replicate n y) v
       ≡ map (λ x. full (leb y x)) v
-  lanes_from = zip2_splat_left (λ (a b : ℕ). full (leb a b)) y 32 v long
+  lanes_from = zip2_splat_left (λ (a b : ℕ). full (leb a b)) y n v long
 
 -- three tests of a lane, joined
 pub one_of_three : (a b c : Bool)
@@ -97,20 +109,153 @@ one_of_three a b c =
     ∙ ap (top 7) (or_full (a || b) c)
     ∙ top_full ((a || b) || c)
 
--- the tests of an octet of a name, joined: low, a capital, high or a colon
-pub one_of_name : (low from_a to_z high colon : Bool)
-    → top 7 (bit_or (bit_or (bit_or (full low) (bit_and (full from_a) (full to_z))) (full high))
-    (full colon))
-    ≡ (((low || (from_a && to_z)) || high) || colon)
-one_of_name low from_a to_z high colon =
-    ap (λ n. top 7 (bit_or (bit_or (bit_or (full low) n) (full high)) (full colon)))
-    (and_full from_a to_z)
-    ∙ ap (λ n. top 7 (bit_or (bit_or n (full high)) (full colon))) (or_full low (from_a && to_z))
-    ∙ one_of_three (low || (from_a && to_z)) high colon
+-- the tests of an octet of a name, joined: below the small letters or high, and no hyphen
+pub one_of_unusual : (below high other : Bool)
+    → top 7 (bit_and (bit_or (full below) (full high)) (full other)) ≡ ((below || high) && other)
+one_of_unusual below high other =
+    ap (λ n. top 7 (bit_and n (full other))) (or_full below high)
+    ∙ ap (top 7) (and_full (below || high) other)
+    ∙ top_full ((below || high) && other)
+
+or_none : (a b : Bool) → (a || b) ≡ false → (a ≡ false) × (b ≡ false)
+or_none false b nothing = (refl, nothing)
+or_none true b nothing = absurd (true≢false nothing)
+
+-- Where no octet is found by a test, none is by a narrower one.
+covers : (p q : ℕ → Bool) → ((x : ℕ) → p x ≡ false → q x ≡ false) → (xs : List ℕ)
+    → list_any p xs ≡ false → list_any q xs ≡ false
+covers p q narrower [] nothing = refl
+covers p q narrower (x ∷ xs) nothing =
+    let parts = or_none (p x) (list_any p xs) nothing in
+    ap₂ ◌||◌ (narrower x parts.0) (covers p q narrower xs parts.1)
+
+not_low : (x : ℕ) → is_low x ≡ false → is_bad_in_value x ≡ false
+unfolding is_low is_bad_in_value
+not_low x nothing =
+    let more : 13 < x = leb-false x 13 nothing in
+    let zero_not : x ≢ 0 = omega arith in
+    let ten_not : x ≢ 10 = omega arith in
+    let last_not : x ≢ 13 = omega arith in
+    ap₂ ◌||◌ (ap₂ ◌||◌ (ne_eqb x 0 zero_not) (ne_eqb x 10 ten_not)) (ne_eqb x 13 last_not)
+
+-- No octet of a value is bad where none is low.
+pub none_low : (xs : List ℕ) → list_any is_low xs ≡ false → list_any is_bad_in_value xs ≡ false
+none_low xs nothing = covers is_low is_bad_in_value not_low xs nothing
+
+usual_cases : (x : ℕ) (outside hyphen : Bool) → eqb x 45 ≡ hyphen
+    → (outside && not hyphen) ≡ false → (outside ≡ false) ⊎ (x ≡ 45)
+usual_cases x false hyphen is_hyphen nothing = inl refl
+usual_cases x true true is_hyphen nothing = inr (eqb-true x 45 is_hyphen)
+usual_cases x true false is_hyphen nothing = absurd (true≢false nothing)
+
+letter_is_good : (x : ℕ) → 97 ≤ x → leb 127 x ≡ false → is_bad_after_first x ≡ false
+unfolding is_bad_in_name is_bad_after_first
+letter_is_good x from low =
+    let above : 32 < x = omega arith in
+    let small : 90 < x = omega arith in
+    let other : x ≢ 58 = omega arith in
+    ap₂ ◌||◌ (ap₂ ◌||◌ (ap₂ ◌||◌ (lt-leb x 32 above)
+    (and_right (leb 65 x) (leb x 90) (lt-leb x 90 small))) low) (ne_eqb x 58 other)
+
+hyphen_is_good : is_bad_after_first 45 ≡ false
+unfolding is_bad_in_name is_bad_after_first
+hyphen_is_good = refl
+
+not_unusual : (x : ℕ) → is_unusual x ≡ false → is_bad_after_first x ≡ false
+unfolding is_unusual
+not_unusual x nothing =
+    elim (usual_cases x (ltb x 97 || leb 127 x) (eqb x 45) refl nothing) [
+      | inl inside ↦
+          let parts = or_none (ltb x 97) (leb 127 x) inside in
+          letter_is_good x (ltb-false x 97 parts.0) parts.1
+      | inr is ↦ ap is_bad_after_first is ∙ hyphen_is_good
+    ]
+
+-- No octet of a name is bad where none is unusual.
+pub none_unusual : (xs : List ℕ) → list_any is_unusual xs ≡ false
+    → list_any is_bad_after_first xs ≡ false
+none_unusual xs nothing = covers is_unusual is_bad_after_first not_unusual xs nothing
 
 or_with_false : (a : Bool) → a ≡ (a || false)
 or_with_false true = refl
 or_with_false false = refl
+
+or_swap : (a b : Bool) → (a || b) ≡ (b || a)
+or_swap true true = refl
+or_swap true false = refl
+or_swap false true = refl
+or_swap false false = refl
+
+or_twice : (a b : Bool) → ((a || b) || b) ≡ (a || b)
+or_twice true b = refl
+or_twice false true = refl
+or_twice false false = refl
+
+or_again : (a b : Bool) → (a || (a || b)) ≡ (a || b)
+or_again true b = refl
+or_again false b = refl
+
+-- what is found up to a place and from it on
+any_split : (q : ℕ → Bool) (k : ℕ) (xs : List ℕ)
+    → list_any q xs ≡ (list_any q (take k xs) || list_any q (drop k xs))
+any_split q k xs =
+    ap (list_any q) (sym (take-append-drop k xs)) ∙ list_any-append q (take k xs) (drop k xs)
+
+-- What is found from a place on is found in the whole.
+any_and_rest : (q : ℕ → Bool) (k : ℕ) (xs : List ℕ)
+    → (list_any q xs || list_any q (drop k xs)) ≡ list_any q xs
+any_and_rest q k xs =
+    ap (λ b. b || list_any q (drop k xs)) (any_split q k xs)
+    ∙ or_twice (list_any q (take k xs)) (list_any q (drop k xs))
+    ∙ sym (any_split q k xs)
+
+-- what is found up to a place and from an earlier one on
+overlap : (q : ℕ → Bool) (xs : List ℕ) (n k : ℕ) → k ≤ n
+    → (list_any q (take n xs) || list_any q (drop k xs)) ≡ list_any q xs
+overlap q xs n zero le =
+    ap (λ b. list_any q (take n xs) || b) (any_split q n xs)
+    ∙ or_again (list_any q (take n xs)) (list_any q (drop n xs))
+    ∙ sym (any_split q n xs)
+overlap q xs zero (suc k) le = absurd (omega arith)
+overlap q [] (suc n) (suc k) le = refl
+overlap q (x ∷ xs) (suc n) (suc k) le =
+    or-assoc (q x) (list_any q (take n xs)) (list_any q (drop k xs))
+    ∙ ap (λ b. q x || b) (overlap q xs n k (omega arith))
+
+-- the last n octets, as they are cut out
+last_is : (xs : List ℕ) (n m : ℕ) → n ≤ length xs → n ≤ m
+    → take n (take m (drop (length xs - n) xs)) ≡ drop (length xs - n) xs
+last_is xs n m long fits =
+    let few : length (drop (length xs - n) xs) ≤ n =
+    omega (arith, length-drop (length xs - n) xs) in
+    let fewer : length (drop (length xs - n) xs) ≤ m = omega arith in
+    ap (take n) (take_all m (drop (length xs - n) xs) fewer)
+    ∙ take_all n (drop (length xs - n) xs) few
+
+-- What is found in the first n octets and in the last n is found in up to twice as many.
+pub ends_any : (q : ℕ → Bool) (xs : List ℕ) (n m : ℕ) → n ≤ length xs → length xs ≤ n + n → n ≤ m
+    → (first last : Bool) → first ≡ list_any q (take n xs)
+    → last ≡ list_any q (take n (take m (drop (length xs - n) xs)))
+    → (first || last) ≡ list_any q xs
+ends_any q xs n m least most fits first last in_first in_last =
+    let before : length xs - n ≤ n = omega arith in
+    ap₂ ◌||◌ in_first (in_last ∙ ap (list_any q) (last_is xs n m least fits))
+    ∙ overlap q xs n (length xs - n) before
+
+-- a run of 32 octets
+pub lane_any : (q : ℕ → Bool) (lane slice : List ℕ) → length lane ≡ 32 → slice ≡ lane
+    → list_any q (take 32 slice) ≡ list_any q lane
+lane_any q lane slice long same =
+    let few : length lane ≤ 32 = omega arith in
+    ap (λ (l : List ℕ). list_any q (take 32 l)) same ∙ ap (list_any q) (take_all 32 lane few)
+
+-- Where each octet was looked at, one was found or none.
+pub scanned : (q : ℕ → Bool) (xs : List ℕ) (found : Bool) (j : ℕ) → length xs ≤ j
+    → (found || list_any q (drop j xs)) ≡ list_any q xs → found ≡ list_any q xs
+scanned q xs found j end all =
+    or_with_false found
+    ∙ sym (ap (λ (ys : List ℕ). found || list_any q ys) (drop_all j xs end))
+    ∙ all
 
 -- what is found in runs of n and in the rest is what is found in the whole
 pub chunks_any : (q : ℕ → Bool) (n k : ℕ) (xs : List ℕ) → {m : ℕ} → m ≡ k * n
@@ -145,7 +290,16 @@ module _ (q : ℕ → Bool) (xs back : List ℕ) (front : List (List ℕ))
       sym (ap (λ b. b || list_any q back) (list_any_at (list_any q) front i [] inside found))
       ∙ both_any
 
-  -- what no run settles the rest does
+  -- Where nothing run has one, what is found in the rest is what is found in the whole.
+  in_rest : (i : ℕ) → length front ≤ i
+      → list_any (list_any q) (drop i front) ≡ list_any (list_any q) front
+      → list_any q back ≡ list_any q xs
+  in_rest i past none =
+      sym (ap (λ b. b || list_any q back)
+      (sym none ∙ ap (list_any (list_any q)) (drop_all i front past)))
+      ∙ both_any
+
+  -- Then what is found in the rest, octet by octet, settles the answer.
   pub rest_settles : (i : ℕ) → length front ≤ i
       → list_any (list_any q) (drop i front) ≡ list_any (list_any q) front
       → (bad : Bool) (j : ℕ) → length back ≤ j → (bad || list_any q (drop j back)) ≡ list_any q back
@@ -154,6 +308,21 @@ module _ (q : ℕ → Bool) (xs back : List ℕ) (front : List (List ℕ))
       or_with_false bad
       ∙ sym (ap (λ (ys : List ℕ). bad || list_any q ys) (drop_all j back end))
       ∙ all
-      ∙ sym (ap (λ b. b || list_any q back)
-      (sym none ∙ ap (list_any (list_any q)) (drop_all i front past)))
-      ∙ both_any
+      ∙ in_rest i past none
+
+  -- Or the last 32 octets do.
+  pub last_settles : (i : ℕ) → length front ≤ i
+      → list_any (list_any q) (drop i front) ≡ list_any (list_any q) front
+      → 32 ≤ length xs → (m : ℕ) → 32 ≤ m → (last : Bool)
+      → last ≡ list_any q (take 32 (take m (drop (length xs - 32) xs)))
+      → last ≡ list_any q xs
+  last_settles i past none long m fits last is =
+      let k = length xs - 32 in
+      let j = length xs / 32 * 32 - k in
+      let whole : k + j ≡ length xs / 32 * 32 = omega arith in
+      let found = sym (in_rest i past none) ∙ ap (list_any q) (in_back ∙ ap (λ n. drop n xs)
+      (sym whole) ∙ sym (drop-drop j k xs)) in
+      is ∙ ap (list_any q) (last_is xs 32 m long fits)
+      ∙ sym (any_and_rest q j (drop k xs)) ∙ or_swap (list_any q (drop k xs)) _
+      ∙ ap (λ b. b || list_any q (drop k xs)) (sym found)
+      ∙ any_and_rest q k xs

@@ -29,6 +29,7 @@ unfoldable pub use Rattle.h2_message.specs.Phases.{place_at_head, place_in}
 unfoldable pub use Rattle.h2_message.specs.Reading.{compared_length, final_rules, IsDeclared}
 unfoldable pub use Rattle.h2_message.specs.Reading.{AreSoundTrailers, ended, message_parts}
 unfoldable pub use Rattle.h2_message.specs.Reading.{AreSoundInterims, trailers_parts, final_parts}
+unfoldable pub use Rattle.h2_message.specs.Octets.{is_low, is_unusual}
 unfoldable pub use Rattle.h2_message.specs.Scans.{HasPseudo}
 pub use Rattle.std.proofs.Common.{◌∙◌, ◌≡◌, sym, refl, false, true, ap, ℕ, Bool, List, Some, Option}
 pub use Rattle.std.proofs.Common.{None, [], codes, ◌||◌, ◌∷◌, length, not, arith, ◌++◌, ◌<◌, ◌≤◌}

@@ -80,15 +80,14 @@ whole kind fields scan all pseudo regular = record {
 }
 
 -- the scan as a pseudo-field is begun to be added
-abbrev pub with_pseudo : Scan → (bad-name bad-value : Bool) → Scan
-with_pseudo old bad-name bad-value = record old {
-  bad_name = old.bad_name || bad-name;
+abbrev pub with_pseudo : Scan → (bad-value : Bool) → Scan
+with_pseudo old bad-value = record old {
   bad_value = old.bad_value || bad-value;
   pseudo = true;
   late_pseudo = old.late_pseudo || old.regular;
 }
 
--- the same of a regular field
+-- the scan as a regular field is begun to be added
 abbrev pub with_regular : Scan → (bad-name bad-value : Bool) → Scan
 with_regular old bad-name bad-value = record old {
   bad_name = old.bad_name || bad-name;
@@ -120,25 +119,27 @@ kind-regular Request fields name value sensitive scan colon seen =
 kind-regular Response fields name value sensitive scan colon seen =
     response-regular fields name value sensitive scan colon seen
 
--- A pseudo-field was added.
+-- A pseudo-field was added, and then its name was looked at.
 pub pseudo-added : (kind : Kind) (fields : List Field) (name value : List ℕ) (sensitive : Bool)
-    (old new : Scan) (bad-name bad-value : Bool) → IsScan kind fields old
+    (old mid : Scan) (bad-name bad-value : Bool) → IsScan kind fields old
     → bad-name ≡ is_bad_name name → bad-value ≡ is_bad_value value → is_colon_first name ≡ true
-    → (is_colon_first name ≡ true → HasSeenPseudo kind fields (with_pseudo old bad-name bad-value)
-    → HasSeenPseudo kind (with_field fields name value sensitive) new)
-    → IsSameOfAll (with_pseudo old bad-name bad-value) new
-    → IsSameOfRegular (with_pseudo old bad-name bad-value) new
-    → IsScan kind (with_field fields name value sensitive) new
+    → (is_colon_first name ≡ true → HasSeenPseudo kind fields (with_pseudo old bad-value)
+    → HasSeenPseudo kind (with_field fields name value sensitive) mid)
+    → IsSameOfAll (with_pseudo old bad-value) mid
+    → IsSameOfRegular (with_pseudo old bad-value) mid
+    → IsScan kind (with_field fields name value sensitive)
+    (record mid { bad_name = mid.bad_name || bad-name })
 unfolding is_pseudo
-pseudo-added kind fields name value sensitive old new bad-name bad-value scan name-is value-is
+pseudo-added kind fields name value sensitive old mid bad-name bad-value scan name-is value-is
     colon step all regular =
     let field : Field = record { name = name; value = value; sensitive = sensitive } in
+    let new : Scan = record mid { bad_name = mid.bad_name || bad-name } in
     whole kind (fields ++ field ∷ []) new
     (all-added kind fields field old new bad-name bad-value true scan name-is value-is colon
-    all.bad_name all.bad_value (all.regular ∙ sym (or-false old.regular))
-    (all.pseudo ∙ sym (or-true old.pseudo))
+    (ap (λ (b : Bool). b || bad-name) all.bad_name) all.bad_value
+    (all.regular ∙ sym (or-false old.regular)) (all.pseudo ∙ sym (or-true old.pseudo))
     (all.late_pseudo ∙ ap (λ (b : Bool). old.late_pseudo || b) (sym (and-true old.regular))))
-    (step colon (seen-pseudo kind fields old (with_pseudo old bad-name bad-value) record {
+    (same-pseudo kind (fields ++ field ∷ []) mid new record {
       unknown_pseudo = refl;
       pseudo_twice = refl;
       method = refl;
@@ -146,7 +147,15 @@ pseudo-added kind fields name value sensitive old new bad-name bad-value scan na
       path = refl;
       authority = refl;
       status = refl;
-    } scan)) (regular-pseudo fields name value sensitive old new record {
+    } (step colon (seen-pseudo kind fields old (with_pseudo old bad-value) record {
+      unknown_pseudo = refl;
+      pseudo_twice = refl;
+      method = refl;
+      scheme = refl;
+      path = refl;
+      authority = refl;
+      status = refl;
+    } scan))) (regular-pseudo fields name value sensitive old new record {
       connection_field = regular.connection_field;
       bad_length = regular.bad_length;
       length = regular.length;

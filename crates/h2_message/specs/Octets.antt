@@ -25,6 +25,12 @@ is_bad_in_name octet =
 unfoldable pub is_bad_after_first : ℕ → Bool
 is_bad_after_first octet = is_bad_in_name octet || octet == byte ":"
 
+-- Whether an octet is no small letter, no hyphen and none of the four signs after "z": those that a
+-- name must not have are among these.
+-- rule: 8.2.1 (own) A scan of 32 octets at once answers what each octet's condition says
+unfoldable pub is_unusual : ℕ → Bool
+is_unusual octet = (nat_lt octet 0x61 || nat_le 0x7f octet) && not (octet == byte "-")
+
 -- Whether the octets are not a name. That a name is not empty is an own choice.
 -- rule: 8.2.1 A name with an octet that it must not have breaks M1
 -- rule: 8.2.1 (own) An empty name breaks M1
@@ -39,6 +45,11 @@ is_bad_name (first ∷ octets) = is_bad_in_name first || list_any is_bad_after_f
 -- rule: 8.2.1 (own) A scan of 32 octets at once answers what each octet's condition says
 unfoldable pub is_bad_in_value : ℕ → Bool
 is_bad_in_value octet = octet == 0x00 || octet == 0x0a || octet == 0x0d
+
+-- Whether an octet is at most a carriage return: those that a value must not have are among these.
+-- rule: 8.2.1 (own) A scan of 32 octets at once answers what each octet's condition says
+unfoldable pub is_low : ℕ → Bool
+is_low octet = nat_le octet 0x0d
 
 -- a space or a tab
 -- rule: 8.2.1 A value with NUL, CR or LF breaks M2

@@ -13,7 +13,7 @@ ghost use Rattle.h2_message.specs.Values.{message_value};
 use crate::kind::Kind;
 use crate::malformed::Malformed;
 use crate::message::Message;
-use crate::scan::{Scan, scan_fields};
+use crate::scan::{Scan, empty, scan_fields};
 use crate::verdict::first_broken;
 
 // rule: 8.1.1 (own) A message to be sent is refused for the least of M1 to M11 it breaks
@@ -135,7 +135,7 @@ fn scan_trailers(message: &Message) -> Scan
     ensures { IsScan Request (trailer_fields (message_value message.now).trailers) result }
 {
     match &message.trailers {
-        None => scan_fields(Kind::Request, &[]),
+        None => empty(),
         Some(fields) => scan_fields(Kind::Request, fields),
     }
 }

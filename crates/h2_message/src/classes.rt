@@ -44,10 +44,25 @@ pub(crate) enum Status {
 }
 
 // contract: 8.3.1 A method that is no token, or is CONNECT (own), breaks M7
-// rule: 8.3.1 A method that is no token, or is CONNECT (own), breaks M7
-/// What a method says.
-#[tactic(auto, unfolding(crate::specs::Classes::method_class, crate::specs::Octets::is_bad_method))]
+/// What a method says: nothing where it is one of the two that nearly all requests have.
+#[inline(always)]
 pub(crate) fn method_class(value: &[u8]) -> Method
+    ensures { result ≡ method_class value.now }
+{
+    if value == b"GET".as_slice() {
+        return Method::Other;
+    }
+    if value == b"POST".as_slice() {
+        return Method::Other;
+    }
+    class_of_other_method(value)
+}
+
+// rule: 8.3.1 A method that is no token, or is CONNECT (own), breaks M7
+/// What a method says that may be any.
+#[inline(never)]
+#[tactic(auto, unfolding(crate::specs::Classes::method_class, crate::specs::Octets::is_bad_method))]
+fn class_of_other_method(value: &[u8]) -> Method
     ensures { result ≡ method_class value.now }
 {
     if !is_token(value) || value == b"CONNECT".as_slice() {

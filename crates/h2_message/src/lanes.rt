@@ -1,8 +1,12 @@
-//! Scans of octets, 32 at once, and the rest of them one after another.
+//! Scans of octets, up to 32 at once.
+//!
+//! Few octets are ones that a bad octet may be among: those are looked for first, many at once, and
+//! only where there are some is each octet looked at.
 
-ghost use Rattle.std.specs.Prelude.{◌≡◌};
+ghost use Rattle.std.specs.Prelude.{◌≡◌, ◌≤◌, ◌<◌, ◌+◌, length, take};
 ghost use Rattle.std.specs.List.{list_any};
 ghost use Rattle.h2_message.specs.Octets.{is_bad_in_name, is_bad_after_first, is_bad_in_value};
+ghost use Rattle.h2_message.specs.Octets.{is_unusual, is_low};
 
 use std::simd::prelude::*;
 
@@ -47,36 +51,109 @@ fn is_bad_in_value(octet: u8) -> bool
 // contract: 8.2.1 (own) A scan of 32 octets at once answers what each octet's condition says
 // rule: 8.2.1 (own) A scan of 32 octets at once answers what each octet's condition says
 /// Whether no name has one of these octets after its first one.
-#[inline]
+#[inline(always)]
 pub(crate) fn has_bad_after_first(octets: &[u8]) -> bool
     ensures { result ≡ list_any is_bad_after_first octets.now }
 {
-    let (lanes, rest) = octets.as_chunks::<LANES>();
-    for lane in lanes {
-        if lane_is_bad_after_first(lane) {
-            return true;
-        }
-    }
+    has_unusual(octets) && scan_after_first(octets)
+}
+
+// rule: 8.2.1 A name with an octet that it must not have breaks M1
+// rule: 8.2.1 (own) An empty name breaks M1
+/// The same, octet by octet.
+#[inline(never)]
+fn scan_after_first(octets: &[u8]) -> bool
+    ensures { result ≡ list_any is_bad_after_first octets.now }
+{
     let mut bad = false;
-    for octet in rest {
+    for octet in octets {
         bad |= is_bad_after_first(*octet);
     }
     bad
 }
 
+// rule: 8.2.1 (own) A scan of 32 octets at once answers what each octet's condition says
+/// Whether there is an octet that few names have: in runs of 32 octets, and in the last 32, which
+/// may overlap with a run.
+#[inline(always)]
+fn has_unusual(octets: &[u8]) -> bool
+    ensures { result ≡ list_any is_unusual octets.now }
+{
+    if octets.len() < 16 {
+        return few_have_unusual(octets);
+    }
+    if octets.len() < LANES {
+        return ends_have_unusual::<16>(octets);
+    }
+    let (lanes, _) = octets.as_chunks::<LANES>();
+    for lane in lanes {
+        if lane_has_unusual(lane) {
+            return true;
+        }
+    }
+    run_has_unusual::<LANES>(&octets[octets.len() - LANES..])
+}
+
+/// The same of one run.
+#[inline(always)]
+fn lane_has_unusual(lane: &[u8; LANES]) -> bool
+    ensures { result ≡ list_any is_unusual lane.now }
+{
+    run_has_unusual::<LANES>(lane.as_slice())
+}
+
+/// The same of fewer than 16 octets.
+#[inline(always)]
+fn few_have_unusual(octets: &[u8]) -> bool
+    requires { length octets.now < 16 }
+    ensures { result ≡ list_any is_unusual octets.now }
+{
+    if octets.len() >= 8 {
+        return ends_have_unusual::<8>(octets);
+    }
+    if octets.len() >= 4 {
+        return ends_have_unusual::<4>(octets);
+    }
+    let mut found = false;
+    for octet in octets {
+        found |= is_unusual(*octet);
+    }
+    found
+}
+
+/// The same of N octets or some more, up to twice as many: of the first N and of the last N.
+#[inline(always)]
+fn ends_have_unusual<const N: usize>(octets: &[u8]) -> bool
+    requires lanes { N ≤ 64 }
+    requires least { N ≤ length octets.now }
+    requires most { length octets.now ≤ N + N }
+    ensures { result ≡ list_any is_unusual octets.now }
+{
+    run_has_unusual::<N>(octets) | run_has_unusual::<N>(&octets[octets.len() - N..])
+}
+
 // contract: 8.2.1 (own) A scan of 32 octets at once answers what each octet's condition says
 // rule: 8.2.1 (own) A scan of 32 octets at once answers what each octet's condition says
-/// The same of 32 octets.
-#[inline]
-fn lane_is_bad_after_first(lane: &[u8; LANES]) -> bool
-    ensures { result ≡ list_any is_bad_after_first lane.now }
+/// The same of the first N octets.
+#[inline(always)]
+fn run_has_unusual<const N: usize>(octets: &[u8]) -> bool
+    requires lanes { N ≤ 64 }
+    requires least { N ≤ length octets.now }
+    ensures { result ≡ list_any is_unusual (take N octets.now) }
 {
-    let v = u8x32::from_array(*lane);
-    let low = v.simd_le(u8x32::splat(0x20));
-    let capital = v.simd_ge(u8x32::splat(b'A')) & v.simd_le(u8x32::splat(b'Z'));
-    let high = v.simd_ge(u8x32::splat(0x7f));
-    let colon = v.simd_eq(u8x32::splat(b':'));
-    (low | capital | high | colon).any()
+    let v = Simd::<u8, N>::from_slice(octets);
+    let outside = v.simd_lt(Simd::splat(b'a')) | v.simd_ge(Simd::splat(0x7f));
+    (outside & v.simd_ne(Simd::splat(b'-'))).any()
+}
+
+// rule: 8.2.1 (own) A scan of 32 octets at once answers what each octet's condition says
+/// No small letter, no hyphen, nor one of the four signs from 0x7b to 0x7e.
+#[inline]
+#[tactic(auto, unfolding(crate::specs::Octets::is_unusual))]
+fn is_unusual(octet: u8) -> bool
+    ensures { result ≡ is_unusual octet }
+{
+    (octet < b'a' || octet >= 0x7f) && octet != b'-'
 }
 
 // rule: 8.2.1 A value with NUL, CR or LF breaks M2
@@ -84,8 +161,18 @@ fn lane_is_bad_after_first(lane: &[u8; LANES]) -> bool
 // contract: 8.2.1 (own) A scan of 32 octets at once answers what each octet's condition says
 // rule: 8.2.1 (own) A scan of 32 octets at once answers what each octet's condition says
 /// Whether no value has one of these octets.
-#[inline]
+#[inline(always)]
 pub(crate) fn has_bad_in_value(octets: &[u8]) -> bool
+    ensures { result ≡ list_any is_bad_in_value octets.now }
+{
+    has_low(octets) && scan_value(octets)
+}
+
+// rule: 8.2.1 A value with NUL, CR or LF breaks M2
+// rule: 8.2.1 A value that begins or ends with a space or a tab breaks M2
+/// The same, of octets that a bad one may be among, as a tab.
+#[inline(never)]
+fn scan_value(octets: &[u8]) -> bool
     ensures { result ≡ list_any is_bad_in_value octets.now }
 {
     let (lanes, rest) = octets.as_chunks::<LANES>();
@@ -101,6 +188,7 @@ pub(crate) fn has_bad_in_value(octets: &[u8]) -> bool
     bad
 }
 
+// contract: 8.2.1 (own) A scan of 32 octets at once answers what each octet's condition says
 // rule: 8.2.1 (own) A scan of 32 octets at once answers what each octet's condition says
 /// The same of 32 octets.
 #[inline]
@@ -112,4 +200,90 @@ fn lane_is_bad_in_value(lane: &[u8; LANES]) -> bool
     let line_feed = v.simd_eq(u8x32::splat(b'\n'));
     let carriage_return = v.simd_eq(u8x32::splat(b'\r'));
     (zero | line_feed | carriage_return).any()
+}
+
+// rule: 8.2.1 (own) A scan of 32 octets at once answers what each octet's condition says
+/// Whether there is an octet up to a carriage return: in runs of 32 octets, and in the last 32,
+/// which may overlap with a run.
+#[inline(always)]
+fn has_low(octets: &[u8]) -> bool
+    ensures { result ≡ list_any is_low octets.now }
+{
+    if octets.len() < 16 {
+        return few_have_low(octets);
+    }
+    if octets.len() < LANES {
+        return ends_have_low::<16>(octets);
+    }
+    let (lanes, _) = octets.as_chunks::<LANES>();
+    for lane in lanes {
+        if lane_has_low(lane) {
+            return true;
+        }
+    }
+    run_has_low::<LANES>(&octets[octets.len() - LANES..])
+}
+
+/// The same of one run.
+#[inline(always)]
+fn lane_has_low(lane: &[u8; LANES]) -> bool
+    ensures { result ≡ list_any is_low lane.now }
+{
+    run_has_low::<LANES>(lane.as_slice())
+}
+
+/// The same of fewer than 16 octets.
+#[inline(always)]
+fn few_have_low(octets: &[u8]) -> bool
+    requires { length octets.now < 16 }
+    ensures { result ≡ list_any is_low octets.now }
+{
+    if octets.len() >= 8 {
+        return ends_have_low::<8>(octets);
+    }
+    if octets.len() >= 4 {
+        return ends_have_low::<4>(octets);
+    }
+    if octets.len() >= 2 {
+        return ends_have_low::<2>(octets);
+    }
+    let mut found = false;
+    for octet in octets {
+        found |= is_low(*octet);
+    }
+    found
+}
+
+/// The same of N octets or some more, up to twice as many: of the first N and of the last N.
+#[inline(always)]
+fn ends_have_low<const N: usize>(octets: &[u8]) -> bool
+    requires lanes { N ≤ 64 }
+    requires least { N ≤ length octets.now }
+    requires most { length octets.now ≤ N + N }
+    ensures { result ≡ list_any is_low octets.now }
+{
+    run_has_low::<N>(octets) | run_has_low::<N>(&octets[octets.len() - N..])
+}
+
+// contract: 8.2.1 (own) A scan of 32 octets at once answers what each octet's condition says
+// rule: 8.2.1 (own) A scan of 32 octets at once answers what each octet's condition says
+/// The same of the first N octets.
+#[inline(always)]
+fn run_has_low<const N: usize>(octets: &[u8]) -> bool
+    requires lanes { N ≤ 64 }
+    requires least { N ≤ length octets.now }
+    ensures { result ≡ list_any is_low (take N octets.now) }
+{
+    let v = Simd::<u8, N>::from_slice(octets);
+    v.simd_le(Simd::splat(b'\r')).any()
+}
+
+// rule: 8.2.1 (own) A scan of 32 octets at once answers what each octet's condition says
+/// An octet up to a carriage return.
+#[inline]
+#[tactic(auto, unfolding(crate::specs::Octets::is_low))]
+fn is_low(octet: u8) -> bool
+    ensures { result ≡ is_low octet }
+{
+    octet <= b'\r'
 }

@@ -1,6 +1,8 @@
 //! The octets of names and values (RFC 9113, section 8.2.1).
 
-ghost use Rattle.std.specs.Prelude.{◌≡◌, reverse};
+ghost use Rattle.std.specs.Prelude.{◌≡◌, true, false, reverse};
+ghost use Rattle.std.specs.Str.{bytes_eq};
+ghost use Rattle.h2_message.specs.Fields.{is_colon_first};
 ghost use Rattle.h2_message.specs.Octets.{begins_blank, is_bad_name, is_bad_value, is_blank};
 ghost use Rattle.h2_message.specs.Octets.{names_user};
 
@@ -9,15 +11,34 @@ use crate::lanes::{has_bad_after_first, has_bad_in_value, is_bad_in_name};
 // rule: 8.2.1 A name with an octet that it must not have breaks M1
 // rule: 8.2.1 (own) An empty name breaks M1
 /// Whether the octets are no name: empty, or with an octet that no name has.
-#[inline]
+#[inline(never)]
 #[tactic(auto, unfolding(crate::specs::Octets::is_bad_name))]
-pub(crate) fn is_bad_name(name: &[u8]) -> bool
+fn is_bad_name(name: &[u8]) -> bool
     ensures { result ≡ is_bad_name name.now }
 {
     let [first, octets @ ..] = name else {
         return true;
     };
     is_bad_in_name(*first) || has_bad_after_first(octets)
+}
+
+// rule: 8.2.1 A name with an octet that it must not have breaks M1
+/// The same, where it may be known already that they are a name.
+#[inline(always)]
+pub(crate) fn is_bad_unless_known(known: bool, name: &[u8]) -> bool
+    ensures { (known ≡ true → is_bad_name name.now ≡ false) → result ≡ is_bad_name name.now }
+{
+    if known { false } else { is_bad_name(name) }
+}
+
+// rule: 8.2.1 A name with an octet that it must not have breaks M1
+// rule: 8.2.1 (own) An empty name breaks M1
+/// The same of octets that don't begin with a colon.
+#[inline(always)]
+pub(crate) fn is_bad_regular_name(name: &[u8]) -> bool
+    ensures { is_colon_first name.now ≡ false → result ≡ is_bad_name name.now }
+{
+    name.is_empty() || has_bad_after_first(name)
 }
 
 // rule: 8.2.1 A value with NUL, CR or LF breaks M2
@@ -55,11 +76,32 @@ fn ends_blank(value: &[u8]) -> bool
 }
 
 /// A space or a tab.
+#[inline(always)]
 #[tactic(auto, unfolding(crate::specs::Octets::is_blank))]
 fn is_blank(octet: u8) -> bool
     ensures { result ≡ is_blank octet }
 {
+    octet <= b' ' && is_blank_of_low(octet)
+}
+
+/// The same of an octet up to a space, which few values begin or end with.
+#[inline(never)]
+#[tactic(auto, unfolding(crate::specs::Octets::is_blank))]
+fn is_blank_of_low(octet: u8) -> bool
+    ensures { result ≡ is_blank octet }
+{
     octet == b' ' || octet == b'\t'
+}
+
+/// Whether octets are a text.
+#[inline(always)]
+pub(crate) fn is_text<const N: usize>(octets: &[u8], text: &[u8; N]) -> bool
+    ensures { result ≡ bytes_eq octets.now text.now }
+{
+    match octets.as_array::<N>() {
+        None => false,
+        Some(array) => *array == *text,
+    }
 }
 
 // rule: 8.3.1 An :authority with an @ in it names a user, and a call says so

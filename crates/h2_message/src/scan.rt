@@ -1,12 +1,13 @@
 //! What is seen of a list of fields, one field after another.
 
-ghost use Rattle.std.specs.Prelude.{◌≡◌, Bool, true, List, [], ◌∷◌, ◌++◌};
+ghost use Rattle.std.specs.Prelude.{◌≡◌, Bool, true, false, List, [], ◌∷◌, ◌++◌};
 ghost use Rattle.std.specs.Prelude.{codes};
 ghost use Rattle.std.specs.List.{list_any};
 ghost use Rattle.std.specs.Str.{bytes_eq};
 ghost use Rattle.hpack.specs.declared.types.field.Field.{Field};
 ghost use Rattle.h2_message.specs.declared.kind.Kind.TheVariants.{Request, Response};
 ghost use Rattle.h2_message.specs.Fields.{connection_names, is_colon_first};
+ghost use Rattle.h2_message.specs.Octets.{is_bad_name};
 ghost use Rattle.h2_message.specs.Scans.{IsScan};
 ghost use Rattle.h2_message.specs.ScanSteps.{with_field, HasSeenPseudo, HasSeenRegular};
 ghost use Rattle.h2_message.specs.ScanSteps.{HasSeenLength, IsSameOfAll, IsSameOfPseudo};
@@ -14,7 +15,7 @@ ghost use Rattle.h2_message.specs.ScanSteps.{IsSameOfRegular};
 
 use crate::classes::{Method, Path, Status, length_number, method_class, path_class, status_class};
 use crate::kind::Kind;
-use crate::octets::{is_bad_name, is_bad_value};
+use crate::octets::{is_bad_regular_name, is_bad_unless_known, is_bad_value, is_text};
 use hpack::{Field, FieldList};
 
 /// Which rules a list of fields breaks, and what its pseudo-fields and its length say (RFC 9113,
@@ -54,7 +55,7 @@ pub(crate) struct Scan {
 }
 
 /// What is seen of no fields.
-fn empty() -> Scan
+pub(crate) fn empty() -> Scan
     ensures { (kind : Kind) → IsScan kind [] result }
 {
     Scan {
@@ -78,6 +79,7 @@ fn empty() -> Scan
 
 // rule: 8.1.1 (own) A message to be sent is refused for the least of M1 to M11 it breaks
 /// What is seen of fields that are to be sent.
+#[inline(never)]
 pub(crate) fn scan_fields(kind: Kind, fields: &[Field]) -> Scan
     ensures { IsScan kind fields.now result }
 {
@@ -91,6 +93,7 @@ pub(crate) fn scan_fields(kind: Kind, fields: &[Field]) -> Scan
 // contract: 8.3 A final head is read only where it breaks no rule of its fields
 // rule: 8.3 A final head is read only where it breaks no rule of its fields
 /// What is seen of fields that were read.
+#[inline(never)]
 pub(crate) fn scan_list(kind: Kind, list: &FieldList) -> Scan
     ensures { IsScan kind list.now result }
 {
@@ -106,7 +109,7 @@ pub(crate) fn scan_list(kind: Kind, list: &FieldList) -> Scan
 impl Scan {
     // rule: 8.3 A pseudo-field after a regular one, or in trailers, breaks M3
     /// Adds what is seen of the next field.
-    #[inline]
+    #[inline(always)]
     fn add(&mut self, kind: Kind, name: &[u8], value: &[u8])
         ensures { (fields : List Field) (sensitive : Bool) → IsScan kind fields self.old
             → IsScan kind (fields ++ record {
@@ -115,68 +118,94 @@ impl Scan {
               sensitive = sensitive;
             } ∷ []) self.new }
     {
-        self.bad_name |= is_bad_name(name);
         self.bad_value |= is_bad_value(value);
         if name.first() == Some(&b':') {
             self.pseudo = true;
             self.late_pseudo |= self.regular;
-            match kind {
-                Kind::Request => self.add_of_request(name, value),
-                Kind::Response => self.add_of_response(name, value),
-            }
+            let known = self.add_pseudo(kind, name, value);
+            self.bad_name |= is_bad_unless_known(known, name);
         } else {
             self.regular = true;
+            self.bad_name |= is_bad_regular_name(name);
             self.add_regular(name, value);
+        }
+    }
+
+    /// Adds a pseudo-field, and answers whether it is one that the kind of message has.
+    #[inline(always)]
+    fn add_pseudo(&mut self, kind: Kind, name: &[u8], value: &[u8]) -> bool
+        ensures seen { (fields : List Field) (sensitive : Bool) → is_colon_first name.now ≡ true
+            → HasSeenPseudo kind fields self.old
+            → HasSeenPseudo kind (with_field fields name.now value.now sensitive) self.new }
+        ensures of_all { IsSameOfAll self.old self.new }
+        ensures of_regular { IsSameOfRegular self.old self.new }
+        ensures known { result ≡ true → is_bad_name name.now ≡ false }
+    {
+        match kind {
+            Kind::Request => self.add_of_request(name, value),
+            Kind::Response => self.add_of_response(name, value),
         }
     }
 
     // rule: 8.3 A pseudo-field that its kind of message does not have breaks M4
     // rule: 8.3 A pseudo-field that stands twice breaks M5
-    /// Adds a pseudo-field of a request.
-    fn add_of_request(&mut self, name: &[u8], value: &[u8])
+    /// Adds a pseudo-field of a request, and answers whether a request has it.
+    #[inline(always)]
+    fn add_of_request(&mut self, name: &[u8], value: &[u8]) -> bool
         ensures seen { (fields : List Field) (sensitive : Bool) → is_colon_first name.now ≡ true
             → HasSeenPseudo Request fields self.old
             → HasSeenPseudo Request (with_field fields name.now value.now sensitive) self.new }
         ensures of_all { IsSameOfAll self.old self.new }
         ensures of_regular { IsSameOfRegular self.old self.new }
+        ensures known { result ≡ true → is_bad_name name.now ≡ false }
     {
-        if name == b":method".as_slice() {
+        if is_text(name, b":method") {
             self.pseudo_twice |= self.method.is_some();
             self.method = self.method.or(Some(method_class(value)));
-        } else if name == b":scheme".as_slice() {
+            true
+        } else if is_text(name, b":scheme") {
             self.pseudo_twice |= self.scheme;
             self.scheme = true;
-        } else if name == b":path".as_slice() {
+            true
+        } else if is_text(name, b":path") {
             self.pseudo_twice |= self.path.is_some();
             self.path = self.path.or(Some(path_class(value)));
-        } else if name == b":authority".as_slice() {
+            true
+        } else if is_text(name, b":authority") {
             self.pseudo_twice |= self.authority;
             self.authority = true;
+            true
         } else {
             self.unknown_pseudo = true;
+            false
         }
     }
 
     // rule: 8.3 A pseudo-field that its kind of message does not have breaks M4
     // rule: 8.3 A pseudo-field that stands twice breaks M5
-    /// Adds a pseudo-field of a response.
-    fn add_of_response(&mut self, name: &[u8], value: &[u8])
+    /// Adds a pseudo-field of a response, and answers whether a response has it.
+    #[inline(always)]
+    fn add_of_response(&mut self, name: &[u8], value: &[u8]) -> bool
         ensures seen { (fields : List Field) (sensitive : Bool) → is_colon_first name.now ≡ true
             → HasSeenPseudo Response fields self.old
             → HasSeenPseudo Response (with_field fields name.now value.now sensitive) self.new }
         ensures of_all { IsSameOfAll self.old self.new }
         ensures of_regular { IsSameOfRegular self.old self.new }
+        ensures known { result ≡ true → is_bad_name name.now ≡ false }
     {
-        if name == b":status".as_slice() {
+        if is_text(name, b":status") {
             self.pseudo_twice |= self.status.is_some();
             self.status = self.status.or(Some(status_class(value)));
+            true
         } else {
             self.unknown_pseudo = true;
+            false
         }
     }
 
     // rule: 8.2.2 te with another value than trailers breaks M10
     /// Adds a regular field.
+    #[inline(always)]
     fn add_regular(&mut self, name: &[u8], value: &[u8])
         ensures seen { (fields : List Field) (sensitive : Bool) → HasSeenRegular fields self.old
             → HasSeenRegular (with_field fields name.now value.now sensitive) self.new }
@@ -194,6 +223,7 @@ impl Scan {
 
     // rule: 8.1.1 A content-length that is no number, or several, breaks M11
     /// Adds a `content-length`.
+    #[inline(never)]
     fn add_length(&mut self, value: &[u8])
         ensures seen { (fields : List Field) (sensitive : Bool) → HasSeenLength fields self.old
             → HasSeenLength (with_field fields (codes "content-length") value.now sensitive)
@@ -212,6 +242,7 @@ impl Scan {
 
 // rule: 8.2.2 A connection-specific field breaks M10
 /// Whether a field with this name is specific to one connection (section 8.2.2).
+#[inline(always)]
 fn is_connection_name(name: &[u8]) -> bool
     ensures { result ≡ list_any (λ other. bytes_eq name.now other) connection_names }
 {

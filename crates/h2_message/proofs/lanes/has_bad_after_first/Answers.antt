@@ -1,15 +1,8 @@
-use Rattle.h2_message.proofs.Names.{sym, ◌∙◌, is_bad_after_first}
-use Rattle.h2_message.proofs.LaneLemmas.{run_settles, rest_settles}
+use Rattle.h2_message.proofs.Names.{sym, ◌∙◌}
+use Rattle.h2_message.proofs.LaneLemmas.{none_unusual}
 use Rattle.h2_message.proofs.lanes.has_bad_after_first.Goals as goal
 
-pub returns-then-lane_is_bad_after_first : goal.returns-then-lane_is_bad_after_first
-returns-then-lane_is_bad_after_first c =
-    let found = sym c.lane_is_bad_after_first.ensures ∙ c.if-lane_is_bad_after_first.true in
-    run_settles is_bad_after_first c.args.octets.now _ _ c.as_chunks.ensures.front
-    c.as_chunks.ensures.back c.loop-lane.lane-index c.loop-lane-test.true found
-
-pub returns : goal.returns
-returns c =
-    rest_settles is_bad_after_first c.args.octets.now _ _ c.as_chunks.ensures.front
-    c.as_chunks.ensures.back c.loop-lane.lane-index c.loop-lane-test.false c.loop-lane.invariant
-    c.loop-octet.bad c.loop-octet.octet-index c.loop-octet-test.false c.loop-octet.invariant
+pub returns-else-has_unusual : goal.returns-else-has_unusual
+returns-else-has_unusual c =
+    c.if-has_unusual.false
+    ∙ sym (none_unusual c.args.octets.now (sym c.has_unusual.ensures ∙ c.if-has_unusual.false))

@@ -1,15 +1,8 @@
-use Rattle.h2_message.proofs.Names.{sym, ◌∙◌, is_bad_in_value}
-use Rattle.h2_message.proofs.LaneLemmas.{run_settles, rest_settles}
+use Rattle.h2_message.proofs.Names.{sym, ◌∙◌}
+use Rattle.h2_message.proofs.LaneLemmas.{none_low}
 use Rattle.h2_message.proofs.lanes.has_bad_in_value.Goals as goal
 
-pub returns-then-lane_is_bad_in_value : goal.returns-then-lane_is_bad_in_value
-returns-then-lane_is_bad_in_value c =
-    let found = sym c.lane_is_bad_in_value.ensures ∙ c.if-lane_is_bad_in_value.true in
-    run_settles is_bad_in_value c.args.octets.now _ _ c.as_chunks.ensures.front
-    c.as_chunks.ensures.back c.loop-lane.lane-index c.loop-lane-test.true found
-
-pub returns : goal.returns
-returns c =
-    rest_settles is_bad_in_value c.args.octets.now _ _ c.as_chunks.ensures.front
-    c.as_chunks.ensures.back c.loop-lane.lane-index c.loop-lane-test.false c.loop-lane.invariant
-    c.loop-octet.bad c.loop-octet.octet-index c.loop-octet-test.false c.loop-octet.invariant
+pub returns-else-has_low : goal.returns-else-has_low
+returns-else-has_low c =
+    c.if-has_low.false
+    ∙ sym (none_low c.args.octets.now (sym c.has_low.ensures ∙ c.if-has_low.false))

@@ -1,5 +1,5 @@
 use Rattle.h2_message.proofs.Names.{◌≡◌, ◌||◌, drop, list_any, is_bad_in_value}
-use Rattle.h2_message.proofs.lanes.has_bad_in_value.Given as goal
+use Rattle.h2_message.proofs.lanes.scan_value.Given as goal
 
 abbrev pub invariant-loop-lane : goal.invariant-loop-lane
 invariant-loop-lane l =

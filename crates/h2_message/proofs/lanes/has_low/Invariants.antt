@@ -1,0 +1,7 @@
+use Rattle.h2_message.proofs.Names.{◌≡◌, drop, list_any, is_low}
+use Rattle.h2_message.proofs.lanes.has_low.Given as goal
+
+abbrev pub invariant-loop-lane : goal.invariant-loop-lane
+invariant-loop-lane l =
+    list_any (list_any is_low) (drop l.lane-index l.lanes)
+    ≡ list_any (list_any is_low) l.lanes

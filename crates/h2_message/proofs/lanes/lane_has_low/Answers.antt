@@ -1,0 +1,8 @@
+use Rattle.h2_message.proofs.Names.{◌∙◌, is_low}
+use Rattle.h2_message.proofs.LaneLemmas.{lane_any}
+use Rattle.h2_message.proofs.lanes.lane_has_low.Goals as goal
+
+pub returns : goal.returns
+returns c =
+    c.run_has_low.ensures
+    ∙ lane_any is_low c.args.lane.now c.as_slice.result.now c.told-lane c.as_slice.ensures
