@@ -1,6 +1,6 @@
 -- The least active number above another, in the table of streams.
-use Rattle.std.proofs.Common.{◌≡◌, ◌≢◌, ℕ, zero, suc, ◌+◌, ◌-◌, ◌%◌, ◌^◌, ◌<◌, ◌≤◌, Bool, true, false}
-use Rattle.std.proofs.Common.{List, [], ◌∷◌, length, min, nat_eq, nat_lt, nat_le, Option, Some, None}
+use Rattle.std.proofs.Common.{◌≡◌, ◌≢◌, ℕ, ◌+◌, ◌-◌, ◌%◌, ◌^◌, ◌<◌, ◌≤◌, Bool, true, false}
+use Rattle.std.proofs.Common.{List, length, min, nat_eq, nat_lt, nat_le, Option, Some, None}
 use Rattle.std.proofs.Common.{IsSome, refl, sym, ap, ◌∙◌, arith}
 use Rattle.std.specs.FinMap as map
 use Rattle.std.specs.Cmp.{nat_eq_equiv}
@@ -8,7 +8,9 @@ use Rattle.std.specs.HashMap.{HashMap, IsUnique}
 use Rattle.std.specs.List.{slice_get}
 use Rattle.std.specs.Map.{keys_of}
 use Rattle.std.specs.Option.{option_map, is_some}
-use Rattle.std.proofs.lemmas.Bool.{both_ways, ltb-true, ltb-false, leb-true, leb-false, eqb-true, eqb-false}
+use Rattle.std.proofs.lemmas.Bool.{both_ways, ltb-true, ltb-false, leb-true, leb-false, eqb-true}
+use Rattle.std.proofs.lemmas.Bool.{eqb-false}
+use Rattle.std.proofs.lemmas.Option.{slice_get-map, slice_get_within}
 use Rattle.std.proofs.lemmas.Map.Entries.{place_from_lookup, hash_map_get_place}
 use Rattle.h2_spec_machine.specs.End.{StreamEntry, active_entry, reset_entry, StreamMap}
 use Rattle.h2_spec_machine.specs.Machine.{first_active, is_active_entry}
@@ -18,6 +20,7 @@ use Rattle.h2_streams.specs.Table.{IsLeastAbove}
 use Rattle.h2_streams.specs.declared.table.Kept.{Kept}
 use Rattle.h2_streams.proofs.KeptEntries.{entry_at, get_kept}
 use Rattle.h2_spec_machine.proofs.SortedEntries.{first_found, first_least, two_least}
+use Rattle.h2_streams.proofs.Places.{below_or_here}
 use Rattle.h2_streams.proofs.TableSteps.{streams}
 
 -- What is found and active is an active stream.
@@ -87,20 +90,6 @@ pub record LeastBefore (n above : ℕ) (numbers : List ℕ) (least : ℕ) : Type
   pub within : least + above < 2 ^ 32
   pub found : least + above + 1 < 2 ^ 32 → (place : ℕ) × (slice_get numbers place ≡ Some (above + 1
       + least))
-
--- A place below the next one is below this one, or it is this one.
-below_or_here : (P : ℕ → Type 0) (n i number q : ℕ) (numbers : List ℕ)
-    → ((j r : ℕ) → j < n → slice_get numbers j ≡ Some r → P r)
-    → slice_get numbers n ≡ Some number → P number
-    → i < n + 1 → slice_get numbers i ≡ Some q → P q
-below_or_here P n i number q numbers below here this less at = go (nat_lt i n) refl
-  where
-    go : (b : Bool) → nat_lt i n ≡ b → P q
-    go true is = below i q (ltb-true i n is) at
-    go false is =
-        let same : i ≡ n = omega (arith, ltb-false i n is, less) in
-        let one : number ≡ q = cc in
-        rw (← one) this
 
 -- One more number, where the least stays.
 stays : (n above number least : ℕ) (numbers : List ℕ) → number < 2 ^ 32
@@ -186,20 +175,6 @@ least_at_first above numbers fits = record {
   found = λ more. absurd (omega (arith, more, fits));
 }
 
--- A place among entries is one among their keys.
-key_at : (entries : List (ℕ × Kept)) (i : ℕ)
-    → slice_get (keys_of entries) i ≡ option_map (λ (e : ℕ × Kept). e.0) (slice_get entries i)
-key_at [] i = refl
-key_at (e ∷ es) zero = refl
-key_at (e ∷ es) (suc i) = key_at es i
-
--- A place at which something stands is below the length.
-within : (numbers : List ℕ) (i number : ℕ) → slice_get numbers i ≡ Some number
-    → i < length numbers
-within [] i number is = absurd (cc)
-within (n ∷ ns) zero number is = omega arith
-within (n ∷ ns) (suc i) number is = let rest = within ns i number is in omega arith
-
 -- What is at a place among entries, by what is at that place among their keys.
 entry_from : (x : Option (ℕ × Kept)) (number : ℕ)
     → option_map (λ (e : ℕ × Kept). e.0) x ≡ Some number
@@ -218,9 +193,10 @@ key_place q entries (Some kept) is some =
     let place = place_from_lookup (nat_eq q) entries kept is in
     let same : q ≡ place.1 = eqb-true q place.1 place.3 in
     let at : slice_get (keys_of entries) place.0 ≡ Some q =
-    key_at entries place.0 ∙ ap (option_map (λ (e : ℕ × Kept). e.0)) place.2
+    slice_get-map (λ (e : ℕ × Kept). e.0) entries place.0
+    ∙ ap (option_map (λ (e : ℕ × Kept). e.0)) place.2
     ∙ ap (λ (n : ℕ). Some n) (sym same) in
-    (place.0, within (keys_of entries) place.0 q at, at)
+    (place.0, slice_get_within (keys_of entries) place.0 q at, at)
 
 -- Nothing is found where nothing may be.
 none_by : (x : Option Kept) → (IsSome x → ⊥) → x ≡ None
@@ -245,7 +221,7 @@ pub least_of_all : {S : Type 0} (table : HashMap ℕ Kept S) (n above least : �
 least_of_all table n above least unique all before less =
     let place = before.found (omega (arith, less)) in
     let last = entry_from (slice_get table.entries place.0) (above + 1 + least)
-    (sym (key_at table.entries place.0) ∙ place.1) in (
+    (sym (slice_get-map (λ (e : ℕ × Kept). e.0) table.entries place.0) ∙ place.1) in (
       omega arith,
       ap is_some (hash_map_get_place nat_eq_equiv table place.0 (above + 1 + least) last.0 unique
           last.1),

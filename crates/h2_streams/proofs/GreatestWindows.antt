@@ -1,7 +1,7 @@
 -- The greatest send window of the active streams, and what it tells of all of them.
-use Rattle.std.proofs.Common.{◌≡◌, ℕ, zero, suc, ◌+◌, ◌<◌, Bool, true, false, cond, ℤ, pos, ◌+ℤ◌}
+use Rattle.std.proofs.Common.{◌≡◌, ℕ, ◌+◌, ◌<◌, Bool, true, false, cond, ℤ, pos, ◌+ℤ◌}
 use Rattle.std.proofs.Common.{int_lt, ◌≤ℤ◌, List, [], ◌∷◌, length, Option, Some, None, IfSome, refl}
-use Rattle.std.proofs.Common.{sym, ap, ◌∙◌, nat_eq, nat_lt, arith}
+use Rattle.std.proofs.Common.{sym, ap, ◌∙◌, nat_eq, arith}
 use Rattle.std.specs.List.{slice_get}
 use Rattle.std.specs.Map.{values_of}
 use Rattle.std.specs.Option.{option_map, is_some}
@@ -9,7 +9,8 @@ use Rattle.std.specs.HashMap.{HashMap, IsUnique}
 use Rattle.std.specs.Cmp.{nat_eq_equiv}
 use Rattle.std.specs.FinMap as map
 use Rattle.std.proofs.lemmas.Int.{ints}
-use Rattle.std.proofs.lemmas.Bool.{both_ways, ltb-true, ltb-false}
+use Rattle.std.proofs.lemmas.Bool.{both_ways}
+use Rattle.std.proofs.lemmas.Option.{slice_get-map, slice_get_within}
 use Rattle.std.proofs.lemmas.Map.Entries.{place_from_lookup, hash_map_get_place}
 use Rattle.h2_spec_machine.specs.End.{StreamEntry, active_entry, reset_entry, StreamMap, any_above}
 use Rattle.h2_spec_machine.specs.End.{above_by_shift}
@@ -19,6 +20,7 @@ use Rattle.h2_streams.specs.Table.{IsGreatestOf, IsGreatestOffset, is_far_offset
 use Rattle.h2_streams.specs.declared.table.Kept.{Kept}
 use Rattle.h2_streams.proofs.KeptEntries.{entry_at, get_kept, near_found}
 use Rattle.h2_spec_machine.proofs.SortedEntries.{above_found, any_found, both_same}
+use Rattle.h2_streams.proofs.Places.{below_or_here}
 use Rattle.h2_streams.proofs.TableSteps.{streams}
 
 -- the greatest difference among the first of what is kept
@@ -34,28 +36,14 @@ abbrev pub IsGreatestBefore : ℕ → List Kept → Option ℤ → Type 0
 IsGreatestBefore n values None = n ≡ 0
 IsGreatestBefore n values (Some offset) = GreatestBefore n values offset
 
--- A number below the next one is below this one, or it is this one.
-below_or_here : (n i : ℕ) (values : List Kept) (offset : ℤ) (kept k : Kept)
-    → ((j : ℕ) (other : Kept) → j < n → slice_get values j ≡ Some other
-    → other.send_offset ≤ℤ offset)
-    → slice_get values n ≡ Some kept → kept.send_offset ≤ℤ offset
-    → i < n + 1 → slice_get values i ≡ Some k → k.send_offset ≤ℤ offset
-below_or_here n i values offset kept k below here low less at = go (nat_lt i n) refl
-  where
-    go : (b : Bool) → nat_lt i n ≡ b → k.send_offset ≤ℤ offset
-    go true is = below i k (ltb-true i n is) at
-    go false is =
-        let same : i ≡ n = omega (arith, ltb-false i n is, less) in
-        let one : kept ≡ k = cc in
-        rw (← one) low
-
 -- One more is the greatest, or the one before is, by which is greater.
 more_by : (n : ℕ) (values : List Kept) (other : ℤ) (kept : Kept) (b : Bool)
     → int_lt kept.send_offset other ≡ b → GreatestBefore n values other
     → slice_get values n ≡ Some kept
     → GreatestBefore (n + 1) values (cond b other kept.send_offset)
 more_by n values other kept true is before here = record {
-  most = λ i k less at. below_or_here n i values other kept k before.most here
+  most = λ i k less at. below_or_here (λ v. v.send_offset ≤ℤ other) n i kept k values before.most
+      here
       (grind (arith, ints)) less at;
   place = before.place;
   kept = before.kept;
@@ -65,7 +53,7 @@ more_by n values other kept true is before here = record {
 more_by n values other kept false is before here =
     let over : other ≤ℤ kept.send_offset = grind (arith, ints) in
     record {
-      most = λ i k less at. below_or_here n i values kept.send_offset kept k
+      most = λ i k less at. below_or_here (λ v. v.send_offset ≤ℤ kept.send_offset) n i kept k values
           (λ j m below found. let low = before.most j m below found in omega (arith, ints)) here
           (omega (arith, ints)) less at;
       place = n;
@@ -79,7 +67,7 @@ pub greatest_more : (n : ℕ) (values : List Kept) (greatest : Option ℤ) (kept
     → IsGreatestBefore n values greatest → slice_get values n ≡ Some kept
     → GreatestBefore (n + 1) values (greater_of greatest kept.send_offset)
 greatest_more n values None kept before here = record {
-  most = λ i k less at. below_or_here n i values kept.send_offset kept k
+  most = λ i k less at. below_or_here (λ v. v.send_offset ≤ℤ kept.send_offset) n i kept k values
       (λ j m below found. absurd (omega (arith, before, below))) here (omega (arith, ints)) less at;
   place = n;
   kept = kept;
@@ -88,20 +76,6 @@ greatest_more n values None kept before here = record {
 }
 greatest_more n values (Some other) kept before here =
     more_by n values other kept (int_lt kept.send_offset other) refl before here
-
--- A place among entries is one among their values.
-value_at : (entries : List (ℕ × Kept)) (i : ℕ)
-    → slice_get (values_of entries) i ≡ option_map (λ (e : ℕ × Kept). e.1) (slice_get entries i)
-value_at [] i = refl
-value_at (e ∷ es) zero = refl
-value_at (e ∷ es) (suc i) = value_at es i
-
--- A place at which something stands is below the length.
-within : (values : List Kept) (i : ℕ) (kept : Kept) → slice_get values i ≡ Some kept
-    → i < length values
-within [] i kept is = absurd (cc)
-within (v ∷ vs) zero kept is = omega arith
-within (v ∷ vs) (suc i) kept is = let rest = within vs i kept is in omega arith
 
 -- What is at a place among entries, by what is at that place among their values.
 entry_from : (x : Option (ℕ × Kept)) (kept : Kept)
@@ -131,15 +105,16 @@ pub greatest_of_all : {S : Type 0} (table : HashMap ℕ Kept S) (n : ℕ) (great
 greatest_of_all table n None unique all before = no_entries table.entries (sym all ∙ before)
 greatest_of_all table n (Some offset) unique all before =
     let last = entry_from (slice_get table.entries before.place) before.kept
-    (sym (value_at table.entries before.place) ∙ before.found) in
+    (sym (slice_get-map (λ (e : ℕ × Kept). e.1) table.entries before.place) ∙ before.found) in
     record {
       most = λ q. if_found (λ kept. kept.send_offset ≤ℤ offset) (active_at q table.entries)
           (λ kept is.
           let place = place_from_lookup (nat_eq q) table.entries kept is in
           let at : slice_get (values_of table.entries) place.0 ≡ Some kept =
-          value_at table.entries place.0 ∙ ap (option_map (λ (e : ℕ × Kept). e.1)) place.2 in
+          slice_get-map (λ (e : ℕ × Kept). e.1) table.entries place.0
+          ∙ ap (option_map (λ (e : ℕ × Kept). e.1)) place.2 in
           before.most place.0 kept
-          (omega (arith, all, within (values_of table.entries) place.0 kept at)) at);
+          (omega (arith, all, slice_get_within (values_of table.entries) place.0 kept at)) at);
       number = last.0;
       kept = before.kept;
       found = hash_map_get_place nat_eq_equiv table before.place last.0 before.kept unique last.1;

@@ -218,8 +218,8 @@ impl StreamTable {
     }
 
     // rule: 5.1 (own) The next active stream is the least above a number
-    /// The least active number above another. Where that isn't one of the next two, it goes over all
-    /// active streams. It takes no memory.
+    /// The least active number above another. Where that is none of the next two, it goes over
+    /// all active streams. It takes no memory.
     pub fn next_active(&self, above: u32) -> Option<u32>
         ensures number { number_or_none result
             ≡ first_active above (map.entries self.now.entries) }
