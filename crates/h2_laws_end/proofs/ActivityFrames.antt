@@ -179,61 +179,57 @@ silent_closed log (block stream end octets) i is silent =
     subst (λ (j : ℕ). is_closed_by_us log.role j log.sent ≡ true) (eqb-true stream i is) silent
 silent_closed log (alone frame) i is silent = absurd (both_ways false refl is)
 
--- A block that was read, by its verdict: the stream is closed by this end, or fields are reported.
-block_reported : (before after : Log) (decoded : Option Decoded) (item : Item) (verdict : Verdict)
-    (credit : List Item) (i : ℕ) → LogIsLow before → is_block_on i item ≡ true
-    → verdict_of (log_view before) decoded item ≡ verdict
-    → ((code : Code) → verdict ≡ ConnectionFault code → ⊥)
-    → after.reported ≡ events_of (log_view before) decoded verdict item ++ before.reported
-    → after.failed ≡ before.failed
-    → (is_closed_by_us before.role i ((credit ++ replies_to verdict item) ++ before.sent) ≡ true)
-    ⊎ HasFields before after i
-block_reported before after decoded item (ConnectionFault code) credit i low here is on reported
-    failed = absurd (on code refl)
-block_reported before after decoded item (StreamFault code) credit i low here is on reported
-    failed =
-    inl (fault_resets before.role i credit before.sent code item (block_stream i item here))
-block_reported before after decoded item NoEvent credit i low here is on reported failed =
-    let silent = subst (Says (IsFaulty before item) (IsUnreported before item)
-    (IsSaid before item)) is
-    (says_of _ _ _ before decoded item (rules_say before decoded item low)) in
-    inl (closed_more before.role i _ before.sent (silent_closed before item i here silent))
-block_reported before after decoded item Reported credit i low here is on reported failed =
-    inr (fields_reported before after decoded item i here reported failed)
+module _ (before after : Log) (decoded : Option Decoded) where
+  -- A block that was read, by its verdict: the stream is closed by this end, or fields are
+  -- reported.
+  block_reported : (item : Item) (verdict : Verdict) (credit : List Item) (i : ℕ) → LogIsLow before
+      → is_block_on i item ≡ true → verdict_of (log_view before) decoded item ≡ verdict
+      → ((code : Code) → verdict ≡ ConnectionFault code → ⊥)
+      → after.reported ≡ events_of (log_view before) decoded verdict item ++ before.reported
+      → after.failed ≡ before.failed
+      → (is_closed_by_us before.role i ((credit ++ replies_to verdict item) ++ before.sent) ≡ true)
+      ⊎ HasFields before after i
+  block_reported item (ConnectionFault code) credit i low here is on reported
+      failed = absurd (on code refl)
+  block_reported item (StreamFault code) credit i low here is on reported
+      failed =
+      inl (fault_resets before.role i credit before.sent code item (block_stream i item here))
+  block_reported item NoEvent credit i low here is on reported failed =
+      let silent = subst (Says (IsFaulty before item) (IsUnreported before item)
+      (IsSaid before item)) is
+      (says_of _ _ _ before decoded item (rules_say before decoded item low)) in
+      inl (closed_more before.role i _ before.sent (silent_closed before item i here silent))
+  block_reported item Reported credit i low here is on reported failed =
+      inr (fields_reported before after decoded item i here reported failed)
 
--- An item that was read, by whether it is a block of the stream.
-read_opens : (before after : Log) (decoded : Option Decoded) (item : Item) (verdict : Verdict)
-    (credit : List Item) (i : ℕ) → LogIsLow before
-    → verdict_of (log_view before) decoded item ≡ verdict
-    → ((code : Code) → verdict ≡ ConnectionFault code → ⊥) → IsCredit credit
-    → Adds before after (item ∷ []) (credit ++ replies_to verdict item)
-    (events_of (log_view before) decoded verdict item) → after.failed ≡ before.failed
-    → active after i ≡ true → (is_block_on i item ≡ true) ⊎ (is_block_on i item ≡ false)
-    → (active before i ≡ true) ⊎ HasFields before after i
-read_opens before after decoded item verdict credit i low is on is_credit adds failed alive
-    (inl here) =
-    elim (block_reported before after decoded item verdict credit i low here is on adds.reported
-    failed) [
-      | inl closed ↦ absurd (both_ways _ (closed_inactive i before.role _ _ _ closed)
-          (sym (active_added before after (item ∷ []) _ _ i adds) ∙ alive))
-      | inr fields ↦ inr fields
-    ]
-read_opens before after decoded item verdict credit i low is on is_credit adds failed alive
-    (inr other) =
-    inl (was_active before after (item ∷ []) _ _ i adds (λ server. or_from _ _ other refl)
-    (λ client. none_both (is_block_on i) credit _ (credit_without_block i credit is_credit)
-    (replies_no_block i verdict item)) alive)
+  -- An item that was read, by whether it is a block of the stream.
+  read_opens : (item : Item) (verdict : Verdict) (credit : List Item) (i : ℕ) → LogIsLow before
+      → verdict_of (log_view before) decoded item ≡ verdict
+      → ((code : Code) → verdict ≡ ConnectionFault code → ⊥) → IsCredit credit
+      → Adds before after (item ∷ []) (credit ++ replies_to verdict item)
+      (events_of (log_view before) decoded verdict item)
+      → after.failed ≡ before.failed → active after i ≡ true → (is_block_on i item ≡ true)
+      ⊎ (is_block_on i item ≡ false) → (active before i ≡ true) ⊎ HasFields before after i
+  read_opens item verdict credit i low is on is_credit adds failed alive (inl here) =
+      elim (block_reported item verdict credit i low here is on adds.reported failed) [
+        | inl closed ↦ absurd (both_ways _ (closed_inactive i before.role _ _ _ closed)
+            (sym (active_added before after (item ∷ []) _ _ i adds) ∙ alive))
+        | inr fields ↦ inr fields
+      ]
+  read_opens item verdict credit i low is on is_credit adds failed alive (inr other) =
+      inl (was_active before after (item ∷ []) _ _ i adds (λ server. or_from _ _ other refl)
+      (λ client. none_both (is_block_on i) credit _ (credit_without_block i credit is_credit)
+      (replies_no_block i verdict item)) alive)
 
--- A stream that is active after a frame was so before, or fields of it are reported.
-pub frame_opens : (before after : Log) (decoded : Option Decoded) (i : ℕ)
-    → AfterFrame before decoded after → (before.failed ≡ after.failed → LogIsLow before)
-    → active after i ≡ true → (active before i ≡ true) ⊎ HasFields before after i
-frame_opens before after decoded i (stays_same adds failed) low alive =
-    inl (was_active before after [] [] [] i adds (λ server. refl) (λ client. refl) alive)
-frame_opens before after decoded i (has_broken code last up adds failed) low alive =
-    inl (was_active before after [] _ [] i adds (λ server. refl)
-    (λ client. goaway_no_block i last (code_number code)) alive)
-frame_opens before after decoded i (has_read item verdict credit is on is_credit adds failed) low
-    alive =
-    read_opens before after decoded item verdict credit i (low (sym failed)) is on is_credit adds
-    failed alive (cases_Bool (is_block_on i item))
+  -- A stream that is active after a frame was so before, or fields of it are reported.
+  pub frame_opens : (i : ℕ) → AfterFrame before decoded after
+      → (before.failed ≡ after.failed → LogIsLow before) → active after i ≡ true
+      → (active before i ≡ true) ⊎ HasFields before after i
+  frame_opens i (stays_same adds failed) low alive =
+      inl (was_active before after [] [] [] i adds (λ server. refl) (λ client. refl) alive)
+  frame_opens i (has_broken code last up adds failed) low alive =
+      inl (was_active before after [] _ [] i adds (λ server. refl)
+      (λ client. goaway_no_block i last (code_number code)) alive)
+  frame_opens i (has_read item verdict credit is on is_credit adds failed) low
+      alive = read_opens item verdict credit i (low (sym failed)) is on is_credit adds
+      failed alive (cases_Bool (is_block_on i item))

@@ -104,102 +104,91 @@ active_by_open role values log fields end id is may =
     (block_there id end _ writes.credit log.sent) (known.unended new.2) (known.unreset new.2) kept
     (known.unnamed new.2))
 
--- A block that was reported has opened its stream, where that wasn't active.
-block_opens : (before after : Log) (decoded : Option Decoded) (i : ℕ) (end : Bool)
-    (octets : List ℕ) (credit : List Item)
-    → verdict_of (log_view before) decoded (block i end octets) ≡ Reported → IsCredit credit
-    → Adds before after (block i end octets ∷ [])
-    (credit ++ replies_to Reported (block i end octets))
-    (events_of (log_view before) decoded Reported (block i end octets))
-    → active before i ≡ false → LogIsKnown i before
-    → (is_number_used before i ≡ false → IsUnwritten i before.sent)
-    → (before.role ≡ Server) × (active after i ≡ true)
-block_opens before after decoded i end octets credit is is_credit adds inactive known unwritten =
-    let item = block i end octets in
-    let items = credit ++ replies_to Reported item in
-    let new = new_reported before decoded i end octets is inactive in
-    let server = server_of before.role (i % 2 == 1) new.0 in
-    let unsaid = unwritten new.2 in
-    let replies = harmless_replies before.role i Reported item
-    (λ wrong. absurd (both_ways false refl wrong)) in
-    let harmless = harmless_append before.role i credit (replies_to Reported item)
-    (harmless_credit before.role i credit is_credit) replies in (
-      server,
-      active_added before after (item ∷ []) items _ i adds
-          ∙ open_at_server before.role i (item ∷ before.received) (items ++ before.sent) _ server
-          (and_parts _ _ new.0).1 (block_first i end octets before.received)
-          (none_both (is_goaway_below i) items before.sent
-          (none_below before.role i items server harmless) (no_goaway_below i before.sent new.1))
-          (none_both (ends i) items before.sent (none_ends before.role i items harmless)
-          unsaid.unended) (or_from _ _ (block_resets i i end octets) (known.unreset new.2))
-          (none_both (resets i) items before.sent (none_resets before.role i items harmless)
-          unsaid.unreset) (none_both (reports_unprocessed i)
-          (events_of (log_view before) decoded Reported item) before.reported
-          (events_name_none (log_view before) decoded Reported item i) (known.unnamed new.2)),
-    )
+module _ (before after : Log) (decoded : Option Decoded) where
+  -- A block that was reported has opened its stream, where that wasn't active.
+  block_opens : (i : ℕ) (end : Bool) (octets : List ℕ) (credit : List Item)
+      → verdict_of (log_view before) decoded (block i end octets) ≡ Reported → IsCredit credit
+      → Adds before after (block i end octets ∷ []) (credit ++ replies_to Reported
+      (block i end octets)) (events_of (log_view before) decoded Reported (block i end octets))
+      → active before i ≡ false → LogIsKnown i before
+      → (is_number_used before i ≡ false → IsUnwritten i before.sent) → (before.role ≡ Server)
+      × (active after i ≡ true)
+  block_opens i end octets credit is is_credit adds inactive known unwritten =
+      let item = block i end octets in
+      let items = credit ++ replies_to Reported item in
+      let new = new_reported before decoded i end octets is inactive in
+      let server = server_of before.role (i % 2 == 1) new.0 in
+      let unsaid = unwritten new.2 in
+      let replies = harmless_replies before.role i Reported item
+      (λ wrong. absurd (both_ways false refl wrong)) in
+      let harmless = harmless_append before.role i credit (replies_to Reported item)
+      (harmless_credit before.role i credit is_credit) replies in (
+        server,
+        active_added before after (item ∷ []) items _ i adds
+            ∙ open_at_server before.role i (item ∷ before.received) (items ++ before.sent) _ server
+            (and_parts _ _ new.0).1 (block_first i end octets before.received)
+            (none_both (is_goaway_below i) items before.sent
+            (none_below before.role i items server harmless) (no_goaway_below i before.sent new.1))
+            (none_both (ends i) items before.sent (none_ends before.role i items harmless)
+            unsaid.unended) (or_from _ _ (block_resets i i end octets) (known.unreset new.2))
+            (none_both (resets i) items before.sent (none_resets before.role i items harmless)
+            unsaid.unreset) (none_both (reports_unprocessed i)
+            (events_of (log_view before) decoded Reported item) before.reported
+            (events_name_none (log_view before) decoded Reported item i) (known.unnamed new.2)),
+      )
 
--- An item of which fields are reported.
-read_opens : (before after : Log) (decoded : Option Decoded) (item : Item) (verdict : Verdict)
-    (credit : List Item) (id : ℕ) (list : List Field) (end : Bool)
-    → verdict_of (log_view before) decoded item ≡ verdict
-    → ((code : Code) → verdict ≡ ConnectionFault code → ⊥) → IsCredit credit
-    → Adds before after (item ∷ []) (credit ++ replies_to verdict item)
-    (events_of (log_view before) decoded verdict item)
-    → events_of (log_view before) decoded verdict item ≡ FieldsEvent id list end ∷ []
-    → active before id ≡ false → LogIsKnown id before
-    → (is_number_used before id ≡ false → IsUnwritten id before.sent)
-    → (before.role ≡ Server) × (active after id ≡ true)
-unfolding events_of
-read_opens before after decoded item (ConnectionFault code) credit id list end is on is_credit adds
-    one inactive known unwritten = absurd (on code refl)
-read_opens before after decoded (block stream last octets) Reported credit id list end is on
-    is_credit adds one inactive known unwritten =
-    let same : id ≡ stream = cc in
-    let now = block_opens before after decoded stream last octets credit is is_credit adds
-    (subst (λ (j : ℕ). active before j ≡ false) same inactive)
-    (subst (λ (j : ℕ). LogIsKnown j before) same known)
-    (subst (λ (j : ℕ). is_number_used before j ≡ false
-    → IsUnwritten j before.sent) same unwritten) in
-    (now.0, subst (λ (j : ℕ). active after j ≡ true) (sym same) now.1)
-read_opens before after decoded (alone (Data stream last octets pad)) Reported credit id list end is
-    on is_credit adds one inactive known unwritten = cc
-read_opens before after decoded item verdict credit id list end is on is_credit adds one inactive
-    known unwritten = cc
+  -- An item of which fields are reported.
+  read_opens : (item : Item) (verdict : Verdict) (credit : List Item) (id : ℕ) (list : List Field)
+      (end : Bool) → verdict_of (log_view before) decoded item ≡ verdict
+      → ((code : Code) → verdict ≡ ConnectionFault code → ⊥) → IsCredit credit
+      → Adds before after (item ∷ []) (credit ++ replies_to verdict item)
+      (events_of (log_view before) decoded verdict item)
+      → events_of (log_view before) decoded verdict item ≡ FieldsEvent id list end ∷ []
+      → active before id ≡ false → LogIsKnown id before
+      → (is_number_used before id ≡ false → IsUnwritten id before.sent) → (before.role ≡ Server)
+      × (active after id ≡ true)
+  unfolding events_of
+  read_opens item (ConnectionFault code) credit id list end is on is_credit adds
+      one inactive known unwritten = absurd (on code refl)
+  read_opens (block stream last octets) Reported credit id list end is on
+      is_credit adds one inactive known unwritten =
+      let same : id ≡ stream = cc in
+      let now = block_opens stream last octets credit is is_credit adds
+      (subst (λ (j : ℕ). active before j ≡ false) same inactive)
+      (subst (λ (j : ℕ). LogIsKnown j before) same known)
+      (subst (λ (j : ℕ). is_number_used before j ≡ false
+      → IsUnwritten j before.sent) same unwritten) in
+      (now.0, subst (λ (j : ℕ). active after j ≡ true) (sym same) now.1)
+  read_opens (alone (Data stream last octets pad)) Reported credit id list end is
+      on is_credit adds one inactive known unwritten = cc
+  read_opens item verdict credit id list end is on is_credit adds one inactive known unwritten = cc
 
--- A frame of which fields are reported.
-frame_opens_it : (before after : Log) (decoded : Option Decoded) (id : ℕ) (list : List Field)
-    (end : Bool) → AfterFrame before decoded after
-    → after.reported ≡ FieldsEvent id list end ∷ before.reported
-    → active before id ≡ false → LogIsKnown id before
-    → (is_number_used before id ≡ false → IsUnwritten id before.sent)
-    → (before.role ≡ Server) × (active after id ≡ true)
-frame_opens_it before after decoded id list end (stays_same adds failed) one inactive known
-    unwritten = no_event _ before.reported (sym adds.reported ∙ one)
-frame_opens_it before after decoded id list end (has_broken code last up adds failed) one inactive
-    known unwritten = no_event _ before.reported (sym adds.reported ∙ one)
-frame_opens_it before after decoded id list end
-    (has_read item verdict credit is on is_credit adds failed) one inactive known unwritten =
-    read_opens before after decoded item verdict credit id list end is on is_credit adds
-    (append_cancel_right _ (FieldsEvent id list end ∷ []) before.reported
-    (sym adds.reported ∙ one)) inactive known unwritten
+  -- A frame of which fields are reported.
+  frame_opens_it : (id : ℕ) (list : List Field) (end : Bool) → AfterFrame before decoded after
+      → after.reported ≡ FieldsEvent id list end ∷ before.reported → active before id ≡ false
+      → LogIsKnown id before → (is_number_used before id ≡ false → IsUnwritten id before.sent)
+      → (before.role ≡ Server) × (active after id ≡ true)
+  frame_opens_it id list end (stays_same adds failed) one inactive known
+      unwritten = no_event _ before.reported (sym adds.reported ∙ one)
+  frame_opens_it id list end (has_broken code last up adds failed) one inactive
+      known unwritten = no_event _ before.reported (sym adds.reported ∙ one)
+  frame_opens_it id list end (has_read item verdict credit is on is_credit adds failed) one inactive
+      known unwritten = read_opens item verdict credit id list end is on is_credit adds
+      (append_cancel_right _ (FieldsEvent id list end ∷ []) before.reported
+      (sym adds.reported ∙ one)) inactive known unwritten
 
--- A stream of which fields are reported, and that wasn't active, is active then: at a server.
-pub active_by_fields : (role : Role) (values : Values) (log after : Log) (piece : List ℕ)
-    (count id : ℕ) (list : List Field) (end : Bool) → IsLog role values log
-    → MayTake log piece (Took count (Some (FieldsEvent id list end))) after
-    → active log id ≡ false → (log.role ≡ Server) × (active after id ≡ true)
-active_by_fields role values log after piece count id list end is
-    (has_failed code failed answers same) inactive = cc
-active_by_fields role values log after piece count id list end is
-    (named_one up some answers same) inactive = cc
-active_by_fields role values log after piece count id list end is
-    (ends_no_frame takes unparsed part answers same) inactive = cc
-active_by_fields role values log after piece count id list end is
-    (ends_frame takes octets unused joined frame decoded framed sees same answers) inactive =
-    frame_opens_it (frame_used log octets frame) after decoded id list end
-    (rw same (frame_after log octets decoded frame)) answers.2 inactive
-    (known_of_logs role values log is id) (unused_unwritten role values log id is)
-active_by_fields role values log after piece count id list end is
-    (meets_fault takes octets unused joined fault at answers same) inactive = cc
-active_by_fields role values log after piece count id list end is
-    (runs_out_of_memory up octets unused joined may answers same) inactive = cc
+module _ (role : Role) (values : Values) (log after : Log) (piece : List ℕ) (count id : ℕ)
+    (list : List Field) (end : Bool) where
+  -- A stream of which fields are reported, and that wasn't active, is active then: at a server.
+  pub active_by_fields : IsLog role values log
+      → MayTake log piece (Took count (Some (FieldsEvent id list end))) after
+      → active log id ≡ false → (log.role ≡ Server) × (active after id ≡ true)
+  active_by_fields is (has_failed code failed answers same) inactive = cc
+  active_by_fields is (named_one up some answers same) inactive = cc
+  active_by_fields is (ends_no_frame takes unparsed part answers same) inactive = cc
+  active_by_fields is (ends_frame takes octets unused joined frame decoded framed sees same answers)
+      inactive = frame_opens_it (frame_used log octets frame) after decoded id list end
+      (rw same (frame_after log octets decoded frame)) answers.2 inactive
+      (known_of_logs role values log is id) (unused_unwritten role values log id is)
+  active_by_fields is (meets_fault takes octets unused joined fault at answers same) inactive = cc
+  active_by_fields is (runs_out_of_memory up octets unused joined may answers same) inactive = cc

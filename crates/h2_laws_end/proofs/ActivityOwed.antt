@@ -24,58 +24,50 @@ use Rattle.h2_laws_end.proofs.ActivitySteps.{none_adds, call_after}
 use Rattle.h2_laws_end.proofs.ActivityTakes.{part_reported, fault_reported}
 use Rattle.h2_laws_end.proofs.ReceiveWindows.{flow_none}
 
--- Of a stream that a step makes active no octets were reported before it: it wasn't opened.
-new_unreported : (before after : Log) (reads items : List Item) (events : List Event) (i : ℕ)
-    → Adds before after reads items events → Good (history_of before)
-    → active before i ≡ false → active after i ≡ true
-    → reported_total (flow_on i) before.reported ≡ 0
-new_unreported before after reads items events i adds good inactive alive =
-    good.opened i (false_from_ne_true _ (λ opened. both_ways _ inactive
-    (active_before before.role i reads items before.received before.sent events before.reported
-    (sym (active_added before after reads items events i adds) ∙ alive) opened)))
+module _ (before after : Log) (reads items : List Item) (events : List Event) (i : ℕ) where
+  -- Of a stream that a step makes active no octets were reported before it: it wasn't opened.
+  new_unreported : Adds before after reads items events → Good (history_of before)
+      → active before i ≡ false → active after i ≡ true
+      → reported_total (flow_on i) before.reported ≡ 0
+  new_unreported adds good inactive alive =
+      good.opened i (false_from_ne_true _ (λ opened. both_ways _ inactive
+      (active_before before.role i reads items before.received before.sent events before.reported
+      (sym (active_added before after reads items events i adds) ∙ alive) opened)))
 
--- What is left of a stream's octets after a step, by the lists.
-left_after : (before after : Log) (reads items : List Item) (events : List Event) (i : ℕ)
-    → Adds before after reads items events
-    → unreleased after i
-    ≡ (reported_total (flow_on i) events + reported_total (flow_on i) before.reported)
-    - released i after.calls
-left_after before after reads items events i adds =
-    unreleased_is after i
-    ∙ ap (λ (line : List Event). reported_total (flow_on i) line - released i after.calls)
-    adds.reported
-    ∙ ap (λ (n : ℕ). n - released i after.calls)
-    (reported_append (flow_on i) events before.reported)
+  -- What is left of a stream's octets after a step, by the lists.
+  left_after : Adds before after reads items events
+      → unreleased after i ≡ (reported_total (flow_on i) events + reported_total (flow_on i)
+      before.reported) - released i after.calls
+  left_after adds = unreleased_is after i
+      ∙ ap (λ (line : List Event). reported_total (flow_on i) line - released i after.calls)
+      adds.reported ∙ ap (λ (n : ℕ). n - released i after.calls)
+      (reported_append (flow_on i) events before.reported)
 
--- A step that reports no octets of a stream makes nothing owed on it.
-none_owed_after : (before after : Log) (reads items : List Item) (events : List Event) (i : ℕ)
-    → Adds before after reads items events
-    → released i before.calls ≤ released i after.calls
-    → reported_total (flow_on i) events ≡ 0
-    → (active before i ≡ false → active after i ≡ true → Good (history_of before))
-    → owed before i ≡ 0 → owed after i ≡ 0
-none_owed_after before after reads items events i adds more quiet good none =
-    elim (cases_Bool (active after i)) [
-      | inl alive ↦ elim (cases_Bool (active before i)) [
-        | inl was ↦ owed_none after i (omega (
-          arith,
-          none,
-          more,
-          quiet,
-          left_after before after reads items events i adds,
-          owed_active before i was,
-          unreleased_is before i,
-        ))
-        | inr inactive ↦ owed_none after i (omega (
-          arith,
-          quiet,
-          left_after before after reads items events i adds,
-          new_unreported before after reads items events i adds (good inactive alive) inactive
-              alive,
-        ))
-      ]
-      | inr over ↦ owed_inactive after i over
+  -- A step that reports no octets of a stream makes nothing owed on it.
+  none_owed_after : Adds before after reads items events
+      → released i before.calls ≤ released i after.calls → reported_total (flow_on i) events ≡ 0
+      → (active before i ≡ false → active after i ≡ true → Good (history_of before))
+      → owed before i ≡ 0 → owed after i ≡ 0
+  none_owed_after adds more quiet good none = elim (cases_Bool (active after i)) [
+    | inl alive ↦ elim (cases_Bool (active before i)) [
+      | inl was ↦ owed_none after i (omega (
+        arith,
+        none,
+        more,
+        quiet,
+        left_after adds,
+        owed_active before i was,
+        unreleased_is before i,
+      ))
+      | inr inactive ↦ owed_none after i (omega (
+        arith,
+        quiet,
+        left_after adds,
+        new_unreported adds (good inactive alive) inactive alive,
+      ))
     ]
+    | inr over ↦ owed_inactive after i over
+  ]
 
 -- A call releases what it releases, and takes nothing back.
 call_releases : (log : Log) (act : Act) (answer : Answer) (i : ℕ)

@@ -26,108 +26,96 @@ pub harmless_append : (role : Role) (i : ℕ) (items others : List Item) → Are
     → AreHarmless role i others → AreHarmless role i (items ++ others)
 harmless_append role i items others are also = all_of_both (IsHarmless role i) items others are also
 
--- A block, and DATA, that isn't the last on the stream.
-pub harmless_block : (role : Role) (i id : ℕ) (end : Bool) (octets : List ℕ)
-    → (id == i && end) ≡ false → IsHarmless role i (block id end octets)
-unfolding ends resets is_goaway_below
-harmless_block role i id end octets is =
-    record { ends_not = is; resets_not = refl; below_not = λ server. refl }
+module _ (role : Role) (i id : ℕ) (end : Bool) (octets : List ℕ) where
+  -- A block, and DATA, that isn't the last on the stream.
+  pub harmless_block : (id == i && end) ≡ false → IsHarmless role i (block id end octets)
+  unfolding ends resets is_goaway_below
+  harmless_block is = record { ends_not = is; resets_not = refl; below_not = λ server. refl }
 
-harmless_data : (role : Role) (i id : ℕ) (end : Bool) (octets : List ℕ)
-    → (id == i && end) ≡ false → IsHarmless role i (alone (Data id end octets None))
-unfolding ends resets is_goaway_below
-harmless_data role i id end octets is =
-    record { ends_not = is; resets_not = refl; below_not = λ server. refl }
+  harmless_data : (id == i && end) ≡ false → IsHarmless role i (alone (Data id end octets None))
+  unfolding ends resets is_goaway_below
+  harmless_data is = record { ends_not = is; resets_not = refl; below_not = λ server. refl }
 
--- RST_STREAM of another stream.
-pub harmless_reset : (role : Role) (i id code : ℕ) → (id == i) ≡ false
-    → IsHarmless role i (alone (Reset id code))
-unfolding ends resets is_goaway_below
-harmless_reset role i id code is =
-    record { ends_not = refl; resets_not = is; below_not = λ server. refl }
+module _ (role : Role) (i : ℕ) where
+  -- RST_STREAM of another stream.
+  pub harmless_reset : (id code : ℕ) → (id == i) ≡ false → IsHarmless role i (alone (Reset id code))
+  unfolding ends resets is_goaway_below
+  harmless_reset id code is =
+      record { ends_not = refl; resets_not = is; below_not = λ server. refl }
 
--- GOAWAY with a last stream that isn't below the stream.
-pub harmless_goaway : (role : Role) (i last code : ℕ) → (role ≡ Server → i ≤ last)
-    → IsHarmless role i (alone (GoAway last code []))
-unfolding ends resets is_goaway_below
-harmless_goaway role i last code low = record {
-  ends_not = refl;
-  resets_not = refl;
-  below_not = λ server. false_from_ne_true _ (λ below.
-      let less = ltb-true last i below in
-      let most = low server in
-      absurd (omega (arith, less, most)));
-}
+  -- GOAWAY with a last stream that isn't below the stream.
+  pub harmless_goaway : (last code : ℕ) → (role ≡ Server → i ≤ last)
+      → IsHarmless role i (alone (GoAway last code []))
+  unfolding ends resets is_goaway_below
+  harmless_goaway last code low = record {
+    ends_not = refl;
+    resets_not = refl;
+    below_not = λ server. false_from_ne_true _ (λ below.
+        let less = ltb-true last i below in
+        let most = low server in
+        absurd (omega (arith, less, most)));
+  }
 
--- WINDOW_UPDATE, SETTINGS and PING.
-harmless_update : (role : Role) (i id count : ℕ)
-    → IsHarmless role i (alone (WindowUpdate id count))
-unfolding ends resets is_goaway_below
-harmless_update role i id count =
-    record { ends_not = refl; resets_not = refl; below_not = λ server. refl }
+  -- WINDOW_UPDATE, SETTINGS and PING.
+  harmless_update : (id count : ℕ) → IsHarmless role i (alone (WindowUpdate id count))
+  unfolding ends resets is_goaway_below
+  harmless_update id count =
+      record { ends_not = refl; resets_not = refl; below_not = λ server. refl }
 
-pub harmless_settings : (role : Role) (i : ℕ) (ack : Bool) (pairs : List (ℕ × ℕ))
-    → IsHarmless role i (alone (Settings ack pairs))
-unfolding ends resets is_goaway_below
-harmless_settings role i ack pairs =
-    record { ends_not = refl; resets_not = refl; below_not = λ server. refl }
+  pub harmless_settings : (ack : Bool) (pairs : List (ℕ × ℕ))
+      → IsHarmless role i (alone (Settings ack pairs))
+  unfolding ends resets is_goaway_below
+  harmless_settings ack pairs =
+      record { ends_not = refl; resets_not = refl; below_not = λ server. refl }
 
-pub harmless_ping : (role : Role) (i : ℕ) (ack : Bool) (octets : List ℕ)
-    → IsHarmless role i (alone (Ping ack octets))
-unfolding ends resets is_goaway_below
-harmless_ping role i ack octets =
-    record { ends_not = refl; resets_not = refl; below_not = λ server. refl }
+  pub harmless_ping : (ack : Bool) (octets : List ℕ) → IsHarmless role i (alone (Ping ack octets))
+  unfolding ends resets is_goaway_below
+  harmless_ping ack octets =
+      record { ends_not = refl; resets_not = refl; below_not = λ server. refl }
 
--- Credit.
-pub harmless_credit : (role : Role) (i : ℕ) (items : List Item) → IsCredit items
-    → AreHarmless role i items
-harmless_credit role i items (inl none) = rw none tt
-harmless_credit role i items (inr (count, is)) = rw is (harmless_update role i 0 count, tt)
+  -- Credit.
+  pub harmless_credit : (items : List Item) → IsCredit items → AreHarmless role i items
+  harmless_credit items (inl none) = rw none tt
+  harmless_credit items (inr (count, is)) = rw is (harmless_update 0 count, tt)
 
--- What is written of a body.
-pub harmless_body : (role : Role) (i most id : ℕ) (octets : List ℕ) (end : Bool) (count : ℕ)
-    → (id == i && (end && count == length octets)) ≡ false
-    → AreHarmless role i (data_items most id octets end count)
-harmless_body role i most id octets end count is =
-    body_all (IsHarmless role i) most id
-    (λ one short. harmless_data role i id false one (and_right (id == i) false refl)) octets end
-    count (λ last short. harmless_data role i id _ last is)
+  -- What is written of a body.
+  pub harmless_body : (most id : ℕ) (octets : List ℕ) (end : Bool) (count : ℕ)
+      → (id == i && (end && count == length octets)) ≡ false
+      → AreHarmless role i (data_items most id octets end count)
+  harmless_body most id octets end count is = body_all (IsHarmless role i) most id
+      (λ one short. harmless_data role i id false one (and_right (id == i) false refl)) octets end
+      count (λ last short. harmless_data role i id _ last is)
 
--- What is written for octets that were released, by whether the peer has ended the stream.
-pub harmless_release : (role : Role) (i id count : ℕ) (b : Bool)
-    → AreHarmless role i (alone (WindowUpdate 0 count) ∷
-    (if b then [] else alone (WindowUpdate id count) ∷ []))
-harmless_release role i id count true = (harmless_update role i 0 count, tt)
-harmless_release role i id count false =
-    (harmless_update role i 0 count, (harmless_update role i id count, tt))
+  -- What is written for octets that were released, by whether the peer has ended the stream.
+  pub harmless_release : (id count : ℕ) (b : Bool)
+      → AreHarmless role i (alone (WindowUpdate 0 count) ∷ (if b then [] else alone (WindowUpdate id
+      count) ∷ []))
+  harmless_release id count true = (harmless_update 0 count, tt)
+  harmless_release id count false = (harmless_update 0 count, (harmless_update id count, tt))
 
--- What is replied to an item, unless it resets the stream.
-pub harmless_replies : (role : Role) (i : ℕ) (verdict : Verdict) (item : Item)
-    → (is_stream_fault verdict ≡ true → (stream_of_item item == i) ≡ false)
-    → AreHarmless role i (replies_to verdict item)
-unfolding replies_to
-harmless_replies role i (ConnectionFault code) item other = tt
-harmless_replies role i (StreamFault code) item other =
-    (harmless_reset role i (stream_of_item item) (code_number code) (other refl), tt)
-harmless_replies role i NoEvent (block stream end octets) other = tt
-harmless_replies role i NoEvent (alone (Settings false pairs)) other =
-    (harmless_settings role i true [], tt)
-harmless_replies role i NoEvent (alone (Ping false octets)) other =
-    (harmless_ping role i true octets, tt)
-harmless_replies role i NoEvent (alone frame) other = tt
-harmless_replies role i Reported item other = tt
+  -- What is replied to an item, unless it resets the stream.
+  pub harmless_replies : (verdict : Verdict) (item : Item)
+      → (is_stream_fault verdict ≡ true → (stream_of_item item == i) ≡ false)
+      → AreHarmless role i (replies_to verdict item)
+  unfolding replies_to
+  harmless_replies (ConnectionFault code) item other = tt
+  harmless_replies (StreamFault code) item other =
+      (harmless_reset (stream_of_item item) (code_number code) (other refl), tt)
+  harmless_replies NoEvent (block stream end octets) other = tt
+  harmless_replies NoEvent (alone (Settings false pairs)) other = (harmless_settings true [], tt)
+  harmless_replies NoEvent (alone (Ping false octets)) other = (harmless_ping true octets, tt)
+  harmless_replies NoEvent (alone frame) other = tt
+  harmless_replies Reported item other = tt
 
--- What none of the items is.
-pub none_ends : (role : Role) (i : ℕ) (items : List Item) → AreHarmless role i items
-    → list_any (ends i) items ≡ false
-none_ends role i [] are = refl
-none_ends role i (item ∷ items) are = or_from _ _ are.0.ends_not (none_ends role i items are.1)
+  -- What none of the items is.
+  pub none_ends : (items : List Item) → AreHarmless role i items → list_any (ends i) items ≡ false
+  none_ends [] are = refl
+  none_ends (item ∷ items) are = or_from _ _ are.0.ends_not (none_ends items are.1)
 
-pub none_resets : (role : Role) (i : ℕ) (items : List Item) → AreHarmless role i items
-    → list_any (resets i) items ≡ false
-none_resets role i [] are = refl
-none_resets role i (item ∷ items) are =
-    or_from _ _ are.0.resets_not (none_resets role i items are.1)
+  pub none_resets : (items : List Item) → AreHarmless role i items
+      → list_any (resets i) items ≡ false
+  none_resets [] are = refl
+  none_resets (item ∷ items) are = or_from _ _ are.0.resets_not (none_resets items are.1)
 
 pub none_below : (role : Role) (i : ℕ) (items : List Item) → role ≡ Server
     → AreHarmless role i items → list_any (is_goaway_below i) items ≡ false

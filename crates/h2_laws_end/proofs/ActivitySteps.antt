@@ -75,64 +75,59 @@ pub data AfterFrame (before : Log) (decoded : Option Decoded) (after : Log) : Ty
       (events_of (log_view before) decoded verdict item)
       → after.failed ≡ before.failed → AfterFrame before decoded after
 
--- An item is read.
-read_adds : (log : Log) (decoded : Option Decoded) (item : Item)
-    → Adds log (read log decoded item) (item ∷ []) [] []
-read_adds log decoded item = record { role = refl; received = refl; sent = refl; reported = refl }
+module _ (log : Log) (decoded : Option Decoded) (item : Item) where
+  -- An item is read.
+  read_adds : Adds log (read log decoded item) (item ∷ []) [] []
+  read_adds = record { role = refl; received = refl; sent = refl; reported = refl }
 
--- An item was read, replied to and reported.
-replied_adds : (log : Log) (decoded : Option Decoded) (item : Item) (more : ℕ)
-    (replies : List Item) (events : List Event)
-    → (credit : List Item) × IsCredit credit
-    × Adds log (with_reported (with_unreturned more
-    (with_sent (read log decoded item) replies)) events) (item ∷ []) (credit ++ replies) events
-replied_adds log decoded item more replies events =
-    let one = read log decoded item in
-    let two = with_sent one replies in
-    let due = unreturned_adds more two in
-    let read_it = read_adds log decoded item in
-    let replied = sent_adds one replies in
-    let reported = reported_adds (with_unreturned more two) events in (
-      due.credit,
-      due.is_credit,
-      record {
-        role = reported.role ∙ due.adds.role ∙ replied.role ∙ read_it.role;
-        received = reported.received ∙ due.adds.received ∙ replied.received ∙ read_it.received;
-        sent = reported.sent ∙ due.adds.sent
-            ∙ ap (λ (items : List Item). due.credit ++ items) replied.sent
-            ∙ sym (append_assoc due.credit replies log.sent);
-        reported = reported.reported
-            ∙ ap (λ (before : List Event). events ++ before) (due.adds.reported ∙ replied.reported);
-      },
-    )
+  -- An item was read, replied to and reported.
+  replied_adds : (more : ℕ) (replies : List Item) (events : List Event) → (credit : List Item)
+      × IsCredit credit
+      × Adds log (with_reported (with_unreturned more (with_sent (read log decoded item) replies))
+      events)
+      (item ∷ []) (credit ++ replies) events
+  replied_adds more replies events =
+      let one = read log decoded item in
+      let two = with_sent one replies in
+      let due = unreturned_adds more two in
+      let read_it = read_adds in
+      let replied = sent_adds one replies in
+      let reported = reported_adds (with_unreturned more two) events in (
+        due.credit,
+        due.is_credit,
+        record {
+          role = reported.role ∙ due.adds.role ∙ replied.role ∙ read_it.role;
+          received = reported.received ∙ due.adds.received ∙ replied.received ∙ read_it.received;
+          sent = reported.sent ∙ due.adds.sent ∙ ap (λ (items : List Item). due.credit ++ items)
+              replied.sent ∙ sym (append_assoc due.credit replies log.sent);
+          reported = reported.reported ∙ ap (λ (before : List Event). events ++ before)
+              (due.adds.reported ∙ replied.reported);
+        },
+      )
 
--- It fails nothing.
-replied_failed : (log : Log) (decoded : Option Decoded) (item : Item) (more : ℕ)
-    (replies : List Item) (events : List Event)
-    → (with_reported (with_unreturned more (with_sent (read log decoded item) replies))
-    events).failed ≡ log.failed
-replied_failed log decoded item more replies events =
-    reported_failed _ events ∙ unreturned_failed more _ ∙ sent_failed _ replies
+  -- It fails nothing.
+  replied_failed : (more : ℕ) (replies : List Item) (events : List Event)
+      → (with_reported (with_unreturned more (with_sent (read log decoded item) replies))
+      events).failed ≡ log.failed
+  replied_failed more replies events =
+      reported_failed _ events ∙ unreturned_failed more _ ∙ sent_failed _ replies
 
--- An item, by its verdict.
-verdict_after : (log : Log) (decoded : Option Decoded) (item : Item) (verdict : Verdict)
-    → verdict_of (log_view log) decoded item ≡ verdict
-    → AfterFrame log decoded (with_verdict log decoded item verdict)
-unfolding with_verdict
-verdict_after log decoded item (ConnectionFault code) is =
-    has_broken code _ (omega arith) (failure_adds code _ log) refl
-verdict_after log decoded item (StreamFault code) is =
-    let adds = replied_adds log decoded item _ _ _ in
-    has_read item (StreamFault code) adds.0 is (λ other wrong. cc) adds.1 adds.2
-    (replied_failed log decoded item _ _ _)
-verdict_after log decoded item NoEvent is =
-    let adds = replied_adds log decoded item _ _ _ in
-    has_read item NoEvent adds.0 is (λ other wrong. cc) adds.1 adds.2
-    (replied_failed log decoded item _ _ _)
-verdict_after log decoded item Reported is =
-    let adds = replied_adds log decoded item _ _ _ in
-    has_read item Reported adds.0 is (λ other wrong. cc) adds.1 adds.2
-    (replied_failed log decoded item _ _ _)
+  -- An item, by its verdict.
+  verdict_after : (verdict : Verdict) → verdict_of (log_view log) decoded item ≡ verdict
+      → AfterFrame log decoded (with_verdict log decoded item verdict)
+  unfolding with_verdict
+  verdict_after (ConnectionFault code) is =
+      has_broken code _ (omega arith) (failure_adds code _ log) refl
+  verdict_after (StreamFault code) is =
+      let adds = replied_adds _ _ _ in
+      has_read item (StreamFault code) adds.0 is (λ other wrong. cc) adds.1 adds.2
+      (replied_failed _ _ _)
+  verdict_after NoEvent is =
+      let adds = replied_adds _ _ _ in
+      has_read item NoEvent adds.0 is (λ other wrong. cc) adds.1 adds.2 (replied_failed _ _ _)
+  verdict_after Reported is =
+      let adds = replied_adds _ _ _ in
+      has_read item Reported adds.0 is (λ other wrong. cc) adds.1 adds.2 (replied_failed _ _ _)
 
 -- What a frame makes of the block that has begun.
 step_after : (log : Log) (decoded : Option Decoded) (step : FrameStep)

@@ -133,47 +133,42 @@ quiet_opens log after i answer steps quiet low alive =
       | inr fields ↦ no_event _ log.reported (sym quiet ∙ fields.one)
     ]
 
--- Whatever stream is active after a call of `take` was so before it, or fields of it are reported.
-took_opens : (role : Role) (values : Values) (log after : Log) (piece : List ℕ)
-    (answer : TakeAnswer) (i : ℕ) → IsLog role values log → MayTake log piece answer after
-    → active after i ≡ true → (active log i ≡ true) ⊎ (take_has_fields i answer ≡ true)
-took_opens role values log after piece answer i is (has_failed code failed answers same) alive =
-    inl (rw same at alive)
-took_opens role values log after piece answer i is (named_one up some answers same) alive =
-    let adds = none_adds log in
-    inl (was_active log (took_none log) [] adds.0 _ i adds.2 (λ server. refl)
-    (λ client. credit_without_block i adds.0 adds.1) (rw same at alive))
-took_opens role values log after piece answer i is
-    (ends_no_frame takes unparsed part answers same) alive =
-    quiet_opens log _ i answer (part_after log piece unparsed) (part_reported log piece unparsed)
-    (λ failed. (log_read role values log is).low takes.up) (rw same at alive)
-took_opens role values log after piece answer i is
-    (ends_frame takes octets unused joined frame decoded framed sees same answers) alive =
-    elim (frame_opens (frame_used log octets frame) after decoded i
-    (rw same (frame_after log octets decoded frame))
-    (λ failed. (log_read role values log is).low takes.up) alive) [
-      | inl was ↦ inl was
-      | inr fields ↦ inr (answered_fields (frame_used log octets frame) after _ i answer takes.up
-          answers fields)
-    ]
-took_opens role values log after piece answer i is
-    (meets_fault takes octets unused joined fault at answers same) alive =
-    quiet_opens log _ i answer (fault_after log octets (wire_fault_code fault))
-    (fault_reported log octets (wire_fault_code fault) _)
-    (λ failed. (log_read role values log is).low takes.up) (rw same at alive)
-took_opens role values log after piece answer i is
-    (runs_out_of_memory up octets unused joined may answers same) alive =
-    quiet_opens log _ i answer (fault_after log octets InternalError)
-    (fault_reported log octets InternalError _)
-    (λ failed. (log_read role values log is).low up) (rw same at alive)
+module _ (role : Role) (values : Values) (log after : Log) (piece : List ℕ) (answer : TakeAnswer)
+    (i : ℕ) where
+  -- Whatever stream is active after a call of `take` was so before it, or fields of it are
+  -- reported.
+  took_opens : IsLog role values log → MayTake log piece answer after → active after i ≡ true
+      → (active log i ≡ true) ⊎ (take_has_fields i answer ≡ true)
+  took_opens is (has_failed code failed answers same) alive = inl (rw same at alive)
+  took_opens is (named_one up some answers same) alive =
+      let adds = none_adds log in
+      inl (was_active log (took_none log) [] adds.0 _ i adds.2 (λ server. refl)
+      (λ client. credit_without_block i adds.0 adds.1) (rw same at alive))
+  took_opens is (ends_no_frame takes unparsed part answers same) alive =
+      quiet_opens log _ i answer (part_after log piece unparsed) (part_reported log piece unparsed)
+      (λ failed. (log_read role values log is).low takes.up) (rw same at alive)
+  took_opens is (ends_frame takes octets unused joined frame decoded framed sees same answers) alive
+      = elim (frame_opens (frame_used log octets frame) after decoded i
+      (rw same (frame_after log octets decoded frame))
+      (λ failed. (log_read role values log is).low takes.up) alive) [
+        | inl was ↦ inl was
+        | inr fields ↦ inr (answered_fields (frame_used log octets frame) after _ i answer takes.up
+            answers fields)
+      ]
+  took_opens is (meets_fault takes octets unused joined fault at answers same) alive =
+      quiet_opens log _ i answer (fault_after log octets (wire_fault_code fault))
+      (fault_reported log octets (wire_fault_code fault) _)
+      (λ failed. (log_read role values log is).low takes.up) (rw same at alive)
+  took_opens is (runs_out_of_memory up octets unused joined may answers same) alive =
+      quiet_opens log _ i answer (fault_after log octets InternalError)
+      (fault_reported log octets InternalError _)
+      (λ failed. (log_read role values log is).low up) (rw same at alive)
 
--- A stream that isn't active is so after a call of `take` only if fields of it are reported.
-pub inactive_by_take : (role : Role) (values : Values) (log after : Log) (piece : List ℕ)
-    (answer : TakeAnswer) (i : ℕ) → IsLog role values log → MayTake log piece answer after
-    → active log i ≡ false → take_has_fields i answer ≡ false → active after i ≡ false
-inactive_by_take role values log after piece answer i is may inactive none =
-    false_from_ne_true _ (λ alive.
-    elim (took_opens role values log after piece answer i is may alive) [
-      | inl was ↦ both_ways _ inactive was
-      | inr fields ↦ both_ways _ none fields
-    ])
+  -- A stream that isn't active is so after a call of `take` only if fields of it are reported.
+  pub inactive_by_take : IsLog role values log → MayTake log piece answer after
+      → active log i ≡ false → take_has_fields i answer ≡ false → active after i ≡ false
+  inactive_by_take is may inactive none = false_from_ne_true _ (λ alive.
+      elim (took_opens is may alive) [
+        | inl was ↦ both_ways _ inactive was
+        | inr fields ↦ both_ways _ none fields
+      ])

@@ -134,41 +134,38 @@ reported_item log decoded item verdict =
     with_reported (with_unreturned (discarded_flow verdict item + owing)
     (replied log decoded item verdict)) events
 
-replied_same : (log other : Log) (decoded : Option Decoded) (item : Item) (verdict : Verdict)
-    → AreSameBare log other
-    → AreSameBare (reported_item log decoded item verdict)
-    (reported_item other decoded item verdict)
-replied_same log other decoded item verdict same =
-    let events = ap (λ (view : View). events_of view decoded verdict item)
-    (view_same log other same) in
-    let sent = sent_same _ _ (replies_to verdict item) _ refl
-    (read_same log other decoded item same) in
-    let owing = owed_same log _ other _ (stream_of_item item) same
-    (reported_same _ _ _ _ events sent) in
-    reported_same _ _ _ _ events
-    (due_same _ _ _ _ (ap (λ (n : ℕ). discarded_flow verdict item + n) owing) sent)
+module _ (log other : Log) (decoded : Option Decoded) (item : Item) where
+  replied_same : (verdict : Verdict) → AreSameBare log other
+      → AreSameBare (reported_item log decoded item verdict)
+      (reported_item other decoded item verdict)
+  replied_same verdict same =
+      let events = ap (λ (view : View). events_of view decoded verdict item)
+      (view_same log other same) in
+      let sent = sent_same _ _ (replies_to verdict item) _ refl
+      (read_same log other decoded item same) in
+      let owing = owed_same log _ other _ (stream_of_item item) same
+      (reported_same _ _ _ _ events sent) in
+      reported_same _ _ _ _ events
+      (due_same _ _ _ _ (ap (λ (n : ℕ). discarded_flow verdict item + n) owing) sent)
 
--- After an item, by its verdict.
-verdict_same : (log other : Log) (decoded : Option Decoded) (item : Item) (verdict : Verdict)
-    → AreSameBare log other
-    → AreSameBare (with_verdict log decoded item verdict) (with_verdict other decoded item verdict)
-unfolding with_verdict
-verdict_same log other decoded item (ConnectionFault code) same =
-    failure_same log other code _ _ (ap₂ max (last_same log other same)
-    (ap (λ (view : View). opened_by view decoded item) (view_same log other same))) same
-verdict_same log other decoded item (StreamFault code) same =
-    replied_same log other decoded item (StreamFault code) same
-verdict_same log other decoded item NoEvent same = replied_same log other decoded item NoEvent same
-verdict_same log other decoded item Reported same =
-    replied_same log other decoded item Reported same
+  -- After an item, by its verdict.
+  verdict_same : (verdict : Verdict) → AreSameBare log other
+      → AreSameBare (with_verdict log decoded item verdict) (with_verdict other decoded item
+      verdict)
+  unfolding with_verdict
+  verdict_same (ConnectionFault code) same =
+      failure_same log other code _ _ (ap₂ max (last_same log other same)
+      (ap (λ (view : View). opened_by view decoded item) (view_same log other same))) same
+  verdict_same (StreamFault code) same = replied_same (StreamFault code) same
+  verdict_same NoEvent same = replied_same NoEvent same
+  verdict_same Reported same = replied_same Reported same
 
--- After an item.
-item_same : (log other : Log) (decoded : Option Decoded) (item : Item) → AreSameBare log other
-    → AreSameBare (with_item log decoded item) (with_item other decoded item)
-item_same log other decoded item same =
-    verdict_same log other decoded item _ same
-    ∙ ap (λ (verdict : Verdict). bare (with_verdict other decoded item verdict))
-    (ap (λ (view : View). verdict_of view decoded item) (view_same log other same))
+  -- After an item.
+  item_same : AreSameBare log other
+      → AreSameBare (with_item log decoded item) (with_item other decoded item)
+  item_same same = verdict_same _ same
+      ∙ ap (λ (verdict : Verdict). bare (with_verdict other decoded item verdict))
+      (ap (λ (view : View). verdict_of view decoded item) (view_same log other same))
 
 -- After what a frame makes of the block that has begun.
 step_same : (log other : Log) (decoded : Option Decoded) (step : FrameStep) → AreSameBare log other
@@ -181,42 +178,39 @@ step_same log other decoded (completes item) same =
     item_same (record log { begun = None }) (record other { begun = None }) decoded item
     (bare_by (λ one. record one { begun = None }) (λ one. refl) log other same)
 
--- After a frame.
-pub frame_same : (log other : Log) (decoded : Option Decoded) (frame : Frame)
-    → AreSameBare log other → AreSameBare (with_frame log decoded frame)
-    (with_frame other decoded frame)
-unfolding with_frame
-frame_same log other decoded frame same =
-    step_same _ _ decoded (frame_step (log_view log) frame)
-    (bare_by (λ one. record one { frames = one.frames ++ frame ∷ [] }) (λ one. refl) log other same)
-    ∙ ap (λ (step : FrameStep). bare (with_step (record other {
-      frames = other.frames ++ frame ∷ [];
-    }) decoded step)) (ap (λ (view : View). frame_step view frame) (view_same log other same))
+module _ (log other : Log) where
+  -- After a frame.
+  pub frame_same : (decoded : Option Decoded) (frame : Frame) → AreSameBare log other
+      → AreSameBare (with_frame log decoded frame) (with_frame other decoded frame)
+  unfolding with_frame
+  frame_same decoded frame same = step_same _ _ decoded (frame_step (log_view log) frame)
+      (bare_by (λ one. record one { frames = one.frames ++ frame ∷ [] }) (λ one. refl) log other
+      same) ∙ ap (λ (step : FrameStep). bare (with_step (record other {
+        frames = other.frames ++ frame ∷ [];
+      }) decoded step)) (ap (λ (view : View). frame_step view frame) (view_same log other same))
 
--- After a call.
-called_same : (log other : Log) (act : Act) (answer : Answer) → AreSameBare log other
-    → AreSameBare (called log act answer) (called other act answer)
-called_same log other act answer same =
-    bare_by (λ one. called one act answer) (λ one. refl) log other same
+  -- After a call.
+  called_same : (act : Act) (answer : Answer) → AreSameBare log other
+      → AreSameBare (called log act answer) (called other act answer)
+  called_same act answer same = bare_by (λ one. called one act answer) (λ one. refl) log other same
 
--- After what a call writes.
-items_same : (log other : Log) (act : Act) (answer : Answer) → AreSameBare log other
-    → AreSameBare (with_items log act answer) (with_items other act answer)
-unfolding with_items
-items_same log other act answer same =
-    let items : items_of (log_view log) act answer ≡ items_of (log_view other) act answer =
-    ap (λ (view : View). items_of view act answer) (view_same log other same) in
-    let sent = sent_same _ _ _ _ items (called_same log other act answer same) in
-    due_same _ _ _ _ (owed_same log _ other _ (stream_of_act act) same sent) sent
+  -- After what a call writes.
+  items_same : (act : Act) (answer : Answer) → AreSameBare log other
+      → AreSameBare (with_items log act answer) (with_items other act answer)
+  unfolding with_items
+  items_same act answer same =
+      let items : items_of (log_view log) act answer ≡ items_of (log_view other) act answer =
+      ap (λ (view : View). items_of view act answer) (view_same log other same) in
+      let sent = sent_same _ _ _ _ items (called_same act answer same) in
+      due_same _ _ _ _ (owed_same log _ other _ (stream_of_act act) same sent) sent
 
--- After a stream was refused.
-refused_same : (log other : Log) (act : Act) (answer : Answer) (fault : Option Code)
-    → AreSameBare log other
-    → AreSameBare (refused_with log act answer fault) (refused_with other act answer fault)
-unfolding refused_with
-refused_same log other act answer (Some code) same =
-    failure_same _ _ code _ _ (last_same log other same) (called_same log other act answer same)
-refused_same log other act answer None same = items_same log other act answer same
+  -- After a stream was refused.
+  refused_same : (act : Act) (answer : Answer) (fault : Option Code) → AreSameBare log other
+      → AreSameBare (refused_with log act answer fault) (refused_with other act answer fault)
+  unfolding refused_with
+  refused_same act answer (Some code) same =
+      failure_same _ _ code _ _ (last_same log other same) (called_same act answer same)
+  refused_same act answer None same = items_same act answer same
 
 -- What is returned before output is put out.
 ready_bare : (log : Log) → bare (before_put_out (bare log)) ≡ bare (before_put_out log)
@@ -226,43 +220,40 @@ ready_bare log =
     rw test (both_by (λ (one other : Log). bare one ≡ bare other)
     (returns_before_put_out (log_view log)) refl refl)
 
--- After output was put out.
-put_out_same : (log other : Log) (act : Act) (answer : Answer) (given : ℕ) → AreSameBare log other
-    → AreSameBare (record (before_put_out (called log act answer)) { given = log.given + given })
-    (record (before_put_out (called other act answer)) { given = other.given + given })
-put_out_same log other act answer given same =
-    let ready = bare_by (λ one. before_put_out one) ready_bare _ _
-    (called_same log other act answer same) in
-    let count : log.given + given ≡ other.given + given =
-    ap (λ (one : Log). one.given + given) same in
-    bare_by (λ one. record one { given = log.given + given }) (λ one. refl)
-    (before_put_out (called log act answer)) (before_put_out (called other act answer)) ready
-    ∙ ap (λ (n : ℕ). bare (record (before_put_out (called other act answer)) { given = n })) count
+module _ (log other : Log) where
+  -- After output was put out.
+  put_out_same : (act : Act) (answer : Answer) (given : ℕ) → AreSameBare log other
+      → AreSameBare (record (before_put_out (called log act answer)) { given = log.given + given })
+      (record (before_put_out (called other act answer)) { given = other.given + given })
+  put_out_same act answer given same =
+      let ready = bare_by (λ one. before_put_out one) ready_bare _ _
+      (called_same log other act answer same) in
+      let count : log.given + given ≡ other.given + given =
+      ap (λ (one : Log). one.given + given) same in
+      bare_by (λ one. record one { given = log.given + given }) (λ one. refl)
+      (before_put_out (called log act answer)) (before_put_out (called other act answer)) ready
+      ∙ ap (λ (n : ℕ). bare (record (before_put_out (called other act answer)) { given = n })) count
 
--- After a call with its answer.
-pub call_same : (log other : Log) (act : Act) (answer : Answer) → AreSameBare log other
-    → AreSameBare (with_call log act answer) (with_call other act answer)
-unfolding with_call
-call_same log other act (Refused refusal) same = called_same log other act _ same
-call_same log other act OutOfMemory same =
-    failure_same _ _ InternalError _ _ (last_same log other same)
-    (called_same log other act OutOfMemory same)
-call_same log other (Refuse id code) answer same =
-    refused_same log other (Refuse id code) answer _ same
-    ∙ ap (λ (fault : Option Code). bare (refused_with other (Refuse id code) answer fault))
-    (ap (λ (view : View). refuse_fault view code) (view_same log other same))
-call_same log other (PutOut count) (Count given) same =
-    put_out_same log other (PutOut count) (Count given) given same
-call_same log other act answer same = items_same log other act answer same
+  -- After a call with its answer.
+  pub call_same : (act : Act) (answer : Answer) → AreSameBare log other
+      → AreSameBare (with_call log act answer) (with_call other act answer)
+  unfolding with_call
+  call_same act (Refused refusal) same = called_same log other act _ same
+  call_same act OutOfMemory same = failure_same _ _ InternalError _ _ (last_same log other same)
+      (called_same log other act OutOfMemory same)
+  call_same (Refuse id code) answer same = refused_same log other (Refuse id code) answer _ same
+      ∙ ap (λ (fault : Option Code). bare (refused_with other (Refuse id code) answer fault))
+      (ap (λ (view : View). refuse_fault view code) (view_same log other same))
+  call_same (PutOut count) (Count given) same = put_out_same (PutOut count) (Count given) given same
+  call_same act answer same = items_same log other act answer same
 
--- After a stream that was reported as unprocessed.
-pub none_same : (log other : Log) → AreSameBare log other
-    → AreSameBare (took_none log) (took_none other)
-none_same log other same =
-    let next = next_same log other same in
-    let events = ap (λ (i : ℕ). UnprocessedEvent i ∷ []) next in
-    let owed = owed_same log _ other _ (next_unprocessed log) same
-    (reported_same log other _ _ events same)
-    ∙ ap (λ (i : ℕ). owed_at_close other (with_reported other (UnprocessedEvent
-    (next_unprocessed other) ∷ [])) i) next in
-    reported_same _ _ _ _ events (due_same log other _ _ owed same)
+  -- After a stream that was reported as unprocessed.
+  pub none_same : AreSameBare log other → AreSameBare (took_none log) (took_none other)
+  none_same same =
+      let next = next_same log other same in
+      let events = ap (λ (i : ℕ). UnprocessedEvent i ∷ []) next in
+      let owed = owed_same log _ other _ (next_unprocessed log) same
+      (reported_same log other _ _ events same)
+      ∙ ap (λ (i : ℕ). owed_at_close other (with_reported other (UnprocessedEvent
+      (next_unprocessed other) ∷ [])) i) next in
+      reported_same _ _ _ _ events (due_same log other _ _ owed same)

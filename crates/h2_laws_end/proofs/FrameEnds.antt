@@ -105,106 +105,98 @@ one_more_of limits preface body part longer tail end frame others opened opens j
           ∙ append_assoc part first end);
     }
 
--- The frame stands right after the part.
-one_more : (expects : Bool) (limits : Limits) (frames : List Frame) (frame : Frame)
-    (part longer tail end : List ℕ) → IsSound expects limits frames part
-    → IsSound expects limits (frames ++ frame ∷ []) longer → part ++ tail ≡ longer ++ end
-    → OneMore limits part longer tail end frame
-one_more expects limits frames frame part longer tail end sound again joined =
-    let preface = expected_preface expects in
-    let line : preface ++ (sound.body ++ tail) ≡ preface ++ (again.body ++ end) =
-    sym (append_assoc preface sound.body tail)
-    ∙ ap (λ (octets : List ℕ). octets ++ tail) (sym sound.opened) ∙ joined
-    ∙ ap (λ (octets : List ℕ). octets ++ end) again.opened
-    ∙ append_assoc preface again.body end in
-    let following : sound.body ++ tail ≡ again.body ++ end =
-    same_following preface preface _ _ refl line in
-    let begin = same_begin limits (length preface) frames (frame ∷ []) sound.body again.body tail
-    end sound.framed again.framed following in
-    let at : length preface + length sound.body + 9 ≡ length part + 9 =
-    sym (ap (λ (octets : List ℕ). length octets + 9) sound.opened ∙ rw length-append refl) in
-    one_more_of limits preface sound.body part longer tail end frame begin.0 sound.opened
-    (again.opened ∙ ap (λ (octets : List ℕ). preface ++ octets) begin.1) joined at begin.2
+module _ (expects : Bool) (limits : Limits) (frames : List Frame) where
+  -- The frame stands right after the part.
+  one_more : (frame : Frame) (part longer tail end : List ℕ) → IsSound expects limits frames part
+      → IsSound expects limits (frames ++ frame ∷ []) longer → part ++ tail ≡ longer ++ end
+      → OneMore limits part longer tail end frame
+  one_more frame part longer tail end sound again joined =
+      let preface = expected_preface expects in
+      let line : preface ++ (sound.body ++ tail) ≡ preface ++ (again.body ++ end) =
+      sym (append_assoc preface sound.body tail) ∙ ap (λ (octets : List ℕ). octets ++ tail)
+      (sym sound.opened) ∙ joined ∙ ap (λ (octets : List ℕ). octets ++ end) again.opened
+      ∙ append_assoc preface again.body end in
+      let following : sound.body ++ tail ≡ again.body ++ end =
+      same_following preface preface _ _ refl line in
+      let begin = same_begin limits (length preface) frames (frame ∷ []) sound.body again.body tail
+      end sound.framed again.framed following in
+      let at : length preface + length sound.body + 9 ≡ length part + 9 =
+      sym (ap (λ (octets : List ℕ). length octets + 9) sound.opened ∙ rw length-append refl) in
+      one_more_of limits preface sound.body part longer tail end frame begin.0 sound.opened
+      (again.opened ∙ ap (λ (octets : List ℕ). preface ++ octets) begin.1) joined at begin.2
 
--- A stream that ends with a frame is a sound part.
-all_sound : (expects : Bool) (limits : Limits) (frames : List Frame) (frame : Frame)
-    (stream : List ℕ) → Frames expects limits stream (frames ++ frame ∷ []) []
-    → IsSound expects limits (frames ++ frame ∷ []) stream
-all_sound expects limits frames frame stream (inl short) =
-    let counted = simp length-append at (ap length short.none) in absurd (omega (arith, counted))
-all_sound expects limits frames frame stream (inr past) =
-    subst (λ (octets : List ℕ). IsSound expects limits (frames ++ frame ∷ []) octets)
-    (sym (past.joined ∙ append-nil past.part)) past.sound
+  -- A stream that ends with a frame is a sound part.
+  all_sound : (frame : Frame) (stream : List ℕ)
+      → Frames expects limits stream (frames ++ frame ∷ []) []
+      → IsSound expects limits (frames ++ frame ∷ []) stream
+  all_sound frame stream (inl short) =
+      let counted = simp length-append at (ap length short.none) in absurd (omega (arith, counted))
+  all_sound frame stream (inr past) =
+      subst (λ (octets : List ℕ). IsSound expects limits (frames ++ frame ∷ []) octets)
+      (sym (past.joined ∙ append-nil past.part)) past.sound
 
--- Two pieces that end with a frame after the same frames, of one line, are one.
-pub same_piece : (expects : Bool) (limits : Limits) (frames : List Frame) (frame other : Frame)
-    (stream another tail end : List ℕ) → Frames expects limits stream (frames ++ frame ∷ []) []
-    → Frames expects limits another (frames ++ other ∷ []) [] → stream ++ tail ≡ another ++ end
-    → stream ≡ another
-same_piece expects limits frames frame other stream another tail end read again joined =
-    let sound = all_sound expects limits frames frame stream read in
-    let complete = all_sound expects limits frames other another again in
-    let begin = frames_begin limits _ frames (frame ∷ []) sound.body sound.framed in
-    let preface = expected_preface expects in
-    let part : IsSound expects limits frames (preface ++ begin.0) =
-    record { body = begin.0; opened = refl; framed = begin.3 } in
-    let line : (preface ++ begin.0) ++ (begin.1 ++ tail) ≡ stream ++ tail =
-    sym (append_assoc (preface ++ begin.0) begin.1 tail)
-    ∙ ap (λ (octets : List ℕ). octets ++ tail) (append_assoc preface begin.0 begin.1
-    ∙ ap (λ (octets : List ℕ). preface ++ octets) (sym begin.2) ∙ sym sound.opened) in
-    let ours = one_more expects limits frames frame _ stream _ tail part sound line in
-    let theirs = one_more expects limits frames other _ another _ end part complete
-    (line ∙ joined) in
-    let one = same_frame _ frame other ours.last theirs.last tail end ours.framed theirs.framed
-    (sym ours.tail_is ∙ theirs.tail_is) in
-    ours.longer_is ∙ ap (λ (octets : List ℕ). (preface ++ begin.0) ++ octets) one
-    ∙ sym theirs.longer_is
+  -- Two pieces that end with a frame after the same frames, of one line, are one.
+  pub same_piece : (frame other : Frame) (stream another tail end : List ℕ)
+      → Frames expects limits stream (frames ++ frame ∷ []) []
+      → Frames expects limits another (frames ++ other ∷ []) [] → stream ++ tail ≡ another ++ end
+      → stream ≡ another
+  same_piece frame other stream another tail end read again joined =
+      let sound = all_sound frame stream read in
+      let complete = all_sound other another again in
+      let begin = frames_begin limits _ frames (frame ∷ []) sound.body sound.framed in
+      let preface = expected_preface expects in
+      let part : IsSound expects limits frames (preface ++ begin.0) =
+      record { body = begin.0; opened = refl; framed = begin.3 } in
+      let line : (preface ++ begin.0) ++ (begin.1 ++ tail) ≡ stream ++ tail =
+      sym (append_assoc (preface ++ begin.0) begin.1 tail)
+      ∙ ap (λ (octets : List ℕ). octets ++ tail) (append_assoc preface begin.0 begin.1
+      ∙ ap (λ (octets : List ℕ). preface ++ octets) (sym begin.2) ∙ sym sound.opened) in
+      let ours = one_more frame _ stream _ tail part sound line in
+      let theirs = one_more other _ another _ end part complete (line ∙ joined) in
+      let one = same_frame _ frame other ours.last theirs.last tail end ours.framed theirs.framed
+      (sym ours.tail_is ∙ theirs.tail_is) in
+      ours.longer_is ∙ ap (λ (octets : List ℕ). (preface ++ begin.0) ++ octets) one
+      ∙ sym theirs.longer_is
 
--- A piece in which no frame ends begins with none in which one does.
-pub no_frame_in : (expects : Bool) (limits : Limits) (frames : List Frame) (frame : Frame)
-    (stream another unparsed end : List ℕ) → Frames expects limits stream frames unparsed
-    → Frames expects limits another (frames ++ frame ∷ []) [] → stream ≡ another ++ end → ⊥
-no_frame_in expects limits frames frame stream another unparsed end (inl short) again joined =
-    let complete = all_sound expects limits frames frame another again in
-    let counted = simp length-append at (ap length (joined
-    ∙ ap (λ (octets : List ℕ). octets ++ end) complete.opened)) in
-    let few = short.short in
-    omega (arith, counted, few)
-no_frame_in expects limits frames frame stream another unparsed end (inr past) again joined =
-    let complete = all_sound expects limits frames frame another again in
-    let more = one_more expects limits frames frame past.part another unparsed end past.sound
-    complete (sym past.joined ∙ joined) in
-    partial_stops _ unparsed past.partial frame more.last end more.tail_is more.framed
+  -- A piece in which no frame ends begins with none in which one does.
+  pub no_frame_in : (frame : Frame) (stream another unparsed end : List ℕ)
+      → Frames expects limits stream frames unparsed
+      → Frames expects limits another (frames ++ frame ∷ []) [] → stream ≡ another ++ end → ⊥
+  no_frame_in frame stream another unparsed end (inl short) again joined =
+      let complete = all_sound frame another again in
+      let counted = simp length-append at (ap length (joined
+      ∙ ap (λ (octets : List ℕ). octets ++ end) complete.opened)) in
+      let few = short.short in
+      omega (arith, counted, few)
+  no_frame_in frame stream another unparsed end (inr past) again joined =
+      let complete = all_sound frame another again in
+      let more = one_more frame past.part another unparsed end past.sound
+      complete (sym past.joined ∙ joined) in
+      partial_stops _ unparsed past.partial frame more.last end more.tail_is more.framed
 
--- A line in which a fault is made after frames has no frame after them.
-pub no_frame_at_fault : (expects : Bool) (limits : Limits) (frames : List Frame) (frame : Frame)
-    (octets another beyond end : List ℕ) (fault : WireFault)
-    → EndsWithFault expects limits frames octets fault
-    → Frames expects limits another (frames ++ frame ∷ []) []
-    → octets ++ beyond ≡ another ++ end → ⊥
-no_frame_at_fault expects limits frames frame octets another beyond end faults.BadPreface made
-    again joined =
-    let complete = all_sound expects limits frames frame another again in
-    sound_no_wrong expects limits _ frames another end octets beyond complete made (sym joined)
-no_frame_at_fault expects limits frames frame octets another beyond end (faults.HeadFault code)
-    made again joined =
-    let complete = all_sound expects limits frames frame another again in
-    let line : made.part ++ (made.last ++ beyond) ≡ another ++ end =
-    sym (append_assoc made.part made.last beyond)
-    ∙ ap (λ (line : List ℕ). line ++ beyond) (sym made.joined) ∙ joined in
-    let more = one_more expects limits frames frame made.part another _ end made.sound complete
-    line in
-    wrong_head_stops _ made.last beyond code made.nine made.faulty frame more.last end
-    more.tail_is more.framed
-no_frame_at_fault expects limits frames frame octets another beyond end
-    (faults.PayloadFault code) made again joined =
-    let complete = all_sound expects limits frames frame another again in
-    let line : made.part ++ (made.last ++ beyond) ≡ another ++ end =
-    sym (append_assoc made.part made.last beyond)
-    ∙ ap (λ (line : List ℕ). line ++ beyond) (sym made.joined) ∙ joined in
-    let more = one_more expects limits frames frame made.part another _ end made.sound complete
-    line in
-    wrong_payload_stops _ made.last beyond code made.complete made.faulty frame more.last end
-    more.tail_is more.framed
-no_frame_at_fault expects limits frames frame octets another beyond end faults.Memory made again
-    joined = made
+  -- A line in which a fault is made after frames has no frame after them.
+  pub no_frame_at_fault : (frame : Frame) (octets another beyond end : List ℕ) (fault : WireFault)
+      → EndsWithFault expects limits frames octets fault
+      → Frames expects limits another (frames ++ frame ∷ []) [] → octets ++ beyond ≡ another ++ end
+      → ⊥
+  no_frame_at_fault frame octets another beyond end faults.BadPreface made again joined =
+      let complete = all_sound frame another again in
+      sound_no_wrong expects limits _ frames another end octets beyond complete made (sym joined)
+  no_frame_at_fault frame octets another beyond end (faults.HeadFault code) made again joined =
+      let complete = all_sound frame another again in
+      let line : made.part ++ (made.last ++ beyond) ≡ another ++ end =
+      sym (append_assoc made.part made.last beyond)
+      ∙ ap (λ (line : List ℕ). line ++ beyond) (sym made.joined) ∙ joined in
+      let more = one_more frame made.part another _ end made.sound complete line in
+      wrong_head_stops _ made.last beyond code made.nine made.faulty frame more.last end
+      more.tail_is more.framed
+  no_frame_at_fault frame octets another beyond end (faults.PayloadFault code) made again joined =
+      let complete = all_sound frame another again in
+      let line : made.part ++ (made.last ++ beyond) ≡ another ++ end =
+      sym (append_assoc made.part made.last beyond)
+      ∙ ap (λ (line : List ℕ). line ++ beyond) (sym made.joined) ∙ joined in
+      let more = one_more frame made.part another _ end made.sound complete line in
+      wrong_payload_stops _ made.last beyond code made.complete made.faulty frame more.last end
+      more.tail_is more.framed
+  no_frame_at_fault frame octets another beyond end faults.Memory made again
+      joined = made

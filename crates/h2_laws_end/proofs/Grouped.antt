@@ -126,53 +126,48 @@ grouped_verdict old log decoded item other frame frames received before groups =
 abbrev one_more : Log → Frame → Log
 one_more log frame = record log { frames = log.frames ++ frame ∷ [] }
 
--- After what the frame makes of the block that has begun.
-grouped_step : (log : Log) (decoded : Option Decoded) (frame : Frame) (step : FrameStep)
-    (items : List Item) (begun : Option Begun)
-    → Groups log.frames (oldest_first log.received) log.begun → Makes step items begun
-    → Groups (log.frames ++ frame ∷ []) (oldest_first log.received ++ items) begun
-    → AreGrouped (with_step (one_more log frame) decoded step)
-unfolding with_step
-grouped_step log decoded frame (fails_with code) items begun before makes groups = absurd makes
-grouped_step log decoded frame (begins_block after) items begun before makes groups =
-    grouped_up (record (one_more log frame) { begun = Some after })
-    (subst (λ (now : Option Begun). Groups (log.frames ++ frame ∷ []) (oldest_first log.received)
-    now) makes.1 (rw (makes.0, append-nil) at groups))
-grouped_step log decoded frame (completes item) items begun before makes groups =
-    grouped_verdict log (record (one_more log frame) { begun = None }) decoded item _ frame refl
-    refl before (rw (makes.0, makes.1) at groups)
+module _ (log : Log) (decoded : Option Decoded) (frame : Frame) where
+  -- After what the frame makes of the block that has begun.
+  grouped_step : (step : FrameStep) (items : List Item) (begun : Option Begun)
+      → Groups log.frames (oldest_first log.received) log.begun → Makes step items begun
+      → Groups (log.frames ++ frame ∷ []) (oldest_first log.received ++ items) begun
+      → AreGrouped (with_step (one_more log frame) decoded step)
+  unfolding with_step
+  grouped_step (fails_with code) items begun before makes groups = absurd makes
+  grouped_step (begins_block after) items begun before makes groups =
+      grouped_up (record (one_more log frame) { begun = Some after })
+      (subst (λ (now : Option Begun). Groups (log.frames ++ frame ∷ []) (oldest_first log.received)
+      now) makes.1 (rw (makes.0, append-nil) at groups))
+  grouped_step (completes item) items begun before makes groups =
+      grouped_verdict log (record (one_more log frame) { begun = None }) decoded item _ frame refl
+      refl before (rw (makes.0, makes.1) at groups)
 
--- By the fault of the frame.
-grouped_fault : (log : Log) (decoded : Option Decoded) (frame : Frame) (fault : Option BlockFault)
-    → next_fault log.begun frame ≡ fault
-    → Groups log.frames (oldest_first log.received) log.begun
-    → AreGrouped (with_step (one_more log frame) decoded (grouping_step log.begun frame fault))
-unfolding with_step grouping_step
-grouped_fault log decoded frame (Some fault) is before =
-    grouped_fails log (one_more log frame) frame (block_fault_code fault) _ refl refl before
-grouped_fault log decoded frame None is before =
-    grouped_step log decoded frame (grouped log.begun frame) _ _ before
-    (grouped_makes log.begun frame is)
-    (Groups-step log.frames (oldest_first log.received) log.begun frame before is)
+  -- By the fault of the frame.
+  grouped_fault : (fault : Option BlockFault) → next_fault log.begun frame ≡ fault
+      → Groups log.frames (oldest_first log.received) log.begun
+      → AreGrouped (with_step (one_more log frame) decoded (grouping_step log.begun frame fault))
+  unfolding with_step grouping_step
+  grouped_fault (Some fault) is before =
+      grouped_fails log (one_more log frame) frame (block_fault_code fault) _ refl refl before
+  grouped_fault None is before = grouped_step (grouped log.begun frame) _ _ before
+      (grouped_makes log.begun frame is)
+      (Groups-step log.frames (oldest_first log.received) log.begun frame before is)
 
--- By the test whether it may come.
-grouped_test : (log : Log) (decoded : Option Decoded) (frame : Frame) (test : Bool)
-    → Groups log.frames (oldest_first log.received) log.begun
-    → AreGrouped (with_step (one_more log frame) decoded (if test then fails_with ProtocolError
-    else grouping_step log.begun frame (next_fault log.begun frame)))
-unfolding with_step
-grouped_test log decoded frame true before =
-    grouped_fails log (one_more log frame) frame ProtocolError _ refl refl before
-grouped_test log decoded frame false before =
-    grouped_fault log decoded frame (next_fault log.begun frame) refl before
+  -- By the test whether it may come.
+  grouped_test : (test : Bool) → Groups log.frames (oldest_first log.received) log.begun
+      → AreGrouped (with_step (one_more log frame) decoded (if test then fails_with ProtocolError
+      else grouping_step log.begun frame (next_fault log.begun frame)))
+  unfolding with_step
+  grouped_test true before =
+      grouped_fails log (one_more log frame) frame ProtocolError _ refl refl before
+  grouped_test false before = grouped_fault (next_fault log.begun frame) refl before
 
--- After a frame.
-grouped_frame : (log : Log) (decoded : Option Decoded) (frame : Frame)
-    → Groups log.frames (oldest_first log.received) log.begun
-    → AreGrouped (with_frame log decoded frame)
-unfolding with_frame frame_step
-grouped_frame log decoded frame before =
-    grouped_test log decoded frame (not (log_view log).started && not (may_be_first frame)) before
+  -- After a frame.
+  grouped_frame : Groups log.frames (oldest_first log.received) log.begun
+      → AreGrouped (with_frame log decoded frame)
+  unfolding with_frame frame_step
+  grouped_frame before =
+      grouped_test (not (log_view log).started && not (may_be_first frame)) before
 
 -- Octets that are used change no frames.
 grouped_used : (log : Log) (octets unparsed : List ℕ) → AreGrouped log

@@ -36,7 +36,7 @@ pub use Rattle.std.proofs.Common.{Bool, List, None, Option, Some, [], ap, append
 pub use Rattle.std.proofs.Common.{ap₂, arith, drop, false, if◌then◌else◌, inl, inr, length}
 pub use Rattle.std.proofs.Common.{length-append, max, nat_lt, not, pos, refl, subst, suc, sym, take}
 pub use Rattle.std.proofs.Common.{true, zero, ℕ, ◌%◌, ◌&&◌, ◌++◌, ◌+◌, ◌-ℤ◌, ◌-◌, ◌<◌, ◌==◌, ◌^◌}
-pub use Rattle.std.proofs.Common.{◌∙◌, ◌∷◌, ◌≡◌, ◌≢◌, ◌≤◌, ◌⊎◌, ◌||◌, ◌+ℤ◌, nat_le, min}
+pub use Rattle.std.proofs.Common.{◌∙◌, ◌∷◌, ◌≡◌, ◌≢◌, ◌≤◌, ◌⊎◌, ◌||◌, ◌+ℤ◌, nat_le, min, rules}
 pub use Rattle.std.proofs.lemmas.Bool.{and_left, and_parts, both_ways, cases_Bool, cases_eq}
 pub use Rattle.std.proofs.lemmas.Bool.{cond_both, eq-eqb, eqb-true, false_from_ne_true, leb-false}
 pub use Rattle.std.proofs.lemmas.Bool.{lt-ltb, ltb-false, ne_eqb, or_cases, or_from, or_left}

@@ -106,53 +106,49 @@ same_ends log piece octets unused others left frame another joined again framed 
           framed completed_now).0,
     )
 
--- Of two frames.
-one_frame : (log after other : Log) (piece octets unused others left : List ℕ)
-    (frame another : Frame) (decoded seen : Option Decoded) (answer answered : TakeAnswer)
-    → piece ≡ octets ++ unused → piece ≡ others ++ left → TakesFrame log.role log octets frame
-    → TakesFrame log.role log others another → IsDecodedFor log decoded frame
-    → IsDecodedFor log seen another → after ≡ took_frame log octets decoded frame
-    → other ≡ took_frame log others seen another
-    → AnswersFrame log after (length octets) answer
-    → AnswersFrame log other (length others) answered → IsSame answer answered after other
-one_frame log after other piece octets unused others left frame another decoded seen answer answered
-    joined again framed completed sees reads same is answers says =
-    let (used, frames) = same_ends log piece octets unused others left frame another joined again
-    framed completed in
-    let reads_now : IsDecodedFor log seen frame =
-    subst (λ (f : Frame). IsDecodedFor log seen f) (sym frames) reads in
-    let decodes : decoded ≡ seen = one_seen log decoded seen (frame_step (log_view log) frame)
-    sees reads_now in
-    let after_it : after ≡ other = same
-    ∙ ap (λ (o : List ℕ). took_frame log o decoded frame) used
-    ∙ ap (λ (d : Option Decoded). took_frame log others d frame) decodes
-    ∙ ap (λ (f : Frame). took_frame log others seen f) frames ∙ sym is in (
-      one_answer log after (length octets) answer answered answers
-          (subst (λ (log_after : Log). AnswersFrame log log_after (length octets) answered)
-          (sym after_it) (subst (λ (o : List ℕ). AnswersFrame log other (length o) answered)
-          (sym used) says)),
-      after_it,
-    )
+module _ (log after other : Log) (piece octets unused others left : List ℕ) where
+  -- Of two frames.
+  one_frame : (frame another : Frame) (decoded seen : Option Decoded) (answer answered : TakeAnswer)
+      → piece ≡ octets ++ unused → piece ≡ others ++ left → TakesFrame log.role log octets frame
+      → TakesFrame log.role log others another → IsDecodedFor log decoded frame
+      → IsDecodedFor log seen another → after ≡ took_frame log octets decoded frame
+      → other ≡ took_frame log others seen another → AnswersFrame log after (length octets) answer
+      → AnswersFrame log other (length others) answered → IsSame answer answered after other
+  one_frame frame another decoded seen answer answered
+      joined again framed completed sees reads same is answers says =
+      let (used, frames) = same_ends log piece octets unused others left frame another joined again
+      framed completed in
+      let reads_now : IsDecodedFor log seen frame =
+      subst (λ (f : Frame). IsDecodedFor log seen f) (sym frames) reads in
+      let decodes : decoded ≡ seen = one_seen log decoded seen (frame_step (log_view log) frame)
+      sees reads_now in
+      let after_it : after ≡ other = same ∙ ap (λ (o : List ℕ). took_frame log o decoded frame) used
+      ∙ ap (λ (d : Option Decoded). took_frame log others d frame) decodes
+      ∙ ap (λ (f : Frame). took_frame log others seen f) frames ∙ sym is in (
+        one_answer log after (length octets) answer answered answers
+            (subst (λ (log_after : Log). AnswersFrame log log_after (length octets) answered)
+            (sym after_it) (subst (λ (o : List ℕ). AnswersFrame log other (length o) answered)
+            (sym used) says)),
+        after_it,
+      )
 
--- Of two faults.
-one_fault : (log after other : Log) (piece octets unused others left : List ℕ)
-    (fault another : WireFault) (answer answered : TakeAnswer)
-    → piece ≡ octets ++ unused → piece ≡ others ++ left → TakesFault log.role log octets fault
-    → TakesFault log.role log others another → answer ≡ Failed (wire_fault_code fault)
-    → answered ≡ Failed (wire_fault_code another) → after ≡ took_fault log octets fault
-    → other ≡ took_fault log others another → IsSame answer answered after other
-one_fault log after other piece octets unused others left fault another answer answered joined again
-    at by answers says same is =
-    let in_line = one_line log.input piece octets unused others left joined again in
-    let one = one_making (is_server log.role) (limits_from log) log.frames log.frames
-    (log.input ++ octets) (log.input ++ others) unused left fault another
-    (fault_made log octets fault at) (fault_made log others another by) in_line in
-    let used : octets ≡ others = same_following log.input log.input octets others refl
-    (same_prefix (log.input ++ octets) (log.input ++ others) unused left one.1 in_line) in (
-      answers ∙ ap (λ (f : WireFault). Failed (wire_fault_code f)) one.2 ∙ sym says,
-      same ∙ ap (λ (o : List ℕ). took_fault log o fault) used
-          ∙ ap (λ (f : WireFault). took_fault log others f) one.2 ∙ sym is,
-    )
+  -- Of two faults.
+  one_fault : (fault another : WireFault) (answer answered : TakeAnswer) → piece ≡ octets ++ unused
+      → piece ≡ others ++ left → TakesFault log.role log octets fault
+      → TakesFault log.role log others another → answer ≡ Failed (wire_fault_code fault)
+      → answered ≡ Failed (wire_fault_code another) → after ≡ took_fault log octets fault
+      → other ≡ took_fault log others another → IsSame answer answered after other
+  one_fault fault another answer answered joined again at by answers says same is =
+      let in_line = one_line log.input piece octets unused others left joined again in
+      let one = one_making (is_server log.role) (limits_from log) log.frames log.frames
+      (log.input ++ octets) (log.input ++ others) unused left fault another
+      (fault_made log octets fault at) (fault_made log others another by) in_line in
+      let used : octets ≡ others = same_following log.input log.input octets others refl
+      (same_prefix (log.input ++ octets) (log.input ++ others) unused left one.1 in_line) in (
+        answers ∙ ap (λ (f : WireFault). Failed (wire_fault_code f)) one.2 ∙ sym says,
+        same ∙ ap (λ (o : List ℕ). took_fault log o fault) used
+            ∙ ap (λ (f : WireFault). took_fault log others f) one.2 ∙ sym is,
+      )
 
 -- What was answered again once the connection had failed is what any call answers.
 after_failure : (log after other : Log) (piece : List ℕ) (answer answered : TakeAnswer)
@@ -206,72 +202,67 @@ after_part log after other piece unparsed answer answered takes part answers sam
 after_part log after other piece unparsed answer answered takes part answers same
     (runs_out_of_memory up octets unused joined may says is) had = absurd had
 
--- And one with which a frame ends.
-after_frame : (log after other : Log) (piece octets unused : List ℕ) (frame : Frame)
-    (decoded : Option Decoded) (answer answered : TakeAnswer) → TakesOctets log
-    → piece ≡ octets ++ unused → TakesFrame log.role log octets frame
-    → IsDecodedFor log decoded frame → after ≡ took_frame log octets decoded frame
-    → AnswersFrame log after (length octets) answer
-    → (b : MayTake log piece answered other) → HadMemory b → IsSame answer answered after other
-after_frame log after other piece octets unused frame decoded answer answered takes joined framed
-    sees same answers (has_failed code failed says is) had = none_some code (sym takes.up ∙ failed)
-after_frame log after other piece octets unused frame decoded answer answered takes joined framed
-    sees same answers (reports_unprocessed up some says is) had = absurd (some takes.all_reported)
-after_frame log after other piece octets unused frame decoded answer answered takes joined framed
-    sees same answers (ends_no_frame again unparsed part says is) had =
-    absurd (part_frame log piece unparsed octets unused frame part framed joined)
-after_frame log after other piece octets unused frame decoded answer answered takes joined framed
-    sees same answers
-    (ends_frame again others left parted another seen completed reads is says) had =
-    one_frame log after other piece octets unused others left frame another decoded seen answer
-    answered joined parted framed completed sees reads same is answers says
-after_frame log after other piece octets unused frame decoded answer answered takes joined framed
-    sees same answers (meets_fault again others left parted fault at says is) had =
-    absurd (frame_fault log piece octets unused others left frame fault framed at joined parted)
-after_frame log after other piece octets unused frame decoded answer answered takes joined framed
-    sees same answers (runs_out_of_memory up others left parted may says is) had = absurd had
+module _ (log after other : Log) (piece : List ℕ) where
+  -- And one with which a frame ends.
+  after_frame : (octets unused : List ℕ) (frame : Frame) (decoded : Option Decoded)
+      (answer answered : TakeAnswer) → TakesOctets log → piece ≡ octets ++ unused
+      → TakesFrame log.role log octets frame → IsDecodedFor log decoded frame
+      → after ≡ took_frame log octets decoded frame → AnswersFrame log after (length octets) answer
+      → (b : MayTake log piece answered other) → HadMemory b → IsSame answer answered after other
+  after_frame octets unused frame decoded answer answered takes joined framed sees same answers
+      (has_failed code failed says is) had = none_some code (sym takes.up ∙ failed)
+  after_frame octets unused frame decoded answer answered takes joined framed
+      sees same answers (reports_unprocessed up some says is) had = absurd (some takes.all_reported)
+  after_frame octets unused frame decoded answer answered takes joined framed
+      sees same answers (ends_no_frame again unparsed part says is) had =
+      absurd (part_frame log piece unparsed octets unused frame part framed joined)
+  after_frame octets unused frame decoded answer answered takes joined framed sees same answers
+      (ends_frame again others left parted another seen completed reads is says) had =
+      one_frame log after other piece octets unused others left frame another decoded seen answer
+      answered joined parted framed completed sees reads same is answers says
+  after_frame octets unused frame decoded answer answered takes joined framed
+      sees same answers (meets_fault again others left parted fault at says is) had =
+      absurd (frame_fault log piece octets unused others left frame fault framed at joined parted)
+  after_frame octets unused frame decoded answer answered takes joined framed
+      sees same answers (runs_out_of_memory up others left parted may says is) had = absurd had
 
--- And one that makes a fault.
-after_fault : (log after other : Log) (piece octets unused : List ℕ) (fault : WireFault)
-    (answer answered : TakeAnswer) → TakesOctets log → piece ≡ octets ++ unused
-    → TakesFault log.role log octets fault → answer ≡ Failed (wire_fault_code fault)
-    → after ≡ took_fault log octets fault
-    → (b : MayTake log piece answered other) → HadMemory b → IsSame answer answered after other
-after_fault log after other piece octets unused fault answer answered takes joined at answers same
-    (has_failed code failed says is) had = none_some code (sym takes.up ∙ failed)
-after_fault log after other piece octets unused fault answer answered takes joined at answers same
-    (reports_unprocessed up some says is) had = absurd (some takes.all_reported)
-after_fault log after other piece octets unused fault answer answered takes joined at answers same
-    (ends_no_frame again unparsed part says is) had =
-    absurd (part_fault log piece unparsed octets unused fault part at joined)
-after_fault log after other piece octets unused fault answer answered takes joined at answers same
-    (ends_frame again others left parted frame decoded framed sees is says) had =
-    absurd (frame_fault log piece others left octets unused frame fault framed at parted joined)
-after_fault log after other piece octets unused fault answer answered takes joined at answers same
-    (meets_fault again others left parted another by says is) had =
-    one_fault log after other piece octets unused others left fault another answer answered joined
-    parted at by answers says same is
-after_fault log after other piece octets unused fault answer answered takes joined at answers same
-    (runs_out_of_memory up others left parted may says is) had = absurd had
+  -- And one that makes a fault.
+  after_fault : (octets unused : List ℕ) (fault : WireFault) (answer answered : TakeAnswer)
+      → TakesOctets log → piece ≡ octets ++ unused → TakesFault log.role log octets fault
+      → answer ≡ Failed (wire_fault_code fault) → after ≡ took_fault log octets fault
+      → (b : MayTake log piece answered other) → HadMemory b → IsSame answer answered after other
+  after_fault octets unused fault answer answered takes joined at answers same
+      (has_failed code failed says is) had = none_some code (sym takes.up ∙ failed)
+  after_fault octets unused fault answer answered takes joined at answers same
+      (reports_unprocessed up some says is) had = absurd (some takes.all_reported)
+  after_fault octets unused fault answer answered takes joined at answers same
+      (ends_no_frame again unparsed part says is) had =
+      absurd (part_fault log piece unparsed octets unused fault part at joined)
+  after_fault octets unused fault answer answered takes joined at answers same
+      (ends_frame again others left parted frame decoded framed sees is says) had =
+      absurd (frame_fault log piece others left octets unused frame fault framed at parted joined)
+  after_fault octets unused fault answer answered takes joined at answers same
+      (meets_fault again others left parted another by says is) had =
+      one_fault log after other piece octets unused others left fault another answer answered joined
+      parted at by answers says same is
+  after_fault octets unused fault answer answered takes joined at answers same
+      (runs_out_of_memory up others left parted may says is) had = absurd had
 
--- There is one answer, and one log after it.
-pub one_take : (log after other : Log) (piece : List ℕ) (answer answered : TakeAnswer)
-    → (a : MayTake log piece answer after) → (b : MayTake log piece answered other)
-    → HadMemory a → HadMemory b → (answer ≡ answered) × (after ≡ other)
-one_take log after other piece answer answered (has_failed code failed answers same) b had also =
-    after_failure log after other piece answer answered code failed answers same b
-one_take log after other piece answer answered (reports_unprocessed up some answers same) b had
-    also = after_unprocessed log after other piece answer answered up some answers same b also
-one_take log after other piece answer answered (ends_no_frame takes unparsed part answers same) b
-    had also = after_part log after other piece unparsed answer answered takes part answers same b
-    also
-one_take log after other piece answer answered
-    (ends_frame takes octets unused joined frame decoded framed sees same answers) b had also =
-    after_frame log after other piece octets unused frame decoded answer answered takes joined
-    framed sees same answers b also
-one_take log after other piece answer answered
-    (meets_fault takes octets unused joined fault at answers same) b had also =
-    after_fault log after other piece octets unused fault answer answered takes joined at answers
-    same b also
-one_take log after other piece answer answered
-    (runs_out_of_memory up octets unused joined may answers same) b had also = absurd had
+  -- There is one answer, and one log after it.
+  pub one_take : (answer answered : TakeAnswer) → (a : MayTake log piece answer after)
+      → (b : MayTake log piece answered other) → HadMemory a → HadMemory b → (answer ≡ answered)
+      × (after ≡ other)
+  one_take answer answered (has_failed code failed answers same) b had also =
+      after_failure log after other piece answer answered code failed answers same b
+  one_take answer answered (reports_unprocessed up some answers same) b had
+      also = after_unprocessed log after other piece answer answered up some answers same b also
+  one_take answer answered (ends_no_frame takes unparsed part answers same) b had also = after_part
+      log after other piece unparsed answer answered takes part answers same b also
+  one_take answer answered
+      (ends_frame takes octets unused joined frame decoded framed sees same answers) b had also =
+      after_frame octets unused frame decoded answer answered takes joined
+      framed sees same answers b also
+  one_take answer answered (meets_fault takes octets unused joined fault at answers same) b had also
+      = after_fault octets unused fault answer answered takes joined at answers same b also
+  one_take answer answered
+      (runs_out_of_memory up octets unused joined may answers same) b had also = absurd had

@@ -73,48 +73,45 @@ replied_reported log more replies events =
     reported_is _ events ∙ ap (λ (reported : List Event). events ++ reported)
     (unreturned_reported more (with_sent log replies) ∙ sent_reported log replies)
 
--- A stream in use is taken, once the item was replied to.
-in_use_taken : (before after : Log) (item : Item) (items : List Item) (events : List Event) (i : ℕ)
-    → Adds before after (item ∷ []) items events → IsInUse before item i
-    → IsTaken before after i
-in_use_taken before after item items events i adds both = (
-  both.0,
-  rw (adds.role, adds.received, adds.sent)
-      (used_more before.role i [] items (item ∷ before.received) before.sent both.1),
-)
+module _ (before after : Log) where
+  -- A stream in use is taken, once the item was replied to.
+  in_use_taken : (item : Item) (items : List Item) (events : List Event) (i : ℕ)
+      → Adds before after (item ∷ []) items events → IsInUse before item i → IsTaken before after i
+  in_use_taken item items events i adds both = (
+    both.0,
+    rw (adds.role, adds.received, adds.sent)
+        (used_more before.role i [] items (item ∷ before.received) before.sent both.1),
+  )
 
--- By the verdict.
-read_taken : (before after : Log) (decoded : Option Decoded) (item : Item) (verdict : Verdict)
-    (items : List Item) (event : Event) → ((code : Code) → verdict ≡ ConnectionFault code → ⊥)
-    → Adds before after (item ∷ []) items (events_of (log_view before) decoded verdict item)
-    → Says (Unit {0}) (Unit {0}) (OfMessage (IsInUse before item) item) verdict
-    → events_of (log_view before) decoded verdict item ++ before.reported
-    ≡ event ∷ before.reported → OfEvent (IsTaken before after) event
-unfolding events_of
-read_taken before after decoded item (ConnectionFault code) items event on adds says is =
-    absurd (on code refl)
-read_taken before after decoded item (StreamFault code) items event on adds says is =
-    subst (OfEvent _) (same_event _ event before.reported is) tt
-read_taken before after decoded item NoEvent items event on adds says is =
-    no_event event before.reported is
-read_taken before after decoded item Reported items event on adds says is =
-    reported_taken _ (log_view before) decoded item event before.reported
-    (of_message _ _ item (λ i both. in_use_taken before after item items _ i adds both) says) is
+  -- By the verdict.
+  read_taken : (decoded : Option Decoded) (item : Item) (verdict : Verdict) (items : List Item)
+      (event : Event) → ((code : Code) → verdict ≡ ConnectionFault code → ⊥)
+      → Adds before after (item ∷ []) items (events_of (log_view before) decoded verdict item)
+      → Says (Unit {0}) (Unit {0}) (OfMessage (IsInUse before item) item) verdict
+      → events_of (log_view before) decoded verdict item ++ before.reported ≡ event
+      ∷ before.reported
+      → OfEvent (IsTaken before after) event
+  unfolding events_of
+  read_taken decoded item (ConnectionFault code) items event on adds says is = absurd (on code refl)
+  read_taken decoded item (StreamFault code) items event on adds says is =
+      subst (OfEvent _) (same_event _ event before.reported is) tt
+  read_taken decoded item NoEvent items event on adds says is = no_event event before.reported is
+  read_taken decoded item Reported items event on adds says is =
+      reported_taken _ (log_view before) decoded item event before.reported
+      (of_message _ _ item (λ i both. in_use_taken item items _ i adds both) says) is
 
--- What a frame may do.
-after_taken : (before after : Log) (decoded : Option Decoded) (event : Event)
-    → AfterFrame before decoded after → after.reported ≡ event ∷ before.reported
-    → OfEvent (IsTaken before after) event
-after_taken before after decoded event (stays_same adds failed) is =
-    no_event event before.reported (sym adds.reported ∙ is)
-after_taken before after decoded event (has_broken code last most adds failed) is =
-    no_event event before.reported (sym adds.reported ∙ is)
-after_taken before after decoded event
-    (has_read item verdict credit same on is_credit adds failed) is =
-    read_taken before after decoded item verdict _ event on adds
-    (subst (Says (Unit {0}) (Unit {0}) (OfMessage (IsInUse before item) item)) same
-    (says_of _ _ _ before decoded item (in_use_by_rules before decoded item)))
-    (sym adds.reported ∙ is)
+  -- What a frame may do.
+  after_taken : (decoded : Option Decoded) (event : Event) → AfterFrame before decoded after
+      → after.reported ≡ event ∷ before.reported → OfEvent (IsTaken before after) event
+  after_taken decoded event (stays_same adds failed) is =
+      no_event event before.reported (sym adds.reported ∙ is)
+  after_taken decoded event (has_broken code last most adds failed) is =
+      no_event event before.reported (sym adds.reported ∙ is)
+  after_taken decoded event (has_read item verdict credit same on is_credit adds failed) is =
+      read_taken decoded item verdict _ event on adds
+      (subst (Says (Unit {0}) (Unit {0}) (OfMessage (IsInUse before item) item)) same
+      (says_of _ _ _ before decoded item (in_use_by_rules before decoded item)))
+      (sym adds.reported ∙ is)
 
 -- A call of `take`.
 take_taken : (log after : Log) (piece : List ℕ) (count : ℕ) (event : Event)

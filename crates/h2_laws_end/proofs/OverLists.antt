@@ -45,29 +45,26 @@ opened_before i Client items received sent none here =
     ]
 opened_before i Server items received sent none here = here
 
--- Items that are written, without a block on the stream.
-pub inactive_sent : (i : ℕ) (role : Role) (received sent : List Item) (reported : List Event)
-    (items : List Item) → list_any (is_block_on i) items ≡ false
-    → IsInactive i role received sent reported → IsInactive i role received (items ++ sent) reported
-inactive_sent i role received sent reported items none =
-    inactive_more i role [] items received sent [] reported
-    (opened_before i role items received sent none)
+module _ (i : ℕ) (role : Role) (received sent : List Item) (reported : List Event) where
+  -- Items that are written, without a block on the stream.
+  pub inactive_sent : (items : List Item) → list_any (is_block_on i) items ≡ false
+      → IsInactive i role received sent reported
+      → IsInactive i role received (items ++ sent) reported
+  inactive_sent items none = inactive_more i role [] items received sent [] reported
+      (opened_before i role items received sent none)
 
--- Events.
-pub inactive_reported : (i : ℕ) (role : Role) (received sent : List Item)
-    (reported events : List Event) → IsInactive i role received sent reported
-    → IsInactive i role received sent (events ++ reported)
-inactive_reported i role received sent reported events =
-    inactive_more i role [] [] received sent events reported (λ here. here)
+  -- Events.
+  pub inactive_reported : (events : List Event) → IsInactive i role received sent reported
+      → IsInactive i role received sent (events ++ reported)
+  inactive_reported events = inactive_more i role [] [] received sent events reported (λ here. here)
 
--- A stream that this end has closed isn't active.
-pub closed_inactive : (i : ℕ) (role : Role) (received sent : List Item) (reported : List Event)
-    → is_closed_by_us role i sent ≡ true → IsInactive i role received sent reported
-unfolding is_closed_by_us
-closed_inactive i role received sent reported closed =
-    false_from_ne_true _ (λ active.
-    let parts = active_parts role i received sent reported active in
-    both_ways _ (or_from _ _ (lasts_parts i received sent parts.lasts).kept parts.below) closed)
+  -- A stream that this end has closed isn't active.
+  pub closed_inactive : is_closed_by_us role i sent ≡ true
+      → IsInactive i role received sent reported
+  unfolding is_closed_by_us
+  closed_inactive closed = false_from_ne_true _ (λ active.
+      let parts = active_parts role i received sent reported active in
+      both_ways _ (or_from _ _ (lasts_parts i received sent parts.lasts).kept parts.below) closed)
 
 -- An item that is read opens only itself.
 read_before : (i : ℕ) (role : Role) (item : Item) (received sent : List Item)
@@ -81,41 +78,37 @@ read_before i Server item received sent none here =
       | inr before ↦ before
     ]
 
--- An item that is read: where it is a block on the stream, this end has closed it.
-inactive_by : (i : ℕ) (role : Role) (received sent : List Item) (reported : List Event)
-    (item : Item) (b : Bool) → is_block_on i item ≡ b
-    → (b ≡ true → is_closed_by_us role i sent ≡ true)
-    → IsInactive i role received sent reported → IsInactive i role (item ∷ received) sent reported
-inactive_by i role received sent reported item true is closed before =
-    closed_inactive i role (item ∷ received) sent reported (closed refl)
-inactive_by i role received sent reported item false is closed before =
-    inactive_more i role (item ∷ []) [] received sent [] reported
-    (read_before i role item received sent is) before
+module _ (i : ℕ) (role : Role) (received sent : List Item) (reported : List Event) where
+  -- An item that is read: where it is a block on the stream, this end has closed it.
+  inactive_by : (item : Item) (b : Bool) → is_block_on i item ≡ b
+      → (b ≡ true → is_closed_by_us role i sent ≡ true) → IsInactive i role received sent reported
+      → IsInactive i role (item ∷ received) sent reported
+  inactive_by item true is closed before =
+      closed_inactive i role (item ∷ received) sent reported (closed refl)
+  inactive_by item false is closed before =
+      inactive_more i role (item ∷ []) [] received sent [] reported
+      (read_before i role item received sent is) before
 
--- What is over stays so after items that are written without a block on the stream,
-pub past_sent : (i : ℕ) (role : Role) (received sent : List Item) (reported : List Event)
-    (items : List Item) → list_any (is_block_on i) items ≡ false
-    → IsPast i role received sent reported → IsPast i role received (items ++ sent) reported
-past_sent i role received sent reported items none past = record {
-  was_used = used_more role i [] items received sent past.was_used;
-  not_active = inactive_sent i role received sent reported items none past.not_active;
-}
+  -- What is over stays so after items that are written without a block on the stream,
+  pub past_sent : (items : List Item) → list_any (is_block_on i) items ≡ false
+      → IsPast i role received sent reported → IsPast i role received (items ++ sent) reported
+  past_sent items none past = record {
+    was_used = used_more role i [] items received sent past.was_used;
+    not_active = inactive_sent i role received sent reported items none past.not_active;
+  }
 
--- after events,
-pub past_reported : (i : ℕ) (role : Role) (received sent : List Item)
-    (reported events : List Event) → IsPast i role received sent reported
-    → IsPast i role received sent (events ++ reported)
-past_reported i role received sent reported events past = record {
-  was_used = past.was_used;
-  not_active = inactive_reported i role received sent reported events past.not_active;
-}
+  -- after events,
+  pub past_reported : (events : List Event) → IsPast i role received sent reported
+      → IsPast i role received sent (events ++ reported)
+  past_reported events past = record {
+    was_used = past.was_used;
+    not_active = inactive_reported i role received sent reported events past.not_active;
+  }
 
--- and after an item that is read, on which a block is no opening.
-pub past_read : (i : ℕ) (role : Role) (received sent : List Item) (reported : List Event)
-    (item : Item) → (is_block_on i item ≡ true → is_closed_by_us role i sent ≡ true)
-    → IsPast i role received sent reported → IsPast i role (item ∷ received) sent reported
-past_read i role received sent reported item closed past = record {
-  was_used = used_more role i (item ∷ []) [] received sent past.was_used;
-  not_active = inactive_by i role received sent reported item (is_block_on i item) refl closed
-      past.not_active;
-}
+  -- and after an item that is read, on which a block is no opening.
+  pub past_read : (item : Item) → (is_block_on i item ≡ true → is_closed_by_us role i sent ≡ true)
+      → IsPast i role received sent reported → IsPast i role (item ∷ received) sent reported
+  past_read item closed past = record {
+    was_used = used_more role i (item ∷ []) [] received sent past.was_used;
+    not_active = inactive_by item (is_block_on i item) refl closed past.not_active;
+  }

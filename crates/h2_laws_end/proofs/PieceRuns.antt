@@ -104,31 +104,27 @@ parts_run role values limits (octet ∷ octets) marks log unparsed run read agai
     (next.input ++ octets) frames unparsed) (sym (frames_used log (octet ∷ []) between.0))
     (more_used role limits log (octet ∷ []) octets between.0 log.frames unparsed again)))
 
--- The view, once octets were used.
-view_used : (log : Log) (octets unparsed : List ℕ) → log_view log
-    ≡ log_view (without_turns (used log octets unparsed))
-unfolding used overflows next_number active_count last_processed max_streams waiting output
-    unreleased
-view_used log octets unparsed = refl
+module _ (log : Log) (octets unparsed : List ℕ) where
+  -- The view, once octets were used.
+  view_used : log_view log ≡ log_view (without_turns (used log octets unparsed))
+  unfolding used overflows next_number active_count last_processed max_streams waiting output
+      unreleased
+  view_used = refl
 
--- What was seen, once octets were used.
-seen_used : (log : Log) (octets unparsed : List ℕ) (decoded : Option Decoded) (step : FrameStep)
-    → IsDecodedIn log decoded step
-    → IsDecodedIn (without_turns (used log octets unparsed)) decoded step
-unfolding used
-seen_used log octets unparsed decoded (fails_with code) is = is
-seen_used log octets unparsed decoded (begins_block begun) is = is
-seen_used log octets unparsed decoded (completes (alone frame)) is = is
-seen_used log octets unparsed None (completes (block stream end fragment)) is = is
-seen_used log octets unparsed (Some decoded) (completes (block stream end fragment)) is = is
+  -- What was seen, once octets were used.
+  seen_used : (decoded : Option Decoded) (step : FrameStep) → IsDecodedIn log decoded step
+      → IsDecodedIn (without_turns (used log octets unparsed)) decoded step
+  unfolding used
+  seen_used decoded (fails_with code) is = is
+  seen_used decoded (begins_block begun) is = is
+  seen_used decoded (completes (alone frame)) is = is
+  seen_used None (completes (block stream end fragment)) is = is
+  seen_used (Some decoded) (completes (block stream end fragment)) is = is
 
-decoded_used : (log : Log) (octets unparsed : List ℕ) (decoded : Option Decoded) (frame : Frame)
-    → IsDecodedFor log decoded frame
-    → IsDecodedFor (without_turns (used log octets unparsed)) decoded frame
-decoded_used log octets unparsed decoded frame is =
-    seen_used log octets unparsed decoded _
-    (subst (λ (view : View). IsDecodedIn log decoded (frame_step view frame))
-    (view_used log octets unparsed) is)
+  decoded_used : (decoded : Option Decoded) (frame : Frame) → IsDecodedFor log decoded frame
+      → IsDecodedFor (without_turns (used log octets unparsed)) decoded frame
+  decoded_used decoded frame is = seen_used decoded _
+      (subst (λ (view : View). IsDecodedIn log decoded (frame_step view frame)) (view_used) is)
 
 -- The last of octets after the others.
 used_last : (log : Log) (init left : List ℕ) (last : ℕ)

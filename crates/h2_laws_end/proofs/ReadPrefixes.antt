@@ -129,84 +129,81 @@ pub record ReadPrefix (expects : Bool) (limits : Limits) (frames : List Frame)
   pub read : Frames expects limits octets first left
   pub continues : later ≡ [] → (first ≡ []) ⊎ (unparsed ≡ left ++ more)
 
--- The prefix is less than the preface.
-inside : (expects : Bool) (limits : Limits) (frames : List Frame) (unparsed octets more : List ℕ)
-    (next : ℕ) (missing : List ℕ) → expected_preface expects ≡ octets ++ next ∷ missing
-    → ReadPrefix expects limits frames unparsed octets more
-inside expects limits frames unparsed octets more next missing opens =
-    let counted = simp length-append at (ap length opens) in
-    record {
-      first = [];
-      later = frames;
-      left = octets;
-      frames_are = refl;
-      read = inl (record {
-        missing = next ∷ missing;
-        opens = opens;
-        short = omega (arith, counted);
-        none = refl;
-        all = refl;
-      });
-      continues = λ none. inl refl;
-    }
+module _ (expects : Bool) (limits : Limits) (frames : List Frame)
+    (unparsed octets more : List ℕ) where
+  -- The prefix is less than the preface.
+  inside : (next : ℕ) (missing : List ℕ) → expected_preface expects ≡ octets ++ next ∷ missing
+      → ReadPrefix expects limits frames unparsed octets more
+  inside next missing opens =
+      let counted = simp length-append at (ap length opens) in
+      record {
+        first = [];
+        later = frames;
+        left = octets;
+        frames_are = refl;
+        read = inl (record {
+          missing = next ∷ missing;
+          opens = opens;
+          short = omega (arith, counted);
+          none = refl;
+          all = refl;
+        });
+        continues = λ none. inl refl;
+      }
 
--- A prefix that the preface begins.
-after : (expects : Bool) (limits : Limits) (frames : List Frame) (unparsed octets more : List ℕ)
-    (between : List ℕ) → octets ≡ expected_preface expects ++ between
-    → BodyPrefix limits (length (expected_preface expects)) frames unparsed between more
-    → ReadPrefix expects limits frames unparsed octets more
-after expects limits frames unparsed octets more between opens body =
-    let at : length (expected_preface expects) + length body.part + 9
-    ≡ length (expected_preface expects ++ body.part) + 9 = rw length-append refl in
-    record {
-      first = body.first;
-      later = body.later;
-      left = body.left;
-      frames_are = body.frames_are;
-      read = inr (record {
-        part = expected_preface expects ++ body.part;
-        joined = opens ∙ ap (λ (line : List ℕ). expected_preface expects ++ line) body.octets_are
-            ∙ sym (append_assoc (expected_preface expects) body.part body.left);
-        sound = record { body = body.part; opened = refl; framed = body.framed };
-        partial = rw at at body.partial;
-      });
-      continues = λ none. inr (body.continues none);
-    }
+  -- A prefix that the preface begins.
+  after : (between : List ℕ) → octets ≡ expected_preface expects ++ between
+      → BodyPrefix limits (length (expected_preface expects)) frames unparsed between more
+      → ReadPrefix expects limits frames unparsed octets more
+  after between opens body =
+      let at : length (expected_preface expects) + length body.part + 9
+      ≡ length (expected_preface expects ++ body.part) + 9 = rw length-append refl in
+      record {
+        first = body.first;
+        later = body.later;
+        left = body.left;
+        frames_are = body.frames_are;
+        read = inr (record {
+          part = expected_preface expects ++ body.part;
+          joined = opens ∙ ap (λ (line : List ℕ). expected_preface expects ++ line) body.octets_are
+              ∙ sym (append_assoc (expected_preface expects) body.part body.left);
+          sound = record { body = body.part; opened = refl; framed = body.framed };
+          partial = rw at at body.partial;
+        });
+        continues = λ none. inr (body.continues none);
+      }
 
--- A prefix of a stream.
-pub prefix_read : (expects : Bool) (limits : Limits) (frames : List Frame)
-    (unparsed octets more : List ℕ) → Frames expects limits (octets ++ more) frames unparsed
-    → ReadPrefix expects limits frames unparsed octets more
-prefix_read expects limits frames unparsed octets more (inl short) =
-    let counted = simp length-append at (ap length short.opens) in
-    let few = simp length-append at short.short in
-    record {
-      first = [];
-      later = frames;
-      left = octets;
-      frames_are = refl;
-      read = inl (record {
-        missing = more ++ short.missing;
-        opens = short.opens ∙ append_assoc octets more short.missing;
-        short = omega (arith, few);
-        none = refl;
-        all = refl;
-      });
-      continues = λ none. inl refl;
-    }
-prefix_read expects limits frames unparsed octets more (inr past) =
-    let preface = expected_preface expects in
-    let body = past.sound.body in
-    let line : octets ++ more ≡ preface ++ (body ++ unparsed) =
-    past.joined ∙ ap (λ (part : List ℕ). part ++ unparsed) past.sound.opened
-    ∙ append_assoc preface body unparsed in
-    let at : length past.part + 9 ≡ length preface + length body + 9 =
-    ap (λ (part : List ℕ). length part + 9) past.sound.opened ∙ rw length-append refl in
-    elim (overlap octets more preface (body ++ unparsed) line) [
-      | inl (between, is, follows) ↦
-          after expects limits frames unparsed octets more between is
-          (body_prefix limits (length preface) frames body unparsed between more past.sound.framed
-          (rw at at past.partial) (sym follows))
-      | inr (next, between, is, follows) ↦
-          inside expects limits frames unparsed octets more next between is
-    ]
+  -- A prefix of a stream.
+  pub prefix_read : Frames expects limits (octets ++ more) frames unparsed
+      → ReadPrefix expects limits frames unparsed octets more
+  prefix_read (inl short) =
+      let counted = simp length-append at (ap length short.opens) in
+      let few = simp length-append at short.short in
+      record {
+        first = [];
+        later = frames;
+        left = octets;
+        frames_are = refl;
+        read = inl (record {
+          missing = more ++ short.missing;
+          opens = short.opens ∙ append_assoc octets more short.missing;
+          short = omega (arith, few);
+          none = refl;
+          all = refl;
+        });
+        continues = λ none. inl refl;
+      }
+  prefix_read (inr past) =
+      let preface = expected_preface expects in
+      let body = past.sound.body in
+      let line : octets ++ more ≡ preface ++ (body ++ unparsed) =
+      past.joined ∙ ap (λ (part : List ℕ). part ++ unparsed) past.sound.opened
+      ∙ append_assoc preface body unparsed in
+      let at : length past.part + 9 ≡ length preface + length body + 9 =
+      ap (λ (part : List ℕ). length part + 9) past.sound.opened ∙ rw length-append refl in
+      elim (overlap octets more preface (body ++ unparsed) line) [
+        | inl (between, is, follows) ↦ after between is
+            (body_prefix limits (length preface) frames body unparsed between more past.sound.framed
+            (rw at at past.partial) (sym follows))
+        | inr (next, between, is, follows) ↦ inside next between is
+      ]

@@ -112,44 +112,41 @@ accepted_steps log (Release id count) i some before none =
     ))
 accepted_steps log act i some before none = call_steps log i _ _ before refl refl
 
--- It stands of a new log.
-begins_accounted : (role : Role) (values : Values) (i : ℕ)
-    → IsAccounted (history_of (opened role values)) i
-unfolding opened with_sent total reported_total released increment_on is_active is_block_on
-begins_accounted role values i = record {
-  within = omega arith;
-  unopened = λ none. (refl, refl);
-  unread = λ none unclosed. refl;
-  whole = λ active goes. (refl, refl);
-}
+module _ (role : Role) (values : Values) (i : ℕ) where
+  -- It stands of a new log.
+  begins_accounted : IsAccounted (history_of (opened role values)) i
+  unfolding opened with_sent total reported_total released increment_on is_active is_block_on
+  begins_accounted = record {
+    within = omega arith;
+    unopened = λ none. (refl, refl);
+    unread = λ none unclosed. refl;
+    whole = λ active goes. (refl, refl);
+  }
 
--- Each change keeps it.
-accounted_kept : (role : Role) (values : Values) (i : ℕ) → i ≢ 0
-    → IsPendingInvariant role values (PendingAccounted i)
-unfolding with_sent reported_total flow_on
-accounted_kept role values i some = record {
-  opening = λ in_range. begins_accounted role values i;
-  used = λ log octets unparsed before. before;
-  framed = λ log frames before. before;
-  begun = λ log begun begins before. before;
-  complete = λ log before. before;
-  replied = replied_keeps role values i;
-  named = λ log is up next before.
-      quiet_keeps (history_of log) i (UnprocessedEvent (next_unprocessed log) ∷ []) log.calls
-      log.unreturned before refl refl;
-  reported = λ log event events may before. before;
-  unreturned = λ events log count before. quiet_keeps _ i [] log.calls count before refl refl;
-  returned = λ events log returns. give_accounted _ i some;
-  failed = λ log code last names. failure_keeps code last log i;
-  sent = λ log act accepted before.
-      sent_accounted i [] (called log act (answer_of (log_view log) act)) _
-      (step_keeps (history_of log) i [] _ [] _ log.unreturned before
-      (accepted_steps log act i some before accepted.none));
-  called = λ log act answer is none before.
-      quiet_keeps (history_of log) i [] _ log.unreturned before refl
-      (released_none i act answer log.calls none);
-  given = λ log more before. before;
-}
+  -- Each change keeps it.
+  accounted_kept : i ≢ 0 → IsPendingInvariant role values (PendingAccounted i)
+  unfolding with_sent reported_total flow_on
+  accounted_kept some = record {
+    opening = λ in_range. begins_accounted;
+    used = λ log octets unparsed before. before;
+    framed = λ log frames before. before;
+    begun = λ log begun begins before. before;
+    complete = λ log before. before;
+    replied = replied_keeps role values i;
+    named = λ log is up next before. quiet_keeps (history_of log) i
+        (UnprocessedEvent (next_unprocessed log) ∷ []) log.calls log.unreturned before refl refl;
+    reported = λ log event events may before. before;
+    unreturned = λ events log count before. quiet_keeps _ i [] log.calls count before refl refl;
+    returned = λ events log returns. give_accounted _ i some;
+    failed = λ log code last names. failure_keeps code last log i;
+    sent = λ log act accepted before. sent_accounted i []
+        (called log act (answer_of (log_view log) act)) _
+        (step_keeps (history_of log) i [] _ [] _ log.unreturned before
+        (accepted_steps log act i some before accepted.none));
+    called = λ log act answer is none before. quiet_keeps (history_of log) i [] _ log.unreturned
+        before refl (released_none i act answer log.calls none);
+    given = λ log more before. before;
+  }
 
 -- It stands of every log.
 pub log_accounted : (role : Role) (values : Values) (log : Log) (i : ℕ) → i ≢ 0

@@ -74,75 +74,67 @@ one_seen log decoded other (completes (block stream end octets)) is again =
     one_decoded log octets decoded other is again
 one_seen log decoded other step is again = is ∙ sym again
 
--- What is read isn't at fault.
-pub no_fault : (role : Role) (limits : Limits) (stream unparsed : List ℕ)
-    (frames others : List Frame) (place : ℕ) (fault : WireFault)
-    → Frames (is_server role) limits stream others unparsed
-    → WireFaultAt (is_server role) limits stream frames place fault → ⊥
-no_fault role limits stream unparsed frames others place fault read at =
-    no_reading_lem (is_server role) limits stream [] frames others place fault unparsed at
-    (subst (λ (octets : List ℕ). Frames (is_server role) limits octets others unparsed)
-    (sym (append-nil stream)) read)
+module _ (role : Role) (limits : Limits) (stream : List ℕ) where
+  -- What is read isn't at fault.
+  pub no_fault : (unparsed : List ℕ) (frames others : List Frame) (place : ℕ) (fault : WireFault)
+      → Frames (is_server role) limits stream others unparsed
+      → WireFaultAt (is_server role) limits stream frames place fault → ⊥
+  no_fault unparsed frames others place fault read at =
+      no_reading_lem (is_server role) limits stream [] frames others place fault unparsed at
+      (subst (λ (octets : List ℕ). Frames (is_server role) limits octets others unparsed)
+      (sym (append-nil stream)) read)
 
--- A frame ends with an octet, or none does.
-one_frame_or_none : (role : Role) (limits : Limits) (stream unparsed : List ℕ)
-    (frames : List Frame) (frame : Frame)
-    → Frames (is_server role) limits stream frames unparsed
-    → Frames (is_server role) limits stream (frames ++ frame ∷ []) [] → ⊥
-one_frame_or_none role limits stream unparsed frames frame read ends =
-    no_longer frames frame (one_reading_lem (is_server role) limits stream frames
-    (frames ++ frame ∷ []) unparsed [] read ends).0
+  -- A frame ends with an octet, or none does.
+  one_frame_or_none : (unparsed : List ℕ) (frames : List Frame) (frame : Frame)
+      → Frames (is_server role) limits stream frames unparsed
+      → Frames (is_server role) limits stream (frames ++ frame ∷ []) [] → ⊥
+  one_frame_or_none unparsed frames frame read ends =
+      no_longer frames frame (one_reading_lem (is_server role) limits stream frames
+      (frames ++ frame ∷ []) unparsed [] read ends).0
 
--- One fault is made.
-one_fault : (role : Role) (limits : Limits) (stream : List ℕ) (frames : List Frame)
-    (fault other : WireFault)
-    → WireFaultAt (is_server role) limits stream frames (length stream) fault
-    → WireFaultAt (is_server role) limits stream frames (length stream) other
-    → fault ≡ other
-one_fault role limits stream frames fault other at again =
-    (one_fault_lem (is_server role) limits stream [] frames frames (length stream)
-    (length stream) fault other at
-    (subst (λ (octets : List ℕ). WireFaultAt (is_server role) limits octets frames
-    (length stream) other) (sym (append-nil stream)) again)).2
+  -- One fault is made.
+  one_fault : (frames : List Frame) (fault other : WireFault)
+      → WireFaultAt (is_server role) limits stream frames (length stream) fault
+      → WireFaultAt (is_server role) limits stream frames (length stream) other → fault ≡ other
+  one_fault frames fault other at again =
+      (one_fault_lem (is_server role) limits stream [] frames frames (length stream)
+      (length stream) fault other at
+      (subst (λ (octets : List ℕ). WireFaultAt (is_server role) limits octets frames
+      (length stream) other) (sym (append-nil stream)) again)).2
 
--- An octet makes one log of a log.
-one_use : (role : Role) (octet : ℕ) (before log other : Log) → Uses role octet before log
-    → Uses role octet before other → log ≡ other
-one_use role octet before log other (uses_part unparsed read is) (uses_part left again same) =
-    is ∙ ap (λ (line : List ℕ). without_turns (used before (octet ∷ []) line))
-    (one_reading_lem (is_server role) (limits_from before) (before.input ++ octet ∷ [])
-    before.frames before.frames unparsed left read again).1 ∙ sym same
-one_use role octet before log other (uses_part unparsed read is)
-    (uses_frame frame decoded ends sees same) =
-    absurd (one_frame_or_none role _ _ unparsed before.frames frame read ends)
-one_use role octet before log other (uses_part unparsed read is) (uses_fault fault at same) =
-    absurd (no_fault role _ _ unparsed before.frames before.frames _ fault read at)
-one_use role octet before log other (uses_frame frame decoded ends sees is)
-    (uses_part left again same) =
-    absurd (one_frame_or_none role _ _ left before.frames frame again ends)
-one_use role octet before log other (uses_frame frame decoded ends sees is)
-    (uses_frame another seen again saw same) =
-    let frame_same : frame ≡ another = one_last before.frames frame another
-    (one_reading_lem (is_server role) (limits_from before) (before.input ++ octet ∷ [])
-    (before.frames ++ frame ∷ []) (before.frames ++ another ∷ []) [] [] ends again).0 in
-    let saw_it : IsDecodedFor before seen frame =
-    subst (λ (one : Frame). IsDecodedFor before seen one) (sym frame_same) saw in
-    let decoded_same : decoded ≡ seen =
-    one_seen before decoded seen (frame_step (log_view before) frame) sees saw_it in
-    is ∙ ap₂ (λ (one : Option Decoded) (two : Frame).
-    without_turns (took_frame before (octet ∷ []) one two)) decoded_same frame_same ∙ sym same
-one_use role octet before log other (uses_frame frame decoded ends sees is)
-    (uses_fault fault at same) =
-    absurd (no_fault role _ _ [] before.frames (before.frames ++ frame ∷ []) _ fault ends at)
-one_use role octet before log other (uses_fault fault at is) (uses_part left again same) =
-    absurd (no_fault role _ _ left before.frames before.frames _ fault again at)
-one_use role octet before log other (uses_fault fault at is)
-    (uses_frame frame decoded ends sees same) =
-    absurd (no_fault role _ _ [] before.frames (before.frames ++ frame ∷ []) _ fault ends at)
-one_use role octet before log other (uses_fault fault at is) (uses_fault another again same) =
-    is ∙ ap (λ (one : WireFault). without_turns (took_fault before (octet ∷ []) one))
-    (one_fault role (limits_from before) (before.input ++ octet ∷ []) before.frames fault another at
-    again) ∙ sym same
+module _ (role : Role) (octet : ℕ) (before log other : Log) where
+  -- An octet makes one log of a log.
+  one_use : Uses role octet before log → Uses role octet before other → log ≡ other
+  one_use (uses_part unparsed read is) (uses_part left again same) =
+      is ∙ ap (λ (line : List ℕ). without_turns (used before (octet ∷ []) line))
+      (one_reading_lem (is_server role) (limits_from before) (before.input ++ octet ∷ [])
+      before.frames before.frames unparsed left read again).1 ∙ sym same
+  one_use (uses_part unparsed read is) (uses_frame frame decoded ends sees same) =
+      absurd (one_frame_or_none role _ _ unparsed before.frames frame read ends)
+  one_use (uses_part unparsed read is) (uses_fault fault at same) =
+      absurd (no_fault role _ _ unparsed before.frames before.frames _ fault read at)
+  one_use (uses_frame frame decoded ends sees is) (uses_part left again same) =
+      absurd (one_frame_or_none role _ _ left before.frames frame again ends)
+  one_use (uses_frame frame decoded ends sees is) (uses_frame another seen again saw same) =
+      let frame_same : frame ≡ another = one_last before.frames frame another
+      (one_reading_lem (is_server role) (limits_from before) (before.input ++ octet ∷ [])
+      (before.frames ++ frame ∷ []) (before.frames ++ another ∷ []) [] [] ends again).0 in
+      let saw_it : IsDecodedFor before seen frame =
+      subst (λ (one : Frame). IsDecodedFor before seen one) (sym frame_same) saw in
+      let decoded_same : decoded ≡ seen =
+      one_seen before decoded seen (frame_step (log_view before) frame) sees saw_it in
+      is ∙ ap₂ (λ (one : Option Decoded) (two : Frame).
+      without_turns (took_frame before (octet ∷ []) one two)) decoded_same frame_same ∙ sym same
+  one_use (uses_frame frame decoded ends sees is) (uses_fault fault at same) =
+      absurd (no_fault role _ _ [] before.frames (before.frames ++ frame ∷ []) _ fault ends at)
+  one_use (uses_fault fault at is) (uses_part left again same) =
+      absurd (no_fault role _ _ left before.frames before.frames _ fault again at)
+  one_use (uses_fault fault at is) (uses_frame frame decoded ends sees same) =
+      absurd (no_fault role _ _ [] before.frames (before.frames ++ frame ∷ []) _ fault ends at)
+  one_use (uses_fault fault at is) (uses_fault another again same) =
+      is ∙ ap (λ (one : WireFault). without_turns (took_fault before (octet ∷ []) one))
+      (one_fault role (limits_from before) (before.input ++ octet ∷ []) before.frames fault another
+      at again) ∙ sym same
 
 -- Marks make one log.
 pub one_run : (role : Role) (values : Values) (marks : List Mark) (log other : Log)

@@ -57,105 +57,100 @@ none_fault role limits log octets fault none read at =
     (subst (λ (input : List ℕ). Frames (is_server role) limits input log.frames log.unparsed)
     (sym (ap (λ (line : List ℕ). log.input ++ line) none ∙ append-nil log.input)) read.read) at
 
--- Octets whose last makes a fault.
-fault_piece : (role : Role) (values : Values) (limits : Limits) (octets : List ℕ)
-    (marks : List Mark) (log : Log) (fault : WireFault)
-    → Run role values marks (without_turns log) → IsReadOf role limits log
-    → WireFaultAt (is_server role) limits (log.input ++ octets) log.frames
-    (length (log.input ++ octets)) fault
-    → Run role values (back (each Octet octets) marks) (without_turns (took_fault log octets fault))
-fault_piece role values limits octets marks log fault run read at =
-    elim (last_or octets) [
-      | inl none ↦ absurd (none_fault role limits log octets fault none read at)
-      | inr (init, last, is) ↦
-          subst (λ (line : List ℕ). Run role values (back (each Octet line) marks)
-          (without_turns (took_fault log line fault))) (sym is)
-          (fault_run role values limits init last marks log fault run read
-          (subst (λ (line : List ℕ). WireFaultAt (is_server role) limits (log.input ++ line)
-          log.frames (length (log.input ++ line)) fault) is at))
-    ]
+module _ (role : Role) (values : Values) where
+  -- Octets whose last makes a fault.
+  fault_piece : (limits : Limits) (octets : List ℕ) (marks : List Mark) (log : Log)
+      (fault : WireFault) → Run role values marks (without_turns log) → IsReadOf role limits log
+      → WireFaultAt (is_server role) limits (log.input ++ octets) log.frames
+      (length (log.input ++ octets)) fault
+      → Run role values (back (each Octet octets) marks) (without_turns
+      (took_fault log octets fault))
+  fault_piece limits octets marks log fault run read at = elim (last_or octets) [
+    | inl none ↦ absurd (none_fault role limits log octets fault none read at)
+    | inr (init, last, is) ↦
+        subst (λ (line : List ℕ). Run role values (back (each Octet line) marks)
+        (without_turns (took_fault log line fault))) (sym is)
+        (fault_run role values limits init last marks log fault run read
+        (subst (λ (line : List ℕ). WireFaultAt (is_server role) limits (log.input ++ line)
+        log.frames (length (log.input ++ line)) fault) is at))
+  ]
 
--- Octets with whose last a frame ends for which memory is refused.
-lost_piece : (role : Role) (values : Values) (limits : Limits) (octets : List ℕ)
-    (marks : List Mark) (log : Log) (frame : Frame)
-    → Run role values marks (without_turns log) → IsReadOf role limits log
-    → Frames (is_server role) limits (log.input ++ octets) (log.frames ++ frame ∷ []) []
-    → Run role values (back (each Octet octets ++ OutOfMemory true ∷ []) marks)
-    (without_turns (took_out_of_memory log octets))
-lost_piece role values limits octets marks log frame run read ends =
-    elim (last_or octets) [
-      | inl none ↦ absurd (none_end role limits log octets frame none read ends)
-      | inr (init, last, is) ↦
-          subst (λ (line : List ℕ). Run role values
-          (back (each Octet line ++ OutOfMemory true ∷ []) marks)
-          (without_turns (took_out_of_memory log line))) (sym is)
-          (subst (λ (line : List Mark). Run role values line
-          (without_turns (took_out_of_memory log (init ++ last ∷ []))))
-          (sym (back_after (each Octet (init ++ last ∷ [])) (OutOfMemory true ∷ []) marks))
-          (lost_run role values limits init last marks log frame run read
-          (subst (λ (line : List ℕ). Frames (is_server role) limits (log.input ++ line)
-          (log.frames ++ frame ∷ []) []) is ends)))
-    ]
+  -- Octets with whose last a frame ends for which memory is refused.
+  lost_piece : (limits : Limits) (octets : List ℕ) (marks : List Mark) (log : Log) (frame : Frame)
+      → Run role values marks (without_turns log) → IsReadOf role limits log
+      → Frames (is_server role) limits (log.input ++ octets) (log.frames ++ frame ∷ []) []
+      → Run role values (back (each Octet octets ++ OutOfMemory true ∷ []) marks)
+      (without_turns (took_out_of_memory log octets))
+  lost_piece limits octets marks log frame run read ends = elim (last_or octets) [
+    | inl none ↦ absurd (none_end role limits log octets frame none read ends)
+    | inr (init, last, is) ↦ subst (λ (line : List ℕ). Run role values
+        (back (each Octet line ++ OutOfMemory true ∷ []) marks)
+        (without_turns (took_out_of_memory log line))) (sym is)
+        (subst (λ (line : List Mark). Run role values line
+        (without_turns (took_out_of_memory log (init ++ last ∷ []))))
+        (sym (back_after (each Octet (init ++ last ∷ [])) (OutOfMemory true ∷ []) marks))
+        (lost_run role values limits init last marks log frame run read
+        (subst (λ (line : List ℕ). Frames (is_server role) limits (log.input ++ line)
+        (log.frames ++ frame ∷ []) []) is ends)))
+  ]
 
--- Memory is refused.
-memory_piece : (role : Role) (values : Values) (octets : List ℕ) (marks : List Mark) (log : Log)
-    → IsLog role values log → log.failed ≡ None → (may : MayRunOutOfMemory role log octets)
-    → Run role values marks (without_turns log)
-    → Run role values (back (each Octet octets ++ OutOfMemory (is_in_frame may) ∷ []) marks)
-    (without_turns (took_out_of_memory log octets))
-memory_piece role values octets marks log is up (unused, to_report none some due) run =
-    subst (λ (line : List ℕ). Run role values
-    (back (each Octet line ++ OutOfMemory false ∷ []) marks)
-    (without_turns (took_out_of_memory log line))) (sym none)
-    (refused_at_once role values marks log run)
-memory_piece role values octets marks log is up (unused, to_keep none takes keeps) run =
-    subst (λ (line : List ℕ). Run role values
-    (back (each Octet line ++ OutOfMemory false ∷ []) marks)
-    (without_turns (took_out_of_memory log line))) (sym none)
-    (refused_at_once role values marks log run)
-memory_piece role values octets marks log is up (unused, to_take takes frame ends needs) run =
-    lost_piece role values (limits_from log) octets marks log frame run
-    (log_read role values log is up) ends
+  -- Memory is refused.
+  memory_piece : (octets : List ℕ) (marks : List Mark) (log : Log) → IsLog role values log
+      → log.failed ≡ None → (may : MayRunOutOfMemory role log octets)
+      → Run role values marks (without_turns log)
+      → Run role values (back (each Octet octets ++ OutOfMemory (is_in_frame may) ∷ []) marks)
+      (without_turns (took_out_of_memory log octets))
+  memory_piece octets marks log is up (unused, to_report none some due) run =
+      subst (λ (line : List ℕ). Run role values
+      (back (each Octet line ++ OutOfMemory false ∷ []) marks)
+      (without_turns (took_out_of_memory log line))) (sym none)
+      (refused_at_once role values marks log run)
+  memory_piece octets marks log is up (unused, to_keep none takes keeps) run =
+      subst (λ (line : List ℕ). Run role values
+      (back (each Octet line ++ OutOfMemory false ∷ []) marks)
+      (without_turns (took_out_of_memory log line))) (sym none)
+      (refused_at_once role values marks log run)
+  memory_piece octets marks log is up (unused, to_take takes frame ends needs) run =
+      lost_piece (limits_from log) octets marks log frame run (log_read role values log is up) ends
 
--- One more piece after a script.
-after_piece : (role : Role) (values : Values) (script piece : List Mark) (log : Log)
-    → Run role values (back piece (back script [])) log
-    → Run role values (back (script ++ piece) []) log
-after_piece role values script piece log run =
-    subst (λ (line : List Mark). Run role values line log) (sym (back_after script piece [])) run
+  -- One more piece after a script.
+  after_piece : (script piece : List Mark) (log : Log)
+      → Run role values (back piece (back script [])) log
+      → Run role values (back (script ++ piece) []) log
+  after_piece script piece log run =
+      subst (λ (line : List Mark). Run role values line log) (sym (back_after script piece [])) run
 
--- Every log.
-run_of : (role : Role) (values : Values) (log : Log) (history : IsLog role values log)
-    → Run role values (back (script_of history) []) (without_turns log)
-unfolding script_of
-run_of role values _ (begins in_range) = refl
-run_of role values _ (took_some {log = log} is takes octets unparsed part) =
-    after_piece role values (script_of is) (each Octet octets) _
-    (parts_run role values (limits_from log) octets _ log unparsed (run_of role values log is)
-    (log_read role values log is takes.up) part)
-run_of role values _ (took_one {log = log} is takes octets frame decoded ends sees) =
-    after_piece role values (script_of is) (each Octet octets) _
-    (frame_piece role values (limits_from log) octets _ log frame decoded
-    (run_of role values log is) (log_read role values log is takes.up) ends sees)
-run_of role values _ (met_fault {log = log} is takes octets fault at) =
-    after_piece role values (script_of is) (each Octet octets) _
-    (fault_piece role values (limits_from log) octets _ log fault (run_of role values log is)
-    (log_read role values log is takes.up) at)
-run_of role values _ (ran_out_of_memory {log = log} is up octets may) =
-    after_piece role values (script_of is) (each Octet octets ++ OutOfMemory (is_in_frame may) ∷ [])
-    _ (memory_piece role values octets _ log is up may (run_of role values log is))
-run_of role values _ (reported_one {log = log} is up some) =
-    after_piece role values (script_of is) (Unprocessed ∷ []) _ (
-      without_turns log,
-      run_of role values log is,
-      none_alike log (without_turns log) (alike_without log),
-    )
-run_of role values _ (called_one {log = log} is act answer typed may) =
-    after_piece role values (script_of is) (Call act answer ∷ []) _ (
-      without_turns log,
-      run_of role values log is,
-      call_alike log (without_turns log) act answer (alike_without log),
-    )
+  -- Every log.
+  run_of : (log : Log) (history : IsLog role values log)
+      → Run role values (back (script_of history) []) (without_turns log)
+  unfolding script_of
+  run_of _ (begins in_range) = refl
+  run_of _ (took_some {log = log} is takes octets unparsed part) =
+      after_piece (script_of is) (each Octet octets) _
+      (parts_run role values (limits_from log) octets _ log unparsed (run_of log is)
+      (log_read role values log is takes.up) part)
+  run_of _ (took_one {log = log} is takes octets frame decoded ends sees) =
+      after_piece (script_of is) (each Octet octets) _
+      (frame_piece role values (limits_from log) octets _ log frame decoded
+      (run_of log is) (log_read role values log is takes.up) ends sees)
+  run_of _ (met_fault {log = log} is takes octets fault at) =
+      after_piece (script_of is) (each Octet octets) _
+      (fault_piece (limits_from log) octets _ log fault (run_of log is)
+      (log_read role values log is takes.up) at)
+  run_of _ (ran_out_of_memory {log = log} is up octets may) =
+      after_piece (script_of is) (each Octet octets ++ OutOfMemory (is_in_frame may) ∷ [])
+      _ (memory_piece octets _ log is up may (run_of log is))
+  run_of _ (reported_one {log = log} is up some) = after_piece (script_of is) (Unprocessed ∷ []) _ (
+    without_turns log,
+    run_of log is,
+    none_alike log (without_turns log) (alike_without log),
+  )
+  run_of _ (called_one {log = log} is act answer typed may) =
+      after_piece (script_of is) (Call act answer ∷ []) _ (
+        without_turns log,
+        run_of log is,
+        call_alike log (without_turns log) act answer (alike_without log),
+      )
 
 -- Two histories with one script are of one log, but for the turns.
 pub same_but_turns : (role : Role) (values : Values) (log other : Log)

@@ -254,70 +254,64 @@ named_fit log id are = record {
   credit = are.credit;
 }
 
--- The last stream of a failure's GOAWAY.
-names_low : (role : Role) (values : Values) (log : Log) (last : ℕ) → NamesLast role values log last
-    → LogIsFit log → last < 2 ^ 31
-names_low role values log _ processed are = last_low log are
-names_low role values log _ (of_fault decoded item code comes is) are =
-    omega (
-      arith,
-      last_low log are,
-      opened_by_low (log_view log) decoded item (comes_fit role values log decoded item comes),
-    )
+module _ (role : Role) (values : Values) where
+  -- The last stream of a failure's GOAWAY.
+  names_low : (log : Log) (last : ℕ) → NamesLast role values log last → LogIsFit log → last < 2 ^ 31
+  names_low log _ processed are = last_low log are
+  names_low log _ (of_fault decoded item code comes is) are = omega (
+    arith,
+    last_low log are,
+    opened_by_low (log_view log) decoded item (comes_fit role values log decoded item comes),
+  )
 
--- Each change keeps it, as long as what was written was allowed.
-fit_kept : (role : Role) (values : Values)
-    → IsPendingInvariant role values (λ events log. LogIsAllowed role log → PendingFit events log)
-unfolding used with_sent
-fit_kept role values = record {
-  opening = λ in_range allowed. begins_fit role values in_range;
-  used = λ log octets unparsed are. are;
-  framed = λ log frames are. are;
-  begun = λ log begun begins are. are;
-  complete = λ log are. are;
-  replied = λ log decoded item verdict replies are allowed.
-      replied_fit role values log decoded item verdict replies
-      (are (comes_as_before replies.comes (LogIsAllowed role)
-      (written_is_allowed role values replies.comes.before replies.comes.is)));
-  named = λ log is up some are allowed. named_fit log _ (are allowed);
-  reported = λ log event events may are. are;
-  unreturned = λ events log count are. are;
-  returned = λ events log returns. returned_fit role events log;
-  failed = λ log code last names are allowed.
-      let before = are (allowed_before role log.received _ _ log.sent allowed refl
-      (λ pairs wrong. cc)) in
-      failure_keeps code last log (names_low role values log last names before) before;
-  sent = λ log act accepted are allowed.
-      let represents = log_represents role values log accepted.is in
-      let before = are (written_is_allowed role values log accepted.is) in
-      wrote_keeps [] (called log act (answer_of (log_view log) act)) _
-      (accepted_sendable role log act represents accepted.typed accepted.none accepted.up
-      before) before;
-  called = λ log act answer is none are. are;
-  given = λ log more are. are;
-}
+  -- Each change keeps it, as long as what was written was allowed.
+  fit_kept : IsPendingInvariant role values (λ events log. LogIsAllowed role log → PendingFit events
+      log)
+  unfolding used with_sent
+  fit_kept = record {
+    opening = λ in_range allowed. begins_fit role values in_range;
+    used = λ log octets unparsed are. are;
+    framed = λ log frames are. are;
+    begun = λ log begun begins are. are;
+    complete = λ log are. are;
+    replied = λ log decoded item verdict replies are allowed. replied_fit role values log decoded
+        item verdict replies (are (comes_as_before replies.comes (LogIsAllowed role)
+        (written_is_allowed role values replies.comes.before replies.comes.is)));
+    named = λ log is up some are allowed. named_fit log _ (are allowed);
+    reported = λ log event events may are. are;
+    unreturned = λ events log count are. are;
+    returned = λ events log returns. returned_fit role events log;
+    failed = λ log code last names are allowed.
+        let before = are (allowed_before role log.received _ _ log.sent allowed refl
+        (λ pairs wrong. cc)) in
+        failure_keeps code last log (names_low log last names before) before;
+    sent = λ log act accepted are allowed.
+        let represents = log_represents role values log accepted.is in
+        let before = are (written_is_allowed role values log accepted.is) in
+        wrote_keeps [] (called log act (answer_of (log_view log) act)) _
+        (accepted_sendable role log act represents accepted.typed accepted.none accepted.up
+        before) before;
+    called = λ log act answer is none are. are;
+    given = λ log more are. are;
+  }
 
--- Every log.
-log_fit : (role : Role) (values : Values) (log : Log) → IsLog role values log → LogIsFit log
-log_fit role values log is =
-    pending_by_logs role values (λ events log. LogIsAllowed role log → PendingFit events log)
-    (fit_kept role values) log is (written_is_allowed role values log is)
+  -- Every log.
+  log_fit : (log : Log) → IsLog role values log → LogIsFit log
+  log_fit log is =
+      pending_by_logs role values (λ events log. LogIsAllowed role log → PendingFit events log)
+      (fit_kept) log is (written_is_allowed role values log is)
 
--- So each item that was written can be sent, with its own greatest payload.
-pub written_sendable_by : (role : Role) (values : Values) (log : Log) → IsLog role values log
-    → AreSendable log.payloads log.sent
-written_sendable_by role values log is = (log_fit role values log is).sent_all
+  -- So each item that was written can be sent, with its own greatest payload.
+  pub written_sendable_by : (log : Log) → IsLog role values log → AreSendable log.payloads log.sent
+  written_sendable_by log is = (log_fit log is).sent_all
 
--- The greatest payloads of what was written are those that may be in force.
-pub payloads_may : (role : Role) (values : Values) (log : Log) → IsLog role values log
-    → AllByRecursion IsPayload log.payloads
-payloads_may role values log is =
-    payloads_between log.received log.sent log.payloads
-    (written_by_payloads role values log is).history
+  -- The greatest payloads of what was written are those that may be in force.
+  pub payloads_may : (log : Log) → IsLog role values log → AllByRecursion IsPayload log.payloads
+  payloads_may log is = payloads_between log.received log.sent log.payloads
+      (written_by_payloads role values log is).history
 
--- So each item can be sent with the greatest of all.
-pub written_sendable : (role : Role) (values : Values) (log : Log) → IsLog role values log
-    → AllByRecursion (IsSendable max_frame_size_sent) log.sent
-written_sendable role values log is =
-    all_sendable log.payloads log.sent (payloads_may role values log is)
-    (written_sendable_by role values log is)
+  -- So each item can be sent with the greatest of all.
+  pub written_sendable : (log : Log) → IsLog role values log
+      → AllByRecursion (IsSendable max_frame_size_sent) log.sent
+  written_sendable log is = all_sendable log.payloads log.sent (payloads_may log is)
+      (written_sendable_by log is)

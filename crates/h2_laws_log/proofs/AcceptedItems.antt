@@ -9,10 +9,10 @@ use Names.{settings_wait, goaway_written, log_view, Reported, NoEvent, is_fault,
 use Names.{block_verdict, data_verdict, update_verdict, connection_update_verdict, Decoded}
 use Names.{verdict_by_rules, max_list, HasAcknowledged, MayContinue, MaySendData, MayReset}
 use Names.{MayUpdateWindow, AllowedHistory, IsReader, list_any, ◌≡◌, ◌⊎◌, ◌≢◌, ℕ, zero, suc, ◌+◌}
-use Names.{◌≤◌, ◌<◌, nat_lt, Bool, true, false, if◌then◌else◌, List, [], ◌++◌, length, Option, None}
+use Names.{◌≤◌, nat_lt, Bool, true, false, if◌then◌else◌, List, [], ◌++◌, length, Option, None}
 use Names.{Some, refl, ◌∙◌, inl, inr, arith, first_window, greatest_window, given_on}
 use Names.{given_on_connection, granted_on, granted_on_connection, passes, is_above_greatest}
-use Names.{peer_opens}
+use Names.{peer_opens, rules}
 use Rattle.h2_laws_log.proofs.LogViewLemmas.{data_by_sums, update_by_sums, block_by_items}
 use Rattle.h2_laws_log.proofs.ItemLists.{settings_after, total_after}
 use Rattle.h2_laws_log.proofs.ReaderStates.{active_used, used_after, not_idle, goes_on_state}
@@ -68,14 +68,7 @@ pub acknowledgment_lem : (role : Role) (received sent unread : List Item) (log :
     (Settings true [])) ≡ Reported
 unfolding verdict_by_rules
 acknowledgment_lem role received sent unread log waits reader =
-    let more : settings_count received ≤ settings_count (unread
-    ++ received) = settings_after unread received in
-    let awaited : acked log ≡ total one_ack sent = reader.awaited
-    ∙ ap (λ (items : List Item). total one_ack items) reader.read in
-    let count : settings_count log.sent ≡ settings_count (unread
-    ++ received) = ap settings_count reader.written in
-    let fewer : acked log < settings_count log.sent = omega (arith, more, awaited, count, waits) in
-    rw (lt-ltb (acked log) (settings_count log.sent) fewer) refl
+    search (rules, settings_after, lt-ltb)
 
 -- An acknowledgment is no fault, whether it is awaited or not.
 pub acknowledgment_sound : (log : Log) (pairs : List (ℕ × ℕ))

@@ -75,20 +75,17 @@ streams_enough received sent unread log returned reader =
     let all = acked_all Client received sent unread log returned reader in
     let with_sent : AllowedHistory Server sent (unread ++ received) = rw
     (reader.other, reader.read, reader.written) at reader.with_sent in
-    elim (cases_eq (settings_count received) 0) [
-      | inl none ↦
-          rw (
-            allowed_unread received none,
-            streams_at_first log (all
-                ∙ none),
-            reader.written,
-          ) (first_streams sent (unread ++ received) with_sent)
+    elim (cases_eq _ 0) [
+      | inl none ↦ rw (
+        allowed_unread received none,
+        streams_at_first log (all ∙ none),
+        reader.written,
+      ) (first_streams sent (unread ++ received) with_sent)
       | inr some ↦
           let agreed = limits_lem 3 100 Client received sent unread log returned reader in
           let named = streams_read received sent unread 1000 100 with_sent some in
           rw (
-            streams_later log (λ none. some (sym all
-                ∙ none)),
+            streams_later log (λ none. some (sym all ∙ none)),
             agreed,
             ← named,
           ) (allowed_read received some)

@@ -3,11 +3,11 @@ use Rattle.h2_spec_log.specs.Limits.{least_max_frame, most_max_frame}
 use Rattle.h2_laws_log.proofs.Names
 use Names.{cases_Bool, le-ltb, and_left, and_right, or_from, Code, Settings, Item, alone, block}
 use Names.{Role, Client, Server, Values, AreInRange, total, data_on, increment_on, peer_of}
-use Names.{value_fault, value_read, any_block, openings, Log, active, is_fault, max_list}
-use Names.{verdict_by_rules, settings_fault, verdict_of_fault, overflows, log_view, opening_pairs}
-use Names.{changed_pairs, with_max_frame, MayChangeSettings, AllowedHistory, IsReader, ◌≡◌, ◌≢◌, ℕ}
-use Names.{◌+◌, ◌≤◌, ◌==◌, ◌&&◌, Bool, true, false, if◌then◌else◌, List, [], ◌∷◌, Option, None}
-use Names.{refl, inl, inr, arith, greatest_window, is_above_greatest}
+use Names.{value_fault, any_block, openings, Log, active, is_fault, max_list, verdict_by_rules}
+use Names.{settings_fault, verdict_of_fault, overflows, log_view, opening_pairs, changed_pairs}
+use Names.{with_max_frame, MayChangeSettings, AllowedHistory, IsReader, ◌≡◌, ◌≢◌, ℕ, ◌+◌, ◌≤◌, ◌==◌}
+use Names.{◌&&◌, Bool, true, false, if◌then◌else◌, List, [], ◌∷◌, Option, None, refl, inl, inr}
+use Names.{arith, greatest_window, is_above_greatest, rules}
 use Rattle.h2_laws_log.proofs.InvariantCalls.{active_some}
 use Rattle.h2_laws_log.proofs.ItemLists.{total_after}
 use Rattle.h2_laws_log.proofs.AllowedHistories.{increments_read}
@@ -70,8 +70,7 @@ push_value Server = refl
 frame_value : (from : Role) (value : ℕ) → least_max_frame ≤ value → value ≤ most_max_frame
     → value_fault from (5, value) ≡ None
 unfolding value_fault
-frame_value from value least within = rw
-    (le-ltb value 16384 (omega arith), le-ltb 16777215 value (omega arith)) refl
+frame_value from value least within = search rules
 
 -- pairs without fault have none with a greatest frame, by the test whether it was written
 named_sound_by : (log : Log) (max_frame : ℕ) (pairs : List (ℕ × ℕ)) (same : Bool)
@@ -141,8 +140,4 @@ pub settings_lem : (role : Role) (received sent unread : List Item) (log : Log) 
     → is_fault (verdict_by_rules (log_view log) None (alone (Settings false pairs))) ≡ false
 unfolding verdict_by_rules
 settings_lem role received sent unread log pairs with_sent may reader =
-    fault_none (settings_fault (log_view log) pairs) (rw may.changed
-    (changed_sound role (value_read 5 16384 sent) may.values log may.in_range
-    (no_overflow log may.values.initial_window (may.in_range).initial_window
-    (λ j some. rw (reader.read, reader.written)
-    (omega (arith, increments_read role j some received sent with_sent, total_after))))))
+    search (rules, fault_none, changed_sound, no_overflow, increments_read, total_after)

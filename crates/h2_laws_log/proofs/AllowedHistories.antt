@@ -5,7 +5,7 @@ use Names.{ap, cases_eq, eq-eqb, ne_eqb, Settings, WindowUpdate, Item, alone, bl
 use Names.{Server, Values, AreInRange, total, data_on, increment_on, value_read, value_after}
 use Names.{settings_count, own_value, max_list, opening_pairs, changed_pairs, Allowed}
 use Names.{AllowedHistory, starts, reads, writes, ◌≡◌, ◌⊎◌, ◌≢◌, ℕ, ◌+◌, ◌≤◌, false, List, [], ◌∷◌}
-use Names.{◌++◌, refl, inl, inr, arith, first_window, greatest_window}
+use Names.{◌++◌, refl, inl, inr, arith, first_window, greatest_window, rules}
 use Rattle.h2_laws_log.proofs.SettingsLists.{settings_or, value_kept, value_changed, value_named}
 use Rattle.h2_laws_log.proofs.SettingsLists.{settings_one, count_next, count_none, own_next}
 use Rattle.h2_laws_log.proofs.SettingsLists.{own_of_all}
@@ -15,12 +15,7 @@ opening_first : (role : Role) (values : Values) → AreInRange values
     → (after before : List Item) (item : Item)
     → alone (Settings false (opening_pairs role values)) ∷ [] ≡ after ++ item ∷ before
     → IsOpening role before item
-opening_first role values ok [] before item line = record {
-  values = values;
-  in_range = ok;
-  first = cc;
-  opening = cc;
-}
+opening_first role values ok [] before item line = search rules
 opening_first role values ok (first ∷ []) before item line = absurd (cc)
 opening_first role values ok (first ∷ (second ∷ after)) before item line = absurd (cc)
 
@@ -96,11 +91,7 @@ allowed_window role received sent item allowed within = elim (settings_or item) 
 -- The initial window that an end has written is never above the greatest.
 pub window_written : (role : Role) (received sent : List Item)
     → AllowedHistory role received sent → value_read 4 first_window sent ≤ greatest_window
-window_written role _ _ (starts values ok) =
-    rw (
-      value_changed 4 first_window (opening_pairs role values) [],
-      opening_window role values (value_read 4 first_window []),
-    ) ok.initial_window
+window_written role _ _ (starts values ok) = search (rules, value_changed, opening_window)
 window_written role _ sent
     (reads {received = received} item with_sent) = window_written role received sent with_sent
 window_written role received _
@@ -127,48 +118,45 @@ increment_elsewhere : (i stream increment : ℕ) → (stream ≡ i → ⊥)
 unfolding increment_on
 increment_elsewhere i stream increment other = rw (ne_eqb stream i other) refl
 
--- what an item returns was read
-allowed_increment : (role : Role) (received sent : List Item) (item : Item) (i : ℕ) → i ≢ 0
-    → Allowed role received sent item
-    → total (increment_on i) sent ≤ total (data_on i) received
-    → total (increment_on i) sent + increment_on i item ≤ total (data_on i) received
-allowed_increment role received sent item i some allowed within = elim (increment_or item) [
-  | inl (stream, increment, is) ↦ elim (cases_eq stream i) [
-    | inl same ↦
-        let may = (rw (is, same) at allowed).1 in
-        rw (is, same, increment_here i increment) (may.read some)
-    | inr other ↦ rw (is, increment_elsewhere i stream increment other) (omega arith)
+module _ (role : Role) where
+  -- what an item returns was read
+  allowed_increment : (received sent : List Item) (item : Item) (i : ℕ) → i ≢ 0
+      → Allowed role received sent item → total (increment_on i) sent ≤ total (data_on i) received
+      → total (increment_on i) sent + increment_on i item ≤ total (data_on i) received
+  allowed_increment received sent item i some allowed within = elim (increment_or item) [
+    | inl (stream, increment, is) ↦ elim (cases_eq stream i) [
+      | inl same ↦
+          let may = (rw (is, same) at allowed).1 in
+          rw (is, same, increment_here i increment) (may.read some)
+      | inr other ↦ rw (is, increment_elsewhere i stream increment other) (omega arith)
+    ]
+    | inr none ↦ omega (arith, none i)
   ]
-  | inr none ↦ omega (arith, none i)
-]
 
--- No more of a stream's window is returned than was read on it.
-pub increments_read : (role : Role) (i : ℕ) → i ≢ 0 → (received sent : List Item)
-    → AllowedHistory role received sent
-    → total (increment_on i) sent ≤ total (data_on i) received
-unfolding total increment_on
-increments_read role i some _ _ (starts values ok) = omega arith
-increments_read role i some _ sent (reads {received = received} item with_sent) = omega
-    (arith, increments_read role i some received sent with_sent)
-increments_read role i some received _ (writes {sent = sent} item with_sent allowed) =
-    let more = allowed_increment role received sent item i some allowed
-    (increments_read role i some received sent with_sent) in
-    omega arith
+  -- No more of a stream's window is returned than was read on it.
+  pub increments_read : (i : ℕ) → i ≢ 0 → (received sent : List Item)
+      → AllowedHistory role received sent → total (increment_on i) sent ≤ total (data_on i) received
+  unfolding total increment_on
+  increments_read i some _ _ (starts values ok) = omega arith
+  increments_read i some _ sent (reads {received = received} item with_sent) = omega
+      (arith, increments_read i some received sent with_sent)
+  increments_read i some received _ (writes {sent = sent} item with_sent allowed) =
+      let more = allowed_increment received sent item i some allowed
+      (increments_read i some received sent with_sent) in
+      omega arith
 
--- A part of what was written, from the oldest item on, is nothing or was written.
-pub wrote_front : (role : Role) (received more sent all : List Item)
-    → AllowedHistory role received all → all ≡ more ++ sent
-    → (sent ≡ []) ⊎ ((read : List Item) × AllowedHistory role read sent)
-wrote_front role _ [] sent _ (starts values ok) line = inr ([], rw (← line) (starts values ok))
-wrote_front role _ (first ∷ []) sent _ (starts values ok) line = inl (cc)
-wrote_front role _ (first ∷ (second ∷ more)) sent _ (starts values ok) line = absurd (cc)
-wrote_front role _ more sent all (reads {received = received} item with_sent) line =
-    wrote_front role received more sent all with_sent line
-wrote_front role received [] sent _ (writes {sent = before} item with_sent allowed) line = inr
-    (received, rw (← line) (writes item with_sent allowed))
-wrote_front role received (first ∷ more) sent _
-    (writes {sent = before} item with_sent allowed) line =
-    wrote_front role received more sent before with_sent (cc)
+  -- A part of what was written, from the oldest item on, is nothing or was written.
+  pub wrote_front : (received more sent all : List Item) → AllowedHistory role received all
+      → all ≡ more ++ sent → (sent ≡ []) ⊎ ((read : List Item) × AllowedHistory role read sent)
+  wrote_front _ [] sent _ (starts values ok) line = inr ([], rw (← line) (starts values ok))
+  wrote_front _ (first ∷ []) sent _ (starts values ok) line = inl (cc)
+  wrote_front _ (first ∷ (second ∷ more)) sent _ (starts values ok) line = absurd (cc)
+  wrote_front _ more sent all (reads {received = received} item with_sent) line =
+      wrote_front received more sent all with_sent line
+  wrote_front received [] sent _ (writes {sent = before} item with_sent allowed) line = inr
+      (received, rw (← line) (writes item with_sent allowed))
+  wrote_front received (first ∷ more) sent _ (writes {sent = before} item with_sent allowed) line =
+      wrote_front received more sent before with_sent (cc)
 
 -- An end has written SETTINGS.
 pub wrote_settings : (role : Role) (received sent : List Item)
@@ -190,22 +178,12 @@ opening_streams values before =
 allowed_streams : (item : Item) (sent : List Item) (first other : ℕ) → value_read 3 first sent
     ≡ value_read 3 other sent
     → value_read 3 first (item ∷ sent) ≡ value_read 3 other (item ∷ sent)
-allowed_streams item sent first other same = elim (settings_or item) [
-  | inl (pairs, is) ↦ rw
-      (is, value_changed 3 first pairs sent, value_changed 3 other pairs sent, same) refl
-  | inr none ↦ rw (value_kept 3 first item sent none, value_kept 3 other item sent none) same
-]
+allowed_streams item sent first other same = search (rules, settings_or, value_changed, value_kept)
 
 -- What a server has written names a number of streams, whatever the first value.
 pub streams_named : (first other : ℕ) (received sent : List Item)
     → AllowedHistory Server received sent → value_read 3 first sent ≡ value_read 3 other sent
-streams_named first other _ _ (starts values ok) =
-    rw (
-      value_changed 3 first (opening_pairs Server values) [],
-      value_changed 3 other (opening_pairs Server values) [],
-      opening_streams values (value_read 3 first []),
-      opening_streams values (value_read 3 other []),
-    ) refl
+streams_named first other _ _ (starts values ok) = search (rules, value_changed, opening_streams)
 streams_named first other _ sent
     (reads {received = received} item with_sent) = streams_named first other received sent with_sent
 streams_named first other received _ (writes {sent = sent} item with_sent allowed) =
@@ -215,16 +193,7 @@ streams_named first other received _ (writes {sent = sent} item with_sent allowe
 pub first_streams : (received sent : List Item) → AllowedHistory Server received sent
     → 100 ≤ own_value 3 100 1 sent
 first_streams _ _ (starts values ok) =
-    rw (
-      own_of_all 3 100 1 (alone (Settings false (opening_pairs Server values)) ∷ []) (omega (
-        arith,
-        count_none,
-        count_next (alone (Settings false (opening_pairs Server values))) [],
-        settings_one (opening_pairs Server values),
-      )),
-      value_changed 3 100 (opening_pairs Server values) [],
-      opening_streams values (value_read 3 100 []),
-    ) ok.least_streams
+    search (rules, own_of_all, count_none, count_next, settings_one, value_changed, opening_streams)
 first_streams _ sent
     (reads {received = received} item with_sent) = first_streams received sent with_sent
 first_streams received _ (writes {sent = sent} item with_sent allowed) =

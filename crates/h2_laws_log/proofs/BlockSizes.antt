@@ -1,7 +1,6 @@
 -- How many octets a block takes: no more than the size of its list, and those of two updates.
-use Rattle.std.proofs.Common.{◌≡◌, ℕ, ◌+◌, ◌≤◌, ◌==◌, nat_lt, nat_le, if◌then◌else◌, Bool, true}
-use Rattle.std.proofs.Common.{false, List, [], ◌∷◌, ◌++◌, length, refl, arith, length-append}
-use Rattle.std.proofs.Common.{flat_map}
+use Rattle.std.proofs.Common.{◌≡◌, ℕ, ◌+◌, ◌≤◌, nat_le, if◌then◌else◌, Bool, true, false, List, []}
+use Rattle.std.proofs.Common.{◌∷◌, ◌++◌, length, refl, arith, length-append, flat_map}
 use Rattle.std.proofs.lemmas.List.Sums.{sum_by-cons}
 use Rattle.hpack_text.specs.Integers.{integer}
 use Rattle.hpack_text.specs.Strings.{string}
@@ -12,7 +11,7 @@ use Rattle.hpack.specs.Choice.{Choice, indexed, literal, choice, encoding_of_fie
 use Rattle.hpack.specs.Choice.{encoding_of_fields, size_updates}
 use Rattle.h2_block.specs.Grouping.{max_block_octets}
 use Rattle.hpack.proofs.RoomLemmas.{head_short as head_fits, integer_short as integer_is_short}
-use Rattle.h2_laws_log.proofs.Names.{leb-true, EncoderState, list_size, block_of, max_list}
+use Rattle.h2_laws_log.proofs.Names.{leb-true, EncoderState, list_size, block_of, max_list, rules}
 
 -- The octets of a string, by the test whether it is Huffman coded.
 string_by : (text : List ℕ) (b : Bool) → nat_le (length (huffman_bits text)) (length text) ≡ b
@@ -61,9 +60,7 @@ updates_by least limit false alike false = omega arith
 -- A block's updates take at most twelve octets.
 updates_fit : (state : EncoderState) → length (flat_map (integer 5 0x20) (size_updates state)) ≤ 12
 unfolding size_updates
-updates_fit state =
-    updates_by state.least state.limit (nat_lt state.least state.table.maximum)
-    (state.limit == state.least) (nat_lt state.table.maximum state.limit)
+updates_fit state = search (rules, updates_by)
 
 -- A list that may be sent is a block that may be gathered.
 pub block_is_gathered : (encoder : EncoderState) (fields : List Field)

@@ -9,6 +9,7 @@ use Names.{max_payload_sent_by, log_view, max_data, data_count, data_frames, dat
 use Names.{HasAcknowledged, MayContinue, AllowedHistory, writes, ◌≡◌, ◌≢◌, ℕ, zero, suc, ◌+◌, ◌-◌}
 use Names.{min, ◌≤◌, ◌<◌, ◌==◌, ◌&&◌, not, nat_le, Bool, true, false, if◌then◌else◌, List, [], ◌∷◌}
 use Names.{◌++◌, length, take, drop, Option, None, refl, ◌∙◌, arith, given_on, given_on_connection}
+use Names.{rules}
 use Rattle.h2_laws_log.proofs.ItemLists.{total_one}
 use Rattle.h2_laws_log.proofs.WindowsOfTwoEnds.{total-append}
 use Rattle.h2_laws_log.proofs.LogViewLemmas.{count_by_sums}
@@ -57,14 +58,13 @@ goes_on_data : (role : Role) (i : ℕ) (received sent : List Item) (octets : Lis
 goes_on_data role i received sent octets pad goes =
     let parts = active_parts role i received sent [] goes.active in
     let lasts = lasts_parts i received sent parts.lasts in
-    let stays : list_any (ends i) (alone (Data i false octets pad) ∷ sent)
-    ≡ false = or_from _ _ (data_ends i i octets pad) goes.goes in
+    let stays : list_any (ends i) (alone (Data i false octets pad) ∷ sent) ≡ false = or_from _ _
+    (data_ends i i octets pad) goes.goes in
     record {
       active = active_by_parts role i received (alone (Data i false octets pad) ∷ sent) [] parts.odd
           (data_opens role i i false octets pad received sent parts.opened)
-          (data_above role i i false octets pad sent parts.below)
-          (and_right (list_any (ends i) received) _ stays) lasts.unreset
-          (or_from _ _ (data_resets i i false octets pad) lasts.kept) refl;
+          (data_above role i i false octets pad sent parts.below) (and_right _ _ stays)
+          lasts.unreset (or_from _ _ (data_resets i i false octets pad) lasts.kept) refl;
       goes = stays;
     }
 
@@ -160,8 +160,7 @@ data_by : (most id : ℕ) (role : Role) (octets : List ℕ) (end : Bool)
     → AllowedHistory role received ((if b then alone (Data id end octets None) ∷ [] else after
     ++ alone (Data id false (take most octets) None) ∷ []) ++ sent)
 data_by most id role octets end received sent after true test is send_window goes =
-    last_written most id role octets end received sent (leb-true
-    (length octets) most test) is send_window
+    search (rules, last_written, leb-true)
 data_by most id role octets end received sent after false test is send_window goes =
     rw append_assoc (goes (send_window_after most id role octets received sent (leb-false
     (length octets) most test) is send_window))

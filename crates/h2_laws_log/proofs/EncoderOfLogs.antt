@@ -1,8 +1,6 @@
 -- The encoder of every log that comes about.
-use Rattle.h2_spec_log.specs.LogCalls.{before_opening}
-use Rattle.h2_laws_log.proofs.Names.{IsValidEncoder, Role, Values, value_read, Log, log_view}
-use Rattle.h2_laws_log.proofs.Names.{answer_of, read, with_sent, with_reported, called, opened}
-use Rattle.h2_laws_log.proofs.Names.{IsLog, ◌≡◌, ◌∷◌, min, refl, arith}
+use Rattle.h2_laws_log.proofs.Names.{IsValidEncoder, Role, Values, value_read, Log, with_sent}
+use Rattle.h2_laws_log.proofs.Names.{with_reported, opened, IsLog, ◌≡◌, min, rules}
 use Rattle.h2_laws_log.proofs.EncoderSteps.{LogIsLimited, wrote_limited, reports_limited}
 use Rattle.h2_laws_log.proofs.EncoderSteps.{read_limited, call_limited}
 use Rattle.h2_laws_log.proofs.LogInduction.{IsLogInvariant, kept_by_logs}
@@ -10,36 +8,13 @@ use Rattle.h2_laws_log.proofs.LogInduction.{IsLogInvariant, kept_by_logs}
 -- The encoder of a new end.
 begins_limited : (role : Role) (values : Values) → LogIsLimited (opened role values)
 unfolding opened value_read
-begins_limited role values =
-    wrote_limited (before_opening role) _ (record {
-      writing = record {
-        least = omega arith;
-        limit = omega arith;
-        maximum = omega arith;
-        within = omega arith;
-      };
-      limit = refl;
-    })
+begins_limited role values = search (rules, wrote_limited)
 
 -- Each change of a log keeps an encoder that writes blocks, with the limit that was read last.
 encoder_is_kept : (role : Role) (values : Values) → IsLogInvariant role values LogIsLimited
 unfolding with_sent with_reported
-encoder_is_kept role values = record {
-  opening = λ in_range. begins_limited role values;
-  used = λ log octets unparsed is. is;
-  framed = λ log frames is. is;
-  begun = λ log begun is. is;
-  replied = λ log decoded item verdict replies is.
-      wrote_limited (read log decoded item) _ (read_limited log decoded item is);
-  reported = λ log event events may. reports_limited log (event ∷ events);
-  unreturned = λ log count is. is;
-  returned = λ log returns is. is;
-  failed = λ log code last names is. is;
-  sent = λ log act accepted is. wrote_limited (called log act (answer_of (log_view log) act)) _
-      (call_limited log.encoder log.received act _ is);
-  called = λ log act answer is_log none. call_limited log.encoder log.received act answer;
-  given = λ log more is. is;
-}
+encoder_is_kept role values =
+    search (rules, begins_limited, wrote_limited, read_limited, reports_limited, call_limited)
 
 -- The encoder of every log.
 pub encoder_is_limited : (role : Role) (values : Values) (log : Log) → IsLog role values log

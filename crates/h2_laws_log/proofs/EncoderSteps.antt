@@ -5,7 +5,7 @@ use Names.{EncoderState, after_block, IsValidEncoder, after_limit, limit_preserv
 use Names.{Settings, Item, alone, block, Event, Act, Answer, Open, SendFields, Number, Done}
 use Names.{value_read, value_after, Log, Decoded, read, with_sent, with_reported, ◌≡◌, ℕ, ◌==◌, min}
 use Names.{Bool, true, false, if◌then◌else◌, List, [], ◌∷◌, Option, refl, ◌∙◌, arith, block_goes_on}
-use Names.{encoder_after_settings}
+use Names.{encoder_after_settings, rules}
 
 -- An encoder writes blocks, and its limit is the value that was read last, 4,096 at most.
 pub record IsLimited (encoder : EncoderState) (received : List Item) : Type 0 where
@@ -59,15 +59,11 @@ pub read_limited : (log : Log) (decoded : Option Decoded) (item : Item) → LogI
     → LogIsLimited (read log decoded item)
 unfolding value_read
 read_limited log decoded (alone (Settings false pairs)) is =
-    let both = pairs_limited log.encoder
-    (value_read 1 4096 log.received) pairs is.writing is.limit in record {
+    let both = pairs_limited _ _ pairs is.writing is.limit in record {
       writing = both.0;
       limit = both.1;
     }
-read_limited log decoded (alone (Headers stream end whole fragment pad priority)) is = record {
-  writing = is.writing;
-  limit = is.limit;
-}
+read_limited log decoded (alone (Headers stream end whole fragment pad priority)) is = search rules
 read_limited log decoded
     (block stream end octets) is = record { writing = is.writing; limit = is.limit }
 read_limited log decoded (alone frame) is = record { writing = is.writing; limit = is.limit }

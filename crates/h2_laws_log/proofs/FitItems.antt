@@ -2,18 +2,17 @@
 use Rattle.h2_frame.specs.Heads.{head_of}
 use Rattle.h2_frame.specs.Frames.{Priority, Unknown, Encodes}
 use Rattle.h2_block.specs.declared.fault.BlockFault.{BlockFault}
-use Rattle.h2_spec_log.specs.ItemRules.{may_be_first, grouped, grouping_step}
+use Rattle.h2_spec_log.specs.ItemRules.{grouped, grouping_step}
 use Rattle.h2_wire.proofs.ReadingLemmas.{some_frames as frames_some}
 use Rattle.h2_frame.proofs.HeadLemmas.{stream-head_of as head_low}
 use Rattle.h2_laws_log.proofs.Names
 use Names.{ap, subst, Code, Frame, Data, Headers, Reset, Settings, Ping, GoAway, WindowUpdate}
-use Names.{Continuation, stream_of, Limits, AreFrames, Frames, Item, alone, block, Begun}
-use Names.{next_fault, Role, stream_of_item, Values, View, FrameStep, fails_with, begins_block}
-use Names.{completes, frame_step, Decoded, answer_of, opened, called, used, with_sent, read, Log}
-use Names.{log_view, IsLog, ◌≡◌, ℕ, ◌+◌, ◌^◌, ◌<◌, ◌&&◌, not, Bool, true, false, if◌then◌else◌}
-use Names.{List, [], ◌∷◌, ◌++◌, length, Option, Some, None, ◌∙◌, inl, inr, arith, TakesFrame}
+use Names.{Continuation, stream_of, Limits, AreFrames, Frames, Item, alone, block, Begun, Role}
+use Names.{stream_of_item, Values, View, FrameStep, fails_with, begins_block, completes, frame_step}
+use Names.{Decoded, answer_of, opened, called, used, with_sent, read, Log, log_view, IsLog, ◌≡◌, ℕ}
+use Names.{◌+◌, ◌^◌, ◌<◌, Bool, true, false, if◌then◌else◌, List, [], ◌∷◌, ◌++◌, length, Option}
+use Names.{Some, None, ◌∙◌, inl, inr, arith, TakesFrame, rules}
 use Rattle.h2_laws_log.proofs.LogInduction.{IsPendingInvariant, pending_by_logs, Comes}
-use Rattle.h2_frame.specs.declared.code.Code.TheVariants as codes
 
 -- What is known of a frame that was read: its stream has 31 bits, and so has the last stream of
 -- GOAWAY; and a PING has eight octets.
@@ -106,9 +105,7 @@ first_by false step code fit = fit
 step_fit : (view : View) (frame : Frame) → IsFit frame → IsFitBegun view.begun
     → IsFitStep (frame_step view frame)
 unfolding frame_step
-step_fit view frame fit before =
-    first_by (not view.started && not (may_be_first frame)) _ codes.ProtocolError
-    (step_by view.begun frame (next_fault view.begun frame) fit before)
+step_fit view frame fit before = search (rules, first_by, step_by)
 
 -- The block that has begun at a log is fit.
 begun_kept : (role : Role) (values : Values)
@@ -146,10 +143,8 @@ pub completed_fit : (role : Role) (values : Values) (log : Log) (octets : List �
     → frame_step (log_view (used log octets [])) frame ≡ completes item → IsFitItem item
 unfolding used
 completed_fit role values log octets frame item is framed step =
-    subst IsFitStep step (step_fit (log_view (used log octets [])) frame
-    (taken_fit _ _ _ log.frames frame [] framed)
-    (pending_by_logs role values (λ events log. IsFitBegun log.begun) (begun_kept role values)
-    log is))
+    subst IsFitStep step (step_fit _ _ (taken_fit _ _ _ _ _ [] framed)
+    (pending_by_logs _ _ (λ events log. IsFitBegun log.begun) (begun_kept _ _) _ is))
 
 -- An item that comes is fit.
 pub comes_fit : (role : Role) (values : Values) (log : Log) (decoded : Option Decoded) (item : Item)

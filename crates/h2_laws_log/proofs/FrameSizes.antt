@@ -7,7 +7,7 @@ use Names.{Values, value_fault, value_after, value_read, Log, max_payload_sent, 
 use Names.{log_view, Verdict, ConnectionFault, Decoded, settings_fault, verdict_by_rules}
 use Names.{verdict_of, verdict_of_fault, read, with_sent, opened, called, IsLog, answer_of, ◌≡◌, ℕ}
 use Names.{◌≤◌, ◌==◌, nat_lt, ◌&&◌, ◌||◌, Bool, true, false, if◌then◌else◌, List, [], ◌∷◌, Option}
-use Names.{Some, None, refl, sym, arith, ProtocolError, FlowControlError, over_limits}
+use Names.{Some, None, refl, sym, arith, ProtocolError, FlowControlError, over_limits, rules}
 use Rattle.h2_laws_log.proofs.LogInduction.{IsLogInvariant, kept_by_logs}
 use Rattle.h2_laws_log.proofs.LogGrowth.{Grows, grows_wrote}
 

@@ -1,17 +1,16 @@
 -- The invariant of a log holds after a call, other than those that send fields and bodies.
-use Rattle.h2_spec_log.specs.Log.{newest_ping, ping_waits}
 use Rattle.h2_spec_log.specs.CallRules.{may_fail_for_memory}
 use Rattle.h2_laws_log.proofs.Names
 use Names.{is_some, both_ways, and_parts, ltb-true, ltb-false, not-true, Code, InternalError}
 use Names.{EnhanceYourCalm, Reset, Settings, Ping, GoAway, Item, alone, Role, Refusal, total}
-use Names.{increment_on, one_ping, one_answer, value_read, settings_count, one_ack, reported_total}
-use Names.{one_pong, Values, AreInRange, Act, Answer, Release, ResetStream, Refuse, SendPing}
-use Names.{SendGoAway, PutOut, ChangeSettings, Count, Done, OutOfMemory, Refused, Log, active}
-use Names.{released, acked, last_processed, log_view, conditions, refusal_of, items_of}
-use Names.{stream_of_act, changed_pairs, with_sent, with_reported, owed_at_close, called}
-use Names.{with_items, refused_with, with_call, AllowedHistory, writes, active_by_items, none_since}
-use Names.{◌≡◌, ◌≢◌, ℕ, zero, suc, zero-add, ◌==◌, ◌%◌, nat_lt, Bool, true, false, if◌then◌else◌}
-use Names.{List, [], ◌∷◌, ◌++◌, Option, None, Some, refl, sym, ◌∙◌, arith, refuse_fault}
+use Names.{increment_on, one_answer, value_read, settings_count, one_ack, reported_total, Values}
+use Names.{AreInRange, Act, Answer, Release, ResetStream, Refuse, SendPing, SendGoAway, PutOut}
+use Names.{ChangeSettings, Count, Done, OutOfMemory, Refused, Log, active, released, acked}
+use Names.{last_processed, log_view, conditions, refusal_of, items_of, stream_of_act, changed_pairs}
+use Names.{with_sent, with_reported, called, with_items, refused_with, with_call, AllowedHistory}
+use Names.{writes, active_by_items, none_since, ◌≡◌, ◌≢◌, ℕ, zero, suc, zero-add, ◌==◌, ◌%◌, nat_lt}
+use Names.{Bool, true, false, if◌then◌else◌, List, [], ◌∷◌, ◌++◌, Option, None, Some, refl, sym}
+use Names.{◌∙◌, arith, refuse_fault, rules}
 use Rattle.h2_laws_log.proofs.CallConditions.{first_none, none_holds, and_other}
 use Rattle.h2_laws_log.proofs.CreditCases.{put_out_cases}
 use Rattle.h2_laws_log.proofs.InvariantSteps.{give_represents, fails_represents, last_low}
@@ -45,22 +44,7 @@ pub writes_only : (v : History) (i : ℕ) (items : List Item) (calls : List (Act
     → released j calls ≡ released j v.calls)
     → Moves v i [] items [] calls 0
 unfolding total settings_count reported_total
-writes_only v i items calls with_sent acks answers gives same = record {
-  with_sent = with_sent;
-  returned = omega (arith, acks);
-  answered = omega (arith, answers);
-  acked = omega arith;
-  ponged = omega arith;
-  named = λ j some. absurd (both_ways false refl some);
-  gave = λ j some. omega (arith, gives j, same j);
-  reported_read = λ j. omega arith;
-  reported_open = λ j some. absurd (some refl);
-  elsewhere = λ j other. refl;
-  kept = λ j. omega (arith, same j);
-  out = omega (arith, same i, gives 0);
-  out_active = λ some. absurd (some (gives 0));
-  fits = omega arith;
-}
+writes_only v i items calls with_sent acks answers gives same = search rules
 
 -- The same of one item.
 pub writes_one : (v : History) (i : ℕ) (item : Item) (calls : List (Act × Answer))
@@ -81,9 +65,7 @@ pub items_represent : (role : Role) (log : Log) (act : Act) (answer : Answer) (i
     → Represents role (history_of (with_items log act answer))
 unfolding with_items with_reported
 items_represent role log act answer items represents up is moves =
-    rw is (step_log role log (called log act answer) (stream_of_act act) [] items []
-    ((act, answer) ∷ log.calls) 0 (owed_at_close log (with_sent (called log act answer) items)
-    (stream_of_act act)) represents up refl moves (sym (zero-add _)))
+    rw is (step_log _ _ _ _ [] _ [] _ 0 _ represents up refl moves (sym (zero-add _)))
 
 -- the calls of acts that release nothing
 pub released_refused : (j : ℕ) (act : Act) (refusal : Refusal) (calls : List (Act × Answer))
@@ -109,8 +91,7 @@ reset_moves : (v : History) (i id code : ℕ) (calls : List (Act × Answer)) →
 unfolding one_ack one_answer increment_on
 reset_moves v i id code calls good with_sent active same =
     writes_one v i (alone (Reset id code)) calls (writes (alone (Reset id code)) with_sent
-    (good.returned, active_resets v.role id v.received v.sent v.reported active)) refl refl
-    (λ j. refl) same
+    (good.returned, active_resets _ _ _ _ v.reported active)) refl refl (λ j. refl) same
 
 -- The invariant holds after resetting a stream.
 pub reset_represents : (role : Role) (log : Log) (id code : ℕ) → Represents role (history_of log)
@@ -141,8 +122,7 @@ unfolding conditions refused_with items_of stream_of_act released refuse_fault
 refuse_by role log id code (Some fault) represents fit none is =
     let up = none_since log.failed (first_none _ _ _ none).0 in
     fails_represents role fault (last_processed log) (called log (Refuse id code) Done)
-    (recalled_represents role (history_of log) ((Refuse id code, Done) ∷ log.calls)
-    (λ j. refl) represents) up (last_low log (fit up))
+    (recalled_represents _ (history_of log) _ (λ j. refl) represents) up (last_low log (fit up))
 refuse_by role log id code None represents fit none is =
     let holds = none_holds _ none in
     let up = none_since log.failed holds.0 in
@@ -184,12 +164,9 @@ ping_represents role log octets represents none =
     let holds = none_holds _ none in
     let up = none_since log.failed holds.0 in
     let good = represents.good up in
-    let answered = ltb-false (reported_total one_pong log.reported) (total one_ping log.sent)
-    (sym (when_some (ping_waits log) (newest_ping log.sent)) ∙ holds.1.1.0) in
+    let answered = ltb-false _ _ (sym (when_some _ _) ∙ holds.1.1.0) in
     let ponged = good.ponged in
-    items_represent role log (SendPing octets) Done (alone
-    (Ping false octets) ∷ []) represents up refl
-    (writes_one (history_of log) _ (alone (Ping false octets)) _
+    items_represent _ _ _ Done _ represents up refl (writes_one (history_of log) _ _ _
     (writes (alone (Ping false octets)) represents.with_sent (
       good.returned,
       omega (arith, answered, ponged),
@@ -205,9 +182,7 @@ leave_represents role log represents fit none =
     let holds = none_holds _ none in
     let up = none_since log.failed holds.0 in
     let good = represents.good up in
-    items_represent role log SendGoAway Done (alone (GoAway
-    (last_processed log) 0 []) ∷ []) represents up refl
-    (writes_one (history_of log) _ (alone (GoAway (last_processed log) 0 [])) _
+    items_represent _ _ SendGoAway Done _ represents up refl (writes_one (history_of log) _ _ _
     (writes (alone (GoAway (last_processed log) 0 [])) represents.with_sent (
       good.returned,
       record { no_greater = last_low log (fit up) },
@@ -249,8 +224,7 @@ pub put_out_represents : (role : Role) (log : Log) (count given : ℕ)
 unfolding with_call with_sent released
 put_out_represents role log count given represents =
     let next = called log (PutOut count) (Count given) in
-    let same = recalled_represents role (history_of log) ((PutOut count, Count given) ∷ log.calls)
-    (λ j. refl) represents in
+    let same = recalled_represents _ (history_of log) _ (λ j. refl) represents in
     put_out_cases (λ ready. Represents role (history_of ready)) next
     (λ is. give_represents role (history_of next) same
     (none_since log.failed (not-true (is_some log.failed) (and_parts _ _ is).0))

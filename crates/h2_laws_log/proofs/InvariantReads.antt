@@ -6,14 +6,14 @@ use Names.{both_ways, and_parts, not-true, Code, EnhanceYourCalm, Frame, Data, R
 use Names.{Ping, GoAway, WindowUpdate, stream_of, Item, alone, block, Role, stream_of_item, data_of}
 use Names.{one_ping, one_answer, one_settings, one_ack, ResetEvent, flow_on, one_acked, one_pong}
 use Names.{reports_unprocessed, State, Idle, Active, ClosedByUs, greatest_number, Log, active}
-use Names.{state, settings_wait, goaway_written, last_processed, least_goaway, code_number, Verdict}
+use Names.{state, settings_wait, goaway_written, last_processed, least_goaway, Verdict}
 use Names.{ConnectionFault, StreamFault, NoEvent, Reported, data_verdict, reset_verdict}
 use Names.{connection_update_verdict, update_verdict, block_verdict, opening_verdict, Decoded}
 use Names.{replies_to, opened_by, settings_fault, verdict_of_fault, verdict_by_rules, verdict_of}
-use Names.{FrameStep, fails_with, begins_block, completes, frame_step, events_of, log_view, read}
+use Names.{FrameStep, fails_with, begins_block, completes, frame_step, events_of, log_view}
 use Names.{with_verdict, with_step, with_frame, AllowedHistory, MayReset, ◌≡◌, ◌⊎◌, ℕ, ◌≤◌, ◌==◌}
 use Names.{Bool, true, false, if◌then◌else◌, List, [], ◌∷◌, ◌++◌, Option, None, Some, refl, inl}
-use Names.{inr, arith, ProtocolError, FlowControlError, peer_opens, over_limits}
+use Names.{inr, arith, ProtocolError, FlowControlError, peer_opens, over_limits, rules}
 use Rattle.h2_laws_log.proofs.ReaderStates.{state_is_active}
 use Rattle.h2_laws_log.proofs.LogHistory.{history_of}
 use Rattle.h2_laws_log.proofs.LogInvariant.{Good, Represents, NumbersFit, Moves}
@@ -169,9 +169,7 @@ rules_fit log decoded (alone (Settings true pairs)) = reported_fits (Resets log 
 rules_fit log decoded (alone (Ping true octets)) = reported_fits (Resets log (alone
     (Ping true octets))) (true ≡ true) _ refl
 rules_fit log decoded (alone (WindowUpdate stream increment)) =
-    updates_fit (Resets log (alone (WindowUpdate stream increment))) (Unit {0}) (stream == 0)
-    (state log stream) increment _ _
-    (active_faults log (alone (WindowUpdate stream increment)) refl refl)
+    search (rules, updates_fit, active_faults)
 rules_fit log decoded (alone frame) = tt
 
 -- Each item is checked so.
@@ -221,8 +219,7 @@ reported_moves log decoded (alone (Ping true octets)) with_sent with_reported =
 reported_moves log decoded (alone (Ping false octets)) with_sent with_reported = absurd
     (both_ways false refl with_reported)
 reported_moves log decoded (alone (GoAway last code debug)) with_sent with_reported =
-    one_reported (history_of log) _ (alone (GoAway last code debug)) _ with_sent refl refl
-    (omega arith) (omega arith) (λ j. refl) (λ j. refl)
+    search (rules, one_reported, history_of)
 reported_moves log decoded (alone frame) with_sent with_reported =
     none_reported (history_of log) _ _ 0 with_sent refl refl (omega arith)
 
@@ -245,9 +242,7 @@ fault_moves : (log : Log) (decoded : Option Decoded) (item : Item) (code : Code)
     (discarded_flow (StreamFault code) item)
 unfolding replies_to events_of discarded_flow
 fault_moves log decoded item code good with_sent fit resets =
-    reset_reported (history_of log) (stream_of_item item) item (code_number code)
-    (data_of item) good with_sent resets.acks resets.answers
-    (may_reset log item with_sent fit resets.alive) (omega arith)
+    search (rules, reset_reported, history_of, may_reset)
 
 -- What is replied to an item of which nothing is reported is sound.
 ignored_moves : (log : Log) (decoded : Option Decoded) (item : Item) → Good (history_of log)
@@ -292,20 +287,13 @@ verdict_represents role log decoded item (ConnectionFault code) represents up fi
     fails_represents role code _ log represents up
     (omega (arith, last_low log fit, opened_low log decoded item small))
 verdict_represents role log decoded item (StreamFault code) represents up fit small says =
-    step_log role log (read log decoded item) (stream_of_item item) (item ∷ []) (replies_to
-    (StreamFault code) item)
-    (events_of (log_view log) decoded (StreamFault code) item) log.calls (discarded_flow
-    (StreamFault code) item) _ represents up refl
+    step_log _ _ _ _ _ _ _ _ (discarded_flow (StreamFault code) item) _ represents up refl
     (fault_moves log decoded item code (represents.good up) represents.with_sent fit says) refl
 verdict_represents role log decoded item NoEvent represents up fit small says =
-    step_log role log (read log decoded item) (stream_of_item item) (item ∷ [])
-    (replies_to NoEvent item) (events_of (log_view log) decoded NoEvent item)
-    log.calls (discarded_flow NoEvent item) _ represents up refl (ignored_moves log decoded item
+    step_log _ _ _ _ _ _ _ _ _ _ represents up refl (ignored_moves log decoded item
     (represents.good up) represents.with_sent) refl
 verdict_represents role log decoded item Reported represents up fit small says =
-    step_log role log (read log decoded item) (stream_of_item item) (item ∷ [])
-    (replies_to Reported item) (events_of (log_view log) decoded Reported item)
-    log.calls (discarded_flow Reported item) _ represents up refl
+    step_log _ _ _ _ _ _ _ _ (discarded_flow Reported item) _ represents up refl
     (reported_moves log decoded item represents.with_sent says) refl
 
 -- What is represented is so after what a frame makes of a block that has begun.

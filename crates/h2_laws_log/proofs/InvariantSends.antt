@@ -1,15 +1,14 @@
 -- The invariant of a log holds after a call that sends fields or a body.
 use Rattle.h2_laws_log.proofs.Names
-use Names.{list_any, is_some, both_ways, or_parts, ltb-false, leb-false, false_from_ne_true}
-use Names.{list_size, block_of, Data, Item, alone, block, Role, Client, Server, increment_on}
-use Names.{one_answer, ends, is_goaway, greatest_block, one_ack, is_server, Act, Answer, Open}
-use Names.{SendFields, SendData, Number, Count, Done, openings, count_below, greatest_number, Log}
-use Names.{active, active_count, released, next_number, allowed_by, streams_allowed, goaway_written}
-use Names.{goaway_read, least_goaway, max_payload_sent, log_view, conditions, refusal_of, items_of}
-use Names.{stream_of_act, data_items, with_sent, max_list, with_call, AllowedHistory, writes}
-use Names.{MayContinue, active_by_items, none_since, ◌≡◌, ℕ, ◌+◌, ◌≤◌, ◌<◌, nat_lt, Bool, true}
-use Names.{false, if◌then◌else◌, List, [], ◌∷◌, length, None, refl, sym, ◌∙◌, inl, inr, arith}
-use Names.{Field}
+use Names.{list_any, both_ways, or_parts, ltb-false, leb-false, false_from_ne_true, list_size}
+use Names.{block_of, Data, Item, alone, block, Role, Client, Server, increment_on, one_answer, ends}
+use Names.{is_goaway, greatest_block, one_ack, is_server, Act, Answer, Open, SendFields, SendData}
+use Names.{Number, Count, Done, openings, count_below, greatest_number, Log, active, active_count}
+use Names.{released, next_number, allowed_by, streams_allowed, goaway_written, goaway_read}
+use Names.{max_payload_sent, log_view, conditions, refusal_of, items_of, stream_of_act, data_items}
+use Names.{with_sent, max_list, with_call, AllowedHistory, writes, MayContinue, active_by_items}
+use Names.{none_since, ◌≡◌, ℕ, ◌+◌, ◌≤◌, ◌<◌, nat_lt, Bool, true, false, if◌then◌else◌, List, []}
+use Names.{◌∷◌, length, None, refl, sym, ◌∙◌, inl, inr, arith, Field, rules}
 use Rattle.h2_laws_log.proofs.BlockSizes.{block_is_gathered}
 use Rattle.h2_laws_log.proofs.CallConditions.{none_holds, and_other}
 use Rattle.h2_laws_log.proofs.DataOfCalls.{count_of, data_ack, none_of_items, data_items_written}
@@ -36,15 +35,7 @@ client_since Server is = absurd (both_ways true is refl)
 is_active_active : (log : Log) → Good (history_of log) → list_any is_goaway log.received ≡ false
     → (j : ℕ) → active_by_items log.role j log.received log.sent ≡ true → active log j ≡ true
 is_active_active log good stays j active =
-    let parts = active_parts log.role j log.received log.sent [] active in
-    active_from log.role j log.received log.sent log.reported (record {
-      odd = parts.odd;
-      opened = parts.opened;
-      below = parts.below;
-      lasts = parts.lasts;
-      unnamed = false_from_ne_true _ (λ with_reported. both_ways _ stays
-          (good.named j with_reported));
-    })
+    search (rules, active_parts, active_from, false_from_ne_true, both_ways)
 
 -- what a client counts
 count_of_client : (role : Role) (received sent : List Item) (n : ℕ) (test : ℕ → Bool)
@@ -74,8 +65,7 @@ block_writes : (v : History) (i id : ℕ) (end : Bool) (octets : List ℕ) (call
     → ((j : ℕ) → released j calls ≡ released j v.calls)
     → Moves v i [] (block id end octets ∷ []) [] calls 0
 unfolding one_ack one_answer increment_on
-block_writes v i id end octets calls with_sent same = writes_one v i
-    (block id end octets) calls with_sent refl refl (λ j. refl) same
+block_writes v i id end octets calls with_sent same = search (rules, writes_one)
 
 -- The invariant holds after opening a stream with a number that is the next one.
 open_with : (role : Role) (log : Log) (fields : List Field) (end : Bool) (number : ℕ)
@@ -90,8 +80,7 @@ open_with role log fields end number represents up server low went few small is 
     let good = represents.good up in
     let next = next_odd log represents.with_sent in
     items_represent role log (Open fields end) (Number number) (block number end
-    (block_of log.encoder fields) ∷ []) represents up refl
-    (block_writes (history_of log) _ number end (block_of log.encoder fields) _
+    (block_of log.encoder fields) ∷ []) represents up refl (block_writes (history_of log) _ _ _ _ _
     (writes (block number end (block_of log.encoder fields)) represents.with_sent (
       good.returned,
       inl (record {
@@ -126,15 +115,11 @@ unfolding conditions
 open_represents role log fields end represents none =
     let view = log_view log in
     let holds = none_holds _ none in
-    let server = or_parts (is_server log.role) (nat_lt greatest_number view.next_number)
-    holds.1.1.0 in
-    let went = or_parts view.goaway_sent (is_some view.goaway_received) holds.1.1.1.0 in
-    let read : goaway_read log ≡ false = sym (when_some (goaway_read log)
-    (least_goaway log.received)) ∙ went.1 in
-    open_with role log fields end view.next_number represents
-    (none_since log.failed holds.0) server.0 server.1 (went.0, read)
-    (leb-false (streams_allowed log) (active_count log) (and_other
-    (is_server log.role) _ holds.1.0 server.0))
+    let server = or_parts _ _ holds.1.1.0 in
+    let went = or_parts _ _ holds.1.1.1.0 in
+    let read : goaway_read log ≡ false = sym (when_some _ _) ∙ went.1 in
+    open_with _ _ _ _ _ represents (none_since log.failed holds.0) server.0 server.1 (went.0, read)
+    (leb-false _ _ (and_other _ _ holds.1.0 server.0))
     (ltb-false max_list (list_size fields) holds.1.1.1.1.1.0) (number_of_client log server.0)
 
 -- The invariant holds after writing further fields.
@@ -147,8 +132,7 @@ fields_represent role log id fields end represents none =
     let holds = none_holds _ none in
     let up = none_since log.failed holds.0 in
     let good = represents.good up in
-    items_represent role log (SendFields id fields end) Done (block id end
-    (block_of log.encoder fields) ∷ []) represents up refl
+    items_represent _ _ _ Done (block id end (block_of log.encoder fields) ∷ []) represents up refl
     (block_writes (history_of log) _ id end (block_of log.encoder fields) _ (writes (block id end
     (block_of log.encoder fields)) represents.with_sent (
       good.returned,

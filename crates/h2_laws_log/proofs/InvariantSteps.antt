@@ -5,7 +5,7 @@ use Names.{Client, Server, total, increment_on, one_answer, is_block_on, one_ack
 use Names.{reported_total, Act, Answer, openings, Log, last_processed, least_goaway, released}
 use Names.{waiting, code_number, with_sent, with_reported, with_unreturned, with_failure}
 use Names.{owed_at_close, full_output, writes, sum_below, ◌≡◌, ◌≢◌, ℕ, ◌+◌, ◌-◌, ◌≤◌, ◌&&◌, nat_lt}
-use Names.{Bool, true, false, List, [], ◌∷◌, None, refl, sym, ◌∙◌, inl, arith}
+use Names.{Bool, true, false, List, [], ◌∷◌, None, refl, sym, ◌∙◌, inl, arith, rules}
 use Rattle.h2_laws_log.proofs.ReaderStates.{active_parts}
 use Rattle.h2_laws_log.proofs.LogHistory.{History, history_of, left, active_in_view, owes, owing}
 use Rattle.h2_laws_log.proofs.LogHistory.{moved, give, given_by, wrote_view, reports_view}
@@ -118,21 +118,7 @@ owes_recalled v calls j same = rw same (omega arith)
 recalled_good : (v : History) (calls : List (Act × Answer)) → ((j : ℕ) → released j calls
     ≡ released j v.calls) → Good v
     → Good (record v { calls = calls })
-recalled_good v calls same good = record {
-  returned = good.returned;
-  answered = good.answered;
-  acked = good.acked;
-  ponged = good.ponged;
-  named = good.named;
-  gave = λ i some. rw (same i) (good.gave i some);
-  reported_read = good.reported_read;
-  opened = good.opened;
-  whole = λ n.
-      let less : sum_below n (owes (record v { calls = calls })) ≤ sum_below n
-      (owes v) = sum_less n (owes v) (owes (record v { calls = calls }))
-      (λ j below. owes_recalled v calls j (same j)) in
-      omega (arith, less, good.whole n);
-}
+recalled_good v calls same good = search (rules, owes, sum_less, owes_recalled)
 
 -- A call that releases nothing changes nothing.
 pub recalled_represents : (role : Role) (v : History) (calls : List (Act × Answer)) → ((j : ℕ)
@@ -181,28 +167,25 @@ pub step_log : (role : Role) (log base : Log) (i : ℕ) (reads items : List Item
     (with_sent base items)) events))
 step_log role log base i reads items events calls discarded more represents up is moves counts =
     let b = nat_lt 0 more && nat_lt (waiting (with_sent base items)) full_output in
-    let written : history_of (with_sent base items)
-    ≡ moved (history_of log) reads items [] calls log.unreturned =
+    let written : history_of (with_sent base items) ≡ moved (history_of log) reads items [] calls
+    log.unreturned =
     wrote_view base items ∙ ap (λ (v : History). moved v [] items [] v.calls v.unreturned) is in
-    let reported : history_of (with_reported (with_sent base items) events)
-    ≡ moved (history_of log) reads items events calls log.unreturned =
-    reports_view (with_sent base items) events
-    ∙ ap (λ (v : History). moved v [] [] events v.calls v.unreturned) written in
+    let reported : history_of (with_reported (with_sent base items) events) ≡ moved (history_of log)
+    reads items events calls log.unreturned = reports_view (with_sent base items) events ∙ ap
+    (λ (v : History). moved v [] [] events v.calls v.unreturned) written in
     let owed : owed_at_close log (with_reported (with_sent base items) events) i
     ≡ owing (history_of log) (moved (history_of log) reads items events calls
     (log.unreturned + more)) i = owing_view log (with_reported (with_sent base items) events) i
-    ∙ ap (λ (v : History). owing (history_of log) v i) reported
-    ∙ owing_unreturned (history_of log) reads items events calls log.unreturned
-    (log.unreturned + more) i in
-    let returned : history_of (with_unreturned more (with_sent base items))
-    ≡ given_by b (moved (history_of log) reads items [] calls (log.unreturned + more)) =
-    with_unreturned_view more (with_sent base items)
+    ∙ ap (λ (v : History). owing (history_of log) v i) reported ∙ owing_unreturned (history_of log)
+    reads items events calls log.unreturned (log.unreturned + more) i in
+    let returned : history_of (with_unreturned more (with_sent base items)) ≡ given_by b
+    (moved (history_of log) reads items [] calls (log.unreturned + more)) = with_unreturned_view _ _
     ∙ ap (λ (v : History). given_by b (moved v [] [] [] v.calls (v.unreturned + more))) written in
     let all : history_of (with_reported (with_unreturned more (with_sent base items)) events)
     ≡ (λ (v : History). moved v [] [] events v.calls v.unreturned) (given_by b (moved
     (history_of log) reads items [] calls (log.unreturned + more))) =
-    reports_view (with_unreturned more (with_sent base items)) events
-    ∙ ap (λ (v : History). moved v [] [] events v.calls v.unreturned) returned in
+    reports_view (with_unreturned more (with_sent base items)) events ∙ ap
+    (λ (v : History). moved v [] [] events v.calls v.unreturned) returned in
     rw all (reported_given role (history_of log) reads items events calls
     (log.unreturned + more) b up
     (more_unreturned log.unreturned more (nat_lt (waiting (with_sent base items)) full_output))

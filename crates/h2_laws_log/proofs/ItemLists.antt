@@ -54,8 +54,7 @@ pub count_below_more : (n : ℕ) (one other : ℕ → Bool) → ((j : ℕ) → o
 unfolding count_below
 count_below_more zero one other goes = omega arith
 count_below_more (suc n) one other goes =
-    count_step (one n) (other n) (count_below n one) (count_below n other) (goes n)
-    (count_below_more n one other goes)
+    count_step _ _ _ _ (goes n) (count_below_more n one other goes)
 
 -- An item that is no GOAWAY is none below a number.
 pub below_quiet : (i : ℕ) (item : Item) → is_goaway item ≡ false → is_goaway_below i item ≡ false

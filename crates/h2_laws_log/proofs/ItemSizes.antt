@@ -166,31 +166,27 @@ continuations_size most (suc count) stream octets big =
     continuations_size_by most count stream octets (nat_le (length octets) most) big refl
     (continuations_size most count stream (drop most octets) big)
 
--- A block takes no more than nine octets and twice its octets, by the test whether one frame is
--- enough.
-spread_size_by : (most stream : ℕ) (end : Bool) (octets : List ℕ) (b : Bool) → 9 ≤ most
-    → nat_le (length octets) most ≡ b
-    → length (encoding_of_frames (if b then Headers stream end true octets None None ∷ []
-    else Headers stream end false (take most octets) None None ∷ continuations most
-    (length octets) stream (drop most octets)))
-    ≤ 9 + 2 * length octets
-unfolding payload_of
-spread_size_by most stream end octets true big fits = omega (arith, frames_size)
-spread_size_by most stream end octets false big fits =
-    omega (
-      arith,
-      big,
-      leb-false (length octets) most fits,
-      length-drop most octets,
-      length-take most octets,
-      continuations_size most (length octets) stream (drop most octets) big,
-      frames_size (Headers stream end false (take most octets) None None) (continuations most
-          (length octets) stream (drop most octets)),
-    )
+module _ (most stream : ℕ) (end : Bool) (octets : List ℕ) where
+  -- A block takes no more than nine octets and twice its octets, by the test whether one frame is
+  -- enough.
+  spread_size_by : (b : Bool) → 9 ≤ most → nat_le (length octets) most ≡ b
+      → length (encoding_of_frames (if b then Headers stream end true octets None None ∷ [] else
+      Headers stream end false (take most octets) None None ∷ continuations most (length octets)
+      stream (drop most octets))) ≤ 9 + 2 * length octets
+  unfolding payload_of
+  spread_size_by true big fits = omega (arith, frames_size)
+  spread_size_by false big fits = omega (
+    arith,
+    big,
+    leb-false (length octets) most fits,
+    length-drop most octets,
+    length-take most octets,
+    continuations_size most (length octets) stream (drop most octets) big,
+    frames_size (Headers stream end false (take most octets) None None) (continuations most
+        (length octets) stream (drop most octets)),
+  )
 
--- A block takes no more than nine octets and twice its octets.
-pub size-block : (most stream : ℕ) (end : Bool) (octets : List ℕ) → 9 ≤ most
-    → size_of most (block stream end octets ∷ []) ≤ 9 + 2 * length octets
-unfolding encoding_of_items encoding_of_item spread_frames
-size-block most stream end octets big =
-    spread_size_by most stream end octets (nat_le (length octets) most) big refl
+  -- A block takes no more than nine octets and twice its octets.
+  pub size-block : 9 ≤ most → size_of most (block stream end octets ∷ []) ≤ 9 + 2 * length octets
+  unfolding encoding_of_items encoding_of_item spread_frames
+  size-block big = spread_size_by (nat_le (length octets) most) big refl

@@ -2,7 +2,7 @@
 -- what was written, and nothing else.
 use Rattle.std.proofs.Common.{◌≡◌, ℕ, List, [], ◌∷◌, ◌++◌, Some, None, refl, sym, ◌∙◌, append_assoc}
 use Rattle.h2_laws_log.proofs.Names.{ap, Code, Item, Act, Answer, Log, with_sent, with_unreturned}
-use Rattle.h2_laws_log.proofs.Names.{with_failure, called, with_call}
+use Rattle.h2_laws_log.proofs.Names.{with_failure, called, with_call, rules}
 use Rattle.h2_laws_log.proofs.GrowthBySteps.{HoldsOfCalls, holds_unreturned, holds_call}
 
 -- The second log has more in front of what was written, and is up only where the first is.
@@ -17,14 +17,7 @@ pub record Grows (old new : Log) : Type 0 where
 -- A log that changes none of these grows by nothing.
 grows_none : (old new : Log) → new.role ≡ old.role → new.received ≡ old.received
     → new.reported ≡ old.reported → new.sent ≡ old.sent → new.failed ≡ old.failed → Grows old new
-grows_none old new role received reported sent failed = record {
-  role = role;
-  received = received;
-  reported = reported;
-  items = [];
-  sent = sent;
-  up = λ up. sym failed ∙ up;
-}
+grows_none old new role received reported sent failed = search rules
 
 -- one step after another
 pub grows_twice : (one two three : Log) → Grows one two → Grows two three → Grows one three

@@ -3,23 +3,23 @@
 -- its record says where what is read, sent and reported comes from.
 use Rattle.std.proofs.Common.{map as each, is_some}
 use Rattle.h2_spec_log.specs.Histories.{TakesOctets, IsDecodedFor}
-use Rattle.h2_laws_log.proofs.Names.{and_parts, ltb-true, Code, InternalError, Frame, Item, Begun}
-use Rattle.h2_laws_log.proofs.Names.{Role, Refusal, Event, UnprocessedEvent, Values, AreInRange}
-use Rattle.h2_laws_log.proofs.Names.{Act, Answer, IsTypedAct, Refuse, PutOut, Count, Done}
-use Rattle.h2_laws_log.proofs.Names.{OutOfMemory, Refused, In, Happened, Log, last_processed}
-use Rattle.h2_laws_log.proofs.Names.{output, waiting, next_unprocessed, log_view, full_output}
-use Rattle.h2_laws_log.proofs.Names.{Verdict, ConnectionFault, StreamFault, NoEvent, Reported}
-use Rattle.h2_laws_log.proofs.Names.{Decoded, FrameStep, fails_with, begins_block, completes}
-use Rattle.h2_laws_log.proofs.Names.{frame_step, replies_to, verdict_of, opened_by, events_of}
-use Rattle.h2_laws_log.proofs.Names.{refusal_of, answer_of, items_of, returns_credit, read, used}
-use Rattle.h2_laws_log.proofs.Names.{limits_from, with_sent, with_reported, with_unreturned}
+use Rattle.h2_laws_log.proofs.Names.{and_parts, Code, InternalError, Frame, Item, Begun, Role}
+use Rattle.h2_laws_log.proofs.Names.{Refusal, Event, UnprocessedEvent, Values, AreInRange, Act}
+use Rattle.h2_laws_log.proofs.Names.{Answer, IsTypedAct, Refuse, PutOut, Count, Done, OutOfMemory}
+use Rattle.h2_laws_log.proofs.Names.{Refused, In, Happened, Log, last_processed, output, waiting}
+use Rattle.h2_laws_log.proofs.Names.{next_unprocessed, log_view, full_output, Verdict}
+use Rattle.h2_laws_log.proofs.Names.{ConnectionFault, StreamFault, NoEvent, Reported, Decoded}
+use Rattle.h2_laws_log.proofs.Names.{FrameStep, fails_with, begins_block, completes, frame_step}
+use Rattle.h2_laws_log.proofs.Names.{replies_to, verdict_of, opened_by, events_of, refusal_of}
+use Rattle.h2_laws_log.proofs.Names.{answer_of, items_of, returns_credit, read, used, limits_from}
+use Rattle.h2_laws_log.proofs.Names.{with_sent, with_reported, with_unreturned}
 use Rattle.h2_laws_log.proofs.Names.{with_credit_returned, with_failure, with_verdict, with_step}
 use Rattle.h2_laws_log.proofs.Names.{with_frame, opened, called, with_items, refused_with}
 use Rattle.h2_laws_log.proofs.Names.{with_call, MayAnswer, accepts, refuses, lacks, fails, IsLog}
-use Rattle.h2_laws_log.proofs.Names.{◌≡◌, ◌≢◌, ◌<◌, ◌≤◌, ℕ, ◌+◌, nat_lt, not, max, true, List, []}
-use Rattle.h2_laws_log.proofs.Names.{◌∷◌, ◌++◌, Option, Some, None, refl, arith, wire_fault_code}
+use Rattle.h2_laws_log.proofs.Names.{◌≡◌, ◌≢◌, ◌<◌, ◌≤◌, ℕ, ◌+◌, not, max, true, List, [], ◌∷◌}
+use Rattle.h2_laws_log.proofs.Names.{◌++◌, Option, Some, None, refl, arith, wire_fault_code}
 use Rattle.h2_laws_log.proofs.Names.{refuse_fault, begins, took_some, took_one, met_fault}
-use Rattle.h2_laws_log.proofs.Names.{ran_out_of_memory, reported_one, called_one, TakesFrame}
+use Rattle.h2_laws_log.proofs.Names.{ran_out_of_memory, reported_one, called_one, TakesFrame, rules}
 use Rattle.h2_laws_log.proofs.CreditCases.{credit_cases, put_out_cases}
 use Rattle.h2_laws_log.proofs.LogGrowth.{Grows, grows_twice, grows_wrote, grows_with_unreturned}
 
@@ -245,12 +245,7 @@ pub record IsLogInvariant (role : Role) (values : Values) (P : Log → Type 0) :
 -- Credit is returned where more becomes due than none, and less than the full output waits.
 returning : (more : ℕ) (log : Log) → more ≤ log.unreturned
     → returns_credit more (waiting log) ≡ true → ReturnsCredit log
-returning more log least test =
-    let parts = and_parts (nat_lt 0 more) (nat_lt (waiting log) full_output) test in
-    record {
-      some = omega (arith, ltb-true 0 more parts.0, least);
-      space = ltb-true (waiting log) full_output parts.1;
-    }
+returning more log least test = search rules
 
 -- What is unreturned.
 pub kept_by_credit : (P : Log → Type 0) → IsKeptByCredit P → (more : ℕ) (log : Log) → P log

@@ -1,13 +1,13 @@
 -- The invariant of every log: what was written was allowed, and, as long as the connection hasn't
 -- failed, what keeps the next writing allowed.
 use Rattle.h2_laws_log.proofs.Names
-use Names.{list_any, both_ways, cases_eq, cases_Bool, Item, Role, Client, Server, total}
-use Names.{increment_on, data_on, data_of, one_ping, one_answer, is_goaway, is_block_on, ends}
-use Names.{resets, is_goaway_below, is_server, settings_count, one_ack, Event, flow_on}
-use Names.{reported_total, one_acked, one_pong, greatest_processed, reports_unprocessed, Act}
-use Names.{Answer, is_active, is_used, openings, is_above, least_goaway, released, HasAcknowledged}
-use Names.{AllowedHistory, sum_below, ◌≡◌, ◌⊎◌, ◌≢◌, ℕ, zero, suc, ◌+◌, ◌-◌, ◌≤◌, ◌&&◌, not, Bool}
-use Names.{true, false, if◌then◌else◌, List, ◌++◌, None, refl, inl, inr, arith}
+use Names.{list_any, both_ways, cases_Bool, Item, Role, Client, Server, total, increment_on}
+use Names.{data_on, data_of, one_ping, one_answer, is_goaway, is_block_on, resets, is_goaway_below}
+use Names.{is_server, settings_count, one_ack, Event, flow_on, reported_total, one_acked, one_pong}
+use Names.{greatest_processed, reports_unprocessed, Act, Answer, is_active, is_used, openings}
+use Names.{is_above, least_goaway, released, HasAcknowledged, AllowedHistory, sum_below, ◌≡◌, ◌⊎◌}
+use Names.{◌≢◌, ℕ, zero, suc, ◌+◌, ◌-◌, ◌≤◌, ◌&&◌, not, Bool, true, false, if◌then◌else◌, List}
+use Names.{◌++◌, None, refl, inl, inr, arith, rules}
 use Rattle.h2_laws_log.proofs.ItemLists.{none_after, any_after}
 use Rattle.h2_laws_log.proofs.WindowsOfTwoEnds.{total-append}
 use Rattle.h2_laws_log.proofs.ReaderStates.{active_parts, active_by_parts, lasts_parts}
@@ -99,17 +99,7 @@ pub active_before : (role : Role) (j : ℕ) (reads items received sent : List It
     → list_any (is_block_on j) (openings role received sent) ≡ true
     → is_active role j received sent reported ≡ true
 active_before role j reads items received sent events reported active open_before =
-    let parts = active_parts role j (reads ++ received) (items ++ sent) (events
-    ++ reported) active in
-    let lasts = lasts_parts j (reads ++ received) (items ++ sent) parts.lasts in
-    active_by_parts role j received sent reported parts.odd open_before
-    (above_before role j items sent parts.below)
-    (both_before (list_any (ends j) received) (list_any (ends j) sent)
-    (list_any (ends j) (reads ++ received)) (list_any (ends j) (items ++ sent))
-    (any_after (ends j) reads received) (any_after (ends j) items sent) lasts.ended)
-    (none_after (resets j) reads received lasts.unreset)
-    (none_after (resets j) items sent lasts.kept)
-    (none_after (reports_unprocessed j) events reported parts.unnamed)
+    search (rules, active_parts, lasts_parts, active_by_parts, above_before, both_before, any_after)
 
 -- what is owed and left owing, by whether the stream was active and is
 moves_by : (before after : Bool) (one other flow out : ℕ) → (after ≡ true → (before
@@ -123,10 +113,7 @@ moves_by false true one other flow out was active le = elim (was refl) [
   | inl wrong ↦ absurd (both_ways false refl wrong)
   | inr none ↦ omega arith
 ]
-moves_by false false one other flow out was active le = elim (cases_eq out 0) [
-  | inl none ↦ omega arith
-  | inr some ↦ absurd (both_ways false refl (active some))
-]
+moves_by false false one other flow out was active le = search rules
 
 -- what is owed elsewhere doesn't grow
 pub less_by : (before after : Bool) (one other : ℕ) → (after ≡ true → (before ≡ true) ⊎ (one
@@ -144,12 +131,8 @@ was_active : (v : History) (reads items : List Item) (events : List Event) (call
     × Answer)) (unreturned j : ℕ) → Good v
     → active_in_view (moved v reads items events calls unreturned) j ≡ true → (active_in_view v j
     ≡ true) ⊎ (reported_total (flow_on j) v.reported ≡ 0)
-was_active v reads items events calls unreturned j good active = elim (cases_Bool (list_any
-    (is_block_on j) (openings v.role v.received v.sent))) [
-      | inl here ↦ inl
-          (active_before v.role j reads items v.received v.sent events v.reported active here)
-      | inr none ↦ inr (good.opened j none)
-    ]
+was_active v reads items events calls unreturned j good active =
+    search (rules, cases_Bool, active_before)
 
 -- What was released leaves nothing of nothing.
 none_left : (a b : ℕ) → a ≡ 0 → a - b ≡ 0
@@ -189,10 +172,8 @@ owes_there : (v : History) (i : ℕ) (reads items : List Item) (events : List Ev
     → owes (moved v reads items events calls unreturned) j ≤ owes v j
 unfolding owes left
 owes_there v i reads items events calls discarded unreturned good moves j other =
-    less_by (active_in_view v j) (active_in_view (moved v reads items events calls unreturned) j)
-    (reported_total (flow_on j) v.reported - released j v.calls)
-    (reported_total (flow_on j) (events ++ v.reported) - released j calls)
-    (was_left v reads items events calls unreturned j good)
+    less_by (active_in_view v j) (active_in_view (moved v reads items events calls unreturned) j) _
+    _ (was_left v reads items events calls unreturned j good)
     (omega (arith, reported_append, moves.elsewhere j other, moves.kept j))
 
 -- Nothing is reported of a stream that wasn't opened.

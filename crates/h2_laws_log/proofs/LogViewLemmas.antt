@@ -3,20 +3,20 @@
 use Rattle.std.proofs.Common.{ℤ, negsuc, ap₂}
 use Rattle.std.specs.Prelude.{int_lt}
 use Rattle.h2_spec_log.specs.View.{ended_out}
-use Rattle.h2_spec_log.specs.ItemRules.{exceeds_stream, overflows_stream}
+use Rattle.h2_spec_log.specs.ItemRules.{exceeds_stream}
 use Rattle.h2_spec_log.specs.CallRules.{is_no_stream}
 use Rattle.h2_laws_log.proofs.Names
-use Names.{subst, ap, is_some, list_any, ints, both_ways, nat_tests, list_size, Data, WindowUpdate}
-use Names.{Reset, payload_of, alone, block, Item, data_on, data_of, ends, total, State, Idle}
-use Names.{Active, ClosedByUs, Closed, when, state_by, greatest_number, is_above, max_list}
-use Names.{max_data, StreamView, ended_in, owed_on, Log, acked, state, active, send_window}
-use Names.{unreleased, goaway_written, stream_of_log, log_view, data_verdict, update_verdict}
+use Names.{ap, is_some, list_any, ints, both_ways, nat_tests, list_size, Data, WindowUpdate, Reset}
+use Names.{payload_of, alone, block, Item, data_on, data_of, ends, total, State, Idle, Active}
+use Names.{ClosedByUs, Closed, when, state_by, greatest_number, is_above, max_list, max_data}
+use Names.{StreamView, ended_in, owed_on, Log, acked, state, active, send_window, unreleased}
+use Names.{goaway_written, stream_of_log, log_view, data_verdict, update_verdict}
 use Names.{connection_update_verdict, block_verdict, Verdict, Reported, Decoded, verdict_by_rules}
 use Names.{data_count, least_last, events_of, Role, Client, Server, is_server, reports_unprocessed}
 use Names.{◌≡◌, ℕ, ◌+◌, ◌-◌, min, not, Bool, true, false, if◌then◌else◌, ◌&&◌, ◌==◌, nat_lt, pos}
-use Names.{◌+ℤ◌, ◌-ℤ◌, List, Option, Some, length, refl, ◌∙◌, arith, ◌≤◌, greatest_window, given_on}
+use Names.{◌+ℤ◌, ◌-ℤ◌, List, Option, Some, length, refl, ◌∙◌, arith, ◌≤◌, given_on}
 use Names.{given_on_connection, granted_on, granted_on_connection, connection_send_window, passes}
-use Names.{is_above_greatest, peer_opens, is_at_capacity, at_least_none}
+use Names.{is_above_greatest, peer_opens, is_at_capacity, at_least_none, rules}
 use Rattle.h2_laws_log.proofs.ReaderStates.{state_is_active}
 
 -- Whether there is one is the test.
@@ -42,8 +42,7 @@ stream_is_active log i is = there_by (active log i) (stream_of_log log i) is
 -- Where this end hasn't ended the stream by the view, it hasn't by the log.
 pub open_out : (log : Log) (i : ℕ) → active log i ≡ true → ended_out ((log_view log).stream i)
     ≡ false → list_any (ends i) log.sent ≡ false
-open_out log i active is = subst (λ (stream : Option StreamView). ended_out stream
-    ≡ false) (stream_there log i active) is
+open_out log i active is = search rules
 
 -- What is owed on an active stream is what wasn't released.
 pub owed_there : (log : Log) (i : ℕ) → active log i ≡ true → owed_on ((log_view log).stream i)
@@ -117,14 +116,7 @@ pub update_by_sums : (log : Log) (decoded : Option Decoded) (i increment : ℕ)
     (given_on i log.received + increment) (total (data_on i) log.sent)))
 unfolding verdict_by_rules
 update_by_sums log decoded i increment =
-    let stream = update_same (state log i) increment _ _ (λ is.
-    ap (overflows_stream increment) (stream_there log i (state_is_active _ _ _ is))
-    ∙ int_above greatest_window (given_on i log.received) (total (data_on i) log.sent) increment) in
-    rw (
-      stream,
-      int_above greatest_window (given_on_connection log.received)
-          (total data_of log.sent) increment,
-    ) refl
+    search (rules, update_same, stream_there, state_is_active, int_above)
 
 -- The verdict on a block, by what was read.
 pub block_by_items : (log : Log) (decoded : Decoded) (i : ℕ) (end : Bool) (octets : List ℕ)

@@ -44,6 +44,7 @@ pub use Rattle.std.proofs.Common.{◌<◌, nat_lt, Bool, true, false, if◌then�
 pub use Rattle.std.proofs.Common.{length, Option, None, Some, refl, ◌∙◌, inl, inr, arith, ◌%◌, ◌==◌}
 pub use Rattle.std.proofs.Common.{◌&&◌, nat_le, max, ◌∷◌, sym, length-append, ◌||◌, not, ◌-◌, min}
 pub use Rattle.std.proofs.Common.{take, drop, ◌^◌, zero-add, ◌*◌, length-take, pos, ◌+ℤ◌, ◌-ℤ◌}
+pub use Rattle.std.proofs.Common.{rules}
 pub use Rattle.std.proofs.lemmas.Bool.{both_ways, and_parts, or_from, eq-eqb, ne_eqb, or_cases}
 pub use Rattle.std.proofs.lemmas.Bool.{or_parts, and_right, cases_eq, eqb-true, ltb-false, ltb-true}
 pub use Rattle.std.proofs.lemmas.Bool.{or_left, and_from, false_from_ne_true, le-ltb, and_left}
@@ -107,3 +108,4 @@ pub use Rattle.hpack.specs.declared.types.field.Field.{Field}
 pub use Rattle.hpack.proofs.WrittenBlocks.{block_goes_on}
 pub use Rattle.h2_wire.specs.Faults.{wire_fault_code}
 pub use Rattle.h2_block.specs.Spread.{encoding_of_frames}
+pub use Rattle.std.proofs.lemmas.Grind.{common_steps}

@@ -5,7 +5,7 @@ use Rattle.h2_spec_log.specs.States.{lesser_number}
 use Rattle.h2_laws_log.proofs.Names.{list_any, both_ways, eqb-true, ltb-true, lt-ltb, and_parts}
 use Rattle.h2_laws_log.proofs.Names.{and_from, or_cases, cases_lt, Item, alone, block, is_block_on}
 use Rattle.h2_laws_log.proofs.Names.{greatest_block, least_block, openings, Log, active}
-use Rattle.h2_laws_log.proofs.Names.{next_active, next_unprocessed, least_goaway, is_server}
+use Rattle.h2_laws_log.proofs.Names.{next_active, next_unprocessed, rules}
 use Rattle.h2_laws_log.proofs.StreamNumbers.{block_below}
 use Rattle.h2_laws_log.proofs.ReaderStates.{active_parts}
 
@@ -30,10 +30,7 @@ chosen_passes : (test : ℕ → Bool) (stream least : ℕ) (b : Bool) → (b ≡
     → (least ≢ 0 → test least ≡ true)
     → (if b then lesser_number stream least else least) ≢ 0
     → test (if b then lesser_number stream least else least) ≡ true
-chosen_passes test stream least true here after some = elim (lesser_is stream least) [
-  | inl first ↦ rw first (here refl)
-  | inr (second, is) ↦ rw is (after second)
-]
+chosen_passes test stream least true here after some = search (rules, lesser_is)
 chosen_passes test stream least false here after some = after some
 
 -- The least number that passes, passes.
@@ -56,10 +53,7 @@ lesser_second stream (suc least) some other = (omega (arith, some), omega arith)
 -- A number that passes is chosen, or a lesser one is.
 passing_chosen : (stream least : ℕ) → stream ≢ 0 → (lesser_number stream least ≢ 0)
     × (lesser_number stream least ≤ stream)
-passing_chosen stream least some = elim (lesser_is stream least) [
-  | inl first ↦ (rw first some, lesser_low stream least)
-  | inr (second, is) ↦ (rw is second, lesser_low stream least)
-]
+passing_chosen stream least some = search (rules, lesser_is, lesser_low)
 
 -- What is chosen is no greater than the least of others.
 lesser_chosen : (stream least bound : ℕ) (passes : Bool) → (passes ≡ true → stream ≢ 0)
@@ -79,15 +73,14 @@ unfolding least_block is_block_on
 least_found test i [] nonzero passes here = absurd (both_ways false refl here)
 least_found test i
     (alone frame ∷ items) nonzero passes here = least_found test i items nonzero passes here
-least_found test i (block stream end octets ∷ items) nonzero passes here = elim (or_cases
-    (stream == i) (list_any (is_block_on i) items) here) [
+least_found test i (block stream end octets ∷ items) nonzero passes here =
+    elim (or_cases (stream == i) (list_any (is_block_on i) items) here) [
       | inl same ↦
           let equal : stream ≡ i = eqb-true stream i same in
           rw (equal, passes) (passing_chosen i (least_block test items) (nonzero i passes))
       | inr after ↦
           let others = least_found test i items nonzero passes after in
-          lesser_chosen stream (least_block test items) i (test stream)
-          (nonzero stream) others.0 others.1
+          lesser_chosen _ _ _ _ (nonzero stream) others.0 others.1
     ]
 
 -- An active stream's number isn't 0, and a block has it.
@@ -99,8 +92,7 @@ active_nonzero log id j both = λ none. let above = ltb-true id j
 pub next_passes : (log : Log) (id : ℕ) → next_active log id ≢ 0
     → (active log (next_active log id) && nat_lt id (next_active log id)) ≡ true
 unfolding next_active
-next_passes log id some = least_passes (λ j. active log j && nat_lt id j)
-    (openings log.role log.received log.sent) some
+next_passes log id some = search (rules, least_passes)
 
 -- The next active stream is found, and is no greater than any that is active and above the number.
 pub next_found : (log : Log) (id i : ℕ) → active log i ≡ true → id < i → (next_active log id ≢ 0)
@@ -127,8 +119,4 @@ next_is_active_by false least_last test some passes = passes some
 pub next_is_active : (log : Log) → next_unprocessed log ≢ 0
     → active log (next_unprocessed log) ≡ true
 unfolding next_unprocessed
-next_is_active log some =
-    (and_parts _ _ (next_is_active_by (is_server log.role) (least_block (λ j. active log j && nat_lt
-    (least_goaway log.received) j) log.sent)
-    (λ j. active log j && nat_lt (least_goaway log.received) j) some
-    (least_passes (λ j. active log j && nat_lt (least_goaway log.received) j) log.sent))).0
+next_is_active log some = search (rules, and_parts, next_is_active_by, least_passes)

@@ -3,8 +3,8 @@ use Rattle.std.proofs.lemmas.List.Folds.{list_any-append}
 use Rattle.h2_laws_log.proofs.Names
 use Names.{list_any, or_from, WindowUpdate, Settings, Ping, Item, alone, is_goaway, Act, SendData}
 use Names.{Release, SendGoAway, ended_in, View, items_of, answer_of, data_items, data_frames}
-use Names.{Verdict, NoEvent, replies_to, ◌≡◌, ◌≢◌, ℕ, zero, suc, ◌==◌, nat_le, ◌&&◌, not, Bool}
-use Names.{true, false, if◌then◌else◌, List, [], ◌∷◌, length, take, drop, refl, ◌∙◌}
+use Names.{Verdict, NoEvent, replies_to, ◌≡◌, ◌≢◌, ℕ, zero, suc, nat_le, Bool, true, false}
+use Names.{if◌then◌else◌, List, [], ◌∷◌, length, drop, refl, ◌∙◌, rules}
 
 -- No reply is a GOAWAY.
 pub replies_none : (v : Verdict) (item : Item) → list_any is_goaway (replies_to v item) ≡ false
@@ -32,9 +32,7 @@ frames_none (suc count) most id octets end =
 data_none : (most id : ℕ) (octets : List ℕ) (end : Bool) (count : ℕ)
     → list_any is_goaway (data_items most id octets end count) ≡ false
 unfolding data_items
-data_none most id octets end count =
-    none_either (count == 0 && not (length octets == 0 && end)) [] _ refl
-    (frames_none (suc count) most id (take count octets) (end && count == length octets))
+data_none most id octets end count = search (rules, none_either, frames_none)
 
 -- Nor are the updates of a release, by the test.
 release_none : (id count : ℕ) (ended : Bool)

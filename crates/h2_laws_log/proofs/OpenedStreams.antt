@@ -22,8 +22,7 @@ block_uses : (role : Role) (i : ℕ) (end : Bool) (octets : List ℕ) (received 
 block_uses role i end octets received sent (inl opens) =
     opening_uses role i end octets received sent opens.client opens.odd
 block_uses role i end octets received sent (inr goes) =
-    used_more role i [] (block i end octets ∷ []) received sent
-    (active_used role i received sent [] goes.active)
+    used_more role i [] (block i end octets ∷ []) received sent (active_used _ _ _ _ [] goes.active)
 
 -- What may be written with END_STREAM is of a number that is used then.
 end_uses : (role : Role) (i : ℕ) (received sent : List Item) (item : Item)
@@ -56,10 +55,9 @@ ends_used role i _ _ (starts values ok) some =
 ends_used role i _ sent (reads {received = received} item with_sent) some =
     used_more role i (item ∷ []) [] received sent (ends_used role i received sent with_sent some)
 ends_used role i received _ (writes {sent = sent} item with_sent allowed) some =
-    elim (or_cases (ends i item) (list_any (ends i) sent) some) [
-      | inl here ↦ end_uses role i received sent item allowed here
-      | inr before ↦ used_more role i [] (item ∷ []) received sent
-          (ends_used role i received sent with_sent before)
+    elim (or_cases _ _ some) [
+      | inl here ↦ end_uses _ _ _ _ item allowed here
+      | inr before ↦ used_more _ _ [] (item ∷ []) _ _ (ends_used _ _ _ _ with_sent before)
     ]
 
 -- Where there is no GOAWAY, none is below a number.
@@ -109,15 +107,13 @@ pub idle_resets : (log : Log) (i : ℕ) (end : Bool) (octets : List ℕ)
 idle_resets log i end octets with_sent fit idle opens stays =
     let unused = idle_unused _ _ _ idle in
     let once = false_from_ne_true _ (λ some. both_ways _ unused
-    (resets_used log.role i log.received log.sent with_sent some)) in
+    (resets_used _ _ _ _ with_sent some)) in
     record {
-      used = used_here log.role i end octets log.received log.sent opens;
+      used = used_here _ _ _ _ _ _ opens;
       once = once;
-      active = inl (open_at_server log.role i (block i end octets ∷ log.received) log.sent []
-          (server_of log.role _ opens) (and_parts _ _ opens).1
-          (block_first i end octets log.received) (no_goaway_below i log.sent stays)
-          (false_from_ne_true _ (λ some. both_ways _ unused
-          (ends_used log.role i log.received log.sent with_sent some)))
-          (or_from _ _ (block_resets i i end octets) (false_from_ne_true _ (λ some.
+      active = inl (open_at_server _ _ _ _ [] (server_of log.role _ opens) (and_parts _ _ opens).1
+          (block_first _ _ _ _) (no_goaway_below _ _ stays)
+          (false_from_ne_true _ (λ some. both_ways _ unused (ends_used _ _ _ _ with_sent some)))
+          (or_from _ _ (block_resets _ _ _ _) (false_from_ne_true _ (λ some.
           both_ways _ unused (fit.reset_read i some)))) once refl);
     }

@@ -1,15 +1,16 @@
 -- What is written of items is read as their frames, which group to the items.
 use Rattle.std.proofs.Common.{◌≡◌, ℕ, ◌+◌, ◌^◌, ◌<◌, ◌≤◌, Bool, List, [], ◌∷◌, ◌++◌, length, None}
-use Rattle.std.proofs.Common.{refl, sym, ◌∙◌, inr, arith, append-nil}
+use Rattle.std.proofs.Common.{refl, sym, inr, arith, append-nil}
 use Rattle.std.proofs.lemmas.Grind.{flat_map-append}
 use Rattle.h2_frame.proofs.EncodingLemmas.{encoding_encodes, sound_head, sound_payload}
 use Rattle.h2_block.specs.Grouping.{IsItem, AreItems, Groups}
 use Rattle.h2_block.specs.Spread.{encoding_of_frames}
 use Rattle.h2_block.proofs.GroupLemmas.{AreItems-push}
 use Rattle.h2_block.proofs.SpreadLemmas.{spread_grouped, spread_writable}
-use Rattle.h2_laws_log.proofs.Names.{ap, AllByRecursion, Frame, payload_of, encoding_of, refusal}
+use Rattle.h2_laws_log.proofs.Names.{AllByRecursion, Frame, payload_of, encoding_of, refusal}
 use Rattle.h2_laws_log.proofs.Names.{IsTyped, Limits, AreFrames, Frames, expected_preface, Item}
 use Rattle.h2_laws_log.proofs.Names.{alone, block, encoding_of_item, encoding_of_items, encoding_by}
+use Rattle.h2_laws_log.proofs.Names.{rules}
 use Rattle.h2_laws_log.specs.Sending.{IsSendable, AreSendable, frames_of_item, frames_of_items}
 use Rattle.h2_laws_log.specs.Sending.{frames_by, oldest_first}
 
@@ -117,8 +118,7 @@ short_read bound expects limits octets frames written high short =
       sound = record {
         body = octets;
         opened = refl;
-        framed = rw written
-            (frames_read bound limits (length (expected_preface expects)) frames high short);
+        framed = rw written (frames_read _ _ _ frames high short);
       };
       partial = λ nine. absurd (omega arith);
     })
@@ -146,15 +146,7 @@ items_read_by expects limits bound payloads items bounded high between sendable 
 
 -- The one item of frames that group to it.
 one_item : (item : Item) (frames : List Frame) → Groups frames (item ∷ []) None → IsItem item frames
-one_item item frames groups =
-    let parts = groups.grouped in
-    let none : parts.1 ≡ [] = parts.4 in
-    let whole : groups.complete ≡ parts.0 = parts.2
-    ∙ ap (λ (unparsed : List Frame). parts.0 ++ unparsed) none ∙ append-nil parts.0 in
-    let all : frames ≡ parts.0 = groups.joined
-    ∙ ap (λ (unparsed : List Frame). groups.complete ++ unparsed) groups.unfinished
-    ∙ append-nil groups.complete ∙ whole in
-    rw all parts.3
+one_item item frames groups = search rules
 
 -- The frames of an item are it.
 item_grouped : (most : ℕ) (item : Item) → 1 ≤ most → IsSendable most item
@@ -187,21 +179,13 @@ items_are_by bound (most ∷ payloads) (item ∷ items) between sendable =
 -- Frames that are items group to them.
 grouped : (items : List Item) (frames : List Frame) → AreItems items frames
     → Groups frames items None
-grouped items frames are = record {
-  complete = frames;
-  left = [];
-  joined = sym (append-nil frames);
-  grouped = are;
-  unfinished = refl;
-}
+grouped items frames are = search rules
 
 -- The frames of items group to them,
 pub items_grouped : (most : ℕ) (items : List Item) → 1 ≤ most
     → AllByRecursion (IsSendable most) items
     → Groups (frames_of_items most items) (oldest_first items) None
-items_grouped most items positive sendable =
-    grouped (oldest_first items) (frames_of_items most items)
-    (items_are most items positive sendable)
+items_grouped most items positive sendable = search (rules, grouped, items_are)
 
 -- also where each has its own greatest payload.
 pub items_grouped_by : (bound : ℕ) (payloads : List ℕ) (items : List Item)

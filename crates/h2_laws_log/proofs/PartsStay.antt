@@ -1,7 +1,7 @@
 -- A part of a log that neither what is sent nor credit changes stays the same after both. The calls
 -- stay the same after all but a call, which is one more.
-use Rattle.std.proofs.Common.{◌≡◌, ℕ, List, ◌∷◌, refl, ◌∙◌}
-use Rattle.h2_laws_log.proofs.Names.{Item, Act, Answer, Turn, Log, with_sent, with_call}
+use Rattle.std.proofs.Common.{◌≡◌, ℕ, List, ◌∷◌, refl}
+use Rattle.h2_laws_log.proofs.Names.{Item, Act, Answer, Turn, Log, with_sent, with_call, rules}
 use Rattle.h2_laws_log.proofs.GrowthBySteps.{HoldsOfWrites, HoldsOfFailures, HoldsOfReads}
 use Rattle.h2_laws_log.proofs.GrowthBySteps.{holds_call, holds_sent}
 
@@ -20,12 +20,7 @@ pub stays_written : {A : Type 0} (part : Log → A)
     }))
     → ((log : Log) (count : ℕ) → SamePart part log (record log { unreturned = count }))
     → HoldsOfWrites (SamePart part)
-stays_written part sent unreturned = record {
-  none = λ log. refl;
-  twice = λ one two three a b. b ∙ a;
-  sent = λ log item items. sent log _ _ _ _;
-  unreturned = unreturned;
-}
+stays_written part sent unreturned = search rules
 
 -- The second log has the calls of the first.
 abbrev pub SameCalls : Log → Log → Type 0
@@ -33,11 +28,7 @@ SameCalls = SamePart (λ log. log.calls)
 
 -- They stay where the connection fails, too,
 pub calls_written : HoldsOfFailures SameCalls
-calls_written = record {
-  writes = stays_written (λ log. log.calls)
-      (λ log sent written payloads turns. refl) (λ log count. refl);
-  failed = λ log code. refl;
-}
+calls_written = search rules
 
 -- and where octets are used.
 pub calls_read : HoldsOfReads SameCalls
@@ -51,5 +42,4 @@ sent_calls = holds_sent SameCalls calls_written.writes
 pub call_calls : (log : Log) (act : Act) (answer : Answer)
     → (with_call log act answer).calls ≡ (act, answer) ∷ log.calls
 call_calls log act answer =
-    holds_call SameCalls (record { failures = calls_written; given = λ log more. refl }) log act
-    answer
+    holds_call SameCalls (record { failures = calls_written; given = λ log more. refl }) _ _ answer

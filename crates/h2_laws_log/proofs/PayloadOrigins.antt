@@ -2,7 +2,7 @@
 use Rattle.std.proofs.Common.{◌≡◌, ◌≤◌, ℕ, List, [], ◌∷◌, ◌++◌, length, refl, arith}
 use Rattle.h2_spec_log.proofs.SentPayloads.{most_between}
 use Rattle.h2_laws_log.proofs.Names.{ap, AllByRecursion, Item, total, one_ack, settings_count}
-use Rattle.h2_laws_log.proofs.Names.{max_frame_size_sent, max_payload_sent_by}
+use Rattle.h2_laws_log.proofs.Names.{max_frame_size_sent, max_payload_sent_by, rules}
 use Rattle.h2_laws_log.specs.Payloads.{PayloadHistory, starts, reads, writes}
 
 -- A front of what was read, with as many SETTINGS at least as were acknowledged before the item.
@@ -34,15 +34,7 @@ payload_origin _ sent after before item payloads newer older payload
       in_force = from.in_force;
     }
 payload_origin received _ [] before item _ [] older payload
-    (writes last {sent = sent} history all) line same long =
-    let unparsed : sent ≡ before = cc in
-    record {
-      unread = [];
-      read = received;
-      front = refl;
-      acknowledged = rw (← unparsed) (omega (arith, all));
-      in_force = cc;
-    }
+    (writes last {sent = sent} history all) line same long = search rules
 payload_origin received _ [] before item _ (other ∷ newer) older payload
     (writes last history all) line same long = absurd (omega arith)
 payload_origin received _ (first ∷ after) before item _ [] older payload

@@ -2,13 +2,13 @@
 use Rattle.std.proofs.Common.{map as each, append-nil, append_assoc}
 use Rattle.h2_laws_log.specs.Payloads.{WrittenByPayloads, starts, reads, writes}
 use Rattle.h2_laws_log.proofs.Names
-use Names.{ap, subst, expected_preface, Code, code_number, Settings, Ping, GoAway, WindowUpdate}
-use Names.{Item, alone, Role, encoding_of_item, encoding_of_items, total, Values, Act, SendData}
-use Names.{Release, is_server, one_ack, one_settings, settings_count, Log, max_payload_sent}
-use Names.{max_payload_sent_by, log_view, View, ended_in, Verdict, ConnectionFault, StreamFault}
-use Names.{NoEvent, Reported, replies_to, answer_of, items_of, read, with_sent, opened, called}
-use Names.{IsLog, encoding_by, ◌≡◌, ◌≤◌, ◌⊎◌, ◌+◌, ℕ, not, Bool, true, false, if◌then◌else◌, List}
-use Names.{[], ◌∷◌, ◌++◌, length, refl, sym, ◌∙◌, inl, inr, arith, PayloadHistory}
+use Names.{ap, subst, Code, code_number, Settings, Ping, GoAway, WindowUpdate, Item, alone, Role}
+use Names.{encoding_of_item, encoding_of_items, total, Values, Act, SendData, Release, one_ack}
+use Names.{one_settings, settings_count, Log, max_payload_sent_by, log_view, View, ended_in}
+use Names.{Verdict, ConnectionFault, StreamFault, NoEvent, Reported, replies_to, answer_of}
+use Names.{items_of, read, with_sent, opened, called, IsLog, encoding_by, ◌≡◌, ◌≤◌, ◌⊎◌, ◌+◌, ℕ}
+use Names.{Bool, true, false, if◌then◌else◌, List, [], ◌∷◌, ◌++◌, length, refl, sym, ◌∙◌, inl, inr}
+use Names.{arith, PayloadHistory, rules}
 use Rattle.h2_laws_log.proofs.DataOfCalls.{data_ack, none_of_items}
 use Rattle.h2_laws_log.proofs.InvariantReads.{Fits, Resets, Reports, verdict_fits}
 use Rattle.h2_laws_log.proofs.LogInduction.{IsLogInvariant, kept_by_logs}
@@ -23,9 +23,7 @@ unfolding encoding_of_items
 encoding_more most [] sent payloads = sym (append-nil (encoding_by payloads sent))
 encoding_more most (item ∷ items) sent payloads =
     ap (λ (octets : List ℕ). octets ++ encoding_of_item most item)
-    (encoding_more most items sent payloads)
-    ∙ append_assoc (encoding_by payloads sent) (encoding_of_items most items)
-    (encoding_of_item most item)
+    (encoding_more most items sent payloads) ∙ append_assoc _ _ (encoding_of_item most item)
 
 -- So it is of all that was written, after a client's preface.
 pub written_more : (preface : List ℕ) (most : ℕ) (items sent : List Item)
@@ -33,9 +31,7 @@ pub written_more : (preface : List ℕ) (most : ℕ) (items sent : List Item)
     → written ++ encoding_of_items most items
     ≡ preface ++ encoding_by (each (λ one. most) items ++ payloads) (items ++ sent)
 written_more preface most items sent payloads written is =
-    ap (λ (octets : List ℕ). octets ++ encoding_of_items most items) is
-    ∙ append_assoc preface (encoding_by payloads sent) (encoding_of_items most items)
-    ∙ ap (λ (octets : List ℕ). preface ++ octets) (sym (encoding_more most items sent payloads))
+    search (rules, append_assoc, encoding_more)
 
 -- What a log has written, where all SETTINGS that were read are acknowledged.
 record IsCounted (log : Log) : Type 0 where
@@ -66,14 +62,8 @@ sent_in_force : (log : Log) (items : List Item)
     → WrittenByPayloads log → IsCounted (with_sent log items)
 unfolding with_sent total
 sent_in_force log [] all alike is = record { acknowledged = omega arith; by_payloads = is }
-sent_in_force log (item ∷ items) all alike is = record {
-  acknowledged = omega (arith, total-append one_ack items log.sent);
-  by_payloads = assumption (
-    history_more log.received (item ∷ items) log.sent log.payloads all alike is.history,
-    written_more (expected_preface (not (is_server log.role))) (max_payload_sent log)
-        (item ∷ items) log.sent log.payloads log.written is.written,
-  );
-}
+sent_in_force log (item ∷ items) all alike is =
+    search (rules, total-append, history_more, written_more)
 
 -- What may be reported is no SETTINGS that ask for an acknowledgment.
 reported_asks : (log : Log) (item : Item) → Reports log item → one_settings item ≡ 0

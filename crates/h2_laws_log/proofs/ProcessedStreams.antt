@@ -50,8 +50,7 @@ resets_read : (log : Log) (decoded : Option Decoded) (item : Item) (v : Verdict)
     → ResetsAreUsed log.role log.received log.sent
     → ResetsAreUsed log.role (item ∷ log.received) log.sent
 resets_read log decoded item v is up before i some =
-    used_more log.role i (item ∷ []) [] log.received log.sent
-    (elim (or_cases (resets i item) (list_any (resets i) log.received) some) [
+    used_more log.role i (item ∷ []) [] log.received log.sent (elim (or_cases _ _ some) [
       | inl here ↦ reset_used log decoded item v i is up here
       | inr was ↦ before i was
     ])

@@ -1,12 +1,12 @@
 -- The state of a stream at the reader, where the writer uses it or goes on it.
-use Rattle.std.proofs.lemmas.Bool.{le-leb, not_from_false}
+use Rattle.std.proofs.lemmas.Bool.{le-leb}
 use Rattle.h2_laws_log.proofs.Names
 use Names.{list_any, both_ways, eqb-true, and_parts, and_from, and_left, or_cases, or_parts}
-use Names.{or_from, or_left, or_right, not-true, false_from_ne_true, Item, alone, block, Role}
-use Names.{Client, Server, is_block_on, opens_from, ends, resets, is_goaway_below, peer_of, Event}
+use Names.{or_from, or_left, or_right, false_from_ne_true, Item, alone, block, Role, Client, Server}
+use Names.{is_block_on, opens_from, ends, resets, is_goaway_below, peer_of, Event}
 use Names.{reports_unprocessed, Idle, Active, ClosedByUs, openings, is_used, is_above, is_over}
 use Names.{is_active, is_closed_by_us, state_by, stream_state, MayContinue, ◌≡◌, ◌⊎◌, ℕ, ◌%◌, ◌==◌}
-use Names.{nat_le, ◌&&◌, Bool, true, false, List, [], ◌∷◌, ◌++◌, refl, inl, inr, arith}
+use Names.{nat_le, ◌&&◌, Bool, true, false, List, [], ◌∷◌, ◌++◌, refl, inl, inr, arith, rules}
 use Rattle.h2_laws_log.proofs.ItemLists.{any_after, none_after}
 
 -- What makes a stream active.
@@ -23,36 +23,19 @@ pub active_parts : (role : Role) (i : ℕ) (received sent : List Item) (reported
     → is_active role i received sent reported ≡ true
     → ActiveParts role i received sent reported
 unfolding is_active
-active_parts role i received sent reported active =
-    let here = and_parts _ _ active in
-    let before = and_parts _ _ here.0 in
-    let first = and_parts _ _ before.0 in
-    let both = and_parts _ _ first.0 in
-    record {
-      odd = both.0;
-      opened = both.1;
-      below = not-true (is_above role i sent) first.1;
-      lasts = not-true (is_over i received sent) before.1;
-      unnamed = not-true (list_any (reports_unprocessed i) reported) here.1;
-    }
+active_parts role i received sent reported active = search rules
 
 -- A stream with all of these is active.
 pub active_from : (role : Role) (i : ℕ) (received sent : List Item) (reported : List Event)
     → ActiveParts role i received sent reported
     → is_active role i received sent reported ≡ true
 unfolding is_active
-active_from role i received sent reported parts =
-    let opened = and_from _ _ parts.odd parts.opened in
-    let below = and_from _ _ opened (not_from_false (is_above role i sent) parts.below) in
-    let lasts = and_from _ _ below (not_from_false (is_over i received sent) parts.lasts) in
-    and_from _ _ lasts (not_from_false (list_any (reports_unprocessed i) reported) parts.unnamed)
+active_from role i received sent reported parts = search rules
 
 -- An active stream is active by what was read and written alone.
 pub active_unnamed : (role : Role) (i : ℕ) (received sent : List Item) (reported : List Event)
     → is_active role i received sent reported ≡ true → is_active role i received sent [] ≡ true
-active_unnamed role i received sent reported active =
-    let parts = active_parts role i received sent reported active in
-    active_from role i received sent [] (assumption parts)
+active_unnamed role i received sent reported active = search (rules, active_parts, active_from)
 
 -- What keeps a stream from being over.
 pub record LastsParts (i : ℕ) (received sent : List Item) : Type 0 where
@@ -64,10 +47,7 @@ pub record LastsParts (i : ℕ) (received sent : List Item) : Type 0 where
 pub lasts_parts : (i : ℕ) (received sent : List Item) → is_over i received sent ≡ false
     → LastsParts i received sent
 unfolding is_over
-lasts_parts i received sent lasts =
-    let here = or_parts _ _ lasts in
-    let before = or_parts _ _ here.0 in
-    record { ended = before.0; unreset = before.1; kept = here.1 }
+lasts_parts i received sent lasts = search rules
 
 -- A stream with all of these isn't over.
 pub lasts_from : (i : ℕ) (received sent : List Item) → LastsParts i received sent
@@ -118,9 +98,7 @@ pub used_after : (role : Role) (i : ℕ) (received sent unread : List Item)
     → is_used role i received sent ≡ true
     → is_used (peer_of role) i sent (unread ++ received) ≡ true
 unfolding is_used
-used_after role i received sent unread used =
-    let both = and_parts _ _ used in
-    and_from _ _ both.0 (openings_after (opens_from i) role received sent unread both.1)
+used_after role i received sent unread used = search (rules, and_parts, and_from, openings_after)
 
 -- An active stream is used.
 pub active_used : (role : Role) (i : ℕ) (received sent : List Item) (reported : List Event)
@@ -172,9 +150,7 @@ unfolding is_closed_by_us
 goes_on_state role i received sent unread reported goes named =
     let parts = active_parts role i received sent [] goes.active in
     let lasts = lasts_parts i received sent parts.lasts in
-    active_or_closed_by_us (is_used (peer_of role) i sent (unread ++ received)) (is_active
-    (peer_of role) i sent (unread ++ received) reported)
-    (is_closed_by_us (peer_of role) i (unread ++ received))
+    active_or_closed_by_us _ _ (is_closed_by_us (peer_of role) i (unread ++ received))
     (used_after role i received sent unread (active_used role i received sent [] goes.active))
     (λ stays. let kept = or_parts _ _ stays in
     active_by_parts (peer_of role) i sent (unread ++ received) reported parts.odd
@@ -196,12 +172,7 @@ pub active_back : (i : ℕ) (received sent unread : List Item) (reported : List 
     → is_active Client i received sent [] ≡ true
 unfolding is_above
 active_back i received sent unread reported active =
-    let parts = active_parts Server i sent (unread ++ received) reported active in
-    let lasts = lasts_parts i sent (unread ++ received) parts.lasts in
-    active_by_parts Client i received sent [] parts.odd parts.opened refl
-    (one_end (list_any (ends i) sent) (list_any (ends i) (unread ++ received))
-    (list_any (ends i) received) lasts.ended (any_after (ends i) unread received))
-    (none_after (resets i) unread received lasts.kept) lasts.unreset refl
+    search (rules, active_parts, lasts_parts, active_by_parts, one_end, any_after, none_after)
 
 -- A stream that isn't used is idle.
 pub state_idle : (used active closed_by_us : Bool) → used ≡ false

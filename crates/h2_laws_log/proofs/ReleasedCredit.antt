@@ -116,8 +116,7 @@ updates_written v i count false good with_sent active gives =
         read = λ number. let some = gives.some in omega arith;
         read_at_all = λ zero. absurd (gives.number zero);
       },
-    )) (gives_all v i count (alone (WindowUpdate i count) ∷ v.sent) good gives
-    (omega (arith, total_one, update_ack)) (omega arith))
+    )) (gives_all _ _ _ _ good gives (omega (arith, total_one, update_ack)) (omega arith))
 
 -- what the updates give, of each kind
 updates_total : (f : Item → ℕ) (i count : ℕ) (ended : Bool)

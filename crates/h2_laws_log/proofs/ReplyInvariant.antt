@@ -8,7 +8,7 @@ use Names.{Event, DataEvent, ResetEvent, flow_on, reported_total, one_acked, one
 use Names.{reports_unprocessed, Idle, is_active, is_used, openings, state_by, active}
 use Names.{HasAcknowledged, AllowedHistory, starts, reads, writes, Allowed, MayReset, ◌≡◌, ◌≢◌, ℕ}
 use Names.{◌≤◌, ◌==◌, ◌%◌, ◌&&◌, Bool, true, false, if◌then◌else◌, List, [], ◌∷◌, ◌++◌, length}
-use Names.{Option, refl, sym, inl, inr, arith}
+use Names.{Option, refl, sym, inl, inr, arith, rules}
 use Rattle.h2_laws_log.proofs.ItemLists.{any_after}
 use Rattle.h2_laws_log.proofs.ReaderStates.{active_parts, active_unnamed, active_used, lasts_parts}
 use Rattle.h2_laws_log.proofs.ReaderStates.{opens_here}
@@ -57,8 +57,7 @@ resets_used role i _ _ (starts values ok) some = absurd (both_ways _ (or_from _ 
 resets_used role i _ sent (reads {received = received} item with_sent) some =
     used_more role i (item ∷ []) [] received sent (resets_used role i received sent with_sent some)
 resets_used role i received _ (writes {sent = sent} item with_sent allowed) some =
-    used_more role i [] (item ∷ []) received sent (elim (or_cases (resets i item) (list_any
-    (resets i) sent) some) [
+    used_more role i [] (item ∷ []) received sent (elim (or_cases _ _ some) [
       | inl here ↦ allowed_reset role i received sent item allowed here
       | inr before ↦ resets_used role i received sent with_sent before
     ])
@@ -124,22 +123,7 @@ quiet : (v : History) (i : ℕ) (item : Item) (replies : List Item) (events : Li
     → Moves v i (item ∷ []) replies events v.calls discarded
 unfolding total settings_count
 quiet v i item replies events discarded with_sent acks answers gives acked ponged named flows fits =
-    record {
-      with_sent = with_sent;
-      returned = omega (arith, acks);
-      answered = omega (arith, answers);
-      acked = omega (arith, acked);
-      ponged = omega (arith, ponged);
-      named = λ j some. absurd (both_ways _ (named j) some);
-      gave = λ j some. omega (arith, gives j);
-      reported_read = λ j. omega (arith, flows j);
-      reported_open = λ j some. absurd (some (flows j));
-      elsewhere = λ j other. flows j;
-      kept = λ j. omega arith;
-      out = omega (arith, flows i, gives 0);
-      out_active = λ some. absurd (some (gives 0));
-      fits = omega (arith, flows i, fits);
-    }
+    search rules
 
 -- settled after an item that is no SETTINGS
 returned_read : (v : History) (item : Item) → Good v → one_settings item ≡ 0

@@ -1,6 +1,6 @@
 -- What the rules say by their tests, of any end: which limits a verdict keeps to, and what a call
 -- that isn't refused may write.
-use Rattle.std.proofs.Common.{is_some, ltb-false, leb-false}
+use Rattle.std.proofs.Common.{is_some, leb-false}
 use Rattle.h2_spec_log.specs.ItemRules.{exceeds, is_stream_fault}
 use Rattle.h2_spec_log.specs.Limits.{max_resets, max_output}
 use Rattle.h2_laws_log.proofs.Names
@@ -11,7 +11,7 @@ use Names.{ConnectionFault, NoEvent, Reported, data_verdict, block_verdict, open
 use Names.{StreamView, View, ◌≡◌, ◌≢◌, ℕ, ◌+◌, ◌<◌, ◌≤◌, ◌==◌, nat_lt, nat_le, ◌&&◌, ◌||◌}
 use Names.{if◌then◌else◌, Bool, true, false, List, pos, length, Option, Some, None, refl, sym}
 use Names.{arith, suc, ◌*◌, not, [], ◌∷◌, take, length-take, min, refuse_fault, at_least_none}
-use Names.{encoder_after_settings, over_limits}
+use Names.{encoder_after_settings, over_limits, rules}
 use Rattle.h2_laws_log.proofs.CallConditions.{neither_one, neither_other}
 use Rattle.h2_laws_log.proofs.ItemSizes.{size_of, size-update, size-updates, size-data}
 
@@ -166,14 +166,7 @@ refuses_by false false is = (refl, refl)
 pub refuse_fits : (view : View) (code : ℕ) → refuse_fault view code ≡ None
     → ((code == 2) ≡ false) × (view.resets < max_resets) × (view.waiting + 13 ≤ max_output)
 unfolding refuse_fault
-refuse_fits view code is =
-    let full : Bool = nat_le max_resets view.resets in
-    let large : Bool = nat_lt max_output (view.waiting + 13) in
-    let limits = refuses_by (code == 2) (full || large) is in (
-      limits.0,
-      leb-false max_resets view.resets (neither_one full large limits.1),
-      ltb-false max_output (view.waiting + 13) (neither_other full large limits.1),
-    )
+refuse_fits view code is = search rules
 
 -- What the tests say, where credit is returned before output is put out.
 pub returns_says : (x : Option Code) (some space : Bool)

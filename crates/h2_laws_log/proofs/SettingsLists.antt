@@ -2,11 +2,11 @@
 use Rattle.std.proofs.lemmas.List.{take_all, take-append-le}
 use Rattle.h2_spec_log.specs.Settings.{settings_of, value_after_all}
 use Rattle.h2_laws_log.proofs.Names
-use Names.{ap, cases_eq, eq-eqb, ne_eqb, Settings, Item, alone, block, value_read, value_after}
-use Names.{one_settings, settings_count, own_value, one_ack, total, Log, acked, HasAcknowledged}
-use Names.{IsReader, Role, Client, Server, Values, opening_pairs, changed_pairs, with_max_frame}
-use Names.{max_list, ◌≡◌, ◌⊎◌, ℕ, ◌+◌, ◌≤◌, ◌==◌, ◌&&◌, not, Bool, true, false, if◌then◌else◌, List}
-use Names.{[], ◌∷◌, ◌++◌, length, refl, sym, ◌∙◌, inl, inr, arith, length-append}
+use Names.{ap, Settings, Item, alone, block, value_read, value_after, one_settings, settings_count}
+use Names.{own_value, one_ack, total, Log, acked, HasAcknowledged, IsReader, Role, Client, Server}
+use Names.{Values, opening_pairs, changed_pairs, with_max_frame, max_list, ◌≡◌, ◌⊎◌, ℕ, ◌+◌, ◌≤◌}
+use Names.{◌==◌, ◌&&◌, not, Bool, true, false, if◌then◌else◌, List, [], ◌∷◌, ◌++◌, length, refl}
+use Names.{sym, ◌∙◌, inl, inr, arith, length-append, rules}
 use Rattle.h2_laws_log.proofs.ItemLists.{settings_after}
 
 -- An item is SETTINGS that are no acknowledgment, or counts as none.
@@ -59,16 +59,12 @@ pub value_named : (id before written max_frame : ℕ) (pairs : List (ℕ × ℕ)
     → value_after id before (with_max_frame written max_frame pairs)
     ≡ value_after id (if 5 == id && not (max_frame == written) then max_frame else before) pairs
 unfolding with_max_frame
-value_named id before written max_frame pairs =
-    value_named_by id before max_frame pairs (max_frame == written)
+value_named id before written max_frame pairs = search (rules, value_named_by)
 
 -- Where the greatest frame differs from what was written it is named, and otherwise it is that.
 frame_named : (written max_frame : ℕ)
     → (if not (max_frame == written) then max_frame else written) ≡ max_frame
-frame_named written max_frame = elim (cases_eq max_frame written) [
-  | inl same ↦ rw (eq-eqb max_frame written same) (sym same)
-  | inr other ↦ rw (ne_eqb max_frame written other) refl
-]
+frame_named written max_frame = search rules
 
 -- An opening sets the greatest frame.
 pub opening_frame : (role : Role) (values : Values)
@@ -192,9 +188,8 @@ pub own_older : (id first count : ℕ) (newer older : List Item) → count ≤ s
     → own_value id first count (newer ++ older) ≡ own_value id first count older
 own_older id first count [] older within = refl
 own_older id first count (item ∷ newer) older within =
-    own_next id first count item (newer ++ older)
-    (λ one. omega (arith, within, settings_after newer older))
-    ∙ own_older id first count newer older within
+    own_next _ _ _ _ (newer ++ older) (λ one. omega (arith, within, settings_after newer older)) ∙
+    own_older id first count newer older within
 
 -- What the reader knows to be acknowledged is all that the writer has read.
 pub acked_all : (role : Role) (received sent unread : List Item) (log : Log)

@@ -2,14 +2,13 @@
 -- of what was read.
 use Rattle.std.proofs.Common.{leb-true}
 use Rattle.h2_laws_log.proofs.Names
-use Names.{list_any, both_ways, eqb-true, or_cases, cases_lt, eq-eqb, le-ltb, and_right}
-use Names.{true_from_ne_false, and_from, and_parts, or_left, or_parts, ltb-false, GoAway, Item}
-use Names.{alone, block, Role, Client, Server, is_block_on, greatest_block, is_goaway}
-use Names.{is_goaway_below, opens_from, is_server, least_block, greatest_number, is_used, Log}
-use Names.{active, next_number, next_unprocessed, least_goaway, AllowedHistory, starts, reads}
-use Names.{writes, Allowed, MayOpen, MayContinue, ◌≡◌, ◌⊎◌, ◌≢◌, ℕ, ◌+◌, ◌≤◌, ◌<◌, ◌==◌, ◌%◌, ◌&&◌}
-use Names.{nat_lt, max, Bool, true, false, if◌then◌else◌, List, [], ◌∷◌, refl, inl, inr, ◌^◌, ◌++◌}
-use Names.{arith, nat_le}
+use Names.{list_any, both_ways, eqb-true, or_cases, eq-eqb, le-ltb, and_right, true_from_ne_false}
+use Names.{and_from, and_parts, or_left, or_parts, ltb-false, GoAway, Item, alone, block, Role}
+use Names.{Client, Server, is_block_on, greatest_block, is_goaway, is_goaway_below, opens_from}
+use Names.{is_server, least_block, greatest_number, is_used, Log, active, next_number}
+use Names.{next_unprocessed, least_goaway, AllowedHistory, starts, reads, writes, Allowed, MayOpen}
+use Names.{MayContinue, ◌≡◌, ◌⊎◌, ◌≢◌, ℕ, ◌+◌, ◌≤◌, ◌<◌, ◌==◌, ◌%◌, ◌&&◌, nat_lt, max, Bool, true}
+use Names.{false, if◌then◌else◌, List, [], ◌∷◌, refl, inl, inr, ◌^◌, ◌++◌, arith, nat_le, rules}
 use Rattle.h2_laws_log.proofs.ReaderStates.{active_parts, opens_here}
 
 -- A stream's number, or 0, by a test.
@@ -19,10 +18,7 @@ number_or_none false id small = omega arith
 
 -- the greater of two numbers is one of them
 max_is : (a b : ℕ) → (max a b ≡ a) ⊎ (max a b ≡ b)
-max_is a b = elim (cases_lt a b) [
-  | inl less ↦ inr (omega arith)
-  | inr most ↦ inl (omega arith)
-]
+max_is a b = search rules
 
 -- A block's number is no greater than the greatest.
 pub block_below : (i : ℕ) (items : List Item) → list_any (is_block_on i) items ≡ true
@@ -164,8 +160,7 @@ next_left log with_sent some =
     let client : AllowedHistory Client log.received log.sent = rw (both.0) at with_sent in
     true_from_ne_false (list_any is_goaway log.received) (λ none.
     both.1 (least_none (λ j. active log j && nat_lt (least_goaway log.received) j) log.sent
-    (λ j below. and_right (active log j) (nat_lt (least_goaway log.received) j)
-    (le-ltb (least_goaway log.received) j (omega
+    (λ j below. and_right (active log j) (nat_lt (least_goaway log.received) j) (le-ltb _ j (omega
     (arith, last_none log.received none, client_low log.received log.sent client))))))
 
 -- A number from which a block opens is no greater than the greatest.

@@ -35,6 +35,5 @@ in_step encoder (sending ∷ others) writing within =
     block_encodes before sending.reader sending.fields goes within.1 within.2 within.3 in (
       (after_block before sending.fields).table,
       rw (same_table encoder sending.limits) at read,
-      in_step (after_block before sending.fields) others
-          (block_goes_on before sending.fields goes) within.4,
+      in_step (after_block before sending.fields) others (block_goes_on _ _ goes) within.4,
     )

@@ -3,8 +3,8 @@ use Rattle.std.proofs.Common.{◌≡◌, ℕ, not, List, [], ◌∷◌, ◌++◌
 use Rattle.std.proofs.lemmas.List.{append_assoc, append-nil}
 use Rattle.h2_laws_log.proofs.Names.{ap, expected_preface, code_number, GoAway, Item, alone, Role}
 use Rattle.h2_laws_log.proofs.Names.{encoding_of_item, encoding_of_items, Event, Values, Act}
-use Rattle.h2_laws_log.proofs.Names.{Answer, shown, Turn, Happened, is_server, Log}
-use Rattle.h2_laws_log.proofs.Names.{max_payload_sent, read, used, with_sent, called, opened, IsLog}
+use Rattle.h2_laws_log.proofs.Names.{Answer, Turn, Happened, is_server, Log, max_payload_sent, read}
+use Rattle.h2_laws_log.proofs.Names.{used, with_sent, called, opened, IsLog, rules}
 use Rattle.h2_laws_log.specs.Turns.{octets_in, octets_out, events_in, acts_in, answers_in, acts_of}
 use Rattle.h2_laws_log.specs.Turns.{answers_of, TurnsRecord}
 use Rattle.h2_laws_log.proofs.LogInduction.{IsLogInvariant, kept_by_logs}
@@ -77,12 +77,7 @@ used_reported log octets unparsed is =
 called_reported : (log : Log) (act : Act) (answer : Answer) → TurnsRecord log
     → TurnsRecord (called log act answer)
 unfolding octets_in octets_out events_in acts_in answers_in acts_of answers_of
-called_reported log act answer is =
-    assumption (
-      ap (λ (acts : List Act). act ∷ acts) is.acts,
-      ap (λ (answers : List Answer). shown answer ∷ answers) is.answers,
-      is,
-    )
+called_reported log act answer is = search rules
 
 -- The turns of a new end.
 begins_reported : (role : Role) (values : Values) → TurnsRecord (opened role values)

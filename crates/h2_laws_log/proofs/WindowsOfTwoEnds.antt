@@ -4,7 +4,7 @@ use Rattle.h2_spec_log.specs.Windows.{connection_recv_window}
 use Rattle.h2_laws_log.proofs.Names
 use Names.{ap, ints, Item, data_on, data_of, increment_on, total, value_read, own_value, ◌≡◌, ℕ}
 use Names.{◌+◌, List, [], ◌∷◌, ◌++◌, pos, ◌+ℤ◌, ◌-ℤ◌, ◌∙◌, arith, first_window, given_on}
-use Names.{given_on_connection, granted_on, granted_on_connection, connection_send_window}
+use Names.{given_on_connection, granted_on, granted_on_connection, connection_send_window, rules}
 
 -- the sum over two lists, one after the other
 pub total-append : (f : Item → ℕ) (xs ys : List Item) → total f (xs ++ ys) ≡ total f xs + total f ys
@@ -26,16 +26,7 @@ pub connection_meets : (received sent other_received other_sent way back : List 
     (increment_on 0) back) ≡ connection_recv_window other_received other_sent
 unfolding given_on_connection granted_on_connection
 connection_meets received sent other_received other_sent way back sent_data gave =
-    let last_processed : total data_of sent
-    ≡ total data_of way + total data_of other_received = ap (total data_of) sent_data
-    ∙ total-append data_of way other_received in
-    let increments : total (increment_on 0) other_sent
-    ≡ total (increment_on 0) back + total (increment_on 0) received =
-    ap (total (increment_on 0)) gave ∙ total-append (increment_on 0) back received in
-    meets (first_window + total (increment_on 0) received) (total data_of sent)
-    (total data_of way) (total (increment_on 0) back)
-    (first_window + total (increment_on 0) other_sent)
-    (total data_of other_received) last_processed (omega arith)
+    search (rules, total-append, meets)
 
 -- a stream's window at both ends, by the initial window that was read last
 pub stream_meets_read : (i : ℕ) (received sent other_received other_sent way back : List Item)
@@ -46,16 +37,7 @@ pub stream_meets_read : (i : ℕ) (received sent other_received other_sent way b
     (data_on i) other_received)
 unfolding given_on
 stream_meets_read i received sent other_received other_sent way back sent_data gave =
-    let last_processed : total (data_on i) sent
-    ≡ total (data_on i) way + total (data_on i) other_received =
-    ap (total (data_on i)) sent_data ∙ total-append (data_on i) way other_received in
-    let increments : total (increment_on i) other_sent
-    ≡ total (increment_on i) back + total (increment_on i) received =
-    ap (total (increment_on i)) gave ∙ total-append (increment_on i) back received in
-    meets (value_read 4 first_window received + total (increment_on i) received) (total
-    (data_on i) sent) (total (data_on i) way) (total (increment_on i) back)
-    (value_read 4 first_window received + total (increment_on i) other_sent) (total
-    (data_on i) other_received) last_processed (omega arith)
+    search (rules, total-append, meets)
 
 -- the same, by the initial window that was sent
 pub stream_meets : (i count : ℕ) (received sent other_received other_sent way back : List Item)

@@ -43,54 +43,51 @@ one_first limit frame other first second following beyond sound complete line =
       same_following first second following beyond long line,
     )
 
--- Frames continue others at one place, if after them no sound frame begins.
-bodies_continue : (limits : Limits) (preceding : ℕ) (frames others : List Frame)
-    (body another tail end : List ℕ)
-    → AreFrames limits preceding frames body → AreFrames limits preceding others another
-    → body ++ tail ≡ another ++ end → Stops (limits (preceding + length another + 9)) end
-    → Continue frames others
-bodies_continue limits preceding [] others body another tail end none framed joined ends =
-    (others, refl)
-bodies_continue limits preceding (frame ∷ frames) [] body another tail end
-    (first, following, split, sound, framed) nothing joined ends =
-    let begins : end ≡ first ++ (following ++ tail) =
-    sym (sym (rw split (append_assoc first following tail)) ∙ rw nothing at joined) in
-    let at : preceding + length another + 9 ≡ preceding + 9 = rw nothing (omega arith) in
-    absurd (ends frame first (following ++ tail) begins (rw at sound))
-bodies_continue limits preceding (frame ∷ frames) (other ∷ others) body another tail end
-    (first, following, split, sound, framed) (second, beyond, parted, complete, sequel) joined
-    ends =
-    let line : first ++ (following ++ tail) ≡ second ++ (beyond ++ end) =
-    sym (append_assoc first following tail) ∙ ap (λ (octets : List ℕ). octets ++ tail) (sym split)
-    ∙ joined ∙ ap (λ (octets : List ℕ). octets ++ end) parted
-    ∙ append_assoc second beyond end in
-    let one = one_first (limits (preceding + 9)) frame other first second (following ++ tail)
-    (beyond ++ end) sound complete line in
-    let sequel_now = rw (← one.1) at sequel in
-    let by : preceding + length another + 9 ≡ preceding + length first + length beyond + 9 =
-    rw (parted, length-append, ← one.1) (omega arith) in
-    continue_more frame other frames others one.0
-    (bodies_continue limits (preceding + length first) frames others following beyond tail end
-    framed sequel_now one.2 (rw by at ends))
+module _ (limits : Limits) where
+  -- Frames continue others at one place, if after them no sound frame begins.
+  bodies_continue : (preceding : ℕ) (frames others : List Frame) (body another tail end : List ℕ)
+      → AreFrames limits preceding frames body → AreFrames limits preceding others another
+      → body ++ tail ≡ another ++ end → Stops (limits (preceding + length another + 9)) end
+      → Continue frames others
+  bodies_continue preceding [] others body another tail end none framed joined ends = (others, refl)
+  bodies_continue preceding (frame ∷ frames) [] body another tail end
+      (first, following, split, sound, framed) nothing joined ends =
+      let begins : end ≡ first ++ (following ++ tail) =
+      sym (sym (rw split (append_assoc first following tail)) ∙ rw nothing at joined) in
+      let at : preceding + length another + 9 ≡ preceding + 9 = rw nothing (omega arith) in
+      absurd (ends frame first (following ++ tail) begins (rw at sound))
+  bodies_continue preceding (frame ∷ frames) (other ∷ others) body another tail end
+      (first, following, split, sound, framed) (second, beyond, parted, complete, sequel) joined
+      ends =
+      let line : first ++ (following ++ tail) ≡ second ++ (beyond ++ end) =
+      sym (append_assoc first following tail) ∙ ap (λ (octets : List ℕ). octets ++ tail) (sym split)
+      ∙ joined ∙ ap (λ (octets : List ℕ). octets ++ end) parted ∙ append_assoc second beyond end in
+      let one = one_first (limits (preceding + 9)) frame other first second (following ++ tail)
+      (beyond ++ end) sound complete line in
+      let sequel_now = rw (← one.1) at sequel in
+      let by : preceding + length another + 9 ≡ preceding + length first + length beyond + 9 =
+      rw (parted, length-append, ← one.1) (omega arith) in
+      continue_more frame other frames others one.0
+      (bodies_continue (preceding + length first) frames others following beyond tail end
+      framed sequel_now one.2 (rw by at ends))
 
--- Octets at one place that are the same frames are the same.
-one_body_of : (limits : Limits) (preceding : ℕ) (frames : List Frame)
-    (body another tail end : List ℕ) → AreFrames limits preceding frames body
-    → AreFrames limits preceding frames another → body ++ tail ≡ another ++ end → body ≡ another
-one_body_of limits preceding [] body another tail end none nothing joined = none ∙ sym nothing
-one_body_of limits preceding (frame ∷ frames) body another tail end
-    (first, following, split, sound, framed) (second, beyond, parted, complete, sequel) joined =
-    let line : first ++ (following ++ tail) ≡ second ++ (beyond ++ end) =
-    sym (append_assoc first following tail) ∙ ap (λ (octets : List ℕ). octets ++ tail) (sym split)
-    ∙ joined ∙ ap (λ (octets : List ℕ). octets ++ end) parted
-    ∙ append_assoc second beyond end in
-    let one = one_first (limits (preceding + 9)) frame frame first second (following ++ tail)
-    (beyond ++ end) sound complete line in
-    let sequel_now = rw (← one.1) at sequel in
-    let rest = one_body_of limits (preceding + length first) frames following beyond tail end framed
-    sequel_now one.2 in
-    split ∙ ap (λ (octets : List ℕ). first ++ octets) rest
-    ∙ ap (λ (octets : List ℕ). octets ++ beyond) one.1 ∙ sym parted
+  -- Octets at one place that are the same frames are the same.
+  one_body_of : (preceding : ℕ) (frames : List Frame) (body another tail end : List ℕ)
+      → AreFrames limits preceding frames body → AreFrames limits preceding frames another
+      → body ++ tail ≡ another ++ end → body ≡ another
+  one_body_of preceding [] body another tail end none nothing joined = none ∙ sym nothing
+  one_body_of preceding (frame ∷ frames) body another tail end
+      (first, following, split, sound, framed) (second, beyond, parted, complete, sequel) joined =
+      let line : first ++ (following ++ tail) ≡ second ++ (beyond ++ end) =
+      sym (append_assoc first following tail) ∙ ap (λ (octets : List ℕ). octets ++ tail) (sym split)
+      ∙ joined ∙ ap (λ (octets : List ℕ). octets ++ end) parted ∙ append_assoc second beyond end in
+      let one = one_first (limits (preceding + 9)) frame frame first second (following ++ tail)
+      (beyond ++ end) sound complete line in
+      let sequel_now = rw (← one.1) at sequel in
+      let rest = one_body_of (preceding + length first) frames following beyond tail end framed
+      sequel_now one.2 in
+      split ∙ ap (λ (octets : List ℕ). first ++ octets) rest
+      ∙ ap (λ (octets : List ℕ). octets ++ beyond) one.1 ∙ sym parted
 
 -- Sound parts of one stream with the same frames are the same.
 pub one_part : (expects : Bool) (limits : Limits) (frames : List Frame)
@@ -118,66 +115,54 @@ sounds_continue expects limits frames others part another tail end sound again j
     bodies_continue limits (length (expected_preface expects)) frames others sound.body again.body
     tail end sound.framed again.framed following (rw by at ends)
 
--- A stream longer than the preface isn't inside it.
-past_not_inside : (expects : Bool) (limits : Limits) (stream more : List ℕ)
-    (frames others : List Frame) (unparsed other : List ℕ)
-    → IsAfterPreface expects limits stream frames unparsed
-    → IsInsidePreface expects (stream ++ more) others other → ⊥
-past_not_inside expects limits stream more frames others unparsed other past short =
-    grind (arith, common_steps)
+module _ (expects : Bool) (limits : Limits) (stream more : List ℕ) (frames others : List Frame)
+    (unparsed other : List ℕ) where
+  -- A stream longer than the preface isn't inside it.
+  past_not_inside : IsAfterPreface expects limits stream frames unparsed
+      → IsInsidePreface expects (stream ++ more) others other → ⊥
+  past_not_inside past short = grind (arith, common_steps)
 
--- The frames of a stream are the first of those of a longer one.
-pub longer_reading : (expects : Bool) (limits : Limits) (stream more : List ℕ)
-    (frames others : List Frame) (unparsed other : List ℕ)
-    → Frames expects limits stream frames unparsed
-    → Frames expects limits (stream ++ more) others other
-    → (following : List Frame) × (others ≡ frames ++ following)
-longer_reading expects limits stream more frames others unparsed other (inl short) longer =
-    (others, rw short.none refl)
-longer_reading expects limits stream more frames others unparsed other (inr past) (inl short) =
-    absurd (past_not_inside expects limits stream more frames others unparsed other past short)
-longer_reading expects limits stream more frames others unparsed other (inr past) (inr again) =
-    let line : past.part ++ (unparsed ++ more) ≡ again.part ++ other =
-    sym (append_assoc past.part unparsed more)
-    ∙ ap (λ (octets : List ℕ). octets ++ more) (sym past.joined) ∙ again.joined in
-    sounds_continue expects limits frames others past.part again.part (unparsed ++ more) other
-    past.sound again.sound line (partial_stops _ other again.partial)
+  -- The frames of a stream are the first of those of a longer one.
+  pub longer_reading : Frames expects limits stream frames unparsed
+      → Frames expects limits (stream ++ more) others other → (following : List Frame)
+      × (others ≡ frames ++ following)
+  longer_reading (inl short) longer = (others, rw short.none refl)
+  longer_reading (inr past) (inl short) = absurd (past_not_inside past short)
+  longer_reading (inr past) (inr again) =
+      let line : past.part ++ (unparsed ++ more) ≡ again.part ++ other =
+      sym (append_assoc past.part unparsed more)
+      ∙ ap (λ (octets : List ℕ). octets ++ more) (sym past.joined) ∙ again.joined in
+      sounds_continue expects limits frames others past.part again.part (unparsed ++ more) other
+      past.sound again.sound line (partial_stops _ other again.partial)
 
--- The frames of a stream are the first of those before a fault that octets after it make.
-before_a_fault : (expects : Bool) (limits : Limits) (stream more octets beyond : List ℕ)
-    (frames others : List Frame) (unparsed : List ℕ) (fault : WireFault)
-    → Frames expects limits stream frames unparsed
-    → EndsWithFault expects limits others octets fault → stream ++ more ≡ octets ++ beyond
-    → (following : List Frame) × (others ≡ frames ++ following)
-before_a_fault expects limits stream more octets beyond frames others unparsed fault (inl short)
-    made joined = (others, rw short.none refl)
-before_a_fault expects limits stream more octets beyond frames others unparsed faults.BadPreface
-    (inr past) made joined =
-    absurd (sound_no_wrong expects limits frames others past.part (unparsed ++ more) octets beyond
-    past.sound made (sym (append_assoc past.part unparsed more)
-    ∙ ap (λ (line : List ℕ). line ++ more) (sym past.joined) ∙ joined))
-before_a_fault expects limits stream more octets beyond frames others unparsed
-    (faults.HeadFault code) (inr past) made joined =
-    let line : past.part ++ (unparsed ++ more) ≡ made.part ++ (made.last ++ beyond) =
-    sym (append_assoc past.part unparsed more)
-    ∙ ap (λ (line : List ℕ). line ++ more) (sym past.joined) ∙ joined
-    ∙ ap (λ (line : List ℕ). line ++ beyond) made.joined
-    ∙ append_assoc made.part made.last beyond in
-    sounds_continue expects limits frames others past.part made.part (unparsed ++ more)
-    (made.last ++ beyond) past.sound made.sound line
-    (wrong_head_stops _ made.last beyond code made.nine made.faulty)
-before_a_fault expects limits stream more octets beyond frames others unparsed
-    (faults.PayloadFault code) (inr past) made joined =
-    let line : past.part ++ (unparsed ++ more) ≡ made.part ++ (made.last ++ beyond) =
-    sym (append_assoc past.part unparsed more)
-    ∙ ap (λ (line : List ℕ). line ++ more) (sym past.joined) ∙ joined
-    ∙ ap (λ (line : List ℕ). line ++ beyond) made.joined
-    ∙ append_assoc made.part made.last beyond in
-    sounds_continue expects limits frames others past.part made.part (unparsed ++ more)
-    (made.last ++ beyond) past.sound made.sound line
-    (wrong_payload_stops _ made.last beyond code made.complete made.faulty)
-before_a_fault expects limits stream more octets beyond frames others unparsed faults.Memory
-    (inr past) made joined = absurd made
+module _ (expects : Bool) (limits : Limits) (stream more octets beyond : List ℕ)
+    (frames others : List Frame) (unparsed : List ℕ) where
+  -- The frames of a stream are the first of those before a fault that octets after it make.
+  before_a_fault : (fault : WireFault) → Frames expects limits stream frames unparsed
+      → EndsWithFault expects limits others octets fault → stream ++ more ≡ octets ++ beyond
+      → (following : List Frame) × (others ≡ frames ++ following)
+  before_a_fault fault (inl short) made joined = (others, rw short.none refl)
+  before_a_fault faults.BadPreface (inr past) made joined =
+      absurd (sound_no_wrong expects limits frames others past.part (unparsed ++ more) octets beyond
+      past.sound made (sym (append_assoc past.part unparsed more)
+      ∙ ap (λ (line : List ℕ). line ++ more) (sym past.joined) ∙ joined))
+  before_a_fault (faults.HeadFault code) (inr past) made joined =
+      let line : past.part ++ (unparsed ++ more) ≡ made.part ++ (made.last ++ beyond) =
+      sym (append_assoc past.part unparsed more) ∙ ap (λ (line : List ℕ). line ++ more)
+      (sym past.joined) ∙ joined ∙ ap (λ (line : List ℕ). line ++ beyond) made.joined ∙ append_assoc
+      made.part made.last beyond in
+      sounds_continue expects limits frames others past.part made.part (unparsed ++ more)
+      (made.last ++ beyond) past.sound made.sound line
+      (wrong_head_stops _ made.last beyond code made.nine made.faulty)
+  before_a_fault (faults.PayloadFault code) (inr past) made joined =
+      let line : past.part ++ (unparsed ++ more) ≡ made.part ++ (made.last ++ beyond) =
+      sym (append_assoc past.part unparsed more) ∙ ap (λ (line : List ℕ). line ++ more)
+      (sym past.joined) ∙ joined ∙ ap (λ (line : List ℕ). line ++ beyond) made.joined ∙ append_assoc
+      made.part made.last beyond in
+      sounds_continue expects limits frames others past.part made.part (unparsed ++ more)
+      (made.last ++ beyond) past.sound made.sound line
+      (wrong_payload_stops _ made.last beyond code made.complete made.faulty)
+  before_a_fault faults.Memory (inr past) made joined = absurd made
 
 -- The frames of a stream are the first of those before the fault of a longer one.
 pub longer_fault : (expects : Bool) (limits : Limits) (stream more : List ℕ)

@@ -123,35 +123,32 @@ same_showing frames others begun other lines texts same shown again =
     one_showing frames begun other lines texts shown
     (subst (λ (line : List Frame). ShowsFrames line other texts) (sym same) again)
 
--- Two ends of a stream without fault are one.
-same_ends : (expects : Bool) (limits : Limits) (stream : List ℕ) (status other : Status)
-    (output another : List ℕ) → ShownToEnd expects limits stream status output
-    → ShownToEnd expects limits stream other another → (status ≡ other) × (output ≡ another)
-same_ends expects limits stream status other output another one two =
-    let read = one_reading_lem _ _ _ _ _ _ _ one.reading two.reading in
-    let same = same_showing _ _ _ _ _ _ read.0 one.shown two.shown in (
-      one.known ∙ (λ i. end_status (read.1 i) (same.0 i)) ∙ sym two.known,
-      one.all
-          ∙ (λ i. (preface_lines expects stream ++ same.1 i) ++ end_line (read.1 i) (same.0 i))
-          ∙ sym two.all,
-    )
+module _ (expects : Bool) (limits : Limits) (stream : List ℕ) (status other : Status)
+    (output another : List ℕ) where
+  -- Two ends of a stream without fault are one.
+  same_ends : ShownToEnd expects limits stream status output
+      → ShownToEnd expects limits stream other another → (status ≡ other) × (output ≡ another)
+  same_ends one two =
+      let read = one_reading_lem _ _ _ _ _ _ _ one.reading two.reading in
+      let same = same_showing _ _ _ _ _ _ read.0 one.shown two.shown in (
+        one.known ∙ (λ i. end_status (read.1 i) (same.0 i)) ∙ sym two.known,
+        one.all
+            ∙ (λ i. (preface_lines expects stream ++ same.1 i) ++ end_line (read.1 i) (same.0 i))
+            ∙ sym two.all,
+      )
 
--- Two octets of a stream at fault are one.
-same_wire_faults : (expects : Bool) (limits : Limits) (stream : List ℕ) (status other : Status)
-    (output another : List ℕ) → ShownToWireFault expects limits stream status output
-    → ShownToWireFault expects limits stream other another
-    → (status ≡ other) × (output ≡ another)
-same_wire_faults expects limits stream status other output another one two =
-    let at = one_fault_lem _ _ stream [] _ _ _ _ _ _ one.at
-    (subst (λ (octets : List ℕ). WireFaultAt expects limits octets two.frames two.place two.fault)
-    (sym (append-nil stream)) two.at) in
-    let same = same_showing _ _ _ _ _ _ at.0 one.shown two.shown in (
-      one.known ∙ sym two.known,
-      one.all
-          ∙ (λ i. (preface_lines expects stream ++ same.1 i)
-          ++ fault_line (wire_fault_code (at.2 i)) (saturated (at.1 i)))
-          ∙ sym two.all,
-    )
+  -- Two octets of a stream at fault are one.
+  same_wire_faults : ShownToWireFault expects limits stream status output
+      → ShownToWireFault expects limits stream other another → (status ≡ other) × (output ≡ another)
+  same_wire_faults one two =
+      let at = one_fault_lem _ _ stream [] _ _ _ _ _ _ one.at
+      (subst (λ (octets : List ℕ). WireFaultAt expects limits octets two.frames two.place two.fault)
+      (sym (append-nil stream)) two.at) in
+      let same = same_showing _ _ _ _ _ _ at.0 one.shown two.shown in (
+        one.known ∙ sym two.known,
+        one.all ∙ (λ i. (preface_lines expects stream ++ same.1 i)
+            ++ fault_line (wire_fault_code (at.2 i)) (saturated (at.1 i))) ∙ sym two.all,
+      )
 
 -- A stream without fault has no frame with an error of its blocks.
 no_end_and_error : {Goal : Type 0} (expects : Bool) (limits : Limits) (stream : List ℕ)
@@ -183,61 +180,54 @@ no_fault_and_error expects limits stream status other output another one two =
     (subst (λ (line : List Frame). FramesDecode line one.begun one.shown.table) same
     (shown_frames_decode _ _ _ one.shown)))
 
--- Two octets of a stream at the ends of frames with errors of their blocks are one.
-same_errors : (expects : Bool) (limits : Limits) (stream : List ℕ) (status other : Status)
-    (output another : List ℕ) → ShownToBlockError expects limits stream status output
-    → ShownToBlockError expects limits stream other another
-    → (status ≡ other) × (output ≡ another)
-same_errors expects limits stream status other output another one two =
-    let framed : one.frames ++ one.last ∷ [] ≡ two.frames ++ two.last ∷ [] =
-    one_wrong_frame _ _ _ _ _ _ _ _ _ _ _ _ _ one.reading two.reading one.error two.error
-    (shown_frames_decode _ _ _ one.shown) (shown_frames_decode _ _ _ two.shown) in
-    let reading = subst (λ (line : List Frame).
-    Frames expects limits (take two.place stream) line []) (sym framed) two.reading in
-    let place : one.place ≡ two.place =
-    one_place _ _ _ _ _ _ (some_frames _ _) one.within two.within one.reading reading in
-    let code : one.code ≡ two.code =
-    one_error _ _ _ one.error
-    (subst (λ (line : List Frame). EndsWithBlockError line two.code) (sym framed) two.error) in
-    let same = same_showing _ _ _ _ _ _ (one_without_last _ _ _ _ framed) one.shown two.shown in (
-      one.known ∙ sym two.known,
-      one.all
-          ∙ (λ i. (preface_lines expects stream ++ same.1 i)
-          ++ fault_line (code i) (saturated (place i)))
-          ∙ sym two.all,
-    )
+module _ (expects : Bool) (limits : Limits) (stream : List ℕ) (status other : Status)
+    (output another : List ℕ) where
+  -- Two octets of a stream at the ends of frames with errors of their blocks are one.
+  same_errors : ShownToBlockError expects limits stream status output
+      → ShownToBlockError expects limits stream other another → (status ≡ other)
+      × (output ≡ another)
+  same_errors one two =
+      let framed : one.frames ++ one.last ∷ [] ≡ two.frames ++ two.last ∷ [] =
+      one_wrong_frame _ _ _ _ _ _ _ _ _ _ _ _ _ one.reading two.reading one.error two.error
+      (shown_frames_decode _ _ _ one.shown) (shown_frames_decode _ _ _ two.shown) in
+      let reading = subst (λ (line : List Frame).
+      Frames expects limits (take two.place stream) line []) (sym framed) two.reading in
+      let place : one.place ≡ two.place =
+      one_place _ _ _ _ _ _ (some_frames _ _) one.within two.within one.reading reading in
+      let code : one.code ≡ two.code = one_error _ _ _ one.error
+      (subst (λ (line : List Frame). EndsWithBlockError line two.code) (sym framed) two.error) in
+      let same = same_showing _ _ _ _ _ _ (one_without_last _ _ _ _ framed) one.shown two.shown in (
+        one.known ∙ sym two.known,
+        one.all ∙ (λ i. (preface_lines expects stream ++ same.1 i)
+            ++ fault_line (code i) (saturated (place i))) ∙ sym two.all,
+      )
 
--- Two outcomes of a stream are one.
-same_outcomes : (expects : Bool) (limits : Limits) (stream : List ℕ) (status other : Status)
-    (output another : List ℕ) → Outcome expects limits stream status output
-    → Outcome expects limits stream other another → (status ≡ other) × (output ≡ another)
-same_outcomes expects limits stream status other output another (inl one) (inl two) =
-    same_ends expects limits stream status other output another one two
-same_outcomes expects limits stream status other output another (inl one) (inr (inl two)) =
-    no_end_and_fault expects limits stream status other output another one two
-same_outcomes expects limits stream status other output another (inl one) (inr (inr two)) =
-    no_end_and_error expects limits stream status other output another one two
-same_outcomes expects limits stream status other output another (inr (inl one)) (inl two) =
-    no_end_and_fault expects limits stream other status another output two one
-same_outcomes expects limits stream status other output another (inr (inl one)) (inr (inl two)) =
-    same_wire_faults expects limits stream status other output another one two
-same_outcomes expects limits stream status other output another (inr (inl one)) (inr (inr two)) =
-    no_fault_and_error expects limits stream status other output another one two
-same_outcomes expects limits stream status other output another (inr (inr one)) (inl two) =
-    no_end_and_error expects limits stream other status another output two one
-same_outcomes expects limits stream status other output another (inr (inr one)) (inr (inl two)) =
-    no_fault_and_error expects limits stream other status another output two one
-same_outcomes expects limits stream status other output another (inr (inr one)) (inr (inr two)) =
-    same_errors expects limits stream status other output another one two
+  -- Two outcomes of a stream are one.
+  same_outcomes : Outcome expects limits stream status output
+      → Outcome expects limits stream other another → (status ≡ other) × (output ≡ another)
+  same_outcomes (inl one) (inl two) =
+      same_ends expects limits stream status other output another one two
+  same_outcomes (inl one) (inr (inl two)) =
+      no_end_and_fault expects limits stream status other output another one two
+  same_outcomes (inl one) (inr (inr two)) =
+      no_end_and_error expects limits stream status other output another one two
+  same_outcomes (inr (inl one)) (inl two) =
+      no_end_and_fault expects limits stream other status another output two one
+  same_outcomes (inr (inl one)) (inr (inl two)) =
+      same_wire_faults expects limits stream status other output another one two
+  same_outcomes (inr (inl one)) (inr (inr two)) =
+      no_fault_and_error expects limits stream status other output another one two
+  same_outcomes (inr (inr one)) (inl two) =
+      no_end_and_error expects limits stream other status another output two one
+  same_outcomes (inr (inr one)) (inr (inl two)) =
+      no_fault_and_error expects limits stream other status another output two one
+  same_outcomes (inr (inr one)) (inr (inr two)) = same_errors one two
 
--- A stream has one output and one status.
-pub one_output_lem : (expects : Bool) (limits : Limits) (stream : List ℕ) (status other : Status)
-    (output another : List ℕ) → Shows expects limits stream status output
-    → Shows expects limits stream other another → (status ≡ other) × (output ≡ another)
-one_output_lem expects limits stream status other output another shows again =
-    same_outcomes expects limits stream status other output another
-    (outcome expects limits stream status output shows)
-    (outcome expects limits stream other another again)
+  -- A stream has one output and one status.
+  pub one_output_lem : Shows expects limits stream status output
+      → Shows expects limits stream other another → (status ≡ other) × (output ≡ another)
+  one_output_lem shows again = same_outcomes (outcome expects limits stream status output shows)
+      (outcome expects limits stream other another again)
 
 -- An input has one output and one status, whether it is octets or hexadecimal.
 pub one_output_of_input : (hex : Bool) (options : ShowOptions) (given : List ℕ)

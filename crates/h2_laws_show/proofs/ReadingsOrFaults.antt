@@ -307,89 +307,82 @@ ReadOrFault expects limits stream =
     ⊎ ((frames : List Frame) × (place : ℕ) × (fault : WireFault)
     × WireFaultAt expects limits stream frames place fault)
 
--- What ends with a frame, or a head, at fault after a sound part.
-wrong_ends : (expects : Bool) (limits : Limits) (frames : List Frame) (body last : List ℕ)
-    (fault : WireFault) → AreFrames limits (length (expected_preface expects)) frames body
-    → IsWrong (limits (length (expected_preface expects) + length body + 9)) last fault
-    → EndsWithFault expects limits frames ((expected_preface expects ++ body) ++ last) fault
-wrong_ends expects limits frames body last faults.BadPreface framed wrong = absurd wrong
-wrong_ends expects limits frames body last (faults.HeadFault code) framed wrong =
-    grind (arith, common_steps)
-wrong_ends expects limits frames body last (faults.PayloadFault code) framed wrong =
-    grind (arith, common_steps)
-wrong_ends expects limits frames body last faults.Memory framed wrong = absurd wrong
+module _ (expects : Bool) (limits : Limits) where
+  -- What ends with a frame, or a head, at fault after a sound part.
+  wrong_ends : (frames : List Frame) (body last : List ℕ) (fault : WireFault)
+      → AreFrames limits (length (expected_preface expects)) frames body
+      → IsWrong (limits (length (expected_preface expects) + length body + 9)) last fault
+      → EndsWithFault expects limits frames ((expected_preface expects ++ body) ++ last) fault
+  wrong_ends frames body last faults.BadPreface framed wrong = absurd wrong
+  wrong_ends frames body last (faults.HeadFault code) framed wrong = grind (arith, common_steps)
+  wrong_ends frames body last (faults.PayloadFault code) framed wrong = grind (arith, common_steps)
+  wrong_ends frames body last faults.Memory framed wrong = absurd wrong
 
--- After the preface a stream is read, or has a fault.
-after_preface : (expects : Bool) (limits : Limits) (stream following : List ℕ)
-    → stream ≡ expected_preface expects ++ following → ReadOrFault expects limits stream
-after_preface expects limits stream following joined =
-    elim (body_cases (length following) limits (length (expected_preface expects)) following
-    (omega arith)) [
-      | inl read ↦
-          inl (
-            read.frames,
-            read.unparsed,
-            inr (record {
-              part = expected_preface expects ++ read.body;
-              joined = joined
-                  ∙ ap (λ (line : List ℕ). expected_preface expects ++ line) read.joined
-                  ∙ sym (append_assoc (expected_preface expects) read.body read.unparsed);
-              sound = record { body = read.body; opened = refl; framed = read.framed };
-              partial = rw length-append read.partial;
-            }),
-          )
-      | inr at ↦
-          inr (
-            at.frames,
-            length ((expected_preface expects ++ at.body) ++ at.last),
-            at.fault,
-            fault_at expects limits stream ((expected_preface expects ++ at.body) ++ at.last)
-                at.beyond at.frames at.fault
-                (joined ∙ ap (λ (line : List ℕ). expected_preface expects ++ line) at.joined
-                ∙ sym (append_assoc (expected_preface expects) at.body (at.last ++ at.beyond))
-                ∙ sym (append_assoc (expected_preface expects ++ at.body) at.last at.beyond))
-                (wrong_ends expects limits at.frames at.body at.last at.fault at.framed at.wrong),
-          )
-    ]
+  -- After the preface a stream is read, or has a fault.
+  after_preface : (stream following : List ℕ) → stream ≡ expected_preface expects ++ following
+      → ReadOrFault expects limits stream
+  after_preface stream following joined =
+      elim (body_cases (length following) limits (length (expected_preface expects)) following
+      (omega arith)) [
+        | inl read ↦ inl (
+          read.frames,
+          read.unparsed,
+          inr (record {
+            part = expected_preface expects ++ read.body;
+            joined = joined
+                ∙ ap (λ (line : List ℕ). expected_preface expects ++ line) read.joined
+                ∙ sym (append_assoc (expected_preface expects) read.body read.unparsed);
+            sound = record { body = read.body; opened = refl; framed = read.framed };
+            partial = rw length-append read.partial;
+          }),
+        )
+        | inr at ↦ inr (
+          at.frames,
+          length ((expected_preface expects ++ at.body) ++ at.last),
+          at.fault,
+          fault_at expects limits stream ((expected_preface expects ++ at.body) ++ at.last)
+              at.beyond at.frames at.fault
+              (joined ∙ ap (λ (line : List ℕ). expected_preface expects ++ line) at.joined
+              ∙ sym (append_assoc (expected_preface expects) at.body (at.last ++ at.beyond))
+              ∙ sym (append_assoc (expected_preface expects ++ at.body) at.last at.beyond))
+              (wrong_ends at.frames at.body at.last at.fault at.framed at.wrong),
+        )
+      ]
 
--- Each stream has a reading, or a fault.
-pub reading_or_fault_lem : (expects : Bool) (limits : Limits) (stream : List ℕ)
-    → ((frames : List Frame) × (unparsed : List ℕ)
-    × Frames expects limits stream frames unparsed)
-    ⊎ ((frames : List Frame) × (place : ℕ) × (fault : WireFault)
-    × WireFaultAt expects limits stream frames place fault)
-reading_or_fault_lem expects limits stream = elim (compares (expected_preface expects) stream) [
-  | inl begins_with ↦
-      after_preface expects limits stream begins_with.following begins_with.joined
-  | inr (inl shorter) ↦
-      inl (
-        [],
-        stream,
-        inl (record {
-          missing = shorter.missing;
-          opens = shorter.opens;
-          short = shorter.short;
-          none = refl;
-          all = refl;
-        }),
-      )
-  | inr (inr other) ↦
-      inr (
-        [],
-        length (other.prefix ++ other.wrong ∷ []),
-        faults.BadPreface,
-        fault_at expects limits stream (other.prefix ++ other.wrong ∷ []) other.beyond []
-            faults.BadPreface
-            (other.reads ∙ sym (append_assoc other.prefix (other.wrong ∷ []) other.beyond))
-            (record {
-              none = refl;
-              prefix = other.prefix;
-              right = other.right;
-              missing = other.missing;
-              wrong = other.wrong;
-              opens = other.opens;
-              reads = refl;
-              differs = other.differs;
-            }),
-      )
-]
+  -- Each stream has a reading, or a fault.
+  pub reading_or_fault_lem : (stream : List ℕ)
+      → ((frames : List Frame) × (unparsed : List ℕ) × Frames expects limits stream frames unparsed)
+      ⊎ ((frames : List Frame) × (place : ℕ) × (fault : WireFault) × WireFaultAt expects limits
+      stream frames place fault)
+  reading_or_fault_lem stream = elim (compares (expected_preface expects) stream) [
+    | inl begins_with ↦ after_preface stream begins_with.following begins_with.joined
+    | inr (inl shorter) ↦ inl (
+      [],
+      stream,
+      inl (record {
+        missing = shorter.missing;
+        opens = shorter.opens;
+        short = shorter.short;
+        none = refl;
+        all = refl;
+      }),
+    )
+    | inr (inr other) ↦ inr (
+      [],
+      length (other.prefix ++ other.wrong ∷ []),
+      faults.BadPreface,
+      fault_at expects limits stream (other.prefix ++ other.wrong ∷ []) other.beyond []
+          faults.BadPreface
+          (other.reads ∙ sym (append_assoc other.prefix (other.wrong ∷ []) other.beyond))
+          (record {
+            none = refl;
+            prefix = other.prefix;
+            right = other.right;
+            missing = other.missing;
+            wrong = other.wrong;
+            opens = other.opens;
+            reads = refl;
+            differs = other.differs;
+          }),
+    )
+  ]

@@ -23,82 +23,77 @@ use Rattle.h2_laws_show.proofs.LongerStreams.{longer_reading}
 use Rattle.h2_laws_show.proofs.ShownFrames.{shown_frames_decode}
 use Rattle.h2_laws_show.proofs.BlockErrors.{error_stops}
 
--- The status that comes with an output reports the stream.
-pub shown_reports : (expects : Bool) (limits : Limits) (stream : List ℕ) (status : Status)
-    (output : List ℕ) → Shows expects limits stream status output
-    → StatusReports expects limits stream status
-shown_reports expects limits stream status output (is_complete frames lines reading shown known all)
-    = subst (λ (reported : Status). StatusReports expects limits stream reported) (sym known)
-    (record {
-      frames = frames;
-      table = shown.table;
-      reading = reading;
-      decoded = shown_frames_decode frames None lines shown;
-    })
-shown_reports expects limits stream status output
-    (ends_inside_frame frames unparsed begun lines reading some shown known all) =
-    subst (λ (reported : Status). StatusReports expects limits stream reported) (sym known)
-    (inside_frame (record {
-      frames = frames;
-      unparsed = unparsed;
-      begun = begun;
-      table = shown.table;
-      reading = reading;
-      some = some;
-      decoded = shown_frames_decode frames begun lines shown;
-    }))
-shown_reports expects limits stream status output
-    (ends_inside_block frames begun lines reading shown known all) =
-    subst (λ (reported : Status). StatusReports expects limits stream reported) (sym known)
-    (inside_block (record {
-      frames = frames;
-      begun = begun;
-      table = shown.table;
-      reading = reading;
-      decoded = shown_frames_decode frames (Some begun) lines shown;
-    }))
-shown_reports expects limits stream status output
-    (has_wire_fault frames begun place fault lines at shown known all) =
-    subst (λ (reported : Status). StatusReports expects limits stream reported) (sym known)
-    (wire_fault place fault (record {
-      frames = frames;
-      begun = begun;
-      table = shown.table;
-      at = at;
-      decoded = shown_frames_decode frames begun lines shown;
-    }))
-shown_reports expects limits stream status output
-    (has_block_error frames last begun place code lines within reading error shown known all) =
-    subst (λ (reported : Status). StatusReports expects limits stream reported) (sym known)
-    (block_error place code (record {
-      frames = frames ++ last ∷ [];
-      within = within;
-      reading = reading;
-      error = error;
-    }))
+module _ (expects : Bool) (limits : Limits) (stream : List ℕ) where
+  -- The status that comes with an output reports the stream.
+  pub shown_reports : (status : Status) (output : List ℕ)
+      → Shows expects limits stream status output → StatusReports expects limits stream status
+  shown_reports status output (is_complete frames lines reading shown known all)
+      = subst (λ (reported : Status). StatusReports expects limits stream reported) (sym known)
+      (record {
+        frames = frames;
+        table = shown.table;
+        reading = reading;
+        decoded = shown_frames_decode frames None lines shown;
+      })
+  shown_reports status output
+      (ends_inside_frame frames unparsed begun lines reading some shown known all) =
+      subst (λ (reported : Status). StatusReports expects limits stream reported) (sym known)
+      (inside_frame (record {
+        frames = frames;
+        unparsed = unparsed;
+        begun = begun;
+        table = shown.table;
+        reading = reading;
+        some = some;
+        decoded = shown_frames_decode frames begun lines shown;
+      }))
+  shown_reports status output (ends_inside_block frames begun lines reading shown known all) =
+      subst (λ (reported : Status). StatusReports expects limits stream reported) (sym known)
+      (inside_block (record {
+        frames = frames;
+        begun = begun;
+        table = shown.table;
+        reading = reading;
+        decoded = shown_frames_decode frames (Some begun) lines shown;
+      }))
+  shown_reports status output (has_wire_fault frames begun place fault lines at shown known all) =
+      subst (λ (reported : Status). StatusReports expects limits stream reported) (sym known)
+      (wire_fault place fault (record {
+        frames = frames;
+        begun = begun;
+        table = shown.table;
+        at = at;
+        decoded = shown_frames_decode frames begun lines shown;
+      }))
+  shown_reports status output
+      (has_block_error frames last begun place code lines within reading error shown known all) =
+      subst (λ (reported : Status). StatusReports expects limits stream reported) (sym known)
+      (block_error place code (record {
+        frames = frames ++ last ∷ [];
+        within = within;
+        reading = reading;
+        error = error;
+      }))
 
--- A stream at fault has no reading.
-pub no_reading_here : (expects : Bool) (limits : Limits) (stream : List ℕ)
-    (preceding frames : List Frame) (place : ℕ) (fault : WireFault) (unparsed : List ℕ)
-    → WireFaultAt expects limits stream preceding place fault
-    → Frames expects limits stream frames unparsed → ⊥
-no_reading_here expects limits stream preceding frames place fault unparsed at reading =
-    no_reading expects limits (take place stream) (drop place stream) stream unparsed preceding
-    frames fault at.made (sym (take-append-drop place stream)) reading
+  -- A stream at fault has no reading.
+  pub no_reading_here : (preceding frames : List Frame) (place : ℕ) (fault : WireFault)
+      (unparsed : List ℕ) → WireFaultAt expects limits stream preceding place fault
+      → Frames expects limits stream frames unparsed → ⊥
+  no_reading_here preceding frames place fault unparsed at reading =
+      no_reading expects limits (take place stream) (drop place stream) stream unparsed preceding
+      frames fault at.made (sym (take-append-drop place stream)) reading
 
--- No frames of a stream decode that begin with those of an error of blocks.
-pub no_error_within : (expects : Bool) (limits : Limits) (stream : List ℕ)
-    (frames wrong : List Frame) (unparsed : List ℕ) (place : ℕ) (code : Code)
-    (begun : Option Begun) (table : Entries)
-    → Frames expects limits (take place stream) wrong [] → EndsWithBlockError wrong code
-    → Frames expects limits stream frames unparsed → FramesDecode frames begun table → ⊥
-no_error_within expects limits stream frames wrong unparsed place code begun table first error
-    reading decoded =
-    let (following, same) = longer_reading _ _ _ (drop place stream) _ _ _ _ first
-    (subst (λ (octets : List ℕ). Frames expects limits octets frames unparsed)
-    (sym (take-append-drop place stream)) reading) in
-    error_stops _ following _ _ _ error
-    (subst (λ (line : List Frame). FramesDecode line begun table) same decoded)
+  -- No frames of a stream decode that begin with those of an error of blocks.
+  pub no_error_within : (frames wrong : List Frame) (unparsed : List ℕ) (place : ℕ) (code : Code)
+      (begun : Option Begun) (table : Entries) → Frames expects limits (take place stream) wrong []
+      → EndsWithBlockError wrong code → Frames expects limits stream frames unparsed
+      → FramesDecode frames begun table → ⊥
+  no_error_within frames wrong unparsed place code begun table first error reading decoded =
+      let (following, same) = longer_reading _ _ _ (drop place stream) _ _ _ _ first
+      (subst (λ (octets : List ℕ). Frames expects limits octets frames unparsed)
+      (sym (take-append-drop place stream)) reading) in
+      error_stops _ following _ _ _ error
+      (subst (λ (line : List Frame). FramesDecode line begun table) same decoded)
 
 -- A complete stream isn't at fault.
 complete_no_fault : (expects : Bool) (limits : Limits) (stream : List ℕ)

@@ -75,48 +75,43 @@ earlier_frame expects limits stream wrong frames last begun table place other co
           (subst (λ (line : List Frame). FramesDecode line begun table) begins decoded))
     ]
 
--- The first frame of a stream with an error of its blocks is one.
-pub one_wrong_frame : (expects : Bool) (limits : Limits) (stream : List ℕ)
-    (frames others : List Frame) (last end : Frame) (begun left : Option Begun)
-    {table after : Entries} (place other : ℕ) (code another : Code)
-    → Frames expects limits (take place stream) (frames ++ last ∷ []) []
-    → Frames expects limits (take other stream) (others ++ end ∷ []) []
-    → EndsWithBlockError (frames ++ last ∷ []) code
-    → EndsWithBlockError (others ++ end ∷ []) another
-    → FramesDecode frames begun table → FramesDecode others left after
-    → frames ++ last ∷ [] ≡ others ++ end ∷ []
-one_wrong_frame expects limits stream frames others last end begun left {table} {after} place other
-    code another reading later error wrong decoded again = elim (cases_lt place other) [
-      | inl less ↦
-          earlier_frame _ _ _ _ _ _ _ _ place other _ (omega arith) reading later error again
-      | inr more ↦
-          sym (earlier_frame _ _ _ _ _ _ _ _ _ _ _ more later reading wrong decoded)
-    ]
+module _ (expects : Bool) (limits : Limits) (stream : List ℕ) (frames : List Frame) where
+  -- The first frame of a stream with an error of its blocks is one.
+  pub one_wrong_frame : (others : List Frame) (last end : Frame)
+      (begun left : Option Begun) {table after : Entries} (place other : ℕ) (code another : Code)
+      → Frames expects limits (take place stream) (frames ++ last ∷ []) []
+      → Frames expects limits (take other stream) (others ++ end ∷ []) []
+      → EndsWithBlockError (frames ++ last ∷ []) code
+      → EndsWithBlockError (others ++ end ∷ []) another → FramesDecode frames begun table
+      → FramesDecode others left after → frames ++ last ∷ [] ≡ others ++ end ∷ []
+  one_wrong_frame others last end begun left {table} {after} place other
+      code another reading later error wrong decoded again = elim (cases_lt place other) [
+        | inl less ↦
+            earlier_frame _ _ _ _ _ _ _ _ place other _ (omega arith) reading later error again
+        | inr more ↦ sym (earlier_frame _ _ _ _ _ _ _ _ _ _ _ more later reading wrong decoded)
+      ]
 
--- A stream read up to two places as the same frames is read up to one place.
-one_place_after : (expects : Bool) (limits : Limits) (stream : List ℕ) (frames : List Frame)
-    (place other : ℕ) → place ≤ length stream → other ≤ length stream
-    → IsAfterPreface expects limits (take place stream) frames []
-    → IsAfterPreface expects limits (take other stream) frames [] → place ≡ other
-one_place_after expects limits stream frames place other within inside past again =
-    let first : past.part ≡ take place stream = sym (append-nil past.part) ∙ sym past.joined in
-    let second : again.part ≡ take other stream = sym (append-nil again.part) ∙ sym again.joined in
-    let line : past.part ++ drop place stream ≡ again.part ++ drop other stream =
-    ap (λ (part : List ℕ). part ++ drop place stream) first ∙ take-append-drop place stream
-    ∙ sym (take-append-drop other stream)
-    ∙ ap (λ (part : List ℕ). part ++ drop other stream) (sym second) in
-    let same = one_part _ _ _ _ _ _ _ past.sound again.sound line in
-    let octets : take place stream ≡ take other stream = sym first ∙ same ∙ second in
-    omega (arith, ap length octets, length-take place stream, length-take other stream)
+  -- A stream read up to two places as the same frames is read up to one place.
+  one_place_after : (place other : ℕ) → place ≤ length stream → other ≤ length stream
+      → IsAfterPreface expects limits (take place stream) frames []
+      → IsAfterPreface expects limits (take other stream) frames [] → place ≡ other
+  one_place_after place other within inside past again =
+      let first : past.part ≡ take place stream = sym (append-nil past.part) ∙ sym past.joined in
+      let second : again.part ≡ take other stream = sym (append-nil again.part) ∙ sym again.joined
+      in
+      let line : past.part ++ drop place stream ≡ again.part ++ drop other stream =
+      ap (λ (part : List ℕ). part ++ drop place stream) first ∙ take-append-drop place stream
+      ∙ sym (take-append-drop other stream)
+      ∙ ap (λ (part : List ℕ). part ++ drop other stream) (sym second) in
+      let same = one_part _ _ _ _ _ _ _ past.sound again.sound line in
+      let octets : take place stream ≡ take other stream = sym first ∙ same ∙ second in
+      omega (arith, ap length octets, length-take place stream, length-take other stream)
 
--- A stream has one place at which it is some frames.
-pub one_place : (expects : Bool) (limits : Limits) (stream : List ℕ) (frames : List Frame)
-    (place other : ℕ) → (frames ≡ [] → ⊥) → place ≤ length stream → other ≤ length stream
-    → Frames expects limits (take place stream) frames []
-    → Frames expects limits (take other stream) frames [] → place ≡ other
-one_place expects limits stream frames place other some within inside (inl short) later =
-    absurd (some short.none)
-one_place expects limits stream frames place other some within inside (inr past) (inl short) =
-    absurd (some short.none)
-one_place expects limits stream frames place other some within inside (inr past) (inr again) =
-    one_place_after expects limits stream frames place other within inside past again
+  -- A stream has one place at which it is some frames.
+  pub one_place : (place other : ℕ) → (frames ≡ [] → ⊥) → place ≤ length stream
+      → other ≤ length stream → Frames expects limits (take place stream) frames []
+      → Frames expects limits (take other stream) frames [] → place ≡ other
+  one_place place other some within inside (inl short) later = absurd (some short.none)
+  one_place place other some within inside (inr past) (inl short) = absurd (some short.none)
+  one_place place other some within inside (inr past) (inr again) =
+      one_place_after place other within inside past again
