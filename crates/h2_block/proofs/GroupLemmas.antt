@@ -57,50 +57,46 @@ AreItems-push (other ∷ items) frames item last (first, others, joined, is_item
   AreItems-push items others item last rest whole,
 )
 
--- The frame makes what was left an item.
-closes : (frames : List Frame) (items : List Item) (begun : Option Begun) (frame : Frame)
-    (item : Item) → (groups : Groups frames items begun)
-    → IsItem item (groups.left ++ frame ∷ [])
-    → Groups (frames ++ frame ∷ []) (items ++ item ∷ []) None
-closes frames items begun frame item groups whole = record {
-  complete = groups.complete ++ (groups.left ++ frame ∷ []);
-  left = [];
-  joined = ap (λ (line : List Frame). line ++ frame ∷ []) groups.joined
-      ∙ append_assoc groups.complete groups.left (frame ∷ []) ∙ sym (append-nil _);
-  grouped = AreItems-push items groups.complete item
-      (groups.left ++ frame ∷ []) groups.grouped whole;
-  unfinished = refl;
-}
+module _ (frames : List Frame) (items : List Item) where
+  -- The frame makes what was left an item.
+  closes : (begun : Option Begun) (frame : Frame) (item : Item)
+      → (groups : Groups frames items begun) → IsItem item (groups.left ++ frame ∷ [])
+      → Groups (frames ++ frame ∷ []) (items ++ item ∷ []) None
+  closes begun frame item groups whole = record {
+    complete = groups.complete ++ (groups.left ++ frame ∷ []);
+    left = [];
+    joined = ap (λ (line : List Frame). line ++ frame ∷ []) groups.joined
+        ∙ append_assoc groups.complete groups.left (frame ∷ []) ∙ sym (append-nil _);
+    grouped = AreItems-push items groups.complete item
+        (groups.left ++ frame ∷ []) groups.grouped whole;
+    unfinished = refl;
+  }
 
--- The frame leaves a block that has begun.
-leaves : (frames : List Frame) (items : List Item) (begun : Option Begun) (frame : Frame)
-    (after : Begun) → (groups : Groups frames items begun)
-    → IsLeft (Some after) (groups.left ++ frame ∷ [])
-    → Groups (frames ++ frame ∷ []) (items ++ []) (Some after)
-leaves frames items begun frame after groups left = record {
-  complete = groups.complete;
-  left = groups.left ++ frame ∷ [];
-  joined = ap (λ (line : List Frame). line ++ frame ∷ []) groups.joined
-      ∙ append_assoc groups.complete groups.left (frame ∷ []);
-  grouped = rw append-nil groups.grouped;
-  unfinished = left;
-}
+  -- The frame leaves a block that has begun.
+  leaves : (begun : Option Begun) (frame : Frame) (after : Begun)
+      → (groups : Groups frames items begun) → IsLeft (Some after) (groups.left ++ frame ∷ [])
+      → Groups (frames ++ frame ∷ []) (items ++ []) (Some after)
+  leaves begun frame after groups left = record {
+    complete = groups.complete;
+    left = groups.left ++ frame ∷ [];
+    joined = ap (λ (line : List Frame). line ++ frame ∷ []) groups.joined
+        ∙ append_assoc groups.complete groups.left (frame ∷ []);
+    grouped = rw append-nil groups.grouped;
+    unfinished = left;
+  }
 
--- outside blocks nothing is left
-nothing_left : (frames : List Frame) (items : List Item) (frame : Frame)
-    → (groups : Groups frames items None) → groups.left ++ frame ∷ [] ≡ frame ∷ []
-nothing_left frames items frame groups =
-    ap (λ (line : List Frame). line ++ frame ∷ []) groups.unfinished
+  -- outside blocks nothing is left
+  nothing_left : (frame : Frame) → (groups : Groups frames items None)
+      → groups.left ++ frame ∷ [] ≡ frame ∷ []
+  nothing_left frame groups = ap (λ (line : List Frame). line ++ frame ∷ []) groups.unfinished
 
--- A standalone frame is an item outside blocks.
-is_standalone_now : (frames : List Frame) (items : List Item) (frame : Frame)
-    → is_standalone frame ≡ true → Groups frames items None
-    → Groups (frames ++ frame ∷ []) (items ++ alone frame ∷ []) None
-is_standalone_now frames items frame is_alone groups =
-    closes frames items None frame (alone frame) groups (
-      is_alone,
-      nothing_left frames items frame groups,
-    )
+  -- A standalone frame is an item outside blocks.
+  is_standalone_now : (frame : Frame) → is_standalone frame ≡ true → Groups frames items None
+      → Groups (frames ++ frame ∷ []) (items ++ alone frame ∷ []) None
+  is_standalone_now frame is_alone groups = closes None frame (alone frame) groups (
+    is_alone,
+    nothing_left frame groups,
+  )
 
 -- One more CONTINUATION after CONTINUATIONs.
 AreContinuations-push : (stream : ℕ) (frames : List Frame) (octets fragment : List ℕ)

@@ -64,43 +64,37 @@ fails_with old new fault frame sound never after faulty =
       };
     })
 
--- HEADERS above the limit are too long
-pub headers_too_long : (stream : ℕ) (end whole : Bool) (fragment : List ℕ) (pad : Option ℕ)
-    (priority : Option (List ℕ)) → max_block_octets < length fragment
-    → fault_outside (Headers stream end whole fragment pad priority) ≡ Some faults.TooLong
-unfolding fault_outside
-headers_too_long stream end whole fragment pad priority above =
-    rw (lt-ltb max_block_octets (length fragment) above) refl
+module _ (stream : ℕ) (end whole : Bool) (fragment : List ℕ) (pad : Option ℕ) where
+  -- HEADERS above the limit are too long
+  pub headers_too_long : (priority : Option (List ℕ)) → max_block_octets < length fragment
+      → fault_outside (Headers stream end whole fragment pad priority) ≡ Some faults.TooLong
+  unfolding fault_outside
+  headers_too_long priority above = rw (lt-ltb max_block_octets (length fragment) above) refl
 
--- HEADERS within the limit are no fault
-pub headers_sound : (stream : ℕ) (end whole : Bool) (fragment : List ℕ) (pad : Option ℕ)
-    (priority : Option (List ℕ)) → length fragment ≤ max_block_octets
-    → fault_outside (Headers stream end whole fragment pad priority) ≡ None
-unfolding fault_outside
-headers_sound stream end whole fragment pad priority within =
-    rw (le-ltb max_block_octets (length fragment) within) refl
+  -- HEADERS within the limit are no fault
+  pub headers_sound : (priority : Option (List ℕ)) → length fragment ≤ max_block_octets
+      → fault_outside (Headers stream end whole fragment pad priority) ≡ None
+  unfolding fault_outside
+  headers_sound priority within = rw (le-ltb max_block_octets (length fragment) within) refl
 
--- a CONTINUATION of the block's stream with which the block is above the limit is too long
-pub continuation_too_long : (begun : Begun) (whole : Bool) (fragment : List ℕ)
-    → max_block_octets < length begun.octets + length fragment
-    → fault_inside begun (Continuation begun.stream whole fragment) ≡ Some faults.TooLong
-unfolding fault_inside
-continuation_too_long begun whole fragment above =
-    rw (
-      eq-eqb begun.stream begun.stream refl,
-      lt-ltb max_block_octets (length begun.octets + length fragment) above,
-    ) refl
+module _ (begun : Begun) (whole : Bool) (fragment : List ℕ) where
+  -- a CONTINUATION of the block's stream with which the block is above the limit is too long
+  pub continuation_too_long : max_block_octets < length begun.octets + length fragment
+      → fault_inside begun (Continuation begun.stream whole fragment) ≡ Some faults.TooLong
+  unfolding fault_inside
+  continuation_too_long above = rw (
+    eq-eqb begun.stream begun.stream refl,
+    lt-ltb max_block_octets (length begun.octets + length fragment) above,
+  ) refl
 
--- a CONTINUATION of the block's stream with which the block is within the limit is no fault
-pub continuation_sound : (begun : Begun) (whole : Bool) (fragment : List ℕ)
-    → length begun.octets + length fragment ≤ max_block_octets
-    → fault_inside begun (Continuation begun.stream whole fragment) ≡ None
-unfolding fault_inside
-continuation_sound begun whole fragment within =
-    rw (
-      eq-eqb begun.stream begun.stream refl,
-      le-ltb max_block_octets (length begun.octets + length fragment) within,
-    ) refl
+  -- a CONTINUATION of the block's stream with which the block is within the limit is no fault
+  pub continuation_sound : length begun.octets + length fragment ≤ max_block_octets
+      → fault_inside begun (Continuation begun.stream whole fragment) ≡ None
+  unfolding fault_inside
+  continuation_sound within = rw (
+    eq-eqb begun.stream begun.stream refl,
+    le-ltb max_block_octets (length begun.octets + length fragment) within,
+  ) refl
 
 -- HEADERS have no fault but that they are too long
 pub headers_reported : (stream : ℕ) (end whole : Bool) (fragment : List ℕ) (pad : Option ℕ)

@@ -115,67 +115,63 @@ one_fault start (frame ∷ frames) (first ∷ preceding) more last end items oth
       one.2,
     )
 
--- CONTINUATIONs inside a block continue it.
-continuations_run : (stream : ℕ) (end : Bool) (octets others : List ℕ) (frames : List Frame)
-    → AreContinuations stream frames others
-    → length (octets ++ others) ≤ max_block_octets
-    → Runs (Some (record { stream = stream; end = end; octets = octets })) frames []
-    (Some (record { stream = stream; end = end; octets = octets ++ others }))
-continuations_run stream end octets others [] none within = (
-  refl,
-  ap (λ (line : List ℕ). Some (record { stream = stream; end = end; octets = line }))
-      (ap (λ (line : List ℕ). octets ++ line) none ∙ append-nil octets),
-)
-continuations_run stream end octets others (frame ∷ frames)
-    (fragment, rest, is, joined, goes) within =
-    let begun : Begun = record { stream = stream; end = end; octets = octets } in
-    let line : octets ++ others ≡ (octets ++ fragment) ++ rest =
-    ap (λ (line : List ℕ). octets ++ line) joined ∙ sym (append_assoc octets fragment rest) in
-    let within_now : length ((octets ++ fragment) ++ rest) ≤ max_block_octets =
-    rw (← line) within in
-    let few : length octets + length fragment ≤ max_block_octets =
-    omega (
-      arith,
-      within_now,
-      length-append (octets ++ fragment) rest,
-      length-append octets fragment,
-    ) in
-    let run = continuations_run stream end (octets ++ fragment) rest frames goes within_now in
-    subst (λ (first : Frame). Runs (Some begun) (first ∷ frames) []
-    (Some (record { stream = stream; end = end; octets = octets ++ others }))) (sym is) (
-      continuation_sound begun false fragment few,
-      [],
-      refl,
-      subst (λ (octets_now : List ℕ).
-          Runs (Some (record { stream = stream; end = end; octets = octets ++ fragment })) frames []
-          (Some (record { stream = stream; end = end; octets = octets_now })))
-          (sym line) run,
-    )
+module _ (stream : ℕ) (end : Bool) where
+  -- CONTINUATIONs inside a block continue it.
+  continuations_run : (octets others : List ℕ) (frames : List Frame)
+      → AreContinuations stream frames others
+      → length (octets ++ others) ≤ max_block_octets
+      → Runs (Some (record { stream = stream; end = end; octets = octets })) frames []
+      (Some (record { stream = stream; end = end; octets = octets ++ others }))
+  continuations_run octets others [] none within = (
+    refl,
+    ap (λ (line : List ℕ). Some (record { stream = stream; end = end; octets = line }))
+        (ap (λ (line : List ℕ). octets ++ line) none ∙ append-nil octets),
+  )
+  continuations_run octets others (frame ∷ frames) (fragment, rest, is, joined, goes) within =
+      let begun : Begun = record { stream = stream; end = end; octets = octets } in
+      let line : octets ++ others ≡ (octets ++ fragment) ++ rest =
+      ap (λ (line : List ℕ). octets ++ line) joined ∙ sym (append_assoc octets fragment rest) in
+      let within_now : length ((octets ++ fragment) ++ rest) ≤ max_block_octets =
+      rw (← line) within in
+      let few : length octets + length fragment ≤ max_block_octets = omega (
+        arith,
+        within_now,
+        length-append (octets ++ fragment) rest,
+        length-append octets fragment,
+      ) in
+      let run = continuations_run (octets ++ fragment) rest frames goes within_now in
+      subst (λ (first : Frame). Runs (Some begun) (first ∷ frames) []
+      (Some (record { stream = stream; end = end; octets = octets ++ others }))) (sym is) (
+        continuation_sound begun false fragment few,
+        [],
+        refl,
+        subst (λ (octets_now : List ℕ).
+            Runs (Some (record { stream = stream; end = end; octets = octets ++ fragment })) frames
+            [] (Some (record { stream = stream; end = end; octets = octets_now }))) (sym line) run,
+      )
 
--- A block that has begun is a run.
-begun_runs : (stream : ℕ) (end : Bool) (octets : List ℕ) (frames : List Frame)
-    → IsBegun stream end octets frames → length octets ≤ max_block_octets
-    → Runs None frames [] (Some (record { stream = stream; end = end; octets = octets }))
-begun_runs stream end octets frames begun within =
-    let within_now : length (begun.fragment ++ begun.others) ≤ max_block_octets =
-    rw (← begun.joined) within in
-    let few : length begun.fragment ≤ max_block_octets =
-    omega (arith, within_now, length-append begun.fragment begun.others) in
-    let run =
-    continuations_run stream end begun.fragment begun.others begun.following begun.continued
-    within_now in
-    subst (λ (line : List Frame).
-    Runs None line [] (Some (record { stream = stream; end = end; octets = octets })))
-    (sym begun.opened) (
-      headers_sound stream end false begun.fragment begun.pad begun.priority few,
-      [],
-      refl,
-      subst (λ (octets_now : List ℕ).
-          Runs (Some (record { stream = stream; end = end; octets = begun.fragment }))
-          begun.following []
-          (Some (record { stream = stream; end = end; octets = octets_now })))
-          (sym begun.joined) run,
-    )
+  -- A block that has begun is a run.
+  begun_runs : (octets : List ℕ) (frames : List Frame)
+      → IsBegun stream end octets frames → length octets ≤ max_block_octets
+      → Runs None frames [] (Some (record { stream = stream; end = end; octets = octets }))
+  begun_runs octets frames begun within =
+      let within_now : length (begun.fragment ++ begun.others) ≤ max_block_octets =
+      rw (← begun.joined) within in
+      let few : length begun.fragment ≤ max_block_octets =
+      omega (arith, within_now, length-append begun.fragment begun.others) in
+      let run = continuations_run begun.fragment begun.others begun.following begun.continued
+      within_now in
+      subst (λ (line : List Frame).
+      Runs None line [] (Some (record { stream = stream; end = end; octets = octets })))
+      (sym begun.opened) (
+        headers_sound stream end false begun.fragment begun.pad begun.priority few,
+        [],
+        refl,
+        subst (λ (octets_now : List ℕ).
+            Runs (Some (record { stream = stream; end = end; octets = begun.fragment }))
+            begun.following [] (Some (record { stream = stream; end = end; octets = octets_now })))
+            (sym begun.joined) run,
+      )
 
 -- A standalone frame is a run.
 alone_runs : (frame : Frame) → is_standalone frame ≡ true

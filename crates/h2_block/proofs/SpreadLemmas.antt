@@ -195,62 +195,59 @@ continuation_writable most stream whole octets bounded at_least at_most few = (
   few,
 )
 
--- The CONTINUATIONs of octets can be written.
-continuations_writable : (most count stream : ℕ) (octets : List ℕ) → most < 2 ^ 24 → 1 ≤ stream
-    → stream < 2 ^ 31
-    → AllByRecursion (IsWritable most) (continuations most count stream octets)
-unfolding continuations
-continuations_writable most zero stream octets bounded at_least at_most = tt
-continuations_writable most (suc count) stream octets bounded at_least at_most =
-    elim (cases_lt most (length octets)) [
-      | inl more ↦ subst (λ (line : List Frame). AllByRecursion (IsWritable most) line)
-          (sym (continuations-more most count stream octets more)) (
-            continuation_writable most stream false (take most octets) bounded at_least at_most
-                (omega (arith, length-take most octets)),
-            continuations_writable most count stream (drop most octets) bounded at_least at_most,
-          )
-      | inr few ↦ subst (λ (line : List Frame). AllByRecursion (IsWritable most) line)
-          (sym (continuations-few most count stream octets few))
-          (continuation_writable most stream true octets bounded at_least at_most few, tt)
-    ]
+module _ (most : ℕ) where
+  -- The CONTINUATIONs of octets can be written.
+  continuations_writable : (count stream : ℕ) (octets : List ℕ) → most < 2 ^ 24 → 1 ≤ stream
+      → stream < 2 ^ 31 → AllByRecursion (IsWritable most) (continuations most count stream octets)
+  unfolding continuations
+  continuations_writable zero stream octets bounded at_least at_most = tt
+  continuations_writable (suc count) stream octets bounded at_least at_most =
+      elim (cases_lt most (length octets)) [
+        | inl more ↦ subst (λ (line : List Frame). AllByRecursion (IsWritable most) line)
+            (sym (continuations-more most count stream octets more)) (
+              continuation_writable most stream false (take most octets) bounded at_least at_most
+                  (omega (arith, length-take most octets)),
+              continuations_writable count stream (drop most octets) bounded at_least at_most,
+            )
+        | inr few ↦ subst (λ (line : List Frame). AllByRecursion (IsWritable most) line)
+            (sym (continuations-few most count stream octets few))
+            (continuation_writable most stream true octets bounded at_least at_most few, tt)
+      ]
 
--- The frames over which a block is spread can be written.
-pub spread_writable : (most stream : ℕ) (end : Bool) (octets : List ℕ) → most < 2 ^ 24
-    → 1 ≤ stream → stream < 2 ^ 31
-    → AllByRecursion (IsWritable most) (spread_frames most stream end octets)
-spread_writable most stream end octets bounded at_least at_most =
-    elim (cases_lt most (length octets)) [
-      | inl more ↦ subst (λ (line : List Frame). AllByRecursion (IsWritable most) line)
-          (sym (spread_frames-more most stream end octets more)) (
-            headers_writable most stream end false (take most octets) bounded at_least at_most
-                (omega (arith, length-take most octets)),
-            continuations_writable most (length octets) stream (drop most octets) bounded at_least
-                at_most,
-          )
-      | inr few ↦ subst (λ (line : List Frame). AllByRecursion (IsWritable most) line)
-          (sym (spread_frames-few most stream end octets few))
-          (headers_writable most stream end true octets bounded at_least at_most few, tt)
-    ]
+  -- The frames over which a block is spread can be written.
+  pub spread_writable : (stream : ℕ) (end : Bool) (octets : List ℕ) → most < 2 ^ 24 → 1 ≤ stream
+      → stream < 2 ^ 31 → AllByRecursion (IsWritable most) (spread_frames most stream end octets)
+  spread_writable stream end octets bounded at_least at_most =
+      elim (cases_lt most (length octets)) [
+        | inl more ↦ subst (λ (line : List Frame). AllByRecursion (IsWritable most) line)
+            (sym (spread_frames-more most stream end octets more)) (
+              headers_writable most stream end false (take most octets) bounded at_least at_most
+                  (omega (arith, length-take most octets)),
+              continuations_writable (length octets) stream (drop most octets) bounded at_least
+                  at_most,
+            )
+        | inr few ↦ subst (λ (line : List Frame). AllByRecursion (IsWritable most) line)
+            (sym (spread_frames-few most stream end octets few))
+            (headers_writable most stream end true octets bounded at_least at_most few, tt)
+      ]
 
--- one CONTINUATION more than octets is enough, and more change nothing
-continuations-count : (most count other stream : ℕ) (octets : List ℕ) → 1 ≤ most
-    → length octets < count → length octets < other
-    → continuations most count stream octets ≡ continuations most other stream octets
-continuations-count most zero other stream octets positive enough plenty = absurd (omega arith)
-continuations-count most (suc count) zero stream octets positive enough plenty =
-    absurd (omega arith)
-continuations-count most (suc count) (suc other) stream octets positive enough plenty =
-    elim (cases_lt most (length octets)) [
-      | inl more ↦
-          continuations-more most count stream octets more
-          ∙ ap (λ (line : List Frame). Continuation stream false (take most octets) ∷ line)
-          (continuations-count most count other stream (drop most octets) positive
-          (omega (arith, positive, length-drop most octets))
-          (omega (arith, positive, length-drop most octets)))
-          ∙ sym (continuations-more most other stream octets more)
-      | inr few ↦ continuations-few most count stream octets few
-          ∙ sym (continuations-few most other stream octets few)
-    ]
+  -- one CONTINUATION more than octets is enough, and more change nothing
+  continuations-count : (count other stream : ℕ) (octets : List ℕ) → 1 ≤ most
+      → length octets < count → length octets < other
+      → continuations most count stream octets ≡ continuations most other stream octets
+  continuations-count zero other stream octets positive enough plenty = absurd (omega arith)
+  continuations-count (suc count) zero stream octets positive enough plenty = absurd (omega arith)
+  continuations-count (suc count) (suc other) stream octets positive enough plenty =
+      elim (cases_lt most (length octets)) [
+        | inl more ↦ continuations-more most count stream octets more
+            ∙ ap (λ (line : List Frame). Continuation stream false (take most octets) ∷ line)
+            (continuations-count count other stream (drop most octets) positive
+            (omega (arith, positive, length-drop most octets))
+            (omega (arith, positive, length-drop most octets)))
+            ∙ sym (continuations-more most other stream octets more)
+        | inr few ↦ continuations-few most count stream octets few
+            ∙ sym (continuations-few most other stream octets few)
+      ]
 
 -- the frames of the octets that are left: none of none
 pub left_frames : (most stream : ℕ) → List ℕ → List Frame
@@ -278,92 +275,83 @@ pub record IsCut (most : ℕ) (octets piece following : List ℕ) (whole : Bool)
   pub rest : following ≡ drop (min (length octets) most) octets
   pub ends : whole ≡ (length following == 0)
 
--- a piece is within the limit
-pub cut_few : (most : ℕ) (octets piece following : List ℕ) (whole : Bool)
-    → IsCut most octets piece following whole → length piece ≤ most
-cut_few most octets piece following whole cut =
-    rw cut.first (omega (arith, length-take (min (length octets) most) octets))
+module _ (most : ℕ) (octets piece following : List ℕ) (whole : Bool) where
+  -- a piece is within the limit
+  pub cut_few : IsCut most octets piece following whole → length piece ≤ most
+  cut_few cut = rw cut.first (omega (arith, length-take (min (length octets) most) octets))
 
--- octets that fit a frame are one piece
-cut_all : (most : ℕ) (octets piece following : List ℕ) (whole : Bool)
-    → IsCut most octets piece following whole → length octets ≤ most
-    → (piece ≡ octets) × (length following ≡ 0) × (whole ≡ true)
-cut_all most octets piece following whole cut few =
-    let none : length following ≡ 0 =
-    rw cut.rest (omega (arith, length-drop (min (length octets) most) octets)) in (
-      cut.first ∙ take_all (min (length octets) most) octets (omega arith),
-      none,
-      cut.ends
-          ∙ eq-eqb (length following) 0 none,
-    )
+  -- octets that fit a frame are one piece
+  cut_all : IsCut most octets piece following whole → length octets ≤ most → (piece ≡ octets)
+      × (length following ≡ 0) × (whole ≡ true)
+  cut_all cut few =
+      let none : length following ≡ 0 =
+      rw cut.rest (omega (arith, length-drop (min (length octets) most) octets)) in (
+        cut.first ∙ take_all (min (length octets) most) octets (omega arith),
+        none,
+        cut.ends ∙ eq-eqb (length following) 0 none,
+      )
 
--- more octets are a full piece, and some after it
-cut_more : (most : ℕ) (octets piece following : List ℕ) (whole : Bool)
-    → IsCut most octets piece following whole → most < length octets
-    → (piece ≡ take most octets) × (following ≡ drop most octets)
-    × (0 < length following) × (whole ≡ false)
-cut_more most octets piece following whole cut more =
-    let at : min (length octets) most ≡ most = omega arith in
-    let rest : following ≡ drop most octets = cut.rest ∙ ap (λ (n : ℕ). drop n octets) at in
-    let some : 0 < length following = rw rest (omega (arith, length-drop most octets)) in (
-      cut.first ∙ ap (λ (n : ℕ). take n octets) at,
-      rest,
-      some,
-      cut.ends
-          ∙ ne_eqb (length following) 0 (λ none. omega (arith, some, none)),
-    )
+  -- more octets are a full piece, and some after it
+  cut_more : IsCut most octets piece following whole → most < length octets
+      → (piece ≡ take most octets) × (following ≡ drop most octets) × (0 < length following)
+      × (whole ≡ false)
+  cut_more cut more =
+      let at : min (length octets) most ≡ most = omega arith in
+      let rest : following ≡ drop most octets = cut.rest ∙ ap (λ (n : ℕ). drop n octets) at in
+      let some : 0 < length following = rw rest (omega (arith, length-drop most octets)) in (
+        cut.first ∙ ap (λ (n : ℕ). take n octets) at,
+        rest,
+        some,
+        cut.ends ∙ ne_eqb (length following) 0 (λ none. omega (arith, some, none)),
+      )
 
--- The frames of a block are HEADERS with the first piece, and those of what is left.
-pub spread_frames-cut : (most stream : ℕ) (end : Bool) (octets piece following : List ℕ)
-    (whole : Bool) → 1 ≤ most → IsCut most octets piece following whole
-    → spread_frames most stream end octets ≡ Headers stream end whole piece None None
-    ∷ left_frames most stream following
-spread_frames-cut most stream end octets piece following whole positive cut =
-    elim (cases_lt most (length octets)) [
-      | inl more ↦
-          let (is_piece, is_behind, some, is_open) =
-          cut_more most octets piece following whole cut more in
-          let rest : left_frames most stream following ≡ continuations most (length octets) stream
-          (drop most octets) =
-          left_frames-some most stream following some
-          ∙ continuations-count most (suc (length following)) (length octets) stream following
-          positive (omega arith)
-          (rw is_behind (omega (arith, positive, length-drop most octets)))
-          ∙ ap (λ (line : List ℕ). continuations most (length octets) stream line) is_behind in
-          spread_frames-more most stream end octets more ∙ sym (rw (is_piece, is_open, rest) refl)
-      | inr few ↦
-          let (is_piece, none, is_whole) = cut_all most octets piece following whole cut few in
-          spread_frames-few most stream end octets few
-          ∙ sym (rw (is_piece, is_whole, left_frames-none most stream following none) refl)
-    ]
+module _ (most stream : ℕ) where
+  -- The frames of a block are HEADERS with the first piece, and those of what is left.
+  pub spread_frames-cut : (end : Bool) (octets piece following : List ℕ) (whole : Bool) → 1 ≤ most
+      → IsCut most octets piece following whole
+      → spread_frames most stream end octets ≡ Headers stream end whole piece None None
+      ∷ left_frames most stream following
+  spread_frames-cut end octets piece following whole positive cut =
+      elim (cases_lt most (length octets)) [
+        | inl more ↦
+            let (is_piece, is_behind, some, is_open) =
+            cut_more most octets piece following whole cut more in
+            let rest : left_frames most stream following ≡ continuations most (length octets) stream
+            (drop most octets) = left_frames-some most stream following some
+            ∙ continuations-count most (suc (length following)) (length octets) stream following
+            positive (omega arith) (rw is_behind (omega (arith, positive, length-drop most octets)))
+            ∙ ap (λ (line : List ℕ). continuations most (length octets) stream line) is_behind in
+            spread_frames-more most stream end octets more ∙ sym (rw (is_piece, is_open, rest) refl)
+        | inr few ↦
+            let (is_piece, none, is_whole) = cut_all most octets piece following whole cut few in
+            spread_frames-few most stream end octets few
+            ∙ sym (rw (is_piece, is_whole, left_frames-none most stream following none) refl)
+      ]
 
--- The frames of octets that are left are a CONTINUATION with the first piece, and those of what is
--- left then.
-pub left_frames-cut : (most stream : ℕ) (octets piece following : List ℕ) (whole : Bool)
-    → 1 ≤ most → 0 < length octets → IsCut most octets piece following whole
-    → left_frames most stream octets
-    ≡ Continuation stream whole piece ∷ left_frames most stream following
-left_frames-cut most stream octets piece following whole positive any cut =
-    elim (cases_lt most (length octets)) [
-      | inl more ↦
-          let (is_piece, is_behind, some, is_open) =
-          cut_more most octets piece following whole cut more in
-          let rest : left_frames most stream following ≡ continuations most (length octets) stream
-          (drop most octets) =
-          left_frames-some most stream following some
-          ∙ continuations-count most (suc (length following)) (length octets) stream following
-          positive (omega arith)
-          (rw is_behind (omega (arith, positive, length-drop most octets)))
-          ∙ ap (λ (line : List ℕ). continuations most (length octets) stream line) is_behind in
-          left_frames-some most stream octets any
-          ∙ continuations-more most (length octets) stream octets more
-          ∙ sym (rw (is_piece, is_open, rest) refl)
-      | inr few ↦
-          let (is_piece, none, is_whole) = cut_all most octets piece following whole cut few in
-          left_frames-some most stream octets any
-          ∙ continuations-few most (length octets) stream octets few
-          ∙ sym (rw (is_piece, is_whole, left_frames-none most stream following none) refl)
-    ]
+  -- The frames of octets that are left are a CONTINUATION with the first piece, and those of what
+  -- is left then.
+  pub left_frames-cut : (octets piece following : List ℕ) (whole : Bool) → 1 ≤ most
+      → 0 < length octets → IsCut most octets piece following whole
+      → left_frames most stream octets ≡ Continuation stream whole piece ∷ left_frames most stream
+      following
+  left_frames-cut octets piece following whole positive any cut =
+      elim (cases_lt most (length octets)) [
+        | inl more ↦
+            let (is_piece, is_behind, some, is_open) =
+            cut_more most octets piece following whole cut more in
+            let rest : left_frames most stream following ≡ continuations most (length octets) stream
+            (drop most octets) = left_frames-some most stream following some ∙ continuations-count
+            most (suc (length following)) (length octets) stream following positive (omega arith)
+            (rw is_behind (omega (arith, positive, length-drop most octets)))
+            ∙ ap (λ (line : List ℕ). continuations most (length octets) stream line) is_behind in
+            left_frames-some most stream octets any ∙ continuations-more most (length octets) stream
+            octets more ∙ sym (rw (is_piece, is_open, rest) refl)
+        | inr few ↦
+            let (is_piece, none, is_whole) = cut_all most octets piece following whole cut few in
+            left_frames-some most stream octets any ∙ continuations-few most (length octets) stream
+            octets few
+            ∙ sym (rw (is_piece, is_whole, left_frames-none most stream following none) refl)
+      ]
 
 -- What was appended so far, and the frames of what is left, are all of it.
 pub record IsSoFar (most : ℕ) (old now whole : List ℕ) (stream : ℕ) (rest : List ℕ) : Type 0 where
@@ -399,34 +387,30 @@ so_far-more most old now new whole stream rest following frame so_far split appe
       ∙ flat_map-cons encoding_of frame (left_frames most stream following))) ∙ so_far.left;
 }
 
--- nothing is left
-pub so_far-all : (most : ℕ) (old now whole : List ℕ) (stream : ℕ) (rest : List ℕ)
-    → IsSoFar most old now whole stream rest → length rest ≡ 0 → now ≡ old ++ whole
-so_far-all most old now whole stream rest so_far none =
-    let all : so_far.added ≡ whole = sym (append-nil so_far.added)
-    ∙ ap (λ (frames : List Frame). so_far.added ++ encoding_of_frames frames)
-    (sym (left_frames-none most stream rest none)) ∙ so_far.left in
-    so_far.extended ∙ ap (λ (line : List ℕ). old ++ line) all
+module _ (most : ℕ) (old now whole : List ℕ) (stream : ℕ) (rest : List ℕ) where
+  -- nothing is left
+  pub so_far-all : IsSoFar most old now whole stream rest → length rest ≡ 0 → now ≡ old ++ whole
+  so_far-all so_far none =
+      let all : so_far.added ≡ whole = sym (append-nil so_far.added)
+      ∙ ap (λ (frames : List Frame). so_far.added ++ encoding_of_frames frames)
+      (sym (left_frames-none most stream rest none)) ∙ so_far.left in
+      so_far.extended ∙ ap (λ (line : List ℕ). old ++ line) all
 
--- where all of the frames have capacity, the next one has
-pub so_far-room : (most : ℕ) (old now whole : List ℕ) (stream : ℕ) (rest following : List ℕ)
-    (frame : Frame) (room : ℕ) → IsSoFar most old now whole stream rest
-    → left_frames most stream rest ≡ frame ∷ left_frames most stream following
-    → length old + length whole ≤ room → length now + length (encoding_of frame) ≤ room
-so_far-room most old now whole stream rest following frame room so_far split enough =
-    let parts : length so_far.added
-    + (length (encoding_of frame) + length (encoding_of_frames (left_frames most stream following)))
-    ≡ length whole =
-    ap (λ (n : ℕ). length so_far.added + n)
-    (sym (length-append (encoding_of frame)
-    (encoding_of_frames (left_frames most stream following))))
-    ∙ sym (length-append so_far.added
-    (encoding_of frame ++ encoding_of_frames (left_frames most stream following)))
-    ∙ ap (λ (line : List ℕ). length (so_far.added ++ line))
-    (sym (ap encoding_of_frames split
-    ∙ flat_map-cons encoding_of frame (left_frames most stream following)))
-    ∙ ap length so_far.left in
-    omega (arith, enough, parts, ap length so_far.extended ∙ length-append old so_far.added)
+  -- where all of the frames have capacity, the next one has
+  pub so_far-room : (following : List ℕ) (frame : Frame) (room : ℕ)
+      → IsSoFar most old now whole stream rest
+      → left_frames most stream rest ≡ frame ∷ left_frames most stream following
+      → length old + length whole ≤ room → length now + length (encoding_of frame) ≤ room
+  so_far-room following frame room so_far split enough =
+      let parts : length so_far.added + (length (encoding_of frame) + length (encoding_of_frames
+      (left_frames most stream following))) ≡ length whole = ap (λ (n : ℕ). length so_far.added + n)
+      (sym (length-append (encoding_of frame)
+      (encoding_of_frames (left_frames most stream following)))) ∙ sym (length-append so_far.added
+      (encoding_of frame ++ encoding_of_frames (left_frames most stream following)))
+      ∙ ap (λ (line : List ℕ). length (so_far.added ++ line)) (sym (ap encoding_of_frames split
+      ∙ flat_map-cons encoding_of frame (left_frames most stream following)))
+      ∙ ap length so_far.left in
+      omega (arith, enough, parts, ap length so_far.extended ∙ length-append old so_far.added)
 
 -- where all of the frames have capacity, the first one has
 pub first-room : (most preceding room : ℕ) (frames : List Frame) (frame : Frame) (stream : ℕ)

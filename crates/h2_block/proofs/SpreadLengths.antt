@@ -33,91 +33,83 @@ length-frames line frame frames split =
     ap length (ap encoding_of_frames split ∙ flat_map-cons encoding_of frame frames)
     ∙ length-append (encoding_of frame) (encoding_of_frames frames)
 
--- `most` octets more are one frame more
-further : (most count after : ℕ) → 1 ≤ most → after + most ≡ count → 0 < after
-    → (count - 1) / most ≡ 1 + (after - 1) / most
-further most count after positive is some =
-    let whole = div-add-mod' (after - 1) most in
-    let more : (1 + (after - 1) / most) * most + (after - 1) % most ≡ count - 1 =
-    omega (arith, whole, is, some) in
-    sym (ap (λ (n : ℕ). n / most) more)
-    ∙ div-mul-add (1 + (after - 1) / most) most ((after - 1) % most)
-    (mod_below (after - 1) most positive)
+module _ (most : ℕ) where
+  -- `most` octets more are one frame more
+  further : (count after : ℕ) → 1 ≤ most → after + most ≡ count → 0 < after
+      → (count - 1) / most ≡ 1 + (after - 1) / most
+  further count after positive is some =
+      let whole = div-add-mod' (after - 1) most in
+      let more : (1 + (after - 1) / most) * most + (after - 1) % most ≡ count - 1 =
+      omega (arith, whole, is, some) in
+      sym (ap (λ (n : ℕ). n / most) more) ∙ div-mul-add (1 + (after - 1) / most) most
+      ((after - 1) % most) (mod_below (after - 1) most positive)
 
--- octets that fit one frame need no other
-none_more : (most count : ℕ) → 1 ≤ most → count ≤ most → (count - 1) / most ≡ 0
-none_more most count positive few = omega (
-  arith,
-  div_below (count - 1) most 1 positive
-      (omega (arith, few, positive)),
-)
+  -- octets that fit one frame need no other
+  none_more : (count : ℕ) → 1 ≤ most → count ≤ most → (count - 1) / most ≡ 0
+  none_more count positive few = omega (
+    arith,
+    div_below (count - 1) most 1 positive (omega (arith, few, positive)),
+  )
 
--- CONTINUATIONs have nine octets more each
-length-continuations : (most count stream : ℕ) (octets : List ℕ) → 1 ≤ most → 0 < length octets
-    → length octets ≤ count
-    → length (encoding_of_frames (continuations most count stream octets))
-    ≡ length octets + 9 * (1 + (length octets - 1) / most)
-length-continuations most zero stream octets positive some enough = absurd (omega arith)
-length-continuations most (suc count) stream octets positive some enough =
-    elim (cases_lt most (length octets)) [
-      | inl more ↦
-          let left : length (drop most octets) + most ≡ length octets =
-          omega (arith, length-drop most octets, more) in
-          let full : length (take most octets) ≡ most =
-          length-take most octets ∙ omega (arith, more) in
-          let split = further most (length octets) (length (drop most octets)) positive left
-          (omega (arith, left, more)) in
-          let first = length-continuation stream false (take most octets) in
-          let later =
-          length-continuations most count stream (drop most octets) positive
-          (omega (arith, left, more)) (omega (arith, left, enough, positive)) in
-          length-frames (continuations most (suc count) stream octets)
-          (Continuation stream false (take most octets))
-          (continuations most count stream (drop most octets))
-          (continuations-more most count stream octets more)
-          ∙ omega (arith, first, later, left, full, split)
-      | inr few ↦
-          length-frames (continuations most (suc count) stream octets)
-          (Continuation stream true octets)
-          [] (continuations-few most count stream octets few)
-          ∙ omega (
-            arith,
-            length-continuation stream true octets,
-            none_more most (length octets) positive few,
-            some,
-          )
-    ]
+  -- CONTINUATIONs have nine octets more each
+  length-continuations : (count stream : ℕ) (octets : List ℕ) → 1 ≤ most → 0 < length octets
+      → length octets ≤ count
+      → length (encoding_of_frames (continuations most count stream octets)) ≡ length octets + 9 *
+      (1 + (length octets - 1) / most)
+  length-continuations zero stream octets positive some enough = absurd (omega arith)
+  length-continuations (suc count) stream octets positive some enough =
+      elim (cases_lt most (length octets)) [
+        | inl more ↦
+            let left : length (drop most octets) + most ≡ length octets =
+            omega (arith, length-drop most octets, more) in
+            let full : length (take most octets) ≡ most =
+            length-take most octets ∙ omega (arith, more) in
+            let split = further (length octets) (length (drop most octets)) positive left
+            (omega (arith, left, more)) in
+            let first = length-continuation stream false (take most octets) in
+            let later = length-continuations count stream (drop most octets) positive
+            (omega (arith, left, more)) (omega (arith, left, enough, positive)) in
+            length-frames (continuations most (suc count) stream octets)
+            (Continuation stream false (take most octets))
+            (continuations most count stream (drop most octets))
+            (continuations-more most count stream octets more)
+            ∙ omega (arith, first, later, left, full, split)
+        | inr few ↦ length-frames (continuations most (suc count) stream octets)
+            (Continuation stream true octets) [] (continuations-few most count stream octets few)
+            ∙ omega (
+              arith,
+              length-continuation stream true octets,
+              none_more (length octets) positive few,
+              some,
+            )
+      ]
 
--- The frames of a block have nine octets more each: one frame, and one more for each `most` octets
--- that more octets follow.
-pub length-spread_frames : (most stream : ℕ) (end : Bool) (octets : List ℕ) → 1 ≤ most
-    → length (encoding_of_frames (spread_frames most stream end octets))
-    ≡ length octets + 9 * (1 + (length octets - 1) / most)
-length-spread_frames most stream end octets positive =
-    elim (cases_lt most (length octets)) [
-      | inl more ↦
-          let left : length (drop most octets) + most ≡ length octets =
-          omega (arith, length-drop most octets, more) in
-          let full : length (take most octets) ≡ most =
-          length-take most octets ∙ omega (arith, more) in
-          let split = further most (length octets) (length (drop most octets)) positive left
-          (omega (arith, left, more)) in
-          let first = length-headers stream end false (take most octets) in
-          let later =
-          length-continuations most (length octets) stream (drop most octets) positive
-          (omega (arith, left, more)) (omega (arith, left, positive)) in
-          length-frames (spread_frames most stream end octets)
-          (Headers stream end false (take most octets) None None)
-          (continuations most (length octets) stream (drop most octets))
-          (spread_frames-more most stream end octets more)
-          ∙ omega (arith, first, later, left, full, split)
-      | inr few ↦
-          length-frames (spread_frames most stream end octets)
-          (Headers stream end true octets None None)
-          [] (spread_frames-few most stream end octets few)
-          ∙ omega (
-            arith,
-            length-headers stream end true octets,
-            none_more most (length octets) positive few,
-          )
-    ]
+  -- The frames of a block have nine octets more each: one frame, and one more for each `most`
+  -- octets that more octets follow.
+  pub length-spread_frames : (stream : ℕ) (end : Bool) (octets : List ℕ) → 1 ≤ most
+      → length (encoding_of_frames (spread_frames most stream end octets)) ≡ length octets + 9 *
+      (1 + (length octets - 1) / most)
+  length-spread_frames stream end octets positive = elim (cases_lt most (length octets)) [
+    | inl more ↦
+        let left : length (drop most octets) + most ≡ length octets =
+        omega (arith, length-drop most octets, more) in
+        let full : length (take most octets) ≡ most =
+        length-take most octets ∙ omega (arith, more) in
+        let split = further (length octets) (length (drop most octets)) positive left
+        (omega (arith, left, more)) in
+        let first = length-headers stream end false (take most octets) in
+        let later = length-continuations (length octets) stream (drop most octets) positive
+        (omega (arith, left, more)) (omega (arith, left, positive)) in
+        length-frames (spread_frames most stream end octets)
+        (Headers stream end false (take most octets) None None)
+        (continuations most (length octets) stream (drop most octets))
+        (spread_frames-more most stream end octets more)
+        ∙ omega (arith, first, later, left, full, split)
+    | inr few ↦ length-frames (spread_frames most stream end octets)
+        (Headers stream end true octets None None)
+        [] (spread_frames-few most stream end octets few) ∙ omega (
+          arith,
+          length-headers stream end true octets,
+          none_more (length octets) positive few,
+        )
+  ]

@@ -17,44 +17,41 @@ use Rattle.h2_laws_machine.proofs.RepresentedSteps.{up_of, called_up, ready_up}
 use Rattle.h2_conn.proofs.AskCalls.{PartsAnswer, refused_at, accepted_with}
 use Rattle.h2_conn.proofs.AskMemory.{returns_alike}
 
--- What is queued once an end is ready to put output out is what its log has written by then, by
--- whether it has failed.
-ready_waits_by : (values : Values) (e : End) (log : Log) (count given : ℕ) (failed : Option Code)
-    → e.failed ≡ failed → Represents values e log
-    → (before_put_out_at e).output.waiting
-    ≡ drop log.given (before_put_out (called log (PutOut count) (Count given))).written
-unfolding encoder_after_call released
-ready_waits_by values e log count given None up represents =
-    let base = called log (PutOut count) (Count given) in
-    let made = ready_up e base (called_up e log (PutOut count) (Count given) refl (λ i. refl)
-    (up_of values e log represents up)) in
-    made.waits.waiting ∙ ap (λ (k : ℕ). drop k (before_put_out base).written) (ready_given base)
-ready_waits_by values e log count given (Some code) failed represents =
-    let base = called log (PutOut count) (Count given) in
-    ap (λ (x : End). x.output.waiting) (ready_failed_at e code failed)
-    ∙ represents.output.waiting
-    ∙ ap (λ (x : Log). drop log.given x.written)
-    (sym (ready_failed base code (sym represents.failed ∙ failed)))
+module _ (values : Values) (e : End) where
+  -- What is queued once an end is ready to put output out is what its log has written by then, by
+  -- whether it has failed.
+  ready_waits_by : (log : Log) (count given : ℕ) (failed : Option Code) → e.failed ≡ failed
+      → Represents values e log
+      → (before_put_out_at e).output.waiting ≡ drop log.given
+      (before_put_out (called log (PutOut count) (Count given))).written
+  unfolding encoder_after_call released
+  ready_waits_by log count given None up represents =
+      let base = called log (PutOut count) (Count given) in
+      let made = ready_up e base (called_up e log (PutOut count) (Count given) refl (λ i. refl)
+      (up_of values e log represents up)) in
+      made.waits.waiting ∙ ap (λ (k : ℕ). drop k (before_put_out base).written) (ready_given base)
+  ready_waits_by log count given (Some code) failed represents =
+      let base = called log (PutOut count) (Count given) in
+      ap (λ (x : End). x.output.waiting) (ready_failed_at e code failed) ∙ represents.output.waiting
+      ∙ ap (λ (x : Log). drop log.given x.written)
+      (sym (ready_failed base code (sym represents.failed ∙ failed)))
 
--- What is queued then is what its log has written and not put out.
-ready_waits : (values : Values) (e : End) (log : Log) (count given : ℕ) → Represents values e log
-    → (before_put_out_at e).output.waiting
-    ≡ drop log.given (with_call log (PutOut count) (Count given)).written
-unfolding with_call
-ready_waits values e log count given represents =
-    ready_waits_by values e log count given e.failed refl represents
+  -- What is queued then is what its log has written and not put out.
+  ready_waits : (log : Log) (count given : ℕ) → Represents values e log
+      → (before_put_out_at e).output.waiting ≡ drop log.given
+      (with_call log (PutOut count) (Count given)).written
+  unfolding with_call
+  ready_waits log count given represents = ready_waits_by log count given e.failed refl represents
 
--- The octets that are put out are the next ones of the log's output.
-pub given_out : (values : Values) (e new : End) (log : Log) (count given : ℕ)
-    (before after : List ℕ) → Represents values e log → PutsOut e count given before after new
-    → after ≡ before ++ drop log.given
-    (take (log.given + given) (with_call log (PutOut count) (Count given)).written)
-given_out values e new log count given before after represents puts =
-    puts.octets
-    ∙ ap (λ (octets : List ℕ). before ++ take given octets)
-    (ready_waits values e log count given represents)
-    ∙ ap (λ (octets : List ℕ). before ++ octets)
-    (sym (drop-take log.given given (with_call log (PutOut count) (Count given)).written))
+  -- The octets that are put out are the next ones of the log's output.
+  pub given_out : (new : End) (log : Log) (count given : ℕ) (before after : List ℕ)
+      → Represents values e log → PutsOut e count given before after new
+      → after ≡ before ++ drop log.given (take (log.given + given)
+      (with_call log (PutOut count) (Count given)).written)
+  given_out new log count given before after represents puts = puts.octets
+      ∙ ap (λ (octets : List ℕ). before ++ take given octets)
+      (ready_waits log count given represents) ∙ ap (λ (octets : List ℕ). before ++ octets)
+      (sym (drop-take log.given given (with_call log (PutOut count) (Count given)).written))
 
 -- What is said of a value, in another form.
 pub ok_as : {A : Type 0} (X Y : A → Type 0) (result : Result A Refusal)

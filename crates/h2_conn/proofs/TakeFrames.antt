@@ -94,83 +94,71 @@ abbrev pub HasBody : CutterState → List ℕ → Complete → Frame → Type 0
 HasBody cutter piece complete frame =
     IfSome (data_of_frame frame) (λ octets. body_at cutter piece complete ≡ Some octets)
 
--- So those of an event of DATA are.
-body_of : (cutter : CutterState) (piece : List ℕ) (complete : Complete) (e : End)
-    (decoded : Option Decoded) (frame : Frame) (id : ℕ) (octets : List ℕ) (flow : ℕ) (end : Bool)
-    → HasBody cutter piece complete frame
-    → DataEvent id octets flow end ∷ [] ≡ frame_events e decoded frame
-    → body_at cutter piece complete ≡ Some octets
-body_of cutter piece complete e decoded frame id octets flow end has is =
-    subst (λ (body : Option (List ℕ)). IfSome body
-    (λ one. body_at cutter piece complete ≡ Some one))
-    (data_of_step e decoded frame (frame_step (end_view e) frame) id octets flow end refl is) has
+module _ (cutter : CutterState) (piece : List ℕ) (complete : Complete) where
+  -- So those of an event of DATA are.
+  body_of : (e : End) (decoded : Option Decoded) (frame : Frame) (id : ℕ) (octets : List ℕ)
+      (flow : ℕ) (end : Bool) → HasBody cutter piece complete frame
+      → DataEvent id octets flow end ∷ [] ≡ frame_events e decoded frame
+      → body_at cutter piece complete ≡ Some octets
+  body_of e decoded frame id octets flow end has is = subst (λ (body : Option (List ℕ)). IfSome body
+      (λ one. body_at cutter piece complete ≡ Some one))
+      (data_of_step e decoded frame (frame_step (end_view e) frame) id octets flow end refl is) has
 
--- A body that is reported lies there.
-pub lies_there : (cutter : CutterState) (piece : List ℕ) (complete : Complete) (count : ℕ)
-    (e new : End) (frame : Frame) (list : List Field) (reported : Option FrameEvent)
-    → HasBody cutter piece complete frame → FrameTaken e frame list reported new
-    → LiesThere cutter piece (Ok (record { used = count; happened = located complete reported }))
-lies_there cutter piece complete count e new frame list None has taken = tt
-lies_there cutter piece complete count e new frame list (Some (events.Fields id fields end)) has
-    taken = tt
-lies_there cutter piece complete count e new frame list (Some (events.Data id lent flow end)) has
-    taken =
-    rw (body_of cutter piece complete e taken.decoded frame id lent.now flow end has taken.events)
-    refl
-lies_there cutter piece complete count e new frame list (Some (events.Reset id code ours)) has
-    taken = tt
-lies_there cutter piece complete count e new frame list (Some (events.GoAway last code)) has taken =
-    tt
-lies_there cutter piece complete count e new frame list (Some (events.Unprocessed id)) has taken =
-    tt
-lies_there cutter piece complete count e new frame list (Some events.Acked) has taken = tt
-lies_there cutter piece complete count e new frame list (Some (events.Pong pong)) has taken = tt
+  -- A body that is reported lies there.
+  pub lies_there : (count : ℕ)
+      (e new : End) (frame : Frame) (list : List Field) (reported : Option FrameEvent)
+      → HasBody cutter piece complete frame → FrameTaken e frame list reported new
+      → LiesThere cutter piece (Ok (record { used = count; happened = located complete reported }))
+  lies_there count e new frame list None has taken = tt
+  lies_there count e new frame list (Some (events.Fields id fields end)) has
+      taken = tt
+  lies_there count e new frame list (Some (events.Data id lent flow end)) has
+      taken = rw (body_of e taken.decoded frame id lent.now flow end has taken.events) refl
+  lies_there count e new frame list (Some (events.Reset id code ours)) has
+      taken = tt
+  lies_there count e new frame list (Some (events.GoAway last code)) has taken = tt
+  lies_there count e new frame list (Some (events.Unprocessed id)) has taken = tt
+  lies_there count e new frame list (Some events.Acked) has taken = tt
+  lies_there count e new frame list (Some (events.Pong pong)) has taken = tt
 
--- What happened is what is reported.
-happened_same : (cutter : CutterState) (piece octets : List ℕ) (complete : Complete) (count : ℕ)
-    (e : End) (decoded : Option Decoded) (frame : Frame) (list : List Field)
-    (reported : Option FrameEvent) → HasBody cutter piece complete frame
-    → IsBodyOf cutter piece octets (Ok (record {
-      used = count;
-      happened = located complete reported;
-    })) → events_reported list reported ≡ frame_events e decoded frame
-    → happened_events list octets (located complete reported) ≡ events_reported list reported
-happened_same cutter piece octets complete count e decoded frame list None has body is = refl
-happened_same cutter piece octets complete count e decoded frame list
-    (Some (events.Fields id fields end)) has body is = refl
-happened_same cutter piece octets complete count e decoded frame list
-    (Some (events.Data id lent flow end)) has body is =
-    let some : Some octets ≡ Some lent.now =
-    sym body ∙ body_of cutter piece complete e decoded frame id lent.now flow end has is in
-    let same : octets ≡ lent.now = cc in
-    ap (λ (o : List ℕ). DataEvent id o flow end ∷ []) same
-happened_same cutter piece octets complete count e decoded frame list
-    (Some (events.Reset id code ours)) has body is = refl
-happened_same cutter piece octets complete count e decoded frame list
-    (Some (events.GoAway last code)) has body is = refl
-happened_same cutter piece octets complete count e decoded frame list
-    (Some (events.Unprocessed id)) has body is = refl
-happened_same cutter piece octets complete count e decoded frame list (Some events.Acked) has body
-    is = refl
-happened_same cutter piece octets complete count e decoded frame list (Some (events.Pong pong)) has
-    body is = refl
+module _ (cutter : CutterState) (piece octets : List ℕ) (complete : Complete) (count : ℕ)
+    (e : End) where
+  -- What happened is what is reported.
+  happened_same : (decoded : Option Decoded) (frame : Frame) (list : List Field)
+      (reported : Option FrameEvent) → HasBody cutter piece complete frame
+      → IsBodyOf cutter piece octets (Ok (record {
+        used = count;
+        happened = located complete reported;
+      })) → events_reported list reported ≡ frame_events e decoded frame
+      → happened_events list octets (located complete reported) ≡ events_reported list reported
+  happened_same decoded frame list None has body is = refl
+  happened_same decoded frame list (Some (events.Fields id fields end)) has body is = refl
+  happened_same decoded frame list (Some (events.Data id lent flow end)) has body is =
+      let some : Some octets ≡ Some lent.now =
+      sym body ∙ body_of cutter piece complete e decoded frame id lent.now flow end has is in
+      let same : octets ≡ lent.now = cc in
+      ap (λ (o : List ℕ). DataEvent id o flow end ∷ []) same
+  happened_same decoded frame list (Some (events.Reset id code ours)) has body is = refl
+  happened_same decoded frame list (Some (events.GoAway last code)) has body is = refl
+  happened_same decoded frame list (Some (events.Unprocessed id)) has body is = refl
+  happened_same decoded frame list (Some events.Acked) has body
+      is = refl
+  happened_same decoded frame list (Some (events.Pong pong)) has body is = refl
 
--- A frame that was taken has happened.
-pub frame_happens : (cutter : CutterState) (piece octets : List ℕ) (complete : Complete) (count : ℕ)
-    (e new : End) (frame : Frame) (list : List Field) (reported : Option FrameEvent)
-    → HasBody cutter piece complete frame
-    → IsBodyOf cutter piece octets (Ok (record {
-      used = count;
-      happened = located complete reported;
-    })) → FrameTaken e frame list reported new
-    → FrameHappens e frame list octets (located complete reported) new
-frame_happens cutter piece octets complete count e new frame list reported has body taken =
-    record {
-      decoded = taken.decoded;
-      says = taken.says;
-      after = taken.after;
-      up = taken.up;
-      events = happened_same cutter piece octets complete count e taken.decoded frame list reported
-          has body taken.events
-          ∙ taken.events;
-    }
+  -- A frame that was taken has happened.
+  pub frame_happens : (new : End) (frame : Frame) (list : List Field) (reported : Option FrameEvent)
+      → HasBody cutter piece complete frame
+      → IsBodyOf cutter piece octets (Ok (record {
+        used = count;
+        happened = located complete reported;
+      })) → FrameTaken e frame list reported new
+      → FrameHappens e frame list octets (located complete reported) new
+  frame_happens new frame list reported has body taken =
+      record {
+        decoded = taken.decoded;
+        says = taken.says;
+        after = taken.after;
+        up = taken.up;
+        events = happened_same taken.decoded frame list reported has body taken.events
+            ∙ taken.events;
+      }

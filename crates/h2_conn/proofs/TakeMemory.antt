@@ -94,30 +94,26 @@ needs_alike one other (begins_block begun) same = refl
 needs_alike one other (completes (block stream end octets)) same = refl
 needs_alike one other (completes (alone frame)) same = same frame
 
--- Outside of field blocks a frame needs memory by the end as it does by the log.
-frame_alike : (values : Values) (e : End) (log : Log) (frame : Frame) → Represents values e log
-    → e.failed ≡ None
-    → needs_memory (end_view (with_begun e None))
-    (verdict_of (end_view (with_begun e None)) None (alone frame)) (alone frame)
-    ≡ needs_memory (log_view (record log { begun = None }))
-    (verdict_of (log_view (record log { begun = None })) None (alone frame)) (alone frame)
-unfolding waiting output unreleased
-frame_alike values e log frame represents up =
-    let before : Log = record log { begun = None } in
-    ap (λ (verdict : Verdict). needs_memory (end_view (with_begun e None)) verdict (alone frame))
-    (verdict_alike values e log None (alone frame) represents up)
-    ∙ ap (λ (view : View). needs_memory view (verdict_of (log_view before) None (alone frame))
-    (alone frame)) (views_alike values e log represents up)
+module _ (values : Values) (e : End) (log : Log) where
+  -- Outside of field blocks a frame needs memory by the end as it does by the log.
+  frame_alike : (frame : Frame) → Represents values e log → e.failed ≡ None
+      → needs_memory (end_view (with_begun e None)) (verdict_of (end_view (with_begun e None)) None
+      (alone frame)) (alone frame) ≡ needs_memory (log_view (record log { begun = None }))
+      (verdict_of (log_view (record log { begun = None })) None (alone frame)) (alone frame)
+  unfolding waiting output unreleased
+  frame_alike frame represents up =
+      let before : Log = record log { begun = None } in
+      ap (λ (verdict : Verdict). needs_memory (end_view (with_begun e None)) verdict (alone frame))
+      (verdict_alike values e log None (alone frame) represents up)
+      ∙ ap (λ (view : View). needs_memory view (verdict_of (log_view before) None (alone frame))
+      (alone frame)) (views_alike values e log represents up)
 
--- A frame that may take memory by the end does so by the log.
-pub frame_needs : (values : Values) (e : End) (log : Log) (frame : Frame)
-    → Represents values e log → e.failed ≡ None
-    → step_needs_memory (end_view (with_begun e None)) (frame_step (end_view e) frame) ≡ true
-    → frame_needs_memory log frame ≡ true
-frame_needs values e log frame represents up needs =
-    sym (ap (step_needs_memory (log_view (record log { begun = None })))
-    (step_alike values e log frame represents up))
-    ∙ sym (needs_alike (end_view (with_begun e None)) (log_view (record log { begun = None }))
-    (frame_step (end_view e) frame)
-    (λ one. frame_alike values e log one represents up))
-    ∙ needs
+  -- A frame that may take memory by the end does so by the log.
+  pub frame_needs : (frame : Frame) → Represents values e log → e.failed ≡ None
+      → step_needs_memory (end_view (with_begun e None)) (frame_step (end_view e) frame) ≡ true
+      → frame_needs_memory log frame ≡ true
+  frame_needs frame represents up needs =
+      sym (ap (step_needs_memory (log_view (record log { begun = None })))
+      (step_alike values e log frame represents up))
+      ∙ sym (needs_alike (end_view (with_begun e None)) (log_view (record log { begun = None }))
+      (frame_step (end_view e) frame) (λ one. frame_alike one represents up)) ∙ needs

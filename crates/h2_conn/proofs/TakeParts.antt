@@ -84,66 +84,62 @@ fault_input : (log : Log) (octets : List ℕ) (fault : WireFault)
 unfolding used with_sent
 fault_input log octets fault = refl
 
--- Of a connection that has failed only the machine and the place count.
-pub failed_parts : (values : Values) (cutter : CutterState) (e : End) (log : Log)
-    → Represents values e log → e.failed ≢ None → IsAtEnd cutter log
-    → PartsRepresent values cutter e log
-failed_parts values cutter e log s down at_end =
-    record {
-      machine = s;
-      cut = λ up. absurd (down (s.failed ∙ up));
-      unparsed = λ up. absurd (down (s.failed ∙ up));
-      greatest = λ up. absurd (down (s.failed ∙ up));
-      place = at_end;
-    }
-
-alike_parts : (values : Values) (cutter : CutterState) (e other : End) (log : Log)
-    → Represents values e log → FailsAlike e other → IsAtEnd cutter log
-    → PartsRepresent values cutter other log
-alike_parts values cutter e other log s alike at_end =
-    failed_parts values cutter other log (represents_alike values e other log s alike)
-    (λ up. alike.down (sym alike.failed ∙ up)) at_end
-
--- An end takes octets where it is up and has reported all unprocessed streams.
-pub takes_octets : (values : Values) (e : End) (log : Log) → Represents values e log
-    → e.failed ≡ None → unprocessed_of_end e.role e.streams.entries e.goaway.received ≡ 0
-    → TakesOctets log
-takes_octets values e log s up reported =
-    let log_up : log.failed ≡ None = sym s.failed ∙ up in
-    record { up = log_up; all_reported = sym (next_same values e log s log_up) ∙ reported }
-
--- Octets that end no frame.
-pub no_frame_taken : (values : Values) (cutter new : CutterState) (e : End) (log : Log)
-    (piece : List ℕ) (count : ℕ) → PartsRepresent values cutter e log → TakesOctets log
-    → e.failed ≡ None → count ≡ length piece → CutterContinues cutter (take count piece) [] new
-    → Takes values log piece (Took count None) new e
-unfolding MayStep log_after machine_after used
-no_frame_taken values cutter new e log piece count p takes up all continues =
-    let all_of : take count piece ≡ piece =
-    ap (λ (n : ℕ). take n piece) all ∙ take-length piece in
-    let now : CutterRepresents new (is_server log.role) (limits_from log) (log.input ++ piece)
-    log.frames =
-    cuts_same new log.role log.role (limits_from log) (limits_from log)
-    (log.input ++ take count piece) (log.input ++ piece) (log.frames ++ []) log.frames refl refl
-    (ap (λ (o : List ℕ). log.input ++ o) (sym all_of)) (sym (append-nil log.frames))
-    (continues.represents (is_server log.role) (limits_from log) log.input log.frames
-    (p.cut takes.up)) in
-    let after : Log = took_part log piece new.unparsed in
-    let machine : Represents values e after =
-    steps_represent values e log (uses_part piece new.unparsed) p.machine (takes, now.split) in (
-      after,
-      ends_no_frame takes new.unparsed now.split (ap (λ (n : ℕ). Took n None) all) refl,
+module _ (values : Values) where
+  -- Of a connection that has failed only the machine and the place count.
+  pub failed_parts : (cutter : CutterState) (e : End) (log : Log) → Represents values e log
+      → e.failed ≢ None → IsAtEnd cutter log → PartsRepresent values cutter e log
+  failed_parts cutter e log s down at_end =
       record {
-        machine = machine;
-        cut = λ going.
-            cuts_same new log.role log.role (limits_from log) (limits_from after)
-            (log.input ++ piece) (log.input ++ piece) log.frames log.frames refl
-            (limits_used log piece new.unparsed) refl refl now;
-        unparsed = λ going. refl;
-        greatest = λ going. rw continues.same_greatest (p.greatest takes.up);
-        place = now.place;
-      },
-    )
+        machine = s;
+        cut = λ up. absurd (down (s.failed ∙ up));
+        unparsed = λ up. absurd (down (s.failed ∙ up));
+        greatest = λ up. absurd (down (s.failed ∙ up));
+        place = at_end;
+      }
+
+  alike_parts : (cutter : CutterState) (e other : End) (log : Log) → Represents values e log
+      → FailsAlike e other → IsAtEnd cutter log → PartsRepresent values cutter other log
+  alike_parts cutter e other log s alike at_end =
+      failed_parts cutter other log (represents_alike values e other log s alike)
+      (λ up. alike.down (sym alike.failed ∙ up)) at_end
+
+  -- An end takes octets where it is up and has reported all unprocessed streams.
+  pub takes_octets : (e : End) (log : Log) → Represents values e log → e.failed ≡ None
+      → unprocessed_of_end e.role e.streams.entries e.goaway.received ≡ 0 → TakesOctets log
+  takes_octets e log s up reported =
+      let log_up : log.failed ≡ None = sym s.failed ∙ up in
+      record { up = log_up; all_reported = sym (next_same values e log s log_up) ∙ reported }
+
+  -- Octets that end no frame.
+  pub no_frame_taken : (cutter new : CutterState) (e : End) (log : Log) (piece : List ℕ) (count : ℕ)
+      → PartsRepresent values cutter e log → TakesOctets log → e.failed ≡ None
+      → count ≡ length piece → CutterContinues cutter (take count piece) [] new
+      → Takes values log piece (Took count None) new e
+  unfolding MayStep log_after machine_after used
+  no_frame_taken cutter new e log piece count p takes up all continues =
+      let all_of : take count piece ≡ piece =
+      ap (λ (n : ℕ). take n piece) all ∙ take-length piece in
+      let now : CutterRepresents new (is_server log.role) (limits_from log) (log.input ++ piece)
+      log.frames = cuts_same new log.role log.role (limits_from log) (limits_from log)
+      (log.input ++ take count piece) (log.input ++ piece) (log.frames ++ []) log.frames refl refl
+      (ap (λ (o : List ℕ). log.input ++ o) (sym all_of)) (sym (append-nil log.frames))
+      (continues.represents (is_server log.role) (limits_from log) log.input log.frames
+      (p.cut takes.up)) in
+      let after : Log = took_part log piece new.unparsed in
+      let machine : Represents values e after =
+      steps_represent values e log (uses_part piece new.unparsed) p.machine (takes, now.split) in (
+        after,
+        ends_no_frame takes new.unparsed now.split (ap (λ (n : ℕ). Took n None) all) refl,
+        record {
+          machine = machine;
+          cut = λ going. cuts_same new log.role log.role (limits_from log) (limits_from after)
+              (log.input ++ piece) (log.input ++ piece) log.frames log.frames refl
+              (limits_used log piece new.unparsed) refl refl now;
+          unparsed = λ going. refl;
+          greatest = λ going. rw continues.same_greatest (p.greatest takes.up);
+          place = now.place;
+        },
+      )
 
 -- A frame that was cut out of a piece.
 pub record IsCut (cutter new : CutterState) (piece : List ℕ) (count : ℕ) (frame : Frame) : Type 0
@@ -152,33 +148,29 @@ pub record IsCut (cutter new : CutterState) (piece : List ℕ) (count : ℕ) (fr
     pub within : count ≤ length piece
     pub none : new.unparsed ≡ []
 
-cut_now : (values : Values) (cutter new : CutterState) (e : End) (log : Log) (piece : List ℕ)
-    (count : ℕ) (frame : Frame) → PartsRepresent values cutter e log → log.failed ≡ None
-    → IsCut cutter new piece count frame
-    → CutterRepresents new (is_server log.role) (limits_from log)
-    (log.input ++ take count piece) (log.frames ++ frame ∷ [])
-cut_now values cutter new e log piece count frame p up cut =
-    cut.continues.represents (is_server log.role) (limits_from log) log.input log.frames
-    (p.cut up)
+module _ (values : Values) (cutter new : CutterState) (e : End) (log : Log) (piece : List ℕ)
+    (count : ℕ) (frame : Frame) where
+  cut_now : PartsRepresent values cutter e log → log.failed ≡ None
+      → IsCut cutter new piece count frame
+      → CutterRepresents new (is_server log.role) (limits_from log) (log.input ++ take count piece)
+      (log.frames ++ frame ∷ [])
+  cut_now p up cut =
+      cut.continues.represents (is_server log.role) (limits_from log) log.input log.frames
+      (p.cut up)
 
--- The cutter's place then.
-cut_end : (values : Values) (cutter new : CutterState) (e : End) (log : Log) (piece : List ℕ)
-    (count : ℕ) (frame : Frame) (decoded : Option Decoded) → PartsRepresent values cutter e log
-    → log.failed ≡ None → IsCut cutter new piece count frame
-    → IsAtEnd new (took_frame log (take count piece) decoded frame)
-unfolding used
-cut_end values cutter new e log piece count frame decoded p up cut =
-    end_kept new.place (log.input ++ take count piece) _
-    (Keeps-frame (used log (take count piece) []) decoded frame).input
-    (cut_now values cutter new e log piece count frame p up cut).place
+  -- The cutter's place then.
+  cut_end : (decoded : Option Decoded) → PartsRepresent values cutter e log → log.failed ≡ None
+      → IsCut cutter new piece count frame
+      → IsAtEnd new (took_frame log (take count piece) decoded frame)
+  unfolding used
+  cut_end decoded p up cut = end_kept new.place (log.input ++ take count piece) _
+      (Keeps-frame (used log (take count piece) []) decoded frame).input (cut_now p up cut).place
 
-read_of : (values : Values) (cutter new : CutterState) (e : End) (log : Log) (piece : List ℕ)
-    (count : ℕ) (frame : Frame) → PartsRepresent values cutter e log → log.failed ≡ None
-    → IsCut cutter new piece count frame → TakesFrame log.role log (take count piece) frame
-read_of values cutter new e log piece count frame p up cut =
-    subst (λ (unparsed : List ℕ). Frames (is_server log.role) (limits_from log)
-    (log.input ++ take count piece) (log.frames ++ frame ∷ []) unparsed) cut.none
-    (cut_now values cutter new e log piece count frame p up cut).split
+  read_of : PartsRepresent values cutter e log → log.failed ≡ None
+      → IsCut cutter new piece count frame → TakesFrame log.role log (take count piece) frame
+  read_of p up cut = subst (λ (unparsed : List ℕ). Frames (is_server log.role) (limits_from log)
+      (log.input ++ take count piece) (log.frames ++ frame ∷ []) unparsed) cut.none
+      (cut_now p up cut).split
 
 -- what has happened, as the event that is returned
 answered : (list : List Field) (octets : List ℕ) (happened : Option LocatedEvent)
@@ -243,93 +235,87 @@ frame_taken values cutter new limited e other log piece count frame list octets 
           (λ going. within),
     )
 
--- A frame with which the connection fails.
-pub frame_fails : (values : Values) (cutter new : CutterState) (e other : End) (log : Log)
-    (piece : List ℕ) (count : ℕ) (frame : Frame) (code : Code)
-    → PartsRepresent values cutter e log → TakesOctets log → e.failed ≡ None
-    → IsCut cutter new piece count frame → FrameFails e frame code other
-    → Takes values log piece (Failed code) new other
-frame_fails values cutter new e other log piece count frame code p takes up cut h =
-    let taken : List ℕ = take count piece in
-    let read = read_of values cutter new e log piece count frame p takes.up cut in
-    let sees : IsDecodedFor log h.decoded frame =
-    decoded_for values e log h.decoded frame p.machine up h.says in
-    let after : Log = took_frame log taken h.decoded frame in
-    let machine : Represents values (after_frame e h.decoded frame) after =
-    frames_represent values e log taken frame h.decoded p.machine takes read sees in (
-      after,
-      ends_frame takes taken (drop count piece) (sym (take-append-drop count piece)) frame
-          h.decoded read sees refl (sym machine.failed ∙ h.fails),
-      alike_parts values new (after_frame e h.decoded frame) other after machine h.after
-          (cut_end values cutter new e log piece count frame h.decoded p takes.up cut),
-    )
+module _ (values : Values) (cutter new : CutterState) (e other : End) (log : Log)
+    (piece : List ℕ) where
+  -- A frame with which the connection fails.
+  pub frame_fails : (count : ℕ) (frame : Frame) (code : Code) → PartsRepresent values cutter e log
+      → TakesOctets log → e.failed ≡ None → IsCut cutter new piece count frame
+      → FrameFails e frame code other → Takes values log piece (Failed code) new other
+  frame_fails count frame code p takes up cut h =
+      let taken : List ℕ = take count piece in
+      let read = read_of values cutter new e log piece count frame p takes.up cut in
+      let sees : IsDecodedFor log h.decoded frame =
+      decoded_for values e log h.decoded frame p.machine up h.says in
+      let after : Log = took_frame log taken h.decoded frame in
+      let machine : Represents values (after_frame e h.decoded frame) after =
+      frames_represent values e log taken frame h.decoded p.machine takes read sees in (
+        after,
+        ends_frame takes taken (drop count piece) (sym (take-append-drop count piece)) frame
+            h.decoded read sees refl (sym machine.failed ∙ h.fails),
+        alike_parts values new (after_frame e h.decoded frame) other after machine h.after
+            (cut_end values cutter new e log piece count frame h.decoded p takes.up cut),
+      )
 
--- Memory was refused with these octets.
-pub memory_refused : (values : Values) (cutter new : CutterState) (e other : End) (log : Log)
-    (piece octets unused : List ℕ) (code : Code) → PartsRepresent values cutter e log
-    → log.failed ≡ None → piece ≡ octets ++ unused → LacksMemory log.role log octets unused
-    → new.place ≡ saturated (length (log.input ++ octets))
-    → FailsWithoutMemory e code other → Takes values log piece (Failed code) new other
-unfolding MayStep log_after machine_after
-memory_refused values cutter new e other log piece octets unused code p up joined may place h =
-    let after : Log = took_out_of_memory log octets in
-    let machine : Represents values (fail InternalError e.streams.last_processed e) after =
-    steps_represent values e log (no_memory octets) p.machine (up, (unused, may)) in (
-      after,
-      runs_out_of_memory up octets unused joined may (ap Failed h.lacks) refl,
-      alike_parts values new (fail InternalError e.streams.last_processed e) other after machine
-          h.after (end_kept new.place (log.input ++ octets) _ (lacking_input log octets) place),
-    )
+  -- Memory was refused with these octets.
+  pub memory_refused : (octets unused : List ℕ) (code : Code) → PartsRepresent values cutter e log
+      → log.failed ≡ None → piece ≡ octets ++ unused → LacksMemory log.role log octets unused
+      → new.place ≡ saturated (length (log.input ++ octets)) → FailsWithoutMemory e code other
+      → Takes values log piece (Failed code) new other
+  unfolding MayStep log_after machine_after
+  memory_refused octets unused code p up joined may place h =
+      let after : Log = took_out_of_memory log octets in
+      let machine : Represents values (fail InternalError e.streams.last_processed e) after =
+      steps_represent values e log (no_memory octets) p.machine (up, (unused, may)) in (
+        after,
+        runs_out_of_memory up octets unused joined may (ap Failed h.lacks) refl,
+        alike_parts values new (fail InternalError e.streams.last_processed e) other after machine
+            h.after (end_kept new.place (log.input ++ octets) _ (lacking_input log octets) place),
+      )
 
--- Memory was refused with a frame.
-pub frame_lacks : (values : Values) (cutter new : CutterState) (e other : End) (log : Log)
-    (piece : List ℕ) (count : ℕ) (frame : Frame) (code : Code)
-    → PartsRepresent values cutter e log → TakesOctets log → e.failed ≡ None
-    → IsCut cutter new piece count frame → FrameLacksMemory e frame code other
-    → Takes values log piece (Failed code) new other
-frame_lacks values cutter new e other log piece count frame code p takes up cut lacks =
-    memory_refused values cutter new e other log piece (take count piece) (drop count piece) code p
-    takes.up (sym (take-append-drop count piece))
-    (to_take takes frame (read_of values cutter new e log piece count frame p takes.up cut)
-    (frame_needs values e log frame p.machine up lacks.needs))
-    (cut_now values cutter new e log piece count frame p takes.up cut).place lacks.fails
+  -- Memory was refused with a frame.
+  pub frame_lacks : (count : ℕ) (frame : Frame) (code : Code) → PartsRepresent values cutter e log
+      → TakesOctets log → e.failed ≡ None → IsCut cutter new piece count frame
+      → FrameLacksMemory e frame code other → Takes values log piece (Failed code) new other
+  frame_lacks count frame code p takes up cut lacks =
+      memory_refused (take count piece) (drop count piece) code p
+      takes.up (sym (take-append-drop count piece))
+      (to_take takes frame (read_of values cutter new e log piece count frame p takes.up cut)
+      (frame_needs values e log frame p.machine up lacks.needs))
+      (cut_now values cutter new e log piece count frame p takes.up cut).place lacks.fails
 
--- Either of them.
-pub frame_stops : (values : Values) (cutter new : CutterState) (e other : End) (log : Log)
-    (piece : List ℕ) (count : ℕ) (frame : Frame) (code : Code)
-    → PartsRepresent values cutter e log → TakesOctets log → e.failed ≡ None
-    → IsCut cutter new piece count frame
-    → FrameFails e frame code other ⊎ FrameLacksMemory e frame code other
-    → Takes values log piece (Failed code) new other
-frame_stops values cutter new e other log piece count frame code p takes up cut (inl fails) =
-    frame_fails values cutter new e other log piece count frame code p takes up cut fails
-frame_stops values cutter new e other log piece count frame code p takes up cut (inr lacks) =
-    frame_lacks values cutter new e other log piece count frame code p takes up cut lacks
+  -- Either of them.
+  pub frame_stops : (count : ℕ) (frame : Frame) (code : Code) → PartsRepresent values cutter e log
+      → TakesOctets log → e.failed ≡ None → IsCut cutter new piece count frame
+      → FrameFails e frame code other ⊎ FrameLacksMemory e frame code other
+      → Takes values log piece (Failed code) new other
+  frame_stops count frame code p takes up cut (inl fails) =
+      frame_fails count frame code p takes up cut fails
+  frame_stops count frame code p takes up cut (inr lacks) =
+      frame_lacks count frame code p takes up cut lacks
 
--- A fault of the stream.
-pub fault_taken : (values : Values) (cutter new : CutterState) (e other : End) (log : Log)
-    (piece : List ℕ) (fault : WireFault) → PartsRepresent values cutter e log → TakesOctets log
-    → CutterFaults cutter piece fault new
-    → other ≡ fail (wire_fault_code fault) e.streams.last_processed e
-    → Takes values log piece (Failed (wire_fault_code fault)) new other
-unfolding MayStep log_after machine_after
-fault_taken values cutter new e other log piece fault p takes met failed =
-    let cut = p.cut takes.up in
-    let at = met.at (is_server log.role) (limits_from log) log.input log.frames cut in
-    let made = fault_in (is_server log.role) (limits_from log) log.input piece cutter.unparsed
-    log.frames at.0 fault cut.split at.1 in
-    let after : Log = took_fault log made.0 fault in
-    let machine : Represents values other after =
-    subst (λ (x : End). Represents values x after) (sym failed)
-    (steps_represent values e log (a_fault made.0 fault) p.machine (takes, made.3)) in
-    let down : other.failed ≢ None =
-    λ up. none_some (wire_fault_code fault) (sym up ∙ ap (λ (x : End). x.failed) failed) in (
-      after,
-      meets_fault takes made.0 made.1 made.2 fault made.3 refl refl,
-      failed_parts values new other after machine down
-          (end_kept new.place (log.input ++ made.0) _ (fault_input log made.0 fault)
-          (at.2 ∙ ap saturated made.4)),
-    )
+  -- A fault of the stream.
+  pub fault_taken : (fault : WireFault) → PartsRepresent values cutter e log → TakesOctets log
+      → CutterFaults cutter piece fault new
+      → other ≡ fail (wire_fault_code fault) e.streams.last_processed e
+      → Takes values log piece (Failed (wire_fault_code fault)) new other
+  unfolding MayStep log_after machine_after
+  fault_taken fault p takes met failed =
+      let cut = p.cut takes.up in
+      let at = met.at (is_server log.role) (limits_from log) log.input log.frames cut in
+      let made = fault_in (is_server log.role) (limits_from log) log.input piece cutter.unparsed
+      log.frames at.0 fault cut.split at.1 in
+      let after : Log = took_fault log made.0 fault in
+      let machine : Represents values other after =
+      subst (λ (x : End). Represents values x after) (sym failed)
+      (steps_represent values e log (a_fault made.0 fault) p.machine (takes, made.3)) in
+      let down : other.failed ≢ None =
+      λ up. none_some (wire_fault_code fault) (sym up ∙ ap (λ (x : End). x.failed) failed) in (
+        after,
+        meets_fault takes made.0 made.1 made.2 fault made.3 refl refl,
+        failed_parts values new other after machine down
+            (end_kept new.place (log.input ++ made.0) _ (fault_input log made.0 fault)
+            (at.2 ∙ ap saturated made.4)),
+      )
 
 -- The same end fails in the same way.
 fails_alike : (e other : End) (code : Code) → other ≡ fail code e.streams.last_processed e

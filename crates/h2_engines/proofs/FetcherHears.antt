@@ -104,45 +104,40 @@ not_done : (whole : Bool) {next : Next} {A : Type 0}
 not_done true is done = cc
 not_done false is done = cc
 
--- A part was noted: the fetch goes on, or the response is whole.
-pub heard_part : (old new : End) (id : ℕ) (before coming : Coming) (piece : List ℕ)
-    (taken : EndTaken) (event : LentPart) (whole : Bool) (next : Next)
-    → taken.event ≡ Some event → next ≡ (if whole then goes.Whole else goes.Again)
-    → NotesPart id before coming (event_handed event) whole → EndTakes old piece (Ok taken) new
-    → ClientHears old new id before coming piece
-    (Ok (record { used = taken.used; next = next }))
-unfolding FetchedSo
-heard_part old new id before coming piece taken event whole next some goes_on notes takes values
-    end represents role come =
-    let (after, may, now) = takes values end represents in
-    let handed = event_handed event in
-    let took = rw some at may in
-    let says = taken_says took in
-    let hands = hands_by end id role come says.says.3 in
-    let parts = parts_on id end.handed in
-    let keeps = notes_on come hands notes in (
-      after,
-      now,
-      (
-        Some handed,
-        took,
-        keeps_by after id coming whole (handed_on id end.handed handed says.handed) keeps goes_on,
-        λ done. not_done whole goes_on done,
-      ),
-    )
+module _ (old new : End) (id : ℕ) (before coming : Coming) (piece : List ℕ) (taken : EndTaken) where
+  -- A part was noted: the fetch goes on, or the response is whole.
+  pub heard_part : (event : LentPart) (whole : Bool) (next : Next)
+      → taken.event ≡ Some event → next ≡ (if whole then goes.Whole else goes.Again)
+      → NotesPart id before coming (event_handed event) whole → EndTakes old piece (Ok taken) new
+      → ClientHears old new id before coming piece (Ok (record { used = taken.used; next = next }))
+  unfolding FetchedSo
+  heard_part event whole next some goes_on notes takes values end represents role come =
+      let (after, may, now) = takes values end represents in
+      let handed = event_handed event in
+      let took = rw some at may in
+      let says = taken_says took in
+      let hands = hands_by end id role come says.says.3 in
+      let parts = parts_on id end.handed in
+      let keeps = notes_on come hands notes in (
+        after,
+        now,
+        (
+          Some handed,
+          took,
+          keeps_by after id coming whole (handed_on id end.handed handed says.handed) keeps goes_on,
+          λ done. not_done whole goes_on done,
+        ),
+      )
 
--- The fetch ends, since the stream is over, since there is no memory, or with the connection.
-pub heard_error : (old new : End) (id : ℕ) (before coming : Coming) (piece : List ℕ)
-    (taken : EndTaken) (event : LentPart) (error : LinkError) → taken.event ≡ Some event
-    → ErrsFetching (EndTook taken.used (Some (event_handed event))) id error
-    → EndTakes old piece (Ok taken) new
-    → ClientHears old new id before coming piece (Err error)
-unfolding FetchedSo
-heard_error old new id before coming piece taken event error some errs takes values end represents
-    role come =
-    let (after, may, now) = takes values end represents in
-    let took = rw some at may in
-    (after, now, (EndTook taken.used (Some (event_handed event)), took, errs))
+  -- The fetch ends, since the stream is over, since there is no memory, or with the connection.
+  pub heard_error : (event : LentPart) (error : LinkError) → taken.event ≡ Some event
+      → ErrsFetching (EndTook taken.used (Some (event_handed event))) id error
+      → EndTakes old piece (Ok taken) new → ClientHears old new id before coming piece (Err error)
+  unfolding FetchedSo
+  heard_error event error some errs takes values end represents role come =
+      let (after, may, now) = takes values end represents in
+      let took = rw some at may in
+      (after, now, (EndTook taken.used (Some (event_handed event)), took, errs))
 
 pub heard_fault : (old new : End) (id : ℕ) (before coming : Coming) (piece : List ℕ)
     (fault : ConnFault) {error : LinkError} → error ≡ error_with fault.code

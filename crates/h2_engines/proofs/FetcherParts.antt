@@ -121,38 +121,34 @@ read_head : (interims : List (List Field)) (head : List Field)
 unfolding message_parts final_parts trailers_parts ended
 read_head interims head = refl
 
-read_octets : (interims : List (List Field)) (head : List Field) (data_parts : List (List ℕ))
-    (octets : List ℕ)
-    → message_parts (record {
-      interims = interims;
-      head = head;
-      data_parts = data_parts ++ octets ∷ [];
-      trailers = None;
-    })
-    ≡ interim_parts interims ++ (FieldsPart head, false)
-    ∷ (data_parts_of data_parts ++ (OctetsPart octets, true) ∷ [])
-unfolding message_parts final_parts trailers_parts
-read_octets interims head data_parts octets =
-    ap (λ (line : List Part). interim_parts interims ++ ended (FieldsPart head ∷ line))
-    (append-nil (each OctetsPart (data_parts ++ octets ∷ []))
-    ∙ map_push OctetsPart data_parts octets)
-    ∙ ap (λ (parts : List (Part × Bool)). interim_parts interims ++ parts)
-    (ended_with (FieldsPart head) data_parts (OctetsPart octets))
+module _ (interims : List (List Field)) (head : List Field) (data_parts : List (List ℕ)) where
+  read_octets : (octets : List ℕ)
+      → message_parts (record {
+        interims = interims;
+        head = head;
+        data_parts = data_parts ++ octets ∷ [];
+        trailers = None;
+      }) ≡ interim_parts interims ++ (FieldsPart head, false)
+      ∷ (data_parts_of data_parts ++ (OctetsPart octets, true) ∷ [])
+  unfolding message_parts final_parts trailers_parts
+  read_octets octets =
+      ap (λ (line : List Part). interim_parts interims ++ ended (FieldsPart head ∷ line))
+      (append-nil (each OctetsPart (data_parts ++ octets ∷ []))
+      ∙ map_push OctetsPart data_parts octets)
+      ∙ ap (λ (parts : List (Part × Bool)). interim_parts interims ++ parts)
+      (ended_with (FieldsPart head) data_parts (OctetsPart octets))
 
-read_trailers : (interims : List (List Field)) (head : List Field) (data_parts : List (List ℕ))
-    (list : List Field)
-    → message_parts (record {
-      interims = interims;
-      head = head;
-      data_parts = data_parts;
-      trailers = Some list;
-    })
-    ≡ interim_parts interims ++ (FieldsPart head, false)
-    ∷ (data_parts_of data_parts ++ (FieldsPart list, true) ∷ [])
-unfolding message_parts final_parts trailers_parts
-read_trailers interims head data_parts list =
-    ap (λ (parts : List (Part × Bool)). interim_parts interims ++ parts)
-    (ended_with (FieldsPart head) data_parts (FieldsPart list))
+  read_trailers : (list : List Field)
+      → message_parts (record {
+        interims = interims;
+        head = head;
+        data_parts = data_parts;
+        trailers = Some list;
+      }) ≡ interim_parts interims ++ (FieldsPart head, false)
+      ∷ (data_parts_of data_parts ++ (FieldsPart list, true) ∷ [])
+  unfolding message_parts final_parts trailers_parts
+  read_trailers list = ap (λ (parts : List (Part × Bool)). interim_parts interims ++ parts)
+      (ended_with (FieldsPart head) data_parts (FieldsPart list))
 
 -- The head has come.
 on_head : {old : Coming} (new : Coming) {parts : List (Part × Bool)} (list : List Field)

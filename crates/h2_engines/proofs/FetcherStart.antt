@@ -72,38 +72,34 @@ refused_as_large {values} message new back {refusal} reason represents named sam
     refused_list values message end (subst
     (λ (one : EndRefusal). MayRequest (new_end_log Client values) message (Err one) end) is may)
 
--- A request that was refused for something else was not refused as out of memory.
-otherwise : (values : Values) (message : SentMessage) (refusal : Refusal)
-    → refusal ≢ ListTooLarge → refusal ≢ Memory
-    → (refusal_of_request values message ≡ Some refusal)
-    ⊎ ((refusal_of_request values message ≡ None) × (refusal ≡ Memory))
-    → IsRefusedOtherwise values message
-otherwise values message refusal small other (inl is) = (refusal, is, small, other)
-otherwise values message refusal small other (inr lacks) = absurd (other lacks.1)
+module _ (values : Values) (message : SentMessage) where
+  -- A request that was refused for something else was not refused as out of memory.
+  otherwise : (refusal : Refusal) → refusal ≢ ListTooLarge → refusal ≢ Memory
+      → (refusal_of_request values message ≡ Some refusal)
+      ⊎ ((refusal_of_request values message ≡ None) × (refusal ≡ Memory))
+      → IsRefusedOtherwise values message
+  otherwise refusal small other (inl is) = (refusal, is, small, other)
+  otherwise refusal small other (inr lacks) = absurd (other lacks.1)
 
--- A call that was refused for something else ends the fetch as the refusal says.
-ends_otherwise : (values : Values) (message : SentMessage) (refusal : Refusal)
-    → refusal ≢ ListTooLarge
-    → (refusal_of_request values message ≡ Some refusal)
-    ⊎ ((refusal_of_request values message ≡ None) × (refusal ≡ Memory))
-    → IsNotAccepted values message (Err (error_after (refusals.Conn refusal)))
-ends_otherwise values message Memory small why = tt
-ends_otherwise values message refusal small why =
-    otherwise values message refusal small (λ same. absurd (cc)) why
+  -- A call that was refused for something else ends the fetch as the refusal says.
+  ends_otherwise : (refusal : Refusal) → refusal ≢ ListTooLarge
+      → (refusal_of_request values message ≡ Some refusal)
+      ⊎ ((refusal_of_request values message ≡ None) × (refusal ≡ Memory))
+      → IsNotAccepted values message (Err (error_after (refusals.Conn refusal)))
+  ends_otherwise Memory small why = tt
+  ends_otherwise refusal small why = otherwise refusal small (λ same. absurd (cc)) why
 
--- So does a message that breaks no rule, and whose fields are not too many.
-refused_so : (values : Values) (message : SentMessage) (refusal : EndRefusal) (after : EndLog)
-    → ((rule : Malformed) → refusal ≢ refusals.BadMessage rule)
-    → refusal ≢ refusals.Conn ListTooLarge
-    → MayRequest (new_end_log Client values) message (Err refusal) after
-    → IsNotAccepted values message (Err (error_after refusal))
-unfolding MayRequest
-refused_so values message (refusals.BadMessage rule) after kept small may =
-    absurd (kept rule refl)
-refused_so values message (refusals.Conn refusal) after kept small may =
-    ends_otherwise values message refusal
-    (λ same. small (ap (λ (one : Refusal). refusals.Conn one) same)) may.1
-refused_so values message refusal after kept small may = absurd may
+  -- So does a message that breaks no rule, and whose fields are not too many.
+  refused_so : (refusal : EndRefusal) (after : EndLog)
+      → ((rule : Malformed) → refusal ≢ refusals.BadMessage rule)
+      → refusal ≢ refusals.Conn ListTooLarge
+      → MayRequest (new_end_log Client values) message (Err refusal) after
+      → IsNotAccepted values message (Err (error_after refusal))
+  unfolding MayRequest
+  refused_so (refusals.BadMessage rule) after kept small may = absurd (kept rule refl)
+  refused_so (refusals.Conn refusal) after kept small may = ends_otherwise refusal
+      (λ same. small (ap (λ (one : Refusal). refusals.Conn one) same)) may.1
+  refused_so refusal after kept small may = absurd may
 
 -- So the fetch has ended.
 pub refused_otherwise : {values : Values} (message : SentMessage) {old : End} (new : End)

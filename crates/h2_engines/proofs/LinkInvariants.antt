@@ -60,57 +60,52 @@ AllKeep P =
 quietly : (P : EndLog → Type 0) → AllKeep P → CallsKeep P
 quietly P keep end act answer sends holds = keep end act answer holds
 
--- So do the calls of a pump and of a release,
-pump_keeps : (P : EndLog → Type 0) → CallsKeep P
-    → {before : EndLog} {count : ℕ} {refused : Option Refusal} {after : EndLog}
-    → Pumps before count refused after → P before → P after
-pump_keeps P keep (pumps_no_more end) holds = holds
-pump_keeps P keep (pumps_data end id sent more octets ends refusal last next typed waits may rest)
-    holds =
-    pump_keeps P keep rest (keep end (SendData id octets ends) (Count sent) tt holds)
-pump_keeps P keep (pumps_trailers end id more list refusal last next typed wait may rest) holds =
-    pump_keeps P keep rest (keep end (SendFields id list true) Done tt holds)
-pump_keeps P keep (data_refused end id octets ends refusal next typed waits may) holds =
-    keep end (SendData id octets ends) (Refused refusal) tt holds
-pump_keeps P keep (trailers_refused end id list refusal next typed wait may) holds =
-    keep end (SendFields id list true) (Refused refusal) tt holds
+module _ (P : EndLog → Type 0) where
+  -- So do the calls of a pump and of a release,
+  pump_keeps : CallsKeep P
+      → {before : EndLog} {count : ℕ} {refused : Option Refusal} {after : EndLog}
+      → Pumps before count refused after → P before → P after
+  pump_keeps keep (pumps_no_more end) holds = holds
+  pump_keeps keep (pumps_data end id sent more octets ends refusal last next typed waits may rest)
+      holds = pump_keeps keep rest (keep end (SendData id octets ends) (Count sent) tt holds)
+  pump_keeps keep (pumps_trailers end id more list refusal last next typed wait may rest) holds =
+      pump_keeps keep rest (keep end (SendFields id list true) Done tt holds)
+  pump_keeps keep (data_refused end id octets ends refusal next typed waits may) holds =
+      keep end (SendData id octets ends) (Refused refusal) tt holds
+  pump_keeps keep (trailers_refused end id list refusal next typed wait may) holds =
+      keep end (SendFields id list true) (Refused refusal) tt holds
 
-pub pumped_keeps : (P : EndLog → Type 0) → CallsKeep P → (before : EndLog)
-    (result : Result ℕ EndRefusal) (after : EndLog) → MayPump before result after → P before
-    → P after
-unfolding MayPump
-pumped_keeps P keep before (Ok count) after may holds =
-    elim may.1 [
-      | inl all ↦ pump_keeps P keep all.0 holds
-      | inr all ↦ pump_keeps P keep all.0 holds
-    ]
-pumped_keeps P keep before (Err (refusals.Conn reasons.Closed)) after may holds =
-    rw may.1 holds
-pumped_keeps P keep before (Err (refusals.Conn reasons.Memory)) after may holds =
-    pump_keeps P keep may.2 holds
-pumped_keeps P keep before (Err other) after may holds = absurd may
+  pub pumped_keeps : CallsKeep P → (before : EndLog) (result : Result ℕ EndRefusal) (after : EndLog)
+      → MayPump before result after → P before → P after
+  unfolding MayPump
+  pumped_keeps keep before (Ok count) after may holds = elim may.1 [
+    | inl all ↦ pump_keeps keep all.0 holds
+    | inr all ↦ pump_keeps keep all.0 holds
+  ]
+  pumped_keeps keep before (Err (refusals.Conn reasons.Closed)) after may holds = rw may.1 holds
+  pumped_keeps keep before (Err (refusals.Conn reasons.Memory)) after may holds =
+      pump_keeps keep may.2 holds
+  pumped_keeps keep before (Err other) after may holds = absurd may
 
-release_keeps : (P : EndLog → Type 0) → CallsKeep P
-    → {before : EndLog} {refused : Option Refusal} {after : EndLog} → Releases before refused after
-    → P before → P after
-release_keeps P keep (releases_no_more end) holds = holds
-release_keeps P keep (releases_one end id refusal last next typed may rest) holds =
-    release_keeps P keep rest (keep end (Release id (owed end.log id)) Done tt holds)
-release_keeps P keep (releases_refused end id refusal next typed may) holds =
-    keep end (Release id (owed end.log id)) (Refused refusal) tt holds
+  release_keeps : CallsKeep P → {before : EndLog} {refused : Option Refusal} {after : EndLog}
+      → Releases before refused after → P before → P after
+  release_keeps keep (releases_no_more end) holds = holds
+  release_keeps keep (releases_one end id refusal last next typed may rest) holds =
+      release_keeps keep rest (keep end (Release id (owed end.log id)) Done tt holds)
+  release_keeps keep (releases_refused end id refusal next typed may) holds =
+      keep end (Release id (owed end.log id)) (Refused refusal) tt holds
 
-pub released_keeps : (P : EndLog → Type 0) → CallsKeep P → (before : EndLog)
-    (result : Result (Unit {0}) EndRefusal) (after : EndLog) → MayReleaseAll before result after
-    → P before → P after
-unfolding MayReleaseAll
-released_keeps P keep before (Ok done) after may holds = release_keeps P keep may.1 holds
-released_keeps P keep before (Err (refusals.Conn reasons.Closed)) after may holds =
-    rw may.1 holds
-released_keeps P keep before (Err (refusals.Conn reasons.OutputFull)) after may holds =
-    release_keeps P keep may.1 holds
-released_keeps P keep before (Err (refusals.Conn reasons.Memory)) after may holds =
-    release_keeps P keep may.1 holds
-released_keeps P keep before (Err other) after may holds = absurd may
+  pub released_keeps : CallsKeep P
+      → (before : EndLog) (result : Result (Unit {0}) EndRefusal) (after : EndLog)
+      → MayReleaseAll before result after → P before → P after
+  unfolding MayReleaseAll
+  released_keeps keep before (Ok done) after may holds = release_keeps keep may.1 holds
+  released_keeps keep before (Err (refusals.Conn reasons.Closed)) after may holds = rw may.1 holds
+  released_keeps keep before (Err (refusals.Conn reasons.OutputFull)) after may holds =
+      release_keeps keep may.1 holds
+  released_keeps keep before (Err (refusals.Conn reasons.Memory)) after may holds =
+      release_keeps keep may.1 holds
+  released_keeps keep before (Err other) after may holds = absurd may
 
 -- and an answer that is refused.
 head_sends : (act : Act) (refusal : Refusal) → IsHeadCall act
@@ -172,54 +167,50 @@ TakesKeep P =
     (before : EndLog) (piece : List ℕ) (answer : EndAnswer) (after : EndLog)
     → EndMayTake before piece answer after → P before → P after
 
--- Whatever has happened at a server over a link, what each call keeps holds of it,
-pub holds_responding : (P : EndLog → Type 0) → AllKeep P → AnswersKeep P → TakesKeep P
-    → {values : Values} → P (new_end_log Server values) → {end : EndLog} → IsResponding values end
-    → P end
-holds_responding P keep answer take new (server.begins range) = new
-holds_responding P keep answer take new
-    (server.takes {end = before} {after = after} was piece said may) =
-    take before piece said after may (holds_responding P keep answer take new was)
-holds_responding P keep answer take new
-    (server.answers {end = before} {after = after} was id message result whole fits asked may) =
-    responded_keeps P (quietly P keep) answer before id message result after may
-    (holds_responding P keep answer take new was)
-holds_responding P keep answer take new
-    (server.resets {end = before} was id said large typed may) =
-    keep before _ _ (holds_responding P keep answer take new was)
-holds_responding P keep answer take new
-    (server.releases {end = before} {after = after} was result may) =
-    released_keeps P (quietly P keep) before result after may
-    (holds_responding P keep answer take new was)
-holds_responding P keep answer take new
-    (server.pumps {end = before} {after = after} was result may) =
-    pumped_keeps P (quietly P keep) before result after may
-    (holds_responding P keep answer take new was)
-holds_responding P keep answer take new (server.gives_out {end = before} was count said typed may) =
-    keep before _ _ (holds_responding P keep answer take new was)
+module _ (P : EndLog → Type 0) where
+  -- Whatever has happened at a server over a link, what each call keeps holds of it,
+  pub holds_responding : AllKeep P → AnswersKeep P → TakesKeep P → {values : Values}
+      → P (new_end_log Server values) → {end : EndLog} → IsResponding values end → P end
+  holds_responding keep answer take new (server.begins range) = new
+  holds_responding keep answer take new
+      (server.takes {end = before} {after = after} was piece said may) =
+      take before piece said after may (holds_responding keep answer take new was)
+  holds_responding keep answer take new
+      (server.answers {end = before} {after = after} was id message result whole fits asked may) =
+      responded_keeps P (quietly P keep) answer before id message result after may
+      (holds_responding keep answer take new was)
+  holds_responding keep answer take new (server.resets {end = before} was id said large typed may) =
+      keep before _ _ (holds_responding keep answer take new was)
+  holds_responding keep answer take new
+      (server.releases {end = before} {after = after} was result may) =
+      released_keeps P (quietly P keep) before result after may
+      (holds_responding keep answer take new was)
+  holds_responding keep answer take new (server.pumps {end = before} {after = after} was result may)
+      = pumped_keeps P (quietly P keep) before result after may
+      (holds_responding keep answer take new was)
+  holds_responding keep answer take new (server.gives_out {end = before} was count said typed may) =
+      keep before _ _ (holds_responding keep answer take new was)
 
--- and so it is with a client.
-holds_fetching : (P : EndLog → Type 0) → AllKeep P → RequestsKeep P → TakesKeep P
-    → {values : Values} → P (new_end_log Client values) → {message : SentMessage} {end : EndLog}
-    → IsFetching values message end → P end
-holds_fetching P keep request take new (client.begins range) = new
-holds_fetching P keep request take {values} new {message} {end}
-    (client.requests range result may) =
-    requested_keeps P (quietly P keep) request (new_end_log Client values) message result end may
-    new
-holds_fetching P keep request take new
-    (client.takes {end = before} {after = after} was piece said may) =
-    take before piece said after may (holds_fetching P keep request take new was)
-holds_fetching P keep request take new
-    (client.releases {end = before} {after = after} was result may) =
-    released_keeps P (quietly P keep) before result after may
-    (holds_fetching P keep request take new was)
-holds_fetching P keep request take new
-    (client.pumps {end = before} {after = after} was result may) =
-    pumped_keeps P (quietly P keep) before result after may
-    (holds_fetching P keep request take new was)
-holds_fetching P keep request take new (client.gives_out {end = before} was count said typed may) =
-    keep before _ _ (holds_fetching P keep request take new was)
+  -- and so it is with a client.
+  holds_fetching : AllKeep P → RequestsKeep P → TakesKeep P → {values : Values}
+      → P (new_end_log Client values) → {message : SentMessage} {end : EndLog}
+      → IsFetching values message end → P end
+  holds_fetching keep request take new (client.begins range) = new
+  holds_fetching keep request take {values} new {message} {end} (client.requests range result may) =
+      requested_keeps P (quietly P keep) request (new_end_log Client values) message result end may
+      new
+  holds_fetching keep request take new
+      (client.takes {end = before} {after = after} was piece said may) =
+      take before piece said after may (holds_fetching keep request take new was)
+  holds_fetching keep request take new
+      (client.releases {end = before} {after = after} was result may) =
+      released_keeps P (quietly P keep) before result after may
+      (holds_fetching keep request take new was)
+  holds_fetching keep request take new (client.pumps {end = before} {after = after} was result may)
+      = pumped_keeps P (quietly P keep) before result after may
+      (holds_fetching keep request take new was)
+  holds_fetching keep request take new (client.gives_out {end = before} was count said typed may) =
+      keep before _ _ (holds_fetching keep request take new was)
 
 -- A new end has its role, and a message that is accepted keeps it.
 new_server : (values : Values) → (opened Server values).role ≡ Server

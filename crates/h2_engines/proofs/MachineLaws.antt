@@ -28,20 +28,17 @@ puts_at course (Serving requests answered) end count answer was typed may =
 puts_at course (Fetching id coming whole) end count answer was typed may =
     client.gives_out was count answer typed may
 
-pub pumps_at : (course : Course) (kept : MessageState) (end after : EndLog)
-    (result : Result ℕ EndRefusal) → Happens course kept end → MayPump end result after
-    → Happens course kept after
-pumps_at course (Serving requests answered) end after result was may =
-    server.pumps was result may
-pumps_at course (Fetching id coming whole) end after result was may = client.pumps was result may
+module _ (course : Course) where
+  pub pumps_at : (kept : MessageState) (end after : EndLog) (result : Result ℕ EndRefusal)
+      → Happens course kept end → MayPump end result after → Happens course kept after
+  pumps_at (Serving requests answered) end after result was may = server.pumps was result may
+  pumps_at (Fetching id coming whole) end after result was may = client.pumps was result may
 
-pub releases_at : (course : Course) (kept : MessageState) (end after : EndLog)
-    (result : Result (Unit {0}) EndRefusal) → Happens course kept end
-    → MayReleaseAll end result after → Happens course kept after
-releases_at course (Serving requests answered) end after result was may =
-    server.releases was result may
-releases_at course (Fetching id coming whole) end after result was may =
-    client.releases was result may
+  pub releases_at : (kept : MessageState) (end after : EndLog)
+      (result : Result (Unit {0}) EndRefusal) → Happens course kept end
+      → MayReleaseAll end result after → Happens course kept after
+  releases_at (Serving requests answered) end after result was may = server.releases was result may
+  releases_at (Fetching id coming whole) end after result was may = client.releases was result may
 
 -- What is kept holds still where nothing of messages has happened,
 pub keeps_same : (message : SentMessage) (kept : MessageState) (before after : EndLog) (next : Next)

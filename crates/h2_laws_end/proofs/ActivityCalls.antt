@@ -4,7 +4,6 @@ use Rattle.std.specs.Option.{is_some}
 use Rattle.h2_spec_log.specs.declared.refusal.Refusal.TheVariants.{NoSuchStream, Closed}
 use Rattle.h2_spec_log.specs.States.{when}
 use Rattle.h2_spec_log.specs.View.{StreamView}
-use Rattle.h2_spec_log.specs.LogView.{stream_of_log}
 use Rattle.h2_spec_log.specs.CallRules.{first_of, may_lack_memory}
 use Rattle.h2_laws_end.specs.Activity.{call_may_close}
 use Rattle.h2_laws_end.proofs.Names
@@ -13,7 +12,7 @@ use Names.{refl, sym, ap, ◌∙◌, arith, subst, list_any, both_ways, and_left
 use Names.{false_from_ne_true, and_parts, list_any-append, Field, Code, InternalError, code_number}
 use Names.{GoAway, Reset, none_some, Item, alone, Role, Server, Refusal, Values, Act, Answer, Open}
 use Names.{SendFields, SendData, Release, ResetStream, Refuse, SendPing, SendGoAway, ChangeSettings}
-use Names.{Number, Count, Done, Event, is_active, Log, active, View, ended_in, log_view, refusal_of}
+use Names.{Number, Count, Done, Event, is_active, Log, active, View, log_view, refusal_of}
 use Names.{MayAnswer, accepts, refuses, lacks, fails, IsLog, any_after, active_parts, active_used}
 use Names.{lasts_parts, resets, greatest_processed, last_processed, items_of, conditions, with_call}
 use Names.{last_is}
@@ -43,16 +42,12 @@ items_harmless role i view (SendFields id fields end) Done none opens low =
     (harmless_block role i id end _ none, tt)
 items_harmless role i view (SendData id octets end) (Count count) none opens low =
     harmless_body role i view.max_payload id octets end count none
-items_harmless role i view (Release id count) Done none opens low =
-    harmless_release role i id count (ended_in (view.stream id))
+items_harmless role i view (Release id count) Done none opens low = harmless_release _ _ _ _ _
 items_harmless role i view (ResetStream id code) Done none opens low =
     (harmless_reset role i id code none, tt)
-items_harmless role i view (Refuse id code) Done none opens low =
-    (harmless_reset role i id code none, tt)
-items_harmless role i view (SendPing octets) Done none opens low =
-    (harmless_ping role i false octets, tt)
-items_harmless role i view SendGoAway Done none opens low =
-    (harmless_goaway role i view.last_processed 0 low, tt)
+items_harmless role i view (Refuse id code) Done none opens low = (harmless_reset _ _ _ _ none, tt)
+items_harmless role i view (SendPing octets) Done none opens low = (harmless_ping _ _ false _, tt)
+items_harmless role i view SendGoAway Done none opens low = (harmless_goaway _ _ _ 0 low, tt)
 items_harmless role i view (ChangeSettings values) Done none opens low =
     (harmless_settings role i false _, tt)
 items_harmless role i view act answer none opens low = tt
@@ -72,32 +67,27 @@ stays_by : (log after : Log) (act : Act) (answer : Answer) (i : ℕ) → AfterCa
 stays_by log after act answer i (was_refused refusal is adds) alive harmless low =
     active_added log after [] [] [] i adds ∙ alive
 stays_by log after act answer i (was_broken code adds failed) alive harmless low =
-    active_added log after [] _ [] i adds
-    ∙ stays_active log.role i [] (alone (GoAway (last_processed log) (code_number code) []) ∷ [])
-    log.received log.sent [] log.reported alive refl refl
-    (harmless_goaway log.role i (last_processed log) (code_number code) low, tt) refl
+    active_added log after [] _ [] i adds ∙ stays_active log.role i []
+    (alone (GoAway (last_processed log) (code_number code) []) ∷ []) log.received log.sent []
+    log.reported alive refl refl (harmless_goaway _ _ _ (code_number code) low, tt) refl
 stays_by log after act answer i (was_accepted credit is_credit none is adds) alive harmless low =
-    active_added log after [] _ [] i adds
-    ∙ stays_active log.role i [] _ log.received log.sent [] log.reported alive refl refl
-    (harmless_append log.role i credit _ (harmless_credit log.role i credit is_credit) harmless)
-    refl
+    active_added _ _ [] _ [] _ adds ∙ stays_active _ _ [] _ _ _ [] _ alive refl refl
+    (harmless_append _ _ credit _ (harmless_credit _ _ credit is_credit) harmless) refl
 
 pub active_by_call : (role : Role) (values : Values) (log : Log) (act : Act) (answer : Answer)
     (i : ℕ) → IsLog role values log → MayAnswer log act answer → active log i ≡ true
     → call_may_close i act answer ≡ false → active (with_call log act answer) i ≡ true
 active_by_call role values log act answer i is may alive none =
-    let low = active_low role values log i is alive in
-    stays_by log (with_call log act answer) act answer i (call_after log act answer may) alive
-    (items_harmless log.role i (log_view log) act answer none (opens_other log i act answer may
-    (active_used log.role i log.received log.sent log.reported alive)) low) low
+    let low = active_low _ _ _ _ is alive in
+    stays_by _ _ _ _ _ (call_after _ _ _ may) alive
+    (items_harmless _ _ _ _ _ none (opens_other _ _ _ _ may (active_used _ _ _ _ _ alive)) low) low
 
 -- A stream that isn't active is so after a call only if the call answers its number.
 pub inactive_by_call : (log : Log) (act : Act) (answer : Answer) (i : ℕ)
     → MayAnswer log act answer → active log i ≡ false → answer ≢ Number i
     → active (with_call log act answer) i ≡ false
 inactive_by_call log act answer i may inactive other =
-    call_keeps i (IsInactive i) (inactive_sent i) log act answer
-    (items_no_block i (log_view log) act answer
+    call_keeps i (IsInactive i) (inactive_sent i) log act answer (items_no_block _ _ _ answer
     (λ fields end id is answers. ne_eqb id i (λ equal. other (answers ∙ ap Number equal)))
     (λ id fields end is answers.
     let writes : MayAnswer log (SendFields id fields end) Done = rw (is, answers) at may in
@@ -123,11 +113,10 @@ refusal_resets log after id code (was_broken fault adds failed) up =
 refusal_resets log after id code (was_accepted credit is_credit none is adds) up =
     let reset = alone (Reset id code) ∷ [] in
     let here : list_any (resets id) reset ≡ true = or_left (id == id) false (eq-eqb id id refl) in
-    let there : list_any (resets id) ((credit ++ reset) ++ log.sent) ≡ true =
-    list_any-append (resets id) (credit ++ reset) log.sent
-    ∙ or_left _ (list_any (resets id) log.sent) (any_after (resets id) credit reset here) in
-    active_added log after [] (credit ++ reset) [] id adds
-    ∙ reset_inactive log.role id log.received ((credit ++ reset) ++ log.sent) log.reported there
+    let there : list_any (resets id) ((credit ++ reset) ++ log.sent) ≡ true = list_any-append
+    (resets id) (credit ++ reset) log.sent ∙ or_left _ (list_any (resets id) log.sent)
+    (any_after (resets id) credit reset here) in
+    active_added log after [] (credit ++ reset) [] id adds ∙ reset_inactive _ _ _ _ _ there
 
 -- A refusal that is refused is of a stream that isn't active, where the connection is up.
 no_stream_by : (b : Bool) (stream : StreamView) → not (is_some (when b stream)) ≡ true → b ≡ false
@@ -145,8 +134,7 @@ refused_inactive : (log : Log) (id code : ℕ) (refusal : Refusal) → log.faile
     → refusal_of (log_view log) (Refuse id code) ≡ Some refusal → active log id ≡ false
 unfolding conditions
 refused_inactive log id code refusal up is =
-    no_stream_by (active log id) (stream_of_log log id)
-    (and_parts (not (code == code_number InternalError)) _
+    no_stream_by _ _ (and_parts (not (code == code_number InternalError)) _
     (refused_by log.failed _ refusal up is)).1
 
 -- After a refusal the stream isn't active, unless the connection has failed.

@@ -62,25 +62,21 @@ pub frame_keeps_active : (before after : Log) (decoded : Option Decoded) (i : �
 frame_keeps_active before after decoded i (stays_same adds failed) alive low none =
     active_added before after [] [] [] i adds ∙ alive
 frame_keeps_active before after decoded i (has_broken code last up adds failed) alive low none =
-    active_added before after [] _ [] i adds
-    ∙ stays_active before.role i [] (alone (GoAway last (code_number code) []) ∷ [])
-    before.received before.sent [] before.reported alive refl refl (
+    active_added before after [] _ [] i adds ∙ stays_active _ _ []
+    (alone (GoAway last (code_number code) []) ∷ []) _ _ [] before.reported alive refl refl (
       harmless_goaway before.role i last (code_number code) (λ server.
           let most = low server in omega (arith, most, up)),
       tt,
     ) refl
 frame_keeps_active before after decoded i
     (has_read item verdict credit is on is_credit adds failed) alive low none =
-    let kept = item_keeps before decoded item verdict i is on alive (none failed _ adds.reported) in
+    let kept = item_keeps _ _ item verdict _ is on alive (none failed _ adds.reported) in
     let both = or_parts _ _ kept.0 in
-    active_added before after (item ∷ []) _ _ i adds
-    ∙ stays_active before.role i (item ∷ []) (credit ++ replies_to verdict item)
-    before.received before.sent (events_of (log_view before) decoded verdict item) before.reported
-    alive (or_from _ _ both.0 refl) (or_from _ _ both.1 refl)
-    (harmless_append before.role i credit (replies_to verdict item)
-    (harmless_credit before.role i credit is_credit)
-    (harmless_replies before.role i verdict item kept.1))
-    (events_name_none (log_view before) decoded verdict item i)
+    active_added _ _ (item ∷ []) _ _ _ adds ∙ stays_active _ _ (item ∷ [])
+    (credit ++ replies_to verdict item) _ _ _ _ alive (or_from _ _ both.0 refl)
+    (or_from _ _ both.1 refl) (harmless_append _ _ credit (replies_to verdict item)
+    (harmless_credit _ _ credit is_credit) (harmless_replies _ _ verdict item kept.1))
+    (events_name_none _ _ verdict item _)
 
 -- Where no block is new, a stream that is open was open before, by the role.
 open_before : (role : Role) (i : ℕ) (reads items received sent : List Item)
@@ -106,10 +102,9 @@ pub was_active : (before after : Log) (reads items : List Item) (events : List E
     → (before.role ≡ Client → list_any (is_block_on i) items ≡ false)
     → active after i ≡ true → active before i ≡ true
 was_active before after reads items events i adds unread none alive =
-    let now = sym (active_added before after reads items events i adds) ∙ alive in
-    let parts = active_parts before.role i _ _ _ now in
-    active_before before.role i reads items before.received before.sent events before.reported now
-    (open_before before.role i reads items before.received before.sent unread none parts.opened)
+    let now = sym (active_added _ _ _ _ _ _ adds) ∙ alive in
+    let parts = active_parts _ _ _ _ _ now in
+    active_before _ _ _ _ _ _ _ _ now (open_before _ _ _ _ _ _ unread none parts.opened)
 
 -- A stream that this end has closed stays so.
 pub above_more : (role : Role) (i : ℕ) (items sent : List Item) → is_above role i sent ≡ true
@@ -134,11 +129,10 @@ fault_resets : (role : Role) (i : ℕ) (credit sent : List Item) (code : Code) (
 unfolding is_closed_by_us replies_to resets
 fault_resets role i credit sent code item is =
     let reset = alone (Reset (stream_of_item item) (code_number code)) ∷ [] in
-    let here : list_any (resets i) reset ≡ true =
-    or_left (stream_of_item item == i) false (eq-eqb (stream_of_item item) i is) in
-    let there : list_any (resets i) ((credit ++ reset) ++ sent) ≡ true =
-    list_any-append (resets i) (credit ++ reset) sent
-    ∙ or_left _ (list_any (resets i) sent) (any_after (resets i) credit reset here) in
+    let here : list_any (resets i) reset ≡ true = or_left (stream_of_item item == i) false
+    (eq-eqb (stream_of_item item) i is) in
+    let there : list_any (resets i) ((credit ++ reset) ++ sent) ≡ true = list_any-append (resets i)
+    (credit ++ reset) sent ∙ or_left _ _ (any_after (resets i) credit reset here) in
     or_left _ (is_above role i ((credit ++ reset) ++ sent)) there
 
 -- The stream of a block.

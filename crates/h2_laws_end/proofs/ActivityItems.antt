@@ -35,8 +35,7 @@ closes_own i (alone frame) is = absurd (both_ways false refl is)
 
 -- The state of an active stream.
 active_state : (log : Log) (i : ℕ) → active log i ≡ true → state log i ≡ Active
-active_state log i alive =
-    state_active _ _ _ (active_used log.role i log.received log.sent log.reported alive) alive
+active_state log i alive = state_active _ _ _ (active_used _ _ _ _ log.reported alive) alive
 
 -- An active stream is in no other state.
 not_closed_by_us : {A : Type 0} (s : State) → s ≡ Active → s ≡ ClosedByUs → A
@@ -121,10 +120,9 @@ unfolding verdict_by_rules stream_of_item stream_of ends resets
 used_reported log None (block stream end octets) i is = tt
 used_reported log (Some decoded) (block stream end octets) i is =
     let item = block stream end octets in
-    let known : (one : State) → (one ≡ Idle → ⊥) → state log stream ≡ one → IsFaulty log item =
-    λ one other same. known_used log item stream (no_idle (state log stream) one same other) in
-    says_block (IsFaulty log item) (IsFaulty log item) (IsFaulty log item) (state log stream)
-    (peer_opens (log_view log) stream) _ _ _ _
+    let known : (one : State) → (one ≡ Idle → ⊥) → state log stream ≡ one → IsFaulty log item = λ
+    one other same. known_used log item stream (no_idle (state log stream) one same other) in
+    says_block (IsFaulty log item) (IsFaulty log item) (IsFaulty log item) _ _ _ _ _ _
     (λ idle opens. let now = used_here log.role stream end octets log.received log.sent opens in
     (now, λ left. now, λ stays. now))
     (λ same. (known Active (λ wrong. cc) same, known Active (λ wrong. cc) same))
@@ -184,6 +182,5 @@ pub new_reported : (log : Log) (decoded : Option Decoded) (i : ℕ) (end : Bool)
     → verdict_of (log_view log) decoded (block i end octets) ≡ Reported
     → active log i ≡ false → IsNew log i
 new_reported log decoded i end octets is inactive =
-    subst (Says (Unit {0}) (Unit {0}) (IsNew log i)) is
-    (says_of (Unit {0}) (Unit {0}) (IsNew log i) log decoded (block i end octets)
+    subst (Says (Unit {0}) (Unit {0}) (IsNew log i)) is (says_of (Unit {0}) (Unit {0}) _ _ _ _
     (new_by_rules log decoded i end octets inactive))

@@ -9,10 +9,10 @@ use Names.{◌≡◌, ◌≢◌, ℕ, ◌≤◌, true, false, List, [], ◌∷�
 use Names.{inr, arith, subst, list_any, both_ways, or_parts, or_from, eqb-true, false_from_ne_true}
 use Names.{Code, InternalError, wire_fault_code, Item, Role, Client, Server, Values, Act, Answer}
 use Names.{ends, resets, Event, UnprocessedEvent, is_used, is_active, Log, active, next_unprocessed}
-use Names.{log_view, Verdict, ConnectionFault, Decoded, replies_to, verdict_of, events_of}
-use Names.{took_none, IsLog, begins, took_some, took_one, met_fault, ran_out_of_memory}
-use Names.{reported_one, called_one, active_parts, active_used, used_more, none_both}
-use Names.{greatest_processed, processed_by, used, with_sent, opened}
+use Names.{log_view, Verdict, ConnectionFault, Decoded, replies_to, verdict_of, events_of, IsLog}
+use Names.{begins, took_some, took_one, met_fault, ran_out_of_memory, reported_one, called_one}
+use Names.{active_parts, active_used, used_more, none_both, greatest_processed, processed_by, used}
+use Names.{with_sent, opened}
 use Rattle.h2_laws_end.proofs.ReadingCalls.{log_read}
 use Rattle.h2_laws_end.proofs.ReadingRules.{LogIsLow}
 use Rattle.h2_laws_end.proofs.ActivityFrames.{was_active, frame_opens, HasFields}
@@ -53,8 +53,7 @@ known_more before after items events i adds unnamed known =
     record {
       unreset = λ now. rw (adds.received) (known.unreset (unused now));
       unended = λ now. rw (adds.received) (known.unended (unused now));
-      unnamed = λ now. rw (adds.reported)
-          (none_both (reports_unprocessed i) events before.reported (unnamed (unused now))
+      unnamed = λ now. rw (adds.reported) (none_both _ _ before.reported (unnamed (unused now))
           (known.unnamed (unused now)));
       processed = λ server alive.
           let was = sym adds.role ∙ server in
@@ -84,10 +83,9 @@ known_read before after decoded item verdict credit i is on adds low known =
     let still : was_used after i ≡ false
     → is_used before.role i (item ∷ before.received) before.sent ≡ false =
     λ now. false_from_ne_true _ (λ was. both_ways _ now (rw (adds.role, adds.received, adds.sent)
-    (used_more before.role i [] (credit ++ replies_to verdict item) (item ∷ before.received)
-    before.sent was))) in
-    let kept : was_used after i ≡ false → (ends i item ≡ false) × (resets i item ≡ false) =
-    λ now. or_parts _ _ (unused_kept before decoded item verdict i is on (still now)) in
+    (used_more _ _ [] _ _ before.sent was))) in
+    let kept : was_used after i ≡ false → (ends i item ≡ false) × (resets i item ≡ false) = λ now.
+    or_parts _ _ (unused_kept before decoded item verdict i is on (still now)) in
     record {
       unreset = λ now. rw (adds.received) (or_from _ _ (kept now).1 (known.unreset (unused now)));
       unended = λ now. rw (adds.received) (or_from _ _ (kept now).0 (known.unended (unused now)));
@@ -134,8 +132,7 @@ unfolding reports_unprocessed
 named_used log i some unused =
     or_from _ _ (false_from_ne_true _ (λ same. both_ways _ unused
     (subst (λ (j : ℕ). was_used log j ≡ true) (eqb-true (next_unprocessed log) i same)
-    (active_used log.role (next_unprocessed log) log.received log.sent log.reported
-    (next_is_active log some))))) refl
+    (active_used _ _ _ _ log.reported (next_is_active log some))))) refl
 
 -- At first no stream is active at a server.
 none_first : (role : Role) (i : ℕ) (sent : List Item) → role ≡ Server
@@ -170,8 +167,6 @@ known_of_logs role values _ (ran_out_of_memory {log = log} is up octets may) i =
     known_frame log _ None i (fault_after log octets InternalError)
     (λ same. (log_read role values log is).low up) (known_of_logs role values log is i)
 known_of_logs role values _ (reported_one {log = log} is up some) i =
-    known_more log (took_none log) _ _ i (none_adds log).2 (named_used log i some)
-    (known_of_logs role values log is i)
+    known_more _ _ _ _ _ (none_adds log).2 (named_used _ _ some) (known_of_logs _ _ _ is _)
 known_of_logs role values _ (called_one {log = log} is act answer typed may) i =
-    known_call log _ act answer i (call_after log act answer may)
-    (known_of_logs role values log is i)
+    known_call _ _ act answer _ (call_after log act answer may) (known_of_logs role values log is i)

@@ -36,12 +36,11 @@ unused_unwritten : (role : Role) (values : Values) (log : Log) (i : ℕ)
     → IsLog role values log → is_number_used log i ≡ false → IsUnwritten i log.sent
 unused_unwritten role values log i is unused =
     let own = (stream_of_log role values log is).role in
-    let allowed : AllowedHistory log.role log.received log.sent =
-    subst (λ (r : Role). AllowedHistory r log.received log.sent) (sym own)
+    let allowed : AllowedHistory log.role log.received log.sent = subst
+    (λ (r : Role). AllowedHistory r log.received log.sent) (sym own)
     (written_is_allowed role values log is) in
     record {
-      unended = false_from_ne_true _ (λ some. both_ways _ unused
-          (ends_used log.role i log.received log.sent allowed some));
+      unended = false_from_ne_true _ (λ some. both_ways _ unused (ends_used _ _ _ _ allowed some));
       unreset = false_from_ne_true _ (λ some. both_ways _ unused
           (resets_used log.role i log.received log.sent allowed some));
     }
@@ -99,8 +98,7 @@ active_by_open role values log fields end id is may =
     let kept = none_both (resets id) writes.credit (block id end _ ∷ log.sent)
     (none_resets log.role id writes.credit (harmless_credit log.role id writes.credit
     writes.is_credit)) (or_from _ _ (block_resets id id end _) unwritten.unreset) in
-    rw (grows.role, grows.received, grows.reported, writes.sent)
-    (open_at_client log.role id log.received _ log.reported new.0 odd
+    rw (grows.role, grows.received, grows.reported, writes.sent) (open_at_client _ _ _ _ _ new.0 odd
     (block_there id end _ writes.credit log.sent) (known.unended new.2) (known.unreset new.2) kept
     (known.unnamed new.2))
 

@@ -5,11 +5,10 @@ use Names.{arith, append_assoc, subst, Code, InternalError, code_number, Frame, 
 use Names.{WindowUpdate, Item, alone, Refusal, Event, UnprocessedEvent, Act, Answer, Refuse, Done}
 use Names.{OutOfMemory, Refused, In, Log, next_unprocessed, log_view, Verdict, ConnectionFault}
 use Names.{StreamFault, NoEvent, Reported, Decoded, FrameStep, fails_with, begins_block, completes}
-use Names.{frame_step, replies_to, verdict_of, events_of, refusal_of, answer_of, items_of}
-use Names.{refuse_fault, read, with_unreturned, with_failure, limits_from, took_frame, took_none}
-use Names.{MayAnswer, accepts, refuses, lacks, fails, credit_cases, grows_call, IsCredit, Memory}
-use Names.{last_processed, used, with_sent, with_reported, with_verdict, with_step, with_frame}
-use Names.{refused_with, with_call}
+use Names.{replies_to, verdict_of, events_of, refusal_of, answer_of, items_of, refuse_fault, read}
+use Names.{with_unreturned, with_failure, limits_from, took_frame, took_none, MayAnswer, accepts}
+use Names.{refuses, lacks, fails, credit_cases, grows_call, IsCredit, Memory, last_processed, used}
+use Names.{with_sent, with_reported, with_verdict, with_step, with_frame, refused_with, with_call}
 use Rattle.h2_laws_end.proofs.Failures.{sent_failed, reported_failed, unreturned_failed}
 use Rattle.h2_laws_end.proofs.WrittenSteps.{call_writes}
 
@@ -157,8 +156,7 @@ pub frame_after : (log : Log) (octets : List ℕ) (decoded : Option Decoded) (fr
     → AfterFrame (frame_used log octets frame) decoded (took_frame log octets decoded frame)
 unfolding with_frame used
 frame_after log octets decoded frame =
-    step_after (record (used log octets []) { frames = log.frames ++ frame ∷ [] }) decoded
-    (frame_step (log_view (used log octets [])) frame)
+    step_after (record (used log octets []) { frames = log.frames ++ frame ∷ [] }) _ _
 
 -- Octets with which no frame ends, and octets that make a fault, do no more.
 pub part_after : (log : Log) (octets unparsed : List ℕ)
@@ -239,8 +237,7 @@ refused_after log id code (Some fault) none is = rw is
 answered_after : (log : Log) (act : Act) → refusal_of (log_view log) act ≡ None
     → AfterCall log act (answer_of (log_view log) act)
     (with_call log act (answer_of (log_view log) act))
-answered_after log (Refuse id code) none =
-    refused_after log id code (refuse_fault (log_view log) code) none refl
+answered_after log (Refuse id code) none = refused_after _ _ _ _ none refl
 answered_after log act none = accepted_after log act none (λ id code wrong. cc)
 
 -- A call that is refused.

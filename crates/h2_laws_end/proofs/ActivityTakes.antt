@@ -49,10 +49,9 @@ none_keeps : (log : Log) (i : ℕ) → active log i ≡ true
 unfolding event_may_close reports_unprocessed
 none_keeps log i alive other =
     let adds = none_adds log in
-    active_added log (took_none log) [] adds.0 _ i adds.2
-    ∙ stays_active log.role i [] adds.0 log.received log.sent
-    (UnprocessedEvent (next_unprocessed log) ∷ []) log.reported alive refl refl
-    (harmless_credit log.role i adds.0 adds.1) (or_from _ _ other refl)
+    active_added log (took_none log) [] adds.0 _ i adds.2 ∙ stays_active log.role i [] adds.0
+    log.received log.sent (UnprocessedEvent (next_unprocessed log) ∷ []) log.reported alive refl
+    refl (harmless_credit _ _ adds.0 adds.1) (or_from _ _ other refl)
 
 -- Where nothing is reported, it stays active.
 quiet_keeps : (log after : Log) (i : ℕ) → AfterFrame log None after
@@ -117,8 +116,7 @@ answered_fields : (before after : Log) (count i : ℕ) (answer : TakeAnswer) →
     → AnswersFrame before after count answer → HasFields before after i
     → take_has_fields i answer ≡ true
 answered_fields before after count i (Took n event) up answers fields =
-    answered_by i n event fields.fields fields.end
-    (append_cancel_right _ (FieldsEvent i fields.fields fields.end ∷ []) before.reported
+    answered_by i n event fields.fields fields.end (append_cancel_right _ _ _
     (sym answers.2 ∙ fields.one))
 answered_fields before after count i (Failed code) up answers fields =
     none_some code (sym up ∙ sym fields.same ∙ answers)

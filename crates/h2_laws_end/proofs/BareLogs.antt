@@ -113,8 +113,7 @@ failure_same log other code last final equal same =
 last_failure_same : (log other : Log) (code : Code) → AreSameBare log other
     → AreSameBare (with_failure code (last_processed log) log)
     (with_failure code (last_processed other) other)
-last_failure_same log other code same =
-    failure_same log other code _ _ (last_same log other same) same
+last_failure_same log other code same = failure_same log other code _ _ (last_same _ _ same) same
 
 -- An item that was read.
 read_same : (log other : Log) (decoded : Option Decoded) (item : Item) → AreSameBare log other

@@ -1,11 +1,11 @@
 -- The stream of a field block is that of the frame that ends it.
 use Rattle.h2_block.proofs.GroupLemmas.{none_some}
 use Rattle.h2_laws_end.proofs.Names
-use Names.{◌≡◌, ℕ, ◌==◌, nat_lt, ◌&&◌, ◌⊎◌, not, max, Bool, true, false, if◌then◌else◌, Option}
-use Names.{Some, None, refl, sym, ◌∙◌, inl, inr, arith, eqb-true, ltb-false, Code, ProtocolError}
-use Names.{Frame, Headers, Continuation, BlockFault, Item, alone, block, Begun, next_fault, View}
-use Names.{Decoded, FrameStep, fails_with, begins_block, completes, ltb-true, stream_of}
-use Names.{Interrupted, fault_inside, grouped, grouping_step, frame_step, may_be_first, opened_by}
+use Names.{◌≡◌, ℕ, ◌==◌, nat_lt, ◌⊎◌, not, max, Bool, true, false, if◌then◌else◌, Option, Some}
+use Names.{None, refl, sym, ◌∙◌, inl, inr, arith, eqb-true, ltb-false, Code, ProtocolError, Frame}
+use Names.{Headers, Continuation, BlockFault, Item, alone, block, Begun, next_fault, View, Decoded}
+use Names.{FrameStep, fails_with, begins_block, completes, ltb-true, stream_of, Interrupted}
+use Names.{fault_inside, grouped, grouping_step, frame_step, opened_by}
 
 -- An item that is a block is on the frame's stream.
 abbrev pub IsItemOn : Frame → Item → Type 0
@@ -46,9 +46,7 @@ first_by false frame step code on = on
 
 pub step_on : (view : View) (frame : Frame) → IsStepOn frame (frame_step view frame)
 unfolding frame_step
-step_on view frame =
-    first_by (not view.started && not (may_be_first frame)) frame _ ProtocolError
-    (step_by view.begun frame (next_fault view.begun frame) refl)
+step_on view frame = first_by _ _ _ ProtocolError (step_by _ _ _ refl)
 
 -- The stream that an item opens is none, or that of its frame.
 opened_if : (b : Bool) (stream other : ℕ) → stream ≡ other
@@ -61,8 +59,7 @@ pub opened_on : (view : View) (decoded : Option Decoded) (item : Item) (frame : 
     → (opened_by view decoded item ≡ 0) ⊎ (opened_by view decoded item ≡ stream_of frame)
 unfolding opened_by
 opened_on view None (block stream end octets) frame on = inl refl
-opened_on view (Some decoded) (block stream end octets) frame on =
-    opened_if _ stream (stream_of frame) on
+opened_on view (Some decoded) (block stream end octets) frame on = opened_if _ _ _ on
 opened_on view None (alone other) frame on = inl refl
 opened_on view (Some decoded) (alone other) frame on = inl refl
 

@@ -24,6 +24,5 @@ pub window_conserved : (role : Role) (values : Values) (log theirs : Log) (way b
     +ℤ pos (total (increment_on i) back + owed theirs i)
     ≡ pos (own_value 4 first_window (acked theirs) theirs.sent)
 window_conserved role values log theirs way back i is took gave alive goes same =
-    met_and_owed _ _ (total (increment_on i) back) (owed theirs i) _
-    (stream_meets i (acked theirs) log.received log.sent theirs.received theirs.sent way back took
-    gave same) (window_is_initial role values theirs i is alive goes)
+    met_and_owed _ _ _ _ _ (stream_meets _ _ _ _ _ _ _ _ took
+    gave same) (window_is_initial _ _ _ _ is alive goes)

@@ -7,10 +7,10 @@ use Names.{◌≡◌, ℕ, zero, suc, ◌+◌, ◌-◌, ◌≤◌, ◌<◌, ◌=
 use Names.{List, [], ◌∷◌, ◌++◌, length, take, drop, None, pos, ◌-ℤ◌, refl, sym, ◌∙◌, inl, inr}
 use Names.{arith, ap, ap₂, ints, leb-false, cond_both, eqb-true, and_parts, nat_tests, Data}
 use Names.{WindowUpdate, Item, alone, SendData, Count, Log, active, max_payload_sent, log_view}
-use Names.{answer_of, refusal_of, called, none_holds, stream_is_active, total-append, total_none}
-use Names.{IsCredit, most_between, min, int_lt, length-take-le, payload_of, data_on, data_of, total}
-use Names.{given_on, given_on_connection, send_window, data_frames, data_items, items_of}
-use Names.{conditions, with_items, with_call, count_by_sums, chosen_low}
+use Names.{answer_of, refusal_of, none_holds, stream_is_active, total-append, total_none, IsCredit}
+use Names.{most_between, min, int_lt, length-take-le, payload_of, data_on, data_of, total, given_on}
+use Names.{given_on_connection, send_window, data_frames, data_items, items_of, conditions}
+use Names.{with_items, with_call, count_by_sums, chosen_low}
 use Rattle.h2_laws_end.proofs.ReceiveWindows.{total_one}
 use Rattle.h2_laws_end.proofs.WrittenSteps.{Puts, puts_items}
 
@@ -131,8 +131,7 @@ data_puts : (log : Log) (id count : ℕ) (octets : List ℕ) (end : Bool)
     (credit ++ data_items (max_payload_sent log) id octets end count)
 unfolding with_call with_items items_of
 data_puts log id count octets end =
-    let puts = puts_items log (called log (SendData id octets end) (Count count))
-    (data_items (max_payload_sent log) id octets end count) _ refl refl refl in
+    let puts = puts_items _ _ _ _ refl refl refl in
     (puts.0.items, puts.0.is_credit, puts.1)
 
 -- the answer's number
@@ -165,8 +164,7 @@ windows_hold log id count octets end none answer some =
     let all = taken_of_all most id octets end count some_payload fits.0 in
     let low = chosen_low (id == id) count in
     rw (puts.2.sent, puts.2.received) (
-      not_negative (given_on id log.received) _
-          (fits_after (data_on id) (update_on id) puts.0 _ log.sent count
+      not_negative _ _ (fits_after (data_on id) (update_on id) puts.0 _ log.sent count
           (given_on id log.received) puts.1 (omega (arith, on, low)) fits.1),
       not_negative (given_on_connection log.received) _
           (fits_after data_of update_of puts.0 _ log.sent count

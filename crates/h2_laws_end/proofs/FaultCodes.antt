@@ -10,7 +10,7 @@ use Names.{WindowUpdate, Item, alone, block, State, Idle, Active, ClosedByUs, Cl
 use Names.{ConnectionFault, StreamFault, NoEvent, Reported, Decoded, verdict_of_fault, verdict_of}
 use Names.{cond_both, Role, nat_lt, ◌&&◌, ◌^◌, ◌-◌, is_server, FlowControlError, EnhanceYourCalm}
 use Names.{data_verdict, reset_verdict, connection_update_verdict, update_verdict, block_verdict}
-use Names.{opening_verdict, verdict_by_rules, settings_fault, is_awaited_ping, fault_codes, ◌||◌}
+use Names.{opening_verdict, verdict_by_rules, settings_fault, fault_codes, ◌||◌}
 use Rattle.h2_laws_end.proofs.ReadVerdicts.{by_limits}
 
 -- A fault of the stream has one of these codes, and one of the connection has not INTERNAL_ERROR.
@@ -78,8 +78,7 @@ update_coded : (codes : List Code) (b : Bool) (state : State) (increment : ℕ) 
     → HasCode codes (if b then connection_update_verdict increment one
     else update_verdict state increment other)
 unfolding connection_update_verdict update_verdict
-update_coded codes true state increment one other protocol flow =
-    connection_by codes (increment == 0) one
+update_coded codes true state increment one other protocol flow = connection_by _ (increment == 0) _
 update_coded codes false Active increment one other protocol flow =
     updated_by codes (increment == 0) other protocol flow
 update_coded codes false Idle increment one other protocol flow = λ is. cc
@@ -115,8 +114,7 @@ settings_other : (view : View) (pairs : List (ℕ × ℕ)) → IsOther (settings
 unfolding settings_fault
 settings_other view [] = λ is. cc
 settings_other view (pair ∷ pairs) =
-    first_other (value_fault (peer_of view.role) pair) _ (settings_fault view pairs)
-    (value_other (peer_of view.role) pair) (settings_other view pairs)
+    first_other _ _ _ (value_other (peer_of view.role) pair) (settings_other view pairs)
 
 settings_coded : (codes : List Code) (fault : Option Code) → IsOther fault
     → HasCode codes (verdict_of_fault fault)
@@ -151,20 +149,16 @@ rules_coded view (Some decoded) (block stream end octets) =
 rules_coded view decoded (alone (Data stream end octets pad)) =
     data_coded (StreamClosed ∷ []) (view.state stream) _ _ _ (first_of StreamClosed [])
 rules_coded view decoded (alone (Reset stream code)) = reset_coded [] (view.state stream)
-rules_coded view decoded (alone (Settings false pairs)) =
-    settings_coded [] (settings_fault view pairs) (settings_other view pairs)
+rules_coded view decoded (alone (Settings false pairs)) = settings_coded [] _ (settings_other _ _)
 rules_coded view decoded (alone (Settings true pairs)) = reply_coded [] view.settings_wait
-rules_coded view decoded (alone (Ping true octets)) =
-    reply_coded [] (is_awaited_ping octets view.ping)
+rules_coded view decoded (alone (Ping true octets)) = reply_coded [] _
 rules_coded view decoded (alone (WindowUpdate stream increment)) =
-    update_coded (ProtocolError ∷ FlowControlError ∷ []) (stream == 0) (view.state stream)
-    increment _ _ (first_of ProtocolError (FlowControlError ∷ []))
-    (second_of ProtocolError FlowControlError [])
+    update_coded (ProtocolError ∷ FlowControlError ∷ []) (stream == 0) _ _ _ _
+    (first_of ProtocolError (FlowControlError ∷ [])) (second_of ProtocolError FlowControlError [])
 rules_coded view decoded (alone frame) = tt
 
 -- The verdict on an item.
 pub verdict_coded : (view : View) (decoded : Option Decoded) (item : Item)
     → HasCode (fault_codes item) (verdict_of view decoded item)
 verdict_coded view decoded item =
-    by_limits (HasCode (fault_codes item)) view decoded item (λ is. cc)
-    (rules_coded view decoded item)
+    by_limits (HasCode (fault_codes item)) view decoded item (λ is. cc) (rules_coded _ _ item)

@@ -14,11 +14,10 @@ same_frame : (limit : ℕ) (frame other : Frame) (first second tail end : List �
     → IsFrame limit frame first → IsFrame limit other second → first ++ tail ≡ second ++ end
     → first ≡ second
 same_frame limit frame other first second tail end sound complete line =
-    let same : head_of first ≡ head_of second =
-    same_head first second tail end (nine_in_frame _ frame first sound)
-    (nine_in_frame _ other second complete) line in
-    let long : length first ≡ length second = sound.encodes.complete
-    ∙ ap (λ head. 9 + head.length) same ∙ sym complete.encodes.complete in
+    let same : head_of first ≡ head_of second = same_head first second tail end
+    (nine_in_frame _ _ _ sound) (nine_in_frame _ other second complete) line in
+    let long : length first ≡ length second = sound.encodes.complete ∙ ap (λ head. 9 + head.length)
+    same ∙ sym complete.encodes.complete in
     same_prefix first second tail end long line
 
 -- What follows the octets of a frame, after what follows them in another list.
@@ -26,10 +25,9 @@ longer_body : (first following second beyond others body another : List ℕ)
     → body ≡ first ++ following → another ≡ second ++ beyond → first ≡ second
     → beyond ≡ following ++ others → another ≡ body ++ others
 longer_body first following second beyond others body another split parted same more =
-    parted ∙ ap (λ (octets : List ℕ). octets ++ beyond) (sym same)
-    ∙ ap (λ (octets : List ℕ). first ++ octets) more
-    ∙ sym (append_assoc first following others)
-    ∙ ap (λ (octets : List ℕ). octets ++ others) (sym split)
+    parted ∙ ap (λ (octets : List ℕ). octets ++ beyond) (sym same) ∙ ap
+    (λ (octets : List ℕ). first ++ octets) more ∙ sym (append_assoc _ _ others) ∙ ap
+    (λ (octets : List ℕ). octets ++ others) (sym split)
 
 -- Where one line begins with frames, and with the same frames and more, the same octets are those
 -- that both begin with.
@@ -43,11 +41,10 @@ same_begin limits preceding [] more body another tail end none framed joined =
     (another, rw none refl, subst (λ (n : ℕ). AreFrames limits n more another) at framed)
 same_begin limits preceding (frame ∷ frames) more body another tail end
     (first, following, split, sound, framed) (second, beyond, parted, complete, sequel) joined =
-    let line : first ++ (following ++ tail) ≡ second ++ (beyond ++ end) =
-    sym (append_assoc first following tail) ∙ ap (λ (octets : List ℕ). octets ++ tail) (sym split)
-    ∙ joined ∙ ap (λ (octets : List ℕ). octets ++ end) parted
-    ∙ append_assoc second beyond end in
-    let one = same_frame _ frame frame first second _ _ sound complete line in
+    let line : first ++ (following ++ tail) ≡ second ++ (beyond ++ end) = sym
+    (append_assoc first following tail) ∙ ap (λ (octets : List ℕ). octets ++ tail) (sym split) ∙
+    joined ∙ ap (λ (octets : List ℕ). octets ++ end) parted ∙ append_assoc second beyond end in
+    let one = same_frame _ _ _ first second _ _ sound complete line in
     let sequel_now : AreFrames limits (preceding + length first) (frames ++ more) beyond =
     subst (λ (octets : List ℕ). AreFrames limits (preceding + length octets) (frames ++ more)
     beyond) (sym one) sequel in
@@ -91,18 +88,17 @@ one_more_of : (limits : Limits) (preface body part longer tail end : List ℕ) (
     → OneMore limits part longer tail end frame
 one_more_of limits preface body part longer tail end frame others opened opens joined at
     (first, none, split, sound, nothing) =
-    let others_is : others ≡ first = split
-    ∙ ap (λ (octets : List ℕ). first ++ octets) nothing ∙ append-nil first in
-    let longer_is : longer ≡ part ++ first = opens ∙ sym (append_assoc preface body others)
-    ∙ ap (λ (octets : List ℕ). octets ++ others) (sym opened)
-    ∙ ap (λ (octets : List ℕ). part ++ octets) others_is in
+    let others_is : others ≡ first = split ∙ ap (λ (octets : List ℕ). first ++ octets) nothing ∙
+    append-nil first in
+    let longer_is : longer ≡ part ++ first = opens ∙ sym (append_assoc preface body others) ∙ ap
+    (λ (octets : List ℕ). octets ++ others) (sym opened) ∙ ap (λ (octets : List ℕ). part ++ octets)
+    others_is in
     record {
       last = first;
       longer_is = longer_is;
       framed = subst (λ (n : ℕ). IsFrame (limits n) frame first) at sound;
       tail_is = same_following part part tail (first ++ end) refl
-          (joined ∙ ap (λ (octets : List ℕ). octets ++ end) longer_is
-          ∙ append_assoc part first end);
+          (joined ∙ ap (λ (octets : List ℕ). octets ++ end) longer_is ∙ append_assoc _ first _);
     }
 
 module _ (expects : Bool) (limits : Limits) (frames : List Frame) where

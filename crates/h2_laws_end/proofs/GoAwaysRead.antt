@@ -3,8 +3,8 @@ use Rattle.h2_spec_log.specs.Log.{least_goaway}
 use Rattle.h2_spec_log.specs.ItemEffects.{least_last}
 use Rattle.h2_laws_log.proofs.StreamNumbers.{last_none}
 use Rattle.h2_laws_log.proofs.LogViewLemmas.{least_by}
-use Rattle.h2_laws_end.proofs.Names.{◌≡◌, ℕ, ◌≤◌, List, ◌∷◌, arith, list_any, GoAway, Item, alone}
-use Rattle.h2_laws_end.proofs.Names.{block, is_goaway, Log, log_view, IsFitItem, greatest_number}
+use Rattle.h2_laws_end.proofs.Names.{◌≡◌, ℕ, ◌≤◌, List, ◌∷◌, arith, GoAway, Item, alone, block, Log}
+use Rattle.h2_laws_end.proofs.Names.{log_view, IsFitItem, greatest_number}
 
 -- A GOAWAY's last stream is no greater than the greatest number.
 abbrev pub IsTypedGoAway : Item → Type 0
@@ -21,6 +21,4 @@ pub least_reported : (log : Log) (last code : ℕ) (debug : List ℕ) → last �
     → least_last last (log_view log).goaway_received
     ≡ least_goaway (alone (GoAway last code debug) ∷ log.received)
 unfolding least_goaway
-least_reported log last code debug low =
-    least_by (list_any is_goaway log.received) last (least_goaway log.received) low
-    (last_none log.received)
+least_reported log last code debug low = least_by _ _ _ low (last_none log.received)

@@ -107,8 +107,7 @@ grouped_replied log decoded item replies more events groups =
     let wrote = wrote_reads (read log decoded item) replies in
     let sent = with_sent (read log decoded item) replies in
     let none = reads_twice sent _ _ (reads_unreturned more sent) (reads_reported _ events) in
-    grouped_up (with_reported (with_unreturned more sent) events)
-    (rw (none.frames ∙ wrote.0, none.begun ∙ wrote.1, none.received ∙ wrote.2) groups)
+    grouped_up _ (rw (none.frames ∙ wrote.0, none.begun ∙ wrote.1, none.received ∙ wrote.2) groups)
 
 -- After an item that the frames of the log complete, by its verdict.
 grouped_verdict : (old log : Log) (decoded : Option Decoded) (item : Item) (verdict : Verdict)

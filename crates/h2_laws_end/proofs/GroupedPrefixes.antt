@@ -127,8 +127,7 @@ without_last (frame ∷ frames) between [] next last line =
 without_last (frame ∷ frames) between (first ∷ preceding) next last line =
     let same : first ≡ frame = cc in
     let line_on : preceding ++ last ∷ [] ≡ frames ++ next ∷ between = cc in
-    one_after first frame preceding frames same
-    (without_last frames between preceding next last line_on)
+    one_after _ _ _ _ same (without_last frames between preceding next last line_on)
 
 -- A prefix of an item that isn't all of it.
 item_prefix : (item : Item) (whole frames between : List Frame) (next : Frame) (items : List Item)
@@ -179,19 +178,16 @@ items_prefix [] begun complete left frames more none unfinished line =
     left_prefix begun left frames more unfinished (line ∙ rw none refl)
 items_prefix (item ∷ items) begun complete left frames more (whole, others, split, is, are)
     unfinished line =
-    let line_now : frames ++ more ≡ whole ++ (others ++ left) =
-    line ∙ rw split (append_assoc whole others left) in
+    let line_now : frames ++ more ≡ whole ++ (others ++ left) = line ∙ rw split
+    (append_assoc whole others left) in
     elim (overlap frames more whole (others ++ left) line_now) [
-      | inl (between, begins, follows) ↦
-          one_before item items frames whole between is begins
+      | inl (between, begins, follows) ↦ one_before item items frames whole between is begins
           (items_prefix items begun others left between more are unfinished (sym follows))
-      | inr (next, between, begins, follows) ↦
-          item_prefix item whole frames between next (item ∷ items) is begins
+      | inr (next, between, begins, follows) ↦ item_prefix _ whole _ between next _ is begins
     ]
 
 -- A prefix of frames that group.
 pub prefix_grouped : (frames more : List Frame) (items : List Item) (begun : Option Begun)
     → Groups (frames ++ more) items begun → GroupedPrefix frames items
 prefix_grouped frames more items begun groups =
-    items_prefix items begun groups.complete groups.left frames more groups.grouped
-    groups.unfinished groups.joined
+    items_prefix _ _ groups.complete groups.left _ _ groups.grouped groups.unfinished groups.joined

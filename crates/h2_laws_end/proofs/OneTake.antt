@@ -32,8 +32,7 @@ one_answer : (log after : Log) (count : ℕ) (answer answered : TakeAnswer)
     → answer ≡ answered
 one_answer log after count (Took n event) (Took m other) is again =
     ap (λ (n : ℕ). Took n event) (is.0 ∙ sym again.0)
-    ∙ ap (λ (event : Option Event). Took m event) (one_event event other log.reported
-    (sym is.2 ∙ again.2))
+    ∙ ap (λ (event : Option Event). Took m event) (one_event _ _ log.reported (sym is.2 ∙ again.2))
 one_answer log after count (Took n event) (Failed code) is again = none_some code (sym is.1 ∙ again)
 one_answer log after count (Failed code) (Took n event) is again = none_some code (sym again.1 ∙ is)
 one_answer log after count (Failed code) (Failed other) is again =
@@ -64,16 +63,14 @@ part_frame : (log : Log) (piece unparsed octets unused : List ℕ) (frame : Fram
     → TakesPart log.role log piece unparsed → TakesFrame log.role log octets frame
     → piece ≡ octets ++ unused → ⊥
 part_frame log piece unparsed octets unused frame part framed joined =
-    no_frame_in (is_server log.role) (limits_from log) log.frames frame (log.input ++ piece)
-    (log.input ++ octets) unparsed unused part framed (line log.input piece octets unused joined)
+    no_frame_in _ _ _ _ _ _ _ unused part framed (line log.input piece octets unused joined)
 
 -- Nor one that makes a fault.
 part_fault : (log : Log) (piece unparsed octets unused : List ℕ) (fault : WireFault)
     → TakesPart log.role log piece unparsed → TakesFault log.role log octets fault
     → piece ≡ octets ++ unused → ⊥
 part_fault log piece unparsed octets unused fault part at joined =
-    no_reading (is_server log.role) (limits_from log) (log.input ++ octets) unused
-    (log.input ++ piece) unparsed log.frames log.frames fault (fault_made log octets fault at)
+    no_reading _ _ _ _ _ _ _ _ fault (fault_made log octets fault at)
     (line log.input piece octets unused joined) part
 
 -- A piece in which a frame ends first makes no fault before.
@@ -81,9 +78,8 @@ pub frame_fault : (log : Log) (piece octets unused others left : List ℕ) (fram
     (fault : WireFault) → TakesFrame log.role log octets frame
     → TakesFault log.role log others fault → piece ≡ octets ++ unused → piece ≡ others ++ left → ⊥
 frame_fault log piece octets unused others left frame fault framed at joined again =
-    no_frame_at_fault (is_server log.role) (limits_from log) log.frames frame
-    (log.input ++ others) (log.input ++ octets) left unused fault (fault_made log others fault at)
-    framed (one_line log.input piece others left octets unused again joined)
+    no_frame_at_fault _ _ _ _ _ _ _ _ fault (fault_made log others fault at) framed
+    (one_line log.input piece others left octets unused again joined)
 
 -- Two calls answer the same, and have the same log after them.
 abbrev IsSame : (answer answered : TakeAnswer) (after other : Log) → Type 0
@@ -94,16 +90,14 @@ pub same_ends : (log : Log) (piece octets unused others left : List ℕ) (frame 
     → piece ≡ octets ++ unused → piece ≡ others ++ left → TakesFrame log.role log octets frame
     → TakesFrame log.role log others another → (octets ≡ others) × (frame ≡ another)
 same_ends log piece octets unused others left frame another joined again framed completed =
-    let stream : log.input ++ octets ≡ log.input ++ others =
-    same_piece (is_server log.role) (limits_from log) log.frames frame another _ _ unused left
-    framed completed (one_line log.input piece octets unused others left joined again) in
+    let stream : log.input ++ octets ≡ log.input ++ others = same_piece (is_server log.role)
+    (limits_from log) log.frames frame another _ _ unused left framed completed
+    (one_line log.input piece octets unused others left joined again) in
     let used : octets ≡ others = same_following log.input log.input octets others refl stream in
     let completed_now : TakesFrame log.role log octets another =
     subst (λ (o : List ℕ). TakesFrame log.role log o another) (sym used) completed in (
       used,
-      one_last log.frames frame another
-          (one_reading_lem (is_server log.role) (limits_from log) (log.input ++ octets) _ _ [] []
-          framed completed_now).0,
+      one_last log.frames frame another (one_reading_lem _ _ _ _ _ [] [] framed completed_now).0,
     )
 
 module _ (log after other : Log) (piece octets unused others left : List ℕ) where
@@ -188,8 +182,7 @@ after_part log after other piece unparsed answer answered takes part answers sam
     (reports_unprocessed up some says is) had = absurd (some takes.all_reported)
 after_part log after other piece unparsed answer answered takes part answers same
     (ends_no_frame again beyond read says is) had =
-    let one = one_reading_lem (is_server log.role) (limits_from log) (log.input ++ piece) log.frames
-    log.frames unparsed beyond part read in (
+    let one = one_reading_lem _ _ _ _ _ _ _ part read in (
       answers ∙ sym says,
       same ∙ ap (λ (octets : List ℕ). took_part log piece octets) one.1 ∙ sym is,
     )

@@ -58,8 +58,7 @@ pub output_read_within : (role : Role) (values : Values) (log : Log) (limits : L
     → Frames (not (is_server role)) limits log.written (frames_by log.payloads log.sent) []
 output_read_within role values log limits is bound within high =
     rw (written_of role log (stream_of_log role values log is).role
-    (written_by_payloads role values log is).written)
-    (items_read_by (not (is_server role)) limits (min bound max_frame_size_sent) log.payloads
+    (written_by_payloads role values log is).written) (items_read_by _ _ _ _
     log.sent (omega arith) (λ place. omega (arith, high place))
     (within_both bound max_frame_size_sent log.payloads within (payloads_may role values log is))
     (written_sendable_by role values log is))
@@ -82,8 +81,7 @@ output_read role values log limits is high =
 pub output_grouped : (role : Role) (values : Values) (log : Log) → IsLog role values log
     → Groups (frames_by log.payloads log.sent) (oldest_first log.sent) None
 output_grouped role values log is =
-    items_grouped_by max_frame_size_sent log.payloads log.sent (payloads_may role values log is)
-    (written_sendable_by role values log is)
+    items_grouped_by max_frame_size_sent _ _ (payloads_may _ _ _ is) (written_sendable_by _ _ _ is)
 
 -- A prefix of what a log has written, where payloads may be read that are as long as all of its
 -- greatest payloads.
@@ -93,8 +91,7 @@ pub output_begins_within : (role : Role) (values : Values) (log : Log) (limits :
     → ((place : ℕ) → bound ≤ limits place) → IsPrefixOfItems role limits octets log.sent
 output_begins_within role values log limits octets more is joined bound within high =
     items_begin role limits octets more (frames_by log.payloads log.sent) log.sent
-    (rw joined at (output_read_within role values log limits is bound within high))
-    (output_grouped role values log is)
+    (rw joined at (output_read_within _ _ _ _ is _ within high)) (output_grouped role values log is)
 
 -- So it is where payloads may be read that are as long as the own limit.
 pub output_begins : (role : Role) (values : Values) (log : Log) (limits : Limits)

@@ -3,9 +3,9 @@ use Rattle.h2_laws_end.proofs.Names
 use Names.{◌≡◌, ℕ, ◌==◌, Bool, true, false, if◌then◌else◌, List, [], ◌∷◌, ◌++◌, refl, inl, inr}
 use Names.{arith, list_any, both_ways, or_from, ne_eqb, false_from_ne_true, Field, WindowUpdate}
 use Names.{Item, alone, Act, Answer, Open, SendFields, SendData, Release, ResetStream, Refuse}
-use Names.{SendPing, SendGoAway, ChangeSettings, Number, Count, Done, Log, View, ended_in, log_view}
-use Names.{data_items, MayAnswer, with_call, grows_call, any_either, used_more, is_number_used}
-use Names.{IsOver, is_block_on, items_of}
+use Names.{SendPing, SendGoAway, ChangeSettings, Number, Count, Done, Log, View, data_items}
+use Names.{MayAnswer, with_call, grows_call, any_either, used_more, is_number_used, IsOver}
+use Names.{is_block_on, items_of}
 use Rattle.h2_laws_end.proofs.OverLists.{IsPast, past_sent}
 use Rattle.h2_laws_end.proofs.OverNumbers.{open_answer, fields_active, used_below}
 use Rattle.h2_laws_end.proofs.OverSteps.{Holds, call_keeps}
@@ -50,8 +50,7 @@ items_no_block i view (SendFields id fields end) Done opens writes =
     or_from _ _ (writes id fields end refl refl) refl
 items_no_block i view (SendData id octets end) (Count count) opens writes =
     body_no_block i view.max_payload id octets end count
-items_no_block i view (Release id count) Done opens writes =
-    credit_no_block i (ended_in (view.stream id)) id count
+items_no_block i view (Release id count) Done opens writes = credit_no_block _ _ _ count
 items_no_block i view (ResetStream id code) Done opens writes = refl
 items_no_block i view (Refuse id code) Done opens writes = refl
 items_no_block i view (SendPing octets) Done opens writes = refl
@@ -90,15 +89,12 @@ over_of log i past = record { was_used = past.was_used; not_active = past.not_ac
 pub over_by_call : (log : Log) (act : Act) (answer : Answer) (i : ℕ) → MayAnswer log act answer
     → IsOver log i → IsOver (with_call log act answer) i
 over_by_call log act answer i may over =
-    over_of (with_call log act answer) i (call_keeps i (IsPast i) (past_sent i) log act answer
-    (items_no_block i (log_view log) act answer
-    (opens_other log i act answer may over.was_used) (writes_other log i act answer may over))
-    (past_of log i over))
+    over_of _ _ (call_keeps _ (IsPast i) (past_sent i) _ _ _ (items_no_block _ _ _ _
+    (opens_other _ _ _ _ may over.was_used) (writes_other _ _ _ _ may over)) (past_of _ _ over))
 
 -- What was used stays so.
 pub used_by_call : (log : Log) (act : Act) (answer : Answer) (i : ℕ) → is_number_used log i ≡ true
     → is_number_used (with_call log act answer) i ≡ true
 used_by_call log act answer i was =
     let grows = grows_call log act answer in
-    rw (grows.role, grows.received, grows.sent)
-    (used_more log.role i [] grows.items log.received log.sent was)
+    rw (grows.role, grows.received, grows.sent) (used_more _ _ [] grows.items _ log.sent was)

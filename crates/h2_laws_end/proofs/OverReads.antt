@@ -22,8 +22,7 @@ past_not_active log i past active = both_ways _ past.not_active (state_is_active
 -- An item that isn't a block on the stream.
 other_read : (i : ℕ) (log : Log) (item : Item) → (is_block_on i item ≡ true → ⊥)
     → Holds (IsPast i) log → IsPast i log.role (item ∷ log.received) log.sent log.reported
-other_read i log item other past =
-    past_read i log.role log.received log.sent log.reported item (λ here. absurd (other here)) past
+other_read i log item other past = past_read _ _ _ _ _ item (λ here. absurd (other here)) past
 
 -- The stream of a block is over where it is this one.
 block_past : (i : ℕ) (log : Log) (stream : ℕ) (end : Bool) (octets : List ℕ)
@@ -42,22 +41,20 @@ unfolding verdict_by_rules is_block_on
 past_by_rules i log None (block stream end octets) past = tt
 past_by_rules i log (Some decoded) (block stream end octets) past =
     let item = block stream end octets in
-    let is_past : is_block_on i item ≡ true → Holds (IsPast stream) log =
-    λ here. (block_past i log stream end octets past here).1 in
+    let is_past : is_block_on i item ≡ true → Holds (IsPast stream) log = λ here.
+    (block_past i log stream end octets past here).1 in
     let now = IsPast i log.role (item ∷ log.received) log.sent log.reported in
-    let idle : state log stream ≡ Idle → now =
-    λ idle. other_read i log item (λ here. past_not_idle log stream (is_past here) idle) past in
-    let active : state log stream ≡ Active → now =
-    λ active. other_read i log item (λ here. past_not_active log stream (is_past here) active)
-    past in
-    says_block now now now (state log stream) (peer_opens (log_view log) stream) _ _ _ _
-    (λ is opens. (idle is, λ left. idle is, λ stays. idle is)) (λ is. (active is, active is))
+    let idle : state log stream ≡ Idle → now = λ idle. other_read i log item
+    (λ here. past_not_idle log stream (is_past here) idle) past in
+    let active : state log stream ≡ Active → now = λ active. other_read i log item
+    (λ here. past_not_active log stream (is_past here) active) past in
+    says_block now now now _ _ _ _ _ _ (λ is opens. (idle is, λ left. idle is, λ stays. idle is))
+    (λ is. (active is, active is))
     (λ is. past_read i log.role log.received log.sent log.reported item
     (λ here. subst (λ (j : ℕ). is_closed_by_us log.role j log.sent ≡ true)
     (sym (block_past i log stream end octets past here).0) (closed_by_us_is _ _ _ is)) past)
 past_by_rules i log decoded (alone frame) past =
-    says_any _ (verdict_by_rules (log_view log) decoded (alone frame))
-    (other_read i log (alone frame) (λ here. both_ways _ refl here) past)
+    says_any _ _ (other_read i log (alone frame) (λ here. both_ways _ refl here) past)
 
 -- What is over stays so after a call of `take`.
 pub over_by_take : (log after : Log) (piece : List ℕ) (answer : TakeAnswer) (i : ℕ)
@@ -71,8 +68,7 @@ used_by_rules : (i : ℕ) (log : Log) (decoded : Option Decoded) (item : Item)
     → Holds (WasUsed i) log
     → HoldsRead (WasUsed i) log item (verdict_by_rules (log_view log) decoded item)
 used_by_rules i log decoded item was =
-    says_any _ (verdict_by_rules (log_view log) decoded item)
-    (used_more log.role i (item ∷ []) [] log.received log.sent was)
+    says_any _ _ (used_more log.role i (item ∷ []) [] log.received log.sent was)
 
 pub used_by_take : (log after : Log) (piece : List ℕ) (answer : TakeAnswer) (i : ℕ)
     → MayTake log piece answer after → is_number_used log i ≡ true → is_number_used after i ≡ true
@@ -97,8 +93,7 @@ active_in_use : (log : Log) (item : Item) (i : ℕ) → state log i ≡ Active �
 active_in_use log item i is =
     let active = state_is_active _ _ _ is in (
       λ past. both_ways _ past.not_active active,
-      used_more log.role i (item ∷ []) [] log.received log.sent
-          (active_used log.role i log.received log.sent log.reported active),
+      used_more log.role i (item ∷ []) [] log.received log.sent (active_used _ _ _ _ _ active),
     )
 
 idle_in_use : (log : Log) (i : ℕ) (end : Bool) (octets : List ℕ) → state log i ≡ Idle
@@ -115,13 +110,11 @@ pub in_use_by_rules : (log : Log) (decoded : Option Decoded) (item : Item)
 unfolding verdict_by_rules
 in_use_by_rules log None (block stream end octets) = tt
 in_use_by_rules log (Some decoded) (block stream end octets) =
-    says_block (Unit {0}) (Unit {0}) (IsInUse log (block stream end octets) stream)
-    (state log stream) (peer_opens (log_view log) stream) _ _ _ _
+    says_block (Unit {0}) (Unit {0}) _ _ (peer_opens (log_view log) stream) _ _ _ _
     (λ idle opens. (tt, λ left. tt, λ stays. idle_in_use log stream end octets idle opens))
     (λ active. (tt, active_in_use log (block stream end octets) stream active)) (λ closed. tt)
 in_use_by_rules log decoded (alone (Data stream end octets pad)) =
-    says_data (Unit {0}) (Unit {0}) (IsInUse log (alone (Data stream end octets pad)) stream)
-    (state log stream) _ _ _ (λ active. tt) (λ closed. tt)
+    says_data (Unit {0}) (Unit {0}) _ _ _ _ _ (λ active. tt) (λ closed. tt)
     (active_in_use log (alone (Data stream end octets pad)) stream)
 in_use_by_rules log decoded (alone frame) =
     says_nothing (verdict_by_rules (log_view log) decoded (alone frame))

@@ -34,8 +34,7 @@ no_room : (log : Log) (i : ℕ) (items : List Item)
     (items ++ log.sent)))) ≡ false
 no_room log i items none =
     elim (and_cases _ _ none) [
-      | inl here ↦ and_left _ _ (no_room_after (given_on i log.received) _ _
-          (total_after (data_on i) items log.sent) here)
+      | inl here ↦ and_left _ _ (no_room_after _ _ _ (total_after (data_on i) items log.sent) here)
       | inr all ↦ and_right _ _ (no_room_after (given_on_connection log.received) _ _
           (total_after data_of items log.sent) all)
     ]
@@ -65,8 +64,7 @@ release_no_block log id count i answer =
 release_inactive : (log : Log) (id count i : ℕ) (answer : Answer) → active log i ≡ false
     → active (with_call log (Release id count) answer) i ≡ false
 release_inactive log id count i answer =
-    call_keeps i (IsInactive i) (inactive_sent i) log (Release id count) answer
-    (release_no_block log id count i answer)
+    call_keeps _ (IsInactive i) (inactive_sent i) _ _ _ (release_no_block log id count i answer)
 
 -- What is owed on a stream that isn't active, and on one that is.
 pub owed_inactive : (log : Log) (i : ℕ) → active log i ≡ false → owed log i ≡ 0

@@ -68,13 +68,12 @@ limit_after : (log other next after : Log) (place : ℕ) → AreSameButTurns log
     → limits_from next place ≡ limits_from after place
 limit_after log other next after place same one two steps =
     let input : other.input ≡ log.input = ap (λ (it : Log). it.input) (sym same) in
-    let before : limits_from log place ≡ limits_from other place =
-    ap (λ (it : Log). it.limits place) same in
-    let now : payload_limit (acked next) next.sent ≡ payload_limit (acked after) after.sent =
-    ap (λ (it : Log). payload_limit (acked it) it.sent) steps in
+    let before : limits_from log place ≡ limits_from other place = ap
+    (λ (it : Log). it.limits place) same in
+    let now : payload_limit (acked next) next.sent ≡ payload_limit (acked after) after.sent = ap
+    (λ (it : Log). payload_limit (acked it) it.sent) steps in
     rw (one.limits, one.input, two.limits, two.input, input)
-    (either_limit (nat_le place (length log.input)) (log.limits place) (other.limits place) _ _ _ _
-    (rw input at before) now)
+    (either_limit _ _ (other.limits place) _ _ _ _ (rw input at before) now)
 
 -- Steps that change no limits keep logs the same but for their turns.
 step_alike : (log other next after : Log) → AreSameButTurns log other → HasLimits log next
@@ -101,8 +100,7 @@ pub read_here : (expects : Bool) (log : Log)
     → Frames expects log.limits log.input log.frames log.unparsed
     → Frames expects (limits_from log) log.input log.frames log.unparsed
 read_here expects log read =
-    read_wider expects log.limits (limits_from log) log.input log.frames log.unparsed
-    (λ place within. limit_here log place within) read
+    read_wider _ _ _ _ _ log.unparsed (λ place within. limit_here log place within) read
 
 -- A frame changes no limits.
 frame_keeps : (log : Log) (decoded : Option Decoded) (frame : Frame)

@@ -84,14 +84,12 @@ pub parts_run : (role : Role) (values : Values) (limits : Limits) (octets : List
     → Frames (is_server role) limits (log.input ++ octets) log.frames unparsed
     → Run role values (back (each Octet octets) marks) (without_turns (used log octets unparsed))
 parts_run role values limits [] marks log unparsed run read again =
-    let same = (one_reading_lem (is_server role) limits log.input log.frames log.frames
-    log.unparsed unparsed read.read
+    let same = (one_reading_lem _ _ _ _ _ _ unparsed read.read
     (subst (λ (input : List ℕ). Frames (is_server role) limits input log.frames unparsed)
     (append-nil log.input) again)).1 in
     subst (λ (one : Log). Run role values marks one) (used_none log unparsed same) run
 parts_run role values limits (octet ∷ octets) marks log unparsed run read again =
-    let between = no_frame_in_prefix (is_server role) limits log.frames log.input
-    (octet ∷ []) octets log.unparsed unparsed read.read
+    let between = no_frame_in_prefix _ _ _ _ _ _ _ unparsed read.read
     (subst (λ (input : List ℕ). Frames (is_server role) limits input log.frames unparsed)
     (sym (append_assoc log.input (octet ∷ []) octets)) again) in
     let next = used log (octet ∷ []) between.0 in
@@ -130,8 +128,7 @@ module _ (log : Log) (octets unparsed : List ℕ) where
 used_last : (log : Log) (init left : List ℕ) (last : ℕ)
     → AreSameButTurns (used log (init ++ last ∷ []) [])
     (used (without_turns (used log init left)) (last ∷ []) [])
-used_last log init left last = sym (used_without (used log init left) (last ∷ []) []
-    ∙ used_twice log init (last ∷ []) left [])
+used_last log init left last = sym (used_without _ _ [] ∙ used_twice log init (last ∷ []) left [])
 
 -- The stream that was processed last stays.
 last_used : (log : Log) (octets unparsed : List ℕ) → last_processed log
@@ -197,13 +194,12 @@ pub fault_run : (role : Role) (values : Values) (limits : Limits) (init : List �
     → Run role values (back (each Octet (init ++ last ∷ [])) marks)
     (without_turns (took_fault log (init ++ last ∷ []) fault))
 fault_run role values limits init last marks log fault run read at =
-    let made : EndsWithFault (is_server role) limits log.frames
-    ((log.input ++ init) ++ last ∷ []) fault =
+    let made : EndsWithFault (is_server role) limits log.frames ((log.input ++ init) ++ last ∷ [])
+    fault =
     subst (λ (octets : List ℕ). EndsWithFault (is_server role) limits log.frames octets fault)
-    (all_octets (log.input ++ (init ++ last ∷ []))
-    ∙ sym (append_assoc log.input init (last ∷ []))) at.made in
-    let left = no_fault_before_last (is_server role) limits log.frames (log.input ++ init)
-    last fault made in
+    (all_octets _ ∙ sym (append_assoc log.input init (last ∷ []))) at.made in
+    let left = no_fault_before_last (is_server role) limits log.frames (log.input ++ init) last
+    fault made in
     let next = used log init left.0 in
     subst (λ (line : List Mark). Run role values line
     (without_turns (took_fault log (init ++ last ∷ []) fault))) (sym (back_last init last marks)) (
@@ -234,8 +230,7 @@ lost_run role values limits init last marks log frame run read ends =
     (sym (back_last init last marks)) (
       without_turns (used log init left.0),
       parts_run role values limits init marks log left.0 run read left.1,
-      failure_alike _ _ InternalError _ _ (last_used log init left.0)
-          (used_last log init left.0 last),
+      failure_alike _ _ InternalError _ _ (last_used _ _ left.0) (used_last log init left.0 last),
     )
 
 -- The same stream processed last in a log without its turns.
@@ -259,8 +254,7 @@ pub none_end : (role : Role) (limits : Limits) (log : Log) (octets : List ℕ) (
     → Frames (is_server role) limits (log.input ++ octets) (log.frames ++ frame ∷ []) []
     → ⊥
 none_end role limits log octets frame none read ends =
-    no_longer log.frames frame (one_reading_lem (is_server role) limits log.input log.frames
-    (log.frames ++ frame ∷ []) log.unparsed [] read.read
+    no_longer log.frames frame (one_reading_lem _ _ _ _ _ log.unparsed [] read.read
     (subst (λ (input : List ℕ). Frames (is_server role) limits input
     (log.frames ++ frame ∷ []) []) (ap (λ (line : List ℕ). log.input ++ line) none
     ∙ append-nil log.input) ends)).0

@@ -4,7 +4,7 @@ use Rattle.h2_spec_log.specs.Histories.{LacksMemory}
 use Rattle.h2_spec_log.specs.Memory.{frame_needs_memory, needs_memory, step_needs_memory}
 use Rattle.h2_laws_end.specs.Promises.{NeedsNoMemory, IsFree}
 use Rattle.h2_laws_end.proofs.Names
-use Names.{◌≡◌, ◌≢◌, ◌∙◌, ℕ, true, false, List, ◌++◌, ◌+◌, Option, Some, None, refl, sym, ap}
+use Names.{◌≡◌, ◌≢◌, ◌∙◌, ℕ, true, false, List, ◌++◌, Option, Some, None, refl, sym, ap}
 use Names.{InternalError, Frame, Data, Ping, WindowUpdate, Headers, Continuation, none_some}
 use Names.{BlockFault, alone, Begun, next_fault, Log, log_view, NoEvent, Reported, View, TakeAnswer}
 use Names.{Failed, MayTake, has_failed, reports_unprocessed, ends_no_frame, ends_frame, meets_fault}
@@ -56,8 +56,7 @@ limited_free : (view : View) (frame : Frame)
     → needs_memory view (verdict_by_rules view None (alone frame)) (alone frame) ≡ false
     → needs_memory view (verdict_of view None (alone frame)) (alone frame) ≡ false
 limited_free view frame free =
-    by_limits (λ verdict. needs_memory view verdict (alone frame) ≡ false) view None (alone frame)
-    refl free
+    by_limits (λ verdict. needs_memory view verdict (alone frame) ≡ false) _ None _ refl free
 
 item_free : (view : View) (frame : Frame) → IsFree view frame
     → needs_memory view (verdict_of view None (alone frame)) (alone frame) ≡ false

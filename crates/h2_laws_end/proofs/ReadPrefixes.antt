@@ -22,8 +22,7 @@ frame_prefix : (limit : ℕ) (frame : Frame) (octets : List ℕ) (next : ℕ) (m
     → IsFrame limit frame (octets ++ next ∷ more) → IsPartial limit octets
 frame_prefix limit frame octets next more whole nine =
     let counted = length-append octets (next ∷ more) in
-    let same : head_of (octets ++ next ∷ more) ≡ head_of octets =
-    head_of-append octets (next ∷ more) nine in
+    let same : head_of (octets ++ next ∷ more) ≡ head_of octets = head_of-append _ _ nine in
     let sound = rw same at whole.sound_head in
     let complete = rw same at whole.encodes.complete in
     (sound, omega (arith, counted, complete))
@@ -57,8 +56,7 @@ none_complete limits preceding frame frames octets whole unparsed more next betw
       frames_are = refl;
       octets_are = refl;
       framed = refl;
-      partial = rw at at (frame_prefix (limits (preceding + 9)) frame octets next between
-          (rw split at sound));
+      partial = rw at at (frame_prefix _ _ _ _ between (rw split at sound));
       continues = λ none. cc;
     }
 
@@ -105,18 +103,16 @@ body_prefix limits preceding [] body unparsed octets more none partial line =
     }
 body_prefix limits preceding (frame ∷ frames) body unparsed octets more
     (whole, others, split, sound, framed) partial line =
-    let line_now : octets ++ more ≡ whole ++ (others ++ unparsed) =
-    line ∙ rw split (append_assoc whole others unparsed) in
+    let line_now : octets ++ more ≡ whole ++ (others ++ unparsed) = line ∙ rw split
+    (append_assoc whole others unparsed) in
     elim (overlap octets more whole (others ++ unparsed) line_now) [
       | inl (between, is, follows) ↦
-          let at : preceding + length body + 9 ≡ preceding + length whole + length others + 9 =
-          rw (split, length-append) (omega arith) in
+          let at : preceding + length body + 9 ≡ preceding + length whole + length others + 9 = rw
+          (split, length-append) (omega arith) in
           one_complete limits preceding frame frames octets whole unparsed more between sound is
           (body_prefix limits (preceding + length whole) frames others unparsed between more framed
           (rw at at partial) (sym follows))
-      | inr (next, between, is, follows) ↦
-          none_complete limits preceding frame frames octets whole unparsed more next between sound
-          is
+      | inr (next, between, is, follows) ↦ none_complete _ _ _ _ _ whole _ _ next between sound is
     ]
 
 -- A prefix of a stream, read.

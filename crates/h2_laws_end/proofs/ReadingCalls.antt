@@ -15,9 +15,7 @@ call_keeps : (log : Log) (act : Act) → LogIsRead log
     → LogIsRead (with_sent (called log act (answer_of (log_view log) act))
     (items_of (log_view log) act (answer_of (log_view log) act)))
 unfolding items_of with_sent last_processed
-call_keeps log SendGoAway are =
-    wrote_goaway log.role log.received log.sent log.reported log.table log.failed
-    (last_processed log) (λ server. last_is log.role _ server) are
+call_keeps log SendGoAway are = wrote_goaway _ _ _ _ _ _ _ (λ server. last_is log.role _ server) are
 call_keeps log act are =
     wrote_keeps [] (called log act (answer_of (log_view log) act))
     (items_of (log_view log) act (answer_of (log_view log) act))

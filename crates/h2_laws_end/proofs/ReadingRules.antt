@@ -1,5 +1,4 @@
 -- What the verdict on an item says of what is reported of it.
-use Rattle.h2_spec_log.specs.Log.{settings_wait}
 use Rattle.h2_laws_log.proofs.InvariantCalls.{odd_some}
 use Rattle.h2_laws_end.specs.Readings.{its_fields, its_octets, its_reset, its_fault, its_goaway}
 use Rattle.h2_laws_end.specs.Readings.{its_acknowledgment, MayBeSilent}
@@ -10,12 +9,11 @@ use Names.{or_cases, and_parts, leb-false, Code, ProtocolError, code_number, Dat
 use Names.{Ping, GoAway, WindowUpdate, Item, alone, block, Role, Client, Server, is_goaway}
 use Names.{is_goaway_below, Event, is_server, State, Active, ClosedByUs, Closed, Log, active, state}
 use Names.{log_view, Verdict, ConnectionFault, StreamFault, NoEvent, Reported, Decoded, peer_opens}
-use Names.{verdict_of_fault, settings_fault, completes, IsDecodedIn, active_used, state_is_active}
-use Names.{used_more, used_here, closed_by_us_is, fault_codes, nat_le, or_right, leb-true}
-use Names.{FlowControlError, stream_of, opens_from, stream_of_item, processed_by}
-use Names.{greatest_processed, state_by, is_used, is_above, is_closed_by_us}
-use Names.{connection_update_verdict, update_verdict, is_awaited_ping, verdict_by_rules, events_of}
-use Names.{idle_unused, second_false, ItemRead, its_pong, AreEventsOf}
+use Names.{verdict_of_fault, completes, IsDecodedIn, active_used, state_is_active, used_more}
+use Names.{used_here, closed_by_us_is, fault_codes, nat_le, or_right, leb-true, FlowControlError}
+use Names.{stream_of, opens_from, stream_of_item, processed_by, greatest_processed, state_by}
+use Names.{is_used, is_above, is_closed_by_us, connection_update_verdict, update_verdict}
+use Names.{verdict_by_rules, events_of, idle_unused, second_false, ItemRead, its_pong, AreEventsOf}
 use Rattle.h2_laws_end.proofs.FaultCodes.{HasCode}
 use Rattle.h2_laws_end.proofs.GoAwaysRead.{IsTypedGoAway, least_reported}
 use Rattle.h2_laws_end.proofs.ReadVerdicts.{Says, says_data, says_any, says_block, says_reset}
@@ -57,8 +55,7 @@ IsSeen decoded item = Unit {0}
 active_faults : (log : Log) (item : Item) (i : ℕ) → active log i ≡ true
     → is_used log.role i (item ∷ log.received) log.sent ≡ true
 active_faults log item i alive =
-    used_more log.role i (item ∷ []) [] log.received log.sent
-    (active_used log.role i log.received log.sent log.reported alive)
+    used_more log.role i (item ∷ []) [] log.received log.sent (active_used _ _ _ _ _ alive)
 
 -- After an own GOAWAY an idle stream that the peer may open is above its last stream.
 idle_after_goaway : (role : Role) (i : ℕ) (received sent : List Item) (reported : List Event)
@@ -134,9 +131,7 @@ pub rules_say : (log : Log) (decoded : Option Decoded) (item : Item) → LogIsLo
 unfolding verdict_by_rules stream_of_item stream_of
 rules_say log None (block stream end octets) low = tt
 rules_say log (Some decoded) (block stream end octets) low =
-    says_block (IsFaulty log (block stream end octets)) (IsUnreported log (block stream end octets))
-    (IsSaid log (block stream end octets)) (state log stream) (peer_opens (log_view log) stream)
-    _ _ _ _ (λ idle opens.
+    says_block _ _ _ _ (peer_opens (log_view log) stream) _ _ _ _ (λ idle opens.
     let used = used_here log.role stream end octets log.received log.sent opens in
     let closed = idle_after_goaway log.role stream log.received log.sent log.reported low
     (idle_unused _ _ _ idle) opens in
@@ -144,26 +139,17 @@ rules_say log (Some decoded) (block stream end octets) low =
     (λ is. let used = active_faults log (block stream end octets) stream
     (state_is_active _ _ _ is) in (used, used)) (λ is. closed_by_us_is _ _ _ is)
 rules_say log decoded (alone (Data stream end octets pad)) low =
-    says_data (IsFaulty log (alone (Data stream end octets pad)))
-    (is_closed_by_us log.role stream log.sent ≡ true) (Unit {0}) (state log stream) _ _ _
+    says_data _ _ (Unit {0}) (state log stream) _ _ _
     (λ is. active_faults log (alone (Data stream end octets pad)) stream (state_is_active _ _ _ is))
     (λ is. closed_by_us_is _ _ _ is) (λ is. tt)
 rules_say log decoded (alone (Reset stream code)) low =
     says_reset (IsFaulty log (alone (Reset stream code))) (active log stream ≡ false) (Unit {0})
     (state log stream) (λ is. tt) (λ is. closed_inactive _ _ _ is) (λ is. over_inactive _ _ _ is)
-rules_say log decoded (alone (Settings false pairs)) low =
-    says_settings (IsFaulty log (alone (Settings false pairs))) (false ≡ true)
-    (settings_fault (log_view log) pairs)
-rules_say log decoded (alone (Settings true pairs)) low =
-    says_reply (IsFaulty log (alone (Settings true pairs))) (settings_wait log ≡ false)
-    (true ≡ true) (settings_wait log) (λ is. is) refl
-rules_say log decoded (alone (Ping true octets)) low =
-    says_reply (IsFaulty log (alone (Ping true octets)))
-    (is_awaited_ping octets (log_view log).ping ≡ false) (true ≡ true)
-    (is_awaited_ping octets (log_view log).ping) (λ is. is) refl
+rules_say log decoded (alone (Settings false pairs)) low = says_settings _ _ _
+rules_say log decoded (alone (Settings true pairs)) low = says_reply _ _ _ _ (λ is. is) refl
+rules_say log decoded (alone (Ping true octets)) low = says_reply _ _ _ _ (λ is. is) refl
 rules_say log decoded (alone (WindowUpdate stream increment)) low =
-    says_updates (IsFaulty log (alone (WindowUpdate stream increment))) (stream == 0)
-    (state log stream) increment _ _
+    says_updates _ (stream == 0) _ increment _ _
     (λ is. active_faults log (alone (WindowUpdate stream increment)) stream
     (state_is_active _ _ _ is))
 rules_say log decoded (alone frame) low = tt
@@ -206,8 +192,7 @@ unfolding events_of
 events_said log decoded item (ConnectionFault code) none sees seen coded typed says =
     absurd (none code refl)
 events_said log decoded item (StreamFault code) none sees seen coded typed says =
-    its_fault item decoded code (used_some log.role (stream_of_item item)
-    (item ∷ log.received) log.sent says) coded
+    its_fault item decoded code (used_some _ _ _ log.sent says) coded
 events_said log decoded item NoEvent none sees seen coded typed says = says
 events_said log None (block stream end octets) Reported none sees seen coded typed says =
     absurd seen
@@ -232,8 +217,7 @@ unfolding opens_from
 opens_less a b [] some none = absurd (both_ways false refl some)
 opens_less a b (alone frame ∷ items) some none = opens_less a b items some none
 opens_less a b (block stream end octets ∷ items) some none =
-    let parts = or_parts (stream % 2 == 1 && nat_le b stream) (list_any (opens_from b) items)
-    none in
+    let parts = or_parts (stream % 2 == 1 && nat_le b stream) _ none in
     elim (or_cases (stream % 2 == 1 && nat_le a stream) (list_any (opens_from a) items) some) [
       | inl here ↦
           let both = and_parts (stream % 2 == 1) (nat_le a stream) here in
@@ -268,11 +252,9 @@ pub processed_low : (log : Log) (decoded : Option Decoded) (item : Item) (verdic
     → greatest_processed (events_of (log_view log) decoded verdict item) < i
 unfolding events_of greatest_processed processed_by
 processed_low log decoded item (StreamFault code) i server some none says =
-    named_by (code_number code == 11) (stream_of_item item) i
-    (used_less (stream_of_item item) i (item ∷ log.received) log.sent (rw server at says) none)
+    named_by (code_number code == 11) _ _ (used_less _ _ _ _ (rw server at says) none)
 processed_low log decoded (block stream end octets) Reported i server some none says =
-    named_by true stream i (used_less stream i (block stream end octets ∷ log.received) log.sent
-    (rw server at says) none)
+    named_by true stream i (used_less _ _ _ log.sent (rw server at says) none)
 processed_low log decoded (alone (Data stream end octets pad)) Reported i server some none says =
     some_above i some
 processed_low log decoded item verdict i server some none says = some_above i some

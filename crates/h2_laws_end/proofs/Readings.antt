@@ -162,8 +162,7 @@ events_stay : (role : Role) (received : List Item) (reading : ItemRead)
     (events reported : List Event) → AreEventsOf role received reading events
     → events_of_items (events ++ reported) ≡ events ++ events_of_items reported
 events_stay role received reading [] reported are = refl
-events_stay role received reading (event ∷ []) reported are =
-    event_stays received reading.item reading.decoded event reported are
+events_stay role received reading (event ∷ []) reported are = event_stays _ _ _ _ reported are
 events_stay role received reading (event ∷ (other ∷ events)) reported are = absurd are
 
 -- The greatest number of two lists of events.
@@ -258,8 +257,7 @@ replied_read role values log decoded item verdict replies are =
     wrote_keeps _ (read log decoded item) (replies_to verdict item) (replies_none verdict item)
     (item_read log decoded item verdict replies.up (comes_decoded comes)
     (subst (HasCode (fault_codes item)) replies.is (verdict_coded (log_view log) decoded item))
-    typed replied
-    (subst (Says (IsSeen decoded item) (IsSeen decoded item) (IsSeen decoded item)) replies.is
+    typed replied (subst (Says (IsSeen _ _) (IsSeen decoded item) (IsSeen decoded item)) replies.is
     (says_of _ _ _ log decoded item (rules_see log decoded item)))
     (subst (Says (IsFaulty log item) (IsUnreported log item) (IsSaid log item)) replies.is
     (says_of _ _ _ log decoded item (rules_say log decoded item (are.low up)))) are)

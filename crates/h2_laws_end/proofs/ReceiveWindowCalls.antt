@@ -12,11 +12,11 @@ use Rattle.h2_laws_end.proofs.Names
 use Names.{◌≡◌, ◌≢◌, ℕ, ◌+◌, ◌-◌, ◌≤◌, ◌==◌, Bool, true, false, List, [], ◌∷◌, None, pos, ◌-ℤ◌}
 use Names.{refl, sym, ap, ◌∙◌, inl, inr, arith, list_any, both_ways, ne_eqb, cases_eq, ltb-false}
 use Names.{ints, Item, Role, ends, UnprocessedEvent, Values, Act, Answer, SendData, Release, Done}
-use Names.{first_window, Log, acked, active, next_unprocessed, max_payload_sent, ended_in, log_view}
-use Names.{refusal_of, answer_of, read, called, IsLog, active_parts, history_of, none_holds}
-use Names.{stream_is_active, unreleased_is, IsPendingInvariant, pending_by_logs, total_none, ◌+ℤ◌}
-use Names.{total, increment_on, is_block_on, flow_on, reported_total, is_active, own_value, owed}
-use Names.{released, unreleased, owed_on, conditions, items_of, with_sent, opened, update_elsewhere}
+use Names.{first_window, Log, acked, active, next_unprocessed, ended_in, log_view, refusal_of}
+use Names.{answer_of, read, called, IsLog, active_parts, history_of, none_holds, stream_is_active}
+use Names.{unreleased_is, IsPendingInvariant, pending_by_logs, total_none, ◌+ℤ◌, total}
+use Names.{increment_on, is_block_on, flow_on, reported_total, is_active, own_value, owed, released}
+use Names.{unreleased, owed_on, conditions, items_of, with_sent, opened, update_elsewhere}
 use Names.{active_some, owed_there, released_here}
 use Rattle.h2_laws_end.proofs.ReceiveWindows.{IsAccounted, Steps, step_keeps, quiet_steps}
 use Rattle.h2_laws_end.proofs.ReceiveWindows.{give_accounted, failure_keeps, flow_none}
@@ -99,8 +99,7 @@ accepted_steps : (log : Log) (act : Act) (i : ℕ) → i ≢ 0 → IsAccounted (
     ((act, answer_of (log_view log) act) ∷ log.calls)
 unfolding conditions items_of released total increment_on
 accepted_steps log (SendData id octets end) i some before none =
-    call_steps log i _ _ before (none_of_items (increment_on i) (data_gives i)
-    (max_payload_sent log) id octets end _) refl
+    call_steps log i _ _ before (none_of_items _ (data_gives i) _ _ _ end _) refl
 accepted_steps log (Release id count) i some before none =
     let holds = none_holds _ none in
     let alive = stream_is_active log id holds.1.0 in

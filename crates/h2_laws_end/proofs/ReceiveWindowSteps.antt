@@ -51,9 +51,8 @@ other_steps : (log : Log) (decoded : Option Decoded) (item : Item) (verdict : Ve
     → Steps (history_of log) i (item ∷ []) (replies_to verdict item) (events_of
     (log_view log) decoded verdict item) log.calls
 other_steps log decoded item verdict i other before =
-    quiet_steps (history_of log) i (item ∷ []) (replies_to verdict item) _ log.calls before
-    (total_one _ item (data_none item i other)) (replies_give verdict item i)
-    (events_flow log decoded verdict item i other) refl
+    quiet_steps (history_of log) _ _ _ _ _ before (total_one _ item (data_none item i other))
+    (replies_give verdict item i) (events_flow log decoded verdict item i other) refl
 
 -- DATA takes nothing of other streams.
 data_elsewhere : (stream : ℕ) (end : Bool) (octets : List ℕ) (pad : Option ℕ) (i : ℕ)
@@ -104,13 +103,11 @@ data_fault_steps : (log : Log) (stream : ℕ) (end : Bool) (octets : List ℕ) (
     (code i : ℕ) → IsAccounted (history_of log) i
     → Steps (history_of log) i (alone (Data stream end octets pad) ∷ []) (alone
     (Reset stream code) ∷ []) (ResetEvent stream code true ∷ []) log.calls
-data_fault_steps log stream end octets pad code i before = elim (cases_eq stream i) [
-  | inl same ↦
-      closed_steps (history_of log) i _ (alone (Reset stream code) ∷ []) _ before
-      (rw same (reset_closed log.role i code log.sent)) (reset_gives i stream code)
-      (reset_flow i stream code true)
-  | inr other ↦
-      quiet_steps (history_of log) i _ _ _ log.calls before (total_one _ _
+data_fault_steps log stream end octets pad code i before =
+    elim (cases_eq stream i) [
+  | inl same ↦ closed_steps (history_of log) i _ (alone (Reset stream code) ∷ []) _ before
+      (rw same (reset_closed _ _ _ _)) (reset_gives i stream code) (reset_flow i stream code true)
+  | inr other ↦ quiet_steps (history_of log) i _ _ _ log.calls before (total_one _ _
       (data_elsewhere stream end octets pad i other)) (reset_gives i stream code)
       (reset_flow i stream code true) refl
 ]
@@ -119,12 +116,11 @@ data_fault_steps log stream end octets pad code i before = elim (cases_eq stream
 data_ignored_steps : (log : Log) (stream : ℕ) (end : Bool) (octets : List ℕ) (pad : Option ℕ)
     (i : ℕ) → IsAccounted (history_of log) i → is_closed_by_us log.role stream log.sent ≡ true
     → Steps (history_of log) i (alone (Data stream end octets pad) ∷ []) [] [] log.calls
-data_ignored_steps log stream end octets pad i before closed = elim (cases_eq stream i) [
-  | inl same ↦
-      closed_steps (history_of log) i _ [] [] before (rw (← same) closed) (total_none _)
+data_ignored_steps log stream end octets pad i before closed =
+    elim (cases_eq stream i) [
+  | inl same ↦ closed_steps (history_of log) i _ [] [] before (rw (← same) closed) (total_none _)
       (flow_none i)
-  | inr other ↦
-      quiet_steps (history_of log) i _ [] [] log.calls before (total_one _ _
+  | inr other ↦ quiet_steps (history_of log) _ _ [] [] _ before (total_one _ _
       (data_elsewhere stream end octets pad i other)) (total_none _) (flow_none i) refl
 ]
 
@@ -168,8 +164,7 @@ rules_say : (log : Log) (decoded : Option Decoded) (item : Item)
     (log_view log) decoded item)
 unfolding verdict_by_rules
 rules_say log decoded (alone (Data stream end octets pad)) =
-    says_data (Unit {0}) (is_closed_by_us log.role stream log.sent ≡ true) (active log stream
-    ≡ true) (state log stream) _ _ _ (λ is. tt) (λ is. closed_by_us_is _ _ _ is)
+    says_data (Unit {0}) _ _ (state log stream) _ _ _ (λ is. tt) (λ is. closed_by_us_is _ _ _ is)
     (λ is. state_is_active _ _ _ is)
 rules_say log decoded item = says_nothing (verdict_by_rules (log_view log) decoded item)
 
@@ -200,8 +195,6 @@ pub replied_keeps : (role : Role) (values : Values) (i : ℕ) (log : Log) (decod
     → PendingAccounted i (events_of (log_view log) decoded verdict item)
     (with_sent (read log decoded item) (replies_to verdict item))
 replied_keeps role values i log decoded item verdict replies before =
-    sent_accounted i _ (read log decoded item) (replies_to verdict item)
-    (step_keeps (history_of log) i (item ∷ []) _ _ log.calls log.unreturned before
-    (item_steps log decoded item verdict i before replies.up
-    (subst (Says (Unit {0}) (IsSilent log item) (IsReported log item)) replies.is
-    (says_of _ _ _ log decoded item (rules_say log decoded item)))))
+    sent_accounted _ _ _ _ (step_keeps (history_of log) _ _ _ _ _ _ before
+    (item_steps _ _ _ _ _ before replies.up (subst (Says (Unit {0}) _ _) replies.is
+    (says_of _ _ _ _ _ _ (rules_say _ _ _)))))

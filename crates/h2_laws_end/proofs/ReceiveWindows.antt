@@ -5,12 +5,11 @@ use Rattle.h2_laws_log.proofs.LogHistory.{active_in_view, moved, give, wrote_vie
 use Rattle.h2_laws_log.proofs.LogInvariant.{above_before}
 use Rattle.h2_laws_end.proofs.Names
 use Names.{◌≡◌, ◌≢◌, ℕ, ◌+◌, ◌≤◌, Bool, true, false, List, [], ◌∷◌, ◌++◌, refl, inl, inr, arith}
-use Names.{subst, sym, list_any, or_parts, or_from, cases_Bool, Code, code_number, GoAway}
-use Names.{WindowUpdate, Item, alone, Role, Client, Server, data_on, is_block_on, ends, resets}
-use Names.{Event, Act, Answer, openings, is_active, Log, active, with_sent, with_failure}
-use Names.{total_none, total-append, active_parts, lasts_parts, history_of, active_before, total}
-use Names.{increment_on, flow_on, reported_total, is_closed_by_us, released, History}
-use Names.{reported_append, update_elsewhere}
+use Names.{subst, sym, list_any, or_parts, or_from, cases_Bool, Code, code_number, GoAway, Item}
+use Names.{alone, Role, Client, Server, data_on, is_block_on, ends, resets, Event, Act, Answer}
+use Names.{openings, is_active, Log, active, with_sent, with_failure, total_none, total-append}
+use Names.{active_parts, lasts_parts, history_of, active_before, total, increment_on, flow_on}
+use Names.{reported_total, is_closed_by_us, released, History, reported_append, update_elsewhere}
 
 -- Whether the stream was opened.
 abbrev pub opened_in : History → ℕ → Bool
@@ -62,8 +61,7 @@ unopened_before : (i : ℕ) (role : Role) (reads items received sent : List Item
     → list_any (is_block_on i) (openings role (reads ++ received) (items ++ sent)) ≡ false
     → list_any (is_block_on i) (openings role received sent) ≡ false
 unopened_before i Client reads items received sent none = none_after (is_block_on i) items sent none
-unopened_before i Server reads items received sent none =
-    none_after (is_block_on i) reads received none
+unopened_before i Server reads items received sent none = none_after _ _ received none
 
 -- what this end hasn't closed it hadn't closed before
 closed_before : (role : Role) (i : ℕ) (items sent : List Item)
@@ -166,9 +164,8 @@ quiet_keeps v i events calls unreturned before flows same =
 -- What is unreturned may be returned.
 pub give_accounted : (v : History) (i : ℕ) → i ≢ 0 → IsAccounted v i → IsAccounted (give v) i
 give_accounted v i some before =
-    step_keeps v i [] (alone (WindowUpdate 0 v.unreturned) ∷ []) [] v.calls 0 before
-    (quiet_steps v i [] (alone (WindowUpdate 0 v.unreturned) ∷ []) [] v.calls before (total_none _)
-    (total_one _ _ (update_elsewhere i v.unreturned some)) (flow_none i) refl)
+    step_keeps _ _ [] _ [] _ 0 before (quiet_steps _ _ [] _ [] _ before (total_none _)
+    (total_one _ _ (update_elsewhere _ _ some)) (flow_none i) refl)
 
 -- GOAWAY returns nothing
 goaway_gives : (i last code : ℕ) → increment_on i (alone (GoAway last code [])) ≡ 0
@@ -180,8 +177,7 @@ pub failure_keeps : (code : Code) (last : ℕ) (log : Log) (i : ℕ) → IsAccou
     → IsAccounted (history_of (with_failure code last log)) i
 failure_keeps code last log i before =
     let after = step_keeps (history_of log) i [] (alone (GoAway last (code_number code) []) ∷ []) []
-    log.calls log.unreturned before (quiet_steps (history_of log) i [] (alone (GoAway last
-    (code_number code) []) ∷ []) [] log.calls before (total_none _)
+    log.calls log.unreturned before (quiet_steps (history_of log) _ [] _ [] _ before (total_none _)
     (total_one _ _ (goaway_gives i last (code_number code))) (flow_none i) refl) in
     rw (fails_view code last log) (record {
       within = after.within;

@@ -2,11 +2,11 @@
 use Rattle.h2_spec_log.specs.Acts.{shown}
 use Rattle.h2_laws_end.specs.Replays.{Make, starts, acts_of_turns, Between, InTake, next_phase}
 use Rattle.h2_laws_end.specs.Replays.{script_phase}
-use Rattle.h2_laws_end.proofs.Names.{◌≡◌, ℕ, Bool, false, List, [], ◌∷◌, ◌++◌, drop, Option, refl}
-use Rattle.h2_laws_end.proofs.Names.{sym, ap, subst, ◌∙◌, append_assoc, both_ways}
-use Rattle.h2_laws_end.proofs.Names.{append_cancel_right, Code, Role, Values, Act, Answer, Turn, In}
-use Rattle.h2_laws_end.proofs.Names.{Out, Happened, TakeCalled, TakeAnswered, Log, with_call, IsLog}
-use Rattle.h2_laws_end.proofs.Names.{begins, called_one, Called, Answered, opened, ReplayAct, Take}
+use Rattle.h2_laws_end.proofs.Names.{◌≡◌, ℕ, Bool, false, List, [], ◌∷◌, ◌++◌, Option, refl, sym}
+use Rattle.h2_laws_end.proofs.Names.{ap, subst, ◌∙◌, append_assoc, both_ways, append_cancel_right}
+use Rattle.h2_laws_end.proofs.Names.{Code, Role, Values, Act, Answer, Turn, In, Out, Happened}
+use Rattle.h2_laws_end.proofs.Names.{TakeCalled, TakeAnswered, Log, with_call, IsLog, begins}
+use Rattle.h2_laws_end.proofs.Names.{called_one, Called, Answered, opened, ReplayAct, Take}
 use Rattle.h2_laws_end.proofs.Names.{TakesAll, is_done, goes_on, has_fault, IsReplay, takes, calls}
 use Rattle.h2_laws_end.proofs.TakeAnswers.{take_closed}
 use Rattle.h2_laws_end.proofs.TurnsAdded.{AllPass, Adds, is_output, is_of_take, adds_twice}
@@ -16,14 +16,11 @@ use Rattle.h2_laws_end.proofs.TurnsAdded.{adds_call, adds_take}
 all_closed : (role : Role) (values : Values) (log after : Log) (octets : List ℕ)
     (fault : Option Code) → IsLog role values log → TakesAll log octets fault after
     → IsLog role values after
-all_closed role values log after _ _ is (is_done octets may) =
-    take_closed role values log after octets _ is may
+all_closed role values log after _ _ is (is_done octets may) = take_closed _ _ _ _ octets _ is may
 all_closed role values log after _ _ is
     (goes_on {between = between} octets count event fault may more others) =
-    all_closed role values between after (drop count octets) fault
-    (take_closed role values log between octets _ is may) others
-all_closed role values log after _ _ is (has_fault octets code may) =
-    take_closed role values log after octets _ is may
+    all_closed _ _ between _ _ fault (take_closed role values log between octets _ is may) others
+all_closed role values log after _ _ is (has_fault octets code may) = take_closed _ _ _ _ _ _ is may
 
 -- The log of a replay comes about.
 pub replay_closed : (role : Role) (values : Values) (acts : List ReplayAct) (log : Log)
@@ -31,8 +28,7 @@ pub replay_closed : (role : Role) (values : Values) (acts : List ReplayAct) (log
 replay_closed role values _ _ _ (starts in_range) = begins in_range
 replay_closed role values _ _ _
     (takes {acts = acts} {log = log} {after = after} {turns = turns} is octets fault all news
-    joined) = all_closed role values log after octets fault
-    (replay_closed role values acts log turns is) all
+    joined) = all_closed _ _ _ after octets fault (replay_closed role values acts log turns is) all
 replay_closed role values _ _ _
     (calls {acts = acts} {log = log} {turns = turns} is act answer typed may news joined) =
     called_one (replay_closed role values acts log turns is) act answer typed may
@@ -42,16 +38,14 @@ pub adds_all : (log after : Log) (octets : List ℕ) (fault : Option Code)
     → TakesAll log octets fault after → Adds is_of_take log after
 adds_all log after _ _ (is_done octets may) = adds_take log after octets _ may
 adds_all log after _ _ (goes_on {between = between} octets count event fault may more others) =
-    adds_twice is_of_take log between after (adds_take log between octets _ may)
-    (adds_all between after (drop count octets) fault others)
+    adds_twice is_of_take _ between _ (adds_take _ between _ _ may) (adds_all between _ _ _ others)
 adds_all log after _ _ (has_fault octets code may) = adds_take log after octets _ may
 
 -- The new turns are those that were added.
 news_pass : (p : Turn → Bool) (log after : Log) (news : List Turn) → Adds p log after
     → after.turns ≡ news ++ log.turns → AllPass p news
 news_pass p log after news adds joined =
-    subst (AllPass p) (append_cancel_right adds.news news log.turns (sym adds.turns ∙ joined))
-    adds.pass
+    subst (AllPass p) (append_cancel_right adds.news _ _ (sym adds.turns ∙ joined)) adds.pass
 
 -- The new turns of a call: the call, its answer, and output.
 record HasCalled (act : Act) (answer : Answer) (news : List Turn) : Type 0 where
@@ -63,12 +57,10 @@ record HasCalled (act : Act) (answer : Answer) (news : List Turn) : Type 0 where
 news_called : (log : Log) (act : Act) (answer : Answer) (news : List Turn)
     → (with_call log act answer).turns ≡ news ++ log.turns → HasCalled act answer news
 news_called log act answer news joined =
-    let adds = adds_call log act answer in
+    let adds = adds_call _ _ _ in
     record {
       outs = adds.news;
-      all = append_cancel_right news (adds.news ++ Answered (shown answer) ∷ Called act ∷ [])
-          log.turns (sym joined ∙ adds.turns
-          ∙ sym (append_assoc adds.news (Answered (shown answer) ∷ Called act ∷ []) log.turns));
+      all = append_cancel_right _ _ _ (sym joined ∙ adds.turns ∙ sym (append_assoc adds.news _ _));
       pass = adds.pass;
     }
 
@@ -95,9 +87,8 @@ acts_of_call : (act : Act) (answer : Answer) (news turns : List Turn) → HasCal
     → acts_of_turns (news ++ turns) ≡ Make act ∷ acts_of_turns turns
 unfolding acts_of_turns
 acts_of_call act answer news turns call =
-    ap (λ (line : List Turn). acts_of_turns (line ++ turns)) call.all
-    ∙ ap acts_of_turns (append_assoc call.outs (Answered (shown answer) ∷ Called act ∷ []) turns)
-    ∙ acts_of_output call.outs (Answered (shown answer) ∷ Called act ∷ turns) call.pass
+    ap (λ (line : List Turn). acts_of_turns (line ++ turns)) call.all ∙ ap acts_of_turns
+    (append_assoc call.outs _ _) ∙ acts_of_output call.outs _ call.pass
 
 -- The turns tell of the acts, in order.
 pub replay_acts : (role : Role) (values : Values) (acts : List ReplayAct) (log : Log)
@@ -151,10 +142,8 @@ phase_of_call : (act : Act) (answer : Answer) (news turns : List Turn)
     → HasCalled act answer news → script_phase turns ≡ Between
     → script_phase (news ++ turns) ≡ Between
 phase_of_call act answer news turns call is =
-    ap (λ (line : List Turn). script_phase (line ++ turns)) call.all
-    ∙ ap script_phase (append_assoc call.outs (Answered (shown answer) ∷ Called act ∷ []) turns)
-    ∙ phase_of_output call.outs (Answered (shown answer) ∷ Called act ∷ turns) call.pass
-    (phase_of_called act (shown answer) turns is)
+    ap (λ (line : List Turn). script_phase (line ++ turns)) call.all ∙ ap script_phase
+    (append_assoc call.outs _ _) ∙ phase_of_output call.outs _ call.pass (phase_of_called _ _ _ is)
 
 -- Each act has one call and one answer.
 pub replay_answers : (role : Role) (values : Values) (acts : List ReplayAct) (log : Log)

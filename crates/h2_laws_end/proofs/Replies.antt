@@ -5,9 +5,9 @@ use Names.{sym, ap, ◌∙◌, append_assoc, subst, Code, Settings, Ping, Window
 use Names.{Values, Act, Answer, Open, SendFields, SendData, Release, ResetStream, Refuse, SendPing}
 use Names.{SendGoAway, ChangeSettings, Number, Count, Done, Log, Verdict, ConnectionFault}
 use Names.{StreamFault, NoEvent, Reported, View, ended_in, log_view, Decoded, verdict_of_fault}
-use Names.{settings_fault, verdict_of, read, called, IsLog, data_items, answer_of, IsLogInvariant}
-use Names.{kept_by_logs, AllByRecursion, replies_to, verdict_by_rules, with_sent, opened, items_of}
-use Names.{replies_owed, replies_among}
+use Names.{verdict_of, read, called, IsLog, data_items, answer_of, IsLogInvariant, kept_by_logs}
+use Names.{AllByRecursion, replies_to, verdict_by_rules, with_sent, opened, items_of, replies_owed}
+use Names.{replies_among}
 use Rattle.h2_laws_end.proofs.Unread.{wrote_reads}
 use Rattle.h2_laws_end.proofs.ReadVerdicts.{by_limits}
 use Rattle.h2_laws_end.proofs.DataItems.{body_all}
@@ -63,8 +63,7 @@ call_replies : (view : View) (act : Act) (answer : Answer)
 unfolding items_of replies_among
 call_replies view (Open fields end) (Number id) = refl
 call_replies view (SendFields id fields end) Done = refl
-call_replies view (SendData id octets end) (Count count) = body_replies view.max_payload id octets
-    end count
+call_replies view (SendData id octets end) (Count count) = body_replies _ _ _ _ count
 call_replies view (Release id count) Done = credit_replies (ended_in (view.stream id)) id count
 call_replies view (ResetStream id code) Done = refl
 call_replies view (Refuse id code) Done = refl
@@ -109,8 +108,7 @@ settings_replied None pairs = refl
 replied_by_rules : (view : View) (decoded : Option Decoded) (item : Item)
     → IsRepliedTo (verdict_by_rules view decoded item) item
 unfolding verdict_by_rules replies_to replies_among replies_owed
-replied_by_rules view decoded (alone (Settings false pairs)) =
-    settings_replied (settings_fault view pairs) pairs
+replied_by_rules view decoded (alone (Settings false pairs)) = settings_replied _ _
 replied_by_rules view decoded (alone (Ping false octets)) = refl
 replied_by_rules view decoded item = none_due (verdict_by_rules view decoded item) item refl refl
 
@@ -118,8 +116,7 @@ replied_by_rules view decoded item = none_due (verdict_by_rules view decoded ite
 replied : (view : View) (decoded : Option Decoded) (item : Item)
     → IsRepliedTo (verdict_of view decoded item) item
 replied view decoded item =
-    by_limits (λ verdict. IsRepliedTo verdict item) view decoded item tt
-    (replied_by_rules view decoded item)
+    by_limits (λ verdict. IsRepliedTo verdict item) _ _ item tt (replied_by_rules view decoded item)
 
 -- So it is where it is no fault of the connection.
 due_of : (verdict : Verdict) (item : Item)

@@ -63,8 +63,7 @@ one_decoded log octets None None is again = refl
 one_decoded log octets None (Some other) is again = absurd (is other.fields other.after again)
 one_decoded log octets (Some decoded) None is again = absurd (again decoded.fields decoded.after is)
 one_decoded log octets (Some decoded) (Some other) is again =
-    let one = one_block_lem log.table decoded.after other.after _ octets decoded.fields other.fields
-    is again in
+    let one = one_block_lem _ _ _ _ _ _ other.fields is again in
     ap₂ (λ fields after. Some (record { fields = fields; after = after })) one.0 one.1
 
 -- So does a frame.

@@ -87,10 +87,8 @@ update_low : (role : Role) (n : ℕ) (received sent : List Item)
     → total data_of received ≤ 65535 + total (increment_on 0) sent
     → IsSendable (max_payload_sent_by received) (alone (WindowUpdate 0 n))
 update_low role n received sent with_sent credit =
-    let small = update_allowed role received (alone (WindowUpdate 0 n) ∷ sent) n sent with_sent refl
-    credit in
-    update_sendable (max_payload_sent_by received) 0 n (most_between received) (omega arith)
-    (omega (arith, small))
+    let small = update_allowed _ _ _ _ _ with_sent refl credit in
+    update_sendable _ 0 _ (most_between received) (omega arith) (omega (arith, small))
 
 -- What was written before an item other than SETTINGS was allowed.
 pub allowed_before : (role : Role) (received all : List Item) (item : Item) (sent : List Item)
@@ -111,8 +109,7 @@ pub returned_fit : (role : Role) (events : List Event) (log : Log)
     → LogIsAllowed role (with_credit_returned log) → PendingFit events (with_credit_returned log)
 unfolding with_sent
 returned_fit role events log are allowed =
-    let now = are (allowed_before role log.received _ _ log.sent allowed refl
-    (λ pairs wrong. cc)) in
+    let now = are (allowed_before _ _ _ _ log.sent allowed refl (λ pairs wrong. cc)) in
     wrote_fit (max_payload_sent log) log.payloads log.received
     (alone (WindowUpdate 0 log.unreturned) ∷ []) log.sent (events ++ log.reported) (
       update_low role log.unreturned log.received log.sent allowed now.credit,
@@ -126,8 +123,7 @@ unfolding with_sent
 failure_keeps code last log low are =
     wrote_fit (max_payload_sent log) log.payloads log.received
     (alone (GoAway last (code_number code) []) ∷ []) log.sent log.reported (
-      goaway_sendable (max_payload_sent log) last (code_number code) (most_between log.received)
-          low (code_low code),
+      goaway_sendable _ _ (code_number code) (most_between log.received) low (code_low code),
       tt,
     ) are
 
@@ -190,8 +186,7 @@ credit_after : (log : Log) (item : Item) → IsWithin log item
     → total data_of (item ∷ log.received) ≤ 65535 + total (increment_on 0) log.sent
 unfolding total data_of granted_on_connection
 credit_after log (block stream end octets) is credit = omega (arith, credit)
-credit_after log (alone (Data stream end octets pad)) is credit =
-    within (length (payload_of (Data stream end octets pad))) _ _ is credit
+credit_after log (alone (Data stream end octets pad)) is credit = within _ _ _ is credit
 credit_after log (alone frame) is credit = omega (arith, credit)
 
 -- What is reported of a fit item is fit.

@@ -66,15 +66,13 @@ received_low i (block stream end octets ∷ items) all some =
 opened_low : (role : Role) (i : ℕ) (payloads : List ℕ) (received sent : List Item)
     → AllByRecursion IsFitItem received → AreSendable payloads sent
     → list_any (is_block_on i) (openings role received sent) ≡ true → i < 2 ^ 31
-opened_low Client i payloads received sent fit sendable some =
-    sent_low i payloads sent sendable some
+opened_low Client i payloads received sent fit sendable some = sent_low _ _ sent sendable some
 opened_low Server i payloads received sent fit sendable some = received_low i received fit some
 
 -- So has that of an active stream.
 active_low : (log : Log) (i : ℕ) → LogIsFit log → active log i ≡ true → i < 2 ^ 31
 active_low log i are alive =
-    opened_low log.role i log.payloads log.received log.sent are.received_all are.sent_all
-    (active_parts log.role i log.received log.sent log.reported alive).opened
+    opened_low _ _ _ _ _ are.received_all are.sent_all (active_parts _ _ _ _ _ alive).opened
 
 -- An active stream's number is above nothing.
 active_above : (log : Log) (i : ℕ) → active log i ≡ true → 1 ≤ i
@@ -85,8 +83,7 @@ number_low : (log : Log) → AllowedHistory log.role log.received log.sent
     → (is_server log.role || nat_lt greatest_number (log_view log).next_number) ≡ false
     → (1 ≤ (log_view log).next_number) × ((log_view log).next_number < 2 ^ 31)
 number_low log with_sent none =
-    let server = or_parts (is_server log.role) (nat_lt greatest_number
-    (log_view log).next_number) none in
+    let server = or_parts _ _ none in
     let is = client_number (is_server log.role) (next_number log) server.0 in
     let next = next_odd log with_sent in (
       omega (arith, next.1, is),
@@ -105,8 +102,7 @@ open_sendable log fields end with_sent none =
     let number = number_low log with_sent holds.1.1.0 in (
       number.0,
       number.1,
-      block_is_gathered log.encoder fields
-          (ltb-false max_list (list_size fields) holds.1.1.1.1.1.0),
+      block_is_gathered _ _ (ltb-false max_list (list_size fields) holds.1.1.1.1.1.0),
     )
 
 -- What further fields write.
@@ -152,8 +148,7 @@ updates_by : (most id count : ℕ) (ended : Bool) → IsPayload most → id < 2 
     → AllByRecursion (IsSendable most) (alone (WindowUpdate 0 count) ∷
     (if ended then [] else alone
     (WindowUpdate id count) ∷ []))
-updates_by most id count true may low small =
-    (update_sendable most 0 count may (omega arith) small, tt)
+updates_by most id count true may low small = (update_sendable _ 0 _ may (omega arith) small, tt)
 updates_by most id count false may low small = (
   update_sendable most 0 count may (omega arith) small,
   (update_sendable most id count may low small, tt),
@@ -170,8 +165,7 @@ release_sendable role log id count represents are none =
     let holds = none_holds _ none in
     let up = none_since log.failed holds.0 in
     let alive = stream_is_active log id holds.1.0 in
-    let owing = or_parts (count == 0) (nat_lt (owed_on ((log_view log).stream id)) count)
-    holds.1.1.1.0 in
+    let owing = or_parts (count == 0) _ holds.1.1.1.0 in
     updates_by (max_payload_sent log) id count (ended_in ((log_view log).stream id))
     (most_between log.received) (active_low log id are alive) (omega (
       arith,

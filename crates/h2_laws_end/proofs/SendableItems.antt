@@ -49,24 +49,21 @@ data_sendable : (most stream : ℕ) (end : Bool) (octets : List ℕ) → IsPaylo
     → IsSendable most (alone (Data stream end octets None))
 unfolding is_standalone stream_of kind_of_frame fits_stream has_good_values payload_of
 data_sendable most stream end octets may some low short =
-    frame_sendable most (Data stream end octets None) may refl short low (lt-ltb 0 stream some) refl
-    tt
+    frame_sendable _ _ may refl short low (lt-ltb 0 stream some) refl tt
 
 -- RST_STREAM.
 pub reset_sendable : (most stream code : ℕ) → IsPayload most → 1 ≤ stream → stream < 2 ^ 31
     → code < 2 ^ 32 → IsSendable most (alone (Reset stream code))
 unfolding is_standalone stream_of kind_of_frame fits_stream has_good_values payload_of
 reset_sendable most stream code may some low typed =
-    frame_sendable most (Reset stream code) may refl (omega (arith, may.0)) low
-    (lt-ltb 0 stream some) refl typed
+    frame_sendable _ _ may refl (omega (arith, may.0)) low (lt-ltb 0 stream some) refl typed
 
 -- WINDOW_UPDATE.
 pub update_sendable : (most stream increment : ℕ) → IsPayload most → stream < 2 ^ 31
     → increment < 2 ^ 31 → IsSendable most (alone (WindowUpdate stream increment))
 unfolding is_standalone stream_of kind_of_frame fits_stream has_good_values payload_of
 update_sendable most stream increment may low small =
-    frame_sendable most (WindowUpdate stream increment) may refl (omega (arith, may.0)) low refl
-    (lt-ltb increment (2 ^ 31) small) tt
+    frame_sendable _ _ may refl (omega (arith, may.0)) low refl (lt-ltb increment (2 ^ 31) small) tt
 
 -- GOAWAY.
 pub goaway_sendable : (most last code : ℕ) → IsPayload most → last < 2 ^ 31 → code < 2 ^ 32
@@ -81,8 +78,7 @@ pub ping_sendable : (most : ℕ) (ack : Bool) (octets : List ℕ) → IsPayload 
     → length octets ≡ 8 → IsSendable most (alone (Ping ack octets))
 unfolding is_standalone stream_of kind_of_frame fits_stream has_good_values payload_of
 ping_sendable most ack octets may eight =
-    frame_sendable most (Ping ack octets) may refl (omega (arith, eight, may.0)) (omega arith) refl
-    refl eight
+    frame_sendable _ _ may refl (omega (arith, eight, may.0)) (omega arith) refl refl eight
 
 -- An acknowledgment of SETTINGS.
 pub ack_sendable : (most : ℕ) → IsPayload most → IsSendable most (alone (Settings true []))
@@ -113,8 +109,7 @@ frame_fits : (written : ℕ) (values : Values) (pairs : List (ℕ × ℕ)) → A
     → AllByRecursion PairFits (with_max_frame written values.max_frame pairs)
 unfolding with_max_frame
 frame_fits written values pairs ok others =
-    frame_fits_by values.max_frame pairs (values.max_frame == written) (omega (arith, ok.max_frame))
-    others
+    frame_fits_by _ _ (values.max_frame == written) (omega (arith, ok.max_frame)) others
 
 -- The number of streams fits.
 streams_fit : (values : Values) → AreInRange values → PairFits (3, values.max_streams)
@@ -126,8 +121,7 @@ opening_fits : (role : Role) (values : Values) → AreInRange values
 unfolding opening_pairs
 opening_fits role values ok =
     let table = pair_fits 1 values.table_limit (omega arith) (omega (arith, ok.table_limit)) in
-    let window = pair_fits 4 values.initial_window (omega arith)
-    (omega (arith, ok.initial_window)) in
+    let window = pair_fits 4 _ (omega arith) (omega (arith, ok.initial_window)) in
     let list = pair_fits 6 max_list (omega arith) (omega arith) in
     let frame = frame_fits 16384 values ((6, max_list) ∷ []) ok (list, tt) in
     elim role as (λ (role : Role). AllByRecursion PairFits (opening_pairs role values)) [
@@ -141,8 +135,7 @@ change_fits : (role : Role) (written : ℕ) (values : Values) → AreInRange val
 unfolding changed_pairs
 change_fits role written values ok =
     let table = pair_fits 1 values.table_limit (omega arith) (omega (arith, ok.table_limit)) in
-    let window = pair_fits 4 values.initial_window (omega arith)
-    (omega (arith, ok.initial_window)) in
+    let window = pair_fits 4 _ (omega arith) (omega (arith, ok.initial_window)) in
     let frame = frame_fits written values [] ok tt in
     elim role as (λ (role : Role). AllByRecursion PairFits (changed_pairs role written values)) [
       | Client ↦ (table, (window, frame))
@@ -162,8 +155,7 @@ settings_sendable most pairs may few fit =
 pub opening_sendable : (most : ℕ) (role : Role) (values : Values) → IsPayload most
     → AreInRange values → IsSendable most (alone (Settings false (opening_pairs role values)))
 opening_sendable most role values may ok =
-    settings_sendable most (opening_pairs role values) may (size-opening most role values)
-    (opening_fits role values ok)
+    settings_sendable _ _ may (size-opening most role values) (opening_fits role values ok)
 
 -- Changed SETTINGS.
 pub change_sendable : (most : ℕ) (role : Role) (written : ℕ) (values : Values) → IsPayload most
@@ -183,8 +175,7 @@ pub data_items_sendable : (most id : ℕ) (octets : List ℕ) (end : Bool) (coun
     → IsPayload most → 1 ≤ id → id < 2 ^ 31
     → AllByRecursion (IsSendable most) (data_items most id octets end count)
 data_items_sendable most id octets end count may some low =
-    body_all (IsSendable most) most id
-    (λ one short. data_sendable most id false one may some low short) octets end count
+    body_all _ _ _ (λ one short. data_sendable most id false one may some low short) _ _ count
     (λ last short. data_sendable most id _ last may some low short)
 
 -- Items can be sent, each with the same greatest payload.

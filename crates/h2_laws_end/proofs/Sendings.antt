@@ -8,11 +8,10 @@ use Rattle.h2_laws_end.proofs.Names
 use Names.{◌≡◌, ℕ, Bool, true, false, if◌then◌else◌, List, [], ◌∷◌, ◌++◌, Option, refl, subst}
 use Names.{list_any, both_ways, or_parts, Field, Code, Settings, WindowUpdate, Item, alone, block}
 use Names.{Role, Refusal, Values, Act, Answer, Open, SendFields, SendData, Release, Refuse, PutOut}
-use Names.{Count, Done, OutOfMemory, Refused, Log, max_payload_sent, log_view, ended_in, Verdict}
-use Names.{ConnectionFault, StreamFault, NoEvent, Reported, Decoded, answer_of, data_items, read}
-use Names.{called, IsLog, IsLogInvariant, kept_by_logs, block_of, replies_to, opening_pairs}
-use Names.{items_of, with_sent, opened, WritesNone, refused, no_memory, fails_instead, puts_out}
-use Names.{changes_encoder}
+use Names.{Count, Done, OutOfMemory, Refused, Log, log_view, Verdict, ConnectionFault, StreamFault}
+use Names.{NoEvent, Reported, Decoded, answer_of, data_items, read, called, IsLog, IsLogInvariant}
+use Names.{kept_by_logs, block_of, replies_to, opening_pairs, items_of, with_sent, opened}
+use Names.{WritesNone, refused, no_memory, fails_instead, puts_out, changes_encoder}
 use Rattle.h2_laws_end.proofs.SettingsApplied.{is_settings, replies_stay, IsApplied}
 use Rattle.h2_laws_end.proofs.SettingsApplied.{verdict_applied}
 use Rattle.h2_laws_end.proofs.DataItems.{body_all, none_of_all}
@@ -54,8 +53,7 @@ other_replied : (log : Log) (decoded : Option Decoded) (item : Item) (verdict : 
     → is_settings item ≡ false → LogIsSent log
     → LogIsSent (with_sent (read log decoded item) (replies_to verdict item))
 other_replied log decoded item verdict other is =
-    wrote_keeps (read log decoded item) (replies_to verdict item) (replies_stay verdict item other)
-    (read_keeps log decoded item other is)
+    wrote_keeps _ _ (replies_stay verdict item other) (read_keeps log decoded item other is)
 
 settings_replied : (log : Log) (decoded : Option Decoded) (pairs : List (ℕ × ℕ)) → LogIsSent log
     → LogIsSent (with_sent (read log decoded (alone (Settings false pairs)))
@@ -126,17 +124,10 @@ accepted_keeps : (log : Log) (act : Act) → LogIsSent log
     → LogIsSent (with_sent (called log act (answer_of (log_view log) act))
     (items_of (log_view log) act (answer_of (log_view log) act)))
 unfolding items_of lists_accepted encoder_after_call changes_encoder
-accepted_keeps log (Open fields end) is =
-    block_call log (Open fields end) (answer_of (log_view log) (Open fields end)) _ end fields refl
-    refl refl is
-accepted_keeps log (SendFields id fields end) is =
-    block_call log (SendFields id fields end) Done id end fields refl refl refl is
-accepted_keeps log (SendData id octets end) is =
-    quiet_call log (SendData id octets end) (answer_of (log_view log) (SendData id octets end))
-    (data_stay (max_payload_sent log) id octets end _) refl refl is
-accepted_keeps log (Release id count) is =
-    quiet_call log (Release id count) Done (updates_stay id count (ended_in
-    ((log_view log).stream id))) refl refl is
+accepted_keeps log (Open fields end) is = block_call _ _ _ _ _ fields refl refl refl is
+accepted_keeps log (SendFields id fields end) is = block_call _ _ Done _ _ fields refl refl refl is
+accepted_keeps log (SendData id octets end) is = quiet_call _ _ _ (data_stay _ _ _ _ _) refl refl is
+accepted_keeps log (Release id count) is = quiet_call _ _ Done (updates_stay _ _ _) refl refl is
 accepted_keeps log act is = quiet_call log act (answer_of (log_view log) act) refl refl refl is
 
 -- A refused call changes neither lists nor the encoder; nor does one in which memory ran out.

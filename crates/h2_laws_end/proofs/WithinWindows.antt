@@ -55,8 +55,7 @@ within role received before i end octets pad some (inl from) =
 no_data_passes : (role : Role) (values : Values) (log : Log) → IsLog role values log
     → NoDataPassesWindows log
 no_data_passes role values log is after before i end octets pad line some =
-    within role log.received before i end octets pad some
-    (origin_lem role log.received log.sent after before _
+    within _ _ before i end octets pad some (origin_lem role log.received log.sent after before _
     (written_is_allowed role values log is) line)
 
 -- No reply is DATA.
@@ -258,9 +257,7 @@ call_newest log (SendData id octets end) none is =
     together_newest log.received log.sent _ id count
     (λ i. taken_of_stream i most id octets end count (omega (arith, some.0))
     (omega (arith, by_sums))) (omega (arith, all)) (λ goes.
-    let fits = count_fits count (length octets) (given_on id log.received)
-    (total (data_on id) log.sent) (given_on_connection log.received) (total data_of log.sent) goes
-    (sym by_sums) in
+    let fits = count_fits _ _ _ _ _ (total data_of log.sent) goes (sym by_sums) in
     (fits.1, fits.2)) is
 call_newest log (Release id count) none is = quiet_newest log.received _ _ refl
 call_newest log (PutOut count) none is = is

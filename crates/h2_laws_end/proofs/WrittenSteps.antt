@@ -37,12 +37,11 @@ puts_twice one two three older newer a b =
     ++ encoding_of_items (max_payload_sent_by received) older) (sym b.received) in
     record {
       received = b.received ∙ a.received;
-      sent = b.sent ∙ ap (λ (items : List Item). newer ++ items) a.sent
-          ∙ sym (append_assoc newer older one.sent);
-      written = b.written
-          ∙ ap (λ (octets : List ℕ). octets ++ encoding_of_items most newer) before
-          ∙ append_assoc one.written (encoding_of_items most older) (encoding_of_items most newer)
-          ∙ ap (λ (octets : List ℕ). one.written ++ octets) (sym (written_after most newer older));
+      sent = b.sent ∙ ap (λ (items : List Item). newer ++ items) a.sent ∙ sym
+          (append_assoc _ _ one.sent);
+      written = b.written ∙ ap (λ (octets : List ℕ). octets ++ encoding_of_items most newer) before
+          ∙ append_assoc one.written (encoding_of_items most older) (encoding_of_items most newer) ∙
+          ap (λ (octets : List ℕ). one.written ++ octets) (sym (written_after most newer older));
     }
 
 -- Items are written.
@@ -91,8 +90,7 @@ pub puts_items : (log base : Log) (items : List Item) (more : ℕ) → base.rece
 puts_items log base items more received sent written =
     let credit = credit_of more (with_sent base items) in (
       credit,
-      puts_twice log (with_sent base items) (with_unreturned more (with_sent base items)) items
-          credit.items (record {
+      puts_twice _ _ _ items credit.items (record {
             received = (puts_sent base items).received ∙ received;
             sent = (puts_sent base items).sent ∙ ap (λ (older : List Item). items ++ older) sent;
             written = (puts_sent base items).written ∙ ap (λ (octets : List ℕ). octets
@@ -136,15 +134,13 @@ writes_items : (log base : Log) (items : List Item) (more : ℕ) → base.sent �
     → base.written ≡ log.written → Writes log (with_unreturned more (with_sent base items)) items
 writes_items log base items more sent written =
     let puts = puts_items base base items more refl refl refl in
-    writes_from log base _ items sent written
-    (writes_last base _ items puts.0.items puts.0.is_credit puts.1)
+    writes_from _ _ _ _ sent written (writes_last base _ items puts.0.items puts.0.is_credit puts.1)
 
 -- What a call owes is written.
 call_items : (log : Log) (act : Act) (answer : Answer)
     → Writes log (with_items log act answer) (items_of (log_view log) act answer)
 unfolding with_items
-call_items log act answer =
-    writes_items log (called log act answer) (items_of (log_view log) act answer) _ refl refl
+call_items log act answer = writes_items _ _ (items_of (log_view log) act answer) _ refl refl
 
 -- A call that puts output out writes credit alone.
 put_out_writes : (log : Log) (count given : ℕ)
@@ -163,8 +159,7 @@ answered_writes : (log : Log) (act : Act)
     → Writes log (with_call log act (answer_of (log_view log) act)) (items_of (log_view log) act
     (answer_of (log_view log) act))
 unfolding with_call items_of refused_with
-answered_writes log (Refuse id code) up =
-    rw (up id code refl) (call_items log (Refuse id code) Done)
+answered_writes log (Refuse id code) up = rw (up id code refl) (call_items _ _ Done)
 answered_writes log (PutOut count) up = put_out_writes log count _
 answered_writes log act up = call_items log act _
 
@@ -203,5 +198,4 @@ pub item_writes : (log : Log) (decoded : Option Decoded) (item : Item)
     → ((code : Code) → verdict_of (log_view log) decoded item ≡ ConnectionFault code → ⊥)
     → Writes log (with_item log decoded item)
     (replies_to (verdict_of (log_view log) decoded item) item)
-item_writes log decoded item up =
-    verdict_writes log decoded item (verdict_of (log_view log) decoded item) up
+item_writes log decoded item up = verdict_writes _ _ _ (verdict_of (log_view log) decoded item) up

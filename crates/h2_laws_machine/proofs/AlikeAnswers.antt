@@ -44,8 +44,7 @@ put_out_by : (values : Values) (e : End) (log : Log) (count : ℕ) (failed : Opt
 put_out_by values e log count (Some code) is represents =
     failed_puts_out (end_view e) (log_view log) count code is (sym represents.failed ∙ is)
     (waits_much e log represents.output)
-put_out_by values e log count None is represents =
-    answer_alike values e log (PutOut count) represents is
+put_out_by values e log count None is represents = answer_alike _ _ _ (PutOut count) represents is
 
 -- Output is put out alike, whether the connection has failed or not.
 pub put_out_alike : (values : Values) (e : End) (log : Log) (count : ℕ) → Represents values e log
@@ -109,5 +108,4 @@ waiting_alike values e log represents = waits_much e log represents.output
 pub live_alike : (values : Values) (e : End) (log : Log) (id : ℕ) → Represents values e log
     → (if is_some e.failed || first_active id (map.entries e.streams.entries) == 0 then None
     else Some (first_active id (map.entries e.streams.entries))) ≡ reader_next_live log id
-live_alike values e log id represents =
-    rw (represents.failed, next_alike values e log id represents) refl
+live_alike values e log id represents = rw (represents.failed, next_alike _ _ _ id represents) refl

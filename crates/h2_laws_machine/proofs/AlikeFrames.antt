@@ -23,8 +23,7 @@ pub verdict_alike : (values : Values) (e : End) (log : Log) (decoded : Option De
     → verdict_of (end_view (with_begun e None)) decoded item
     ≡ verdict_of (log_view (record log { begun = None })) decoded item
 verdict_alike values e log decoded item represents up =
-    over_limits_same (with_begun e None) (record log { begun = None }) decoded item
-    (waits_of values e log represents)
+    over_limits_same _ (record log { begun = None }) _ item (waits_of values e log represents)
     (sound_begun log None (sound_log e.role values log represents.came
     (sym represents.failed ∙ up)))
     (going_begun e log None (going e log represents.streams (represents.running up)))
@@ -46,9 +45,8 @@ pub events_alike : (values : Values) (e : End) (log : Log) (decoded : Option Dec
     (verdict_of (log_view (record log { begun = None })) decoded item) item
 events_alike values e log decoded item represents up =
     ap (λ (verdict : Verdict). events_of (end_view (with_begun e None)) decoded verdict item)
-    (verdict_alike values e log decoded item represents up)
-    ∙ events_by (end_view (with_begun e None)) (log_view (record log { begun = None })) decoded
-    (verdict_of (log_view (record log { begun = None })) decoded item) item
+    (verdict_alike _ _ _ _ _ represents up) ∙ events_by _ (log_view (record log { begun = None })) _
+    (verdict_of (log_view (record log { begun = None })) decoded item) _
     (represents.running up).goaway.least_received
 
 -- They are the same where the octets of the frame that ends the item were used.
@@ -71,8 +69,7 @@ events_used values e log octets frame decoded item represents up =
     } in
     ap (λ (verdict : Verdict). events_of (end_view (with_begun e None)) decoded verdict item)
     (over_limits_same (with_begun e None) after decoded item (waits_of values e log represents)
-    (sound_begun log None (sound_log e.role values log represents.came
-    (sym represents.failed ∙ up)))
+    (sound_begun log None (sound_log _ _ log represents.came (sym represents.failed ∙ up)))
     (going_begun e log None (going e log represents.streams (represents.running up))))
     ∙ events_by (end_view (with_begun e None)) (log_view after) decoded
     (verdict_of (log_view after) decoded item) item (represents.running up).goaway.least_received

@@ -6,11 +6,10 @@ use Names.{InternalError, Role, Values, Act, Answer, OutOfMemory, Refused, IsTyp
 use Names.{max_output, max_resets, log_view, Log, waiting, resets_written, active_count, View}
 use Names.{Refusal, MayAnswer, accepts, refuses, lacks, fails, refusal_of, answer_of}
 use Names.{may_fail_for_memory, IsLog, begins, took_some, took_one, met_fault, ran_out_of_memory}
-use Names.{reported_one, called_one, log_represents, End, end_view, close_unprocessed, new_end}
-use Names.{unprocessed_of_end, Represents, max_active, end_after, Memory, TakesPart, TakesFrame}
-use Names.{TakesFault, MayRunOutOfMemory, IsBounded, goaway_size, MachineStep, uses_part}
-use Names.{ends_frame, meets_fault, runs_out_of_memory, is_called, MayStep, log_after}
-use Names.{machine_after}
+use Names.{reported_one, called_one, log_represents, End, end_view, new_end, Represents, max_active}
+use Names.{end_after, Memory, TakesPart, TakesFrame, TakesFault, MayRunOutOfMemory, IsBounded}
+use Names.{goaway_size, MachineStep, uses_part, ends_frame, meets_fault, runs_out_of_memory}
+use Names.{is_called, MayStep, log_after, machine_after}
 use Rattle.h2_laws_machine.proofs.BoundsOfSteps.{call_bounded, new_bounded, frame_bounded, is_up}
 use Rattle.h2_laws_machine.proofs.BoundsOfSteps.{is_bounded, failed_bounded, ended_up}
 use Rattle.h2_laws_machine.proofs.CallLaw.{up_since}
@@ -24,8 +23,7 @@ use Rattle.h2_laws_machine.proofs.WaitingOutput.{waits_much}
 accepted_bounded : (e : End) (view : View) (act : Act) → refusal_of (end_view e) act ≡ None
     → IsTypedAct act → IsBounded e → IsBounded (end_after e act (answer_of view act))
 unfolding end_after
-accepted_bounded e view (Open fields end) free typed bounded =
-    call_bounded e (Open fields end) free typed bounded
+accepted_bounded e view (Open fields end) free typed bounded = call_bounded _ _ free typed bounded
 accepted_bounded e view act free typed bounded = call_bounded e act free typed bounded
 
 -- A refused call changes nothing.
@@ -80,9 +78,7 @@ step_bounded values e log (meets_fault octets fault) s (takes, at) bounded =
 step_bounded values e log (runs_out_of_memory octets) s (up, may) bounded =
     failed_bounded e InternalError e.streams.last_processed (is_up e (s.failed ∙ up) bounded)
 step_bounded values e log reports_unprocessed s (up, some) bounded =
-    is_bounded (close_unprocessed e (unprocessed_of_end e.role e.streams.entries e.goaway.received))
-    (ended_up e (unprocessed_of_end e.role e.streams.entries e.goaway.received) 0
-    (is_up e (s.failed ∙ up) bounded))
+    is_bounded _ (ended_up _ _ 0 (is_up e (s.failed ∙ up) bounded))
 step_bounded values e log (is_called act answer) s (typed, may) bounded =
     asked_bounded values e log act answer s typed may bounded
 
@@ -120,11 +116,9 @@ machine_of role values _ (ran_out_of_memory {log = log} is up octets may) =
     (λ own. (up, subst (λ (r : Role). MayRunOutOfMemory r log octets) (sym own) may))
     (machine_of role values log is)
 machine_of role values _ (reported_one {log = log} is up some) =
-    stepped role values log reports_unprocessed is (λ own. (up, some))
-    (machine_of role values log is)
+    stepped _ _ log reports_unprocessed is (λ own. (up, some)) (machine_of role values log is)
 machine_of role values _ (called_one {log = log} is act answer typed may) =
-    stepped role values log (is_called act answer) is (λ own. (typed, may))
-    (machine_of role values log is)
+    stepped _ _ log (is_called act answer) is (λ own. (typed, may)) (machine_of role values log is)
 
 -- At most 262,144 octets wait, and a GOAWAY after a failure.
 pub few_wait : (role : Role) (values : Values) (log : Log) → IsLog role values log

@@ -1,12 +1,11 @@
 -- What is bounded at one end is so at first, and stays so after each frame and each call.
-use Rattle.std.specs.FinMap as map
 use Rattle.h2_wire.specs.Streams.{preface}
 use Rattle.h2_laws_log.proofs.ItemSizes.{size-opening}
 use Rattle.h2_laws_machine.proofs.Names
 use Names.{◌≡◌, ℕ, ◌+◌, ◌≤◌, List, [], ◌∷◌, ◌++◌, length, drop, Option, Some, None, Bool, true}
 use Names.{false, arith, length-append, length-drop, code_number, Frame, GoAway, Settings, Code}
 use Names.{Item, alone, Values, AreInRange, Act, IsTypedAct, refusal_of, Decoded, encoding_of_items}
-use Names.{max_output, max_resets, Role, End, OwnSettings, end_view, owed_entry, close_stream, fail}
+use Names.{max_output, max_resets, Role, End, OwnSettings, end_view, close_stream, fail}
 use Names.{after_frame, after_call, new_end, size-goaway, max_active, same_some, IsValidEncoder}
 use Names.{expected_preface, opening_pairs, goaway_size, IsBounded}
 use Rattle.h2_laws_machine.proofs.EveryCall.{call_keeps}
@@ -87,8 +86,7 @@ bounds_kept = record {
 -- A stream is over.
 pub ended_up : (e : End) (i more : ℕ) → Up e → Up (close_stream e i more)
 ended_up e i more h =
-    returned_keeps bounds_kept (more + owed_entry (map.get e.streams.entries i)) (without_entry e i)
-    (h.0, h.1, omega (arith, h.2), h.3, h.4, h.5)
+    returned_keeps bounds_kept _ (without_entry e i) (h.0, h.1, omega (arith, h.2), h.3, h.4, h.5)
 
 -- A frame was read.
 pub frame_bounded : (e : End) (decoded : Option Decoded) (frame : Frame) → e.failed ≡ None

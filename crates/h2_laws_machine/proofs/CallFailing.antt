@@ -24,8 +24,7 @@ called_failing : (values : Values) (e : End) (log : Log) (act : Act) (answer : A
     → Represents values e log → log.failed ≡ None
     → StreamsOf e.streams (core (with_failure code (last_processed log) (called log act answer)))
 called_failing values e log act answer code quiet represents up =
-    failing_streams e.streams (called log act answer) code (last_processed log)
-    (active_processed e.role values log represents.came up)
+    failing_streams _ _ _ _ (active_processed e.role values log represents.came up)
     (called_streams e.streams (core log) ((act, answer) ∷ log.calls) quiet represents.streams)
 
 -- An end whose connection fails by a call that releases nothing represents its log.
@@ -38,9 +37,8 @@ fails_represent : (values : Values) (e : End) (log : Log) (act : Act) (answer : 
 unfolding last_processed
 fails_represent values e log act answer code quiet represents up came =
     let base = called log act answer in
-    let waits = fails_connection e.role e.failed e.output.waiting base (end_view e).max_payload code
-    e.streams.last_processed (last_processed log) represents.streams.last_processed
-    (waits_of values e log represents) in
+    let waits = fails_connection _ _ _ _ (end_view e).max_payload code e.streams.last_processed
+    (last_processed log) represents.streams.last_processed (waits_of values e log represents) in
     record {
       came = came;
       role = waits.same_role;
@@ -90,9 +88,8 @@ pub out_of_memory_represents : (values : Values) (e : End) (log : Log) (act : Ac
     (with_call log act OutOfMemory)
 unfolding with_call
 out_of_memory_represents values e log act represents typed may up =
-    fails_represent values e log act OutOfMemory InternalError
-    (λ i. released_out_of_memory i act log.calls) represents up
-    (called_one represents.came act OutOfMemory typed may)
+    fails_represent _ _ _ _ OutOfMemory InternalError (λ i. released_out_of_memory i act log.calls)
+    represents up (called_one represents.came act OutOfMemory typed may)
 
 -- Refusing a stream makes the connection fail where the log's does.
 fault_same : (values : Values) (e : End) (log : Log) (code : ℕ) → Represents values e log
@@ -100,8 +97,7 @@ fault_same : (values : Values) (e : End) (log : Log) (code : ℕ) → Represents
     → refuse_fault (end_view e) code ≡ refuse_fault (log_view log) code
 unfolding refuse_fault
 fault_same values e log code represents up =
-    ap (λ (view : View). refuse_fault view code)
-    (views_of_up e log (up_of values e log represents up))
+    ap (λ (view : View). refuse_fault view code) (views_of_up e log (up_of _ _ log represents up))
 
 -- Where a stream may be refused, and the connection doesn't fail, it is active.
 refused_active : (log : Log) (id code : ℕ) → refusal_of (log_view log) (Refuse id code) ≡ None
@@ -155,5 +151,4 @@ pub refuse_represents : (values : Values) (e : End) (log : Log) (id code : ℕ)
     → e.failed ≡ None → Represents values (after_call e (Refuse id code))
     (with_call log (Refuse id code) Done)
 refuse_represents values e log id code represents typed may accepted none up =
-    refuse_by values e log id code (refuse_fault (log_view log) code) refl represents typed may
-    accepted none up
+    refuse_by _ _ _ _ _ _ refl represents typed may accepted none up

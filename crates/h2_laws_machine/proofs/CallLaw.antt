@@ -53,11 +53,10 @@ opened_up : (values : Values) (e : End) (log : Log) (fields : List Field) (end :
 opened_up values e log fields end represents client sound up =
     let written = (log_represents e.role values log represents.came).with_sent in
     let next = next_odd log written in
-    let same : (log_view log).next_number ≡ next_number log =
-    next_of_client log.role (next_number log) client in
+    let same : (log_view log).next_number ≡ next_number log = next_of_client _ _ client in
     let odd : (log_view log).next_number % 2 ≡ 1 = subst (λ (n : ℕ). n % 2 ≡ 1) (sym same) next.0 in
-    let above : greatest_block log.sent < (log_view log).next_number =
-    subst (λ (n : ℕ). greatest_block log.sent < n) (sym same) next.1 in
+    let above : greatest_block log.sent < (log_view log).next_number = subst
+    (λ (n : ℕ). greatest_block log.sent < n) (sym same) next.1 in
     open_up e log fields end client odd above (sound.clear client (log_view log).next_number above)
     up
 
@@ -110,11 +109,10 @@ plain_law : (values : Values) (e : End) (log : Log) (act : Act) → Represents v
     → ((count : ℕ) → act ≡ PutOut count → ⊥) → ((id code : ℕ) → act ≡ Refuse id code → ⊥)
     → Represents values (after_call e act) (with_call log act (answer_by log act))
 plain_law values e log act represents typed may none sound no_put no_refuse =
-    let log_up = up_since log act no_put none in
-    let up = up_of values e log represents (represents.failed ∙ log_up) in
-    represents_after values e log act (answer_by log act) represents typed may
-    (refusal_same values e log act represents ∙ none)
-    (call_up values e log act represents none (sound log_up) no_put no_refuse up)
+    let log_up = up_since _ _ no_put none in
+    let up = up_of _ _ _ represents (represents.failed ∙ log_up) in
+    represents_after _ _ _ _ _ represents typed may (refusal_same _ _ _ _ represents ∙ none)
+    (call_up _ _ _ _ represents none (sound log_up) no_put no_refuse up)
 
 -- After each call that is accepted it does.
 accepted_law : (values : Values) (e : End) (log : Log) (act : Act) → Represents values e log
@@ -131,8 +129,7 @@ accepted_law values e log (Refuse id code) represents typed may none sound =
 accepted_law values e log (PutOut count) represents typed may none sound = put_out_represents values
     e log count represents typed may
 accepted_law values e log act represents typed may none sound =
-    plain_law values e log act represents typed may none sound (λ count same. cc)
-    (λ id code same. cc)
+    plain_law _ _ _ act represents typed may none sound (λ count same. cc) (λ id code same. cc)
 
 -- After a call that is refused it does.
 refused_law : (values : Values) (e : End) (log : Log) (act : Act) (refusal : Refusal)

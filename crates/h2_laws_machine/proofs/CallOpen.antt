@@ -7,7 +7,7 @@ use Names.{◌≡◌, ◌≢◌, ℕ, zero, suc, ◌+◌, ◌-◌, ◌≤◌, �
 use Names.{pos, refl, sym, ap, subst, ◌∙◌, arith, zero-add, suc-add, false_from_ne_true, eq-eqb}
 use Names.{and_left, ints, list_any, Field, block_of, after_block, Item, block, Role, Client}
 use Names.{Server, data_on, increment_on, is_block_on, ends, resets, one_reset, total}
-use Names.{greatest_block, reports_unprocessed, Event, own_value, value_read, openings, count_below}
+use Names.{greatest_block, reports_unprocessed, Event, own_value, openings, count_below}
 use Names.{first_window, given_on, granted_on, window, Log, unreleased, released, log_view, Open}
 use Names.{Number, called, with_items, with_call, items_of, stream_of_act, encoder_after_call, End}
 use Names.{active_entry, StreamView, View, new_stream, with_encoder, after_call, active_by_parts}
@@ -89,10 +89,8 @@ active_new : (c : Core) (i : ℕ) (end : Bool) (octets : List ℕ) → c.role �
 unfolding computing
 active_new c i end octets client odd clear =
     let item = block i end octets in
-    active_by_parts c.role i c.received (block i end octets ∷ c.sent) c.reported
-    (eq-eqb (i % 2) 1 odd) (block_here c.role i end octets c.received c.sent client)
-    (client_above c.role i (block i end octets ∷ c.sent) client)
-    (and_left (list_any (ends i) c.received) _ clear.ended_in) clear.reset_in clear.reset_out
+    active_by_parts _ _ _ _ _ (eq-eqb (i % 2) 1 odd) (block_here _ _ _ _ _ _ client)
+    (client_above _ _ _ client) (and_left _ _ clear.ended_in) clear.reset_in clear.reset_out
     clear.unnamed
 
 -- The log says the same of other streams.
@@ -132,9 +130,7 @@ unfolding computing given_on granted_on
 new_is h c i end octets clear g =
     let item = block i end octets in
     same_stream (opened_stream h end) (said (sends c item) i)
-    (ap (λ (n : ℕ). pos n) g.peer.initial_window
-    ∙ untouched_window (value_read 4 first_window c.received)
-    (total (increment_on i) c.received) (total (data_on i) (item ∷ c.sent)) clear.given
+    (ap (λ (n : ℕ). pos n) g.peer.initial_window ∙ untouched_window _ _ _ clear.given
     (total_quiet (data_on i) item c.sent refl ∙ clear.taken_out))
     (ap (λ (n : ℕ). pos n) (g.own.in_force.initial_window
     ∙ sym (own_quiet 4 first_window (confirmed c) item c.sent refl))
@@ -190,8 +186,7 @@ open_advances h c i end octets client odd above clear g =
             g.streams.entries (λ j other. others_same c j i end octets other)
             (active_new c i end octets client odd clear) (new_is h c i end octets clear g);
         active_count = ap (λ (n : ℕ). n + 1) g.streams.active_count ∙ more;
-        highest = sym (greatest_client c.role c.received (item ∷ c.sent) client
-            ∙ greatest_more i end octets c.sent above);
+        highest = sym (greatest_client _ _ _ client ∙ greatest_more i end octets c.sent above);
         last_processed = g.streams.last_processed;
         resets = g.streams.resets ∙ sym (total_quiet one_reset item c.sent refl);
       };

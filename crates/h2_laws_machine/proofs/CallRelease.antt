@@ -92,12 +92,11 @@ granted_said c id count =
     (said (sends c item) id)
     (ap (window (given_on id c.received)) (sym (total_quiet (data_on id) item c.sent refl)))
     (let more : total (increment_on id) (item ∷ c.sent) ≡ count + total (increment_on id) c.sent =
-    total_one (increment_on id) item c.sent
-    ∙ ap (λ (n : ℕ). n + total (increment_on id) c.sent) (increment_here id count) in
+    total_one (increment_on id) item c.sent ∙ ap (λ (n : ℕ). n + total (increment_on id) c.sent)
+    (increment_here id count) in
     let own = own_quiet 4 first_window (confirmed c) item c.sent refl in
     sym (ap (λ (n : ℕ). window n (total (data_on id) c.received)) (rw (own, more) refl)
-    ∙ more_granted (own_value 4 first_window (confirmed c) c.sent)
-    (total (increment_on id) c.sent) (total (data_on id) c.received) count)) refl refl refl
+    ∙ more_granted (own_value 4 first_window (confirmed c) c.sent) _ _ count)) refl refl refl
 
 -- The peer may send more on an active stream.
 granted_advances : (h : CoreFacts) (c : Core) (id count : ℕ) → active_by_items c id ≡ true
@@ -130,10 +129,7 @@ unfolding computing
 updates_active role received sent reported id count true =
     active_wrote role id (alone (WindowUpdate 0 count)) received sent reported refl refl refl refl
 updates_active role received sent reported id count false =
-    active_wrote role id (alone (WindowUpdate 0 count)) received
-    (alone (WindowUpdate id count) ∷ sent) reported refl refl refl refl
-    ∙ active_wrote role id (alone (WindowUpdate id count)) received sent reported refl refl refl
-    refl
+    active_wrote _ _ _ _ _ _ refl refl refl refl ∙ active_wrote _ _ _ _ _ _ refl refl refl refl
 
 -- the stream after a release
 abbrev stream_released : Core → ℕ → ℕ → Bool → StreamView
@@ -161,16 +157,15 @@ release_advances h c id count false active_is g =
     let next = stream_released c id count false in
     let given = granted_advances _ base id count active_is
     (owed_less_advances h c id count active_is g) in
-    let meant : record (said base id) { recv_window = (said base id).recv_window +ℤ pos count }
-    ≡ next =
+    let meant : record (said base id) { recv_window = (said base id).recv_window +ℤ pos count } ≡
+    next =
     same_stream (record (said base id) { recv_window = (said base id).recv_window +ℤ pos count })
     next refl refl (sym (kept_less c id count)) refl refl in
     let once : map.insert (map.insert h.streams.entries id (active_entry first)) id
     (active_entry (record (said base id) { recv_window = (said base id).recv_window +ℤ pos count }))
     ≡ map.insert h.streams.entries id (active_entry next) =
     ap (λ (s : StreamView). map.insert (map.insert h.streams.entries id (active_entry first)) id
-    (active_entry s)) meant
-    ∙ set_twice h.streams.entries id (active_entry first) (active_entry next) in
+    (active_entry s)) meant ∙ set_twice _ _ (active_entry first) (active_entry next) in
     widened_advances (record h {
       streams = record h.streams { entries = map.insert h.streams.entries id (active_entry next) };
     }) (record base { sent = alone (WindowUpdate id count) ∷ c.sent }) count
@@ -194,13 +189,11 @@ release_up e log id count active_is is =
     } in
     let made = wrote_up e released_one base items is.role is.up is.same refl is.waits is.started
     (release_advances (core_facts e) (core log) id count ended active_is is.going) in
-    let still : active (with_sent base items) id ≡ true =
-    wrote_active base items id ∙ updates_active log.role log.received log.sent log.reported id count
-    ended ∙ active_is in
+    let still : active (with_sent base items) id ≡ true = wrote_active base items id ∙
+    updates_active log.role log.received log.sent log.reported id count ended ∙ active_is in
     let all : Up (after_release (queue_output e items) id count (Some (stream_of_log log id)))
     (with_unreturned (owed_at_close log (with_sent base items) id) (with_sent base items)) =
-    nothing_unreturned _ log (with_sent base items) id
-    (owes_active log (with_sent base items) id still) made in
+    nothing_unreturned _ _ _ id (owes_active log (with_sent base items) id still) made in
     let call = with_call log (Release id count) Done in
     let there : Up (after_release
     (queue_output e (updates id count (ended_in ((log_view log).stream id)))) id count

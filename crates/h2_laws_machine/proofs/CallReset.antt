@@ -4,7 +4,7 @@ use Rattle.h2_laws_machine.proofs.Names
 use Names.{◌≡◌, ◌≢◌, ℕ, ◌+◌, ◌-◌, Bool, true, false, List, [], ◌∷◌, is_some, refl, sym, ap, ◌∙◌}
 use Names.{arith, false_from_ne_true, both_ways, eq-eqb, list_any, Reset, Item, alone, resets}
 use Names.{one_reset, first_window, Log, active, unreleased, released, ResetStream, Done, with_sent}
-use Names.{with_unreturned, owed_at_close, called, with_items, with_call, items_of, stream_of_act}
+use Names.{with_unreturned, owed_at_close, with_items, with_call, items_of, stream_of_act}
 use Names.{encoder_after_call, End, reset_entry, stream_at, owed_entry, StreamView, is_one}
 use Names.{reset_stream, queue_output, after_call, entry_by, active_parts, lasts_parts, total_one}
 use Rattle.h2_laws_machine.proofs.ItemsApart.{reset_apart}
@@ -40,8 +40,7 @@ closed_here : (c : Core) (id code : ℕ)
 closed_here c id code =
     false_from_ne_true _ (λ active_is.
     let news = alone (Reset id code) ∷ c.sent in
-    let lasts = lasts_parts id c.received news
-    (active_parts c.role id c.received news c.reported active_is).lasts in
+    let lasts = lasts_parts id c.received news (active_parts _ _ _ _ c.reported active_is).lasts in
     both_ways _ lasts.kept (reset_here id code c.sent))
 
 -- An active stream was reset.
@@ -61,8 +60,7 @@ reset_advances h c id code count active_is one g =
       reading = g.reading;
       encoder = g.encoder;
       streams = rw one (streams_closed h.streams id _ _ c (sends c item) (others_same c id code)
-          active_is (closed_here c id code)
-          (said_reset h.streams.entries id c (sends c item) g.streams.entries
+          active_is (closed_here c id code) (said_reset _ _ c (sends c item) g.streams.entries
           (others_same c id code) (closed_here c id code) (reset_here id code c.sent))
           (used_wrote c.role item c.received c.sent (λ items. refl)) refl
           (omega (arith, g.streams.resets, total_one one_reset item c.sent)) g.streams);
@@ -88,8 +86,8 @@ pub reset_up : (e : End) (log base : Log) (id code : ℕ) → active log id ≡ 
 unfolding unreleased
 reset_up e log base id code was active_is is =
     let items = alone (Reset id code) ∷ [] in
-    let one : is_one (is_some (stream_at e id)) ≡ 1 =
-    ap is_one (active_agrees e base id is.going.streams ∙ active_is) in
+    let one : is_one (is_some (stream_at e id)) ≡ 1 = ap is_one
+    (active_agrees e base id is.going.streams ∙ active_is) in
     let wrote_it = wrote_up e (record e {
       streams = record e.streams {
         entries = map.insert e.streams.entries id reset_entry;
@@ -98,16 +96,14 @@ reset_up e log base id code was active_is is =
       };
     }) base items is.role is.up is.same refl is.waits is.started
     (reset_advances (core_facts e) (core base) id code _ active_is one is.going) in
-    let closed : active (with_sent base items) id ≡ false = wrote_active base items id
-    ∙ closed_here (core base) id code in
-    let owing : owed_at_close log (with_sent base items) id ≡ unreleased base id =
-    owes_all log (with_sent base items) id was closed ∙ wrote_owes base items id in
-    let entry : owed_entry (map.get e.streams.entries id) ≡ kept_back (core base) id =
-    ap owed_entry (is.going.streams.entries id)
-    ∙ entry_owes (active base id) (list_any (resets id) base.sent) (said (core base) id)
-    active_is in
-    let owed : 0 + owed_entry (map.get e.streams.entries id) ≡ unreleased base id =
-    omega (arith, entry) in
+    let closed : active (with_sent base items) id ≡ false = wrote_active base items id ∙ closed_here
+    (core base) id code in
+    let owing : owed_at_close log (with_sent base items) id ≡ unreleased base id = owes_all log
+    (with_sent base items) id was closed ∙ wrote_owes base items id in
+    let entry : owed_entry (map.get e.streams.entries id) ≡ kept_back (core base) id = ap owed_entry
+    (is.going.streams.entries id) ∙ entry_owes _ _ (said (core base) id) active_is in
+    let owed : 0 + owed_entry (map.get e.streams.entries id) ≡ unreleased base id = omega
+    (arith, entry) in
     with_unreturned_up _ (with_sent base items) _ _ (owed ∙ sym owing) wrote_it
 
 -- A stream is reset by a call.
@@ -115,5 +111,4 @@ pub reset_call_up : (e : End) (log : Log) (id code : ℕ) → active log id ≡ 
     → Up (after_call e (ResetStream id code)) (with_call log (ResetStream id code) Done)
 unfolding after_call with_call with_items items_of stream_of_act encoder_after_call released
 reset_call_up e log id code active_is is =
-    reset_up e log (called log (ResetStream id code) Done) id code active_is active_is
-    (called_up e log (ResetStream id code) Done refl (λ i. refl) is)
+    reset_up _ _ _ _ _ active_is active_is (called_up _ _ _ Done refl (λ i. refl) is)

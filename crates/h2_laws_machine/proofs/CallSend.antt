@@ -49,8 +49,7 @@ unfolding unreleased
 sent_by e f log base id items n end send_window here true over was active_is is a conserved role up
     same peer waits started run =
     let s = stream_with (core base) id send_window end in
-    let ran = over_advances (core_facts f) (core base) id (items ++ base.sent) n end s here
-    active_is over a conserved run in
+    let ran = over_advances (core_facts f) (core base) _ _ _ _ s _ active_is over a conserved run in
     let wrote_them = wrote_up e (record f {
       streams = record f.streams {
         entries = map.remove (map.insert f.streams.entries id (active_entry s)) id;
@@ -58,12 +57,12 @@ sent_by e f log base id items n end send_window here true over was active_is is 
       };
       windows = record f.windows { send = here };
     }) base items role up same peer waits started ran in
-    let closed : active (with_sent base items) id ≡ false = wrote_active base items id
-    ∙ closed_here (core base) id (items ++ base.sent) n end over a in
-    let owing : owed_at_close log (with_sent base items) id ≡ unreleased base id =
-    owes_all log (with_sent base items) id was closed ∙ wrote_owes base items id in
-    let owed : 0 + owed_entry (map.get (map.insert f.streams.entries id (active_entry s)) id)
-    ≡ unreleased base id = rw (get_set_same f.streams.entries id (active_entry s)) (omega arith) in
+    let closed : active (with_sent base items) id ≡ false = wrote_active base items id ∙ closed_here
+    (core base) id (items ++ base.sent) n end over a in
+    let owing : owed_at_close log (with_sent base items) id ≡ unreleased base id = owes_all log
+    (with_sent base items) id was closed ∙ wrote_owes base items id in
+    let owed : 0 + owed_entry (map.get (map.insert f.streams.entries id (active_entry s)) id) ≡
+    unreleased base id = rw (get_set_same f.streams.entries id (active_entry s)) (omega arith) in
     with_unreturned_up _ (with_sent base items) _ _ (owed ∙ sym owing) wrote_them
 sent_by e f log base id items n end send_window here false goes was active_is is a conserved role up
     same peer waits started run =
@@ -74,10 +73,9 @@ sent_by e f log base id items n end send_window here false goes was active_is is
       streams = record f.streams { entries = map.insert f.streams.entries id (active_entry s) };
       windows = record f.windows { send = here };
     }) base items role up same peer waits started ran in
-    let still : active (with_sent base items) id ≡ true = wrote_active base items id
-    ∙ active_here (core base) id (items ++ base.sent) n end active_is goes a in
-    nothing_unreturned _ log (with_sent base items) id
-    (owes_active log (with_sent base items) id still) wrote_them
+    let still : active (with_sent base items) id ≡ true = wrote_active base items id ∙ active_here
+    (core base) id (items ++ base.sent) n end active_is goes a in
+    nothing_unreturned _ _ _ id (owes_active log (with_sent base items) id still) wrote_them
 
 -- Items are written on an active stream, which continues or is closed.
 sent_up : (e f : End) (log base : Log) (id : ℕ) (items : List Item) (n : ℕ) (end : Bool)
@@ -107,14 +105,13 @@ fields_up e log id fields end active_is goes is =
     let ran = called_going e log (SendFields id fields end) Done (after_block log.encoder fields)
     refl (λ i. refl) run in
     let opened = (active_parts log.role id log.received log.sent log.reported active_is).opened in
-    let conserved : e.windows.send + (0 + total data_of log.sent) ≡ given_on_connection
-    log.received = omega (arith, run.windows.send) in
+    let conserved : e.windows.send + (0 + total data_of log.sent) ≡ given_on_connection log.received
+    = omega (arith, run.windows.send) in
     let consumed : 0 + total (data_on id) log.sent ≡ total (data_on id) log.sent = omega arith in
     let sent_data = sent_up e (record e
     { output = record e.output { encoder = after_block log.encoder fields } }) log base id
-    (block id end (block_of log.encoder fields) ∷ []) 0 end
-    (send_window log id) e.windows.send active_is active_is
-    (ap (window (given_on id log.received)) (sym consumed))
+    (block id end (block_of log.encoder fields) ∷ []) 0 end (send_window log id) e.windows.send
+    active_is active_is (ap (window (given_on id log.received)) (sym consumed))
     (adds_block log.role log.received id end (block_of log.encoder fields) log.sent opened goes)
     conserved is.role is.up is.same refl is.waits is.started ran in
     let act = SendFields id fields end in
@@ -124,7 +121,7 @@ fields_up e log id fields end active_is goes is =
     (after_fields_sent (queue_by e (view_beside e log) act) id end stream) call)
     (sym (stream_there log id active_is)) sent_data in
     subst (λ (view : View). Up (after_fields_sent (queue_by e view act) id end (view.stream id))
-    call) (sym (views_of_up e log is)) there
+    call) (sym (views_of_up _ _ is)) there
 
 -- How many octets go is within each of these.
 record IsWithin (e : End) (log : Log) (id most count : ℕ) : Type 0 where
@@ -137,8 +134,7 @@ count_within : (e : End) (log : Log) (id count : ℕ) → Going e (core log)
 count_within e log id count h =
     let given = given_on_connection log.received in
     let taken = total data_of log.sent in
-    let part : at_least_none (window given taken) ≡ given - taken = natural_by (window given taken)
-    given taken refl in
+    let part : at_least_none (window given taken) ≡ given - taken = natural_by _ _ taken refl in
     let send_window = h.windows.send in
     record { whole = omega arith; send_window = omega arith }
 
@@ -168,8 +164,7 @@ data_by : (e : End) (log : Log) (id : ℕ) (octets : List ℕ) (end : Bool) (cou
 unfolding with_sent released encoder_after_call unreleased
 data_by e log id octets end count true active_is goes within is =
     let base = called log (SendData id octets end) (Count count) in
-    nothing_unreturned e log base id (owes_active log base id active_is)
-    (called_up e log (SendData id octets end) (Count count) refl (λ i. refl) is)
+    nothing_unreturned _ _ _ _ (owes_active _ _ _ active_is) (called_up _ _ _ _ refl (λ i. refl) is)
 data_by e log id octets end count false active_is goes within is =
     let run = is.going in
     let base = called log (SendData id octets end) (Count count) in
@@ -178,17 +173,16 @@ data_by e log id octets end count false active_is goes within is =
     let last = end && count == length octets in
     let size : length (take count octets) ≡ count = length-take-le count octets within.whole in
     let items = data_frames (suc count) (end_view e).max_payload id (take count octets) last in
-    let adds : Adds log.role log.received id log.sent (items ++ log.sent) count last =
-    subst (λ (n : ℕ). Adds log.role log.received id log.sent (items ++ log.sent) n last) size
+    let adds : Adds log.role log.received id log.sent (items ++ log.sent) count last = subst
+    (λ (n : ℕ). Adds log.role log.received id log.sent (items ++ log.sent) n last) size
     (adds_all (suc count) log.role log.received id (end_view e).max_payload last (take count octets)
     log.sent goes (omega arith) (omega arith)) in
     let fits = within.send_window in
-    let conserved : (e.windows.send - count) + (count + total data_of log.sent)
-    ≡ given_on_connection log.received = omega (arith, run.windows.send) in
+    let conserved : (e.windows.send - count) + (count + total data_of log.sent) ≡
+    given_on_connection log.received = omega (arith, run.windows.send) in
     sent_up e e log base id items count last (send_window log id -ℤ pos count)
-    (e.windows.send - count) active_is active_is
-    (less_send_window (given_on id log.received) (total (data_on id) log.sent) count) adds conserved
-    is.role is.up is.same refl is.waits is.started ran
+    (e.windows.send - count) active_is active_is (less_send_window _ _ count) adds conserved is.role
+    is.up is.same refl is.waits is.started ran
 
 -- Octets of a body are sent.
 pub data_up : (e : End) (log : Log) (id : ℕ) (octets : List ℕ) (end : Bool) → active log id ≡ true

@@ -158,8 +158,7 @@ adds_frames : (count : ℕ) (role : Role) (received : List Item) (id most : ℕ)
 unfolding data_frames
 adds_frames zero role received id most end octets sent mid k enough some a = absurd (omega arith)
 adds_frames (suc count) role received id most end octets sent mid k enough some a =
-    frames_by role received id most end octets sent mid
-    (data_frames count most id (drop most octets) end) k (nat_le (length octets) most) refl a
+    frames_by _ _ _ _ _ _ _ _ _ _ (nat_le (length octets) most) refl a
     (λ more front. adds_frames count role received id most end (drop most octets) sent
     (alone (Data id false (take most octets) None) ∷ mid)
     (length (take most octets) + k) (omega (arith, length-drop most octets)) some front)
@@ -172,5 +171,4 @@ pub adds_all : (count : ℕ) (role : Role) (received : List Item) (id most : ℕ
 adds_all count role received id most end octets sent goes enough some =
     let none : length octets + 0 ≡ length octets = omega arith in
     subst (λ (n : ℕ). Adds role received id sent (data_frames count most id octets end ++ sent) n
-    end) none (adds_frames count role received id most end octets sent sent 0 enough some
-    (adds_none role received id sent goes))
+    end) none (adds_frames _ _ _ _ _ _ _ _ _ 0 enough some (adds_none role received id sent goes))

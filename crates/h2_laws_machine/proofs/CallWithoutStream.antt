@@ -85,14 +85,13 @@ put_out_waits : (e : End) (log : Log) (count n : ℕ) → n ≡ min count (waiti
     (record log { given = log.given + n })
 unfolding waiting output
 put_out_waits e log count n is w =
-    let size : length (drop log.given log.written) ≡ length log.written - log.given =
-    length-drop log.given log.written in
+    let size : length (drop log.given log.written) ≡ length log.written - log.given = length-drop _
+    _ in
     let most : min count (length (drop log.given log.written)) ≡ n = rw size (sym is) in
     let within = w.given in
     record {
-      waiting = ap (drop count) w.waiting ∙ sym (drop_min count (drop log.given log.written))
-          ∙ ap (λ (k : ℕ). drop k (drop log.given log.written)) most
-          ∙ drop-drop n log.given log.written;
+      waiting = ap (drop count) w.waiting ∙ sym (drop_min count (drop log.given log.written)) ∙ ap
+          (λ (k : ℕ). drop k (drop log.given log.written)) most ∙ drop-drop n log.given log.written;
       given = omega arith;
     }
 
@@ -137,8 +136,7 @@ ready_size : (log : Log) → log.given ≤ length log.written
 unfolding before_put_out waiting output with_sent
 ready_size log given =
     let update = alone (WindowUpdate 0 log.unreturned) ∷ [] in
-    let size : length (encoding_of_items (max_payload_sent log) update) ≡ 13 =
-    size-update (max_payload_sent log) 0 log.unreturned in
+    let size : length (encoding_of_items (max_payload_sent log) update) ≡ 13 = size-update _ 0 _ in
     let more = length-append log.written (encoding_of_items (max_payload_sent log) update) in
     both_by (λ (ready : Log) (n : ℕ). waiting ready ≡ waiting log + n)
     (returns_before_put_out (log_view log)) (omega (arith, more, size, given)) (omega arith)
@@ -174,8 +172,8 @@ put_out_by values e log count n (Some code) failed is represents typed may =
     let here = ready_failed_at e code failed in
     let with_failure : log.failed ≡ Some code = sym represents.failed ∙ failed in
     let there = ready_failed base code with_failure in
-    let same : waiting base ≡ waiting (before_put_out log) = ap waiting (sym there)
-    ∙ ready_waits log (PutOut count) (Count n) in
+    let same : waiting base ≡ waiting (before_put_out log) = ap waiting (sym there) ∙ ready_waits
+    log (PutOut count) (Count n) in
     let waits : OutputOf (record e {
       output = record e.output { waiting = drop count e.output.waiting };
     }) (record base { given = log.given + n }) =
@@ -183,8 +181,7 @@ put_out_by values e log count n (Some code) failed is represents typed may =
     represents_made values e log (PutOut count) (Count n) represents typed may (never_refused e
     count) (ap (λ (x : End). x.role) here ∙ represents.role ∙ sym (ap (λ (x : Log). x.role) there))
     (ap (λ (x : End). x.failed) here ∙ represents.failed ∙ sym (ap (λ (x : Log). x.failed) there))
-    (rw (here, there) waits)
-    (rw (here, there) (called_streams e.streams (core log) ((PutOut count, Count n) ∷ log.calls)
+    (rw (here, there) waits) (rw (here, there) (called_streams _ (core log) _
     (λ i. refl) represents.streams))
     (λ up. let wrong : Some code ≡ None = sym failed ∙ sym (ap (λ (x : End). x.failed) here)
     ∙ up in absurd (cc))

@@ -146,9 +146,7 @@ window_kept = record {
 pub ended : (e : End) (i more : ℕ) → Lacks more e → Holds (close_stream e i more)
 ended e i more h =
     window_kept.kept (close_stream e i more) (returned_keeps window_kept
-    (more + owed_entry (map.get e.streams.entries i)) _
-    (entry_removed e.windows.recv e.windows.unreturned more e.streams.highest e.streams.entries i
-    h))
+    (more + owed_entry (map.get e.streams.entries i)) _ (entry_removed _ _ _ _ _ i h))
 
 -- A frame was read.
 pub frame_holds : (e : End) (decoded : Option Decoded) (frame : Frame) → Holds e

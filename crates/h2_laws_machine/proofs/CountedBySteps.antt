@@ -5,8 +5,8 @@ use Rattle.h2_laws_machine.proofs.Names
 use Names.{◌≡◌, ℕ, ◌+◌, ◌-◌, ◌<◌, ◌≤◌, None, Option, Some, is_some, refl, sym, ap, ◌∙◌, arith}
 use Names.{nat_cmp, Frame, Values, Act, refusal_of, Decoded, value_after, StreamView, Role, End}
 use Names.{StreamEntry, StreamMap, active_entry, reset_entry, end_view, stream_in, stream_at}
-use Names.{owed_entry, close_stream, shifted_entry, recv_shifted_entry, each_entry, is_one}
-use Names.{after_frame, after_call, new_end, get_removed_none, CountsEntries}
+use Names.{close_stream, shifted_entry, recv_shifted_entry, each_entry, is_one, after_frame}
+use Names.{after_call, new_end, get_removed_none, CountsEntries}
 use Rattle.h2_laws_machine.proofs.ConservedBySteps.{clear_after}
 use Rattle.h2_laws_machine.proofs.EntryCounts.{one_active, one_reset, count_in, count-insert}
 use Rattle.h2_laws_machine.proofs.EntryCounts.{count-remove, count-each, count-empty}
@@ -141,8 +141,7 @@ counts_kept = record {
 pub counts_ended : (e : End) (i more : ℕ) (stream : StreamView) → stream_at e i ≡ Some stream
     → Counted e → Counted (close_stream e i more)
 counts_ended e i more stream active h =
-    returned_keeps counts_kept
-    (more + owed_entry (map.get e.streams.entries i)) _ (entry_removed e i stream active h)
+    returned_keeps counts_kept _ _ (entry_removed e i stream active h)
 
 -- A frame was read.
 pub frame_counts : (e : End) (decoded : Option Decoded) (frame : Frame) → Counted e

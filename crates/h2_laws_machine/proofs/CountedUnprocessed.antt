@@ -31,7 +31,6 @@ pub unprocessed_counts : (e : End) (i : ℕ)
     → i ≡ unprocessed_of_end e.role e.streams.entries e.goaway.received → i ≢ 0
     → CountsEntries e → CountsEntries (close_unprocessed e i)
 unprocessed_counts e i is some h =
-    let active =
-    next_active e.role e.streams.entries e.goaway.received (λ zero. some (is ∙ zero)) in
+    let active = next_active _ _ e.goaway.received (λ zero. some (is ∙ zero)) in
     let same : stream_at e i ≡ Some active.0 = ap (λ (j : ℕ). stream_at e j) is ∙ active.1 in
     is_counted (close_unprocessed e i) (counts_ended e i 0 active.0 same (counted e h))

@@ -54,8 +54,7 @@ count_inserted : (counts : Option StreamEntry → ℕ) → counts None ≡ 0 →
 unfolding count_of
 count_inserted counts empty k v [] h = omega (arith, empty)
 count_inserted counts empty k v (e ∷ es) h =
-    count_inserted_by counts empty k v e es (nat_cmp k e.0) refl
-    (first (below_all nat_cmp e.0 es) (map.is_sorted nat_cmp es) h)
+    count_inserted_by counts empty k v e es (nat_cmp k e.0) refl (first _ _ h)
     (count_inserted counts empty k v es
     (second (below_all nat_cmp e.0 es) (map.is_sorted nat_cmp es) h))
 
@@ -79,13 +78,12 @@ count_removed_by counts empty m k None is =
     ap (count_in counts) (gone m k is) in
     omega (arith, same, empty)
 count_removed_by counts empty m k (Some v) is =
-    let set : count_in counts (map.insert (map.remove m k) k v)
-    + counts (map.get (map.remove m k) k)
-    ≡ count_in counts (map.remove m k) + counts (Some v) =
+    let set : count_in counts (map.insert (map.remove m k) k v) + counts
+    (map.get (map.remove m k) k) ≡ count_in counts (map.remove m k) + counts (Some v) =
     count-insert counts empty (map.remove m k) k v in
-    let back : count_in counts (map.insert (map.remove m k) k v) ≡ count_in counts m =
-    ap (count_in counts) (inserted_again m k v is) in
-    let none : counts (map.get (map.remove m k) k) ≡ 0 = ap counts (get_removed_same m k) ∙ empty in
+    let back : count_in counts (map.insert (map.remove m k) k v) ≡ count_in counts m = ap
+    (count_in counts) (inserted_again m k v is) in
+    let none : counts (map.get (map.remove m k) k) ≡ 0 = ap counts (get_removed_same _ _) ∙ empty in
     omega (arith, set, back, none)
 
 -- the sum after an entry that is removed
@@ -122,8 +120,7 @@ pub count-each : (counts : Option StreamEntry → ℕ) (change : StreamEntry
     → ((x : StreamEntry) → counts (Some (change x)) ≡ counts (Some x))
     → count_in counts (each_entry change m) ≡ count_in counts m
 count-each counts change m keeps =
-    ap (count_of counts) (entries_changed change m)
-    ∙ count_changed counts change (map.entries m) keeps
+    ap (count_of counts) (entries_changed _ _) ∙ count_changed counts change (map.entries m) keeps
 
 -- How many entries are active is their sum.
 pub active_counted : (es : List (ℕ × StreamEntry)) → count_active es ≡ count_of one_active es

@@ -7,7 +7,7 @@ use Names.{length, Option, Some, None, refl, sym, ap, ◌∙◌, arith, length-a
 use Names.{ProtocolError, InternalError, Frame, Settings, wire_fault_code, Item, Begun, Role}
 use Names.{Values, Event, UnprocessedEvent, one_settings, settings_count, Log, next_unprocessed}
 use Names.{log_view, Verdict, ConnectionFault, Decoded, FrameStep, fails_with, begins_block}
-use Names.{completes, verdict_of, may_be_first, frame_step, grouping_step, grouped, read, with_sent}
+use Names.{completes, may_be_first, frame_step, grouping_step, grouped, read, with_sent}
 use Names.{with_reported, with_unreturned, owed_at_close, with_verdict, with_step, with_frame, used}
 use Names.{took_none, opened, with_call, IsLog, begins, took_some, took_one, met_fault}
 use Names.{ran_out_of_memory, reported_one, called_one, count_next, settings_one, End, Represents}
@@ -38,9 +38,7 @@ read_received : (log : Log) (decoded : Option Decoded) (item : Item) (replies : 
     events).received ≡ item ∷ log.received
 read_received log decoded item replies more events =
     let first = with_sent (read log decoded item) replies in
-    reported_received (with_unreturned more first) events
-    ∙ (grows_with_unreturned more first).received
-    ∙ (grows_wrote (read log decoded item) replies).received
+    reported_received _ _ ∙ (grows_with_unreturned _ _).received ∙ (grows_wrote _ _).received
 
 -- So it is where the connection doesn't fail.
 verdict_received : (log : Log) (decoded : Option Decoded) (item : Item) (v : Verdict)
@@ -59,9 +57,7 @@ item_counts : (log : Log) (decoded : Option Decoded) (item : Item)
 unfolding with_step
 item_counts log decoded item up =
     let before = record log { begun = None } in
-    ap settings_count (verdict_received before decoded item (verdict_of (log_view before) decoded
-    item) up)
-    ∙ count_next item log.received
+    ap settings_count (verdict_received before _ _ _ up) ∙ count_next item log.received
 
 -- After a frame there are no fewer SETTINGS.
 step_counts : (log : Log) (decoded : Option Decoded) (step : FrameStep)
@@ -107,8 +103,7 @@ frame_counts log decoded frame true none s up =
 frame_counts log decoded frame false some s up =
     let after = record log { frames = log.frames ++ frame ∷ [] } in
     let more = step_counts after decoded (frame_step (log_view log) frame) up in
-    let before : settings_count log.received ≢ 0 = eqb-false (settings_count log.received) 0 (sym s
-    ∙ some) in
+    let before : settings_count log.received ≢ 0 = eqb-false _ 0 (sym s ∙ some) in
     omega (arith, more, before)
 
 -- A frame keeps this.
@@ -138,8 +133,7 @@ none_start : (log : Log) → StartsWithSettings log → StartsWithSettings (took
 none_start log s =
     let event = UnprocessedEvent (next_unprocessed log) in
     let more = owed_at_close log (with_reported log (event ∷ [])) (next_unprocessed log) in
-    same_start log (took_none log)
-    (reported_frames (with_unreturned more log) (event ∷ []) ∙ returned_frames log more)
+    same_start log (took_none log) (reported_frames _ _ ∙ returned_frames log more)
     (reported_received (with_unreturned more log) (event ∷ [])
     ∙ (grows_with_unreturned more log).received) s
 
@@ -167,5 +161,4 @@ starts_with_settings role values _ (called_one {log = log} is act answer typed m
 pub started_with_settings : (values : Values) (e : End) (log : Log) → Represents values e log
     → e.failed ≡ None → e.reading.started ≡ not (settings_count log.received == 0)
 started_with_settings values e log s up =
-    (s.running up).started ∙ ap not (starts_with_settings e.role values log s.came (sym s.failed
-    ∙ up))
+    (s.running up).started ∙ ap not (starts_with_settings _ _ log s.came (sym s.failed ∙ up))

@@ -23,10 +23,9 @@ unfolding ends data_on greatest_block
 item_low received sent (block stream end octets) i allowed above =
     (rw (ne_eqb stream i (λ same. omega arith)) refl, refl)
 item_low received sent (alone (Data stream end octets pad)) i allowed above =
-    let low = block_below stream sent
-    (active_parts Client stream received sent [] (allowed.1).goes_on.active).opened in
+    let low = block_below _ _ (active_parts Client _ _ _ [] (allowed.1).goes_on.active).opened in
     let other : stream ≢ i = λ same. omega arith in
-    (rw (ne_eqb stream i other) refl, rw (ne_eqb stream i other) refl)
+    (rw (ne_eqb _ _ other) refl, rw (ne_eqb _ _ other) refl)
 item_low received sent item i allowed above = (refl, refl)
 
 -- A client has ended nothing, and sent nothing, of a number above all that it used.
@@ -37,11 +36,10 @@ sent_low _ _ i (starts values ok) above = (refl, refl)
 sent_low _ sent i (reads {received = received} item with_sent) above =
     sent_low received sent i with_sent above
 sent_low received _ i (writes {sent = sent} item with_sent allowed) above =
-    let here = item_low received sent item i allowed above in
+    let here = item_low _ _ item i allowed above in
     let before = sent_low received sent i with_sent
     (let low = greatest_after (item ∷ []) sent in omega arith) in (
-      any_quiet (ends i) item sent here.0
-          ∙ before.0,
+      any_quiet (ends i) item sent here.0 ∙ before.0,
       omega (arith, total_one (data_on i) item sent, here.1, before.1),
     )
 
@@ -65,8 +63,8 @@ clear_of role values log came up client i above =
     let represents = log_represents role values log came in
     let up_log = up_log_of role values log came up in
     let unseen = up_log.clear client i above in
-    let with_sent : AllowedHistory Client log.received log.sent =
-    subst (λ (r : Role). AllowedHistory r log.received log.sent) client represents.with_sent in
+    let with_sent : AllowedHistory Client log.received log.sent = subst
+    (λ (r : Role). AllowedHistory r log.received log.sent) client represents.with_sent in
     let sent = sent_low log.received log.sent i with_sent above in
     let unused = idle_above log.role i log.received log.sent client above in
     let nonzero : i ≢ 0 = λ none. omega arith in
@@ -83,8 +81,7 @@ clear_of role values log came up client i above =
       granted = omega arith;
       taken_out = sent.1;
       unnamed = unseen.unnamed;
-      owed = unreleased_none log i
-          ((represents.good up).opened i (unopened log.role log.received log.sent i client above));
+      owed = unreleased_none log i ((represents.good up).opened i (unopened _ _ _ i client above));
     }
 
 -- Every log that hasn't failed is sound.
@@ -99,5 +96,4 @@ pub calls_represent : (values : Values) (e : End) (log : Log) (act : Act) (answe
     → Represents values e log → IsTypedAct act → MayAnswer log act answer
     → Represents values (end_after e act answer) (with_call log act answer)
 calls_represent values e log act answer represents typed may =
-    call_law values e log act answer (sound_of e.role values log represents.came) represents typed
-    may
+    call_law values e log act answer (sound_of _ _ log represents.came) represents typed may

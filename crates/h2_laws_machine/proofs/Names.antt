@@ -56,7 +56,7 @@ pub use Rattle.std.proofs.Common.{Option, ap, ◌∷◌, None, [], ◌≤◌, So
 pub use Rattle.std.proofs.Common.{length, ◌-◌, nat_lt, ◌<◌, subst, ◌&&◌, pos, ◌++◌, not, ◌%◌, ◌||◌}
 pub use Rattle.std.proofs.Common.{inl, inr, is_some, max, zero-add, ◌-ℤ◌, ◌+ℤ◌, ℤ, length-append}
 pub use Rattle.std.proofs.Common.{suc, nat_le, drop, zero, cond, length-drop, min, Equal, Greater}
-pub use Rattle.std.proofs.Common.{Less, Ordering, T, ap₂, take, ◌⊎◌, append-nil, suc-add}
+pub use Rattle.std.proofs.Common.{Less, Ordering, T, ap₂, take, ◌⊎◌, append-nil, suc-add, rules}
 pub use Rattle.std.proofs.lemmas.Bool.{both_ways, false_from_ne_true, ne_eqb, eq-eqb, eqb-true}
 pub use Rattle.std.proofs.lemmas.Bool.{cases_eq, and_parts, ltb-false, ltb-true, or_left, and_right}
 pub use Rattle.std.proofs.lemmas.Bool.{le-ltb, or_cases, or_right, cond_both, lt-ltb, and_from}
@@ -184,3 +184,4 @@ pub use Rattle.h2_laws_log.proofs.UpByLogs.{IsUpInvariant, up_by_logs}
 pub use Rattle.h2_laws_log.proofs.LogHistory.{processed_after, reported_append, none_both}
 pub use Rattle.h2_laws_log.proofs.NoGoAways.{items_none, replies_none}
 pub use Rattle.h2_laws_log.proofs.ReleasedCredit.{gives_elsewhere}
+pub use Rattle.std.proofs.lemmas.Grind.{common_steps}

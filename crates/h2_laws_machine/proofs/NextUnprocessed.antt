@@ -28,8 +28,7 @@ pub next_active_same : (streams : Streams) (log : Log) (id : ℕ) → StreamsOf 
 next_active_same streams log id are =
     two_least _ _ (λ some.
     let n : ℕ = first_active id (map.entries streams.entries) in
-    let f = first_found id (map.entries streams.entries) (map.entries_sorted streams.entries)
-    some in
+    let f = first_found _ _ (map.entries_sorted streams.entries) some in
     let kept : map.get streams.entries n ≡ Some f.x = map.get-entries streams.entries n ∙ f.found in
     let alive : active log n ≡ true = living_is_active (active log n) (list_any (resets n) log.sent)
     (said (core log) n) f.x (sym (are.entries n) ∙ kept) f.active in

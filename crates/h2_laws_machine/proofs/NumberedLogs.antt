@@ -197,17 +197,16 @@ unfolding verdict_by_rules ends resets increment_on data_on data_verdict reset_v
 says_nothing log decoded (block stream end octets) v i is on some idle unused =
     elim (cases_eq stream i) [
       | inl same ↦
-          let here : is_used log.role stream (block stream end octets ∷ log.received) log.sent
-          ≡ false =
+          let here : is_used log.role stream (block stream end octets ∷ log.received) log.sent ≡
+          false =
           subst (λ (j : ℕ). is_used log.role j (block stream end octets ∷ log.received) log.sent
           ≡ false) (sym same) unused in
-          let idle_here : state log stream ≡ Idle =
-          subst (λ (j : ℕ). state log j ≡ Idle) (sym same) idle in
+          let idle_here : state log stream ≡ Idle = subst (λ (j : ℕ). state log j ≡ Idle) (sym same)
+          idle in
           elim (block_log_state log decoded stream v is on) [
             | inl wrong ↦ let both : Idle ≡ Active = sym idle_here ∙ wrong in cc
             | inr (inl wrong) ↦ let both : Idle ≡ ClosedByUs = sym idle_here ∙ wrong in cc
-            | inr (inr (again, opens)) ↦ absurd (both_ways _ here (used_here log.role stream end
-                octets log.received log.sent opens))
+            | inr (inr (again, opens)) ↦ absurd (both_ways _ here (used_here _ _ _ _ _ _ opens))
           ]
       | inr other ↦ (rw (ne_eqb stream i other) refl, refl, refl, refl)
     ]
@@ -252,15 +251,14 @@ pub read_numbered : (log : Log) (decoded : Option Decoded) (item : Item) (v : Ve
 read_numbered log decoded item v is on f =
     let more = greatest_read item log.received in
     record {
-      goaways = one_up (greatest_block log.received) (greatest_block (item ∷ log.received)) log.sent
-          more f.goaways;
+      goaways = one_up _ _ log.sent more f.goaways;
       processed = λ server. let low = f.processed server in omega (arith, low, more);
       odd = λ server. read_odd log decoded item v is on (f.odd server);
       unnamed = f.unnamed;
       unread = λ i some unused.
           let before = unused_before log.role i (item ∷ []) [] log.received log.sent unused in
-          let here = says_nothing log decoded item v i is on some
-          (state_idle _ _ _ before) unused in
+          let here = says_nothing log decoded item v i is on some (state_idle _ _ _ before) unused
+          in
           let was = f.unread i some before in
           record {
             unreset = any_quiet (resets i) item log.received here.1 ∙ was.unreset;

@@ -13,7 +13,7 @@ use Names.{is_server, Active, Log, state, last_processed, next_unprocessed, rele
 use Names.{owed_on, Verdict, StreamFault, Reported, Decoded, verdict_by_rules, events_of, items_of}
 use Names.{answer_of, refusal_of, conditions, read, with_sent, with_reported, opened, called, IsLog}
 use Names.{stream_is_active, chosen_low, none_holds, events_unnamed, items_none, replies_none}
-use Names.{IsUpInvariant, up_by_logs}
+use Names.{IsUpInvariant, up_by_logs, rules}
 use Rattle.h2_laws_machine.proofs.LogCore.{core}
 use Rattle.h2_laws_machine.proofs.NumberedLogs.{IsNumbered, goaway_sent, sent_numbered}
 use Rattle.h2_laws_machine.proofs.NumberedLogs.{reported_numbered, read_numbered, EventsFit}
@@ -40,8 +40,7 @@ unfolding verdict_by_rules stream_of_item stream_of greatest_block
 fault_low log decoded (block i end octets) code is server = omega arith
 fault_low log decoded (alone (Data i end octets pad)) code is server =
     active_read_low log i server (data_is_fault (state log i) _ _ _ code is).0
-fault_low log decoded (alone (Reset i other)) code is server =
-    absurd (reset_is_fault (state log i) code is)
+fault_low log decoded (alone (Reset i other)) code is server = absurd (reset_is_fault _ _ is)
 fault_low log decoded (alone (Settings ack pairs)) code is server = omega arith
 fault_low log decoded (alone (Ping ack octets)) code is server = omega arith
 fault_low log decoded (alone (GoAway last other debug)) code is server = omega arith
@@ -112,8 +111,7 @@ released_call : (log : Log) (act : Act) (i : ℕ) → refusal_of (log_view log) 
     ≤ reported_total (flow_on i) log.reported
 unfolding released unreleased
 released_call log (Release id count) i none low =
-    released_by (id == i) count (released i log.calls) (reported_total (flow_on i) log.reported)
-    (λ same.
+    released_by (id == i) _ _ (reported_total (flow_on i) log.reported) (λ same.
     let here : id ≡ i = eqb-true id i same in
     subst (λ (j : ℕ). count ≤ reported_total (flow_on j) log.reported - released j log.calls) here
     (within id count none)) low
@@ -126,8 +124,7 @@ released_call log act i none low = low
 -- A call that is accepted keeps it, but for what it writes.
 called_numbered : (log : Log) (act : Act) → refusal_of (log_view log) act ≡ None → IsNumbered log
     → IsNumbered (called log act (answer_of (log_view log) act))
-called_numbered log act none f =
-    assumption (λ (i : ℕ). released_call log act i none (f.released i), f)
+called_numbered log act none f = assumption (λ (i : ℕ). released_call _ _ i none (f.released i), f)
 
 -- The last stream of an own GOAWAY is no greater than the greatest number that was read.
 last_is_low : (role : Role) (n m : ℕ) → (is_server role ≡ true → n ≤ m)
@@ -159,8 +156,7 @@ unfolding items_of is_goaway last_processed conditions
 items_numbered log base SendGoAway none sent received f g =
     let holds = none_holds _ none in
     goaway_numbered base (last_processed log) (ap (list_any is_goaway) sent ∙ holds.1.0)
-    (rw received (last_is_low log.role (greatest_processed log.reported)
-    (greatest_block log.received) f.processed)) g
+    (rw received (last_is_low _ _ (greatest_block log.received) f.processed)) g
 items_numbered log base act none sent received f g =
     sent_numbered base _ (items_none (log_view log) act (λ same. cc)) g
 
@@ -180,19 +176,18 @@ opened_numbered role values = record {
 -- Each change of a log keeps it, as long as the connection is up.
 numbered_kept : (role : Role) (values : Values) → IsUpInvariant role values Numbered
 unfolding is_goaway with_reported with_sent
-numbered_kept role values = record {
+numbered_kept role values =
+    record {
   opening = λ in_range. opened_numbered role values;
-  replied = λ log decoded item verdict replies f.
-      sent_numbered (read log decoded item) _ (replies_none verdict item)
-      (read_numbered log decoded item verdict
+  replied = λ log decoded item verdict replies f. sent_numbered (read log decoded item) _
+      (replies_none verdict item) (read_numbered log decoded item verdict
       (rules_is log decoded item verdict replies.is replies.up) replies.up f);
-  reported = λ log event events may.
-      reported_numbered log (event ∷ events) (events_fit role values log (event ∷ events) may);
+  reported = λ log event events may. reported_numbered log (event ∷ events)
+      (events_fit _ _ log (event ∷ events) may);
   returned = λ log returns. sent_numbered (record log { unreturned = 0 })
       (alone (WindowUpdate 0 log.unreturned) ∷ []) refl;
-  sent = λ log act accepted f.
-      items_numbered log (called log act (answer_of (log_view log) act)) act accepted.none refl
-      refl f (called_numbered log act accepted.none f);
+  sent = λ log act accepted f. items_numbered log (called log act (answer_of (log_view log) act))
+      act accepted.none refl refl f (called_numbered log act accepted.none f);
   called = λ log act answer is_log none f. record {
     goaways = f.goaways;
     processed = f.processed;

@@ -6,10 +6,9 @@ use Rattle.h2_laws_machine.proofs.Names
 use Names.{◌≡◌, ◌≤◌, ℕ, ◌+◌, Bool, true, false, if◌then◌else◌, List, [], ◌∷◌, ◌++◌, None, refl, sym}
 use Names.{◌∙◌, arith, ltb-false, Settings, Ping, WindowUpdate, Item, alone, Role, one_ping, total}
 use Names.{Event, one_acked, one_pong, reported_total, Values, Act, SendData, Release, SendPing}
-use Names.{ChangeSettings, one_settings, settings_count, Log, acked, newest_ping, ping_waits}
-use Names.{log_view, ended_in, Verdict, NoEvent, replies_to, conditions, refusal_of, items_of}
-use Names.{answer_of, data_items, read, with_sent, opened, called, IsLog, none_of_items, when_some}
-use Names.{none_holds, reported_append}
+use Names.{ChangeSettings, one_settings, settings_count, Log, acked, log_view, ended_in, Verdict}
+use Names.{NoEvent, replies_to, conditions, refusal_of, items_of, answer_of, data_items, read}
+use Names.{with_sent, opened, called, IsLog, none_of_items, when_some, none_holds, reported_append}
 
 -- One own PING at most awaits its answer, and one own SETTINGS their acknowledgment.
 pub record AwaitsOne (sent : List Item) (reported : List Event) : Type 0 where
@@ -82,8 +81,7 @@ ping_one : (log : Log) (octets : List ℕ) → refusal_of (log_view log) (SendPi
 unfolding conditions one_ping one_settings total settings_count
 ping_one log octets none one =
     let holds = none_holds _ none in
-    let answered = ltb-false (reported_total one_pong log.reported) (total one_ping log.sent)
-    (sym (when_some (ping_waits log) (newest_ping log.sent)) ∙ holds.1.1.0) in
+    let answered = ltb-false _ _ (sym (when_some _ _) ∙ holds.1.1.0) in
     record { pings = omega (arith, answered); settings = omega (arith, one.settings) }
 
 -- SETTINGS are sent where none await their acknowledgment.
@@ -102,9 +100,7 @@ one_none_of : (log : Log) (act : Act)
     → LogAwaitsOne log
     → AwaitsOne (items_of (log_view log) act (answer_of (log_view log) act) ++ log.sent)
     log.reported
-one_none_of log act none one =
-    one_more (items_of (log_view log) act (answer_of (log_view log) act)) log.sent log.reported
-    none one
+one_none_of log act none one = one_more _ _ log.reported none one
 
 -- The items of a call that is accepted keep it.
 one_items : (log : Log) (act : Act) → refusal_of (log_view log) act ≡ None → LogAwaitsOne log
@@ -115,8 +111,7 @@ one_items log (SendData id octets end) none one =
     one_none_of log (SendData id octets end)
     (data_none (log_view log).max_payload id octets end _) one
 one_items log (Release id count) none one =
-    one_none_of log (Release id count)
-    (release_none id count (ended_in ((log_view log).stream id))) one
+    one_none_of log (Release id count) (release_none _ _ (ended_in ((log_view log).stream id))) one
 one_items log (SendPing octets) none one = ping_one log octets none one
 one_items log (ChangeSettings values) none one = settings_one log values _ none one
 one_items log act none one = one_none_of log act (record { pings = refl; settings = refl }) one
@@ -155,5 +150,4 @@ one_kept role values = record {
 -- So it is of every log that hasn't failed.
 pub awaits_one : (role : Role) (values : Values) (log : Log) → IsLog role values log
     → log.failed ≡ None → LogAwaitsOne log
-awaits_one role values log is up =
-    kept_by_logs role values LogAwaitsOne (one_kept role values) log is
+awaits_one role values log is up = kept_by_logs role values LogAwaitsOne (one_kept _ _) log is

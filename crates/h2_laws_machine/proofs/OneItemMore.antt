@@ -17,8 +17,7 @@ any_quiet p item items none = rw none refl
 -- An item that isn't SETTINGS leaves the values.
 pub own_quiet : (id first count : ℕ) (item : Item) (items : List Item) → one_settings item ≡ 0
     → own_value id first count (item ∷ items) ≡ own_value id first count items
-own_quiet id first count item items none =
-    own_next id first count item items (λ one. absurd (omega arith))
+own_quiet id first count item items none = own_next _ _ _ _ items (λ one. absurd (omega arith))
 
 -- the count of SETTINGS with an item that isn't SETTINGS
 pub settings_quiet : (item : Item) (items : List Item) → one_settings item ≡ 0

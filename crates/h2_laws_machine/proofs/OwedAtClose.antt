@@ -15,8 +15,7 @@ none_owing_by true false n same = absurd (cc)
 pub none_owing : (log after : Log) (i : ℕ) → active after i ≡ active log i → owed_at_close log after
     i ≡ 0
 unfolding owed_at_close
-none_owing log after i same = none_owing_by (active log i) (active after i) (unreleased after i)
-    same
+none_owing log after i same = none_owing_by _ _ (unreleased after i) same
 
 -- A stream that wasn't active leaves nothing owing.
 pub dead_owing : (log after : Log) (i : ℕ) → active log i ≡ false → owed_at_close log after i ≡ 0

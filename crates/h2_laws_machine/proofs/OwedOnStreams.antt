@@ -4,10 +4,10 @@ use Rattle.std.specs.FinMap as map
 use Rattle.h2_laws_log.proofs.WindowsOfTwoEnds.{connection_meets}
 use Rattle.h2_laws_machine.proofs.Names
 use Names.{◌≡◌, ℕ, ◌+◌, ◌<◌, Bool, true, false, if◌then◌else◌, List, ◌++◌, ℤ, pos, ◌+ℤ◌, ◌-ℤ◌, None}
-use Names.{refl, ap, ◌∙◌, arith, ints, list_any, Item, data_of, increment_on, ends, resets, total}
-use Names.{Values, first_window, granted_on_connection, Log, active, send_window, recv_window}
-use Names.{unreleased, owed, End, owed_entry, owed_total, StreamView, Represents, entry_by}
-use Names.{connection_send_window, connection_recv_window, sum_below}
+use Names.{refl, ap, ◌∙◌, arith, ints, list_any, Item, data_of, increment_on, ends, total, Values}
+use Names.{first_window, Log, active, send_window, recv_window, unreleased, owed, End, owed_entry}
+use Names.{owed_total, StreamView, Represents, entry_by, connection_send_window}
+use Names.{connection_recv_window, sum_below}
 use Rattle.h2_laws_machine.proofs.OwedSums.{total-sum, same_sum}
 
 -- What is owed on what is kept of a number, by whether it is active and was reset.
@@ -32,10 +32,9 @@ pub owed_on_all : (values : Values) (e : End) (log : Log) (n : ℕ) → Represen
     → owed_total e.streams.entries ≡ sum_below n (owed log)
 unfolding owed unreleased
 owed_on_all values e log n represents up above =
-    total-sum n e.streams.entries (λ i from. represents.used i (omega arith))
-    ∙ same_sum n (λ i. owed_entry (map.get e.streams.entries i)) (owed log)
-    (λ i below. ap owed_entry (represents.streams.entries i)
-    ∙ owed_by (active log i) (list_any (resets i) log.sent) (kept_stream log i))
+    total-sum n e.streams.entries (λ i from. represents.used i (omega arith)) ∙ same_sum n
+    (λ i. owed_entry (map.get e.streams.entries i)) (owed log)
+    (λ i below. ap owed_entry (represents.streams.entries i) ∙ owed_by _ _ (kept_stream log i))
 
 -- What was granted less what has come, with what is owed and unreturned, is the first window.
 window_by : (recv_window come granted owing unreturned whole : ℕ)
@@ -50,8 +49,7 @@ pub window_of_a_log : (values : Values) (e : End) (log : Log) (n : ℕ) → Repr
     → connection_recv_window log.received log.sent +ℤ pos (sum_below n (owed log) + log.unreturned)
     ≡ pos first_window
 window_of_a_log values e log n represents up above =
-    window_by e.windows.recv (total data_of log.received) (granted_on_connection log.sent)
-    (sum_below n (owed log)) log.unreturned first_window (omega (
+    window_by _ _ _ _ log.unreturned first_window (omega (
       arith,
       represents.whole,
       owed_on_all values e log n represents up above,
@@ -74,8 +72,7 @@ pub window_is_conserved : (values others : Values) (e other : End) (log theirs :
     ≡ pos first_window
 window_is_conserved values others e other log theirs way back n represents represented up too above
     sent_data gave =
-    in_steps (connection_send_window log.received log.sent +ℤ pos (total data_of way))
-    (total (increment_on 0) back) (sum_below n (owed theirs) + theirs.unreturned)
-    ∙ ap (λ (z : ℤ). z +ℤ pos (sum_below n (owed theirs) + theirs.unreturned))
-    (connection_meets log.received log.sent theirs.received theirs.sent way back sent_data gave)
-    ∙ window_of_a_log others other theirs n represented too above
+    in_steps _ _ (sum_below n (owed theirs) + theirs.unreturned) ∙ ap
+    (λ (z : ℤ). z +ℤ pos (sum_below n (owed theirs) + theirs.unreturned))
+    (connection_meets log.received log.sent theirs.received theirs.sent way back sent_data gave) ∙
+    window_of_a_log others other theirs n represented too above

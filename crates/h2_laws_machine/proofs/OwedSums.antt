@@ -34,8 +34,7 @@ sum_inserted : (k : ℕ) (v : StreamEntry) (es : List (ℕ × StreamEntry))
 unfolding owed_sum
 sum_inserted k v [] h = omega arith
 sum_inserted k v (e ∷ es) h =
-    sum_inserted_by k v e es (nat_cmp k e.0) refl
-    (first (below_all nat_cmp e.0 es) (map.is_sorted nat_cmp es) h)
+    sum_inserted_by k v e es (nat_cmp k e.0) refl (first _ _ h)
     (sum_inserted k v es (second (below_all nat_cmp e.0 es) (map.is_sorted nat_cmp es) h))
 
 -- What is owed on all streams, after an entry that is set.
@@ -126,8 +125,7 @@ sum_changed change (e ∷ es) keeps = omega (arith, keeps e.1, sum_changed chang
 pub total-each : (change : StreamEntry → StreamEntry) (m : StreamMap)
     → ((x : StreamEntry) → owed_entry (Some (change x)) ≡ owed_entry (Some x))
     → owed_total (each_entry change m) ≡ owed_total m
-total-each change m keeps =
-    ap owed_sum (entries_changed change m) ∙ sum_changed change (map.entries m) keeps
+total-each change m keeps = ap owed_sum (entries_changed change m) ∙ sum_changed _ _ keeps
 
 -- What isn't found at an entry, nor after it, isn't found once it is changed, by the test whether
 -- it is the one.
@@ -141,8 +139,7 @@ find_changed : (change : StreamEntry → StreamEntry) (q : ℕ) (es : List (ℕ 
     → map.find nat_cmp q es ≡ None → map.find nat_cmp q (changed change es) ≡ None
 find_changed change q [] none = refl
 find_changed change q (e ∷ es) none =
-    not_found_by (is_eq (nat_cmp q e.0)) e.1 (change e.1) (map.find nat_cmp q es)
-    (map.find nat_cmp q (changed change es)) (find_changed change q es) none
+    not_found_by _ _ _ _ (map.find nat_cmp q (changed change es)) (find_changed change q es) none
 
 -- Where nothing is kept, nothing is kept once all streams were changed.
 pub get_each_none : (change : StreamEntry → StreamEntry) (m : StreamMap) (q : ℕ)

@@ -181,8 +181,7 @@ pub frame_in_range : (e : End) (decoded : Option Decoded) (frame : Frame)
     → stream_of frame ≤ greatest_number → IsDecodedAt e decoded frame → ValuesAreInRange e
     → ValuesAreInRange (after_frame e decoded frame)
 frame_in_range e decoded frame most seen h =
-    are_in_range (after_frame e decoded frame)
-    (frame_keeps ranges_kept e decoded frame (λ known. most) (λ known. seen) (fits e h))
+    are_in_range _ (frame_keeps ranges_kept _ _ _ (λ known. most) (λ known. seen) (fits e h))
 
 -- A call that isn't refused was made.
 pub call_fits : (e : End) (act : Act) → refusal_of (end_view e) act ≡ None → IsTypedAct act

@@ -52,8 +52,7 @@ pub limit_agrees : (values : Values) (e : End) (log : Log) → Represents values
     → log.failed ≡ None → payload_limit_of e.own ≡ payload_limit (acked log) log.sent
 limit_agrees values e log represents up =
     let run = represents.running (represents.failed ∙ up) in
-    limit_of_own e.own e.own.awaited log.role (acked log) log.sent refl run.own
-    (awaits_one e.role values log represents.came up).settings
+    limit_of_own _ _ _ _ _ refl run.own (awaits_one e.role values log represents.came up).settings
 
 -- An end has these own settings.
 abbrev Has : OwnSettings → End → Type 0

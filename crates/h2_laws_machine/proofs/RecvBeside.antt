@@ -55,10 +55,9 @@ beside_read h c item send recv q wider less g =
 pub beside_reported : (h : CoreFacts) (c : Core) (event : Event) → one_acked event ≡ 0
     → one_pong event ≡ 0 → Beside h c → Beside h (report c event)
 beside_reported h c event quiet none g =
-    let own : RepresentsOwn h.own c.role (confirmed (report c event)) c.sent =
-    rw (reported_kept one_acked event c.reported quiet) g.own in
-    let ping : PingOf h.ping (report c event) =
-    rw (reported_kept one_pong event c.reported none) g.ping in
+    let own : RepresentsOwn h.own c.role (confirmed (report c event)) c.sent = rw
+    (reported_kept one_acked event c.reported quiet) g.own in
+    let ping : PingOf h.ping (report c event) = rw (reported_kept one_pong _ _ none) g.ping in
     assumption (own, ping, g)
 
 -- RST_STREAM is sent.
@@ -70,8 +69,7 @@ beside_reset h c id code g =
     record {
       reading = g.reading;
       encoder = g.encoder;
-      windows = windows_sent h.windows c.received c.sent c.unreturned item h.windows.recv refl
-          (omega arith) g.windows;
+      windows = windows_sent _ _ _ _ _ h.windows.recv refl (omega arith) g.windows;
       peer = g.peer;
       own = own_sent h.own c.role (confirmed c) c.sent item refl g.own;
       goaway = goaways_sent h.goaway c.received c.sent item refl refl g.goaway;

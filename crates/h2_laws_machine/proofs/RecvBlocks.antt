@@ -104,8 +104,7 @@ pub block_same : (c : Core) (i : ℕ) (end : Bool) (octets : List ℕ) (event : 
     → ChangesNoStream event → flow_on j event ≡ 0 → j ≢ i
     → SameAt j c (with_block c i end octets event)
 block_same c i end octets event j q none other =
-    same_both j c (report c event) (with_block c i end octets event)
-    (same_reported j c event q none)
+    same_both j c (report _ _) (with_block c i end octets event) (same_reported j c event q none)
     (same_read j (report c event) (block i end octets) (block_common i end octets).settings
     (block_apart i end octets j other) (block_gives i end octets j))
 
@@ -131,10 +130,9 @@ block_is_active c i end octets event q alive goes =
     let item : Item = block i end octets in
     let parts = active_parts c.role i c.received c.sent c.reported alive in
     let lasts = lasts_parts i c.received c.sent parts.lasts in
-    active_reported c.role i (item ∷ c.received) c.sent event c.reported (q.names i)
-    ∙ active_by_parts c.role i (item ∷ c.received) c.sent c.reported parts.odd
-    (opened_more c.role i item c.received c.sent parts.opened) parts.below
-    (rw (block_ends i end octets, or_swapped end (list_any (ends i) c.received)) goes)
+    active_reported c.role i (item ∷ c.received) c.sent event c.reported (q.names i) ∙
+    active_by_parts _ _ _ _ _ parts.odd (opened_more c.role i item c.received c.sent parts.opened)
+    parts.below (rw (block_ends i end octets, or_swapped end (list_any (ends i) c.received)) goes)
     (rw (block_resets i end octets i) lasts.unreset) lasts.kept parts.unnamed
 
 -- A block after which both sides have ended its stream ends it, by the flags after it.
@@ -146,8 +144,7 @@ block_dead c i end octets event over =
     false_from_ne_true (active_by_items d i) (λ alive.
     both_ways (list_any (ends i) d.received && list_any (ends i) d.sent)
     (lasts_parts i d.received d.sent (active_parts d.role i d.received d.sent d.reported
-    alive).lasts).ended
-    (rw (block_ends i end octets, or_swapped end (list_any (ends i) c.received)) over))
+    alive).lasts).ended (rw (block_ends i end octets, or_swapped _ _) over))
 
 -- What an end keeps where a block is read and an event is reported, by what it makes of the
 -- streams.
@@ -218,8 +215,7 @@ later_by e log decoded i end octets true over alive low taken w g =
     (streams_closed e.streams i streams e.streams.resets c d same alive dead
     (said_over e.streams.entries i (active_entry s) c d g.streams.entries same dead
     (lasts_parts i c.received c.sent (active_parts c.role i c.received c.sent c.reported
-    alive).lasts).kept) (block_used c.role i end octets c.received c.sent low)
-    (taken_low (is_server c.role) event c.reported
+    alive).lasts).kept) (block_used c.role i end octets c.received c.sent low) (taken_low _ _ _
     (λ server. omega (arith, taken server, fields_shows i (decoded_fields decoded) end)))
     g.streams.resets g.streams) g)
 later_by e log decoded i end octets false goes alive low taken w g =
@@ -234,8 +230,7 @@ later_by e log decoded i end octets false goes alive low taken w g =
     (fields_flow i (decoded_fields decoded) end j) other in
     let kept = none_owing log (with_reported (read log decoded item) (event ∷ [])) i
     (still ∙ sym alive) in
-    unsettled (set_stream (with_table_after e decoded item) i s) (read log decoded item)
-    (event ∷ []) _ (omega arith) w g.windows.unreturned
+    unsettled _ _ (event ∷ []) _ (omega arith) w g.windows.unreturned
     (block_advances (core_facts e) c i end octets event decoded _ q
     (streams_set e.streams i s c d same alive still
     (block_said c i end octets event q.acks (fields_flow i (decoded_fields decoded) end i))
@@ -341,14 +336,13 @@ ignored_advances : (h : CoreFacts) (c : Core) (i highest : ℕ) (end : Bool) (oc
     })
 ignored_advances h c i highest end octets decoded closed is g =
     let item : Item = block i end octets in
-    let one = beside_table h c decoded item (beside_of h c g) in
+    let one = beside_table h c decoded item (beside_of _ _ g) in
     let h1 : CoreFacts = record h {
       reading = record h.reading { table = table_after h.reading.table decoded item };
     } in
     let c1 : Core = record c { table = table_after c.table decoded item } in
-    let two = beside_read h1 c1 item h.windows.send h.windows.recv
-    (block_common i end octets) (omega (arith, block_gives i end octets 0))
-    (omega (arith, block_takes i end octets)) one in
+    let two = beside_read h1 c1 item h.windows.send h.windows.recv (block_common i end octets)
+    (omega (arith, block_gives i end octets 0)) (omega (arith, block_takes i end octets)) one in
     advances_with (record h1 { streams = record h.streams { highest = highest } }) (reads c1 item)
     (streams_higher h.streams highest c (reads c item) (ignored_same c i end octets closed) is
     (used_more c.role i end octets c.received c.sent) refl refl g.streams) (assumption two)
@@ -366,9 +360,7 @@ block_ignored e log decoded i end octets closed odd w g =
     let highest : ℕ = if is_fresh e i then i else e.streams.highest in
     let is : highest ≡ greatest_used (reads (core log) item) =
     ap (λ (role : Role). if is_server role && i % 2 == 1 && nat_lt e.streams.highest i then i
-    else e.streams.highest) w.same_role
-    ∙ highest_block log.role i e.streams.highest end octets log.received log.sent odd
-    g.streams.highest in
+    else e.streams.highest) w.same_role ∙ highest_block _ _ _ _ _ _ _ odd g.streams.highest in
     let dead = closed_dead (core log) i closed in
     unsettled (record (with_table_after e decoded item) {
       streams = record e.streams { highest = highest };

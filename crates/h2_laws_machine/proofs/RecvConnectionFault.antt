@@ -23,8 +23,7 @@ opened_same e log (Some decoded) (block i end octets) role sound g =
     rw (
       state_same e (core log) i role sound g,
       role,
-      max_streams_agree log.role e.own.in_force.max_streams (max_streams log)
-          g.own.in_force.max_streams,
+      max_streams_agree _ _ (max_streams log) g.own.in_force.max_streams,
       g.streams.active_count,
       g.goaway.last_sent,
       when_some (list_any is_goaway log.sent) (goaway_sent_last log.sent),

@@ -1,11 +1,11 @@
 -- What items make of an end and of its log that change nothing of its streams, but perhaps windows.
 use Rattle.h2_laws_machine.proofs.Names
-use Names.{◌≡◌, ℕ, Bool, true, false, List, [], ◌∷◌, Option, refl, arith, both_ways, Frame, Data}
-use Names.{Reset, Settings, Ping, GoAway, WindowUpdate, stream_of, Item, alone, least_goaway, Log}
+use Names.{◌≡◌, ℕ, Bool, true, false, List, [], Option, refl, arith, both_ways, Frame, Data, Reset}
+use Names.{Settings, Ping, GoAway, WindowUpdate, stream_of, Item, alone, least_goaway, Log}
 use Names.{newest_ping, stream_of_item, data_on, data_of, increment_on, is_block_on, ends, resets}
 use Names.{one_reset, one_ping, is_goaway, is_goaway_below, greatest_block, one_settings, NoEvent}
 use Names.{Decoded, replies_to, read, with_sent, with_reported, with_verdict, events_of}
-use Names.{discarded_flow, End, end_view, queue_output, after_ignored, goaway_sent_last}
+use Names.{discarded_flow, End, end_view, after_ignored, goaway_sent_last}
 use Rattle.h2_laws_machine.proofs.LogCore.{core, core_facts, Going}
 use Rattle.h2_laws_machine.proofs.OwedAtClose.{none_owing, dead_owing, zero_dead}
 use Rattle.h2_laws_machine.proofs.RecvRead.{IsQuietIn, quiet_read, active_read, reads}
@@ -54,8 +54,7 @@ plain_ignored e log decoded frame is none w g =
     unsettled e (read log decoded (alone frame)) [] _ (omega (
       arith,
       none_owing log (read log decoded (alone frame)) (stream_of_item (alone frame))
-          (active_read log.role (stream_of_item (alone frame)) (alone frame) log.received log.sent
-          log.reported (q.apart _).blocks (q.apart _).ended (q.apart _).was_reset),
+          (active_read _ _ _ _ _ _ (q.apart _).blocks (q.apart _).ended (q.apart _).was_reset),
     )) w g.windows.unreturned (quiet_read (core_facts e) (core log) (alone frame) q g)
 
 -- the answer to a PING changes nothing more
@@ -80,8 +79,7 @@ ping_ignored e log decoded octets w g =
     let q = plain_quiet (Ping false octets) refl in
     let item : Item = alone (Ping false octets) in
     let dead = zero_dead (core log) in
-    unsettled (queue_output e (alone (Ping true octets) ∷ [])) (with_sent (read log decoded item)
-    (alone (Ping true octets) ∷ [])) [] _ (omega (arith, dead_owing))
+    unsettled _ _ [] _ (omega (arith, dead_owing))
     (wrote_connection e.role e.failed e.output.waiting (read log decoded item)
     (end_view e).max_payload (Ping true octets) w) g.windows.unreturned
     (quiet_wrote (core_facts e) (reads (core log) item) (alone (Ping true octets)) e.windows.recv

@@ -97,9 +97,7 @@ flow_said c i end octets pad within =
     same_stream (with_flow (said c i) n end) (said d i)
     (rw (data_gives i end octets pad i, zero-add) refl)
     (rw (data_here i end octets pad, zero-add) (used_recv_window (granted_on i (confirmed c) c.sent)
-    (total (data_on i) c.received) n))
-    (rw (reported_here i octets n end) (more_kept n (reported_total (flow_on i) c.reported)
-    (released i c.calls) within))
+    (total (data_on i) c.received) n)) (rw (reported_here i octets n end) (more_kept _ _ _ within))
     (rw (data_ends i end octets pad) (or_swapped (list_any (ends i) c.received) end)) refl
 
 -- Others are as they were.
@@ -107,20 +105,17 @@ data_same : (c : Core) (i : ℕ) (end : Bool) (octets : List ℕ) (pad : Option 
     → SameAt j c (after_data c i end octets pad)
 data_same c i end octets pad j other =
     let n : ℕ = length (payload_of (Data i end octets pad)) in
-    let c1 : Core = report c (DataEvent i octets n end) in
-    same_both j c c1 (after_data c i end octets pad)
-    (same_reported j c (DataEvent i octets n end) (reported_harmless i octets n end)
-    (reported_elsewhere i octets n end j other))
-    (same_read j c1 (alone (Data i end octets pad)) (data_common i end octets pad).settings
-    (data_apart i end octets pad j other) (data_gives i end octets pad j))
+    let c1 : Core = report _ _ in
+    same_both _ _ c1 _ (same_reported _ _ _ (reported_harmless _ _ _ _)
+    (reported_elsewhere _ _ _ _ _ other)) (same_read _ c1 _ (data_common _ _ _ _).settings
+    (data_apart _ _ _ _ _ other) (data_gives _ _ _ _ _))
 
 -- what stands among the openings stands among more
 pub opened_more : (role : Role) (i : ℕ) (item : Item) (received sent : List Item)
     → list_any (is_block_on i) (openings role received sent) ≡ true
     → list_any (is_block_on i) (openings role (item ∷ received) sent) ≡ true
 opened_more Client i item received sent here = here
-opened_more Server i item received sent here = or_right (is_block_on i item)
-    (list_any (is_block_on i) received) here
+opened_more Server i item received sent here = or_right _ _ here
 
 -- DATA that comes after its sender's or before the receiver's end leaves its stream active, by the
 -- flags after it.
@@ -134,10 +129,9 @@ data_is_active c i end octets pad alive goes =
     let parts = active_parts c.role i c.received c.sent c.reported alive in
     let lasts = lasts_parts i c.received c.sent parts.lasts in
     active_reported c.role i (item ∷ c.received) c.sent (DataEvent i octets n end) c.reported
-    ((reported_harmless i octets n end).names i)
-    ∙ active_by_parts c.role i (item ∷ c.received) c.sent c.reported parts.odd
-    (opened_more c.role i item c.received c.sent parts.opened) parts.below
-    (rw (data_ends i end octets pad, or_swapped end (list_any (ends i) c.received)) goes)
+    ((reported_harmless i octets n end).names i) ∙ active_by_parts c.role i (item ∷ c.received)
+    c.sent c.reported parts.odd (opened_more c.role i item c.received c.sent parts.opened)
+    parts.below (rw (data_ends i end octets pad, or_swapped _ _) goes)
     (rw (data_unreset i end octets pad i) lasts.unreset) lasts.kept parts.unnamed
 
 -- DATA after which both sides have ended its stream ends it, by the flags after it.
@@ -149,8 +143,7 @@ data_dead c i end octets pad over =
     false_from_ne_true (active_by_items d i) (λ alive.
     both_ways (list_any (ends i) d.received && list_any (ends i) d.sent)
     (lasts_parts i d.received d.sent (active_parts d.role i d.received d.sent d.reported
-    alive).lasts).ended
-    (rw (data_ends i end octets pad, or_swapped end (list_any (ends i) c.received)) over))
+    alive).lasts).ended (rw (data_ends i end octets pad, or_swapped _ _) over))
 
 -- What an end keeps where DATA is reported on an active stream, by what it makes of the streams.
 data_advances : (h : CoreFacts) (c : Core) (i : ℕ) (end : Bool) (octets : List ℕ) (pad : Option ℕ)
@@ -172,8 +165,7 @@ data_advances h c i end octets pad streams alive within are g =
     c.reported (q.names i) ∙ alive in
     let one = reported_by h c event _ q.acks q.pongs (streams_set h.streams i (said c1 i) c c1
     (λ j other. same_reported j c event q (reported_elsewhere i octets n end j other)) alive alive1
-    refl refl (taken_kept (is_server c.role) event c.reported (reported_shows i octets n end)) refl
-    g.streams) g in
+    refl refl (taken_kept _ _ c.reported (reported_shows i octets n end)) refl g.streams) g in
     read_step _ c1 (alone (Data i end octets pad)) streams h.windows.send (h.windows.recv - n)
     (data_common i end octets pad) are (omega (arith, data_gives i end octets pad 0))
     (omega (arith, within, data_takes i end octets pad)) one
@@ -221,8 +213,7 @@ data_reported_by e log decoded i end octets pad true over alive within rel w g =
     ∙ ap (λ (t : StreamView). t.owed) is ∙ sym owing)) w g.windows.unreturned
     (data_advances (core_facts e) c i end octets pad _ alive within
     (streams_closed e.streams i streams e.streams.resets c d (data_same c i end octets pad) alive
-    dead (said_over e.streams.entries i (active_entry s) c d g.streams.entries
-    (data_same c i end octets pad) dead
+    dead (said_over _ _ (active_entry s) c d g.streams.entries (data_same c i end octets pad) dead
     (lasts_parts i c.received c.sent (active_parts c.role i c.received c.sent c.reported
     alive).lasts).kept) (data_used (report c event) i end octets pad)
     (taken_kept (is_server c.role) event c.reported (reported_shows i octets n end))
@@ -245,8 +236,7 @@ data_reported_by e log decoded i end octets pad false goes alive within rel w g 
     (data_advances (core_facts e) c i end octets pad _ alive within
     (streams_set e.streams i s c d (data_same c i end octets pad) alive still
     (flow_said c i end octets pad rel) (data_used (report c event) i end octets pad)
-    (taken_kept (is_server c.role) event c.reported (reported_shows i octets n end)) refl g.streams)
-    g)
+    (taken_kept _ _ c.reported (reported_shows i octets n end)) refl g.streams) g)
 
 -- What DATA on an active stream makes of an end.
 pub data_reported : (e : End) (log : Log) (decoded : Option Decoded) (i : ℕ) (end : Bool)

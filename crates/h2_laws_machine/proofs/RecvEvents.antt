@@ -35,10 +35,9 @@ pub reported_by : (h : CoreFacts) (c : Core) (event : Event) (streams : Streams)
     → one_acked event ≡ 0 → one_pong event ≡ 0 → StreamsOf streams (report c event) → Advances h c
     → Advances (record h { streams = streams }) (report c event)
 reported_by h c event streams quiet none are g =
-    let own : RepresentsOwn h.own c.role (confirmed (report c event)) c.sent =
-    rw (reported_kept one_acked event c.reported quiet) g.own in
-    let ping : PingOf h.ping (report c event) =
-    rw (reported_kept one_pong event c.reported none) g.ping in
+    let own : RepresentsOwn h.own c.role (confirmed (report c event)) c.sent = rw
+    (reported_kept one_acked event c.reported quiet) g.own in
+    let ping : PingOf h.ping (report c event) = rw (reported_kept one_pong _ _ none) g.ping in
     assumption (are, own, ping, g)
 
 -- The log says the same of a number after an event that reports no flow on it.

@@ -7,8 +7,8 @@ use Names.{length, Option, Some, None, refl, ap, sym, ◌∙◌, subst, inl, inr
 use Names.{ne_eqb, Code, Frame, GoAway, Item, alone, Begun, Role, Values, greatest_processed}
 use Names.{log_view, is_server, settings_count, greatest_number, is_used, Log, last_processed, View}
 use Names.{Decoded, FrameStep, fails_with, begins_block, completes, frame_step, grouping_step}
-use Names.{grouped, verdict_of, limits_from, used, with_step, with_frame, took_frame, IsLog}
-use Names.{took_one, End, end_view, with_begun, after_step, after_frame, Represents, log_represents}
+use Names.{grouped, limits_from, used, with_step, with_frame, took_frame, IsLog, took_one, End}
+use Names.{end_view, with_begun, after_step, after_frame, Represents, log_represents}
 use Names.{KeepsConnectionWindow, Headers, Continuation, expected_preface, TakesOctets, TakesFrame}
 use Names.{IsDecodedFor, Keeps-frame}
 use Rattle.h2_laws_machine.proofs.ConservedBySteps.{frame_holds, holds, is_whole}
@@ -40,8 +40,7 @@ none_after (one ∷ frames) frame is = cc
 -- A GOAWAY that was read has a last stream of 31 bits.
 goaway_typed : (role : Role) (log : Log) (octets : List ℕ) (last code : ℕ) (debug : List ℕ)
     → TakesFrame role log octets (GoAway last code debug) → last ≤ greatest_number
-goaway_typed role log octets last code debug (inl inside) =
-    absurd (none_after log.frames (GoAway last code debug) inside.none)
+goaway_typed role log octets last code debug (inl inside) = absurd (none_after _ _ inside.none)
 goaway_typed role log octets last code debug (inr after) =
     let whole = last_is_frame (limits_from log) (length (expected_preface (is_server role)))
     log.frames (GoAway last code debug) after.sound.body after.sound.framed in
@@ -114,15 +113,13 @@ step_after e log decoded (fails_with code) typed started sound w g = record {
   going = λ up. absurd (cc);
 }
 step_after e log decoded (begins_block begun) typed started sound w g =
-    after_going (with_begun e (Some begun)) (record log { begun = Some begun }) w
-    (going_begun e log (Some begun) g)
+    after_going _ (record log { begun = Some begun }) w (going_begun e log (Some begun) g)
 step_after e log decoded (completes item) typed started sound w g =
     let f : End = with_begun e None in
     let before : Log = record log { begun = None } in
     let h : Going f (core before) = going_begun e log None g in
     let still : Sound (core before) = sound_begun log None sound in
-    rw (over_limits_same f before decoded item w still h)
-    (item_after f before decoded item (verdict_of (log_view before) decoded item) refl
+    rw (over_limits_same f before decoded item w still h) (item_after _ before _ _ _ refl
     (typed item refl) started still w h)
 
 -- The step that a frame makes is the same at an end as at its log.
@@ -145,15 +142,13 @@ frame_after values e log octets frame decoded sound s none read =
     rw (step_same e log octets frame r.started r.reading.begun)
     (step_after e before decoded (frame_step (log_view (used log octets [])) frame)
     (λ item is. step_typed log.role log octets (log_view (used log octets [])) frame item read is)
-    (started_with_settings values e log s up) sound (waits_of values e log s)
-    (going e log s.streams r))
+    (started_with_settings _ _ log s up) sound (waits_of values e log s) (going e log s.streams r))
 
 -- there is a frame then
 some_frames : (frames : List Frame) (frame : Frame)
     → not (length (frames ++ frame ∷ []) == 0) ≡ true
 some_frames frames frame =
-    ap not (ne_eqb (length (frames ++ frame ∷ [])) 0 (λ none.
-    omega (arith, none, length-append frames (frame ∷ []))))
+    ap not (ne_eqb _ 0 (λ none. omega (arith, none, length-append frames (frame ∷ []))))
 
 -- the frames of the log then
 took_frames : (log : Log) (octets : List ℕ) (frame : Frame) (decoded : Option Decoded)
@@ -169,16 +164,13 @@ pub frame_represents : (values : Values) (e : End) (log : Log) (octets : List �
 frame_represents values e log octets frame decoded sound s takes read sees =
     let after : End = after_frame e decoded frame in
     let grown : Log = took_frame log octets decoded frame in
-    let a : After after grown = frame_after values e log octets frame decoded sound s takes.up
-    read in
+    let a : After after grown = frame_after _ _ _ _ _ _ sound s takes.up read in
     let came : IsLog e.role values grown = took_one s.came takes octets frame decoded
     (subst (λ (role : Role). TakesFrame role log octets frame) (sym s.role) read) sees in
-    let role : after.role ≡ e.role = a.waits.same_role
-    ∙ (log_represents e.role values grown came).own in
+    let role : after.role ≡ e.role = a.waits.same_role ∙ (log_represents _ _ _ came).own in
     let whole : KeepsConnectionWindow e = record { whole = s.whole; used = s.used } in
-    represents_by values after grown
-    (subst (λ (r : Role). IsLog r values grown) (sym role) came) a.waits a.streams
-    (λ up. runs after grown (started_frame e decoded frame up
+    represents_by _ _ _ (subst (λ (r : Role). IsLog r values grown) (sym role) came) a.waits
+    a.streams (λ up. runs after grown (started_frame _ _ _ up
     ∙ sym (ap (λ (frames : List Frame). not (length frames == 0))
-    (took_frames log octets frame decoded) ∙ some_frames log.frames frame)) (a.going up))
-    (is_whole after (frame_holds e decoded frame (holds e whole)))
+    (took_frames _ _ _ _) ∙ some_frames _ _)) (a.going up))
+    (is_whole after (frame_holds _ _ _ (holds e whole)))

@@ -6,13 +6,12 @@ use Names.{◌≡◌, ◌≢◌, ℕ, ◌≤◌, ◌<◌, ◌%◌, ◌==◌, nat
 use Names.{List, length, Option, Some, None, is_some, refl, ap, ◌∙◌, inl, inr, arith, list_any}
 use Names.{both_ways, false_from_ne_true, and_parts, eqb-true, lt-ltb, leb-false, or_right}
 use Names.{and_from, Code, Data, Reset, Settings, Ping, GoAway, WindowUpdate, payload_of, Item}
-use Names.{alone, block, resets, is_goaway, log_view, is_server, settings_count, Active, openings}
-use Names.{is_used, is_above, is_closed_by_us, greatest_number, Log, state, Verdict}
-use Names.{ConnectionFault, StreamFault, NoEvent, Reported, Decoded, verdict_by_rules, verdict_of}
-use Names.{verdict_of_block, exceeds, replies_to, with_verdict, Role, Client, Server, End}
-use Names.{after_verdict, goaway_sent_last, active_parts, active_used, resets_used, idle_unused}
-use Names.{block_below, within_window, Headers, Continuation, connection_recv_window}
-use Names.{increments_read, closed_by_us_is, closed_used}
+use Names.{alone, block, is_goaway, log_view, is_server, settings_count, Active, openings, is_used}
+use Names.{is_closed_by_us, greatest_number, Log, state, Verdict, ConnectionFault, StreamFault}
+use Names.{NoEvent, Reported, Decoded, verdict_by_rules, verdict_of, verdict_of_block, exceeds}
+use Names.{replies_to, with_verdict, Role, Client, Server, End, after_verdict, active_parts}
+use Names.{active_used, resets_used, idle_unused, block_below, within_window, Headers, Continuation}
+use Names.{connection_recv_window, increments_read, closed_by_us_is, closed_used}
 use Rattle.h2_laws_machine.proofs.CallOpen.{IsClear}
 use Rattle.h2_laws_machine.proofs.LogCore.{Core, core, Going, active_by_items, greatest_used}
 use Rattle.h2_laws_machine.proofs.RecvBlocks.{later_reported, block_ignored, closed_dead}
@@ -48,15 +47,11 @@ active_in log i is = state_is_active _ _ _ is
 dead_in : (log : Log) (i : ℕ) → Sound (core log) → state log i ≢ Active
     → active_by_items (core log) i ≡ false
 dead_in log i sound other =
-    false_from_ne_true _ (λ alive.
-    other (state_active _ _ _ (active_used log.role i log.received log.sent
-    log.reported alive) alive))
+    false_from_ne_true _ (λ alive. other (state_active _ _ _ (active_used _ _ _ _ _ alive) alive))
 
 -- An active stream's number is no greater than the greatest.
 pub active_low : (c : Core) (i : ℕ) → active_by_items c i ≡ true → i ≤ greatest_used c
-active_low c i alive =
-    block_below i (openings c.role c.received c.sent)
-    (active_parts c.role i c.received c.sent c.reported alive).opened
+active_low c i alive = block_below _ _ (active_parts _ _ _ _ _ alive).opened
 
 -- A number that was used is odd.
 pub used_odd : (role : Role) (i : ℕ) (c : Core) → is_used c.role i c.received c.sent ≡ true
@@ -128,11 +123,9 @@ closed_new : (c : Core) (i : ℕ) → Sound c → (is_server c.role && i % 2 == 
 unfolding is_closed_by_us
 closed_new c i sound opens unused left =
     let both = and_parts _ _ opens in
-    let rises = above_used c i sound both.1 unused in
+    let rises = above_used _ _ sound both.1 unused in
     let last = sound.last both.0 left in
-    or_right (list_any (resets i) c.sent) (is_above c.role i c.sent)
-    (sound.above i ∙ rw (both.0, left)
-    (lt-ltb (goaway_sent_last c.sent) i (omega (arith, rises, last))))
+    or_right _ _ (sound.above i ∙ rw (both.0, left) (lt-ltb _ _ (omega (arith, rises, last))))
 
 -- DATA within the connection's window is no more than the peer may send.
 fits : (e : End) (c : Core) (count : ℕ) → Going e c
@@ -163,10 +156,9 @@ block_reported e log (Some decoded) i end octets is sound w g =
     elim (block_is_reported (state log i) _ _ _ _ _ is) [
       | inl here ↦
           let alive = active_in log i here in
-          later_reported e log (Some decoded) i end octets alive (active_low (core log) i alive)
+          later_reported _ _ _ _ _ octets alive (active_low (core log) i alive)
           (λ server. sound.active_taken server i alive) w g
-      | inr (idle, opens, stays) ↦
-          opening_reported e log (Some decoded) i end octets
+      | inr (idle, opens, stays) ↦ opening_reported e log (Some decoded) i end octets
           (may_open (core log) i sound opens (idle_unused _ _ _ idle) stays) w g
     ]
 
@@ -180,13 +172,12 @@ block_at_fault : (e : End) (log : Log) (decoded : Option Decoded) (i : ℕ) (end
 unfolding after_verdict
 block_at_fault e log None i end octets code is sound w g = cc
 block_at_fault e log (Some decoded) i end octets code is sound w g =
-    elim (block_is_fault (state log i) _ _ _ _ _ code is) [
+    elim (block_is_fault _ _ _ _ _ _ _ is) [
       | inl here ↦
           let alive = active_in log i here in
           block_fault e log (Some decoded) i end octets code alive (active_low (core log) i alive)
           (λ server. sound.active_taken server i alive) w g
-      | inr (idle, opens, stays) ↦
-          new_fault e log (Some decoded) i end octets code
+      | inr (idle, opens, stays) ↦ new_fault e log (Some decoded) i end octets code
           (may_open (core log) i sound opens (idle_unused _ _ _ idle) stays) w g
     ]
 
@@ -200,11 +191,9 @@ unfolding after_verdict
 block_unreported e log None i end octets is sound w g = cc
 block_unreported e log (Some decoded) i end octets is sound w g =
     elim (block_is_ignored (state log i) _ _ _ _ _ is) [
-      | inl closed ↦
-          block_ignored e log (Some decoded) i end octets (closed_by_us_is _ _ _ closed)
+      | inl closed ↦ block_ignored _ _ _ _ _ octets (closed_by_us_is _ _ _ closed)
           (λ server. used_odd log.role i (core log) (closed_used _ _ _ closed)) w g
-      | inr (idle, opens, left) ↦
-          block_ignored e log (Some decoded) i end octets
+      | inr (idle, opens, left) ↦ block_ignored e log (Some decoded) i end octets
           (closed_new (core log) i sound opens (idle_unused _ _ _ idle) left)
           (λ server. (and_parts _ _ opens).1) w g
     ]
@@ -242,8 +231,7 @@ item_at_fault e log decoded (alone (Ping true octets)) code is sound w g =
     test_resets false is = cc
 item_at_fault e log decoded (alone (WindowUpdate i increment)) code is sound w g =
     let alive = active_in log i (update_is_fault (i == 0) (state log i) increment _ _ code is) in
-    update_fault e log decoded i increment code alive
-    (λ server. sound.active_taken server i alive) w g
+    update_fault _ _ _ _ _ code alive (λ server. sound.active_taken server i alive) w g
 item_at_fault e log decoded (alone frame) code is sound w g = cc
 
 -- An item without an event.
@@ -257,8 +245,7 @@ item_unreported e log decoded (block i end octets) is started sound w g =
     block_unreported e log decoded i end octets is sound w g
 item_unreported e log decoded (alone (Data i end octets pad)) is started sound w g =
     let both = data_is_ignored (state log i) _ _ _ is in
-    data_ignored e log decoded i end octets pad
-    (closed_dead (core log) i (closed_by_us_is _ _ _ both.0))
+    data_ignored _ _ _ _ _ _ pad (closed_dead (core log) i (closed_by_us_is _ _ _ both.0))
     (fits e (core log) (length (payload_of (Data i end octets pad))) g both.1) w g
 item_unreported e log decoded (alone (Headers i end whole fragment pad priority)) is started sound w
     g = plain_ignored e log decoded (Headers i end whole fragment pad priority) refl refl w g
@@ -319,11 +306,8 @@ pub item_after : (e : End) (log : Log) (decoded : Option Decoded) (item : Item) 
 item_after e log decoded item (ConnectionFault code) is typed started sound w g =
     fault_after e log decoded item code w sound g
 item_after e log decoded item (StreamFault code) is typed started sound w g =
-    item_at_fault e log decoded item code (rules_is log decoded item (StreamFault code) is
-    (λ other wrong. cc)) sound w g
+    item_at_fault e log decoded item code (rules_is _ _ _ _ is (λ other wrong. cc)) sound w g
 item_after e log decoded item NoEvent is typed started sound w g =
-    item_unreported e log decoded item (rules_is log decoded item NoEvent is (λ other wrong. cc))
-    started sound w g
+    item_unreported _ _ _ _ (rules_is _ _ _ NoEvent is (λ other wrong. cc)) started sound w g
 item_after e log decoded item Reported is typed started sound w g =
-    item_reported e log decoded item (rules_is log decoded item Reported is (λ other wrong. cc))
-    typed sound w g
+    item_reported _ _ _ _ (rules_is _ _ _ Reported is (λ other wrong. cc)) typed sound w g

@@ -80,12 +80,11 @@ unfolding given_on granted_on total reported_total value_read
 new_said h c i end octets event acks flow clear g =
     let d : Core = with_block c i end octets event in
     same_stream (opened_stream h end) (said d i) (ap (λ (n : ℕ). pos n) g.peer.initial_window
-    ∙ untouched_window (value_read 4 first_window c.received)
-    (total (increment_on i) d.received) (total (data_on i) c.sent)
+    ∙ untouched_window (value_read 4 first_window c.received) (total (increment_on i) d.received)
+    (total (data_on i) c.sent)
     (omega (arith, clear.given, block_gives i end octets i)) clear.taken_out)
     (rw (acks, zero-add) (ap (λ (n : ℕ). pos n) g.own.in_force.initial_window
-    ∙ untouched_window (own_value 4 first_window (confirmed c) c.sent)
-    (total (increment_on i) c.sent) (total (data_on i) d.received)
+    ∙ untouched_window (own_value 4 first_window (confirmed c) c.sent) _ _
     clear.granted (omega (arith, clear.taken_in, block_on i end octets i))))
     (rw (flow, zero-add) (sym clear.owed))
     (rw (block_ends i end octets) (end_or end (list_any (ends i) c.received) clear.ended_in))
@@ -117,8 +116,8 @@ new_streams : (h : CoreFacts) (c : Core) (i : ℕ) (end : Bool) (octets : List �
     }) (with_block c i end octets event)
 new_streams h c i end octets event q flow shows may g =
     let d : Core = with_block c i end octets event in
-    let same : (j : ℕ) → j ≢ i → SameAt j c d =
-    λ j other. block_same c i end octets event j q (flow j) other in
+    let same : (j : ℕ) → j ≢ i → SameAt j c d = λ j other. block_same c i end octets event j q
+    (flow j) other in
     let rises = may.rises in
     let used : greatest_used d ≡ i = used_here c.role i end octets c.received c.sent may.server
     rises in
@@ -126,11 +125,10 @@ new_streams h c i end octets event q flow shows may g =
     (omega (arith, rises)) (λ j high. none_above c j (omega (arith, high)))
     (new_active c i end octets event q may) (λ j other. (same j other).active) in
     record {
-      entries = said_set h.streams.entries i (opened_stream h end) c d g.streams.entries same
-          (new_active c i end octets event q may)
+      entries = said_set _ _ _ c d g.streams.entries same (new_active c i end octets event q may)
           (new_said h c i end octets event q.acks (flow i) may.clear g);
-      active_count = ap (λ (n : ℕ). n + 1) g.streams.active_count ∙ sym more
-          ∙ ap (λ (n : ℕ). count_below (n + 1) (active_by_items d)) (sym used);
+      active_count = ap (λ (n : ℕ). n + 1) g.streams.active_count ∙ sym more ∙ ap
+          (λ (n : ℕ). count_below (n + 1) (active_by_items d)) (sym used);
       highest = omega (arith, g.streams.highest, rises, used);
       last_processed = processed_here c.role event c.reported i may.server shows
           (omega (arith, may.processed, rises));
@@ -160,5 +158,4 @@ opening_reported e log decoded i end octets may w g =
     (unsettled (record (with_table_after e decoded item) { streams = streams })
     (read log decoded item) (event ∷ []) _ (omega (arith, dead_owing)) w g.windows.unreturned
     (block_advances (core_facts e) c i end octets event decoded streams q
-    (new_streams (core_facts e) c i end octets event q flow
-    (fields_here i (decoded_fields decoded) end) may g) g))
+    (new_streams (core_facts e) c i end octets event q flow (fields_here _ _ end) may g) g))

@@ -1,10 +1,10 @@
 -- The answer to an own PING that awaits it.
 use Rattle.h2_laws_machine.proofs.Names
-use Names.{◌≡◌, ℕ, ◌≤◌, ◌+◌, nat_lt, true, false, List, [], ◌∷◌, Option, None, refl, arith, le-ltb}
+use Names.{◌≡◌, ℕ, ◌≤◌, ◌+◌, nat_lt, true, false, List, ◌∷◌, Option, None, refl, arith, le-ltb}
 use Names.{Ping, stream_of, Item, alone, stream_of_item, one_ping, total, Event, PongEvent, flow_on}
 use Names.{one_acked, one_pong, reported_total, reports_unprocessed, processed_by, is_server, Log}
-use Names.{Reported, Decoded, replies_to, read, with_sent, with_verdict, events_of, discarded_flow}
-use Names.{End, after_reported, RepresentsOwn}
+use Names.{Reported, Decoded, replies_to, with_sent, with_verdict, events_of, discarded_flow, End}
+use Names.{after_reported, RepresentsOwn}
 use Rattle.h2_laws_machine.proofs.LogCore.{Core, core, CoreFacts, core_facts, Advances, Going}
 use Rattle.h2_laws_machine.proofs.LogCore.{confirmed, PingOf}
 use Rattle.h2_laws_machine.proofs.RecvConnectionItems.{plain_quiet}
@@ -44,8 +44,7 @@ pong_same c octets j =
     let acks = reported_kept one_acked (PongEvent octets) c.reported (pong_acks octets) in
     let flow = reported_kept (flow_on j) (PongEvent octets) c.reported (pong_flow octets j) in
     record {
-      active = active_reported c.role j c.received c.sent (PongEvent octets) c.reported
-          (pong_names octets j);
+      active = active_reported _ _ _ _ _ c.reported (pong_names octets j);
       was_reset = refl;
       stream = λ alive. rw (acks, flow) refl;
     }
@@ -57,9 +56,8 @@ pong_advances : (h : CoreFacts) (c : Core) (octets : List ℕ)
 pong_advances h c octets most g =
     let event : Event = PongEvent octets in
     let acks = reported_kept one_acked event c.reported (pong_acks octets) in
-    let none : nat_lt (reported_total one_pong (event ∷ c.reported)) (total one_ping c.sent)
-    ≡ false = le-ltb (reported_total one_pong (event ∷ c.reported)) (total one_ping c.sent)
-    (omega (arith, most, pong_one octets c.reported)) in
+    let none : nat_lt (reported_total one_pong (event ∷ c.reported)) (total one_ping c.sent) ≡ false
+    = le-ltb _ _ (omega (arith, most, pong_one octets c.reported)) in
     let own : RepresentsOwn h.own c.role (confirmed (report c event)) c.sent = rw acks g.own in
     let ping : PingOf None (report c event) = rw none refl in
     assumption (
@@ -82,7 +80,6 @@ pong_reported e log decoded octets most w g =
     let item : Item = alone (Ping true octets) in
     let event : Event = PongEvent octets in
     let dead = zero_dead (core log) in
-    unsettled (record e { ping = None }) (read log decoded item) (event ∷ []) _
-    (omega (arith, dead_owing)) w g.windows.unreturned
+    unsettled (record e { ping = None }) _ _ _ (omega (arith, dead_owing)) w g.windows.unreturned
     (pong_advances (core_facts e) (reads (core log) item) octets most
     (quiet_read (core_facts e) (core log) item (plain_quiet (Ping true octets) refl) g))

@@ -120,8 +120,7 @@ pub record IsQuietIn (item : Item) : Type 0 where
 pub quiet_read : (h : CoreFacts) (c : Core) (item : Item) → IsQuietIn item → Advances h c
     → Advances h (reads c item)
 quiet_read h c item q g =
-    read_step h c item h.streams h.windows.send h.windows.recv q.common
-    (streams_same h.streams c (reads c item)
+    read_step h c item h.streams h.windows.send h.windows.recv q.common (streams_same _ _ _
     (λ j. same_read j c item q.common.settings (q.apart j) (q.gives j))
     (used_read c.role item c.received c.sent q.greatest) refl refl g.streams)
     (omega (arith, q.gives 0)) (omega (arith, q.flow_of)) g
@@ -149,5 +148,4 @@ pub stays_dead : (c : Core) (j : ℕ) (item : Item) → is_block_on j item ≡ f
 stays_dead c j item none dead =
     false_from_ne_true (active_by_items (reads c item) j) (λ alive. both_ways (active_by_items c j)
     dead (active_before c.role j (item ∷ []) [] c.received c.sent [] c.reported alive
-    (opened_before c.role j item c.received c.sent none (active_parts c.role j (item ∷ c.received)
-    c.sent c.reported alive).opened)))
+    (opened_before c.role j item c.received c.sent none (active_parts _ _ _ _ _ alive).opened)))

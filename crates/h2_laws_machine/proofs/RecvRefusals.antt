@@ -64,25 +64,23 @@ refused_streams h c i code count end octets may none g =
     (block_common i end octets)
     (λ j other. (block_apart i end octets j other, block_gives i end octets j)) other in
     let dead = fault_dead c i code item in
-    let used : greatest_used d ≡ i = fault_used c i code item
-    ∙ used_here c.role i end octets c.received c.sent may.server rises in
+    let used : greatest_used d ≡ i = fault_used c i code item ∙ used_here c.role i end octets
+    c.received c.sent may.server rises in
     let still : (j : ℕ) → active_by_items d j ≡ active_by_items c j = λ j. elim (cases_eq j i) [
       | inl here ↦ rw here (dead ∙ sym (none_above c i rises))
       | inr other ↦ (same j other).active
     ] in
     let next : (i - greatest_used c) + (greatest_used c + 1) ≡ i + 1 = omega (arith, rises) in
-    let high : count_below (i + 1) (active_by_items c)
-    ≡ count_below (greatest_used c + 1) (active_by_items c) =
-    ap (λ (n : ℕ). count_below n (active_by_items c)) (sym next)
-    ∙ count_high (i - greatest_used c) (greatest_used c + 1) (active_by_items c)
+    let high : count_below (i + 1) (active_by_items c) ≡ count_below (greatest_used c + 1)
+    (active_by_items c) = ap (λ (n : ℕ). count_below n (active_by_items c)) (sym next) ∙ count_high
+    (i - greatest_used c) (greatest_used c + 1) (active_by_items c)
     (λ j above. none_above c j (omega (arith, above))) in
-    let counted : count_below (greatest_used d + 1) (active_by_items d)
-    ≡ count_below (greatest_used c + 1) (active_by_items c) =
-    ap (λ (n : ℕ). count_below (n + 1) (active_by_items d)) used
-    ∙ count_same (i + 1) (active_by_items d) (active_by_items c) still ∙ high in
+    let counted : count_below (greatest_used d + 1) (active_by_items d) ≡ count_below
+    (greatest_used c + 1) (active_by_items c) =
+    ap (λ (n : ℕ). count_below (n + 1) (active_by_items d)) used ∙ count_same (i + 1)
+    (active_by_items d) (active_by_items c) still ∙ high in
     record {
-      entries = said_reset h.streams.entries i c d g.streams.entries same dead
-          (reset_here i code c.sent);
+      entries = said_reset _ _ c d g.streams.entries same dead (reset_here i code c.sent);
       active_count = omega (arith, none, g.streams.active_count, counted);
       highest = sym used;
       last_processed = processed_fault c.role event c.reported i h.streams.last_processed
@@ -114,8 +112,8 @@ new_fault e log decoded i end octets code may w g =
     let item : Item = block i end octets in
     let n : ℕ = code_number code in
     let none = fresh_none e c i may g in
-    let count : is_one (is_some (stream_at e i)) ≡ 0 =
-    ap (λ (x : Option StreamEntry). is_one (is_some (stream_in x))) none in
+    let count : is_one (is_some (stream_at e i)) ≡ 0 = ap
+    (λ (x : Option StreamEntry). is_one (is_some (stream_in x))) none in
     let streams : Streams = record e.streams {
       entries = map.insert e.streams.entries i reset_entry;
       active_count = e.streams.active_count - is_one (is_some (stream_at e i));
@@ -128,8 +126,7 @@ new_fault e log decoded i end octets code may w g =
     rw (is_fresh_here e log i w.same_role may g)
     (returned (record (queue_output (with_table_after e decoded item) (alone (Reset i n) ∷ [])) {
       streams = streams;
-    }) (with_sent (read log decoded item) (alone (Reset i n) ∷ [])) (ResetEvent i n true ∷ []) _ _
-    (omega (arith, block_takes, dead_owing))
+    }) _ _ _ _ (omega (arith, block_takes, dead_owing))
     (wrote_connection e.role e.failed e.output.waiting (read log decoded item)
     (end_view e).max_payload (Reset i n) w) g.windows.unreturned
     (fault_advances (core_facts e) c i n item decoded e.windows.recv streams

@@ -80,9 +80,8 @@ unfolding resets
 reset_dead c i code =
     false_from_ne_true (active_by_items (reads c (alone (Reset i code))) i) (λ alive.
     both_ways (list_any (resets i) (alone (Reset i code) ∷ c.received))
-    (lasts_parts i (alone (Reset i code) ∷ c.received) c.sent (active_parts c.role i
-    (alone (Reset i code) ∷ c.received) c.sent c.reported alive).lasts).unreset
-    (or_left _ _ (eq-eqb i i refl)))
+    (lasts_parts i (alone (Reset i code) ∷ c.received) c.sent (active_parts _ _
+    _ _ c.reported alive).lasts).unreset (or_left _ _ (eq-eqb i i refl)))
 
 -- the event of an RST_STREAM that was read is harmless, reports no flow and shows nothing taken
 reset_harmless : (i code : ℕ) → ChangesNoStream (ResetEvent i code false)
@@ -111,8 +110,7 @@ reset_active_read h c i code alive g =
     let same : (j : ℕ) → j ≢ i → SameAt j c (reads c item) = λ j other. same_read j c item
     (reset_common i code).settings (reset_apart i code j other) (reset_gives i code j) in
     read_step h c item _ h.windows.send h.windows.recv (reset_common i code)
-    (streams_closed h.streams i (map.remove h.streams.entries i) h.streams.resets c (reads c item)
-    same alive (reset_dead c i code)
+    (streams_closed _ _ _ _ c (reads c item) same alive (reset_dead c i code)
     (said_removed h.streams.entries i c (reads c item) g.streams.entries same (reset_dead c i code)
     (lasts_parts i c.received c.sent (active_parts c.role i c.received c.sent c.reported
     alive).lasts).kept) (reset_used c i code) refl g.streams.resets g.streams)
@@ -124,9 +122,7 @@ reset_reported_dead : (log : Log) (decoded : Option Decoded) (i code : ℕ)
     [])) i ≡ false
 unfolding with_reported
 reset_reported_dead log decoded i code =
-    active_reported log.role i (alone (Reset i code) ∷ log.received) log.sent
-    (ResetEvent i code false) log.reported ((reset_harmless i code).names i)
-    ∙ reset_dead (core log) i code
+    active_reported _ _ _ _ _ _ ((reset_harmless i code).names i) ∙ reset_dead (core log) i code
 
 -- What the stream leaves owing.
 reset_owing : (e : End) (log : Log) (decoded : Option Decoded) (i code : ℕ)
@@ -138,8 +134,7 @@ unfolding with_reported unreleased reported_total flow_on
 reset_owing e log decoded i code alive g =
     let owed : owed_entry (map.get e.streams.entries i) ≡ kept_back (core log) i = ap owed_entry
     (active_said e (core log) i g alive) in
-    let owing = owes_all log (with_reported (read log decoded (alone (Reset i code)))
-    (ResetEvent i code false ∷ [])) i alive (reset_reported_dead log decoded i code) in
+    let owing = owes_all _ _ i alive (reset_reported_dead log decoded i code) in
     ap (λ (n : ℕ). 0 + n) (owed ∙ sym (owing ∙ ap (λ (x : ℕ). x - released i log.calls)
     (zero-add _)))
 
@@ -157,8 +152,7 @@ reset_reported e log decoded i code alive w g =
         entries = map.remove e.streams.entries i;
         active_count = e.streams.active_count - 1;
       };
-    }) (read log decoded item) (ResetEvent i code false ∷ []) _ _
-    (reset_owing e log decoded i code alive g) w g.windows.unreturned
+    }) _ _ _ _ (reset_owing e log decoded i code alive g) w g.windows.unreturned
     (quiet_reported _ (reads (core log) item) (ResetEvent i code false)
     (reset_harmless i code) (reset_flow i code) (reset_shows i code)
     (reset_active_read (core_facts e) (core log) i code alive g))
@@ -203,10 +197,9 @@ unfolding with_verdict after_ignored replies_to events_of discarded_flow stream_
 data_ignored e log decoded i end octets pad dead within w g =
     let item : Item = alone (Data i end octets pad) in
     let n : ℕ = length (payload_of (Data i end octets pad)) in
-    returned (record e { windows = record e.windows { recv = e.windows.recv - n } })
-    (read log decoded item) [] n _
-    (omega (arith, dead_owing log (read log decoded item) i dead, data_takes i end octets pad))
-    w g.windows.unreturned
+    returned (record e { windows = record e.windows { recv = e.windows.recv - n } }) _ [] _ _
+    (omega (arith, dead_owing log (read log decoded item) i dead, data_takes i end octets pad)) w
+    g.windows.unreturned
     (dead_read (core_facts e) (core log) item i (e.windows.recv - n) (data_common i end octets
     pad) (data_apart i end octets pad) (data_opens i end octets pad i)
     (data_used (core log) i end octets pad) (data_gives i end octets pad)

@@ -1,9 +1,9 @@
 -- What is unreturned is added, and perhaps returned at an end as at its log, and events are
 -- reported that change little of what an end keeps.
 use Rattle.h2_laws_machine.proofs.Names.{◌≡◌, ℕ, ◌+◌, List, [], ◌∷◌, ◌++◌, None, refl, arith}
-use Rattle.h2_laws_machine.proofs.Names.{WindowUpdate, alone, Event, Log, waiting, with_sent}
-use Rattle.h2_laws_machine.proofs.Names.{with_reported, with_unreturned, with_credit_returned}
-use Rattle.h2_laws_machine.proofs.Names.{returns_credit, both_by, End, end_view, add_unreturned}
+use Rattle.h2_laws_machine.proofs.Names.{WindowUpdate, alone, Event, Log, with_sent, with_reported}
+use Rattle.h2_laws_machine.proofs.Names.{with_unreturned, with_credit_returned, both_by, End}
+use Rattle.h2_laws_machine.proofs.Names.{end_view, add_unreturned}
 use Rattle.h2_laws_machine.proofs.LogCore.{StreamsOf, Core, CoreFacts, Advances, Going, core}
 use Rattle.h2_laws_machine.proofs.LogCore.{core_facts}
 use Rattle.h2_laws_machine.proofs.SentConnectionItems.{widened_advances}
@@ -33,8 +33,7 @@ paid : (h : CoreFacts) (c : Core) (more : ℕ) → Advances h c
 paid h c more g =
     rw (← g.windows.unreturned) (widened_advances (record h {
       windows = record h.windows { unreturned = 0 };
-    }) (record c { unreturned = 0 }) (h.windows.unreturned + more)
-    (unreturned_advances h c 0 0 refl g))
+    }) (record c { unreturned = 0 }) _ (unreturned_advances h c 0 0 refl g))
 
 -- the core of a log with events that were reported
 reports_core : (log : Log) (events : List Event) → core (with_reported log events) ≡ record
@@ -53,8 +52,7 @@ unfolding add_unreturned with_unreturned with_sent
 returned e log events n more same waits unreturned g =
     let after = record (core log) { reported = events ++ log.reported } in
     rw (same, waits_much e log waits.output)
-    (both_by (λ (x : End) (next : Log). After x (with_reported next events))
-    (returns_credit more (waiting log))
+    (both_by (λ (x : End) (next : Log). After x (with_reported next events)) _
     (after_going _ _ (reports_connection e.role e.failed _ _ events (credit_connection e.role
     e.failed e.output.waiting log (end_view e).max_payload more e.windows.unreturned unreturned
     waits))

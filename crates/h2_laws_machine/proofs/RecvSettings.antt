@@ -7,10 +7,9 @@ use Names.{EncoderState, Settings, stream_of, Item, alone, stream_of_item, data_
 use Names.{increment_on, is_block_on, ends, resets, is_goaway, total, greatest_block, value_read}
 use Names.{value_after, one_settings, settings_count, first_window, given_on, Log, allowed_by}
 use Names.{least_goaway, StreamView, NoEvent, Decoded, replies_to, read, with_sent, with_verdict}
-use Names.{events_of, discarded_flow, encoder_after_item, End, StreamEntry, active_entry, end_view}
-use Names.{each_entry, shifted_entry, queue_output, with_encoder, after_ignored, entry_by}
-use Names.{value_kept, value_changed, changed_entry, get_each, encoder_after_settings}
-use Names.{apply_settings}
+use Names.{events_of, discarded_flow, End, StreamEntry, active_entry, end_view, each_entry}
+use Names.{shifted_entry, after_ignored, entry_by, value_kept, value_changed, changed_entry}
+use Names.{get_each, encoder_after_settings}
 use Rattle.h2_laws_machine.proofs.EachStream.{each_by, shifted}
 use Rattle.h2_laws_machine.proofs.LogCore.{said, Core, core, CoreFacts, core_facts, Advances, Going}
 use Rattle.h2_laws_machine.proofs.LogCore.{StreamsOf, active_by_items}
@@ -68,8 +67,7 @@ value_none : (id first : ℕ) (items : List Item) → settings_count items ≡ 0
 unfolding settings_count value_read
 value_none id first [] none = refl
 value_none id first (item ∷ items) none =
-    value_kept id first item items (omega (arith, none))
-    ∙ value_none id first items (omega (arith, none))
+    value_kept _ _ _ items (omega (arith, none)) ∙ value_none id first items (omega (arith, none))
 
 -- The bound on streams is the same before pairs, by the test whether no SETTINGS came before.
 allowed_by_first : (none : Bool) (allowed value : ℕ)
@@ -93,11 +91,9 @@ allowed_after : (started : Bool) (allowed : ℕ) (pairs : List (ℕ × ℕ)) (re
     ≡ allowed_by (alone (Settings false pairs) ∷ received)
 unfolding allowed_by
 allowed_after started allowed pairs received begun is =
-    bounded_after 3 1000 (first_allowed started allowed) (value_read 3 1000 received) pairs
-    (ap (λ (b : Bool). min 1000 (first_allowed b allowed)) begun
-    ∙ allowed_by_first (settings_count received == 0) allowed (value_read 3 1000 received) is
-    (λ none. value_none 3 1000 received (eqb-true (settings_count received) 0 none)))
-    ∙ sym (allowed_settings pairs received)
+    bounded_after 3 1000 _ _ _ (ap (λ (b : Bool). min 1000 (first_allowed b allowed)) begun
+    ∙ allowed_by_first (settings_count received == 0) _ _ is
+    (λ none. value_none 3 1000 received (eqb-true _ 0 none))) ∙ sym (allowed_settings _ _)
 
 -- SETTINGS give no stream anything, and take nothing.
 settings_give : (i : ℕ) (pairs : List (ℕ × ℕ)) → increment_on i (alone (Settings false pairs)) ≡ 0
@@ -112,8 +108,7 @@ settings_take pairs = refl
 settings_active : (c : Core) (pairs : List (ℕ × ℕ)) (i : ℕ)
     → active_by_items (settled c pairs) i ≡ active_by_items c i
 unfolding is_block_on ends resets
-settings_active c pairs i = active_read c.role i (alone (Settings false pairs)) c.received c.sent
-    c.reported refl refl refl
+settings_active c pairs i = active_read _ _ _ _ _ c.reported refl refl refl
 
 -- Its receive window, and whether the peer has ended it, are as before.
 settings_recv : (c : Core) (pairs : List (ℕ × ℕ)) (i : ℕ) → (said c i).recv_window
@@ -138,8 +133,7 @@ settings_said c pairs i old new was is =
     let gave : total (increment_on i) (item ∷ c.received) ≡ total (increment_on i) c.received =
     total_quiet (increment_on i) item c.received (settings_give i pairs) in
     same_stream (record (said c i) { send_window = ((said c i).send_window +ℤ pos new) -ℤ pos old })
-    (said (settled c pairs) i) (rw (was, is, gave) (shifted (value_read 4 first_window c.received)
-    (value_read 4 first_window (item ∷ c.received)) (total (increment_on i) c.received)
+    (said (settled c pairs) i) (rw (was, is, gave) (shifted _ _ _
     (total (data_on i) c.sent))) (settings_recv c pairs i) refl (settings_ended c pairs i) refl
 
 -- The streams are the log's, once their send windows are shifted.
@@ -151,22 +145,20 @@ settings_streams h c pairs g =
     let old = h.peer.initial_window in
     let new = value_after 4 old pairs in
     let change = shifted_entry old new in
-    let is : new ≡ value_read 4 first_window (item ∷ c.received) =
-    ap (λ (n : ℕ). value_after 4 n pairs) g.peer.initial_window
-    ∙ sym (value_changed 4 first_window pairs c.received) in
+    let is : new ≡ value_read 4 first_window (item ∷ c.received) = ap
+    (λ (n : ℕ). value_after 4 n pairs) g.peer.initial_window ∙ sym
+    (value_changed 4 first_window pairs c.received) in
     record {
-      entries = λ i. get_each change h.streams.entries i
-          ∙ ap (λ (x : Option StreamEntry). changed_entry change x) (g.streams.entries i)
-          ∙ each_by change (active_by_items c i) (list_any (resets i) c.sent) (said c i)
-          (said (settled c pairs) i) refl
+      entries = λ i. get_each change h.streams.entries i ∙ ap
+          (λ (x : Option StreamEntry). changed_entry change x) (g.streams.entries i) ∙ each_by _
+          (active_by_items c i) _ (said c i) (said (settled c pairs) i) refl
           (ap (λ (s : StreamView). active_entry s) (settings_said c pairs i old new
           g.peer.initial_window is))
           ∙ ap (λ (b : Bool). entry_by b (list_any (resets i) c.sent) (said (settled c pairs) i))
           (sym (settings_active c pairs i));
       active_count = rw (used_read c.role item c.received c.sent (λ items. refl))
           (g.streams.active_count ∙ sym (count_same _ _ _ (settings_active c pairs)));
-      highest = g.streams.highest
-          ∙ sym (used_read c.role item c.received c.sent (λ items. refl));
+      highest = g.streams.highest ∙ sym (used_read c.role item c.received c.sent (λ items. refl));
       last_processed = g.streams.last_processed;
       resets = g.streams.resets;
     }
@@ -181,17 +173,15 @@ settings_read h c pairs begun g =
     record {
       reading = record { begun = g.reading.begun; table = g.reading.table };
       encoder = ap (λ (x : EncoderState). encoder_after_settings x pairs) g.encoder;
-      streams = settings_streams h c pairs g;
-      windows = windows_read h.windows c.received c.sent c.unreturned item h.windows.send
-          h.windows.recv (omega (arith, settings_give 0 pairs)) (omega (arith, settings_take pairs))
-          g.windows;
+      streams = settings_streams _ _ _ g;
+      windows = windows_read _ _ _ _ _ _ _ (omega (arith, settings_give 0 pairs))
+          (omega (arith, settings_take pairs)) g.windows;
       peer = record {
-        initial_window = ap (λ (n : ℕ). value_after 4 n pairs) g.peer.initial_window
-            ∙ sym (value_changed 4 first_window pairs c.received);
-        max_streams = allowed_after h.reading.started h.peer.max_streams pairs c.received begun
-            g.peer.max_streams;
-        max_frame = ap (λ (n : ℕ). value_after 5 n pairs) g.peer.max_frame
-            ∙ sym (value_changed 5 16384 pairs c.received);
+        initial_window = ap (λ (n : ℕ). value_after 4 n pairs) g.peer.initial_window ∙ sym
+            (value_changed 4 first_window _ _);
+        max_streams = allowed_after _ _ _ _ begun g.peer.max_streams;
+        max_frame = ap (λ (n : ℕ). value_after 5 n pairs) g.peer.max_frame ∙ sym
+            (value_changed 5 16384 _ _);
       };
       own = g.own;
       goaway = assumption g;
@@ -220,9 +210,7 @@ settings_ignored e log decoded pairs begun w g =
     let item : Item = alone (Settings false pairs) in
     let reply : Item = alone (Settings true []) in
     let dead = zero_dead (core log) in
-    unsettled (apply_settings (queue_output (with_encoder e (encoder_after_item e.output.encoder
-    item)) (reply ∷ [])) pairs) (with_sent (read log decoded item) (reply ∷ [])) [] _
-    (omega (arith, dead_owing))
+    unsettled _ _ [] _ (omega (arith, dead_owing))
     (wrote_connection e.role e.failed e.output.waiting (read log decoded item)
     (end_view e).max_payload (Settings true []) w) g.windows.unreturned
     (quiet_wrote (applied (core_facts e) pairs) (settled (core log) pairs) reply e.windows.recv

@@ -2,13 +2,12 @@
 use Rattle.h2_laws_machine.proofs.Names
 use Names.{◌≡◌, ℕ, ◌≤◌, ◌<◌, ◌+◌, ◌-◌, Bool, true, false, nat_lt, max, pos, ◌+ℤ◌, ◌-ℤ◌, List, []}
 use Names.{◌∷◌, Option, Some, None, is_some, refl, ap, sym, ◌∙◌, arith, list_any, ltb-true, le-ltb}
-use Names.{Settings, stream_of, Item, alone, stream_of_item, resets, total, increment_on, data_on}
-use Names.{Event, AckedEvent, flow_on, one_acked, one_pong, reported_total, reports_unprocessed}
-use Names.{processed_by, Values, is_server, settings_count, own_value, first_window, granted_on}
-use Names.{Log, released, Reported, Decoded, replies_to, read, with_sent, with_verdict, events_of}
-use Names.{discarded_flow, End, StreamEntry, active_entry, StreamView, each_entry}
-use Names.{recv_shifted_entry, apply_own_settings, after_reported, AwaitsValues, entry_by}
-use Names.{changed_entry, get_each}
+use Names.{Settings, stream_of, Item, alone, stream_of_item, resets, Event, AckedEvent, flow_on}
+use Names.{one_acked, one_pong, reported_total, reports_unprocessed, processed_by, Values}
+use Names.{is_server, settings_count, own_value, first_window, granted_on, Log, released, Reported}
+use Names.{Decoded, replies_to, with_sent, with_verdict, events_of, discarded_flow, End}
+use Names.{StreamEntry, active_entry, StreamView, each_entry, recv_shifted_entry, after_reported}
+use Names.{AwaitsValues, entry_by, changed_entry, get_each}
 use Rattle.h2_laws_machine.proofs.EachStream.{each_by, shifted}
 use Rattle.h2_laws_machine.proofs.LogCore.{said, Core, core, CoreFacts, core_facts, Advances, Going}
 use Rattle.h2_laws_machine.proofs.LogCore.{confirmed, active_by_items}
@@ -53,9 +52,7 @@ unfolding granted_on
 ack_said c i old new count was is all =
     same_stream (record (said c i) { recv_window = ((said c i).recv_window +ℤ pos new) -ℤ pos old })
     (said (report c AckedEvent) i) refl
-    (rw (was, is, all) (shifted (own_value 4 first_window (confirmed c) c.sent)
-    (own_value 4 first_window count c.sent) (total (increment_on i) c.sent)
-    (total (data_on i) c.received)))
+    (rw (was, is, all) (shifted (own_value 4 first_window (confirmed c) c.sent) _ _ _))
     (ap (λ (n : ℕ). n - released i c.calls) (sym (reported_kept (flow_on i) AckedEvent c.reported
     (ack_flow i)))) refl refl
 
@@ -71,24 +68,23 @@ ack_advances : (h : CoreFacts) (c : Core) (values : Values) → h.own.awaited �
     }) (report c AckedEvent)
 ack_advances h c values waits most g =
     let w : AwaitsValues c.role c.sent values = g.own.awaited values waits in
-    let some : nat_lt (confirmed c) (settings_count c.sent) ≡ true = sym g.own.awaits
-    ∙ ap is_some waits in
-    let above : confirmed c < settings_count c.sent = ltb-true (confirmed c) (settings_count c.sent)
-    some in
+    let some : nat_lt (confirmed c) (settings_count c.sent) ≡ true = sym g.own.awaits ∙ ap is_some
+    waits in
+    let above : confirmed c < settings_count c.sent = ltb-true (confirmed c) _ some in
     let all : confirmed (report c AckedEvent) ≡ settings_count c.sent = omega (arith, ack_one) in
     let pongs : reported_total one_pong (AckedEvent ∷ c.reported) ≡ reported_total one_pong
     c.reported = reported_kept one_pong AckedEvent c.reported ack_pong in
-    let active : (i : ℕ) → active_by_items (report c AckedEvent) i ≡ active_by_items c i =
-    λ i. active_reported c.role i c.received c.sent AckedEvent c.reported (ack_names i) in
+    let active : (i : ℕ) → active_by_items (report c AckedEvent) i ≡ active_by_items c i = λ i.
+    active_reported c.role i c.received c.sent AckedEvent c.reported (ack_names i) in
     let first : max 1 (settings_count c.sent) ≡ settings_count c.sent = omega (arith, above) in
     let change = recv_shifted_entry h.own.in_force.initial_window values.initial_window in
     record {
       reading = g.reading;
       encoder = g.encoder;
       streams = record {
-        entries = λ i. get_each change h.streams.entries i
-            ∙ ap (λ (x : Option StreamEntry). changed_entry change x) (g.streams.entries i)
-            ∙ each_by change (active_by_items c i) (list_any (resets i) c.sent) (said c i)
+        entries = λ i. get_each change h.streams.entries i ∙ ap
+            (λ (x : Option StreamEntry). changed_entry change x) (g.streams.entries i) ∙ each_by
+            change (active_by_items c i) (list_any (resets i) c.sent) (said c i)
             (said (report c AckedEvent) i) refl
             (ap (λ (s : StreamView). active_entry s) (ack_said c i h.own.in_force.initial_window
             values.initial_window (settings_count c.sent) g.own.in_force.initial_window
@@ -129,8 +125,6 @@ unfolding with_verdict after_reported replies_to events_of discarded_flow stream
 ack_reported e log decoded pairs values waits most w g =
     let item : Item = alone (Settings true pairs) in
     let dead = zero_dead (core log) in
-    rw waits
-    (unsettled (apply_own_settings e (Some values)) (read log decoded item) (AckedEvent ∷ []) _
-    (omega (arith, dead_owing)) w g.windows.unreturned
+    rw waits (unsettled _ _ (AckedEvent ∷ []) _ (omega (arith, dead_owing)) w g.windows.unreturned
     (ack_advances (core_facts e) (reads (core log) item) values waits most
     (quiet_read (core_facts e) (core log) item (plain_quiet (Settings true pairs) refl) g)))

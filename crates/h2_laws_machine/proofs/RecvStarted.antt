@@ -6,10 +6,9 @@ use Names.{Item, alone, block, Begun, Values, StreamView, Verdict, ConnectionFau
 use Names.{NoEvent, Reported, Decoded, FrameStep, fails_with, begins_block, completes, frame_step}
 use Names.{grouping_step, grouped, may_be_first, verdict_of, verdict_by_rules, End, end_view}
 use Names.{stream_at, add_unreturned, set_stream, close_stream, update_stream, with_flow}
-use Names.{widen_send_window, apply_own_settings, with_table_after, with_begun, after_reported}
-use Names.{after_ignored, after_stream_fault, after_verdict, after_step, after_frame, Interrupted}
-use Names.{next_fault, fault_outside, fault_inside, block_fault_code, receive_data}
-use Names.{narrow_recv_window, receive_block}
+use Names.{widen_send_window, apply_own_settings, with_begun, after_reported, after_ignored}
+use Names.{after_stream_fault, after_verdict, after_step, after_frame, Interrupted, next_fault}
+use Names.{fault_outside, fault_inside, block_fault_code, receive_data, receive_block}
 use Rattle.h2_laws_machine.proofs.RulesAtEnds.{verdict_within_limits}
 use Rattle.h2_laws_machine.proofs.RecvUnprocessed.{credit_leaves}
 use Rattle.h2_laws_machine.proofs.UpInvariantReads.{fault_reported, fault_resets}
@@ -35,8 +34,7 @@ update_started e i stream = by (stream.ended_in && stream.ended_out) where
 data_started : (e : End) (i count : ℕ) (end : Bool) (stream : Option StreamView)
     → started (receive_data e i count end stream) ≡ started e
 data_started e i count end None = refl
-data_started e i count end (Some stream) =
-    update_started (narrow_recv_window e count) i (with_flow stream count end)
+data_started e i count end (Some stream) = update_started _ _ (with_flow stream count end)
 
 block_started : (e : End) (i : ℕ) (end : Bool) (stream : Option StreamView)
     → started (receive_block e i end stream) ≡ started e
@@ -62,8 +60,7 @@ own_started e (Some values) = refl
 reported_started : (e : End) (decoded : Option Decoded) (item : Item)
     → started (after_reported e decoded item) ≡ started e
 unfolding after_reported
-reported_started e decoded (block i end octets) =
-    block_started (with_table_after e decoded (block i end octets)) i end (stream_at e i)
+reported_started e decoded (block i end octets) = block_started _ _ _ (stream_at e i)
 reported_started e decoded (alone (Data i end octets pad)) = data_started e i _ end (stream_at e i)
 reported_started e decoded (alone (Reset i code)) = returned_started _ _
 reported_started e decoded (alone (Settings ack pairs)) = own_started e e.own.awaited
@@ -130,8 +127,7 @@ first_started : (e : End) (decoded : Option Decoded) (begun : Option Begun) (fra
     → (after_step e decoded (first_step begun frame)).failed ≡ None
     → started (after_step e decoded (first_step begun frame)) ≡ true
 unfolding after_step may_be_first grouping_step grouped fault_outside fault_inside
-first_started e decoded None (Settings false pairs) up =
-    settings_started (with_begun e None) decoded pairs _ refl up
+first_started e decoded None (Settings false pairs) up = settings_started _ _ pairs _ refl up
 first_started e decoded (Some begun) (Settings false pairs) up =
     let wrong : Some (block_fault_code Interrupted) ≡ None = up in cc
 first_started e decoded begun frame up = let wrong : Some ProtocolError ≡ None = up in cc

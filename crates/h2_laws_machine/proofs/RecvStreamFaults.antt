@@ -141,8 +141,7 @@ fault_streams h c i code count item common apart used alive taken one g =
     rw one (streams_closed h.streams i (map.insert h.streams.entries i reset_entry)
     (h.streams.resets + 1) c d same alive (fault_dead c i code item)
     (said_reset h.streams.entries i c d g.streams.entries same (fault_dead c i code item)
-    (reset_here i code c.sent)) (fault_used c i code item ∙ used)
-    (taken_low (is_server c.role) event c.reported (λ server.
+    (reset_here i code c.sent)) (fault_used c i code item ∙ used) (taken_low _ _ _ (λ server.
     let low = chosen_low (code == 11) i in omega (arith, taken server, low, fault_shows i code)))
     (fault_resets c i code item h.streams.resets g.streams.resets) g.streams)
 
@@ -184,8 +183,8 @@ unfolding with_sent
 active_fault e log decoded i code recv n item common apart used gives takes is kept alive taken w
     g =
     let c : Core = core log in
-    let one : is_one (is_some (stream_at e i)) ≡ 1 =
-    ap (λ (s : Option StreamView). is_one (is_some s)) (stream_said e c i g alive) in
+    let one : is_one (is_some (stream_at e i)) ≡ 1 = ap
+    (λ (s : Option StreamView). is_one (is_some s)) (stream_said e c i g alive) in
     let streams : Streams = record e.streams {
       entries = map.insert e.streams.entries i reset_entry;
       active_count = e.streams.active_count - is_one (is_some (stream_at e i));
@@ -193,8 +192,7 @@ active_fault e log decoded i code recv n item common apart used gives takes is k
     } in
     returned (record (queue_output (before_reset e decoded item recv) (alone (Reset i code) ∷ [])) {
       streams = streams;
-    }) (with_sent (read log decoded item) (alone (Reset i code) ∷ []))
-    (ResetEvent i code true ∷ []) _ _ (fault_owing e log decoded i code n item is alive g)
+    }) _ _ _ _ (fault_owing e log decoded i code n item is alive g)
     (wrote_connection e.role e.failed e.output.waiting (read log decoded item)
     (end_view e).max_payload (Reset i code) w) g.windows.unreturned
     (fault_advances (core_facts e) c i code item decoded recv streams common gives takes
@@ -217,8 +215,7 @@ unfolding with_verdict after_stream_fault replies_to events_of discarded_flow st
 block_fault e log decoded i end octets code alive low taken w g =
     rw (used_stale e (core log) i low g)
     (active_fault e log decoded i (code_number code) e.windows.recv 0 (block i end octets)
-    (block_common i end octets)
-    (λ j other. (block_apart i end octets j other, block_gives i end octets j))
+    (block_common _ _ _) (λ j other. (block_apart i end octets j other, block_gives i end octets j))
     (block_used log.role i end octets log.received log.sent low) (block_gives i end octets 0)
     (omega (arith, block_takes i end octets)) (omega (arith, block_takes i end octets)) refl
     alive taken w g)

@@ -4,10 +4,10 @@ use Rattle.h2_spec_log.specs.Events.{GoAwayEvent}
 use Rattle.h2_laws_log.proofs.LogViewLemmas.{least_by}
 use Rattle.h2_laws_machine.proofs.Names
 use Names.{◌≡◌, ℕ, ◌≤◌, ◌+◌, Bool, true, false, ◌==◌, if◌then◌else◌, pos, ◌+ℤ◌, ◌-ℤ◌, List, [], ◌∷◌}
-use Names.{Option, Some, refl, ap, sym, ◌∙◌, inl, inr, arith, zero-add, list_any, ints, cases_eq}
-use Names.{ne_eqb, GoAway, WindowUpdate, stream_of, Item, alone, log_view, stream_of_item, data_on}
-use Names.{data_of, increment_on, is_block_on, ends, resets, is_goaway, total, greatest_block}
-use Names.{Event, flow_on, one_acked, one_pong, reports_unprocessed, processed_by, value_read}
+use Names.{Option, Some, refl, ap, sym, ◌∙◌, inl, inr, arith, zero-add, ints, cases_eq, ne_eqb}
+use Names.{GoAway, WindowUpdate, stream_of, Item, alone, log_view, stream_of_item, data_on, data_of}
+use Names.{increment_on, is_block_on, ends, resets, is_goaway, total, greatest_block, Event}
+use Names.{flow_on, one_acked, one_pong, reports_unprocessed, processed_by, value_read}
 use Names.{one_settings, first_window, given_on, least_goaway, Log, greatest_number, NoEvent}
 use Names.{Reported, Decoded, replies_to, read, with_sent, with_reported, with_unreturned}
 use Names.{owed_at_close, with_verdict, events_of, discarded_flow, End, active_entry, stream_at}
@@ -30,8 +30,7 @@ use Rattle.h2_laws_machine.proofs.WaitingOutput.{Waits}
 goaway_same : (i : ℕ) (c : Core) (last code : ℕ) (debug : List ℕ)
     → SameAt i c (reads c (alone (GoAway last code debug)))
 unfolding one_settings is_block_on ends resets data_on increment_on
-goaway_same i c last code debug =
-    same_read i c (alone (GoAway last code debug)) refl (assumption) refl
+goaway_same i c last code debug = same_read _ _ _ refl (assumption) refl
 
 -- It opens nothing.
 goaway_used : (c : Core) (last code : ℕ) (debug : List ℕ)
@@ -61,8 +60,7 @@ goaway_read h c last code debug low g =
       goaway = record {
         last_sent = g.goaway.last_sent;
         least_received = ap (λ (x : Option ℕ). Some (least_last last x)) g.goaway.least_received
-            ∙ ap (λ (n : ℕ). Some n) (least_by (list_any is_goaway c.received) last
-            (least_goaway c.received) low (last_none c.received));
+            ∙ ap (λ (n : ℕ). Some n) (least_by _ _ _ low (last_none c.received));
       };
       ping = g.ping;
     }
@@ -97,8 +95,7 @@ goaway_reported e log decoded last code debug low w g =
       goaway = record e.goaway { received = Some (least_last last e.goaway.received) };
     }) (read log decoded item) (event ∷ []) _ (omega arith) w g.windows.unreturned
     (quiet_reported _ (reads (core log) item) event (goaway_harmless _ code)
-    (goaway_flow _ code) (goaway_shows _ code)
-    (goaway_read (core_facts e) (core log) last code debug low g))
+    (goaway_flow _ code) (goaway_shows _ code) (goaway_read (core_facts e) (core log) _ _ _ low g))
 
 -- A WINDOW_UPDATE is neither SETTINGS nor GOAWAY.
 pub update_common : (i n : ℕ) → IsCommon (alone (WindowUpdate i n))
@@ -124,8 +121,7 @@ update_used c i n = used_read c.role (alone (WindowUpdate i n)) c.received c.sen
 update_active : (c : Core) (i n j : ℕ) → active_by_items (reads c (alone (WindowUpdate i n))) j
     ≡ active_by_items c j
 unfolding is_block_on ends resets
-update_active c i n j = active_read c.role j (alone (WindowUpdate i n)) c.received c.sent c.reported
-    refl refl refl
+update_active c i n j = active_read _ _ _ _ _ c.reported refl refl refl
 
 -- a send window that is widened, by signed numbers
 wider : (v n t s : ℕ) → (pos (v + t) -ℤ pos s) +ℤ pos n ≡ pos (v + (n + t)) -ℤ pos s
@@ -139,9 +135,7 @@ update_said : (c : Core) (i n : ℕ) → record (said c i) {
 unfolding given_on total data_on ends value_read
 update_said c i n =
     same_stream (record (said c i) { send_window = (said c i).send_window +ℤ pos n })
-    (said (reads c (alone (WindowUpdate i n))) i)
-    (wider (value_read 4 first_window c.received) n (total (increment_on i) c.received)
-    (total (data_on i) c.sent)
+    (said (reads c (alone (WindowUpdate i n))) i) (wider _ _ _ (total (data_on i) c.sent)
     ∙ sym (ap (λ (k : ℕ). pos (value_read 4 first_window c.received + (k + total (increment_on i)
     c.received)) -ℤ pos (total (data_on i) c.sent)) (increment_here i n)))
     (rw zero-add refl) refl refl refl

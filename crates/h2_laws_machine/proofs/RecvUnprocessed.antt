@@ -6,9 +6,9 @@ use Names.{sym, ◌∙◌, zero-add, list_any, both_ways, eq-eqb, ne_eqb, false_
 use Names.{cond_both, Log, active, unreleased, released, next_unprocessed, Values, Event}
 use Names.{UnprocessedEvent, flow_on, one_acked, one_pong, reported_total, reports_unprocessed}
 use Names.{processed_by, is_server, took_none, with_reported, with_sent, with_unreturned}
-use Names.{owed_at_close, returns_credit, reported_one, End, owed_entry, return_credit}
-use Names.{add_unreturned, close_unprocessed, Represents, RepresentsWhileUp, credit_cases}
-use Names.{active_parts, lasts_parts, next_is_active, KeepsConnectionWindow, Frame}
+use Names.{owed_at_close, reported_one, End, owed_entry, return_credit, add_unreturned}
+use Names.{close_unprocessed, Represents, RepresentsWhileUp, credit_cases, active_parts}
+use Names.{lasts_parts, next_is_active, KeepsConnectionWindow, Frame}
 use Rattle.h2_laws_machine.proofs.ConservedBySteps.{holds, is_whole, ended, lacks_none}
 use Rattle.h2_laws_machine.proofs.LogCore.{Core, core, CoreFacts, core_facts, Advances, Going}
 use Rattle.h2_laws_machine.proofs.LogCore.{active_by_items, kept_back, going, runs}
@@ -53,20 +53,17 @@ named_dead : (c : Core) (n : ℕ) → active_by_items (report c (UnprocessedEven
 named_dead c n =
     false_from_ne_true (active_by_items (report c (UnprocessedEvent n)) n) (λ alive.
     both_ways (list_any (reports_unprocessed n) (UnprocessedEvent n ∷ c.reported))
-    (active_parts c.role n c.received c.sent (UnprocessedEvent n ∷ c.reported) alive).unnamed
-    (or_left _ _ (names_it n)))
+    (active_parts _ _ _ _ _ alive).unnamed (or_left _ _ (names_it n)))
 
 -- Others are as they were.
 others_same : (c : Core) (n j : ℕ) → j ≢ n → SameAt j c (report c (UnprocessedEvent n))
 others_same c n j other =
     let acks : reported_total one_acked (UnprocessedEvent n ∷ c.reported) ≡ reported_total one_acked
-    c.reported = reported_kept one_acked (UnprocessedEvent n) c.reported (no_ack n) in
+    c.reported = reported_kept one_acked _ _ (no_ack n) in
     let flow : reported_total (flow_on j) (UnprocessedEvent n ∷ c.reported) ≡ reported_total
-    (flow_on j) c.reported = reported_kept (flow_on j) (UnprocessedEvent n) c.reported
-    (no_flow n j) in
+    (flow_on j) c.reported = reported_kept _ _ _ (no_flow _ _) in
     record {
-      active = active_reported c.role j c.received c.sent (UnprocessedEvent n) c.reported
-          (names_other n j other);
+      active = active_reported _ _ _ _ _ _ (names_other _ _ other);
       was_reset = refl;
       stream = λ alive. rw (acks, flow) refl;
     }
@@ -83,8 +80,7 @@ unprocessed_advances : (h : CoreFacts) (c : Core) (n : ℕ) → active_by_items 
 unprocessed_advances h c n alive g =
     let parts = active_parts c.role n c.received c.sent c.reported alive in
     let event : Event = UnprocessedEvent n in
-    reported_by h c event _ (no_ack n) (no_pong n)
-    (streams_closed h.streams n (map.remove h.streams.entries n) h.streams.resets c
+    reported_by h c event _ (no_ack n) (no_pong n) (streams_closed _ _ _ _ c
     (report c event) (others_same c n) alive (named_dead c n)
     (said_removed h.streams.entries n c (report c event) g.streams.entries (others_same c n)
     (named_dead c n) (lasts_parts n c.received c.sent parts.lasts).kept) refl
@@ -98,8 +94,7 @@ pub credit_leaves : {A : Type 0} (part : End → A) (e : End) (more : ℕ)
 unfolding add_unreturned
 credit_leaves part e more gives keeps =
     let kept = keeps (e.windows.unreturned + more) in
-    cond_both (returns_credit more (length e.output.waiting)) _ _
-    (λ (x : End). part x ≡ part e) (λ is. gives _ ∙ kept) (λ is. kept)
+    cond_both _ _ _ (λ (x : End). part x ≡ part e) (λ is. gives _ ∙ kept) (λ is. kept)
 
 -- The frames of a log don't hang on what is unreturned.
 pub returned_frames : (log : Log) (more : ℕ) → (with_unreturned more log).frames ≡ log.frames
@@ -122,8 +117,7 @@ unfolding with_reported unreleased reported_total flow_on
 named_owing e log n alive g =
     let owed : owed_entry (map.get e.streams.entries n) ≡ kept_back (core log) n = ap owed_entry
     (active_said e (core log) n g alive) in
-    let owing = owes_all log (with_reported log (UnprocessedEvent n ∷ [])) n alive
-    (named_dead (core log) n) in
+    let owing = owes_all _ _ n alive (named_dead (core log) n) in
     zero-add _ ∙ owed ∙ sym (owing ∙ ap (λ (x : ℕ). x - released n log.calls) (zero-add _))
 
 -- A machine that reports a stream as unprocessed represents the log with it.
@@ -144,19 +138,18 @@ unprocessed_represents values e log s up some =
       };
     } in
     let more : ℕ = owed_at_close log (with_reported log (UnprocessedEvent n ∷ [])) n in
-    let b : After (close_unprocessed e n) (took_none log) =
-    returned next log (UnprocessedEvent n ∷ []) owed more (named_owing e log n alive g)
-    waits g.windows.unreturned (unprocessed_advances (core_facts e) (core log) n alive g) in
+    let b : After (close_unprocessed e n) (took_none log) = returned next log
+    (UnprocessedEvent n ∷ []) owed more (named_owing e log n alive g) waits g.windows.unreturned
+    (unprocessed_advances (core_facts e) (core log) n alive g) in
     let whole : KeepsConnectionWindow e = record { whole = s.whole; used = s.used } in
-    let begun : (close_unprocessed e n).reading.started ≡ e.reading.started =
-    credit_leaves (λ (x : End). x.reading.started) next owed (λ x. refl) (λ m. refl) in
-    let role : (close_unprocessed e n).role ≡ e.role =
-    credit_leaves (λ (x : End). x.role) next owed (λ x. refl) (λ m. refl) in
+    let begun : (close_unprocessed e n).reading.started ≡ e.reading.started = credit_leaves
+    (λ (x : End). x.reading.started) next owed (λ x. refl) (λ m. refl) in
+    let role : (close_unprocessed e n).role ≡ e.role = credit_leaves (λ (x : End). x.role) next owed
+    (λ x. refl) (λ m. refl) in
     represents_by values (close_unprocessed e n) (took_none log) (rw role
     (reported_one s.came up some)) b.waits b.streams
     (λ still. runs (close_unprocessed e n) (took_none log) (begun ∙ r.started
-    ∙ ap (λ (fs : List Frame). not (length fs == 0))
-    (sym (reported_frames (with_unreturned more log) (UnprocessedEvent n ∷ [])
+    ∙ ap (λ (fs : List Frame). not (length fs == 0)) (sym (reported_frames _ _
     ∙ returned_frames log more))) (b.going still))
     (is_whole (close_unprocessed e n) (ended e n 0 (lacks_none e.windows.recv e.windows.unreturned
     e.streams.highest e.streams.entries (holds e whole))))

@@ -5,13 +5,12 @@ use Rattle.h2_laws_machine.proofs.Names
 use Names.{◌≡◌, ◌≢◌, ℕ, ◌≤◌, ◌+◌, ◌%◌, Bool, true, false, not, ◌==◌, nat_lt, nat_le, ◌&&◌, ◌||◌}
 use Names.{pos, Option, Some, None, refl, ap, sym, ◌∙◌, arith, list_any, nat_tests, end_view, End}
 use Names.{active_entry, stream_in, stream_at, is_beyond, state_by_entry, state_at, Streams}
-use Names.{log_view, data_on, data_of, ends, resets, increment_on, is_block_on, one_ping, is_goaway}
-use Names.{total, flow_on, one_pong, reported_total, greatest_processed, reports_unprocessed}
-use Names.{is_server, settings_count, openings, is_used, is_above, is_closed_by_us, when}
-use Names.{given_on_connection, granted_on_connection, Log, active, released, unreleased}
-use Names.{active_count, max_streams, Decoded, verdict_of_block, AllowedHistory, StreamView}
-use Names.{entry_by, goaway_sent_last, resets_used, active_used, when_some, connection_send_window}
-use Names.{connection_recv_window}
+use Names.{log_view, data_on, ends, resets, increment_on, is_block_on, one_ping, is_goaway, total}
+use Names.{flow_on, one_pong, reported_total, greatest_processed, reports_unprocessed, is_server}
+use Names.{settings_count, openings, is_used, is_above, is_closed_by_us, when, given_on_connection}
+use Names.{granted_on_connection, Log, active, released, unreleased, active_count, max_streams}
+use Names.{Decoded, verdict_of_block, AllowedHistory, StreamView, entry_by, goaway_sent_last}
+use Names.{resets_used, active_used, when_some, connection_send_window, connection_recv_window}
 use Rattle.h2_laws_machine.proofs.LogCore.{said, Core, core, Going, confirmed, active_by_items}
 use Rattle.h2_laws_machine.proofs.LogCore.{greatest_used, StreamsOf}
 use Rattle.h2_laws_machine.proofs.ViewsAgree.{stream_same, max_streams_agree, window_agrees}
@@ -79,8 +78,7 @@ pub none_said : (e : End) (c : Core) (i : ℕ) → Going e c → active_by_items
     → stream_at e i ≡ None
 none_said e c i g dead =
     ap stream_in (g.streams.entries i ∙ ap (λ (b : Bool). entry_by b (list_any (resets i) c.sent)
-    (said c i)) dead)
-    ∙ none_in (list_any (resets i) c.sent) (said c i)
+    (said c i)) dead) ∙ none_in _ (said c i)
 
 -- the state by the entry is that by what was read and written
 state_parts : (active was_reset used above idle : Bool) (s : StreamView)
@@ -107,8 +105,7 @@ pub state_same : (e : End) (c : Core) (i : ℕ) → e.role ≡ c.role → Sound 
 unfolding is_closed_by_us
 state_same e c i role sound g =
     rw (g.streams.entries i, g.streams.highest, g.goaway.last_sent, role, ← (sound.above i))
-    (state_parts (active_by_items c i) (list_any (resets i) c.sent) (is_used c.role i c.received
-    c.sent) (is_above c.role i c.sent)
+    (state_parts (active_by_items c i) _ _ (is_above c.role i c.sent)
     (i % 2 == 0 || nat_lt (greatest_used c) i) (said c i) (active_used c.role i c.received c.sent
     c.reported) (resets_used c.role i c.received c.sent sound.with_sent)
     (idle_by i (greatest_used c) ∙ ap not (sym (sound.used i))))
@@ -116,13 +113,11 @@ state_same e c i role sound g =
 -- The peer may send as much on the connection as the log says; and so may this end.
 pub recv_same : (e : End) (c : Core) → Going e c → pos e.windows.recv ≡ connection_recv_window
     c.received c.sent
-recv_same e c g = window_agrees e.windows.recv (total data_of c.received) (granted_on_connection
-    c.sent) g.windows.recv
+recv_same e c g = window_agrees _ _ (granted_on_connection c.sent) g.windows.recv
 
 pub send_same : (e : End) (c : Core) → Going e c → pos e.windows.send ≡ connection_send_window
     c.received c.sent
-send_same e c g = window_agrees e.windows.send (total data_of c.sent) (given_on_connection
-    c.received) g.windows.send
+send_same e c g = window_agrees _ _ (given_on_connection c.received) g.windows.send
 
 -- The verdict on a field block is the same at an end as at its log.
 pub block_verdict_same : (e : End) (log : Log) (i : ℕ) (decoded : Option Decoded)
@@ -136,8 +131,7 @@ block_verdict_same e log i (Some decoded) role sound g =
       state_same e (core log) i role sound g,
       stream_same e.streams (core log) i g.streams,
       role,
-      max_streams_agree log.role e.own.in_force.max_streams (max_streams log)
-          g.own.in_force.max_streams,
+      max_streams_agree _ _ (max_streams log) g.own.in_force.max_streams,
       g.streams.active_count,
       g.goaway.last_sent,
       when_some (list_any is_goaway log.sent) (goaway_sent_last log.sent),

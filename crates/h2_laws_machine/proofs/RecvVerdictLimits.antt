@@ -46,8 +46,7 @@ passing_block test i (alone frame ∷ items) here passes = passing_block test i 
 passing_block test i (block stream end octets ∷ items) here passes =
     elim (or_cases (stream == i) (list_any (is_block_on i) items) here) [
       | inl same ↦ or_left (test stream) (any_block test items) (rw (eqb-true stream i same) passes)
-      | inr after ↦ or_right (test stream) (any_block test items) (passing_block test i items after
-          passes)
+      | inr after ↦ or_right _ _ (passing_block test i items after passes)
     ]
 
 -- A send window is brought above the greatest window by another initial window just where what is
@@ -61,11 +60,7 @@ said_above : (c : Core) (i new : ℕ) → above_by_shift (value_read 4 first_win
     (active_entry (said c i))
     ≡ is_above_greatest (new + total (increment_on i) c.received) (total (data_on i) c.sent)
 unfolding given_on
-said_above c i new =
-    int_above (greatest_window + value_read 4 first_window c.received) (given_on i c.received)
-    (total (data_on i) c.sent) new
-    ∙ shift_above (value_read 4 first_window c.received) new (total (increment_on i) c.received)
-    (total (data_on i) c.sent)
+said_above c i new = int_above _ _ _ _ ∙ shift_above _ _ _ _
 
 -- what is kept and above the greatest window is an active stream's
 kept_is_active : (active was : Bool) (s : StreamView) (x : StreamEntry) (old new : ℕ)
@@ -98,12 +93,10 @@ above_same e log new g =
     (and_from (active log from.i) _ active_by_items.0 above)) (λ some.
     let from = block_passes _ (openings log.role log.received log.sent) some in
     let both = and_parts (active log from.i) _ from.passes in
-    any_found e.peer.initial_window new from.i (map.entries e.streams.entries)
-    (active_entry (said (core log) from.i))
+    any_found _ _ from.i (map.entries e.streams.entries) (active_entry (said (core log) from.i))
     (sym (map.get-entries e.streams.entries from.i) ∙ active_said e (core log) from.i g both.0)
     (ap (λ (o : ℕ). above_by_shift o new (active_entry (said (core log) from.i)))
-    g.peer.initial_window
-    ∙ said_above (core log) from.i new ∙ both.1))
+    g.peer.initial_window ∙ said_above (core log) from.i new ∙ both.1))
 
 -- The fault of SETTINGS is the same.
 faults_same : (e : End) (log : Log) (pairs : List (ℕ × ℕ)) → e.role ≡ log.role → Going e (core log)

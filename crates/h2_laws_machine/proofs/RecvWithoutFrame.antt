@@ -2,8 +2,8 @@
 -- with them.
 use Rattle.h2_wire.specs.declared.fault.WireFault.{WireFault}
 use Rattle.h2_laws_machine.proofs.Names
-use Names.{◌≡◌, ℕ, ◌≤◌, true, List, [], None, sym, subst, Code, InternalError, wire_fault_code}
-use Names.{Role, Values, is_server, Log, active, last_processed, used, with_failure, took_part}
+use Names.{◌≡◌, ℕ, ◌≤◌, true, List, None, sym, subst, Code, InternalError, wire_fault_code, Role}
+use Names.{Values, is_server, Log, active, last_processed, used, with_failure, took_part}
 use Names.{took_fault, took_out_of_memory, IsLog, took_some, met_fault, ran_out_of_memory, Streams}
 use Names.{End, end_view, fail, Represents, RepresentsWhileUp, KeepsConnectionWindow, TakesOctets}
 use Names.{TakesPart, TakesFault, MayRunOutOfMemory}
@@ -24,8 +24,7 @@ represents_by values e log came connection_facts streams running whole =
 used_running : (e : End) (log : Log) (octets unparsed : List ℕ) → StreamsOf e.streams (core log)
     → RepresentsWhileUp e log → RepresentsWhileUp e (used log octets unparsed)
 unfolding used
-used_running e log octets unparsed streams r =
-    runs e (used log octets unparsed) r.started (going e log streams r)
+used_running e log octets unparsed streams r = runs _ _ r.started (going e log streams r)
 
 -- A machine represents the log after octets that end no frame.
 pub part_represents : (values : Values) (e : End) (log : Log) (octets unparsed : List ℕ)
@@ -35,8 +34,7 @@ unfolding used
 part_represents values e log octets unparsed s takes part =
     represents_by values e (used log octets unparsed) (took_some s.came takes octets unparsed
     (subst (λ (role : Role). TakesPart role log octets unparsed) (sym s.role) part))
-    (waits_of values e log s) s.streams
-    (λ up. used_running e log octets unparsed s.streams (s.running up))
+    (waits_of _ _ _ s) s.streams (λ up. used_running e log octets unparsed s.streams (s.running up))
     (record { whole = s.whole; used = s.used })
 
 -- A machine that makes the connection fail represents a log that fails with the same code and the
@@ -66,12 +64,10 @@ pub fault_represents : (values : Values) (e : End) (log : Log) (octets : List �
     e.streams.last_processed e) (took_fault log octets fault)
 unfolding used
 fault_represents values e log octets fault s takes at =
-    failing_represents values e (used log octets []) (wire_fault_code fault)
-    e.streams.last_processed (last_processed log) (met_fault s.came takes octets fault
+    failing_represents _ _ _ _ _ _ (met_fault s.came takes octets fault
     (subst (λ (role : Role). TakesFault role log octets fault) (sym s.role) at))
-    (processed_same e.streams log s.streams) (waits_of values e log s)
-    (active_processed e.role values log s.came takes.up) s.streams
-    (record { whole = s.whole; used = s.used })
+    (processed_same _ _ s.streams) (waits_of _ _ _ s) (active_processed _ _ _ s.came takes.up)
+    s.streams (record { whole = s.whole; used = s.used })
 
 -- A machine represents the log after octets at which memory runs out.
 pub out_of_memory_represents : (values : Values) (e : End) (log : Log) (octets : List ℕ)
@@ -80,9 +76,7 @@ pub out_of_memory_represents : (values : Values) (e : End) (log : Log) (octets :
     octets)
 unfolding used
 out_of_memory_represents values e log octets s up may =
-    failing_represents values e (used log octets []) InternalError e.streams.last_processed
-    (last_processed log) (ran_out_of_memory s.came up octets
+    failing_represents _ _ _ InternalError _ _ (ran_out_of_memory s.came up octets
     (subst (λ (role : Role). MayRunOutOfMemory role log octets) (sym s.role) may))
-    (processed_same e.streams log s.streams) (waits_of values e log s)
-    (active_processed e.role values log s.came up) s.streams
+    (processed_same _ _ s.streams) (waits_of _ _ _ s) (active_processed _ _ _ s.came up) s.streams
     (record { whole = s.whole; used = s.used })

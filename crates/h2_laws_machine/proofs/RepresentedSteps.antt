@@ -5,10 +5,9 @@ use Names.{◌==◌, not, ◌≡◌, ℕ, ◌+◌, List, [], ◌∷◌, ◌++◌
 use Names.{arith, WindowUpdate, Item, alone, end_view, End, log_view, View, Values, Act, Answer}
 use Names.{IsTypedAct, Log, active, released, unreleased, max_payload_sent, is_active, with_sent}
 use Names.{with_unreturned, with_credit_returned, owed_at_close, called, before_put_out, MayAnswer}
-use Names.{with_call, encoder_after_call, refusal_of, answer_of, items_of, returns_credit}
-use Names.{returns_before_put_out, called_one, queue_output, with_encoder, return_credit}
-use Names.{add_unreturned, after_call, before_put_out_at, EncoderState, Represents}
-use Names.{RepresentsWhileUp, both_by, log_represents}
+use Names.{with_call, encoder_after_call, refusal_of, answer_of, items_of, returns_before_put_out}
+use Names.{called_one, queue_output, with_encoder, return_credit, add_unreturned, after_call}
+use Names.{before_put_out_at, EncoderState, Represents, RepresentsWhileUp, both_by, log_represents}
 use Rattle.h2_laws_machine.proofs.ConservedBySteps.{call_holds, holds, is_whole}
 use Rattle.h2_laws_machine.proofs.LogCore.{core, core_facts, StreamsOf, Going, going, runs}
 use Rattle.h2_laws_machine.proofs.SentConnectionItems.{widened_advances}
@@ -132,8 +131,7 @@ pub with_unreturned_up : (e : End) (log : Log) (here there : ℕ) → here ≡ t
     → Up (add_unreturned here e) (with_unreturned there log)
 unfolding add_unreturned with_unreturned
 with_unreturned_up e log here there same is =
-    rw (← same, ← (waits_much e log is.waits)) (both_by Up
-    (returns_credit here (length e.output.waiting))
+    rw (← same, ← (waits_much e log is.waits)) (both_by Up _
     (return_credit_up _ _ (unreturned_up e log here is)) (unreturned_up e log here is))
 
 -- Nothing more is unreturned.
@@ -155,8 +153,7 @@ pub called_going : (e : End) (log : Log) (act : Act) (answer : Answer) (encoder 
     → Going (record e { output = record e.output { encoder = encoder } })
     (core (called log act answer))
 called_going e log act answer encoder is same g =
-    rw is (called_advances (core_facts e) (core log) ((act, answer) ∷ log.calls)
-    (encoder_after_call log.encoder act answer) same g)
+    rw is (called_advances (core_facts e) (core log) _ _ same g)
 
 -- The call is recorded.
 pub called_up : (e : End) (log : Log) (act : Act) (answer : Answer)

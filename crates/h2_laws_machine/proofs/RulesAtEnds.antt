@@ -13,8 +13,7 @@ use Names.{verdict_of, stream_of_item, encoding_of_item, encoding_of_items, max_
 use Names.{is_server, Idle, Active, greatest_number, Verdict, StreamFault, NoEvent}
 use Names.{connection_update_verdict, update_verdict, StreamView, greatest_window, end_view, End}
 use Names.{StreamEntry, active_entry, reset_entry, stream_in, stream_at, state_by_entry, state_at}
-use Names.{is_above_goaway, number_after, is_fresh, NoneAboveHighest, size_of, overflows_stream}
-use Names.{max_frame_size_sent}
+use Names.{number_after, is_fresh, NoneAboveHighest, size_of, overflows_stream, max_frame_size_sent}
 use Rattle.h2_laws_machine.proofs.RecvVerdictCases.{OnActiveOrNew, data_is_fault, reset_is_fault}
 use Rattle.h2_laws_machine.proofs.RecvVerdictCases.{update_is_fault}
 use Rattle.std.specs.FinMap as map
@@ -67,9 +66,7 @@ active_stream_by x idle above active = absurd (cc)
 -- An active number has a stream.
 pub active_stream : (e : End) (i : ℕ) → state_at e i ≡ Active
     → (stream : StreamView) × (stream_at e i ≡ Some stream)
-active_stream e i active =
-    active_stream_by (map.get e.streams.entries i) (i % 2 == 0 || nat_lt e.streams.highest i)
-    (is_above_goaway e i) active
+active_stream e i active = active_stream_by _ (i % 2 == 0 || nat_lt e.streams.highest i) _ active
 
 -- An active stream's number was used, by the test.
 active_used_by : (e : End) (i : ℕ) (stream : StreamView) → stream_at e i ≡ Some stream

@@ -2,11 +2,11 @@
 use Rattle.h2_laws_log.proofs.AllowedHistories.{changed_window}
 use Rattle.h2_laws_log.proofs.InvariantSteps.{update_here}
 use Rattle.h2_laws_machine.proofs.Names
-use Names.{◌≡◌, ◌≢◌, ℕ, ◌+◌, ◌≤◌, max, nat_lt, Bool, true, false, List, [], ◌∷◌, Some, refl, sym}
-use Names.{◌∙◌, arith, lt-ltb, le-ltb, false_from_ne_true, both_ways, ne_eqb, list_any, Settings}
-use Names.{Ping, GoAway, WindowUpdate, Code, code_number, Item, alone, Role, Client, Server}
-use Names.{data_on, data_of, increment_on, is_block_on, ends, resets, is_goaway, is_goaway_below}
-use Names.{one_ping, one_reset, total, greatest_block, one_pong, reported_total, Values, is_server}
+use Names.{◌≡◌, ◌≢◌, ℕ, ◌+◌, ◌≤◌, nat_lt, Bool, true, false, List, [], ◌∷◌, Some, refl, sym, ◌∙◌}
+use Names.{arith, lt-ltb, le-ltb, false_from_ne_true, both_ways, ne_eqb, list_any, Settings, Ping}
+use Names.{GoAway, WindowUpdate, Code, code_number, Item, alone, Role, Client, Server, data_on}
+use Names.{data_of, increment_on, is_block_on, ends, resets, is_goaway, is_goaway_below, one_ping}
+use Names.{one_reset, total, greatest_block, one_pong, reported_total, Values, is_server}
 use Names.{value_read, value_after, one_settings, settings_count, own_value, openings, is_above}
 use Names.{first_window, granted_on, Log, newest_ping, with_sent, with_failure, Streams}
 use Names.{OwnSettings, RepresentsOwn, goaway_sent_last, own_next, own_of_all, settings_one}
@@ -64,15 +64,14 @@ pub ping_advances : (h : CoreFacts) (c : Core) (octets : List ℕ)
 unfolding computing
 ping_advances h c octets enough g =
     let item : Item = alone (Ping false octets) in
-    let waits : nat_lt (reported_total one_pong c.reported) (total one_ping (item ∷ c.sent))
-    ≡ true = lt-ltb _ _ (omega (arith, total_one one_ping item c.sent)) in
+    let waits : nat_lt (reported_total one_pong c.reported) (total one_ping (item ∷ c.sent)) ≡ true
+    = lt-ltb _ _ (omega (arith, total_one one_ping item c.sent)) in
     record {
       reading = g.reading;
       encoder = g.encoder;
       streams = streams_sent h.streams c item (ping_leaves false octets) (λ j some. refl)
           (own_quiet 4 first_window (confirmed c) item c.sent refl) g.streams;
-      windows = windows_sent h.windows c.received c.sent c.unreturned item h.windows.recv refl
-          (omega arith) g.windows;
+      windows = windows_sent _ _ _ _ _ h.windows.recv refl (omega arith) g.windows;
       peer = g.peer;
       own = own_sent h.own c.role (confirmed c) c.sent item refl g.own;
       goaway = goaways_sent h.goaway c.received c.sent item refl refl g.goaway;
@@ -85,8 +84,7 @@ changed_values : (role : Role) (written : ℕ) (values : Values) (a b : ℕ)
     × (is_server role ≡ true
     → value_after 3 b (changed_pairs role written values) ≡ values.max_streams)
 unfolding value_after changed_pairs
-changed_values Client written values a b =
-    (value_named 1 values.table_limit written values.max_frame [], λ server. cc)
+changed_values Client written values a b = (value_named 1 _ _ values.max_frame [], λ server. cc)
 changed_values Server written values a b = (
   value_named 1 values.table_limit written values.max_frame [],
   λ server. value_named 3 values.max_streams written values.max_frame [],
@@ -97,17 +95,14 @@ changed_value : (id first : ℕ) (pairs : List (ℕ × ℕ)) (items : List Item)
     → own_value id first (settings_count (alone (Settings false pairs) ∷ items))
     (alone (Settings false pairs) ∷ items)
     ≡ value_after id (value_read id first items) pairs
-changed_value id first pairs items =
-    own_of_all id first _ (alone (Settings false pairs) ∷ items) (omega arith)
-    ∙ value_changed id first pairs items
+changed_value id first pairs items = own_of_all _ _ _ _ (omega arith) ∙ value_changed _ _ _ _
 
 -- a value that is in force stays so where SETTINGS are written
 value_stays : (id first count : ℕ) (pairs : List (ℕ × ℕ)) (items : List Item)
     → count ≤ settings_count items
     → own_value id first count (alone (Settings false pairs) ∷ items) ≡ own_value id first count
     items
-value_stays id first count pairs items enough =
-    own_next id first count (alone (Settings false pairs)) items (λ one. enough)
+value_stays id first count pairs items enough = own_next _ _ _ _ items (λ one. enough)
 
 -- The values, where SETTINGS are sent, all before being acknowledged.
 own_changed : (own : OwnSettings) (role : Role) (count : ℕ) (sent : List Item) (values : Values)
@@ -119,25 +114,22 @@ own_changed own role count sent values enough some g =
     let written = value_read 5 16384 sent in
     let pairs = changed_pairs role written values in
     let w = g.in_force in
-    let set = changed_values role written values (value_read 1 4096 sent) (value_read 3 100 sent) in
+    let set = changed_values _ _ _ _ _ in
     record {
       in_force = record {
-        table_limit = w.table_limit ∙ sym (value_stays 1 4096 count pairs sent enough);
-        initial_window = w.initial_window
-            ∙ sym (value_stays 4 first_window count pairs sent enough);
-        max_streams = λ server. w.max_streams server
-            ∙ sym (value_stays 3 100 (max 1 count) pairs sent (omega arith));
-        max_frame = w.max_frame ∙ sym (value_stays 5 16384 count pairs sent enough);
+        table_limit = w.table_limit ∙ sym (value_stays 1 4096 _ _ _ enough);
+        initial_window = w.initial_window ∙ sym (value_stays 4 first_window _ _ _ enough);
+        max_streams = λ server. w.max_streams server ∙ sym (value_stays 3 100 _ _ _ (omega arith));
+        max_frame = w.max_frame ∙ sym (value_stays 5 16384 _ _ _ enough);
       };
       awaits = sym (lt-ltb _ _ (omega (arith, settings_one pairs)));
       awaited = λ others is.
           let same : values ≡ others = cc in
           rw (← same) (record {
-            table_limit = changed_value 1 4096 pairs sent ∙ set.0;
-            initial_window = changed_value 4 first_window pairs sent
-                ∙ changed_window role written values (value_read 4 first_window sent);
+            table_limit = changed_value 1 4096 _ _ ∙ set.0;
+            initial_window = changed_value 4 first_window _ _ ∙ changed_window _ _ _ _;
             max_streams = λ server. changed_value 3 100 pairs sent ∙ set.1 server;
-            max_frame = changed_value 5 16384 pairs sent ∙ changed_frame role written values;
+            max_frame = changed_value 5 16384 _ _ ∙ changed_frame _ _ _;
           });
     }
 
@@ -155,8 +147,7 @@ settings_advance h c values enough some g =
       encoder = g.encoder;
       streams = streams_sent h.streams c item (settings_leave false pairs) (λ j some. refl)
           (value_stays 4 first_window (confirmed c) pairs c.sent enough) g.streams;
-      windows = windows_sent h.windows c.received c.sent c.unreturned item h.windows.recv refl
-          (omega arith) g.windows;
+      windows = windows_sent _ _ _ _ _ h.windows.recv refl (omega arith) g.windows;
       peer = g.peer;
       own = own_changed h.own c.role (confirmed c) c.sent values enough some g.own;
       goaway = goaways_sent h.goaway c.received c.sent item refl refl g.goaway;
@@ -185,8 +176,7 @@ active_goaway : (c : Core) (i last code : ℕ) (b : Bool) → active_by_items c 
     → active_by_items (sends c (alone (GoAway last code []))) i ≡ active_by_items c i
 unfolding computing
 active_goaway c i last code true is low =
-    active_like c.role i c.received c.sent (alone (GoAway last code []) ∷ c.sent) c.reported
-    (goaway_blocks c.role i last code c.received c.sent)
+    active_like _ _ _ _ _ c.reported (goaway_blocks c.role i last code c.received c.sent)
     (above_goaway c.role i last code c.sent (λ server. le-ltb last i (low server is))) refl refl
 active_goaway c i last code false is low =
     false_from_ne_true _ (λ active_is. both_ways (active_by_items c i) is
@@ -231,8 +221,7 @@ goaway_advances h c last code low g =
       reading = g.reading;
       encoder = g.encoder;
       streams = goaway_streams h.streams c last code low g.streams;
-      windows = windows_sent h.windows c.received c.sent c.unreturned item h.windows.recv refl
-          (omega arith) g.windows;
+      windows = windows_sent _ _ _ _ _ h.windows.recv refl (omega arith) g.windows;
       peer = g.peer;
       own = own_sent h.own c.role (confirmed c) c.sent item refl g.own;
       goaway = record { last_sent = refl; least_received = g.goaway.least_received };

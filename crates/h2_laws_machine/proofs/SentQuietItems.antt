@@ -1,12 +1,12 @@
 -- What an item that is sent leaves of each subject of an end.
 use Rattle.h2_laws_machine.proofs.Names
-use Names.{◌≡◌, ◌≢◌, ℕ, ◌+◌, max, nat_lt, true, false, List, ◌∷◌, Option, refl, sym, ap, ◌∙◌, arith}
+use Names.{◌≡◌, ◌≢◌, ℕ, ◌+◌, nat_lt, true, false, List, ◌∷◌, Option, refl, sym, ap, ◌∙◌, arith}
 use Names.{zero-add, list_any, Item, Role, Client, Server, data_of, increment_on, is_block_on, ends}
 use Names.{resets, one_reset, one_ping, is_goaway, is_goaway_below, total, greatest_block, Event}
-use Names.{one_settings, settings_count, own_value, openings, is_above, is_over, is_active}
-use Names.{first_window, granted_on, granted_on_connection, EncoderState, Act, Answer, newest_ping}
-use Names.{released, ConnectionWindows, Streams, OwnSettings, GoAways, goaway_sent_last}
-use Names.{RepresentsWindows, RepresentsOwn, RepresentsGoAways}
+use Names.{one_settings, own_value, openings, is_above, is_over, is_active, first_window}
+use Names.{granted_on, granted_on_connection, EncoderState, Act, Answer, newest_ping, released}
+use Names.{ConnectionWindows, Streams, OwnSettings, GoAways, goaway_sent_last, RepresentsWindows}
+use Names.{RepresentsOwn, RepresentsGoAways}
 use Rattle.h2_laws_machine.proofs.ItemsApart.{IsApart}
 use Rattle.h2_laws_machine.proofs.LogCore.{Core, CoreFacts, Advances, StreamsOf, PingOf, confirmed}
 use Rattle.h2_laws_machine.proofs.LogCore.{active_by_items}
@@ -85,8 +85,7 @@ pub streams_sent : (s : Streams) (c : Core) (item : Item) → LeavesStreams item
 streams_sent s c item q gives own g =
     streams_same s c (sends c item)
     (λ j. same_sent j c item (q.apart j) (q.below j) (λ alive. gives j (active_some c j alive)) own)
-    (used_wrote c.role item c.received c.sent q.greatest) refl
-    (total_quiet one_reset item c.sent q.reset) g
+    (used_wrote c.role item c.received c.sent q.greatest) refl (total_quiet one_reset _ _ q.reset) g
 
 -- The connection's windows, where an item is sent that isn't DATA.
 pub windows_sent : (windows : ConnectionWindows) (received sent : List Item) (unreturned : ℕ)
@@ -106,27 +105,22 @@ pub own_sent : (own : OwnSettings) (role : Role) (count : ℕ) (sent : List Item
     → RepresentsOwn own role count (item ∷ sent)
 own_sent own role count sent item none g =
     let w = g.in_force in
-    let counted = settings_quiet item sent none in
+    let counted = settings_quiet _ _ none in
     record {
       in_force = record {
-        table_limit = w.table_limit ∙ sym (own_quiet 1 4096 count item sent none);
-        initial_window = w.initial_window ∙ sym (own_quiet 4 first_window count item sent none);
-        max_streams = λ server. w.max_streams server
-            ∙ sym (own_quiet 3 100 (max 1 count) item sent none);
-        max_frame = w.max_frame ∙ sym (own_quiet 5 16384 count item sent none);
+        table_limit = w.table_limit ∙ sym (own_quiet 1 4096 _ _ _ none);
+        initial_window = w.initial_window ∙ sym (own_quiet 4 first_window _ _ _ none);
+        max_streams = λ server. w.max_streams server ∙ sym (own_quiet 3 100 _ _ _ none);
+        max_frame = w.max_frame ∙ sym (own_quiet 5 16384 _ _ _ none);
       };
       awaits = g.awaits ∙ ap (nat_lt count) (sym counted);
       awaited = λ values is.
           let a = g.awaited values is in
           record {
-            table_limit = rw counted (own_quiet 1 4096 (settings_count sent) item sent none
-                ∙ a.table_limit);
-            initial_window = rw counted (own_quiet 4 first_window (settings_count sent) item sent
-                none ∙ a.initial_window);
-            max_streams = λ server. rw counted (own_quiet 3 100 (settings_count sent) item sent none
-                ∙ a.max_streams server);
-            max_frame = rw counted (own_quiet 5 16384 (settings_count sent) item sent none
-                ∙ a.max_frame);
+            table_limit = rw counted (own_quiet 1 4096 _ _ _ none ∙ a.table_limit);
+            initial_window = rw counted (own_quiet 4 first_window _ _ _ none ∙ a.initial_window);
+            max_streams = λ server. rw counted (own_quiet 3 100 _ _ _ none ∙ a.max_streams server);
+            max_frame = rw counted (own_quiet 5 16384 _ _ _ none ∙ a.max_frame);
           };
     }
 

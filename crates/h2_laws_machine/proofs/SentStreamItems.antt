@@ -92,9 +92,8 @@ pub active_here : (c : Core) (id : ℕ) (news : List Item) (n : ℕ) (end : Bool
 active_here c id news n end active_is goes a =
     let parts = active_parts c.role id c.received c.sent c.reported active_is in
     let lasts = lasts_parts id c.received c.sent parts.lasts in
-    active_by_parts c.role id c.received news c.reported parts.odd (a.blocks id ∙ parts.opened)
-    (a.above id ∙ parts.below) (rw (a.ends_here) goes) lasts.unreset (a.resets id ∙ lasts.kept)
-    parts.unnamed
+    active_by_parts _ _ _ _ _ parts.odd (a.blocks id ∙ parts.opened) (a.above id ∙ parts.below)
+    (rw (a.ends_here) goes) lasts.unreset (a.resets id ∙ lasts.kept) parts.unnamed
 
 -- The stream is closed, where both have.
 pub closed_here : (c : Core) (id : ℕ) (news : List Item) (n : ℕ) (end : Bool)
@@ -102,10 +101,8 @@ pub closed_here : (c : Core) (id : ℕ) (news : List Item) (n : ℕ) (end : Bool
     → Adds c.role c.received id c.sent news n end → active_by_items (with_news c news) id ≡ false
 closed_here c id news n end over a =
     false_from_ne_true _ (λ active_is.
-    let lasts = lasts_parts id c.received news
-    (active_parts c.role id c.received news c.reported active_is).lasts in
-    both_ways (list_any (ends id) c.received && list_any (ends id) news) lasts.ended
-    (rw (a.ends_here) over))
+    let lasts = lasts_parts _ _ _ (active_parts _ _ _ _ _ active_is).lasts in
+    both_ways _ lasts.ended (rw (a.ends_here) over))
 
 -- the stream that continues, with another send window
 abbrev pub stream_with : Core → ℕ → ℤ → Bool → StreamView
@@ -118,8 +115,7 @@ stream_with_said : (c : Core) (id : ℕ) (news : List Item) (n : ℕ) (end : Boo
     → stream_with c id send_window end ≡ said (with_news c news) id
 unfolding granted_on
 stream_with_said c id news n end send_window is a =
-    same_stream (stream_with c id send_window end) (said (with_news c news) id)
-    (is ∙ ap (window _) (sym a.data_here))
+    same_stream _ (said (with_news c news) id) (is ∙ ap (window _) (sym a.data_here))
     (rw (a.own 4 first_window (confirmed c), a.increments id) refl) refl refl (sym a.ends_here)
 
 -- What an end keeps after them, by what they make of the streams.
@@ -162,8 +158,7 @@ pub set_advances : (h : CoreFacts) (c : Core) (id : ℕ) (news : List Item) (n :
       windows = record h.windows { send = send };
     }) (with_news c news)
 set_advances h c id news n end send_window send active_is goes is a conserved g =
-    adds_advance h c id news n end _ send a conserved
-    (streams_set h.streams id (stream_with c id send_window end) c (with_news c news)
+    adds_advance h c id news n end _ send a conserved (streams_set _ _ _ _ (with_news c news)
     (adds_same c id news n end a) active_is (active_here c id news n end active_is goes a)
     (stream_with_said c id news n end send_window is a) a.greatest refl a.reset_count g.streams) g
 
@@ -184,8 +179,7 @@ over_advances h c id news n end s send active_is over a conserved g =
     let dead = closed_here c id news n end over a in
     let kept = (lasts_parts id c.received c.sent
     (active_parts c.role id c.received c.sent c.reported active_is).lasts).kept in
-    adds_advance h c id news n end _ send a conserved
-    (streams_closed h.streams id _ h.streams.resets c (with_news c news)
+    adds_advance h c id news n end _ send a conserved (streams_closed _ _ _ _ _ (with_news c news)
     (adds_same c id news n end a) active_is dead
     (said_over h.streams.entries id (active_entry s) c (with_news c news) g.streams.entries
     (adds_same c id news n end a) dead (a.resets id ∙ kept))

@@ -29,8 +29,7 @@ above_is : (role : Role) (i n : ℕ) (sent : List Item) → OneGoAway n sent
     ≡ (is_server role && is_beyond i (when (list_any is_goaway sent) (goaway_sent_last sent)))
 unfolding is_above
 above_is Client i n sent g = refl
-above_is Server i n sent g = g.above i
-    ∙ beyond_by (list_any is_goaway sent) (goaway_sent_last sent) i
+above_is Server i n sent g = g.above i ∙ beyond_by _ _ i
 
 -- What is no greater than the greatest number that was read is no greater than the greatest that
 -- was used, at a server.

@@ -5,7 +5,7 @@ use Rattle.h2_laws_log.proofs.CallConditions.{neither_one}
 use Rattle.h2_laws_machine.proofs.Names
 use Names.{◌≡◌, ◌≢◌, ℕ, ◌+◌, ◌-◌, ◌≤◌, ◌==◌, nat_lt, ◌&&◌, ◌||◌, Bool, true, false, cond}
 use Names.{if◌then◌else◌, ℤ, pos, ◌+ℤ◌, ◌-ℤ◌, List, [], ◌∷◌, Option, Some, None, refl, sym, ap}
-use Names.{subst, ◌∙◌, arith, false_from_ne_true, ints, nat_cmp, is_eq, at_least_none, exceeds}
+use Names.{subst, ◌∙◌, arith, false_from_ne_true, ints, nat_cmp, at_least_none, exceeds}
 use Names.{overflows_by, StreamView, greatest_window, StreamEntry, active_entry, reset_entry}
 use Names.{StreamMap, stream_in, above_by_shift, any_above, shifted_entry, recv_shifted_entry}
 use Names.{each_entry, changed_entry, get_each, get_set, get_removed, neither_other}
@@ -52,8 +52,7 @@ pub set_fits : (peer own : ℕ) (m : StreamMap) (k : ℕ) (stream : StreamView) 
     → WindowsFit peer own stream → StreamsFit peer own m
     → StreamsFit peer own (map.insert m k (active_entry stream))
 set_fits peer own m k stream apart one all =
-    entry_fits peer own m k (active_entry stream)
-    (λ t is. (apart, same_fits peer own stream t one is)) all
+    entry_fits peer own m k (active_entry stream) (λ t is. (apart, same_fits _ _ _ t one is)) all
 
 -- A stream is reset.
 pub reset_fits : (peer own : ℕ) (m : StreamMap) (k : ℕ) → StreamsFit peer own m
@@ -101,8 +100,7 @@ not_above_by : (old new : ℕ) (first x : StreamEntry) (found : Option StreamEnt
     → above_by_shift old new x ≡ false
 not_above_by old new first x found any true none is following =
     let same : first ≡ x = cc in
-    sym (ap (above_by_shift old new) same)
-    ∙ neither_one (above_by_shift old new first) any none
+    sym (ap (above_by_shift old new) same) ∙ neither_one _ _ none
 not_above_by old new first x found any false none is following =
     following is (neither_other (above_by_shift old new first) any none)
 
@@ -113,8 +111,7 @@ not_above : (old new q : ℕ) (x : StreamEntry) (es : List (ℕ × StreamEntry))
 unfolding any_above
 not_above old new q x [] none is = absurd (cc)
 not_above old new q x (e ∷ es) none is =
-    not_above_by old new e.1 x (map.find nat_cmp q es) (any_above old new es)
-    (is_eq (nat_cmp q e.0)) none is (λ found any. not_above old new q x es any found)
+    not_above_by _ _ _ _ _ _ _ none is (λ found any. not_above old new q x es any found)
 
 -- The entry of an active stream.
 entry_of : (x : Option StreamEntry) (stream : StreamView) → stream_in x ≡ Some stream
@@ -164,8 +161,7 @@ send_by old new own q (Some (active_entry t)) s all most is =
 pub send_shifted_fits : (old new own : ℕ) (m : StreamMap) → NoneAbove old new m
     → StreamsFit old own m → StreamsFit new own (each_entry (shifted_entry old new) m)
 send_shifted_fits old new own m none all q s is =
-    send_by old new own q (map.get m q) s (all q) (none q)
-    (sym (ap stream_in (get_each (shifted_entry old new) m q)) ∙ is)
+    send_by _ _ _ q _ s (all q) (none q) (sym (ap stream_in (get_each _ _ q)) ∙ is)
 
 -- Receive windows are shifted, by the entry.
 recv_by : (peer old new q : ℕ) (x : Option StreamEntry) (s : StreamView)
@@ -189,8 +185,7 @@ recv_by peer old new q (Some (active_entry t)) s all is =
 pub recv_shifted_fits : (peer old new : ℕ) (m : StreamMap) → StreamsFit peer old m
     → StreamsFit peer new (each_entry (recv_shifted_entry old new) m)
 recv_shifted_fits peer old new m all q s is =
-    recv_by peer old new q (map.get m q) s (all q)
-    (sym (ap stream_in (get_each (recv_shifted_entry old new) m q)) ∙ is)
+    recv_by peer old new q (map.get m q) s (all q) (sym (ap stream_in (get_each _ _ q)) ∙ is)
 
 -- A receive window after DATA is as far below the initial window, by the test whether that has
 -- octets.
@@ -221,8 +216,7 @@ pub data_fits_stream : (peer own : ℕ) (stream : StreamView) (count : ℕ) (end
 data_fits_stream peer own stream count ended fits most h =
     assumption (
       data_owed own stream.owed count stream.recv_window h.recv_most,
-      data_least greatest_window own count stream.recv_window (nat_lt 0 count) refl fits most
-          h.recv_least,
+      data_least greatest_window _ _ _ (nat_lt 0 count) refl fits most h.recv_least,
       h,
     )
 

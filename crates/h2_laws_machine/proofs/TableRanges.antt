@@ -60,9 +60,8 @@ pub block_within : (table : Entries) (limit : ℕ) (octets : List ℕ) (fields :
     → table_size table.entries ≤ table.maximum
     → (table_size after.entries ≤ after.maximum) × (after.maximum ≤ limit)
 block_within table limit octets fields after b within =
-    let updated : IsWithin b.updated b.updated.maximum =
-    updates_within limit table octets b.maxima b.updated b.others b.updates
-    (record { same = refl; size = within }) in
-    let last : IsWithin after b.updated.maximum =
-    fields_within b.updated b.others fields after b.updated.maximum b.encoded updated in
+    let updated : IsWithin b.updated b.updated.maximum = updates_within limit table octets b.maxima
+    b.updated b.others b.updates (record { same = refl; size = within }) in
+    let last : IsWithin after b.updated.maximum = fields_within b.updated b.others _ _
+    b.updated.maximum b.encoded updated in
     (omega (arith, last.same, last.size), omega (arith, last.same, b.within))

@@ -35,8 +35,7 @@ reply_resets : (log : Log) (decoded : Option Decoded) (item : Item) (v : Verdict
     → list_any (resets (stream_of_item item))
     (with_sent (read log decoded item) (replies_to v item)).sent ≡ true
 unfolding replies_to with_sent resets
-reply_resets log decoded item (StreamFault other) code is =
-    or_left _ _ (eq-eqb (stream_of_item item) (stream_of_item item) refl)
+reply_resets log decoded item (StreamFault other) code is = or_left _ _ (eq-eqb _ _ refl)
 reply_resets log decoded item another code is = cc
 
 -- An item that is read, with a verdict that is no fault of the connection, keeps this.
@@ -50,8 +49,7 @@ replied_up_log log decoded item v is none f =
     let g = grows_wrote (read log decoded item) (replies_to v item) in
     let reads = item_reads log decoded v item g.items first.sent
     (rules_is log decoded item v is none) g.sent none (reply_resets log decoded item v) f in
-    rw (g.role, g.received, g.reported) (up_log_read log.role log.received g.items log.sent
-    first.sent log.reported (events_of (log_view log) decoded v item) item g.sent f reads)
+    rw (g.role, g.received, g.reported) (up_log_read _ _ g.items _ _ _ _ item g.sent f reads)
 
 -- The least number that passes is no greater than the greatest.
 least_low : (test : ℕ → Bool) (items : List Item) → least_block test items ≤ greatest_block items
@@ -62,10 +60,9 @@ least_low test (block stream end octets ∷ items) =
     by (test stream) (least_low test items)
   where
     by : (b : Bool) → least_block test items ≤ greatest_block items
-        → (if b then lesser_number stream (least_block test items) else least_block test items)
-        ≤ max stream (greatest_block items)
-    by true low = omega (arith, lesser_low stream (least_block test items))
-    by false low = omega arith
+        → (if b then lesser_number stream (least_block test items) else least_block test items) ≤
+        max stream (greatest_block items)
+    by true low = omega (arith, lesser_low _ _) by false low = omega arith
 
 -- A stream that is reported as unprocessed was used, at a client.
 unprocessed_low : (role : Role) (test : ℕ → Bool) (sent : List Item)
@@ -146,5 +143,4 @@ up_kept role values = record {
 pub up_log_of : (role : Role) (values : Values) (log : Log) → IsLog role values log
     → log.failed ≡ None → IsUpLog log
 up_log_of role values =
-    pending_by_logs role values (λ events log. log.failed ≡ None → PendingUp events log)
-    (up_kept role values)
+    pending_by_logs _ _ (λ events log. log.failed ≡ None → PendingUp events log) (up_kept _ _)

@@ -40,8 +40,7 @@ unseen_item log decoded (block stream end octets) i client above none = elim (ca
 unseen_item log decoded (alone (Data stream end octets pad)) i client above none =
     elim (cases_eq stream i) [
       | inl same ↦
-          let idle : state log stream ≡ Idle =
-          state_idle _ _ _ (idle_above log.role stream log.received log.sent client
+          let idle : state log stream ≡ Idle = state_idle _ _ _ (idle_above _ _ _ log.sent client
           (omega arith)) in
           absurd (none ProtocolError (rw idle refl))
       | inr other ↦ (rw (ne_eqb stream i other) refl, refl, refl, rw (ne_eqb stream i other) refl)
@@ -56,8 +55,7 @@ unseen_item log decoded (alone (Reset stream code)) i client above none = elim (
 unseen_item log decoded (alone (WindowUpdate stream increment)) i client above none =
     elim (cases_eq stream i) [
       | inl same ↦
-          let idle : state log stream ≡ Idle =
-          state_idle _ _ _ (idle_above log.role stream log.received log.sent client
+          let idle : state log stream ≡ Idle = state_idle _ _ _ (idle_above _ _ _ log.sent client
           (omega arith)) in
           absurd (none ProtocolError (rw (ne_eqb stream 0 (λ zero_stream. omega arith), idle) refl))
       | inr other ↦ (refl, refl, rw (ne_eqb stream i other) refl, refl)
@@ -145,8 +143,7 @@ unfolding is_closed_by_us
 ignored_reset log None i is none = cc
 ignored_reset log (Some decoded) i is none =
     let state : state log i ≡ ClosedByUs = ignored_by (state log i) _ _ _ _ (rw none at is) in
-    elim (or_cases (list_any (resets i) log.sent) (is_above log.role i log.sent)
-    (closed_by_us_is _ _ _ state)) [
+    elim (or_cases _ _ (closed_by_us_is _ _ _ state)) [
       | inl reset ↦ reset
       | inr above ↦ absurd (both_ways _ (above_none log.role i log.sent none) above)
     ]
@@ -171,9 +168,8 @@ active_processed log decoded (StreamFault code) (block stream end octets) items 
 active_processed log decoded NoEvent (block stream end octets) items news i is line none reset here
     stays kept =
     let same : stream ≡ i = eqb-true stream i here in
-    let before : list_any (resets i) log.sent ≡ true =
-    subst (λ (j : ℕ). list_any (resets j) log.sent ≡ true) same
-    (ignored_reset log decoded stream is stays) in
+    let before : list_any (resets i) log.sent ≡ true = subst
+    (λ (j : ℕ). list_any (resets j) log.sent ≡ true) same (ignored_reset _ _ stream is stays) in
     absurd (both_ways _ kept (ap (list_any (resets i)) line
     ∙ any_after (resets i) items log.sent before))
 active_processed log decoded Reported (block stream end octets) items news i is line none reset here
@@ -189,19 +185,18 @@ pub item_reads : (log : Log) (decoded : Option Decoded) (v : Verdict) (item : It
     → ((code : Code) → v ≡ StreamFault code → list_any (resets (stream_of_item item)) news ≡ true)
     → IsUpLog log → Reads log.role log.received log.sent news log.reported
     (events_of (log_view log) decoded v item) item
-item_reads log decoded v item items news is line none reset f = record {
+item_reads log decoded v item items news is line none reset f =
+    record {
   acks = acks_of log decoded v item is f;
   pongs = pongs_of log decoded v item is f;
-  processed = λ i here server stays kept active_is. active_processed log decoded v item items
-      news i is line none reset here stays kept;
+  processed = λ i here server stays kept active_is. active_processed log decoded v item items news i
+      is line none reset here stays kept;
   clear = λ client i above.
-      let parts = unseen_item log decoded item i client above
-      (λ code fault. none code (sym is ∙ fault)) in
+      let parts = unseen_item _ _ item i client above (λ code fault. none code (sym is ∙ fault)) in
       record {
         ended = or_from (ends i item) false parts.0 refl;
         reset = or_from (resets i item) false parts.1 refl;
-        given = total_one (increment_on i) item []
-            ∙ rw (parts.2, total_none (increment_on i)) refl;
+        given = total_one (increment_on i) item [] ∙ rw (parts.2, total_none (increment_on i)) refl;
         no_data = total_one (data_on i) item [] ∙ rw (parts.3, total_none (data_on i)) refl;
         unnamed = events_unnamed log decoded v item i;
       };

@@ -3,14 +3,14 @@ use Rattle.std.specs.FinMap as map
 use Rattle.h2_spec_log.specs.Log.{goaway_written}
 use Rattle.h2_laws_machine.proofs.Names
 use Names.{◌≡◌, ℕ, ◌+◌, min, max, Bool, true, false, if◌then◌else◌, List, length, pos, Option, Some}
-use Names.{None, is_some, refl, ap, sym, ◌∙◌, arith, ltb-false, ints, list_any, Item, Role, Client}
-use Names.{Server, resets, data_of, total, greatest_block, Values, is_server, value_read}
-use Names.{settings_count, openings, when, window, given_on_connection, granted_on_connection, Log}
-use Names.{acked, active, waiting, next_number, max_streams, active_count, last_processed}
-use Names.{unreleased, max_payload_sent_by, log_view, stream_of_log, StreamView, View, End}
-use Names.{end_view, stream_in, stream_at, number_after, Streams, PeerSettings, OwnSettings}
-use Names.{values_written, RepresentsWhileUp, RepresentsPeer, RepresentsOwn, entry_by, when_some}
-use Names.{own_of_all, max_frame_size_sent}
+use Names.{None, is_some, refl, ap, sym, ◌∙◌, arith, ltb-false, ints, Item, Role, Client, Server}
+use Names.{resets, data_of, total, greatest_block, Values, is_server, value_read, settings_count}
+use Names.{openings, when, window, given_on_connection, granted_on_connection, Log, acked, active}
+use Names.{waiting, next_number, max_streams, active_count, last_processed, unreleased}
+use Names.{max_payload_sent_by, log_view, stream_of_log, StreamView, View, End, end_view, stream_in}
+use Names.{stream_at, number_after, Streams, PeerSettings, OwnSettings, values_written}
+use Names.{RepresentsWhileUp, RepresentsPeer, RepresentsOwn, entry_by, when_some, own_of_all}
+use Names.{max_frame_size_sent}
 use Rattle.h2_laws_machine.proofs.LogCore.{Core, active_by_items, said, core, StreamsOf}
 
 -- An entry has a stream where it is active.
@@ -23,8 +23,7 @@ entry_stream active was_reset s = refl
 pub stream_same : (s : Streams) (c : Core) (i : ℕ) → StreamsOf s c
     → stream_in (map.get s.entries i) ≡ when (active_by_items c i) (said c i)
 stream_same s c i streams =
-    ap stream_in (streams.entries i)
-    ∙ entry_stream (active_by_items c i) (list_any (resets i) c.sent) (said c i)
+    ap stream_in (streams.entries i) ∙ entry_stream (active_by_items c i) _ (said c i)
 
 -- Each stream is active where the log says so, and is the stream that it says.
 stream_agrees : (e : End) (log : Log) (i : ℕ) → StreamsOf e.streams (core log)
@@ -71,8 +70,7 @@ written_agrees own None role count sent is own_is =
     let all = ltb-false count (settings_count sent) (sym own_is.awaits ∙ ap is_some is) in
     rw is (own_is.in_force.max_frame ∙ own_of_all 5 16384 count sent all)
 written_agrees own (Some values) role count sent is own_is =
-    rw is (sym (own_is.awaited values is).max_frame
-    ∙ own_of_all 5 16384 (settings_count sent) sent (omega arith))
+    rw is (sym (own_is.awaited values is).max_frame ∙ own_of_all 5 16384 _ _ (omega arith))
 
 -- The log's view, with the end's own looks at states and at windows that would overflow.
 abbrev pub view_beside : End → Log → View
@@ -86,19 +84,17 @@ pub views_agree : (e : End) (log : Log) → e.role ≡ log.role → e.failed ≡
 unfolding next_number active_count last_processed max_streams
 views_agree e log role failed waits streams run =
     let stream = λ (k : ℕ). stream_agrees e log k streams in
-    let max_streams : (if is_server e.role then e.own.in_force.max_streams else 0)
-    ≡ (log_view log).max_streams =
-    rw role (max_streams_agree log.role e.own.in_force.max_streams (max_streams log)
-    run.own.in_force.max_streams) in
-    let next : (if is_server e.role then 0 else number_after e.streams.highest)
-    ≡ (log_view log).next_number =
+    let max_streams : (if is_server e.role then e.own.in_force.max_streams else 0) ≡
+    (log_view log).max_streams = rw role (max_streams_agree _ _ _ run.own.in_force.max_streams) in
+    let next : (if is_server e.role then 0 else number_after e.streams.highest) ≡
+    (log_view log).next_number =
     rw role (next_agrees log.role e.streams.highest log.received log.sent streams.highest) in
     let send = window_agrees e.windows.send (total data_of log.sent)
     (given_on_connection log.received) run.windows.send in
     let recv = window_agrees e.windows.recv (total data_of log.received)
     (granted_on_connection log.sent) run.windows.recv in
-    let goaway : is_some e.goaway.sent ≡ goaway_written log = ap is_some run.goaway.last_sent
-    ∙ when_some _ _ in
+    let goaway : is_some e.goaway.sent ≡ goaway_written log = ap is_some run.goaway.last_sent ∙
+    when_some _ _ in
     λ i. record {
       role = role i;
       failed = failed i;

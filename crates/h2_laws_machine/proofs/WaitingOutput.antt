@@ -52,11 +52,10 @@ unfolding with_sent encoding_of_items
 wrote_output e log [] same is =
     record { waiting = append-nil e.output.waiting ∙ is.waiting; given = is.given }
 wrote_output e log (item ∷ items) same is =
-    let more = output_more e.output.waiting log.given log.written
-    (encoding_of_items (max_payload_sent log) (item ∷ items)) is in
+    let more = output_more _ _ _ (encoding_of_items (max_payload_sent log) (item ∷ items)) is in
     record {
-      waiting = ap (λ (most : ℕ). e.output.waiting ++ encoding_of_items most (item ∷ items))
-          same ∙ more.waiting;
+      waiting = ap (λ (most : ℕ). e.output.waiting ++ encoding_of_items most (item ∷ items)) same ∙
+          more.waiting;
       given = more.given;
     }
 

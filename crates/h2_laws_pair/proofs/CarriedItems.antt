@@ -85,68 +85,60 @@ up_carries writer reader is up =
       lie = subst (λ (role : Role). ReceivedLie (before role) writer.log.given writer.log.payloads
           first.0 reader.log.received) (sym (stream_of_log _ _ writer.log ends.writer_log).role)
           (lie_given _ (length reader.log.input) writer.log.given writer.log.payloads first.0
-          reader.log.received
-          (input_within reader.log.input _ writer.log.written writer.log.given octets.carried)
+          reader.log.received (input_within _ _ _ writer.log.given octets.carried)
           (received_lie writer reader _ first.0 ends first.1 joined up));
     }
 
--- A step of the writer: more was sent, no less given out, and the same received.
-writer_gives : (writer reader : Half) {new_writer new_reader : Half}
-    → HalfStep writer reader new_writer new_reader
-    → Gives writer.log new_writer.log × (new_reader.log.received ≡ reader.log.received)
-writer_gives writer reader (calls act answer typed may) = (gives_call writer.log act answer, refl)
-writer_gives writer reader (takes step rest may none came) =
-    (step_holds Gives gives_reads writer.log step none, refl)
-writer_gives writer reader (loses octets rest failed came) =
-    (gives_reads.failures.writes.none writer.log, refl)
+module _ (writer reader : Half) where
+  -- A step of the writer: more was sent, no less given out, and the same received.
+  writer_gives : {new_writer new_reader : Half} → HalfStep writer reader new_writer new_reader
+      → Gives writer.log new_writer.log × (new_reader.log.received ≡ reader.log.received)
+  writer_gives (calls act answer typed may) = (gives_call writer.log act answer, refl)
+  writer_gives (takes step rest may none came) =
+      (step_holds Gives gives_reads writer.log step none, refl)
+  writer_gives (loses octets rest failed came) = (gives_reads.failures.writes.none writer.log, refl)
 
--- The role of an end stays.
-same_role : (writer reader : Half) {new_writer new_reader : Half} → AreEnds writer reader
-    → HalfStep writer reader new_writer new_reader → new_writer.log.role ≡ writer.log.role
-same_role writer reader {new_writer} {new_reader} ends step =
-    (stream_of_log _ _ new_writer.log (half_comes_about ends.writer_role ends.writer_values writer
-    reader ends.writer_log step)).role ∙ sym (stream_of_log _ _ writer.log ends.writer_log).role
+  -- The role of an end stays.
+  same_role : {new_writer new_reader : Half} → AreEnds writer reader
+      → HalfStep writer reader new_writer new_reader → new_writer.log.role ≡ writer.log.role
+  same_role {new_writer} {new_reader} ends step =
+      (stream_of_log _ _ new_writer.log (half_comes_about ends.writer_role ends.writer_values writer
+      reader ends.writer_log step)).role ∙ sym (stream_of_log _ _ writer.log ends.writer_log).role
 
-writer_carries : (writer reader : Half) {new_writer new_reader : Half}
-    → IsDirection writer reader → IsDirection new_writer new_reader
-    → HalfStep writer reader new_writer new_reader → Carries writer reader
-    → Carries new_writer new_reader
-writer_carries writer reader {new_writer} {new_reader} is now step carries =
-    let both = writer_gives writer reader step in
-    record {
-      way = both.0.items ++ carries.way;
-      under_way = cc (append_assoc both.0.items carries.way new_reader.log.received);
-      lie = lie_sent writer.log new_writer.log both.0 carries.way reader.log.received
-          new_reader.log.received (same_role writer reader (ends_of writer reader is) step) both.1
-          carries.lie;
-    }
-
--- A step of the reader: either it has received the same, or it is up.
-reader_same_or_up : (writer reader : Half) {new_writer new_reader : Half}
-    → HalfStep reader writer new_reader new_writer
-    → (new_reader.log.received ≡ reader.log.received) ⊎ (new_reader.log.failed ≡ None)
-reader_same_or_up writer reader (calls act answer typed may) =
-    inl (grows_call reader.log act answer).received
-reader_same_or_up writer reader (takes step rest may none came) =
-    step_same_or_up reader.log step none (step_up reader.log step none may)
-reader_same_or_up writer reader (loses octets rest failed came) = inl refl
-
-reader_carries : (writer reader : Half) {new_writer new_reader : Half}
-    → IsDirection writer reader → IsDirection new_writer new_reader
-    → HalfStep reader writer new_reader new_writer → Carries writer reader
-    → Carries new_writer new_reader
-reader_carries writer reader {new_writer} {new_reader} is now step carries =
-    elim (reader_same_or_up writer reader step) [
-      | inl same ↦ record {
-        way = carries.way;
-        under_way = other_same reader writer step
-            (λ log. AreUnderWay log new_reader.log carries.way) (rw same carries.under_way);
-        lie = other_same reader writer step
-            (λ log. ReceivedLie (before log.role) log.given log.payloads carries.way
-            new_reader.log.received) (rw same carries.lie);
+  writer_carries : {new_writer new_reader : Half} → IsDirection writer reader
+      → IsDirection new_writer new_reader → HalfStep writer reader new_writer new_reader
+      → Carries writer reader → Carries new_writer new_reader
+  writer_carries {new_writer} {new_reader} is now step carries =
+      let both = writer_gives step in
+      record {
+        way = both.0.items ++ carries.way;
+        under_way = cc (append_assoc both.0.items carries.way new_reader.log.received);
+        lie = lie_sent writer.log new_writer.log both.0 carries.way reader.log.received
+            new_reader.log.received (same_role (ends_of writer reader is) step) both.1 carries.lie;
       }
-      | inr up ↦ up_carries new_writer new_reader now up
-    ]
+
+  -- A step of the reader: either it has received the same, or it is up.
+  reader_same_or_up : {new_writer new_reader : Half} → HalfStep reader writer new_reader new_writer
+      → (new_reader.log.received ≡ reader.log.received) ⊎ (new_reader.log.failed ≡ None)
+  reader_same_or_up (calls act answer typed may) = inl (grows_call reader.log act answer).received
+  reader_same_or_up (takes step rest may none came) =
+      step_same_or_up reader.log step none (step_up reader.log step none may)
+  reader_same_or_up (loses octets rest failed came) = inl refl
+
+  reader_carries : {new_writer new_reader : Half} → IsDirection writer reader
+      → IsDirection new_writer new_reader → HalfStep reader writer new_reader new_writer
+      → Carries writer reader → Carries new_writer new_reader
+  reader_carries {new_writer} {new_reader} is now step carries = elim (reader_same_or_up step) [
+    | inl same ↦ record {
+      way = carries.way;
+      under_way = other_same reader writer step
+          (λ log. AreUnderWay log new_reader.log carries.way) (rw same carries.under_way);
+      lie = other_same reader writer step
+          (λ log. ReceivedLie (before log.role) log.given log.payloads carries.way
+          new_reader.log.received) (rw same carries.lie);
+    }
+    | inr up ↦ up_carries new_writer new_reader now up
+  ]
 
 -- New ends.
 new_carries : (role other : Role) (values others : Values)
@@ -174,8 +166,7 @@ items_carried = each_way Carries carries_is_kept
 
 pub way_of : (writer reader : Half) → IsDirection writer reader
     → (way : List Item) × AreUnderWay writer.log reader.log way
-way_of writer reader is =
-    let carries = items_carried writer reader is in (carries.way, carries.under_way)
+way_of writer reader is = let carries = items_carried _ _ is in (carries.way, carries.under_way)
 
 pub items_both_ways : (client_values server_values : Values) (client server : Half)
     → IsPair client_values server_values client server

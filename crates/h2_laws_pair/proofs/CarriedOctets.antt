@@ -14,10 +14,9 @@ use Rattle.h2_laws_pair.proofs.BothWays.{IsDirection, ends_of, IsKept, each_way,
 pub given_more : (old new : Log) → old.given ≤ length old.written → Gives old new
     → given_out new ≡ given_out old ++ given_since old new
 given_more old new within gives =
-    let first : take old.given (given_out new) ≡ given_out old =
-    rw (take-take old.given new.given new.written gives.given, gives.written)
-    (take-append-le old.given old.written gives.octets within) in
-    rw (← first) (sym (take-append-drop old.given (given_out new)))
+    let first : take old.given (given_out new) ≡ given_out old = rw
+    (take-take _ _ _ gives.given, gives.written) (take-append-le _ _ gives.octets within) in
+    rw (← first) (sym (take-append-drop _ _))
 
 -- Where octets are added alone, the same are given out.
 pub given_same : (old new : Log) → old.given ≤ length old.written → Adds old new
@@ -37,8 +36,7 @@ writer_carries : (writer reader : Half) {new_writer new_reader : Half}
     → CarriesOctets new_writer new_reader
 writer_carries writer reader is now (calls act answer typed may) before =
     let after = with_call writer.log act answer in
-    let more = given_more writer.log after
-    (given_within _ _ writer.log (ends_of writer reader is).writer_log)
+    let more = given_more _ _ (given_within _ _ writer.log (ends_of writer reader is).writer_log)
     (gives_call writer.log act answer) in
     record {
       carried = joined_more reader.log.input reader.lost reader.incoming
@@ -80,8 +78,7 @@ reader_carries writer reader is now (calls act answer typed may) before =
 reader_carries writer reader is now (takes step rest may none came) before =
     let lost = before.none_lost (step_up reader.log step none may) in
     record {
-      carried = rw (step_input reader.log step none)
-          (used_joined reader.log.input reader.lost reader.incoming (octets_used step) rest
+      carried = rw (step_input reader.log step none) (used_joined _ _ _ (octets_used step) rest
           (given_out writer.log) lost came before.carried);
       none_lost = λ up. lost;
     }

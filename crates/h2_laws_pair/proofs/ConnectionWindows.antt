@@ -1,7 +1,6 @@
 -- The connection's window is conserved between the ends of a pair.
 use Rattle.h2_laws_pair.proofs.Names.{◌≡◌, ℕ, ◌<◌, List, None, ◌∙◌, arith, ◌+◌, ℤ, pos, ◌+ℤ◌, ap}
-use Rattle.h2_laws_pair.proofs.Names.{Item, Values, total, data_of, increment_on, Log, owed}
-use Rattle.h2_laws_pair.proofs.Names.{connection_send_window, sum_below, every_log_has_machine}
+use Rattle.h2_laws_pair.proofs.Names.{Item, Values, Log, owed, sum_below, every_log_has_machine}
 use Rattle.h2_laws_pair.proofs.Names.{Half, AreUnderWay, ConservesConnection}
 use Rattle.h2_laws_log.proofs.WindowsOfTwoEnds.{connection_meets}
 use Rattle.h2_spec_machine.specs.End.{End}
@@ -26,10 +25,7 @@ connection_conserved writer reader way back bound ends up sent returned below =
     ends.reader_log in
     let unused = sum_below bound (owed reader.log) + reader.log.unreturned in
     let received = writer.log.received in
-    in_steps (connection_send_window received writer.log.sent +ℤ pos (total data_of way))
-    (total (increment_on 0) back) unused
-    ∙ ap (λ (z : ℤ). z +ℤ pos unused)
+    in_steps _ _ unused ∙ ap (λ (z : ℤ). z +ℤ pos unused)
     (connection_meets received writer.log.sent reader.log.received reader.log.sent way back sent
-    returned)
-    ∙ window_of_a_log ends.reader_values machine.0 reader.log bound machine.1
+    returned) ∙ window_of_a_log ends.reader_values machine.0 reader.log bound machine.1
     (machine.1.failed ∙ up) (below_of ends.reader_values machine.0 reader.log bound machine.1 below)

@@ -14,11 +14,9 @@ items_asked : (view : View) (act : Act) (calls : List (Act × Answer))
     → AllByRecursion (IsAsked ((act, answer_of view act) ∷ calls))
     (items_of view act (answer_of view act))
 unfolding items_of IsAsked
-items_asked view (SendData id octets end) calls =
-    data_all _ id (λ last some. tt) view.max_payload octets end _
+items_asked view (SendData id octets end) calls = data_all _ _ (λ last some. tt) _ _ end _
 items_asked view (Release id count) calls =
-    updates_all (IsAsked ((Release id count, Done) ∷ calls)) id count (ended_in (view.stream id))
-    tt tt
+    updates_all (IsAsked ((Release id count, Done) ∷ calls)) _ _ (ended_in (view.stream id)) tt tt
 items_asked view (ResetStream id code) calls = (inl (first_in _ calls), tt)
 items_asked view (Refuse id code) calls = (inr (first_in _ calls), tt)
 items_asked view (PutOut count) calls = tt

@@ -47,8 +47,7 @@ settings_first role _ sent payloads (reads {received = received} item before) se
 settings_first role received _ [] (writes {sent = sent} item before allowed) sendable =
     absurd sendable
 settings_first role received _ (most ∷ payloads) (writes {sent = sent} item before allowed)
-    sendable = settings_still most payloads item sent
-    (settings_first role received sent payloads before sendable.1)
+    sendable = settings_still most payloads item sent (settings_first _ _ _ _ before sendable.1)
 
 -- SETTINGS may come first.
 first_may : (frame : Frame) (pairs : List (ℕ × ℕ)) → frame ≡ Settings false pairs
@@ -78,8 +77,7 @@ IsNextStep writer reader (completes item) = (newer : List Item)
 next_item : (writer reader : Log) (item : Item) (later : List Item)
     → oldest_first writer.sent ≡ (oldest_first reader.received ++ item ∷ []) ++ later
     → IsNextStep writer reader (completes item)
-next_item writer reader item later line =
-    (oldest_first later, newest_before writer.sent (item ∷ reader.received) later line)
+next_item writer reader item later line = (oldest_first later, newest_before _ _ later line)
 
 -- What a frame without fault makes.
 step_next : (writer reader : Log) (begun : Option Begun) (frame : Frame) (later : List Item)
@@ -107,8 +105,7 @@ fault_next : (writer reader : Log) (frame : Frame) (later : List Frame)
     → IsNextStep writer reader (grouping_step reader.begun frame fault)
 unfolding grouping_step
 fault_next writer reader frame later (Some fault) is before all =
-    absurd (no_grouping_lem (reader.frames ++ frame ∷ []) later (oldest_first reader.received)
-    (oldest_first writer.sent) fault None (record {
+    absurd (no_grouping_lem _ _ _ _ fault None (record {
       preceding = reader.frames;
       last = frame;
       begun = reader.begun;
@@ -117,10 +114,9 @@ fault_next writer reader frame later (Some fault) is before all =
       faulty = is;
     }) all)
 fault_next writer reader frame later None is before all =
-    let prefix = prefix_grouped (reader.frames ++ frame ∷ []) later (oldest_first writer.sent) None
-    all in
-    let now = Groups-step reader.frames (oldest_first reader.received) reader.begun frame before
-    is in
+    let prefix = prefix_grouped _ _ (oldest_first writer.sent) None all in
+    let now = Groups-step reader.frames (oldest_first reader.received) reader.begun frame before is
+    in
     let one = one_grouping_lem (reader.frames ++ frame ∷ []) prefix.first
     (oldest_first reader.received ++ step_items reader.begun frame) prefix.begun
     (step_begun reader.begun frame) prefix.groups now in
@@ -142,8 +138,7 @@ pub step_is_next : (role other : Role) (values others : Values) (writer reader :
 unfolding frame_step
 step_is_next role other values others writer reader frame wrote came up next =
     let all = output_grouped role values writer wrote in
-    test_next writer reader _ _ (order_kept reader.frames frame next.later _
-    (settings_first role writer.received writer.sent writer.payloads
+    test_next writer reader _ _ (order_kept reader.frames frame next.later _ (settings_first _ _ _ _
     (written_is_allowed role values writer wrote) (written_sendable_by role values writer wrote))
     next.frames) (fault_next writer reader frame next.later (next_fault reader.begun frame) refl
     (groups_now reader (items_grouped other others reader came) up) (rw next.frames at all))

@@ -26,8 +26,7 @@ block_decodable : (log : Log) (stream : ℕ) (end : Bool) (octets : List ℕ)
 block_decodable log stream end octets lists None small found sees =
     sees found.fields found.after found.decodes
 block_decodable log stream end octets lists (Some decoded) small found sees =
-    let one = one_block_lem log.table decoded.after found.after (table_limit log) octets
-    decoded.fields found.fields sees found.decodes in
+    let one = one_block_lem _ _ found.after _ _ decoded.fields found.fields sees found.decodes in
     rw one.0 (small found.fields (rw found.are (Contains-push found.newer found.fields)))
 
 -- Of what comes next under way something is decoded, or it is no block.

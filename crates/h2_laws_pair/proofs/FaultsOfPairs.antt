@@ -5,12 +5,12 @@ use Rattle.h2_laws_pair.proofs.Names
 use Names.{◌≡◌, ◌≢◌, ℕ, not, true, false, List, [], ◌∷◌, ◌++◌, drop, Option, None, refl, sym, ◌∙◌}
 use Names.{append_assoc, both_ways, Frame, Reset, alone, Role, Client, Server, Values}
 use Names.{AllowedHistory, Event, ResetEvent, max_frame_size_sent, is_server, peer_of, Log, waiting}
-use Names.{output, log_view, used, with_sent, with_unreturned, with_frame, took_none, opened}
-use Names.{Decoded, FrameStep, fails_with, begins_block, completes, frame_step, IsDecodedIn}
-use Names.{stream_of_log, IsSendable, written_is_allowed, lists_accepted, written_sendable}
-use Names.{uses_part, ends_frame, meets_fault, runs_out_of_memory, reports_unprocessed, is_called}
-use Names.{MachineStep, MayStep, log_after, Half, HalfStep, calls, takes, loses, IsPair, begins}
-use Names.{client_steps, server_steps, octets_used, IsUndisturbedStep, IsUndisturbed}
+use Names.{output, log_view, used, with_sent, with_frame, took_none, opened, Decoded, FrameStep}
+use Names.{fails_with, begins_block, completes, frame_step, IsDecodedIn, stream_of_log, IsSendable}
+use Names.{written_is_allowed, lists_accepted, written_sendable, uses_part, ends_frame, meets_fault}
+use Names.{runs_out_of_memory, reports_unprocessed, is_called, MachineStep, MayStep, log_after}
+use Names.{Half, HalfStep, calls, takes, loses, IsPair, begins, client_steps, server_steps}
+use Names.{octets_used, IsUndisturbedStep, IsUndisturbed}
 use Rattle.h2_laws_pair.proofs.PairLogs.{other_same}
 use Rattle.h2_laws_pair.proofs.StepsOfLogs.{IsNoCall}
 use Rattle.h2_laws_pair.proofs.BothWays.{IsDirection, to_server, to_client, ends_of, back_of}
@@ -56,10 +56,9 @@ step_sound writer reader is up octets frame decoded (completes item) (newer, lin
     let decodable = item_decodable writer.log reader.log newer item decoded
     (λ fields here. (one_of_all IsEncodable (lists_accepted writer.log.calls) fields
     (lists_of_log _ _ writer.log ends.writer_log) here).small)
-    (tables_of writer reader (newer ++ item ∷ []) is
-    (line ∙ sym (append_assoc newer (item ∷ []) reader.log.received))) sees in
-    let history : AllowedHistory reader.log.role reader.log.received reader.log.sent =
-    rw reader_role (written_is_allowed _ _ reader.log ends.reader_log) in
+    (tables_of writer reader (newer ++ item ∷ []) is (line ∙ sym (append_assoc newer _ _))) sees in
+    let history : AllowedHistory reader.log.role reader.log.received reader.log.sent = rw
+    reader_role (written_is_allowed _ _ reader.log ends.reader_log) in
     let ready = record (with_one reader.log octets frame) { begun = None } in (
       item_sound ends.writer_role writer.log ready newer back.0 item decoded
           (written_is_allowed _ _ writer.log ends.writer_log) line back.1
@@ -73,8 +72,7 @@ step_sound writer reader is up octets frame decoded (completes item) (newer, lin
 -- A stream that is named unprocessed is no reset.
 unprocessed_clean : (log : Log) → LogIsClean log → LogIsClean (took_none log)
 unfolding IsHeard
-unprocessed_clean log clean =
-    clean_reported (with_unreturned _ log) _ (tt, tt) (clean_unreturned _ log clean)
+unprocessed_clean log clean = clean_reported _ _ (tt, tt) (clean_unreturned _ log clean)
 
 -- The octets that come next begin what is left of the output.
 joined_next : (writer reader : Half) → IsDirection writer reader → reader.log.failed ≡ None
@@ -83,8 +81,7 @@ joined_next : (writer reader : Half) → IsDirection writer reader → reader.lo
     writer.log.written)
 joined_next writer reader is up octets rest came =
     let carries = carried writer reader is in
-    octets_joined reader.log.input reader.lost reader.incoming octets rest writer.log.written
-    writer.log.given (carries.none_lost up) came carries.carried
+    octets_joined _ _ _ _ _ _ writer.log.given (carries.none_lost up) came carries.carried
 
 -- A step of the reader that takes octets, or reports a stream.
 takes_clean : (writer reader : Half) → IsDirection writer reader
@@ -96,17 +93,13 @@ unfolding MayStep log_after used with_frame frame_step
 takes_clean writer reader is (uses_part octets unparsed) rest may none came calm clean = clean
 takes_clean writer reader is (ends_frame octets frame decoded) rest (up, read, sees) none came calm
     clean =
-    let ends = ends_of writer reader is in
-    let next = next_frame writer reader octets _ frame ends
-    (joined_next writer reader is clean.up octets rest came) read in
+    let ends = ends_of _ _ is in
+    let next = next_frame _ _ _ _ _ ends (joined_next _ _ is clean.up _ _ came) read in
     let step = frame_step (log_view reader.log) frame in
-    step_clean (with_one reader.log octets frame) decoded step
-    (step_sound writer reader is clean.up octets frame decoded step
-    (step_is_next _ _ _ _ writer.log reader.log frame ends.writer_log ends.reader_log clean.up
-    next) sees) clean
+    step_clean _ _ _ (step_sound _ _ is clean.up _ _ _ _
+    (step_is_next _ _ _ _ _ _ _ ends.writer_log ends.reader_log clean.up next) sees) clean
 takes_clean writer reader is (meets_fault octets fault) rest (up, at) none came calm clean =
-    absurd (no_wire_fault writer reader octets _ fault is clean.up
-    (joined_next writer reader is clean.up octets rest came) at)
+    absurd (no_wire_fault _ _ _ _ _ is clean.up (joined_next _ _ is clean.up _ _ came) at)
 takes_clean writer reader is (runs_out_of_memory octets) rest may none came calm clean =
     absurd (calm octets refl)
 takes_clean writer reader is reports_unprocessed rest may none came calm clean =

@@ -10,15 +10,14 @@ use Rattle.h2_spec_log.specs.Settings.{greatest_from}
 use Rattle.h2_laws_log.proofs.OutputRead.{IsShort, items_grouped_by}
 use Rattle.h2_laws_log.proofs.PayloadOrigins.{PayloadOrigin, payload_origin}
 use Rattle.h2_laws_pair.proofs.Names
-use Names.{◌≡◌, inl, inr, ℕ, zero, suc, ◌+◌, ◌-◌, ◌≤◌, ◌<◌, ◌^◌, false, List, [], ◌∷◌, ◌++◌, length}
+use Names.{◌≡◌, inl, inr, ℕ, zero, suc, ◌+◌, ◌-◌, ◌≤◌, ◌<◌, ◌^◌, List, [], ◌∷◌, ◌++◌, length}
 use Names.{Option, None, refl, sym, ap, ◌∙◌, subst, arith, append_assoc, length-append}
-use Names.{AllByRecursion, cases_lt, Frame, Settings, Item, alone, block, Begun, Groups}
-use Names.{one_grouping_lem, Role, AllowedHistory, Allowed, starts, reads, writes, opening_pairs}
-use Names.{total, max_frame_size_sent, acked, max_payload_sent_by, value_read, one_ack}
-use Names.{settings_count, own_value, payload_limit, IsSendable, AreSendable, frames_of_item}
-use Names.{frames_by, oldest_first, written_is_allowed, settings_append, written_by_payloads}
-use Names.{total-append, items_grouped, groups_now, prefix_grouped, overlap, written_sendable_by}
-use Names.{payloads_may, IsPayload, Half}
+use Names.{AllByRecursion, cases_lt, Frame, Item, alone, block, Begun, Groups, one_grouping_lem}
+use Names.{Role, AllowedHistory, Allowed, starts, reads, writes, total, max_frame_size_sent, acked}
+use Names.{max_payload_sent_by, value_read, one_ack, settings_count, own_value, payload_limit}
+use Names.{IsSendable, AreSendable, frames_of_item, frames_by, oldest_first, written_is_allowed}
+use Names.{settings_append, written_by_payloads, total-append, items_grouped, groups_now}
+use Names.{prefix_grouped, overlap, written_sendable_by, payloads_may, IsPayload, Half}
 use Rattle.h2_laws_pair.proofs.BothWays.{IsDirection, ends_of, back_of}
 use Rattle.h2_laws_pair.proofs.CarriedItems.{way_of}
 use Rattle.h2_laws_pair.proofs.ItemsRead.{newest_before}
@@ -43,8 +42,7 @@ greatest_above value first (suc more) number above within = elim (cases_eq numbe
 value_of_older : (id first count : ℕ) (newer older : List Item) → count ≡ settings_count older
     → own_value id first count (newer ++ older) ≡ value_read id first older
 value_of_older id first count newer older all =
-    own_older id first count newer older (omega (arith, all))
-    ∙ own_of_all id first count older (omega (arith, all))
+    own_older _ _ _ _ _ (omega (arith, all)) ∙ own_of_all id first count older (omega (arith, all))
 
 -- What the peer has read of an end's frame sizes is within the end's limit, where no more of its
 -- SETTINGS were acknowledged than the peer has read.
@@ -105,10 +103,8 @@ all_enough : (role : Role) (received sent : List Item) → AllowedHistory role r
     → AreEnough sent
 unfolding value_read
 all_enough role _ _ (starts values ok) =
-    enough_more (alone (Settings false (opening_pairs role values))) []
-    (rw (opening_frame role values) ok.least_frame) enough_none
-all_enough role _ sent (reads {received = received} item before) =
-    all_enough role received sent before
+    enough_more _ [] (rw (opening_frame role values) ok.least_frame) enough_none
+all_enough role _ sent (reads {received = received} item before) = all_enough _ _ sent before
 all_enough role received _ (writes {sent = sent} item before allowed) =
     let enough = all_enough role received sent before in
     enough_more item sent (write_enough role received sent item allowed enough.0) enough
@@ -198,8 +194,7 @@ item_of newer (most ∷ payloads) after (item ∷ sent) frames frame later count
         between = between;
         sendable = sendable;
         frames_are = line;
-        short = frame_short most item parted later frame (omega (arith, between.0.1)) sendable.0
-            follows;
+        short = frame_short _ _ parted _ frame (omega (arith, between.0.1)) sendable.0 follows;
       }
       | inr (next, parted, is, follows) ↦
           let same : next ≡ frame = cc in
@@ -225,15 +220,13 @@ acks_before : (frames later : List Frame) (frame : Frame) (item : Item)
     → Groups (frames ++ frame ∷ later) (oldest_first (item ∷ before)) None
     → total one_ack received ≤ total one_ack before
 acks_before frames later frame item before received begun groups all =
-    let prefix = prefix_grouped frames (frame ∷ later) (oldest_first (item ∷ before)) None all in
-    let one = one_grouping_lem frames prefix.first (oldest_first received) prefix.begun begun
-    prefix.groups groups in
-    acks_by item before received (oldest_first prefix.later) (λ same.
-    let none : frame ∷ later ≡ [] =
-    no_more_frames frames (frame ∷ later) (oldest_first received) begun groups
+    let prefix = prefix_grouped _ _ _ None all in
+    let one = one_grouping_lem _ prefix.first _ prefix.begun _ prefix.groups groups in
+    acks_by _ _ _ (oldest_first prefix.later) (λ same.
+    let none : frame ∷ later ≡ [] = no_more_frames _ _ _ _ groups
     (subst (λ (items : List Item). Groups (frames ++ frame ∷ later) (oldest_first items) None) same
     all) in
-    cc) (newest_before (item ∷ before) received prefix.later
+    cc) (newest_before _ _ prefix.later
     (prefix.items_are ∙ ap (λ (items : List Item). items ++ prefix.later) one.0))
 
 -- The next frame of the other end, after those that an end has read, is within the end's limit.
@@ -255,8 +248,7 @@ next_within writer reader is up frame later line =
     let within = payload_within ends.reader_role reader.log.received reader.log.sent back.0
     writer.log.received of.before (acked reader.log) of.payload
     (written_is_allowed _ _ reader.log ends.reader_log) back.1
-    (payload_origin writer.log.received writer.log.sent of.after of.before of.item
-    writer.log.payloads of.newer of.older of.payload
+    (payload_origin _ _ of.after of.before of.item writer.log.payloads of.newer of.older of.payload
     (written_by_payloads _ _ writer.log ends.writer_log).history of.sent_are of.payloads_are
     of.counted) (omega (arith, acks, awaited)) in
     omega (arith, within, of.short)

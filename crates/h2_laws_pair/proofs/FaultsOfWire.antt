@@ -30,8 +30,7 @@ pub first_read : (role : Role) (values : Values) (log : Log) (limits : Limits)
     → ((place : ℕ) → max_frame_size_sent ≤ limits place) → log.written ≡ octets ++ more
     → ReadPrefix (not (is_server role)) limits (frames_by log.payloads log.sent) [] octets more
 first_read role values log limits octets more is high joined =
-    prefix_read (not (is_server role)) limits (frames_by log.payloads log.sent) [] octets more
-    (rw joined at (output_read role values log limits is high))
+    prefix_read _ _ _ [] _ more (rw joined at (output_read role values log limits is high))
 
 -- The octets of an end, those that come next, and those after them.
 pub octets_joined : (input lost incoming octets rest written : List ℕ) (given : ℕ) → lost ≡ []
@@ -64,8 +63,7 @@ carried_short head payload (Data stream end octets pad) (kind, on, some, ends, p
     padded_long _ payload octets octets pad pads (omega arith)
 carried_short head payload (Headers stream end whole fragment pad priority)
     (kind, on, some, ends, ended, body, pads, precedes) =
-    padded_long _ payload body (prioritized fragment priority) pad pads
-    (prioritized_long _ body fragment priority precedes)
+    padded_long _ _ body _ pad pads (prioritized_long _ body fragment priority precedes)
 carried_short head payload (Priority stream octets) (kind, on, some, complete, read) =
     rw read (omega arith)
 carried_short head payload (Reset stream code) (kind, on, some, complete, read) =
@@ -130,8 +128,7 @@ heads_by limits place all frames [] last more are nine none =
     absurd (omega (arith, counted, nine))
 heads_by limits place all frames (frame ∷ later) last more are nine
     (first, following, split, sound, framed) =
-    let same : head_of last ≡ head_of first =
-    same_head last first more following (omega (arith, nine))
+    let same : head_of last ≡ head_of first = same_head _ first _ following (omega (arith, nine))
     (nine_in_frame _ frame first sound) split in
     record {
       frame = frame;
@@ -155,12 +152,11 @@ heads_frame expects limits stream all frames others part last more (inl short) j
 heads_frame expects limits stream all frames others part last more (inr past) joined sound are
     nine =
     let preface = expected_preface expects in
-    let line : preface ++ past.sound.body ≡ preface ++ (sound.body ++ (last ++ more)) =
-    sym past.sound.opened ∙ sym (append-nil past.part) ∙ sym past.joined ∙ joined
-    ∙ ap (λ (octets : List ℕ). octets ++ (last ++ more)) sound.opened
-    ∙ append_assoc preface sound.body (last ++ more) in
-    let bodies : past.sound.body ≡ sound.body ++ (last ++ more) =
-    same_following preface preface past.sound.body (sound.body ++ (last ++ more)) refl line in
+    let line : preface ++ past.sound.body ≡ preface ++ (sound.body ++ (last ++ more)) = sym
+    past.sound.opened ∙ sym (append-nil past.part) ∙ sym past.joined ∙ joined ∙ ap
+    (λ (octets : List ℕ). octets ++ (last ++ more)) sound.opened ∙ append_assoc _ sound.body _ in
+    let bodies : past.sound.body ≡ sound.body ++ (last ++ more) = same_following preface preface
+    past.sound.body (sound.body ++ (last ++ more)) refl line in
     heads_by limits (length preface + length sound.body) all frames others last more are nine
     (rest_framed limits (length preface) frames others past.sound.body sound.body (last ++ more)
     (rw are at past.sound.framed) sound.framed bodies)
@@ -198,18 +194,17 @@ no_long_head writer reader octets more is up ends joined some head =
     }) in
     let first = first_read _ _ writer.log others line more ends.writer_log (λ place. omega arith)
     joined in
-    let one = one_reading_lem expects others line first.first frames first.left head.last
-    first.read framed in
+    let one = one_reading_lem _ others _ first.first _ first.left head.last first.read framed in
     let next = heads_frame expects others writer.log.written all frames first.later head.part
     head.last more (output_read _ _ writer.log others ends.writer_log (λ place. omega arith))
     (rw (joined, head.joined, append_assoc) refl) head.sound (rw (first.frames_are, one.0) refl)
     nine in
-    let counted : length reader.log.input + length octets ≡ length head.part + 9 =
-    omega (arith, ap length head.joined, length-append {A = ℕ}) in
-    let ahead : limits_from reader.log (length head.part + 9)
-    ≡ payload_limit (acked reader.log) reader.log.sent =
-    rw (lt-leb (length head.part + 9) (length reader.log.input) (omega (arith, counted, some)))
-    refl in
+    let counted : length reader.log.input + length octets ≡ length head.part + 9 = omega
+    (arith, ap length head.joined, length-append {A = ℕ}) in
+    let ahead : limits_from reader.log (length head.part + 9) ≡ payload_limit (acked reader.log)
+    reader.log.sent =
+    rw (lt-leb (length head.part + 9) (length reader.log.input) (omega (arith, counted, some))) refl
+    in
     omega (arith, next.long, next_within writer reader is up next.frame next.later next.frames_are)
 
 -- The octets that come next hold no fault, by those of them that are new.
@@ -225,8 +220,7 @@ no_fault_in writer reader octets more fault is up ends joined some at =
     let line = reader.log.input ++ octets in
     let whole : take (length line) line ≡ line = take-length line in
     let made = rw (ends.opposite, whole) at at.made in
-    let read = first_read _ _ writer.log others line more ends.writer_log (λ place. omega arith)
-    joined in
+    let read = first_read _ _ _ others _ _ ends.writer_log (λ place. omega arith) joined in
     elim (fault_wider expects limits others frames line fault (λ place within. omega arith) made) [
       | inl (other, wrong) ↦
           no_reading expects others line [] line read.left frames read.first other wrong
@@ -261,8 +255,7 @@ next_frame writer reader octets more frame ends joined takes =
     let limits = wider_limits reader.log in
     let line = reader.log.input ++ octets in
     let frames = reader.log.frames ++ frame ∷ [] in
-    let read = first_read _ _ writer.log limits line more ends.writer_log (λ place. omega arith)
-    joined in
+    let read = first_read _ _ _ limits _ more ends.writer_log (λ place. omega arith) joined in
     let framed = comes_widely expects reader.log line frames []
     (rw ((stream_of_log _ _ reader.log ends.reader_log).role, ends.opposite) at takes) in
     let one = one_reading_lem expects limits line read.first frames read.left [] read.read framed in

@@ -9,9 +9,9 @@ use Names.{◌≡◌, inl, inr, ℕ, ◌≤◌, ◌==◌, Bool, true, false, if�
 use Names.{refl, ap, ◌∙◌, arith, list_any, AllByRecursion, both_ways, or_from, eqb-true, le-ltb}
 use Names.{or_cases, list_any-append, Field, Data, Settings, Ping, GoAway, WindowUpdate, Item}
 use Names.{alone, block, Role, Server, is_goaway_below, Values, Act, Open, SendFields, SendData}
-use Names.{Release, is_server, Log, active, last_processed, log_view, ended_in, Verdict, NoEvent}
-use Names.{replies_to, conditions, items_of, answer_of, refusal_of, read, with_sent, opened, called}
-use Names.{IsLog, stream_of_log, none_holds, grows_wrote, fails_down, any_either, IsLogInvariant}
+use Names.{Release, is_server, Log, active, last_processed, log_view, Verdict, NoEvent, replies_to}
+use Names.{conditions, items_of, answer_of, refusal_of, read, with_sent, opened, called, IsLog}
+use Names.{stream_of_log, none_holds, grows_wrote, fails_down, any_either, IsLogInvariant}
 use Names.{kept_by_logs, active_parts, SendGoAway, is_above}
 use Rattle.h2_laws_pair.proofs.DataItems.{data_all}
 use Rattle.h2_laws_machine.proofs.GoAwaysSent.{active_processed}
@@ -58,8 +58,7 @@ wrote_below : (log : Log) (items : List Item)
     → IsBelow (with_sent log items)
 unfolding with_sent
 wrote_below log [] fit is = is
-wrote_below log (item ∷ items) fit is =
-    below_more (greatest_processed log.reported) log.sent (item ∷ items) fit is
+wrote_below log (item ∷ items) fit is = below_more _ _ (item ∷ items) fit is
 
 -- Items that are no part of a message and no GOAWAY fit.
 abbrev AreQuiet : List Item → Type 0
@@ -170,8 +169,7 @@ items_fit log (SendFields id fields end) server none =
 items_fit log (SendData id octets end) server none =
     stream_fits log id _ server (stream_is_active log id (none_holds _ none).1.0)
     (data_all (IsOn id) id (data_on_stream id) (log_view log).max_payload octets end _)
-items_fit log (Release id count) server none =
-    quiet_fits _ _ _ (updates_quiet id count (ended_in ((log_view log).stream id)))
+items_fit log (Release id count) server none = quiet_fits _ _ _ (updates_quiet _ _ _)
 items_fit log SendGoAway server none = goaway_fits log server.server
 items_fit log act server none = quiet_fits _ _ _ (λ i. (refl, refl))
 
@@ -195,39 +193,36 @@ server_keeps values log is up =
       };
     }
 
--- Each change of a server keeps it, as long as the server is up.
-keeps_below : (values : Values)
-    → IsLogInvariant Server values (λ log. log.failed ≡ None → IsBelow log)
-keeps_below values = record {
-  opening = λ in_range up. opened_below Server values;
-  used = λ log octets unparsed is. is;
-  framed = λ log frames is. is;
-  begun = λ log begun is. is;
-  replied = λ log decoded item verdict replies is up.
-      wrote_quiet (read log decoded item) _ (replies_quiet verdict item)
-      (is ((grows_wrote (read log decoded item) _).up up));
-  reported = λ log event events may is up i here.
-      let old = is up i here in
-      record {
-        low = omega (arith, old.low, processed_after (event ∷ events) log.reported);
-        below = old.below;
-      };
-  unreturned = λ log count is. is;
-  returned = λ log returns is up.
-      wrote_quiet (record log { unreturned = 0 }) _ (update_quiet log.unreturned)
-      (is ((grows_wrote (record log { unreturned = 0 }) _).up up));
-  failed = λ log code last names is up. absurd (fails_down code last log up);
-  called = λ log act answer is_log none is. is;
-  sent = λ log act accepted is up.
-      let answer = answer_of (log_view log) act in
-      let was = (grows_wrote (called log act answer) _).up up in
-      wrote_below (called log act answer) _
-      (items_fit log act (server_keeps values log accepted.is was) accepted.none) (is was);
-  given = λ log more is. is;
-}
+module _ (values : Values) where
+  -- Each change of a server keeps it, as long as the server is up.
+  keeps_below : IsLogInvariant Server values (λ log. log.failed ≡ None → IsBelow log)
+  keeps_below = record {
+    opening = λ in_range up. opened_below Server values;
+    used = λ log octets unparsed is. is;
+    framed = λ log frames is. is;
+    begun = λ log begun is. is;
+    replied = λ log decoded item verdict replies is up. wrote_quiet (read log decoded item) _
+        (replies_quiet verdict item) (is ((grows_wrote (read log decoded item) _).up up));
+    reported = λ log event events may is up i here.
+        let old = is up i here in
+        record {
+          low = omega (arith, old.low, processed_after (event ∷ events) log.reported);
+          below = old.below;
+        };
+    unreturned = λ log count is. is;
+    returned = λ log returns is up. wrote_quiet (record log { unreturned = 0 }) _
+        (update_quiet log.unreturned) (is ((grows_wrote (record log { unreturned = 0 }) _).up up));
+    failed = λ log code last names is up. absurd (fails_down code last log up);
+    called = λ log act answer is_log none is. is;
+    sent = λ log act accepted is up.
+        let answer = answer_of (log_view log) act in
+        let was = (grows_wrote (called log act answer) _).up up in
+        wrote_below (called log act answer) _
+        (items_fit log act (server_keeps values log accepted.is was) accepted.none) (is was);
+    given = λ log more is. is;
+  }
 
--- Every server that is up.
-pub spoken_below : (values : Values) (log : Log) → IsLog Server values log → log.failed ≡ None
-    → IsBelow log
-spoken_below values log is =
-    kept_by_logs Server values (λ log. log.failed ≡ None → IsBelow log) (keeps_below values) log is
+  -- Every server that is up.
+  pub spoken_below : (log : Log) → IsLog Server values log → log.failed ≡ None → IsBelow log
+  spoken_below log is =
+      kept_by_logs Server values (λ log. log.failed ≡ None → IsBelow log) (keeps_below) log is

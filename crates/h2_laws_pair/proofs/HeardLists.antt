@@ -75,8 +75,7 @@ next_list : (log : Log) (octets : List ℕ) (stream : ℕ) (end : Bool) (decoded
 next_list log octets stream end None lists under_way read accepted found sees all same =
     absurd (sees found.fields found.after found.decodes)
 next_list log octets stream end (Some decoded) lists under_way read accepted found sees all same =
-    let one = one_block_lem log.table decoded.after found.after (table_limit log) octets
-    decoded.fields found.fields sees found.decodes in
+    let one = one_block_lem _ _ found.after _ _ decoded.fields found.fields sees found.decodes in
     (found.newer, rw (all, found.are, same, append_assoc, one.0) refl)
 
 -- So it is with any item that comes next.

@@ -67,13 +67,11 @@ pub spoken_opened : (role : Role) (i : ℕ) (received sent : List Item)
     → IsOpened role i received sent
 spoken_opened role i _ _ (starts values ok) here = absurd (both_ways _ (settings_silent i _) here)
 spoken_opened role i _ sent (reads {received = received} item history) here =
-    opened_more role i (item ∷ []) [] received sent
-    (spoken_opened role i received sent history here)
+    opened_more _ _ (item ∷ []) [] _ sent (spoken_opened role i received sent history here)
 spoken_opened role i received _ (writes {sent = sent} item history allowed) here =
     elim (or_cases (speaks i item) (list_any (speaks i) sent) here) [
-      | inl now ↦ one_opened role i item received sent allowed now
-      | inr before ↦ opened_more role i [] (item ∷ []) received sent
-          (spoken_opened role i received sent history before)
+      | inl now ↦ one_opened _ _ item _ _ allowed now
+      | inr before ↦ opened_more _ _ [] (item ∷ []) _ _ (spoken_opened _ _ _ _ history before)
     ]
 
 -- Items that are no part of a message on a stream carry nothing on it.
@@ -89,12 +87,10 @@ pub silent_tokens : (i : ℕ) (items : List Item) (lists : List (List Field))
 unfolding tokens_written item_tokens
 silent_tokens i [] lists none = refl
 silent_tokens i (alone frame ∷ items) lists none =
-    let parts = or_parts (speaks i (alone frame)) (list_any (speaks i) items) none in
-    rw (alone_adds i frame items lists, silent_tokens i items lists parts.1)
-    (item_silent i (alone frame) [] parts.0)
+    let parts = or_parts (speaks _ _) (list_any (speaks i) items) none in
+    rw (alone_adds _ _ _ _, silent_tokens _ _ _ parts.1) (item_silent _ _ [] parts.0)
 silent_tokens i (block stream end octets ∷ items) [] none =
-    silent_tokens i items []
-    (or_parts (speaks i (block stream end octets)) (list_any (speaks i) items) none).1
+    silent_tokens i items [] (or_parts (speaks _ _) (list_any (speaks i) items) none).1
 silent_tokens i (block stream end octets ∷ items) (list ∷ lists) none =
     let parts = or_parts (speaks i (block stream end octets)) (list_any (speaks i) items) none in
     rw (silent_tokens i items lists parts.1) (item_silent i (block stream end octets) list parts.0)
@@ -129,16 +125,14 @@ ended_tokens i [] lists many here = absurd (both_ways false refl here)
 ended_tokens i (alone frame ∷ items) lists many here =
     rw (alone_adds i frame items lists)
     (elim (or_cases (ends i (alone frame)) (list_any (ends i) items) here) [
-      | inl now ↦ any_after is_end (tokens_written i items lists) _
-          (item_ending i (alone frame) [] now)
+      | inl now ↦ any_after is_end _ _ (item_ending i (alone frame) [] now)
       | inr before ↦ in_front (tokens_written i items lists) _
           (ended_tokens i items lists many before)
     ])
 ended_tokens i (block stream end octets ∷ items) [] many here = absurd (omega (arith, many))
 ended_tokens i (block stream end octets ∷ items) (list ∷ lists) many here =
     elim (or_cases (ends i (block stream end octets)) (list_any (ends i) items) here) [
-      | inl now ↦ any_after is_end (tokens_written i items lists) _
-          (item_ending i (block stream end octets) list now)
+      | inl now ↦ any_after is_end _ _ (item_ending i (block stream end octets) list now)
       | inr before ↦ in_front (tokens_written i items lists) _
           (ended_tokens i items lists (omega (arith, many)) before)
     ]

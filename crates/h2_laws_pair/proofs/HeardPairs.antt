@@ -4,11 +4,11 @@ use Rattle.h2_laws_pair.proofs.Names
 use Names.{◌≡◌, ℕ, List, [], ◌∷◌, ◌++◌, length, Option, None, refl, sym, ap, ◌∙◌, arith}
 use Names.{append_assoc, length-append, Field, Code, InternalError, Frame, wire_fault_code, Item}
 use Names.{Role, Values, Log, opened, with_call, used, with_frame, with_sent, with_failure}
-use Names.{took_none, Decoded, IsLog, IsDecodedFor, grows_call, lists_accepted, settings_received}
-use Names.{log_sent, reads_fails, reads_unprocessed, uses_part, ends_frame, meets_fault}
-use Names.{runs_out_of_memory, reports_unprocessed, is_called, MachineStep, MayStep, log_after}
-use Names.{Half, HalfStep, calls, takes, loses, IsPair, AreUnderWay, block_count, Token}
-use Names.{tokens_sent, tokens_written, tokens_heard, IsPrefixOfTokens}
+use Names.{took_none, Decoded, IsLog, IsDecodedFor, grows_call, lists_accepted, log_sent}
+use Names.{reads_fails, reads_unprocessed, uses_part, ends_frame, meets_fault, runs_out_of_memory}
+use Names.{reports_unprocessed, is_called, MachineStep, MayStep, log_after, Half, HalfStep, calls}
+use Names.{takes, loses, IsPair, AreUnderWay, block_count, Token, tokens_sent, tokens_written}
+use Names.{tokens_heard, IsPrefixOfTokens}
 use Rattle.h2_laws_pair.proofs.StepsOfLogs.{IsNoCall}
 use Rattle.h2_laws_pair.proofs.BothWays.{IsDirection, to_server, to_client, ends_of, IsKept}
 use Rattle.h2_laws_pair.proofs.BothWays.{each_way}
@@ -49,11 +49,9 @@ writer_heard : (writer reader : Half) {new_writer new_reader : Half}
     → IsHeardBy new_writer.log new_reader.log
 writer_heard writer reader (calls act answer typed may) is =
     let more = lists_more act answer writer.log.calls in
-    more_accepted writer.log reader.log (with_call writer.log act answer) more.0
-    (ap lists_accepted (call_calls writer.log act answer) ∙ more.1) is
+    more_accepted _ _ _ more.0 (ap lists_accepted (call_calls writer.log act answer) ∙ more.1) is
 writer_heard writer reader (takes step rest may none came) is =
-    more_accepted writer.log reader.log (log_after writer.log step) []
-    (ap lists_accepted (step_calls writer.log step none)) is
+    more_accepted _ _ _ [] (ap lists_accepted (step_calls writer.log step none)) is
 writer_heard writer reader (loses octets rest failed came) is = is
 
 -- After a step of the reader with which no item more is read.
@@ -79,17 +77,16 @@ frame_read writer reader octets decoded frame way is up sees under_way before =
     elim (frame_heard reader.log octets decoded frame before.lists low before.heard) [
       | no_item same heard ↦ none_read writer.log reader.log _ before same heard
       | one_item item completed came heard ↦
-          let line : writer.log.sent ≡ (way ++ item ∷ []) ++ reader.log.received =
-          rw (under_way, came, append_assoc) refl in
-          let next = next_lists writer.log reader.log way item decoded before.lists
-          before.later before.accepted before.count
-          (tables_of writer reader (way ++ item ∷ []) is line) (rw completed at sees) in
+          let line : writer.log.sent ≡ (way ++ item ∷ []) ++ reader.log.received = rw
+          (under_way, came, append_assoc) refl in
+          let next = next_lists writer.log reader.log way item decoded before.lists before.later
+          before.accepted before.count (tables_of _ _ _ is line) (rw completed at sees) in
           record {
             lists = lists_after decoded item before.lists;
             later = next.0;
             accepted = next.1;
-            count = lists_count decoded item reader.log.received before.lists before.count
-                ∙ sym (ap block_count came);
+            count = lists_count decoded item reader.log.received before.lists before.count ∙ sym
+                (ap block_count came);
             heard = heard;
           }
     ]
@@ -99,16 +96,14 @@ used_read : (writer reader : Half) (octets unparsed : List ℕ) → IsHeardBy wr
     → IsHeardBy writer.log (used reader.log octets unparsed)
 unfolding used
 used_read writer reader octets unparsed is =
-    none_read writer.log reader.log (used reader.log octets unparsed) is refl
-    (λ i. heard_used i reader.log octets unparsed is.lists (is.heard i))
+    none_read _ _ _ is refl (λ i. heard_used i reader.log octets unparsed is.lists (is.heard i))
 
 failed_read : (writer reader : Half) (octets : List ℕ) (code : Code) (last : ℕ)
     → IsHeardBy writer.log reader.log
     → IsHeardBy writer.log (with_failure code last (used reader.log octets []))
 failed_read writer reader octets code last is =
     let now = used_read writer reader octets [] is in
-    none_read writer.log (used reader.log octets []) _ now
-    (reads_fails code last (used reader.log octets [])).received
+    none_read _ _ _ now (reads_fails code last (used reader.log octets [])).received
     (λ i. heard_failure i code last (used reader.log octets []) now.lists (now.heard i))
 
 -- After any step that is no call.
@@ -126,8 +121,7 @@ step_read writer reader (meets_fault octets fault) way is none may under_way bef
 step_read writer reader (runs_out_of_memory octets) way is none may under_way before =
     failed_read writer reader octets InternalError _ before
 step_read writer reader reports_unprocessed way is none may under_way before =
-    none_read writer.log reader.log (took_none reader.log) before
-    (reads_unprocessed reader.log).received
+    none_read _ _ (took_none reader.log) before (reads_unprocessed reader.log).received
     (λ i. heard_unprocessed i reader.log before.lists (before.heard i))
 step_read writer reader (is_called act answer) way is none may under_way before =
     absurd (none act answer refl)
@@ -176,13 +170,12 @@ pub given_in_order : (i : ℕ) (role : Role) (values : Values) (writer reader : 
     → (is : IsHeardBy writer reader) → tokens_sent i writer.calls
     ≡ tokens_written i reader.received is.lists ++ tokens_written i way is.later
 given_in_order i role values writer reader way log under_way is =
-    let blocks : length (lists_accepted writer.calls) ≡ block_count writer.sent =
-    blocks_of_lists writer.sent (settings_received writer.received) (lists_accepted writer.calls)
-    writer.encoder (log_sent role values writer log) in
-    let all : length (is.later ++ is.lists) ≡ block_count (way ++ reader.received) =
-    rw (is.accepted, under_way) at blocks in
-    let later : length is.later ≡ block_count way =
-    omega (arith, length-append is.later is.lists, blocks_joined way reader.received) in
+    let blocks : length (lists_accepted writer.calls) ≡ block_count writer.sent = blocks_of_lists _
+    _ _ writer.encoder (log_sent role values writer log) in
+    let all : length (is.later ++ is.lists) ≡ block_count (way ++ reader.received) = rw
+    (is.accepted, under_way) at blocks in
+    let later : length is.later ≡ block_count way = omega
+    (arith, length-append is.later is.lists, blocks_joined way reader.received) in
     rw (tokens_carried i role values writer log, under_way, is.accepted)
     (tokens_split i way reader.received is.later is.lists later)
 
@@ -193,8 +186,7 @@ hears writer reader i is =
     let way = way_of writer reader is in
     let heard = is_heard writer reader is in
     rw (given_in_order i _ _ writer.log reader.log way.0 (ends_of writer reader is).writer_log
-    way.1 heard) (prefix_more (tokens_heard i reader.log.reported)
-    (tokens_written i reader.log.received heard.lists) (tokens_written i way.0 heard.later)
+    way.1 heard) (prefix_more _ _ (tokens_written i way.0 heard.later)
     (heard_prefix reader.log.role i reader.log.received reader.log.sent reader.log.reported
     heard.lists (heard.heard i)))
 

@@ -12,9 +12,9 @@ use Names.{nat_tests, ints, Settings, Item, alone, Role, Client, Server, Values,
 use Names.{Allowed, starts, reads, writes, ends, resets, total, data_on, data_of, increment_on}
 use Names.{greatest_block, value_read, is_server, Log, active, owed, send_window, first_window}
 use Names.{connection_send_window, IsLog, sum_below, written_is_allowed, total_none, active_from}
-use Names.{lasts_from, lists_accepted, settings_received, log_sent, Half, IsPair, AreUnderWay}
-use Names.{IsUndisturbed, IsQuiet, WasReset, SentMessage, is_above, is_closed_by_us, openings}
-use Names.{Token, FieldsToken, OctetToken, EndToken, tokens_sent, tokens_heard, message_tokens}
+use Names.{lasts_from, lists_accepted, log_sent, Half, IsPair, AreUnderWay, IsUndisturbed, IsQuiet}
+use Names.{WasReset, SentMessage, is_above, is_closed_by_us, openings, Token, FieldsToken}
+use Names.{OctetToken, EndToken, tokens_sent, tokens_heard, message_tokens}
 use Rattle.h2_laws_pair.proofs.PairLogs.{both_logs}
 use Rattle.h2_laws_pair.proofs.BothWays.{AreEnds, ends_to_server, ends_to_client}
 use Rattle.h2_laws_pair.proofs.ConnectionWindows.{connection_conserved}
@@ -34,8 +34,7 @@ window_after : (role : Role) (received sent : List Item) (item : Item)
     → 1 ≤ value_read 4 first_window (item ∷ sent)
 unfolding value_read
 window_after role received sent (alone (Settings false pairs)) allowed some =
-    rw (allowed.1.changed, changed_window role (value_read 5 16384 sent) allowed.1.values _)
-    allowed.1.in_range.least_window
+    rw (allowed.1.changed, changed_window _ _ allowed.1.values _) allowed.1.in_range.least_window
 window_after role received sent item allowed some = some
 
 some_window : (role : Role) (received sent : List Item) → AllowedHistory role received sent
@@ -43,8 +42,7 @@ some_window : (role : Role) (received sent : List Item) → AllowedHistory role 
 unfolding value_read
 some_window role _ _ (starts values ok) = rw (opening_window role values first_window)
     ok.least_window
-some_window role _ sent (reads {received = received} item history) =
-    some_window role received sent history
+some_window role _ sent (reads {received = received} item history) = some_window _ _ sent history
 some_window role received _ (writes {sent = sent} item history allowed) =
     window_after role received sent item allowed (some_window role received sent history)
 
@@ -85,13 +83,11 @@ stream_open writer reader i idle =
       stays = λ closed. both_ways _ idle.unclosed (closed_by_us_is _ _ _ closed);
       goes_on = idle.goes_on;
     }) in
-    let is : send_window writer.log i ≡ pos value =
-    plain_window (send_window writer.log i) (total (data_on i) []) (total (increment_on i) [])
-    (owed reader.log i) value (total_none (data_on i)) (total_none (increment_on i))
-    (idle.none_owed i) conserved in
-    let some : 1 ≤ value_read 4 first_window reader.log.sent =
-    some_window idle.halves.reader_role reader.log.received reader.log.sent
-    (written_is_allowed _ _ reader.log idle.halves.reader_log) in
+    let is : send_window writer.log i ≡ pos value = plain_window (send_window writer.log i)
+    (total (data_on i) []) (total (increment_on i) []) (owed reader.log i) value
+    (total_none (data_on i)) (total_none (increment_on i)) (idle.none_owed i) conserved in
+    let some : 1 ≤ value_read 4 first_window reader.log.sent = some_window idle.halves.reader_role _
+    _ (written_is_allowed _ _ reader.log idle.halves.reader_log) in
     above_none (send_window writer.log i) value is (rw (sym idle.back) some)
 
 connection_open : (writer reader : Half) (i : ℕ) → IsIdle writer reader i
@@ -101,10 +97,9 @@ connection_open writer reader i idle =
     let bound = greatest_block (openings reader.log.role reader.log.received reader.log.sent) + 1 in
     let conserved = connection_conserved writer reader [] [] bound idle.halves idle.up idle.way
     idle.back (omega arith) in
-    let owes : sum_below bound (owed reader.log) + reader.log.unreturned ≡ 0 =
-    omega (arith, none_sum bound (owed reader.log) idle.none_owed, idle.none_unreturned) in
-    above_none window first_window (plain_window window (total data_of [])
-    (total (increment_on 0) []) (sum_below bound (owed reader.log) + reader.log.unreturned)
+    let owes : sum_below bound (owed reader.log) + reader.log.unreturned ≡ 0 = omega
+    (arith, none_sum bound (owed reader.log) idle.none_owed, idle.none_unreturned) in
+    above_none window first_window (plain_window _ (total data_of []) (total (increment_on 0) []) _
     first_window (total_none data_of) (total_none (increment_on 0)) owes conserved) (omega arith)
 
 pub could_go : (writer reader : Half) (i : ℕ) (token : Token) → IsIdle writer reader i
@@ -128,13 +123,11 @@ goes_on_by : (role : Role) (values : Values) (log : Log) (i : ℕ) (message : Se
     (token : Token) (others : List Token) → IsLog role values log
     → message_tokens message ≡ tokens_sent i log.calls ++ token ∷ others
     → list_any (ends i) log.sent ≡ false
-goes_on_by role values log i message token others is waits = false_from_ne_true _ (λ here.
-    let many : length (lists_accepted log.calls) ≡ _ =
-    blocks_of_lists log.sent (settings_received log.received) (lists_accepted log.calls)
-    log.encoder (log_sent role values log is) in
-    unended message (tokens_sent i log.calls) token others waits
-    (rw (tokens_carried i role values log is)
-    (ended_tokens i log.sent (lists_accepted log.calls) many here)))
+goes_on_by role values log i message token others is waits =
+    false_from_ne_true _ (λ here.
+    let many : length (lists_accepted log.calls) ≡ _ = blocks_of_lists _ _ _ _ (log_sent _ _ _ is)
+    in
+    unended _ _ _ _ waits (rw (tokens_carried _ _ _ _ is) (ended_tokens _ _ _ many here)))
 
 -- A stream is active on which something was sent, that wasn't ended, reset or named unprocessed.
 active_by : (role : Role) (values : Values) (log : Log) (i : ℕ) → IsLog role values log
@@ -143,8 +136,7 @@ active_by : (role : Role) (values : Values) (log : Log) (i : ℕ) → IsLog role
     → list_any (resets i) log.sent ≡ false → list_any (reports_unprocessed i) log.reported ≡ false
     → active log i ≡ true
 active_by role values log i is own spoken below goes unreset kept unnamed =
-    let opened = spoken_opened role i log.received log.sent (written_is_allowed role values log is)
-    spoken in
+    let opened = spoken_opened role i log.received log.sent (written_is_allowed _ _ _ is) spoken in
     rw own (active_from role i log.received log.sent log.reported (record {
       odd = opened.odd;
       opened = opened.opened;
@@ -164,8 +156,7 @@ all_sent : (writer reader : Half) (i : ℕ) (message : SentMessage) (waiting : L
     → message_tokens message ≡ tokens_sent i writer.log.calls ++ token ∷ others
     → IsIdle writer reader i)
     → tokens_sent i writer.log.calls ≡ message_tokens message
-all_sent writer reader i message [] sending stuck idle =
-    sym (append-nil (tokens_sent i writer.log.calls)) ∙ sym sending.sent
+all_sent writer reader i message [] sending stuck idle = sym (append-nil _) ∙ sym sending.sent
 all_sent writer reader i message (token ∷ others) sending stuck idle =
     let now = idle token others sending.sent in
     absurd (stuck now.alive (could_go writer reader i token now))

@@ -108,8 +108,7 @@ says_both F S T A B C verdict one other = (one, other)
 active_stays : (log : Log) (i : ℕ) → state log i ≡ Active
     → IsGone log.role i log.received log.sent → ⊥
 active_stays log i is gone =
-    both_ways _ (active_unclosed log.role i log.received log.sent log.reported
-    (state_is_active _ _ _ is)) gone.closed
+    both_ways _ (active_unclosed _ _ _ _ log.reported (state_is_active _ _ _ is)) gone.closed
 
 idle_stays : (log : Log) (i : ℕ) → state log i ≡ Idle → IsGone log.role i log.received log.sent → ⊥
 idle_stays log i is gone = not_idle _ _ _ gone.used is
@@ -130,8 +129,7 @@ unfolding verdict_by_rules
 rules_used log None (block stream end octets) = tt
 rules_used log (Some decoded) (block stream end octets) =
     let item = block stream end octets in
-    says_block (Unit {0}) (IsUsedBy log item stream) (Stays log stream) (state log stream)
-    (peer_opens (log_view log) stream) _ _ _ _ (λ idle opens. (
+    says_block (Unit {0}) _ _ _ (peer_opens (log_view log) stream) _ _ _ _ (λ idle opens. (
       tt,
       λ left. used_here log.role stream end octets log.received log.sent opens,
       λ stays. idle_stays log stream idle,
@@ -139,8 +137,7 @@ rules_used log (Some decoded) (block stream end octets) =
     (λ is. used_more log.role stream (item ∷ []) [] log.received log.sent (closed_used _ _ _ is))
 rules_used log decoded (alone (Data stream end octets pad)) =
     let item = alone (Data stream end octets pad) in
-    says_data (Unit {0}) (IsUsedBy log item stream) (Stays log stream) (state log stream) _ _ _
-    (λ is. tt)
+    says_data (Unit {0}) _ _ (state log stream) _ _ _ (λ is. tt)
     (λ is. used_more log.role stream (item ∷ []) [] log.received log.sent (closed_used _ _ _ is))
     (active_stays log stream)
 rules_used log decoded (alone frame) =
@@ -213,8 +210,7 @@ fault_goes log i item code due list used =
     let stream = stream_of_item item in
     let reset = alone (Reset stream code) in
     nothing_or (λ j. IsGone log.role j (item ∷ log.received) (due ++ (reset ∷ log.sent))) i item
-    list (of_stream _ item (gone_more log.role stream [] due (item ∷ log.received)
-    (reset ∷ log.sent) (record {
+    list (of_stream _ item (gone_more _ _ [] _ _ (reset ∷ log.sent) (record {
       closed = reset_closed log.role stream code log.sent;
       used = used_more log.role stream [] (reset ∷ []) (item ∷ log.received) log.sent used;
     })))

@@ -4,16 +4,16 @@ use Rattle.std.proofs.Common.{map as each, eq-eqb}
 use Rattle.std.proofs.lemmas.Bool.{not-true, false_from_ne_true}
 use Rattle.std.proofs.lemmas.List.{map-append}
 use Rattle.h2_laws_pair.proofs.Names
-use Names.{◌≡◌, ℕ, zero, suc, ◌<◌, ◌==◌, nat_le, ◌&&◌, not, Bool, true, false, if◌then◌else◌, List}
-use Names.{[], ◌∷◌, ◌++◌, length, take, drop, None, refl, sym, ap, ◌∙◌, arith, append_assoc}
-use Names.{append-nil, length-drop, list_any, both_ways, or_parts, leb-false, and_parts, eqb-true}
-use Names.{and_from, take-append-drop, length-take, Field, code_number, Data, GoAway, WindowUpdate}
-use Names.{Settings, Ping, Item, alone, block, Role, Values, Act, Answer, Open, SendFields}
-use Names.{SendData, Release, Done, Log, max_payload_sent, max_payload_sent_by, log_view, ended_in}
-use Names.{Verdict, NoEvent, replies_to, items_of, answer_of, data_items, data_frames, read}
-use Names.{with_sent, opened, called, IsLog, IsLogInvariant, kept_by_logs, WritesNone, refused}
-use Names.{no_memory, fails_instead, puts_out, lists_accepted, Token, OctetToken, end_tokens}
-use Names.{tokens_of_call, tokens_sent, tokens_written}
+use Names.{◌≡◌, ℕ, zero, suc, ◌<◌, ◌==◌, ◌&&◌, not, Bool, true, false, if◌then◌else◌, List, [], ◌∷◌}
+use Names.{◌++◌, length, take, drop, None, refl, sym, ap, ◌∙◌, arith, append_assoc, append-nil}
+use Names.{length-drop, list_any, both_ways, or_parts, leb-false, and_parts, eqb-true, and_from}
+use Names.{take-append-drop, length-take, Field, code_number, Data, GoAway, WindowUpdate, Settings}
+use Names.{Ping, Item, alone, block, Role, Values, Act, Answer, Open, SendFields, SendData, Release}
+use Names.{Done, Log, max_payload_sent_by, log_view, Verdict, NoEvent, replies_to, items_of}
+use Names.{answer_of, data_items, data_frames, read, with_sent, opened, called, IsLog}
+use Names.{IsLogInvariant, kept_by_logs, WritesNone, refused, no_memory, fails_instead, puts_out}
+use Names.{lists_accepted, Token, OctetToken, end_tokens, tokens_of_call, tokens_sent}
+use Names.{tokens_written}
 use Rattle.h2_laws_pair.proofs.HeardCalls.{silent_lists}
 
 -- Items and calls carry the same on the stream.
@@ -104,9 +104,7 @@ frames_told : (i count most id : ℕ) (octets : List ℕ) (end : Bool) (sent : L
 unfolding data_frames
 frames_told i zero most id octets end sent lists some enough = absurd (omega arith)
 frames_told i (suc count) most id octets end sent lists some enough =
-    frames_by i most id octets end (nat_le (length octets) most)
-    (data_frames count most id (drop most octets) end) sent lists
-    (λ more. let above = leb-false (length octets) most more in
+    frames_by _ _ _ _ _ _ _ _ lists (λ more. let above = leb-false (length octets) most more in
     frames_told i count most id (drop most octets) end
     (alone (Data id false (take most octets) None) ∷ sent) lists some
     (omega (arith, length-drop most octets)))
@@ -136,8 +134,7 @@ items_by : (i : ℕ) (items sent : List Item) (lists : List (List Field)) (token
     → tokens_written i (items ++ sent) lists ≡ tokens_written i sent lists ++ tokens
     → tokens_written i ((if b then [] else items) ++ sent) lists
     ≡ tokens_written i sent lists ++ tokens
-items_by i items sent lists tokens true none is =
-    rw (none refl) (sym (append-nil (tokens_written i sent lists)))
+items_by i items sent lists tokens true none is = rw (none refl) (sym (append-nil _))
 items_by i items sent lists tokens false none is = is
 
 -- What a call that sends octets writes.
@@ -150,8 +147,7 @@ unfolding data_items
 items_told i most id octets end count sent lists some =
     items_by i (data_frames (suc count) most id (take count octets) (end && count == length octets))
     sent lists (body_tokens (id == i) (take count octets) (end && count == length octets))
-    (count == 0 && not (length octets == 0 && end))
-    (none_body (id == i) count (length octets) octets end)
+    (count == 0 && not (length octets == 0 && end)) (none_body (id == i) _ _ _ end)
     (frames_told i (suc count) most id (take count octets) (end && count == length octets) sent
     lists some (omega (arith, length-take count octets)))
 
@@ -196,17 +192,12 @@ accepted_told : (i : ℕ) (log : Log) (act : Act) → AreTold i log
     → AreTold i (with_sent (called log act (answer_of (log_view log) act))
     (items_of (log_view log) act (answer_of (log_view log) act)))
 unfolding items_of lists_accepted tokens_of_call carries tokens_written
-accepted_told i log (Open fields end) is =
-    wrote_call i log (Open fields end) (answer_of (log_view log) (Open fields end)) _ refl is
-accepted_told i log (SendFields id fields end) is =
-    wrote_call i log (SendFields id fields end) Done _ refl is
+accepted_told i log (Open fields end) is = wrote_call _ _ _ _ _ refl is
+accepted_told i log (SendFields id fields end) is = wrote_call _ _ _ Done _ refl is
 accepted_told i log (SendData id octets end) is =
-    wrote_call i log (SendData id octets end) (answer_of (log_view log) (SendData id octets end)) _
-    (items_told i (max_payload_sent log) id octets end _ log.sent (lists_accepted log.calls)
-    (some_payload log.received)) is
+    wrote_call _ _ _ _ _ (items_told _ _ _ _ _ _ _ _ (some_payload log.received)) is
 accepted_told i log (Release id count) is =
-    quiet_told i log (Release id count) Done (updates_untold id count (ended_in
-    ((log_view log).stream id))) refl refl is
+    quiet_told i log (Release id count) Done (updates_untold _ _ _) refl refl is
 accepted_told i log act is = quiet_told i log act (answer_of (log_view log) act) refl refl refl is
 
 -- A call that writes no items of its own carries nothing.
@@ -245,5 +236,4 @@ sends_told i role values = record {
 -- Every log.
 pub tokens_carried : (i : ℕ) (role : Role) (values : Values) (log : Log) → IsLog role values log
     → tokens_sent i log.calls ≡ tokens_written i log.sent (lists_accepted log.calls)
-tokens_carried i role values log is =
-    kept_by_logs role values (AreTold i) (sends_told i role values) log is
+tokens_carried i role values log is = kept_by_logs role values (AreTold i) (sends_told _ _ _) log is

@@ -1,12 +1,12 @@
 -- What the steps of an end make of what it has heard.
 use Rattle.h2_laws_end.proofs.ReadingRules.{LogIsLow, rules_say}
 use Rattle.h2_laws_pair.proofs.Names
-use Names.{◌≡◌, ℕ, List, [], ◌∷◌, ◌++◌, Option, None, refl, ◌∙◌, append-nil, Field, Code}
-use Names.{code_number, Frame, GoAway, Item, alone, Role, Event, UnprocessedEvent, Values, Log}
-use Names.{next_unprocessed, log_view, Verdict, ConnectionFault, Decoded, FrameStep, completes}
-use Names.{frame_step, verdict_of, used, with_sent, with_reported, with_unreturned, with_failure}
-use Names.{with_step, with_frame, took_none, opened, Grows, grows_wrote, grows_with_unreturned}
-use Names.{says_of, tokens_written, tokens_of_event, tokens_heard}
+use Names.{◌≡◌, ℕ, List, [], ◌∷◌, ◌++◌, Option, None, refl, ◌∙◌, append-nil, Field, Code, Frame}
+use Names.{Item, Role, Event, UnprocessedEvent, Values, Log, next_unprocessed, log_view, Verdict}
+use Names.{ConnectionFault, Decoded, FrameStep, completes, frame_step, verdict_of, used, with_sent}
+use Names.{with_reported, with_unreturned, with_failure, with_step, with_frame, took_none, opened}
+use Names.{Grows, grows_wrote, grows_with_unreturned, says_of, tokens_written, tokens_of_event}
+use Names.{tokens_heard}
 use Rattle.h2_laws_pair.proofs.FrameSteps.{with_item, has_item, kept_by_step}
 use Rattle.h2_laws_pair.proofs.HeardReads.{AreHeard, all_heard, some_heard, LogHeard, lists_after}
 use Rattle.h2_laws_pair.proofs.HeardReads.{IsRuled, heard_item, rules_used, says_both, gone_more}
@@ -28,9 +28,7 @@ heard_grows i log new lists grows is =
 -- A failure.
 pub heard_failure : (i : ℕ) (code : Code) (last : ℕ) (log : Log) (lists : List (List Field))
     → LogHeard i log lists → LogHeard i (with_failure code last log) lists
-heard_failure i code last log lists is =
-    heard_grows i log (with_sent log (alone (GoAway last (code_number code) []) ∷ [])) lists
-    (grows_wrote log (alone (GoAway last (code_number code) []) ∷ [])) is
+heard_failure i code last log lists is = heard_grows _ _ _ _ (grows_wrote _ _) is
 
 -- A stream that is reported as unprocessed.
 unprocessed_tokens : (i id : ℕ) (reported : List Event)
@@ -51,9 +49,7 @@ unfolding with_reported
 heard_unprocessed i log lists is =
     let due = grows_with_unreturned _ log in
     let after = with_unreturned _ log in
-    heard_same i after.role after.received after.sent after.reported
-    (UnprocessedEvent (next_unprocessed log) ∷ after.reported) lists
-    (unprocessed_tokens i (next_unprocessed log) after.reported)
+    heard_same _ _ _ _ _ _ lists (unprocessed_tokens i (next_unprocessed log) after.reported)
     (heard_grows i log after lists due is)
 
 -- What a step of a frame makes of what was heard: no item more was read, or this one.
@@ -72,8 +68,7 @@ read_heard : (i : ℕ) (log : Log) (decoded : Option Decoded) (item : Item) (ver
     → LogHeard i (with_item log decoded item verdict more) (lists_after decoded item lists)
 read_heard i log decoded item verdict more lists same none low is =
     let has = has_item log decoded item verdict more in
-    let ruled : IsRuled log item verdict =
-    rw same at (says_of _ _ _ log decoded item (says_both _ _ _ _ _ _ _
+    let ruled : IsRuled log item verdict = rw same at (says_of _ _ _ _ _ _ (says_both _ _ _ _ _ _ _
     (rules_say log decoded item low) (rules_used log decoded item))) in
     rw (has.role, has.received, has.sent, has.reported)
     (heard_item i log decoded item verdict has.due lists none ruled is)
@@ -101,8 +96,7 @@ pub frame_heard : (log : Log) (octets : List ℕ) (decoded : Option Decoded) (fr
     (with_frame (used log octets []) decoded frame)
 unfolding with_frame used frame_step
 frame_heard log octets decoded frame =
-    step_heard (record (used log octets []) { frames = log.frames ++ frame ∷ [] }) decoded
-    (frame_step (log_view log) frame)
+    step_heard (record (used log octets []) { frames = log.frames ++ frame ∷ [] }) _ _
 
 -- Octets that are used change nothing of it.
 pub heard_used : (i : ℕ) (log : Log) (octets unparsed : List ℕ) (lists : List (List Field))

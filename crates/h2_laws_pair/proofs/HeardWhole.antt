@@ -124,10 +124,9 @@ hears_all : (writer reader : Half) (i : ℕ) → IsDirection writer reader
     → tokens_heard i reader.log.reported ≡ tokens_sent i writer.log.calls
 unfolding tokens_written
 hears_all writer reader i is all whole =
-    let heard = is_heard writer reader is in
-    whole heard.lists (heard.heard i)
-    ∙ sym (given_in_order i _ _ writer.log reader.log [] (ends_of writer reader is).writer_log
-    (sym all) heard ∙ append-nil (tokens_written i reader.log.received heard.lists))
+    let heard = is_heard _ _ is in
+    whole heard.lists (heard.heard i) ∙ sym (given_in_order _ _ _ _ _ [] (ends_of _ _ is).writer_log
+    (sym all) heard ∙ append-nil _)
 
 module _ (client server : Log) (i : ℕ) (settled : IsQuietStream client server i) where
   -- Neither end has reset the stream, and it wasn't named unprocessed.

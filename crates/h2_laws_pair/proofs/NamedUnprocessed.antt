@@ -30,8 +30,7 @@ named_more old new reads events role received reported names before i here =
       | inr was ↦
           let named = before i was in (
             ap is_server role ∙ named.0,
-            ap (list_any (is_goaway_below i)) received
-                ∙ any_after (is_goaway_below i) reads old.received named.1,
+            ap (list_any (is_goaway_below i)) received ∙ any_after (is_goaway_below i) _ _ named.1,
           )
     ]
 
@@ -66,8 +65,7 @@ goaway_below (alone frame ∷ items) i low above = goaway_below items i low abov
 opened_low : (role : Role) (i : ℕ) (received sent : List Item) → is_server role ≡ false
     → AllowedHistory role received sent → i ≤ greatest_block (openings role received sent)
     → i ≤ greatest_number
-opened_low Client i received sent client history below =
-    omega (arith, client_low received sent history)
+opened_low Client i received sent client history below = omega (arith, client_low _ _ history)
 opened_low Server i received sent client history below = absurd (both_ways true client refl)
 
 -- The next unprocessed stream is above the last stream of a GOAWAY that was read, at a client.
@@ -81,11 +79,10 @@ next_named log history some =
     let above = λ (j : ℕ). active log j && nat_lt (least_goaway log.received) j in
     let i = least_block above log.sent in
     let both = and_parts _ _ (least_passes above log.sent next.1) in
-    let parts = active_parts log.role i log.received log.sent log.reported both.0 in
-    let low = opened_low log.role i log.received log.sent role history
-    (block_below i (openings log.role log.received log.sent) parts.opened) in
-    let high = ltb-true (least_goaway log.received) i both.1 in
-    (role, rw role (goaway_below log.received i low high))
+    let parts = active_parts _ _ _ _ _ both.0 in
+    let low = opened_low _ _ _ _ role history (block_below _ _ parts.opened) in
+    let high = ltb-true _ _ both.1 in
+    (role, rw role (goaway_below _ _ low high))
 
 -- What is reported next names a stream so, or none.
 reported_named : (role : Role) (values : Values) (log : Log) (events : List Event)
@@ -135,9 +132,7 @@ log_named role values = kept_by_logs role values IsNamed (named_kept role values
 above_nonzero : (log : Log) (j : ℕ)
     → (active log j && nat_lt (least_goaway log.received) j) ≡ true → j ≢ 0
 above_nonzero log j both none =
-    let above : least_goaway log.received < j =
-    ltb-true (least_goaway log.received) j (and_parts (active log j)
-    (nat_lt (least_goaway log.received) j) both).1 in
+    let above : least_goaway log.received < j = ltb-true _ _ (and_parts _ _ both).1 in
     omega (arith, above, none)
 
 pub none_above : (log : Log) (i : ℕ) → log.role ≡ Client → next_unprocessed log ≡ 0

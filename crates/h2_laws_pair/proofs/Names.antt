@@ -138,3 +138,4 @@ pub use Rattle.h2_laws_pair.specs.Quiet.{IsQuiet, WasReset}
 pub use Rattle.h2_laws_pair.specs.Tokens.{Token, FieldsToken, OctetToken, EndToken}
 pub use Rattle.h2_laws_pair.specs.Tokens.{IsPrefixOfTokens}
 pub use Rattle.h2_laws_pair.specs.Undisturbed.{LeavesUp, WasAsked}
+pub use Rattle.std.proofs.lemmas.Grind.{common_steps}

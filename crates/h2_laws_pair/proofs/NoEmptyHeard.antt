@@ -75,15 +75,12 @@ reader_reports writer reader is =
     (all_older CarriesNoEmptyData way.0 reader.log.received
     (rw way.1 at (sent_no_empty _ _ writer.log ends.writer_log)))
 
--- At the server, and at the client.
-pub server_reports : (client_values server_values : Values) (client server : Half)
-    → IsPair client_values server_values client server
-    → AllByRecursion IsNoEmptyData server.log.reported
-server_reports client_values server_values client server is =
-    reader_reports client server (to_server is)
+module _ (client_values server_values : Values) (client server : Half) where
+  -- At the server, and at the client.
+  pub server_reports : IsPair client_values server_values client server
+      → AllByRecursion IsNoEmptyData server.log.reported
+  server_reports is = reader_reports client server (to_server is)
 
-pub client_reports : (client_values server_values : Values) (client server : Half)
-    → IsPair client_values server_values client server
-    → AllByRecursion IsNoEmptyData client.log.reported
-client_reports client_values server_values client server is =
-    reader_reports server client (to_client is)
+  pub client_reports : IsPair client_values server_values client server
+      → AllByRecursion IsNoEmptyData client.log.reported
+  client_reports is = reader_reports server client (to_client is)

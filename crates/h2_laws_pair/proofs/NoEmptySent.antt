@@ -8,9 +8,8 @@ use Names.{◌≡◌, ◌≢◌, ◌⊎◌, ℕ, zero, suc, ◌<◌, ◌≤◌, 
 use Names.{if◌then◌else◌, List, [], ◌∷◌, ◌++◌, length, take, drop, Option, Some, None, refl, sym}
 use Names.{ap, ◌∙◌, arith, length-drop, inl, inr, AllByRecursion, leb-false, and_parts, and_from}
 use Names.{eqb-true, eq-eqb, length-take, Data, Settings, Ping, Item, alone, Role, Values, Act}
-use Names.{SendData, Release, PutOut, Log, max_payload_sent, log_view, View, ended_in, Verdict}
-use Names.{StreamFault, NoEvent, replies_to, items_of, answer_of, data_count, data_items}
-use Names.{data_frames, IsLog}
+use Names.{SendData, Release, PutOut, Log, max_payload_sent, log_view, View, Verdict, StreamFault}
+use Names.{NoEvent, replies_to, items_of, answer_of, data_count, data_items, data_frames, IsLog}
 use Rattle.h2_laws_pair.proofs.HeardSent.{some_payload}
 use Rattle.h2_laws_pair.proofs.DataItems.{updates_all}
 
@@ -48,9 +47,7 @@ frames_carry : (count most id : ℕ) (octets : List ℕ) (end : Bool) → 0 < mo
 unfolding data_frames
 frames_carry zero most id octets end some is = tt
 frames_carry (suc count) most id octets end some is =
-    frames_by most id octets end (data_frames count most id (drop most octets) end)
-    (nat_le (length octets) most) refl some is
-    (λ more. let above = leb-false (length octets) most more in
+    frames_by _ _ _ _ _ _ refl some is (λ more. let above = leb-false (length octets) most more in
     frames_carry count most id (drop most octets) end some
     (inl (some_octets (drop most octets) (omega (arith, length-drop most octets)))))
 
@@ -62,8 +59,7 @@ body_some count octets end true test within some =
     let empty = and_parts (length octets == 0) end (not-false _ some) in
     let size = eqb-true (length octets) 0 empty.0 in
     let none = eqb-true count 0 test in
-    inr (and_from end (count == length octets) empty.1 (eq-eqb count (length octets)
-    (none ∙ sym size)))
+    inr (and_from end (count == length octets) empty.1 (eq-eqb _ _ (none ∙ sym size)))
 body_some count octets end false test within some =
     let more = eqb-false count 0 test in
     let size = length-take count octets in
@@ -107,8 +103,7 @@ unfolding items_of CarriesNoEmptyData
 items_carry log (SendData id octets end) =
     body_carries (max_payload_sent log) id octets end _ (some_payload log.received)
     (count_within (log_view log) ((log_view log).stream id) (length octets))
-items_carry log (Release id count) =
-    updates_all CarriesNoEmptyData id count (ended_in ((log_view log).stream id)) tt tt
+items_carry log (Release id count) = updates_all CarriesNoEmptyData _ _ _ tt tt
 items_carry log (PutOut count) = tt
 items_carry log act = (tt, tt)
 

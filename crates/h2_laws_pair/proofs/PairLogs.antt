@@ -27,8 +27,7 @@ step_of role values log (is_called act answer) own is (typed, may) =
 -- A log comes about by a step that may be the next one.
 pub step_comes_about : (role : Role) (values : Values) (log : Log) (step : MachineStep)
     → IsLog role values log → MayStep log step → IsLog role values (log_after log step)
-step_comes_about role values log step is may =
-    step_of role values log step (stream_of_log role values log is).role is may
+step_comes_about role values log step is may = step_of _ _ _ _ (stream_of_log _ _ _ is).role is may
 
 -- The end that makes a step has a log that comes about.
 pub half_comes_about : (role : Role) (values : Values) (one other : Half) {new new_other : Half}

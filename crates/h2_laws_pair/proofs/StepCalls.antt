@@ -2,7 +2,7 @@
 -- that runs out, make the connection fail.
 use Rattle.h2_laws_pair.proofs.Names.{◌≡◌, ◌≢◌, ℕ, List, [], take, drop, refl, arith, length-take}
 use Rattle.h2_laws_pair.proofs.Names.{Act, Answer, PutOut, Refuse, Count, OutOfMemory, Refused, Log}
-use Rattle.h2_laws_pair.proofs.Names.{with_call, MayAnswer, called, given_since}
+use Rattle.h2_laws_pair.proofs.Names.{with_call, MayAnswer, given_since}
 use Rattle.h2_laws_log.proofs.GrowthBySteps.{HoldsOfFailures, holds_other_call, HoldsOfWrites}
 use Rattle.h2_laws_log.proofs.GrowthBySteps.{holds_ready, holds_items}
 use Rattle.std.proofs.lemmas.List.{drop_all}
@@ -35,8 +35,7 @@ none_behind count given octets same =
 -- And it gives nothing out.
 pub call_gives_nothing : (log : Log) (act : Act) (answer : Answer) → MayAnswer log act answer
     → ((count : ℕ) → act ≢ PutOut count) → given_since log (with_call log act answer) ≡ []
-call_gives_nothing log act answer may other =
-    none_behind log.given _ _ (call_given log act answer other)
+call_gives_nothing log act answer may other = none_behind log.given _ _ (call_given _ _ _ other)
 
 -- The second log has failed as the first.
 abbrev FailedAs : Log → Log → Type 0
@@ -54,6 +53,5 @@ unfolding with_call
 call_failed log act (Refused refusal) other memory = refl
 call_failed log act OutOfMemory other memory = absurd (memory refl)
 call_failed log (Refuse id code) answer other memory = absurd (other id code refl)
-call_failed log (PutOut count) (Count given) other memory =
-    holds_ready FailedAs failed_as (called log (PutOut count) (Count given))
+call_failed log (PutOut count) (Count given) other memory = holds_ready FailedAs failed_as _
 call_failed log act answer other memory = holds_items FailedAs failed_as log act answer

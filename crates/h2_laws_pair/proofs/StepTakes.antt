@@ -80,8 +80,7 @@ take_is_steps one other piece later answer after came
     (sym (append-nil piece)) refl (ready, part) (λ act answer is. cc) (λ other octets is. cc))
 take_is_steps one other piece later answer after came
     (ends_frame ready octets unused joined frame decoded framed sees same answers) =
-    rw same (one_step one other piece later unused answer
-    (machine.ends_frame octets frame decoded) came joined
+    rw same (one_step _ _ _ _ unused answer (machine.ends_frame octets frame decoded) came joined
     (frame_uses one.log after (length octets) answer answers)
     (ready, framed, sees) (λ act answer is. cc) (λ other octets is. cc))
 take_is_steps one other piece later answer after came

@@ -90,9 +90,7 @@ client_read i Server item received sent reported (client, is) = absurd (cc)
 client_by_rules : (i : ℕ) (log : Log) (decoded : Option Decoded) (item : Item)
     → Holds (IsInactiveAtClient i) log
     → HoldsRead (IsInactiveAtClient i) log item (verdict_by_rules (log_view log) decoded item)
-client_by_rules i log decoded item is =
-    says_any _ (verdict_by_rules (log_view log) decoded item)
-    (client_read i log.role item log.received log.sent log.reported is)
+client_by_rules i log decoded item is = says_any _ _ (client_read _ _ _ _ _ _ is)
 
 -- So a call of `take` makes no stream active at a client.
 active_by_take : (log after : Log) (piece : List ℕ) (answer : TakeAnswer) (i : ℕ)
@@ -162,39 +160,35 @@ step_least log decoded step =
           (append_cancel_right _ [] log.reported (sym has.reported ∙ silent.same));
     })
 
--- So does a call of `take` that reports nothing; and none was left to report before it.
-least_by_take : (log after : Log) (piece : List ℕ) (count : ℕ)
-    → MayTake log piece (Took count None) after
-    → (next_unprocessed log ≡ 0) × (least_goaway after.received ≡ least_goaway log.received)
-unfolding used with_frame
-least_by_take log after piece count (has_failed code failed answers same) = absurd (cc)
-least_by_take log after piece count (reports_unprocessed up some answers same) = absurd (cc)
-least_by_take log after piece count (ends_no_frame takes unparsed part answers same) =
-    (takes.all_reported, ap (λ (new : Log). least_goaway new.received) same)
-least_by_take log after piece count
-    (ends_frame takes octets unused joined frame decoded framed sees same answers) = (
-      takes.all_reported,
-      ap (λ (new : Log). least_goaway new.received) same
-          ∙ step_least (record (used log octets []) { frames = log.frames ++ frame ∷ [] }) decoded
-          (frame_step (log_view (used log octets [])) frame) (record {
-            up = ap (λ (new : Log). new.failed) (sym same) ∙ answers.1;
-            same = ap (λ (new : Log). new.reported) (sym same) ∙ answers.2;
-          }),
-    )
-least_by_take log after piece count
-    (meets_fault takes octets unused joined fault at answers same) = absurd (cc)
-least_by_take log after piece count
-    (runs_out_of_memory up octets unused joined may answers same) = absurd (cc)
+module _ (log after : Log) (piece : List ℕ) where
+  -- So does a call of `take` that reports nothing; and none was left to report before it.
+  least_by_take : (count : ℕ) → MayTake log piece (Took count None) after
+      → (next_unprocessed log ≡ 0) × (least_goaway after.received ≡ least_goaway log.received)
+  unfolding used with_frame
+  least_by_take count (has_failed code failed answers same) = absurd (cc)
+  least_by_take count (reports_unprocessed up some answers same) = absurd (cc)
+  least_by_take count (ends_no_frame takes unparsed part answers same) =
+      (takes.all_reported, ap (λ (new : Log). least_goaway new.received) same)
+  least_by_take count
+      (ends_frame takes octets unused joined frame decoded framed sees same answers) = (
+        takes.all_reported,
+        ap (λ (new : Log). least_goaway new.received) same
+            ∙ step_least (record (used log octets []) { frames = log.frames ++ frame ∷ [] }) decoded
+            (frame_step (log_view (used log octets [])) frame) (record {
+              up = ap (λ (new : Log). new.failed) (sym same) ∙ answers.1;
+              same = ap (λ (new : Log). new.reported) (sym same) ∙ answers.2;
+            }),
+      )
+  least_by_take count (meets_fault takes octets unused joined fault at answers same) = absurd (cc)
+  least_by_take count (runs_out_of_memory up octets unused joined may answers same) = absurd (cc)
 
--- A call of `take` keeps the role.
-pub role_by_take : (log after : Log) (piece : List ℕ) (answer : TakeAnswer)
-    → MayTake log piece answer after → after.role ≡ log.role
-role_by_take log after piece answer may =
-    take_keeps 0 (λ role received sent reported. role ≡ log.role)
-    (λ role received sent reported items none same. same)
-    (λ role received sent reported events same. same)
-    (λ now decoded item same. says_any _ (verdict_by_rules (log_view now) decoded item) same)
-    log after piece answer may refl
+  -- A call of `take` keeps the role.
+  pub role_by_take : (answer : TakeAnswer) → MayTake log piece answer after → after.role ≡ log.role
+  role_by_take answer may = take_keeps 0 (λ role received sent reported. role ≡ log.role)
+      (λ role received sent reported items none same. same)
+      (λ role received sent reported events same. same)
+      (λ now decoded item same. says_any _ (verdict_by_rules (log_view now) decoded item) same)
+      log after piece answer may refl
 
 -- Once a call of `take` reports nothing, no stream is left that is to be named unprocessed.
 pub take_reports_all : (log after : Log) (piece : List ℕ) (count : ℕ)
@@ -224,8 +218,7 @@ opens_low log fields end id (accepts none is) =
     (neither_other (is_server log.role) (nat_lt greatest_number next) holds.1.1.0) in
     let same : id ≡ next = number_is id next is in (
       omega (arith, low, same),
-      sym (when_some (goaway_read log) (least_goaway log.received))
-          ∙ neither_other _ _ holds.1.1.1.0,
+      sym (when_some _ _) ∙ neither_other _ _ holds.1.1.1.0,
     )
 opens_low log fields end id (refuses refusal holds is) = absurd (cc)
 opens_low log fields end id (lacks none may is) = absurd (cc)
@@ -256,10 +249,8 @@ active_by_call : (log : Log) (act : Act) (answer : Answer) (i : ℕ) → MayAnsw
     → least_goaway log.received < i → active (with_call log act answer) i ≡ true
     → active log i ≡ true
 active_by_call log act answer i may high now =
-    true_from_ne_false _ (λ is. both_ways _
-    (call_keeps i (IsInactive i) (inactive_sent i) log act answer
-    (items_no_block i (log_view log) act answer (opens_other log i act answer may high)
-    (writes_other log i act answer may is)) is) now)
+    true_from_ne_false _ (λ is. both_ways _ (call_keeps _ (IsInactive i) (inactive_sent i) _ _ _
+    (items_no_block _ _ _ _ (opens_other _ _ _ _ may high) (writes_other _ _ _ _ may is)) is) now)
 
 -- And it leaves no stream that is to be named unprocessed.
 pub call_reports_all : (log : Log) (act : Act) (answer : Answer) → MayAnswer log act answer

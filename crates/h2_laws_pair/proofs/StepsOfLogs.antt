@@ -29,8 +29,7 @@ pub step_input : (log : Log) (step : MachineStep) → IsNoCall step
     → (log_after log step).input ≡ log.input ++ octets_used step
 unfolding log_after used with_sent
 step_input log (uses_part octets unparsed) none = refl
-step_input log (ends_frame octets frame decoded) none =
-    (Keeps-frame (used log octets []) decoded frame).input
+step_input log (ends_frame octets frame decoded) none = (Keeps-frame _ _ frame).input
 step_input log (meets_fault octets fault) none = refl
 step_input log (runs_out_of_memory octets) none = refl
 step_input log reports_unprocessed none = (Keeps-none log).input ∙ sym (append-nil log.input)

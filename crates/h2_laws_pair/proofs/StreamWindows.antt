@@ -16,10 +16,9 @@ use Rattle.h2_laws_pair.proofs.Names
 use Names.{◌≡◌, ◌≢◌, inl, inr, ℕ, ◌+◌, ◌-◌, ◌≤◌, ◌%◌, ◌==◌, not, Bool, true, false, List, ◌++◌, ℤ}
 use Names.{pos, ◌+ℤ◌, refl, sym, ap, ◌∙◌, arith, list_any, both_ways, cases_Bool, and_from}
 use Names.{or_parts, ints, Item, Role, Client, Server, total, data_on, increment_on, is_block_on}
-use Names.{ends, resets, is_goaway_below, is_server, value_read, first_window, AllowedHistory, Log}
-use Names.{active, owed, unreleased, send_window, log_represents, any_after, active_parts}
-use Names.{active_from, lasts_from, stream_of_log, Half, AreUnderWay, ConservesStream, openings}
-use Names.{is_used, is_above, is_closed_by_us}
+use Names.{ends, resets, is_goaway_below, is_server, AllowedHistory, Log, active, owed, unreleased}
+use Names.{log_represents, any_after, active_parts, active_from, lasts_from, stream_of_log, Half}
+use Names.{AreUnderWay, ConservesStream, openings, is_used, is_above, is_closed_by_us}
 use Rattle.h2_laws_pair.proofs.BothWays.{AreEnds}
 use Rattle.h2_laws_pair.proofs.DataOnStreams.{unopened_read}
 use Rattle.h2_laws_pair.proofs.NamedUnprocessed.{log_named}
@@ -38,8 +37,7 @@ opened_used : (role : Role) (i : ℕ) (received sent : List Item) → i % 2 == 1
     → list_any (is_block_on i) (openings role received sent) ≡ true
     → is_used role i received sent ≡ true
 unfolding is_used
-opened_used role i received sent odd opened =
-    and_from _ _ odd (opens_here i (openings role received sent) odd opened)
+opened_used role i received sent odd opened = and_from _ _ odd (opens_here _ _ odd opened)
 
 -- What isn't closed by an end is neither reset by it nor above its GOAWAY.
 unclosed_parts : (role : Role) (i : ℕ) (sent : List Item) → is_closed_by_us role i sent ≡ false
@@ -85,8 +83,7 @@ still_active writer reader way i opposite under_way alive opened unclosed goes n
       });
       unnamed = false_from_ne_true (list_any (reports_unprocessed i) reader.reported) (λ here.
           let both = named here in
-          both_ways (list_any (is_goaway_below i) writer.sent)
-          (no_goaway_below writer.role i writer.sent
+          both_ways _ (no_goaway_below writer.role i writer.sent
           (other_server (is_server writer.role) (is_server reader.role) opposite both.0)
           parts.below) (ap (list_any (is_goaway_below i)) under_way
           ∙ any_after (is_goaway_below i) way reader.received both.1));
@@ -102,8 +99,7 @@ unopened_unread : (role other : Role) (i : ℕ)
     → list_any (is_block_on i) (openings other other_received other_sent) ≡ false
     → total (data_on i) other_received ≡ 0
 unopened_unread Client Server i received sent other_received other_sent way back opposite history
-    under_way returned opened none =
-    unopened_read i received sent way other_received history under_way none
+    under_way returned opened none = unopened_read _ _ _ _ other_received history under_way none
 unopened_unread Server Client i received sent other_received other_sent way back opposite history
     under_way returned opened none = absurd (both_ways (list_any (is_block_on i) other_sent) none
     (ap (list_any (is_block_on i)) returned ∙ any_after (is_block_on i) back received opened))
@@ -149,9 +145,7 @@ read_balanced writer reader way back i ends under_way returned carried =
       | inl alive ↦ active_balanced reader.log i alive carried.goes_on accounted
       | inr ended ↦ elim (cases_Bool (opened_in (history_of reader.log) i)) [
         | inl opened ↦
-            let unclosed = not_closed (is_used reader.log.role i reader.log.received
-            reader.log.sent) (active reader.log i)
-            (is_closed_by_us reader.log.role i reader.log.sent)
+            let unclosed = not_closed _ _ (is_closed_by_us reader.log.role i reader.log.sent)
             (opened_used reader.log.role i reader.log.received reader.log.sent parts.odd opened)
             ended carried.stays in
             absurd (both_ways (active reader.log i) ended
@@ -182,9 +176,5 @@ pub stream_conserved : (writer reader : Half) (way back : List Item) (i : ℕ)
     → AreUnderWay reader.log writer.log back → IsCarried writer.log reader.log i
     → ConservesStream writer.log reader.log way back i
 stream_conserved writer reader way back i ends under_way returned carried =
-    met_and_owed (send_window writer.log i +ℤ pos (total (data_on i) way))
-    (value_read 4 first_window writer.log.received) (total (increment_on i) reader.log.sent)
-    (total (data_on i) reader.log.received) (total (increment_on i) back) (owed reader.log i)
-    (stream_meets_read i writer.log.received writer.log.sent reader.log.received reader.log.sent
-    way back under_way returned)
-    (read_balanced writer reader way back i ends under_way returned carried)
+    met_and_owed _ _ _ _ _ _ (stream_meets_read _ _ _ _ _ _ _ under_way returned)
+    (read_balanced _ _ _ _ _ ends under_way returned carried)

@@ -42,17 +42,14 @@ reader_in_step : (writer reader : Half) {new_writer new_reader : Half} → IsDir
     → IsDirection new_writer new_reader → HalfStep reader writer new_reader new_writer
     → LogInStep reader.log → LogInStep new_reader.log
 reader_in_step writer reader {new_writer} {new_reader} is now step =
-    let ends = ends_of writer reader is in
-    let way = way_of writer reader is in
-    let back = way_of reader writer (back_of writer reader is) in
-    let after = way_of new_writer new_reader now in
-    let same = other_same reader writer step (λ log. log ≡ writer.log) refl in
-    half_in_step reader writer step
-    (few_acks ends.writer_role ends.writer_values writer.log way.0 back.0 reader.log.received
-    reader.log.sent ends.writer_log way.1 back.1)
-    (few_acks ends.writer_role ends.writer_values writer.log after.0 back.0
-    new_reader.log.received reader.log.sent ends.writer_log
-    (sym (ap (λ (log : Log). log.sent) same) ∙ after.1) back.1)
+    let ends = ends_of _ _ is in
+    let way = way_of _ _ is in
+    let back = way_of _ _ (back_of _ _ is) in
+    let after = way_of _ _ now in
+    let same = other_same _ _ step (λ log. log ≡ writer.log) refl in
+    half_in_step _ _ step (few_acks ends.writer_role ends.writer_values _ way.0 back.0 _
+    _ ends.writer_log way.1 back.1) (few_acks ends.writer_role ends.writer_values _ after.0 back.0
+    _ _ ends.writer_log (sym (ap (λ (log : Log). log.sent) same) ∙ after.1) back.1)
 
 -- What both ends of a pair have read is in step.
 kept_in_step : IsKept (λ writer reader. LogInStep reader.log)
@@ -79,18 +76,17 @@ tables_in_step_of_ends role values writer reader way back is reads wrote read =
     let first = empty_table 4096 in
     let lists = lists_accepted writer.calls in
     let last = writer.encoder.table in
-    let parts = in_parts reader.sent 0 first way reader.received lists last
-    (rw wrote at all.decode) in
+    let parts = in_parts reader.sent 0 first way reader.received lists last (rw wrote at all.decode)
+    in
     let same = one_decoding reader.sent 0 first reader.received parts.older_lists reads.read
     parts.between reader.table parts.decode_older reads.decode in
     let count : 0 + total one_ack reader.received ≡ acked reader = omega (arith, reads.awaited) in
     record {
       read = reads.read;
       under_way = parts.newer_lists;
-      accepted = parts.joined
-          ∙ ap (λ (older : List (List Field)). parts.newer_lists ++ older) same.same_lists;
-      count = lists_counted reader.sent 0 first reader.received reads.read reader.table
-          reads.decode;
+      accepted = parts.joined ∙ ap (λ (older : List (List Field)). parts.newer_lists ++ older)
+          same.same_lists;
+      count = lists_counted _ 0 _ _ reads.read reader.table reads.decode;
       decode = rw (count, same.same_last) at parts.decode_newer;
     }
 
@@ -103,14 +99,11 @@ tables_of writer reader way is under_way =
     tables_in_step_of_ends ends.writer_role ends.writer_values writer.log reader.log way back.0
     ends.writer_log (in_step writer reader is) under_way back.1
 
-pub tables_to_server : (client_values server_values : Values) (client server : Half)
-    (way : List Item) → IsPair client_values server_values client server
-    → AreUnderWay client.log server.log way → HeaderTablesInStep client.log server.log way
-tables_to_server client_values server_values client server way is =
-    tables_of client server way (to_server is)
+module _ (client_values server_values : Values) (client server : Half) (way : List Item) where
+  pub tables_to_server : IsPair client_values server_values client server
+      → AreUnderWay client.log server.log way → HeaderTablesInStep client.log server.log way
+  tables_to_server is = tables_of client server way (to_server is)
 
-pub tables_to_client : (client_values server_values : Values) (client server : Half)
-    (way : List Item) → IsPair client_values server_values client server
-    → AreUnderWay server.log client.log way → HeaderTablesInStep server.log client.log way
-tables_to_client client_values server_values client server way is =
-    tables_of server client way (to_client is)
+  pub tables_to_client : IsPair client_values server_values client server
+      → AreUnderWay server.log client.log way → HeaderTablesInStep server.log client.log way
+  tables_to_client is = tables_of server client way (to_client is)

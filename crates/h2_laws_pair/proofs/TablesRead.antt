@@ -10,14 +10,14 @@ use Rattle.h2_laws_end.proofs.ReadingRules.{IsSeen, rules_see}
 use Rattle.h2_laws_pair.proofs.Names
 use Names.{◌≡◌, ℕ, ◌+◌, ◌≤◌, Bool, true, false, if◌then◌else◌, List, [], ◌∷◌, ◌++◌, Option, Some}
 use Names.{None, refl, sym, arith, both_ways, lt-ltb, Field, empty_table, Entries, Code}
-use Names.{InternalError, Settings, wire_fault_code, Item, alone, block, Role, Values, Act, Answer}
-use Names.{total, Event, UnprocessedEvent, one_ack, settings_count, Log, acked, next_unprocessed}
-use Names.{log_view, Verdict, ConnectionFault, StreamFault, NoEvent, Reported, Decoded, FrameStep}
-use Names.{completes, replies_to, frame_step, verdict_by_rules, verdict_of, events_of, read, used}
-use Names.{with_sent, with_reported, with_unreturned, with_step, with_frame, opened, called}
-use Names.{with_call, IsDecodedIn, total_one, Says, says_of, MachineStep, uses_part, ends_frame}
-use Names.{meets_fault, runs_out_of_memory, reports_unprocessed, is_called, MayStep, log_after}
-use Names.{DecodeInOrder, verdict_of_fault}
+use Names.{InternalError, Settings, Item, alone, block, Role, Values, Act, Answer, total, Event}
+use Names.{UnprocessedEvent, one_ack, settings_count, Log, acked, next_unprocessed, log_view}
+use Names.{Verdict, ConnectionFault, StreamFault, NoEvent, Reported, Decoded, FrameStep, completes}
+use Names.{replies_to, frame_step, verdict_by_rules, verdict_of, events_of, read, used, with_sent}
+use Names.{with_reported, with_unreturned, with_step, with_frame, opened, called, with_call}
+use Names.{IsDecodedIn, total_one, Says, says_of, MachineStep, uses_part, ends_frame, meets_fault}
+use Names.{runs_out_of_memory, reports_unprocessed, is_called, MayStep, log_after, DecodeInOrder}
+use Names.{verdict_of_fault}
 use Rattle.h2_laws_pair.proofs.StepsOfLogs.{IsNoCall}
 use Rattle.h2_laws_pair.proofs.TablesDecoded.{decode_more}
 use Rattle.h2_laws_pair.proofs.FrameSteps.{with_item, has_item, kept_by_step}
@@ -134,8 +134,7 @@ ack_waits : (log : Log) (item : Item) → LogInStep log
     → total one_ack (item ∷ log.received) ≤ settings_count log.sent
     → one_ack item ≡ 1 → settings_wait log ≡ true
 ack_waits log item is awaited one =
-    lt-ltb (acked log) (settings_count log.sent)
-    (omega (arith, is.awaited, awaited, one, total_one one_ack item log.received))
+    lt-ltb _ _ (omega (arith, is.awaited, awaited, one, total_one one_ack item log.received))
 
 -- The events of an item tell of an acknowledgment, by its verdict.
 verdict_acks : (log : Log) (decoded : Option Decoded) (item : Item) (verdict : Verdict)
@@ -212,12 +211,9 @@ log_in_step log (ends_frame octets frame decoded) none (takes, here, sees) befor
     step_in_step (record (used log octets []) { frames = log.frames ++ frame ∷ [] }) decoded
     (frame_step (log_view (used log octets [])) frame) before sees is awaited
 log_in_step log (meets_fault octets fault) none may before awaited is =
-    stays_in_step [] (used log octets []) _
-    (holds_failure Stays stays_by_calls.failures (wire_fault_code fault) _ (used log octets []))
-    before is
+    stays_in_step [] _ _ (holds_failure Stays stays_by_calls.failures _ _ _) before is
 log_in_step log (runs_out_of_memory octets) none may before awaited is =
-    stays_in_step [] (used log octets []) _
-    (holds_failure Stays stays_by_calls.failures InternalError _ (used log octets [])) before is
+    stays_in_step [] _ _ (holds_failure Stays stays_by_calls.failures InternalError _ _) before is
 log_in_step log reports_unprocessed none may before awaited is =
     let id = next_unprocessed log in
     let events : List Event = UnprocessedEvent id ∷ [] in

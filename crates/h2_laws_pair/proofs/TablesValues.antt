@@ -41,8 +41,7 @@ pairs_counted (item ∷ items) =
           let one = settings_one pairs in
           rw (is, pairs_next pairs items)
           (omega (arith, older, one, count_next (alone (Settings false pairs)) items))
-      | inr none ↦
-          rw (pairs_kept item items none) (omega (arith, older, none, count_next item items))
+      | inr none ↦ rw (pairs_kept _ _ none) (omega (arith, older, none, count_next item items))
     ]
 
 -- Those of more items stand before those of the others.
@@ -105,11 +104,10 @@ pub limit_in_force : (items : List Item) (newer older : List (List (ℕ × ℕ))
     → own_value 1 4096 (length older) items ≡ limit_after older
 limit_in_force [] [] [] is = at_first
 limit_in_force [] newer older is = let none = pairs_none in absurd (cc)
-limit_in_force (item ∷ items) newer older is = elim (settings_or item) [
-  | inl (pairs, same) ↦
-      rw same (limit_at_settings pairs items newer older (rw same at is)
+limit_in_force (item ∷ items) newer older is =
+    elim (settings_or item) [
+  | inl (pairs, same) ↦ rw same (limit_at_settings pairs items newer older (rw same at is)
       (λ newer others. limit_in_force items newer older others))
-  | inr none ↦
-      own_next 1 4096 (length older) item items (λ one. absurd (omega arith))
-      ∙ limit_in_force items newer older (sym (pairs_kept item items none) ∙ is)
+  | inr none ↦ own_next 1 4096 (length older) item items (λ one. absurd (omega arith)) ∙
+      limit_in_force items newer older (sym (pairs_kept _ _ none) ∙ is)
 ]

@@ -86,8 +86,7 @@ block_decodes : (peer sent : List Item) (newer settings : List (List (ℕ × ℕ
     (block_of encoder fields) fields (after_block encoder fields).table
 block_decodes peer sent newer settings lists encoder fields joined acks has encodable =
     let count : 0 + total one_ack sent ≡ length settings = omega (arith, acks) in
-    let limit = ap (λ (n : ℕ). own_value 1 4096 n peer) count
-    ∙ limit_in_force peer newer settings joined in
+    let limit = ap (λ (n : ℕ). own_value 1 4096 n peer) count ∙ limit_in_force _ _ _ joined in
     block_encodes encoder (own_value 1 4096 (0 + total one_ack sent) peer) fields has.0
     encodable.octets (omega (arith, encodable.small)) (omega (arith, limit, has.1))
 
@@ -133,5 +132,4 @@ sent_decodes peer _ newer _ _ _ joined encodable
     }
 sent_decodes peer _ newer _ _ _ joined encodable
     (sent_other {sent} {settings} {lists} {encoder} before item same) =
-    other_decodes peer sent settings lists encoder item same
-    (sent_decodes peer sent newer settings lists encoder joined encodable before)
+    other_decodes _ _ _ _ _ item same (sent_decodes _ _ _ _ _ _ joined encodable before)

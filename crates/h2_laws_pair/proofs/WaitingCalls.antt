@@ -10,7 +10,7 @@ use Rattle.h2_laws_log.proofs.RulesByTests.{data_size, release_size, count_few}
 use Rattle.h2_laws_pair.proofs.Names
 use Names.{◌≡◌, ℕ, ◌≤◌, false, length, refl, arith, ltb-false, list_size, block_of, Reset, alone}
 use Names.{Act, Open, SendFields, SendData, Release, ResetStream, Refuse, PutOut, ChangeSettings}
-use Names.{Done, full_output, max_list, Log, last_processed, waiting, max_payload_sent, log_view}
+use Names.{full_output, max_list, Log, last_processed, waiting, max_payload_sent, log_view}
 use Names.{ended_in, conditions, answer_of, items_of, data_count, with_sent, called, Bool, List, []}
 use Names.{◌∷◌, nat_lt, Field, block, SendGoAway}
 use Rattle.h2_laws_pair.proofs.WaitingReplies.{is_reply}
@@ -31,9 +31,7 @@ fits_items : (before : ℕ) (log : Log) (act : Act) → is_full (log_view log) �
     → size_of (max_payload_sent log) (items_of (log_view log) act (answer_of (log_view log) act))
     ≤ 131113 → Fits before log → Fits before (with_accepted log act)
 fits_items before log act space small fits =
-    fits_small before (called log act (answer_of (log_view log) act))
-    (items_of (log_view log) act (answer_of (log_view log) act))
-    (has_space log (leb-false full_output (waiting log) space)) small
+    fits_small _ _ _ (has_space log (leb-false full_output (waiting log) space)) small
     (fits_same before log _ refl refl refl refl fits)
 
 -- A field block is no larger.
@@ -68,18 +66,15 @@ fits_accepted before log (Release id count) typed none fits =
     fits_items before log (Release id count) none.1.1.0
     (omega (arith, release_size (max_payload_sent log) id count ended)) fits
 fits_accepted before log (ResetStream id code) typed none fits =
-    fits_reply before (called log (ResetStream id code) Done) (alone (Reset id code)) refl
-    (fits_same before log _ refl refl refl refl fits)
+    fits_reply _ _ (alone (Reset id code)) refl (fits_same before log _ refl refl refl refl fits)
 fits_accepted before log (Refuse id code) typed none fits =
-    fits_reply before (called log (Refuse id code) Done) (alone (Reset id code)) refl
-    (fits_same before log _ refl refl refl refl fits)
+    fits_reply _ _ (alone (Reset id code)) refl (fits_same before log _ refl refl refl refl fits)
 fits_accepted before log (SendPing octets) typed none fits =
     fits_items before log (SendPing octets) none.1.0
     (omega (arith, size-ping (max_payload_sent log) false octets, typed.0)) fits
 fits_accepted before log SendGoAway typed none fits =
     fits_items before log SendGoAway none.1.1.0
     (omega (arith, size-goaway (max_payload_sent log) (last_processed log) 0)) fits
-fits_accepted before log (PutOut count) typed none fits =
-    fits_same before log _ refl refl refl refl fits
+fits_accepted before log (PutOut count) typed none fits = fits_same _ _ _ refl refl refl refl fits
 fits_accepted before log (ChangeSettings values) typed none fits =
     fits_items before log (ChangeSettings values) none.1.0 (omega (arith, size-change)) fits

@@ -10,11 +10,11 @@ use Rattle.h2_laws_end.proofs.ReadPrefixes.{prefix_read}
 use Rattle.h2_laws_pair.proofs.Names
 use Names.{◌≡◌, ◌⊎◌, inl, inr, ℕ, ◌+◌, ◌≤◌, not, Bool, List, [], ◌∷◌, ◌++◌, length, take, drop}
 use Names.{None, refl, sym, ap, ◌∙◌, arith, append_assoc, append-nil, length-append, Option, true}
-use Names.{false, nat_le, if◌then◌else◌, take-append-drop, AllByRecursion, Frame, Headers, Limits}
-use Names.{Frames, expected_preface, one_reading_lem, Item, Groups, Begun, alone, block, Role}
-use Names.{is_server, max_frame_size_sent, Log, stream_of_log, AreSendable, frames_of_item}
-use Names.{frames_by, oldest_first, written_by_payloads, groups_now, overlap, IsPayload}
-use Names.{payloads_may, written_sendable_by, Half, AreUnderWay}
+use Names.{false, if◌then◌else◌, take-append-drop, AllByRecursion, Frame, Headers, Limits, Frames}
+use Names.{expected_preface, one_reading_lem, Item, Groups, Begun, alone, block, Role, is_server}
+use Names.{max_frame_size_sent, Log, stream_of_log, AreSendable, frames_of_item, frames_by}
+use Names.{oldest_first, written_by_payloads, groups_now, overlap, IsPayload, payloads_may}
+use Names.{written_sendable_by, Half, AreUnderWay}
 use Rattle.h2_laws_pair.proofs.Lists.{all_older}
 use Rattle.h2_laws_pair.proofs.BothWays.{AreEnds}
 use Rattle.h2_laws_pair.proofs.ItemsRead.{frames_received}
@@ -33,8 +33,7 @@ spread_some most stream end octets false none = cc
 some_frames : (most : ℕ) (item : Item) → frames_of_item most item ≡ [] → ⊥
 unfolding spread_frames
 some_frames most (alone frame) none = cc
-some_frames most (block stream end octets) none =
-    spread_some most stream end octets (nat_le (length octets) most) none
+some_frames most (block stream end octets) none = spread_some _ _ _ _ _ none
 
 -- Items without frames are none.
 no_items : (payloads : List ℕ) (items : List Item) → AreSendable payloads items
@@ -42,8 +41,7 @@ no_items : (payloads : List ℕ) (items : List Item) → AreSendable payloads it
 no_items payloads [] sendable none = refl
 no_items [] (item ∷ items) sendable none = absurd sendable
 no_items (most ∷ payloads) (item ∷ items) sendable none =
-    absurd (some_frames most item
-    (none_joined (frames_by payloads items) (frames_of_item most item) (sym none)).1)
+    absurd (some_frames most item (none_joined _ _ (sym none)).1)
 
 -- Octets that are followed by some are not none.
 not_nothing : (left between : List ℕ) (next : ℕ) → [] ≡ left ++ next ∷ between → ⊥
@@ -97,12 +95,10 @@ cut_short expects limits payloads items octets between unparsed next frames begu
     let one = one_reading_lem expects limits octets frames prefix.first unparsed prefix.left read
     prefix.read in
     let all : Groups (frames ++ prefix.later) (oldest_first items) None =
-    rw one.0 (rw prefix.frames_are at (items_grouped_by max_frame_size_sent payloads items most
-    sendable)) in
+    rw one.0 (rw prefix.frames_are at (items_grouped_by max_frame_size_sent _ _ most sendable)) in
     let none = no_more_frames frames prefix.later (oldest_first items) begun groups all in
     elim (prefix.continues none) [
-      | inl nothing ↦
-          no_items payloads items sendable (rw (prefix.frames_are, nothing) none)
+      | inl nothing ↦ no_items payloads items sendable (rw (prefix.frames_are, nothing) none)
       | inr wrong ↦ absurd (not_nothing prefix.left between next wrong)
     ]
 
@@ -115,8 +111,7 @@ written_parts : (role : Role) (log : Log) (news olds : List ℕ) (way received :
     ≡ (expected_preface (not (is_server role)) ++ encoding_by olds received)
     ++ encoding_by news way
 written_parts role log news olds way received same paid each_one sent written =
-    rw (append_assoc, ← encoding_after news olds way received each_one)
-    (rw (same, paid, sent) at written)
+    rw (append_assoc, ← encoding_after _ _ _ received each_one) (rw (same, paid, sent) at written)
 
 -- The items that an end that is up has received lie in the octets that it has used.
 pub received_lie : (writer reader : Half) (rest : List ℕ) (way : List Item)
@@ -132,16 +127,16 @@ received_lie writer reader rest way ends under_way joined up =
     let paid = sym (take-append-drop (length way) writer.log.payloads) in
     let all = rw under_way at (written_sendable_by _ _ writer.log ends.writer_log) in
     let by = written_by_payloads _ _ writer.log ends.writer_log in
-    let many = payloads_counted writer.log.received writer.log.sent writer.log.payloads by.history
-    ∙ ap length under_way in
-    let each_one : length news ≡ length way =
-    omega (arith, length-append way received, length-take (length way) writer.log.payloads) in
+    let many = payloads_counted writer.log.received writer.log.sent writer.log.payloads by.history ∙
+    ap length under_way in
+    let each_one : length news ≡ length way = omega
+    (arith, length-append way received, length-take (length way) writer.log.payloads) in
     let sendable = older_sendable news olds way received each_one (rw paid at all) in
     let most = all_older IsPayload news olds
     (rw paid at (payloads_may _ _ writer.log ends.writer_log)) in
     let octets = encoding_by olds received in
-    let framed = frames_received _ _ reader.log (not (is_server role)) ends.opposite
-    ends.reader_log up in
+    let framed = frames_received _ _ reader.log (not (is_server role)) ends.opposite ends.reader_log
+    up in
     let grouped = groups_now reader.log (log_grouped _ _ reader.log ends.reader_log) up in
     let parts = written_parts role writer.log news olds way received
     (stream_of_log _ _ writer.log ends.writer_log).role paid each_one under_way by.written in
@@ -154,9 +149,7 @@ received_lie writer reader rest way ends under_way joined up =
           (expected_preface (not (is_server role)) ++ octets)
           (encoding_by news way) (sym joined ∙ parts)) [
             | inl (between, is, follows) ↦ inr (rw is (omega (arith, length-append {A = ℕ})))
-            | inr (next, between, is, follows) ↦
-                inl (cut_short (not (is_server role)) (wider_limits reader.log) olds received
-                reader.log.input between reader.log.unparsed next reader.log.frames reader.log.begun
-                (λ place. omega arith) most sendable is framed grouped)
+            | inr (next, between, is, follows) ↦ inl (cut_short _ (wider_limits reader.log) _ _
+                _ between _ next _ _ (λ place. omega arith) most sendable is framed grouped)
           ];
     }

@@ -3,11 +3,11 @@ use Rattle.h2_wire.specs.Streams.{preface}
 use Rattle.h2_spec_log.specs.LogCalls.{before_opening}
 use Rattle.h2_laws_log.proofs.ItemSizes.{size_by, size-opening}
 use Rattle.h2_laws_pair.proofs.Names
-use Names.{◌≡◌, ◌≤◌, ℕ, true, false, not, [], ◌∷◌, None, refl, length, arith, code_number, Reset}
-use Names.{Settings, Ping, expected_preface, Item, alone, Role, Client, Server, Values, is_server}
-use Names.{stream_of_item, encoding_of_items, Log, max_payload_sent, log_view, Verdict, StreamFault}
-use Names.{NoEvent, replies_to, opening_pairs, conditions, answer_of, read, with_sent, opened}
-use Names.{called, IsLog, fails_down, grows_wrote, IsLogInvariant, kept_by_logs, none_holds}
+use Names.{◌≡◌, ◌≤◌, ℕ, false, not, [], ◌∷◌, None, refl, length, arith, Settings, Ping}
+use Names.{expected_preface, Item, alone, Role, Client, Server, Values, is_server}
+use Names.{encoding_of_items, Log, max_payload_sent, log_view, Verdict, StreamFault, NoEvent}
+use Names.{replies_to, opening_pairs, conditions, answer_of, read, with_sent, opened, called, IsLog}
+use Names.{fails_down, grows_wrote, IsLogInvariant, kept_by_logs, none_holds}
 use Rattle.h2_laws_pair.proofs.WaitingReplies.{is_reply}
 use Rattle.h2_laws_pair.proofs.WaitingSteps.{Fits, fits_same, fits_reply, fits_small, fits_returned}
 use Rattle.h2_laws_pair.proofs.WaitingSteps.{fits_given}
@@ -17,12 +17,9 @@ use Rattle.h2_laws_pair.proofs.WaitingCalls.{fits_accepted}
 fits_replies : (before : ℕ) (log : Log) (verdict : Verdict) (item : Item) → Fits before log
     → Fits before (with_sent log (replies_to verdict item))
 unfolding replies_to with_sent is_reply
-fits_replies before log (StreamFault code) item fits =
-    fits_reply before log (alone (Reset (stream_of_item item) (code_number code))) refl fits
-fits_replies before log NoEvent (alone (Settings false pairs)) fits =
-    fits_reply before log (alone (Settings true [])) refl fits
-fits_replies before log NoEvent (alone (Ping false octets)) fits =
-    fits_reply before log (alone (Ping true octets)) refl fits
+fits_replies before log (StreamFault code) item fits = fits_reply _ _ _ refl fits
+fits_replies before log NoEvent (alone (Settings false pairs)) fits = fits_reply _ _ _ refl fits
+fits_replies before log NoEvent (alone (Ping false octets)) fits = fits_reply _ _ _ refl fits
 fits_replies before log verdict item fits = fits
 
 -- Before the opening, after so many octets.
@@ -41,8 +38,7 @@ fits_opened : (role : Role) (values : Values)
     → Fits (length (expected_preface (not (is_server role)))) (opened role values)
 unfolding opened
 fits_opened role values short =
-    fits_same _ (with_sent (before_opening role) (alone (Settings false
-    (opening_pairs role values)) ∷ [])) (opened role values) refl refl refl refl
+    fits_same _ _ _ refl refl refl refl
     (fits_small _ (before_opening role) (alone (Settings false (opening_pairs role values)) ∷ [])
     (omega (arith, short))
     (omega (arith, size-opening (max_payload_sent (before_opening role)) role values))

@@ -24,8 +24,7 @@ ack_empty : (pairs : List (ℕ × ℕ)) → refusal (Settings true pairs) ≡ No
 unfolding refusal has_good_values
 ack_empty [] none = refl
 ack_empty (pair ∷ pairs) none =
-    let same : length (pair ∷ pairs) ≡ 0 =
-    eqb-true (length (pair ∷ pairs)) 0 (good_by _ _ _ none) in
+    let same : length (pair ∷ pairs) ≡ 0 = eqb-true _ 0 (good_by _ _ _ none) in
     absurd (omega (arith, same))
 
 -- the octets of replies, by their number

@@ -23,8 +23,7 @@ pub comes_widely : (expects : Bool) (log : Log) (stream : List ℕ) (frames : Li
     (unparsed : List ℕ) → Frames expects (limits_from log) stream frames unparsed
     → Frames expects (wider_limits log) stream frames unparsed
 comes_widely expects log stream frames unparsed =
-    read_wider expects (limits_from log) (wider_limits log) stream frames unparsed
-    (λ place within. omega arith)
+    read_wider _ _ _ _ _ unparsed (λ place within. omega arith)
 
 -- So is what an end that is up has read.
 pub read_widely : (role : Role) (values : Values) (log : Log) → IsLog role values log
@@ -45,10 +44,9 @@ sound_wider expects limits others frames part wider sound =
       sound = sound;
       partial = λ nine. absurd (omega arith);
     } in
-    elim (read_wider expects limits others part frames [] wider (inr past)) [
+    elim (read_wider _ _ _ _ frames [] wider (inr past)) [
       | inl short ↦ absurd (short_past expects limits part frames frames [] [] short past)
-      | inr other ↦
-          subst (λ (octets : List ℕ). IsSound expects others frames octets)
+      | inr other ↦ subst (λ (octets : List ℕ). IsSound expects others frames octets)
           (sym (other.joined ∙ append-nil other.part)) other.sound
     ]
 
@@ -78,82 +76,76 @@ IsFaultOrLong expects limits others frames octets =
     ((fault : WireFault) × EndsWithFault expects others frames octets fault)
     ⊎ IsLongHead expects limits others frames octets
 
--- A head at fault, by whether it is so with the other limits.
-head_wider : (expects : Bool) (limits others : Limits) (frames : List Frame) (octets : List ℕ)
-    (code : Code) (wrong : IsWrongHead expects limits frames octets code)
-    → IsSound expects others frames wrong.part → (seen : Option Code)
-    → head_fault (head_of wrong.last) (others (length wrong.part + 9)) ≡ seen
-    → IsFaultOrLong expects limits others frames octets
-head_wider expects limits others frames octets code wrong sound (Some other) is =
-    inl (
-      faults.HeadFault other,
-      record {
-        part = wrong.part;
-        last = wrong.last;
-        joined = wrong.joined;
-        sound = sound;
-        nine = wrong.nine;
-        faulty = is;
-      },
-    )
-head_wider expects limits others frames octets code wrong sound None is =
-    let head = head_of wrong.last in
-    let place = length wrong.part + 9 in
-    inr (record {
-      part = wrong.part;
-      last = wrong.last;
-      joined = wrong.joined;
-      sound = sound;
-      nine = wrong.nine;
-      sound_head = is;
-      long = too_long head (limits place) code wrong.faulty
-          (form_fault-head_fault head (others place) is);
-    })
-
--- A payload at fault after a head without one is so with the other limits.
-payload_wider : (expects : Bool) (limits others : Limits) (frames : List Frame) (octets : List ℕ)
-    (code : Code) (wrong : IsWrongPayload expects limits frames octets code)
-    → IsSound expects others frames wrong.part
-    → limits (length wrong.part + 9) ≤ others (length wrong.part + 9)
-    → IsWrongPayload expects others frames octets code
-unfolding head_fault
-payload_wider expects limits others frames octets code wrong sound less =
-    let head = head_of wrong.last in
-    let place = length wrong.part + 9 in
-    let form = form_fault-head_fault head (limits place) wrong.sound_head in
-    let within = length-head_fault head (limits place) wrong.sound_head in
+module _ (expects : Bool) (limits others : Limits) (frames : List Frame) (octets : List ℕ) where
+  -- A head at fault, by whether it is so with the other limits.
+  head_wider : (code : Code) (wrong : IsWrongHead expects limits frames octets code)
+      → IsSound expects others frames wrong.part → (seen : Option Code)
+      → head_fault (head_of wrong.last) (others (length wrong.part + 9)) ≡ seen
+      → IsFaultOrLong expects limits others frames octets
+  head_wider code wrong sound (Some other) is = inl (
+    faults.HeadFault other,
     record {
       part = wrong.part;
       last = wrong.last;
       joined = wrong.joined;
       sound = sound;
-      complete = wrong.complete;
-      sound_head = rw (le-ltb (others place) head.length (omega (arith, within, less))) form;
-      faulty = wrong.faulty;
-    }
+      nine = wrong.nine;
+      faulty = is;
+    },
+  )
+  head_wider code wrong sound None is =
+      let head = head_of wrong.last in
+      let place = length wrong.part + 9 in
+      inr (record {
+        part = wrong.part;
+        last = wrong.last;
+        joined = wrong.joined;
+        sound = sound;
+        nine = wrong.nine;
+        sound_head = is;
+        long = too_long head (limits place) code wrong.faulty
+            (form_fault-head_fault head (others place) is);
+      })
 
--- A fault that octets end with is one with limits that are no less, or a head above the limit.
-pub fault_wider : (expects : Bool) (limits others : Limits) (frames : List Frame)
-    (octets : List ℕ) (fault : WireFault)
-    → ((place : ℕ) → place ≤ length octets → limits place ≤ others place)
-    → EndsWithFault expects limits frames octets fault
-    → IsFaultOrLong expects limits others frames octets
-fault_wider expects limits others frames octets faults.BadPreface wider made =
-    inl (faults.BadPreface, made)
-fault_wider expects limits others frames octets (faults.HeadFault code) wider made =
-    let counted = simp length-append at (ap length made.joined) in
-    head_wider expects limits others frames octets code made
-    (sound_wider expects limits others frames made.part
-    (λ place within. wider place (omega (arith, counted, within))) made.sound)
-    (head_fault (head_of made.last) (others (length made.part + 9))) refl
-fault_wider expects limits others frames octets (faults.PayloadFault code) wider made =
-    let counted = simp length-append at (ap length made.joined) in
-    let complete = made.complete in
-    inl (
-      faults.PayloadFault code,
-      payload_wider expects limits others frames octets code made
-          (sound_wider expects limits others frames made.part
-          (λ place within. wider place (omega (arith, counted, within))) made.sound)
-          (wider (length made.part + 9) (omega (arith, counted, complete))),
-    )
-fault_wider expects limits others frames octets faults.Memory wider made = absurd made
+  -- A payload at fault after a head without one is so with the other limits.
+  payload_wider : (code : Code) (wrong : IsWrongPayload expects limits frames octets code)
+      → IsSound expects others frames wrong.part
+      → limits (length wrong.part + 9) ≤ others (length wrong.part + 9)
+      → IsWrongPayload expects others frames octets code
+  unfolding head_fault
+  payload_wider code wrong sound less =
+      let head = head_of wrong.last in
+      let place = length wrong.part + 9 in
+      let form = form_fault-head_fault head (limits place) wrong.sound_head in
+      let within = length-head_fault head (limits place) wrong.sound_head in
+      record {
+        part = wrong.part;
+        last = wrong.last;
+        joined = wrong.joined;
+        sound = sound;
+        complete = wrong.complete;
+        sound_head = rw (le-ltb (others place) head.length (omega (arith, within, less))) form;
+        faulty = wrong.faulty;
+      }
+
+  -- A fault that octets end with is one with limits that are no less, or a head above the limit.
+  pub fault_wider : (fault : WireFault)
+      → ((place : ℕ) → place ≤ length octets → limits place ≤ others place)
+      → EndsWithFault expects limits frames octets fault
+      → IsFaultOrLong expects limits others frames octets
+  fault_wider faults.BadPreface wider made = inl (faults.BadPreface, made)
+  fault_wider (faults.HeadFault code) wider made =
+      let counted = simp length-append at (ap length made.joined) in
+      head_wider code made (sound_wider expects limits others frames made.part
+      (λ place within. wider place (omega (arith, counted, within))) made.sound)
+      (head_fault (head_of made.last) (others (length made.part + 9))) refl
+  fault_wider (faults.PayloadFault code) wider made =
+      let counted = simp length-append at (ap length made.joined) in
+      let complete = made.complete in
+      inl (
+        faults.PayloadFault code,
+        payload_wider code made (sound_wider expects limits others frames made.part
+            (λ place within. wider place (omega (arith, counted, within))) made.sound)
+            (wider (length made.part + 9) (omega (arith, counted, complete))),
+      )
+  fault_wider faults.Memory wider made = absurd made

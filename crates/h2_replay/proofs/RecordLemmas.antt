@@ -162,93 +162,83 @@ call_turns act one octets news turns outs =
     ∙ ap (λ (t : List Turn). ((all_by_octets turns ++ Called act ∷ []) ++ Answered (shown one)
     ∷ []) ++ t) outs
 
--- A call is made.
-pub call_records : (role : Role) (values : Values) (acts : List ReplayAct) (act : code.Act)
-    (answer : answered.Answer) (old one two three : List kept.Turn) (conn new : Conn)
-    (call last outs : kept.Turn) (waited : ℕ) (given joined : List ℕ) → IsCall act
-    → IsTypedAct (call_of act)
-    → turn_value call ≡ call_turn (act_value act) → turn_value last ≡ answer_turn answer
-    → turn_value outs ≡ Out joined → one ≡ old ++ call ∷ [] → two ≡ one ++ last ∷ []
-    → three ≡ two ++ outs ∷ []
-    → ((values : Values) (log : Log) → ConnRepresents values conn log → waited ≡ waiting log)
-    → ((values : Values) (log : Log) → ConnRepresents values new log
-    → joined ≡ drop waited (given ++ drop log.given log.written))
-    → MakesCall conn (call_of act) (answer_value answer) given new
-    → Records role values acts conn old → Records role values (act_value act ∷ acts) new three
-call_records role values acts act answer old one two three conn new call last outs waited given
-    joined is typed calls_it answers_it outs_it one_is two_is three_is waits joins makes before =
-    let log = before.log in
-    let made = makes values log before.represents in
-    let writes = writes_call log (call_of act) made.one in
-    let joined_is : joined ≡ writes.octets =
-    call_joined values log (call_of act) (answer_value answer) given joined waited new made
-    before.represents.machine.output.given (waits values log before.represents)
-    (joins values (with_call log (call_of act) made.one) made.represents) in
-    let first : kept_by_octets one ≡ all_by_octets before.turns ++ Called (call_of act) ∷ [] =
-    ap kept_by_octets one_is ∙ kept_more old call
-    ∙ ap (λ (t : List Turn). t ++ by_octets (turn_value call)) before.keeps.same
-    ∙ ap (λ (t : Turn). all_by_octets before.turns ++ by_octets t)
-    (calls_it ∙ ap call_turn (made_call act is)) in
-    let second : kept_by_octets two
-    ≡ (all_by_octets before.turns ++ Called (call_of act) ∷ []) ++ Answered (shown made.one)
-    ∷ [] =
-    ap kept_by_octets two_is ∙ kept_more one last
-    ∙ ap (λ (t : List Turn). t ++ by_octets (turn_value last)) first
-    ∙ ap (λ (t : Turn). (all_by_octets before.turns ++ Called (call_of act) ∷ []) ++ by_octets t)
-    (answers_it ∙ call_answered answer made.one made.shows) in
-    let third : kept_by_octets three
-    ≡ ((all_by_octets before.turns ++ Called (call_of act) ∷ []) ++ Answered (shown made.one)
-    ∷ []) ++ each_octet Out writes.octets =
-    ap kept_by_octets three_is ∙ kept_more two outs
-    ∙ ap (λ (t : List Turn). t ++ by_octets (turn_value outs)) second
-    ∙ ap (λ (t : Turn). ((all_by_octets before.turns ++ Called (call_of act) ∷ [])
-    ++ Answered (shown made.one) ∷ []) ++ by_octets t) outs_it
-    ∙ ap (λ (o : List ℕ). ((all_by_octets before.turns ++ Called (call_of act) ∷ [])
-    ++ Answered (shown made.one) ∷ []) ++ each_octet Out o) joined_is in
-    let news : List Turn = writes.news ++ Answered (shown made.one) ∷ Called (call_of act) ∷ [] in
-    let replay : IsReplay role values (Make (call_of act) ∷ acts)
-    (with_call log (call_of act) made.one) (news ++ before.turns) =
-    calls before.keeps.replay (call_of act) made.one typed made.may news
-    (writes.turns ∙ sym (append_assoc writes.news (Answered (shown made.one)
-    ∷ Called (call_of act) ∷ []) log.turns)) in
-    record {
-      log = with_call log (call_of act) made.one;
-      turns = news ++ before.turns;
-      keeps = record {
-        replay = subst (λ (a : ReplayAct). IsReplay role values (a ∷ acts)
-            (with_call log (call_of act) made.one) (news ++ before.turns))
-            (sym (made_call act is)) replay;
-        same = third
-            ∙ sym (call_turns (call_of act) made.one writes.octets writes.news before.turns
-            writes.outs);
-      };
-      represents = made.represents;
-    }
+module _ (role : Role) (values : Values) where
+  -- A call is made.
+  pub call_records : (acts : List ReplayAct) (act : code.Act) (answer : answered.Answer)
+      (old one two three : List kept.Turn) (conn new : Conn) (call last outs : kept.Turn)
+      (waited : ℕ) (given joined : List ℕ) → IsCall act → IsTypedAct (call_of act)
+      → turn_value call ≡ call_turn (act_value act) → turn_value last ≡ answer_turn answer
+      → turn_value outs ≡ Out joined → one ≡ old ++ call ∷ [] → two ≡ one ++ last ∷ []
+      → three ≡ two ++ outs ∷ []
+      → ((values : Values) (log : Log) → ConnRepresents values conn log → waited ≡ waiting log)
+      → ((values : Values) (log : Log) → ConnRepresents values new log → joined ≡ drop waited
+      (given ++ drop log.given log.written))
+      → MakesCall conn (call_of act) (answer_value answer) given new
+      → Records role values acts conn old → Records role values (act_value act ∷ acts) new three
+  call_records acts act answer old one two three conn new call last outs waited given joined is
+      typed calls_it answers_it outs_it one_is two_is three_is waits joins makes before =
+      let log = before.log in
+      let made = makes values log before.represents in
+      let writes = writes_call log (call_of act) made.one in
+      let joined_is : joined ≡ writes.octets =
+      call_joined values log (call_of act) (answer_value answer) given joined waited new made
+      before.represents.machine.output.given (waits values log before.represents)
+      (joins values (with_call log (call_of act) made.one) made.represents) in
+      let first : kept_by_octets one ≡ all_by_octets before.turns ++ Called (call_of act) ∷ [] =
+      ap kept_by_octets one_is ∙ kept_more old call
+      ∙ ap (λ (t : List Turn). t ++ by_octets (turn_value call)) before.keeps.same
+      ∙ ap (λ (t : Turn). all_by_octets before.turns ++ by_octets t)
+      (calls_it ∙ ap call_turn (made_call act is)) in
+      let second : kept_by_octets two ≡ (all_by_octets before.turns ++ Called (call_of act) ∷ [])
+      ++ Answered (shown made.one) ∷ [] = ap kept_by_octets two_is ∙ kept_more one last
+      ∙ ap (λ (t : List Turn). t ++ by_octets (turn_value last)) first
+      ∙ ap (λ (t : Turn). (all_by_octets before.turns ++ Called (call_of act) ∷ []) ++ by_octets t)
+      (answers_it ∙ call_answered answer made.one made.shows) in
+      let third : kept_by_octets three
+      ≡ ((all_by_octets before.turns ++ Called (call_of act) ∷ []) ++ Answered (shown made.one)
+      ∷ []) ++ each_octet Out writes.octets = ap kept_by_octets three_is ∙ kept_more two outs
+      ∙ ap (λ (t : List Turn). t ++ by_octets (turn_value outs)) second
+      ∙ ap (λ (t : Turn). ((all_by_octets before.turns ++ Called (call_of act) ∷ [])
+      ++ Answered (shown made.one) ∷ []) ++ by_octets t) outs_it
+      ∙ ap (λ (o : List ℕ). ((all_by_octets before.turns ++ Called (call_of act) ∷ [])
+      ++ Answered (shown made.one) ∷ []) ++ each_octet Out o) joined_is in
+      let news : List Turn = writes.news ++ Answered (shown made.one) ∷ Called (call_of act) ∷ [] in
+      let replay : IsReplay role values (Make (call_of act) ∷ acts)
+      (with_call log (call_of act) made.one) (news ++ before.turns) =
+      calls before.keeps.replay (call_of act) made.one typed made.may news
+      (writes.turns ∙ sym (append_assoc writes.news (Answered (shown made.one)
+      ∷ Called (call_of act) ∷ []) log.turns)) in
+      record {
+        log = with_call log (call_of act) made.one;
+        turns = news ++ before.turns;
+        keeps = record {
+          replay = subst (λ (a : ReplayAct). IsReplay role values (a ∷ acts)
+              (with_call log (call_of act) made.one) (news ++ before.turns))
+              (sym (made_call act is)) replay;
+          same = third
+              ∙ sym (call_turns (call_of act) made.one writes.octets writes.news before.turns
+              writes.outs);
+        };
+        represents = made.represents;
+      }
 
--- The values of a log are within their bounds.
-pub in_range_of : (role : Role) (values : Values) (log : Log) → IsLog role values log
-    → AreInRange values
-in_range_of role values _ (begins in_range) = in_range
-in_range_of role values _ (took_some {log = log} is may octets unparsed part) =
-    in_range_of role values log is
-in_range_of role values _ (took_one {log = log} is may octets frame decoded framed sees) =
-    in_range_of role values log is
-in_range_of role values _ (met_fault {log = log} is may octets fault at) =
-    in_range_of role values log is
-in_range_of role values _ (ran_out_of_memory {log = log} is up octets may) =
-    in_range_of role values log is
-in_range_of role values _ (reported_one {log = log} is up some) = in_range_of role values log is
-in_range_of role values _ (called_one {log = log} is act answer typed may) =
-    in_range_of role values log is
+  -- The values of a log are within their bounds.
+  pub in_range_of : (log : Log) → IsLog role values log → AreInRange values
+  in_range_of _ (begins in_range) = in_range
+  in_range_of _ (took_some {log = log} is may octets unparsed part) = in_range_of log is
+  in_range_of _ (took_one {log = log} is may octets frame decoded framed sees) = in_range_of log is
+  in_range_of _ (met_fault {log = log} is may octets fault at) = in_range_of log is
+  in_range_of _ (ran_out_of_memory {log = log} is up octets may) = in_range_of log is
+  in_range_of _ (reported_one {log = log} is up some) = in_range_of log is
+  in_range_of _ (called_one {log = log} is act answer typed may) = in_range_of log is
 
--- The turns of the opening.
-opening_kept : (role : Role) (values : Values) (out : kept.Turn) (joined : List ℕ)
-    → turn_value out ≡ Out joined
-    → joined ≡ drop 0 ([] ++ drop (opened role values).given (opened role values).written)
-    → kept_by_octets (out ∷ []) ≡ all_by_octets (opened role values).turns
-unfolding opened with_sent kept_by_octets all_by_octets
-opening_kept role values out joined is are =
-    append-nil (by_octets (turn_value out)) ∙ ap by_octets is ∙ ap (each_octet Out) are
+  -- The turns of the opening.
+  opening_kept : (out : kept.Turn) (joined : List ℕ) → turn_value out ≡ Out joined
+      → joined ≡ drop 0 ([] ++ drop (opened role values).given (opened role values).written)
+      → kept_by_octets (out ∷ []) ≡ all_by_octets (opened role values).turns
+  unfolding opened with_sent kept_by_octets all_by_octets
+  opening_kept out joined is are =
+      append-nil (by_octets (turn_value out)) ∙ ap by_octets is ∙ ap (each_octet Out) are
 
 -- A new end.
 pub opening_records : (role : Role) (values : Values) (conn : Conn) (out : kept.Turn)

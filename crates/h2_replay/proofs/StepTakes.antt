@@ -209,36 +209,32 @@ adds_unused log next piece answer after adds =
 same_log : (log next other : Log) → next ≡ other → AddsEvents log other → AddsEvents log next
 same_log log next other same adds = subst (λ (n : Log). AddsEvents log n) (sym same) adds
 
--- What a call of `take` adds.
-take_adds_by : (log next : Log) (piece : List ℕ) (answer : TakeAnswer)
-    → AfterTake log next piece answer → MayTake log piece answer next → AddsTake log next answer
-take_adds_by log next piece answer after (has_failed code failed answers same) =
-    adds_unused log next piece answer after (same_log log next log same
-    (reports_none log log (writes_none log log refl refl refl refl refl)))
-take_adds_by log next piece answer after (reports_unprocessed up some answers same) =
-    adds_unused log next piece answer after (same_log log next _ same
-    (reports_after log (with_unreturned _ log) (UnprocessedEvent (next_unprocessed log) ∷ [])
-    (writes_unreturned _ log)))
-take_adds_by log next piece answer after (ends_no_frame takes unparsed part answers same) =
-    adds_used log next piece piece unparsed answer after
-    (same_log (used log piece unparsed) next (used log piece unparsed) same (reports_none _ _
-    (writes_none (used log piece unparsed) (used log piece unparsed) refl refl refl refl refl)))
-take_adds_by log next piece answer after
-    (ends_frame takes octets unused joined frame decoded framed sees same answers) =
-    adds_used log next piece octets [] answer after
-    (same_log (used log octets []) next _ same (frame_adds (used log octets []) decoded frame))
-take_adds_by log next piece answer after
-    (meets_fault takes octets unused joined fault at answers same) =
-    adds_used log next piece octets [] answer after
-    (same_log (used log octets []) next _ same (reports_none _ _
-    (writes_failure _ _ (used log octets []))))
-take_adds_by log next piece answer after
-    (runs_out_of_memory up octets unused joined may answers same) =
-    adds_used log next piece octets [] answer after
-    (same_log (used log octets []) next _ same (reports_none _ _
-    (writes_failure _ _ (used log octets []))))
+module _ (log next : Log) (piece : List ℕ) (answer : TakeAnswer) where
+  -- What a call of `take` adds.
+  take_adds_by : AfterTake log next piece answer → MayTake log piece answer next
+      → AddsTake log next answer
+  take_adds_by after (has_failed code failed answers same) =
+      adds_unused log next piece answer after (same_log log next log same
+      (reports_none log log (writes_none log log refl refl refl refl refl)))
+  take_adds_by after (reports_unprocessed up some answers same) =
+      adds_unused log next piece answer after (same_log log next _ same
+      (reports_after log (with_unreturned _ log) (UnprocessedEvent (next_unprocessed log) ∷ [])
+      (writes_unreturned _ log)))
+  take_adds_by after (ends_no_frame takes unparsed part answers same) =
+      adds_used log next piece piece unparsed answer after
+      (same_log (used log piece unparsed) next (used log piece unparsed) same (reports_none _ _
+      (writes_none (used log piece unparsed) (used log piece unparsed) refl refl refl refl refl)))
+  take_adds_by after (ends_frame takes octets unused joined frame decoded framed sees same answers)
+      = adds_used log next piece octets [] answer after
+      (same_log (used log octets []) next _ same (frame_adds (used log octets []) decoded frame))
+  take_adds_by after (meets_fault takes octets unused joined fault at answers same) =
+      adds_used log next piece octets [] answer after
+      (same_log (used log octets []) next _ same (reports_none _ _
+      (writes_failure _ _ (used log octets []))))
+  take_adds_by after (runs_out_of_memory up octets unused joined may answers same) =
+      adds_used log next piece octets [] answer after
+      (same_log (used log octets []) next _ same (reports_none _ _
+      (writes_failure _ _ (used log octets []))))
 
-pub take_adds : (log next : Log) (piece : List ℕ) (answer : TakeAnswer)
-    → MayTake log piece answer next → AddsTake log next answer
-take_adds log next piece answer may =
-    take_adds_by log next piece answer (log_after_take log next piece answer may) may
+  pub take_adds : MayTake log piece answer next → AddsTake log next answer
+  take_adds may = take_adds_by (log_after_take log next piece answer may) may

@@ -53,16 +53,15 @@ used_exactly before after input octets unused piece was is below joined =
     rw (joined, size) (sym (take-length octets)
     ∙ sym (take-append-le (length octets) octets unused (omega arith)))
 
--- How a replay goes on is as the answer says.
-goes_by : (log after : Log) (piece : List ℕ) (used : ℕ) (event : Option KeptEvent)
-    (fault : Option Code) → MayTake log piece (answered_by fault used event) after
-    → used ≤ length piece → GoesOn log piece (next_by fault event used (length piece)) after
-goes_by log after piece used event (Some code) may within = may
-goes_by log after piece used (Some event) None may within =
-    (Some (kept_event_value event), may, within, inr (λ none. cc))
-goes_by log after piece used None None may within =
-    by_test (nat_lt used (length piece)) refl
-  where
+module _ (log after : Log) (piece : List ℕ) where
+  -- How a replay goes on is as the answer says.
+  goes_by : (used : ℕ) (event : Option KeptEvent) (fault : Option Code)
+      → MayTake log piece (answered_by fault used event) after → used ≤ length piece
+      → GoesOn log piece (next_by fault event used (length piece)) after
+  goes_by used event (Some code) may within = may
+  goes_by used (Some event) None may within =
+      (Some (kept_event_value event), may, within, inr (λ none. cc))
+  goes_by used None None may within = by_test (nat_lt used (length piece)) refl where
     by_test : (test : Bool) → nat_lt used (length piece) ≡ test
         → GoesOn log piece (if test then nexts.Again used else nexts.Done) after
     by_test true is = (None, may, within, inl (ltb-true used (length piece) is))
@@ -71,11 +70,9 @@ goes_by log after piece used None None may within =
         let all : used ≡ length piece = omega (arith, more, within) in
         subst (λ (n : ℕ). MayTake log piece (Took n None) after) all may
 
-pub goes_on_of : (log after : Log) (piece : List ℕ) (taking : Taking)
-    → MayTake log piece (taken_answer taking) after → taking.used ≤ length piece
-    → GoesOn log piece (next_of taking (length piece)) after
-goes_on_of log after piece taking may within =
-    goes_by log after piece taking.used taking.event taking.fault may within
+  pub goes_on_of : (taking : Taking) → MayTake log piece (taken_answer taking) after
+      → taking.used ≤ length piece → GoesOn log piece (next_of taking (length piece)) after
+  goes_on_of taking may within = goes_by taking.used taking.event taking.fault may within
 
 -- It goes on within the piece.
 within_by : (used size : ℕ) (event : Option KeptEvent) (fault : Option Code) → used ≤ size
@@ -183,34 +180,31 @@ pub one_event : (event : Event)
 unfolding all_by_octets
 one_event event = refl
 
--- What was kept of a call is what it has added to the log.
-pub take_keeps : (log after : Log) (answer : TakeAnswer) (octets more : List ℕ)
-    (events : List Event) (old new : List Turn) (adds : AddsTake log after answer)
-    → adds.octets ≡ octets → more ≡ adds.more → events ≡ events_of_answer answer
-    → kept_by_octets new ≡ kept_by_octets old ++ (each_octet In octets
-    ++ (each_octet Out more ++ all_by_octets (map Happened events)))
-    → KeepsNews log after old new
-take_keeps log after answer octets more events old new adds used wrote said kept =
-    record {
-      news = adds.news;
-      turns = adds.turns;
-      same = kept
-          ∙ ap (λ (all : List logs.Turn). kept_by_octets old ++ all)
-          (ap (λ (o : List ℕ). each_octet In o
-          ++ (each_octet Out more ++ all_by_octets (map Happened events))) (sym used)
-          ∙ ap (λ (o : List ℕ). each_octet In adds.octets
-          ++ (each_octet Out o ++ all_by_octets (map Happened events))) wrote
-          ∙ ap (λ (e : List Event). each_octet In adds.octets
-          ++ (each_octet Out adds.more ++ all_by_octets (map Happened e))) said
-          ∙ sym adds.all);
-    }
+module _ (log after : Log) (answer : TakeAnswer) (octets : List ℕ) where
+  -- What was kept of a call is what it has added to the log.
+  pub take_keeps : (more : List ℕ) (events : List Event) (old new : List Turn)
+      (adds : AddsTake log after answer) → adds.octets ≡ octets → more ≡ adds.more
+      → events ≡ events_of_answer answer
+      → kept_by_octets new ≡ kept_by_octets old ++ (each_octet In octets
+      ++ (each_octet Out more ++ all_by_octets (map Happened events)))
+      → KeepsNews log after old new
+  take_keeps more events old new adds used wrote said kept =
+      record {
+        news = adds.news;
+        turns = adds.turns;
+        same = kept ∙ ap (λ (all : List logs.Turn). kept_by_octets old ++ all)
+            (ap (λ (o : List ℕ). each_octet In o
+            ++ (each_octet Out more ++ all_by_octets (map Happened events))) (sym used)
+            ∙ ap (λ (o : List ℕ). each_octet In adds.octets
+            ++ (each_octet Out o ++ all_by_octets (map Happened events))) wrote
+            ∙ ap (λ (e : List Event). each_octet In adds.octets
+            ++ (each_octet Out adds.more ++ all_by_octets (map Happened e))) said ∙ sym adds.all);
+      }
 
--- The octets used and those that have joined the output are those of the log.
-pub used_are : (log after : Log) (answer : TakeAnswer) (octets : List ℕ)
-    (adds : AddsTake log after answer) → after.input ≡ log.input ++ octets
-    → adds.octets ≡ octets
-used_are log after answer octets adds input =
-    append_cancel_left log.input adds.octets octets (sym adds.input ∙ input)
+  -- The octets used and those that have joined the output are those of the log.
+  pub used_are : (adds : AddsTake log after answer) → after.input ≡ log.input ++ octets
+      → adds.octets ≡ octets
+  used_are adds input = append_cancel_left log.input adds.octets octets (sym adds.input ∙ input)
 
 pub joined_are : (log after : Log) (answer : TakeAnswer) (waited : ℕ) (joined : List ℕ)
     (adds : AddsTake log after answer) → log.given ≤ length log.written → waited ≡ waiting log

@@ -187,31 +187,28 @@ after_update table limit maximum octets prefix others fields after e is_update b
     block_after_updates table limit maximum octets prefix others fields after block.updated
     block.maxima block.others e is_update block.updates block.within block.encoded
 
--- One update more was read.
-pub updates_more : (table now : Entries) (limit maximum : ℕ)
-    (octets unparsed prefix others : List ℕ) → unparsed ≡ prefix ++ others → Update maximum prefix
-    → maximum ≤ limit
-    → UpdatesSoFar table limit octets now unparsed
-    → UpdatesSoFar table limit octets (resized now maximum) others
-updates_more table now limit maximum octets unparsed prefix others e is_update allowed so_far =
-    record {
-      sound = λ fields after h. so_far.sound fields after
-          (block_with now limit maximum unparsed prefix others fields after e is_update allowed h);
-      complete =
-          λ fields after h. (after_update now limit maximum unparsed prefix others fields after e
-          is_update (so_far.complete fields after h)).block;
-    }
+module _ (table now : Entries) (limit maximum : ℕ) (octets unparsed prefix others : List ℕ) where
+  -- One update more was read.
+  pub updates_more : unparsed ≡ prefix ++ others → Update maximum prefix → maximum ≤ limit
+      → UpdatesSoFar table limit octets now unparsed
+      → UpdatesSoFar table limit octets (resized now maximum) others
+  updates_more e is_update allowed so_far =
+      record {
+        sound = λ fields after h. so_far.sound fields after
+            (block_with now limit maximum unparsed prefix others fields after e is_update allowed
+            h);
+        complete =
+            λ fields after h. (after_update now limit maximum unparsed prefix others fields after e
+            is_update (so_far.complete fields after h)).block;
+      }
 
--- An update above the limit is a fault.
-pub updates_above : (table now : Entries) (limit maximum : ℕ)
-    (octets unparsed prefix others : List ℕ) → unparsed ≡ prefix ++ others → Update maximum prefix
-    → limit < maximum
-    → UpdatesSoFar table limit octets now unparsed → NoBlock table limit octets
-updates_above table now limit maximum octets unparsed prefix others e is_update above so_far =
-    λ fields after h.
-    let allowed = (after_update now limit maximum unparsed prefix others fields after e is_update
-    (so_far.complete fields after h)).allowed in
-    omega arith
+  -- An update above the limit is a fault.
+  pub updates_above : unparsed ≡ prefix ++ others → Update maximum prefix → limit < maximum
+      → UpdatesSoFar table limit octets now unparsed → NoBlock table limit octets
+  updates_above e is_update above so_far = λ fields after h.
+      let allowed = (after_update now limit maximum unparsed prefix others fields after e is_update
+      (so_far.complete fields after h)).allowed in
+      omega arith
 
 -- The first octet of a prefix is that of the octets.
 first_octet_of_prefix : (low high : ℕ) (octets prefix others : List ℕ) → octets ≡ prefix ++ others

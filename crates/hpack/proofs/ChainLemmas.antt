@@ -176,65 +176,61 @@ pub record IsReached (bucket : Entry → ℕ) (sought : ℕ) (test : Entry → B
   pub here : (other : Entry) → place < length entries
       → bucket (get_or entries place other) ≡ sought
 
--- The first place of a chain.
-pub reached_first : (bucket : Entry → ℕ) (sought : ℕ) (test : Entry → Bool)
-    (start : ℕ) (entries : List Entry) (place : ℕ) → ((one : Entry) → test one ≡ true
-    → bucket one ≡ sought)
-    → LeadsTo bucket sought entries place → IsReached bucket sought test start entries place
-reached_first bucket sought test start entries place only leads = record {
-  none_before = sym (leads_first bucket sought test start entries place only leads);
-  here = λ other lt. leads_here bucket sought entries place other leads lt;
-}
+module _ (bucket : Entry → ℕ) (sought : ℕ) (test : Entry → Bool) (start : ℕ) (entries : List Entry)
+    (place : ℕ) where
+  -- The first place of a chain.
+  pub reached_first : ((one : Entry) → test one ≡ true → bucket one ≡ sought)
+      → LeadsTo bucket sought entries place → IsReached bucket sought test start entries place
+  reached_first only leads = record {
+    none_before = sym (leads_first bucket sought test start entries place only leads);
+    here = λ other lt. leads_here bucket sought entries place other leads lt;
+  }
 
--- The next place of a chain.
-pub reached_next : (bucket : Entry → ℕ) (sought : ℕ) (test : Entry → Bool)
-    (start : ℕ) (entries : List Entry) (place skip next : ℕ)
-    → ((one : Entry) → test one ≡ true → bucket one ≡ sought)
-    → IsReached bucket sought test start entries place → place < length entries
-    → ((other : Entry) → test (get_or entries place other) ≡ false)
-    → ((other : Entry) → LeadsTo bucket (bucket (get_or entries place other))
-    (drop (place + 1) entries) skip)
-    → next ≡ place + (1 + skip) → IsReached bucket sought test start entries next
-reached_next bucket sought test start entries place skip next only reached lt missed leads is =
-    let other : Entry = record { name = []; value = [] } in
-    let rest = drop (place + 1) entries in
-    let into : LeadsTo bucket sought rest skip =
-    subst (λ (n : ℕ). LeadsTo bucket n rest skip) (reached.here other lt) (leads other) in
-    let step : first_index test (start + place) (drop place entries)
-    ≡ first_index test (start + (place + 1)) rest =
-    first_index-drop test start place entries other false lt (sym (missed other)) in
-    let skipped : first_index test (start + (place + 1)) rest
-    ≡ first_index test (start + (place + 1) + skip) (drop skip rest) =
-    leads_first bucket sought test (start + (place + 1)) rest skip only into in
-    let number : start + (place + 1) + skip ≡ start + next = omega (arith, is) in
-    let at : place + 1 + skip ≡ next = omega (arith, is) in
-    let same : drop skip rest ≡ drop next entries =
-    drop-drop skip (place + 1) entries ∙ ap (λ (n : ℕ). drop n entries) at in
-    record {
-      none_before = sym (ap (λ (n : ℕ). first_index test n (drop skip rest)) number
-          ∙ ap (λ (es : List Entry). first_index test (start + next) es) same)
-          ∙ (sym skipped ∙ (sym step ∙ reached.none_before));
-      here = λ one short.
-          let there : get_or rest skip one ≡ get_or entries next one =
-          get_or-drop (place + 1) entries skip one ∙ ap (λ (n : ℕ). get_or entries n one) at in
-          subst (λ (e : Entry). bucket e ≡ sought) there
-          (leads_here bucket sought rest skip one into
-          (omega (arith, at, short, length-drop (place + 1) entries)));
-    }
+  -- The next place of a chain.
+  pub reached_next : (skip next : ℕ) → ((one : Entry) → test one ≡ true → bucket one ≡ sought)
+      → IsReached bucket sought test start entries place → place < length entries
+      → ((other : Entry) → test (get_or entries place other) ≡ false)
+      → ((other : Entry) → LeadsTo bucket (bucket (get_or entries place other))
+      (drop (place + 1) entries) skip)
+      → next ≡ place + (1 + skip) → IsReached bucket sought test start entries next
+  reached_next skip next only reached lt missed leads is =
+      let other : Entry = record { name = []; value = [] } in
+      let rest = drop (place + 1) entries in
+      let into : LeadsTo bucket sought rest skip =
+      subst (λ (n : ℕ). LeadsTo bucket n rest skip) (reached.here other lt) (leads other) in
+      let step : first_index test (start + place) (drop place entries)
+      ≡ first_index test (start + (place + 1)) rest =
+      first_index-drop test start place entries other false lt (sym (missed other)) in
+      let skipped : first_index test (start + (place + 1)) rest
+      ≡ first_index test (start + (place + 1) + skip) (drop skip rest) =
+      leads_first bucket sought test (start + (place + 1)) rest skip only into in
+      let number : start + (place + 1) + skip ≡ start + next = omega (arith, is) in
+      let at : place + 1 + skip ≡ next = omega (arith, is) in
+      let same : drop skip rest ≡ drop next entries =
+      drop-drop skip (place + 1) entries ∙ ap (λ (n : ℕ). drop n entries) at in
+      record {
+        none_before = sym (ap (λ (n : ℕ). first_index test n (drop skip rest)) number
+            ∙ ap (λ (es : List Entry). first_index test (start + next) es) same)
+            ∙ (sym skipped ∙ (sym step ∙ reached.none_before));
+        here = λ one short.
+            let there : get_or rest skip one ≡ get_or entries next one =
+            get_or-drop (place + 1) entries skip one ∙ ap (λ (n : ℕ). get_or entries n one) at in
+            subst (λ (e : Entry). bucket e ≡ sought) there
+            (leads_here bucket sought rest skip one into
+            (omega (arith, at, short, length-drop (place + 1) entries)));
+      }
 
--- The entry at a place of a chain passes.
-pub reached_here : (bucket : Entry → ℕ) (sought : ℕ) (test : Entry → Bool) (start : ℕ)
-    (entries : List Entry) (place : ℕ) → IsReached bucket sought test start entries place
-    → place < length entries → ((other : Entry) → test (get_or entries place other) ≡ true)
-    → start + place ≡ first_index test start entries
-reached_here bucket sought test start entries place reached lt passes =
-    let other : Entry = record { name = []; value = [] } in
-    sym (first_index-drop test start place entries other true lt (sym (passes other)))
-    ∙ reached.none_before
+  -- The entry at a place of a chain passes.
+  pub reached_here : IsReached bucket sought test start entries place → place < length entries
+      → ((other : Entry) → test (get_or entries place other) ≡ true)
+      → start + place ≡ first_index test start entries
+  reached_here reached lt passes =
+      let other : Entry = record { name = []; value = [] } in
+      sym (first_index-drop test start place entries other true lt (sym (passes other)))
+      ∙ reached.none_before
 
--- A chain ends.
-pub reached_end : (bucket : Entry → ℕ) (sought : ℕ) (test : Entry → Bool) (start : ℕ)
-    (entries : List Entry) (place : ℕ) → IsReached bucket sought test start entries place
-    → length entries ≤ place → 0 ≡ first_index test start entries
-reached_end bucket sought test start entries place reached past =
-    sym (first_index-none test (start + place) place entries past) ∙ reached.none_before
+  -- A chain ends.
+  pub reached_end : IsReached bucket sought test start entries place → length entries ≤ place
+      → 0 ≡ first_index test start entries
+  reached_end reached past =
+      sym (first_index-none test (start + place) place entries past) ∙ reached.none_before

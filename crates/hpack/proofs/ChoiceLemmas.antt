@@ -54,73 +54,65 @@ has_exact table field = nat_lt 0 (exact_index table.entries field)
 is_large : Entries → Field → Bool
 is_large table field = nat_lt table.maximum (length field.name + length field.value + 32)
 
--- The choice goes by these tests.
-choice-by : (table : Entries) (field : Field)
-    → choice table field ≡ choice_by table field field.sensitive (has_exact table field)
-    (is_large table field)
-unfolding choice choice_by has_exact is_large
-choice-by table field = refl
+module _ (table : Entries) (field : Field) where
+  -- The choice goes by these tests.
+  choice-by : choice table field ≡ choice_by table field field.sensitive (has_exact table field)
+      (is_large table field)
+  unfolding choice choice_by has_exact is_large
+  choice-by = refl
 
--- a sensitive field
-pub chosen_never : (table : Entries) (field : Field) (index : ℕ) → field.sensitive ≡ true
-    → index ≡ name_index table.entries field → literal NeverIndexed index ≡ choice table field
-unfolding choice_by
-chosen_never table field index sensitive named =
-    ap (λ (n : ℕ). literal NeverIndexed n) named
-    ∙ sym (choice-by table field
-    ∙ ap (λ (b : Bool). choice_by table field b (has_exact table field) (is_large table field))
-    sensitive)
+  -- a sensitive field
+  pub chosen_never : (index : ℕ) → field.sensitive ≡ true → index ≡ name_index table.entries field
+      → literal NeverIndexed index ≡ choice table field
+  unfolding choice_by
+  chosen_never index sensitive named = ap (λ (n : ℕ). literal NeverIndexed n) named ∙ sym (choice-by
+      ∙ ap (λ (b : Bool). choice_by table field b (has_exact table field) (is_large table field))
+      sensitive)
 
--- a field with an exact entry
-pub chosen_indexed : (table : Entries) (field : Field) (index : ℕ) → field.sensitive ≡ false
-    → index ≡ exact_index table.entries field → 0 < index → indexed index ≡ choice table field
-unfolding choice_by has_exact
-chosen_indexed table field index usual exact some =
-    let has : has_exact table field ≡ true =
-    lt-ltb 0 (exact_index table.entries field) (omega (arith, exact)) in
-    ap (λ (n : ℕ). indexed n) exact
-    ∙ sym (choice-by table field
-    ∙ (ap (λ (b : Bool). choice_by table field b (has_exact table field) (is_large table field))
-    usual
-    ∙ ap (λ (b : Bool). choice_by table field false b (is_large table field)) has))
+  -- a field with an exact entry
+  pub chosen_indexed : (index : ℕ) → field.sensitive ≡ false
+      → index ≡ exact_index table.entries field → 0 < index → indexed index ≡ choice table field
+  unfolding choice_by has_exact
+  chosen_indexed index usual exact some =
+      let has : has_exact table field ≡ true =
+      lt-ltb 0 (exact_index table.entries field) (omega (arith, exact)) in
+      ap (λ (n : ℕ). indexed n) exact ∙ sym (choice-by
+      ∙ (ap (λ (b : Bool). choice_by table field b (has_exact table field) (is_large table field))
+      usual ∙ ap (λ (b : Bool). choice_by table field false b (is_large table field)) has))
 
--- a field with none, by its size
-chosen_by : (table : Entries) (field : Field) (large : Bool) → field.sensitive ≡ false
-    → exact_index table.entries field ≤ 0 → is_large table field ≡ large
-    → choice table field ≡ (if large then literal WithoutIndexing (name_index table.entries field)
-    else literal WithIndexing (name_index table.entries field))
-unfolding choice_by has_exact
-chosen_by table field large usual none is =
-    let has : has_exact table field ≡ false = le-ltb 0 (exact_index table.entries field) none in
-    choice-by table field
-    ∙ (ap (λ (b : Bool). choice_by table field b (has_exact table field) (is_large table field))
-    usual
-    ∙ (ap (λ (b : Bool). choice_by table field false b (is_large table field)) has
-    ∙ ap (λ (b : Bool). choice_by table field false false b) is))
+  -- a field with none, by its size
+  chosen_by : (large : Bool) → field.sensitive ≡ false → exact_index table.entries field ≤ 0
+      → is_large table field ≡ large
+      → choice table field ≡ (if large then literal WithoutIndexing (name_index table.entries field)
+      else literal WithIndexing (name_index table.entries field))
+  unfolding choice_by has_exact
+  chosen_by large usual none is =
+      let has : has_exact table field ≡ false = le-ltb 0 (exact_index table.entries field) none in
+      choice-by
+      ∙ (ap (λ (b : Bool). choice_by table field b (has_exact table field) (is_large table field))
+      usual ∙ (ap (λ (b : Bool). choice_by table field false b (is_large table field)) has
+      ∙ ap (λ (b : Bool). choice_by table field false false b) is))
 
--- a field that is larger than the maximum
-pub chosen_plain : (table : Entries) (field : Field) (exact index : ℕ) → field.sensitive ≡ false
-    → exact ≡ exact_index table.entries field → exact ≤ 0
-    → index ≡ name_index table.entries field
-    → table.maximum < length field.name + length field.value + 32
-    → literal WithoutIndexing index ≡ choice table field
-unfolding is_large
-chosen_plain table field exact index usual is none named large =
-    ap (λ (n : ℕ). literal WithoutIndexing n) named
-    ∙ sym (chosen_by table field true usual (omega (arith, is))
-    (lt-ltb table.maximum (length field.name + length field.value + 32) large))
+  -- a field that is larger than the maximum
+  pub chosen_plain : (exact index : ℕ) → field.sensitive ≡ false
+      → exact ≡ exact_index table.entries field → exact ≤ 0 → index ≡ name_index table.entries field
+      → table.maximum < length field.name + length field.value + 32
+      → literal WithoutIndexing index ≡ choice table field
+  unfolding is_large
+  chosen_plain exact index usual is none named large =
+      ap (λ (n : ℕ). literal WithoutIndexing n) named
+      ∙ sym (chosen_by true usual (omega (arith, is))
+      (lt-ltb table.maximum (length field.name + length field.value + 32) large))
 
--- a field that is added
-pub chosen_added : (table : Entries) (field : Field) (exact index : ℕ) → field.sensitive ≡ false
-    → exact ≡ exact_index table.entries field → exact ≤ 0
-    → index ≡ name_index table.entries field
-    → length field.name + length field.value + 32 ≤ table.maximum
-    → literal WithIndexing index ≡ choice table field
-unfolding is_large
-chosen_added table field exact index usual is none named small =
-    ap (λ (n : ℕ). literal WithIndexing n) named
-    ∙ sym (chosen_by table field false usual (omega (arith, is))
-    (le-ltb table.maximum (length field.name + length field.value + 32) small))
+  -- a field that is added
+  pub chosen_added : (exact index : ℕ) → field.sensitive ≡ false
+      → exact ≡ exact_index table.entries field → exact ≤ 0 → index ≡ name_index table.entries field
+      → length field.name + length field.value + 32 ≤ table.maximum
+      → literal WithIndexing index ≡ choice table field
+  unfolding is_large
+  chosen_added exact index usual is none named small = ap (λ (n : ℕ). literal WithIndexing n) named
+      ∙ sym (chosen_by false usual (omega (arith, is))
+      (le-ltb table.maximum (length field.name + length field.value + 32) small))
 
 -- the updates, by their tests
 unfoldable size_updates_by : ℕ → ℕ → Bool → Bool → Bool → List ℕ
@@ -134,46 +126,43 @@ size_updates-by : (state : EncoderState) → size_updates state
 unfolding size_updates size_updates_by
 size_updates-by state = refl
 
--- The limit fell, and is that still.
-pub updates_fell : (state : EncoderState) → state.least < state.table.maximum
-    → state.limit ≡ state.least → state.least ∷ [] ≡ size_updates state
-unfolding size_updates_by
-updates_fell state fell alike =
-    sym (size_updates-by state
-    ∙ (ap (λ (b : Bool). size_updates_by state.least state.limit b (state.limit == state.least)
-    (nat_lt state.table.maximum state.limit)) (lt-ltb state.least state.table.maximum fell)
-    ∙ ap (λ (b : Bool). size_updates_by state.least state.limit true b
-    (nat_lt state.table.maximum state.limit)) (eq-eqb state.limit state.least alike)))
+module _ (state : EncoderState) where
+  -- The limit fell, and is that still.
+  pub updates_fell : state.least < state.table.maximum → state.limit ≡ state.least
+      → state.least ∷ [] ≡ size_updates state
+  unfolding size_updates_by
+  updates_fell fell alike = sym (size_updates-by state
+      ∙ (ap (λ (b : Bool). size_updates_by state.least state.limit b (state.limit == state.least)
+      (nat_lt state.table.maximum state.limit)) (lt-ltb state.least state.table.maximum fell)
+      ∙ ap (λ (b : Bool). size_updates_by state.least state.limit true b
+      (nat_lt state.table.maximum state.limit)) (eq-eqb state.limit state.least alike)))
 
--- The limit fell, and is another.
-pub updates_changed : (state : EncoderState) → state.least < state.table.maximum
-    → (state.limit ≡ state.least → ⊥) → state.least ∷ state.limit ∷ [] ≡ size_updates state
-unfolding size_updates_by
-updates_changed state fell other =
-    sym (size_updates-by state
-    ∙ (ap (λ (b : Bool). size_updates_by state.least state.limit b (state.limit == state.least)
-    (nat_lt state.table.maximum state.limit)) (lt-ltb state.least state.table.maximum fell)
-    ∙ ap (λ (b : Bool). size_updates_by state.least state.limit true b
-    (nat_lt state.table.maximum state.limit)) (ne_eqb state.limit state.least other)))
+  -- The limit fell, and is another.
+  pub updates_changed : state.least < state.table.maximum → (state.limit ≡ state.least → ⊥)
+      → state.least ∷ state.limit ∷ [] ≡ size_updates state
+  unfolding size_updates_by
+  updates_changed fell other = sym (size_updates-by state
+      ∙ (ap (λ (b : Bool). size_updates_by state.least state.limit b (state.limit == state.least)
+      (nat_lt state.table.maximum state.limit)) (lt-ltb state.least state.table.maximum fell)
+      ∙ ap (λ (b : Bool). size_updates_by state.least state.limit true b
+      (nat_lt state.table.maximum state.limit)) (ne_eqb state.limit state.least other)))
 
--- The limit rose.
-pub updates_rose : (state : EncoderState) → state.table.maximum ≤ state.least
-    → state.table.maximum < state.limit → state.limit ∷ [] ≡ size_updates state
-unfolding size_updates_by
-updates_rose state not_fallen rose =
-    sym (size_updates-by state
-    ∙ (ap (λ (b : Bool). size_updates_by state.least state.limit b (state.limit == state.least)
-    (nat_lt state.table.maximum state.limit)) (le-ltb state.least state.table.maximum not_fallen)
-    ∙ ap (λ (b : Bool). size_updates_by state.least state.limit false (state.limit == state.least)
-    b) (lt-ltb state.table.maximum state.limit rose)))
+  -- The limit rose.
+  pub updates_rose : state.table.maximum ≤ state.least → state.table.maximum < state.limit
+      → state.limit ∷ [] ≡ size_updates state
+  unfolding size_updates_by
+  updates_rose not_fallen rose = sym (size_updates-by state
+      ∙ (ap (λ (b : Bool). size_updates_by state.least state.limit b (state.limit == state.least)
+      (nat_lt state.table.maximum state.limit)) (le-ltb state.least state.table.maximum not_fallen)
+      ∙ ap (λ (b : Bool). size_updates_by state.least state.limit false (state.limit == state.least)
+      b) (lt-ltb state.table.maximum state.limit rose)))
 
--- Nothing is due.
-pub updates_not_due : (state : EncoderState) → state.table.maximum ≤ state.least
-    → state.limit ≤ state.table.maximum → [] ≡ size_updates state
-unfolding size_updates_by
-updates_not_due state not_fallen low =
-    sym (size_updates-by state
-    ∙ (ap (λ (b : Bool). size_updates_by state.least state.limit b (state.limit == state.least)
-    (nat_lt state.table.maximum state.limit)) (le-ltb state.least state.table.maximum not_fallen)
-    ∙ ap (λ (b : Bool). size_updates_by state.least state.limit false (state.limit == state.least)
-    b) (le-ltb state.table.maximum state.limit low)))
+  -- Nothing is due.
+  pub updates_not_due : state.table.maximum ≤ state.least → state.limit ≤ state.table.maximum
+      → [] ≡ size_updates state
+  unfolding size_updates_by
+  updates_not_due not_fallen low = sym (size_updates-by state
+      ∙ (ap (λ (b : Bool). size_updates_by state.least state.limit b (state.limit == state.least)
+      (nat_lt state.table.maximum state.limit)) (le-ltb state.least state.table.maximum not_fallen)
+      ∙ ap (λ (b : Bool). size_updates_by state.least state.limit false (state.limit == state.least)
+      b) (le-ltb state.table.maximum state.limit low)))

@@ -4,30 +4,26 @@ use Rattle.hpack.proofs.Names.{get_or, append_assoc, append-nil, drop_more, drop
 use Rattle.hpack.proofs.Names.{IsExtended, Field, Entries, choice, encoding_of_field, after_choice}
 use Rattle.hpack.proofs.Names.{encoding_of_fields, after_fields}
 
--- what is written for fields, the first of them first
-encoding_of_field-drop : (table : Entries) (fields : List Field) (index : ℕ) (field : Field)
-    → index < length fields → field ≡ get_or fields index field
-    → encoding_of_fields table (drop index fields)
-    ≡ encoding_of_field (choice table field) field
-    ++ encoding_of_fields (after_choice table (choice table field) field)
-    (drop (index + 1) fields)
-unfolding encoding_of_fields
-encoding_of_field-drop table fields index field lt is =
-    ap (encoding_of_fields table) (drop_more fields index field lt)
-    ∙ ap (λ (f : Field). encoding_of_field (choice table f) f
-    ++ encoding_of_fields (after_choice table (choice table f) f) (drop (index + 1) fields))
-    (sym is)
+module _ (table : Entries) (fields : List Field) (index : ℕ) (field : Field) where
+  -- what is written for fields, the first of them first
+  encoding_of_field-drop : index < length fields → field ≡ get_or fields index field
+      → encoding_of_fields table (drop index fields) ≡ encoding_of_field (choice table field) field
+      ++ encoding_of_fields (after_choice table (choice table field) field)
+      (drop (index + 1) fields)
+  unfolding encoding_of_fields
+  encoding_of_field-drop lt is = ap (encoding_of_fields table) (drop_more fields index field lt)
+      ∙ ap (λ (f : Field). encoding_of_field (choice table f) f
+      ++ encoding_of_fields (after_choice table (choice table f) f) (drop (index + 1) fields))
+      (sym is)
 
--- the table after fields, the first of them first
-after-drop : (table : Entries) (fields : List Field) (index : ℕ) (field : Field)
-    → index < length fields → field ≡ get_or fields index field
-    → after_fields table (drop index fields)
-    ≡ after_fields (after_choice table (choice table field) field) (drop (index + 1) fields)
-unfolding after_fields
-after-drop table fields index field lt is =
-    ap (after_fields table) (drop_more fields index field lt)
-    ∙ ap (λ (f : Field). after_fields (after_choice table (choice table f) f)
-    (drop (index + 1) fields)) (sym is)
+  -- the table after fields, the first of them first
+  after-drop : index < length fields → field ≡ get_or fields index field
+      → after_fields table (drop index fields) ≡ after_fields
+      (after_choice table (choice table field) field) (drop (index + 1) fields)
+  unfolding after_fields
+  after-drop lt is = ap (after_fields table) (drop_more fields index field lt)
+      ∙ ap (λ (f : Field). after_fields (after_choice table (choice table f) f)
+      (drop (index + 1) fields)) (sym is)
 
 -- One more field is written.
 pub write_step : (old out new : List ℕ) (table after : Entries) (fields : List Field) (index : ℕ)

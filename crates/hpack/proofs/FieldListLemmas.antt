@@ -15,62 +15,59 @@ pub length-fields_of : (octets : List ℕ) (places : List FieldPlace)
 length-fields_of octets [] = refl
 length-fields_of octets (place ∷ places) = ap suc (length-fields_of octets places)
 
--- the field at a place of a list
-pub fields_of-at : (octets : List ℕ) (places : List FieldPlace) (i : ℕ) (other : FieldPlace)
-    → i < length places
-    → slice_get (fields_of octets places) i ≡ Some (field_of octets (get_or places i other))
-fields_of-at octets places i other lt =
-    slice_get-map (field_of octets) places i
-    ∙ ap (option_map (field_of octets)) (slice_get-get_or places i other lt)
+module _ (octets : List ℕ) where
+  -- the field at a place of a list
+  pub fields_of-at : (places : List FieldPlace) (i : ℕ) (other : FieldPlace) → i < length places
+      → slice_get (fields_of octets places) i ≡ Some (field_of octets (get_or places i other))
+  fields_of-at places i other lt = slice_get-map (field_of octets) places i
+      ∙ ap (option_map (field_of octets)) (slice_get-get_or places i other lt)
 
--- Octets between two places stay where others are appended.
-between-more : (octets more : List ℕ) (start end : ℕ) → start ≤ end → end ≤ length octets
-    → octets_between (octets ++ more) start end ≡ octets_between octets start end
-between-more octets more start end ordered within =
-    ap (take (end - start)) (drop-append-le start octets more (omega arith))
-    ∙ take-append-le (end - start) (drop start octets) more
-    (omega (arith, length-drop start octets))
+  -- Octets between two places stay where others are appended.
+  between-more : (more : List ℕ) (start end : ℕ) → start ≤ end → end ≤ length octets
+      → octets_between (octets ++ more) start end ≡ octets_between octets start end
+  between-more more start end ordered within =
+      ap (take (end - start)) (drop-append-le start octets more (omega arith)) ∙ take-append-le
+      (end - start) (drop start octets) more (omega (arith, length-drop start octets))
 
--- A field stays where octets are appended.
-field_of-more : (octets more : List ℕ) (place : FieldPlace) → IsWithin (length octets) place
-    → field_of (octets ++ more) place ≡ field_of octets place
-unfolding field_of
-field_of-more octets more place within =
-    ap₂ (λ (name value : List ℕ). record {
-      name = name;
-      value = value;
-      sensitive = place.sensitive;
-    }) (between-more octets more place.start place.name_end within.name
-    (omega (arith, within.value, within.end)))
-    (between-more octets more place.name_end place.value_end within.value within.end)
+  -- A field stays where octets are appended.
+  field_of-more : (more : List ℕ) (place : FieldPlace) → IsWithin (length octets) place
+      → field_of (octets ++ more) place ≡ field_of octets place
+  unfolding field_of
+  field_of-more more place within =
+      ap₂ (λ (name value : List ℕ). record {
+        name = name;
+        value = value;
+        sensitive = place.sensitive;
+      }) (between-more more place.start place.name_end within.name
+      (omega (arith, within.value, within.end)))
+      (between-more more place.name_end place.value_end within.value within.end)
 
--- Fields stay where octets are appended.
-pub fields_of-more : (octets more : List ℕ) (places : List FieldPlace) → AreWithin octets places
-    → fields_of (octets ++ more) places ≡ fields_of octets places
-fields_of-more octets more [] all = refl
-fields_of-more octets more (place ∷ places) all =
-    ap₂ (λ (f : Field) (fs : List Field). f ∷ fs) (field_of-more octets more place all.0)
-    (fields_of-more octets more places all.1)
+  -- Fields stay where octets are appended.
+  pub fields_of-more : (more : List ℕ) (places : List FieldPlace) → AreWithin octets places
+      → fields_of (octets ++ more) places ≡ fields_of octets places
+  fields_of-more more [] all = refl
+  fields_of-more more (place ∷ places) all =
+      ap₂ (λ (f : Field) (fs : List Field). f ∷ fs) (field_of-more more place all.0)
+      (fields_of-more more places all.1)
 
--- A place is among octets, and among more of them.
-pub within-more : (octets more : List ℕ) (places : List FieldPlace) → AreWithin octets places
-    → AreWithin (octets ++ more) places
-within-more octets more [] all = tt
-within-more octets more (place ∷ places) all = (
-  record {
-    name = all.0.name;
-    value = all.0.value;
-    end = omega (arith, all.0.end, length-append octets more);
-  },
-  within-more octets more places all.1,
-)
+  -- A place is among octets, and among more of them.
+  pub within-more : (more : List ℕ) (places : List FieldPlace) → AreWithin octets places
+      → AreWithin (octets ++ more) places
+  within-more more [] all = tt
+  within-more more (place ∷ places) all = (
+    record {
+      name = all.0.name;
+      value = all.0.value;
+      end = omega (arith, all.0.end, length-append octets more);
+    },
+    within-more more places all.1,
+  )
 
--- All of two lists of places are within.
-pub within-append : (octets : List ℕ) (places more : List FieldPlace) → AreWithin octets places
-    → AreWithin octets more → AreWithin octets (places ++ more)
-within-append octets [] more all others = others
-within-append octets (place ∷ places) more all others =
-    (all.0, within-append octets places more all.1 others)
+  -- All of two lists of places are within.
+  pub within-append : (places more : List FieldPlace) → AreWithin octets places
+      → AreWithin octets more → AreWithin octets (places ++ more)
+  within-append [] more all others = others
+  within-append (place ∷ places) more all others = (all.0, within-append places more all.1 others)
 
 -- the octets of a name and a value that were appended
 name_between : (before name value : List ℕ)

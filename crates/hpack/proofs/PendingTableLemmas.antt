@@ -84,41 +84,37 @@ pub live_length : (pending : PendingTable) (table : Entries) → IsPendingTable 
     → length (take pending.live (newest_first pending table)) ≡ pending.live
 live_length pending table is = length-take-le pending.live (newest_first pending table) is.live
 
--- an entry that is still there, by its test
-pending_test : (test : Entry → Bool) (pending : PendingTable) (table : Entries) (place : ℕ)
-    (b : Bool) → IsPendingTable pending table → place < pending.live
-    → ((other : Entry) → place < length (newest_first pending table)
-    → b ≡ test (get_or (newest_first pending table) place other))
-    → (other : Entry)
-    → b ≡ test (get_or (take pending.live (newest_first pending table)) place other)
-pending_test test pending table place b is lt at other =
-    at other (omega (arith, is.live))
-    ∙ sym (ap test (get_or-take pending.live (newest_first pending table) place other lt))
+module _ (test : Entry → Bool) (pending : PendingTable) (table : Entries) (place : ℕ) where
+  -- an entry that is still there, by its test
+  pending_test : (b : Bool) → IsPendingTable pending table → place < pending.live
+      → ((other : Entry) → place < length (newest_first pending table) → b ≡ test
+      (get_or (newest_first pending table) place other))
+      → (other : Entry)
+      → b ≡ test (get_or (take pending.live (newest_first pending table)) place other)
+  pending_test b is lt at other = at other (omega (arith, is.live))
+      ∙ sym (ap test (get_or-take pending.live (newest_first pending table) place other lt))
 
--- The entry at the place passes.
-pub pending_found : (test : Entry → Bool) (pending : PendingTable) (table : Entries) (place : ℕ)
-    (b : Bool) → IsPendingTable pending table → place < pending.live
-    → ((other : Entry) → place < length (newest_first pending table)
-    → b ≡ test (get_or (newest_first pending table) place other))
-    → b ≡ true → 62 + place
-    ≡ first_index test (62 + place) (drop place (take pending.live (newest_first pending table)))
-pending_found test pending table place b is lt at passes =
-    let entries = take pending.live (newest_first pending table) in
-    let rest = first_index test (62 + (place + 1)) (drop (place + 1) entries) in
-    let short : place < length entries = omega (arith, live_length pending table is) in
-    sym (first_index-drop test 62 place entries no_entry b short
-    (pending_test test pending table place b is lt at no_entry)
-    ∙ ap (λ (t : Bool). if t then 62 + place else rest) passes)
+  -- The entry at the place passes.
+  pub pending_found : (b : Bool) → IsPendingTable pending table → place < pending.live
+      → ((other : Entry) → place < length (newest_first pending table) → b ≡ test
+      (get_or (newest_first pending table) place other))
+      → b ≡ true
+      → 62 + place ≡ first_index test (62 + place) (drop place
+      (take pending.live (newest_first pending table)))
+  pending_found b is lt at passes =
+      let entries = take pending.live (newest_first pending table) in
+      let rest = first_index test (62 + (place + 1)) (drop (place + 1) entries) in
+      let short : place < length entries = omega (arith, live_length pending table is) in
+      sym (first_index-drop test 62 place entries no_entry b short
+      (pending_test b is lt at no_entry) ∙ ap (λ (t : Bool). if t then 62 + place else rest) passes)
 
--- The entry at the place doesn't pass.
-pub pending_missed : (test : Entry → Bool) (pending : PendingTable) (table : Entries) (place : ℕ)
-    (b : Bool) → IsPendingTable pending table → place < pending.live
-    → ((other : Entry) → place < length (newest_first pending table)
-    → b ≡ test (get_or (newest_first pending table) place other))
-    → b ≡ false → (other : Entry)
-    → test (get_or (take pending.live (newest_first pending table)) place other) ≡ false
-pending_missed test pending table place b is lt at fails other =
-    sym (pending_test test pending table place b is lt at other) ∙ fails
+  -- The entry at the place doesn't pass.
+  pub pending_missed : (b : Bool) → IsPendingTable pending table → place < pending.live
+      → ((other : Entry) → place < length (newest_first pending table) → b ≡ test
+      (get_or (newest_first pending table) place other))
+      → b ≡ false → (other : Entry)
+      → test (get_or (take pending.live (newest_first pending table)) place other) ≡ false
+  pending_missed b is lt at fails other = sym (pending_test b is lt at other) ∙ fails
 
 -- None is left.
 pub pending_end : (test : Entry → Bool) (pending : PendingTable) (table : Entries) (start place : ℕ)

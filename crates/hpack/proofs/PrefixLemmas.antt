@@ -51,32 +51,29 @@ fault_moves P Q octets others faults.Compression moves none = moves none
 fault_moves P Q octets others faults.Memory moves none = tt
 fault_moves P Q octets others faults.Failed moves none = none
 
--- Where no integer could be read, none is a prefix.
-no_int : (prefix_bits : ℕ) (octets : List ℕ) (fault : TextFault)
-    → ((value count : ℕ) → count ≤ length octets → Int prefix_bits value (take count octets)
-    → ◌≡◌ {A = Result (ℕ × ℕ) TextFault} (Err fault) (Ok (value, count)))
-    → NoPrefix (IsInt prefix_bits) octets
-no_int prefix_bits octets fault only = λ prefix others e encoded.
-    let count = prefix_count octets prefix others e in
-    let wrong : ◌≡◌ {A = Result (ℕ × ℕ) TextFault} (Err fault) (Ok (encoded.0, length prefix)) =
-    only encoded.0 (length prefix) count.within
-    (subst (λ xs. Int prefix_bits encoded.0 xs) (sym count.taken) encoded.1) in
-    cc
+module _ (prefix_bits : ℕ) (octets : List ℕ) where
+  -- Where no integer could be read, none is a prefix.
+  no_int : (fault : TextFault)
+      → ((value count : ℕ) → count ≤ length octets → Int prefix_bits value (take count octets) → ◌≡◌
+      {A = Result (ℕ × ℕ) TextFault} (Err fault) (Ok (value, count)))
+      → NoPrefix (IsInt prefix_bits) octets
+  no_int fault only = λ prefix others e encoded.
+      let count = prefix_count octets prefix others e in
+      let wrong : ◌≡◌ {A = Result (ℕ × ℕ) TextFault} (Err fault) (Ok (encoded.0, length prefix)) =
+      only encoded.0 (length prefix) count.within
+      (subst (λ xs. Int prefix_bits encoded.0 xs) (sym count.taken) encoded.1) in
+      cc
 
--- what a fault of an integer says
-pub int_fault : (prefix_bits : ℕ) (octets : List ℕ) (fault : TextFault)
-    → ((value count : ℕ) → count ≤ length octets → Int prefix_bits value (take count octets)
-    → ◌≡◌ {A = Result (ℕ × ℕ) TextFault} (Err fault) (Ok (value, count)))
-    → PrefixFault (IsInt prefix_bits) octets (fault_of_text fault)
-int_fault prefix_bits octets text_faults.Truncated only =
-    no_int prefix_bits octets text_faults.Truncated only
-int_fault prefix_bits octets text_faults.TooLong only =
-    no_int prefix_bits octets text_faults.TooLong only
-int_fault prefix_bits octets text_faults.BadPadding only =
-    no_int prefix_bits octets text_faults.BadPadding only
-int_fault prefix_bits octets text_faults.EndSymbol only =
-    no_int prefix_bits octets text_faults.EndSymbol only
-int_fault prefix_bits octets text_faults.Memory only = tt
+  -- what a fault of an integer says
+  pub int_fault : (fault : TextFault)
+      → ((value count : ℕ) → count ≤ length octets → Int prefix_bits value (take count octets) → ◌≡◌
+      {A = Result (ℕ × ℕ) TextFault} (Err fault) (Ok (value, count)))
+      → PrefixFault (IsInt prefix_bits) octets (fault_of_text fault)
+  int_fault text_faults.Truncated only = no_int text_faults.Truncated only
+  int_fault text_faults.TooLong only = no_int text_faults.TooLong only
+  int_fault text_faults.BadPadding only = no_int text_faults.BadPadding only
+  int_fault text_faults.EndSymbol only = no_int text_faults.EndSymbol only
+  int_fault text_faults.Memory only = tt
 
 -- Where no string could be read, though memory sufficed, none is a prefix.
 no_str : (octets : List ℕ) (fault : TextFault) → (fault ≡ text_faults.Memory → ⊥)
@@ -221,23 +218,20 @@ literal_found entries prefix_bits index octets name value a b c first int second
       },
     )
 
--- No entry, no index.
-pub index_no_entry : (entries : List Entry) (index : ℕ) (octets head following : List ℕ)
-    → octets ≡ head ++ following → Int 7 index head → entry entries index ≡ None
-    → NoPrefix (IsIndex entries) octets
-index_no_entry entries index octets head following joined int no_entry =
-    λ prefix others e (name, value, encoded).
-    let (heads, indices) = Int-unique 7 encoded.index index prefix head others following
-    encoded.encoded int (sym e ∙ joined) in
-    let wrong : entry entries encoded.index ≡ None = ap (entry entries) indices ∙ no_entry in
-    let named = encoded.named in
-    cc
+module _ (entries : List Entry) (index : ℕ) (octets : List ℕ) where
+  -- No entry, no index.
+  pub index_no_entry : (head following : List ℕ) → octets ≡ head ++ following → Int 7 index head
+      → entry entries index ≡ None → NoPrefix (IsIndex entries) octets
+  index_no_entry head following joined int no_entry = λ prefix others e (name, value, encoded).
+      let (heads, indices) = Int-unique 7 encoded.index index prefix head others following
+      encoded.encoded int (sym e ∙ joined) in
+      let wrong : entry entries encoded.index ≡ None = ap (entry entries) indices ∙ no_entry in
+      let named = encoded.named in
+      cc
 
--- No string, no name where the index is 0.
-pub name_no_str : (entries : List Entry) (index : ℕ) (octets : List ℕ) → index ≡ 0
-    → NoPrefix IsStr octets → NoPrefix (IsName entries index) octets
-name_no_str entries index octets zero_index none = λ prefix others e (name, named).
-    elim named [
-      | inl a ↦ none prefix others e (name, a.1)
-      | inr a ↦ zero_names_none entries index _ zero_index a.1.1
-    ]
+  -- No string, no name where the index is 0.
+  pub name_no_str : index ≡ 0 → NoPrefix IsStr octets → NoPrefix (IsName entries index) octets
+  name_no_str zero_index none = λ prefix others e (name, named). elim named [
+    | inl a ↦ none prefix others e (name, a.1)
+    | inr a ↦ zero_names_none entries index _ zero_index a.1.1
+  ]

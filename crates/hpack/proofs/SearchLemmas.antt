@@ -50,64 +50,60 @@ unfolding first_index
 first_index-none test start place entries past =
     ap (first_index test start) (drop_of_length-le entries past)
 
--- one entry more, by its test
-first_index-append_one : (test : Entry → Bool) (start : ℕ) (entries others : List Entry) (b : Bool)
-    → 0 < start
-    → first_index test (suc start) (entries ++ others)
-    ≡ (if first_index test (suc start) entries == 0
-    then first_index test (suc start + length entries) others
-    else first_index test (suc start) entries)
-    → (if b then start else first_index test (suc start) (entries ++ others))
-    ≡ (if (if b then start else first_index test (suc start) entries) == 0
-    then first_index test (start + suc (length entries)) others
-    else if b then start else first_index test (suc start) entries)
-first_index-append_one test start entries others true some rest =
-    sym (ap (λ (b : Bool). if b then first_index test (start + suc (length entries)) others
-    else start) (ne_eqb start 0 (λ e. omega (arith, e))))
-first_index-append_one test start entries others false some rest =
-    rest ∙ ap (λ (n : ℕ). if first_index test (suc start) entries == 0
-    then first_index test n others else first_index test (suc start) entries) (omega arith)
+module _ (test : Entry → Bool) where
+  -- one entry more, by its test
+  first_index-append_one : (start : ℕ) (entries others : List Entry) (b : Bool) → 0 < start
+      → first_index test (suc start) (entries ++ others) ≡ (if first_index test (suc start) entries
+      == 0 then first_index test (suc start + length entries) others else first_index test
+      (suc start) entries)
+      → (if b then start else first_index test (suc start) (entries ++ others))
+      ≡ (if (if b then start else first_index test (suc start) entries) == 0 then first_index test
+      (start + suc (length entries)) others else if b then start else first_index test (suc start)
+      entries)
+  first_index-append_one start entries others true some rest =
+      sym (ap (λ (b : Bool). if b then first_index test (start + suc (length entries)) others
+      else start) (ne_eqb start 0 (λ e. omega (arith, e))))
+  first_index-append_one start entries others false some rest =
+      rest ∙ ap (λ (n : ℕ). if first_index test (suc start) entries == 0
+      then first_index test n others else first_index test (suc start) entries) (omega arith)
 
--- The first index of two lists, the first one's before the second one's.
-pub first_index-append : (test : Entry → Bool) (start : ℕ) (entries others : List Entry) → 0 < start
-    → first_index test start (entries ++ others)
-    ≡ (if first_index test start entries == 0 then first_index test (start + length entries)
-    others else first_index test start entries)
-unfolding first_index
-first_index-append test start [] others some =
-    ap (λ (n : ℕ). first_index test n others) (omega arith)
-first_index-append test start (one ∷ entries) others some =
-    first_index-append_one test start entries others (test one) some
-    (first_index-append test (suc start) entries others (omega arith))
+  -- The first index of two lists, the first one's before the second one's.
+  pub first_index-append : (start : ℕ) (entries others : List Entry) → 0 < start
+      → first_index test start (entries ++ others) ≡ (if first_index test start entries == 0 then
+      first_index test (start + length entries) others else first_index test start entries)
+  unfolding first_index
+  first_index-append start [] others some = ap (λ (n : ℕ). first_index test n others) (omega arith)
+  first_index-append start (one ∷ entries) others some =
+      first_index-append_one start entries others (test one) some
+      (first_index-append (suc start) entries others (omega arith))
 
--- one entry more, by its test
-first_index-prefix_one : (test : Entry → Bool) (start count : ℕ) (others : List Entry) (b : Bool)
-    → first_index test (suc start) others
-    ≡ (if nat_lt count (length others) then suc start + count else 0)
-    → (if b then start else first_index test (suc start) others)
-    ≡ (if nat_lt (if not b then 1 + count else 0) (suc (length others))
-    then start + (if not b then 1 + count else 0) else 0)
-first_index-prefix_one test start count others true rest =
-    let first : nat_lt 0 (suc (length others)) ≡ true =
-    lt-ltb 0 (suc (length others)) (omega arith) in
-    let same : start ≡ start + 0 = omega arith in
-    same ∙ sym (ap (λ (t : Bool). if t then start + 0 else 0) first)
-first_index-prefix_one test start count others false rest =
-    elim (cases_lt count (length others)) [
-      | inl lt ↦
-          let here : nat_lt count (length others) ≡ true = lt-ltb count (length others) lt in
-          let there : nat_lt (1 + count) (suc (length others)) ≡ true =
-          lt-ltb (1 + count) (suc (length others)) (omega arith) in
-          let same : suc start + count ≡ start + (1 + count) = omega arith in
-          rest ∙ (ap (λ (t : Bool). if t then suc start + count else 0) here
-          ∙ (same ∙ sym (ap (λ (t : Bool). if t then start + (1 + count) else 0) there)))
-      | inr le ↦
-          let here : nat_lt count (length others) ≡ false = le-ltb count (length others) le in
-          let there : nat_lt (1 + count) (suc (length others)) ≡ false =
-          le-ltb (1 + count) (suc (length others)) (omega arith) in
-          rest ∙ (ap (λ (t : Bool). if t then suc start + count else 0) here
-          ∙ sym (ap (λ (t : Bool). if t then start + (1 + count) else 0) there))
-    ]
+  -- one entry more, by its test
+  first_index-prefix_one : (start count : ℕ) (others : List Entry) (b : Bool)
+      → first_index test (suc start) others ≡ (if nat_lt count (length others) then suc start
+      + count else 0)
+      → (if b then start else first_index test (suc start) others)
+      ≡ (if nat_lt (if not b then 1 + count else 0) (suc (length others)) then start
+      + (if not b then 1 + count else 0) else 0)
+  first_index-prefix_one start count others true rest =
+      let first : nat_lt 0 (suc (length others)) ≡ true =
+      lt-ltb 0 (suc (length others)) (omega arith) in
+      let same : start ≡ start + 0 = omega arith in
+      same ∙ sym (ap (λ (t : Bool). if t then start + 0 else 0) first)
+  first_index-prefix_one start count others false rest = elim (cases_lt count (length others)) [
+    | inl lt ↦
+        let here : nat_lt count (length others) ≡ true = lt-ltb count (length others) lt in
+        let there : nat_lt (1 + count) (suc (length others)) ≡ true =
+        lt-ltb (1 + count) (suc (length others)) (omega arith) in
+        let same : suc start + count ≡ start + (1 + count) = omega arith in
+        rest ∙ (ap (λ (t : Bool). if t then suc start + count else 0) here
+        ∙ (same ∙ sym (ap (λ (t : Bool). if t then start + (1 + count) else 0) there)))
+    | inr le ↦
+        let here : nat_lt count (length others) ≡ false = le-ltb count (length others) le in
+        let there : nat_lt (1 + count) (suc (length others)) ≡ false =
+        le-ltb (1 + count) (suc (length others)) (omega arith) in
+        rest ∙ (ap (λ (t : Bool). if t then suc start + count else 0) here
+        ∙ sym (ap (λ (t : Bool). if t then start + (1 + count) else 0) there))
+  ]
 
 -- the index by how many entries fail before it
 first_index-prefix : (test : Entry → Bool) (start : ℕ) (entries : List Entry)

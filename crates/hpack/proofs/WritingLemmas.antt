@@ -12,30 +12,26 @@ pub record IsBegun (state : EncoderState) (maxima : List ℕ) (begun updated : P
     pub updates : represented updated state.table
         ≡ after_updates (represented begun state.table) maxima
 
--- the pending table after the updates
-begun_table : (state : EncoderState) (maxima : List ℕ) (begun updated : PendingTable)
-    → IsBegun state maxima begun updated
-    → represented updated state.table ≡ after_updates state.table (size_updates state)
-begun_table state maxima begun updated is =
-    is.updates ∙ (ap (λ (t : Entries). after_updates t maxima) is.same
-    ∙ ap (λ (ns : List ℕ). after_updates state.table ns) is.due)
+module _ (state : EncoderState) (maxima : List ℕ) (begun updated : PendingTable) where
+  -- the pending table after the updates
+  begun_table : IsBegun state maxima begun updated
+      → represented updated state.table ≡ after_updates state.table (size_updates state)
+  begun_table is = is.updates ∙ (ap (λ (t : Entries). after_updates t maxima) is.same
+      ∙ ap (λ (ns : List ℕ). after_updates state.table ns) is.due)
 
--- The updates and the fields are the block.
-pub block_is_written : (state : EncoderState) (maxima : List ℕ) (begun updated : PendingTable)
-    (fields : List Field) (old between new : List ℕ) → IsBegun state maxima begun updated
-    → between ≡ old ++ flat_map (integer 5 0x20) maxima
-    → new ≡ between ++ encoding_of_fields (represented updated state.table) fields
-    → new ≡ old ++ block_of state fields
-unfolding block_of
-block_is_written state maxima begun updated fields old between new is first then =
-    let updates = flat_map (integer 5 0x20) (size_updates state) in
-    let rest = encoding_of_fields (after_updates state.table (size_updates state)) fields in
-    then
-    ∙ (ap (λ (t : Entries). between ++ encoding_of_fields t fields)
-    (begun_table state maxima begun updated is)
-    ∙ (ap (λ (o : List ℕ). o ++ rest) (first ∙ ap
-    (λ (ns : List ℕ). old ++ flat_map (integer 5 0x20) ns) is.due)
-    ∙ append_assoc old updates rest))
+  -- The updates and the fields are the block.
+  pub block_is_written : (fields : List Field) (old between new : List ℕ)
+      → IsBegun state maxima begun updated → between ≡ old ++ flat_map (integer 5 0x20) maxima
+      → new ≡ between ++ encoding_of_fields (represented updated state.table) fields
+      → new ≡ old ++ block_of state fields
+  unfolding block_of
+  block_is_written fields old between new is first then =
+      let updates = flat_map (integer 5 0x20) (size_updates state) in
+      let rest = encoding_of_fields (after_updates state.table (size_updates state)) fields in
+      then ∙ (ap (λ (t : Entries). between ++ encoding_of_fields t fields) (begun_table is)
+      ∙ (ap (λ (o : List ℕ). o ++ rest) (first ∙ ap
+      (λ (ns : List ℕ). old ++ flat_map (integer 5 0x20) ns) is.due)
+      ∙ append_assoc old updates rest))
 
 -- an encoder after a block
 encoder_after : EncoderState → Entries → EncoderState

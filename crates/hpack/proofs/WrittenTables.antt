@@ -50,42 +50,38 @@ length-static = refl
 no_entry : Entry
 no_entry = record { name = []; value = [] }
 
--- what is found at a place
-found_at : (test : Entry → Bool) (entries : List Entry) (place : Option ℕ)
-    → position test (static_entries ++ entries) ≡ place
-    → 0 < option_map_or suc place 0 → IsFound test entries (option_map_or suc place 0)
-unfolding entry
-found_at test entries None is some = absurd (omega arith)
-found_at test entries (Some place) is some =
-    let at = position-Some test (static_entries ++ entries) place no_entry is in
-    record {
-      found = get_or (static_entries ++ entries) place no_entry;
-      named = slice_get-get_or (static_entries ++ entries) place no_entry at.0;
-      passes = at.1;
-    }
+module _ (test : Entry → Bool) (entries : List Entry) where
+  -- what is found at a place
+  found_at : (place : Option ℕ) → position test (static_entries ++ entries) ≡ place
+      → 0 < option_map_or suc place 0 → IsFound test entries (option_map_or suc place 0)
+  unfolding entry
+  found_at None is some = absurd (omega arith)
+  found_at (Some place) is some =
+      let at = position-Some test (static_entries ++ entries) place no_entry is in
+      record {
+        found = get_or (static_entries ++ entries) place no_entry;
+        named = slice_get-get_or (static_entries ++ entries) place no_entry at.0;
+        passes = at.1;
+      }
 
--- The least index, where it isn't 0, names an entry that passes the test.
-pub least_index_found : (test : Entry → Bool) (entries : List Entry) → 0 < least_index test entries
-    → IsFound test entries (least_index test entries)
-unfolding least_index
-least_index_found test entries some =
-    found_at test entries (position test (static_entries ++ entries)) refl some
+  -- The least index, where it isn't 0, names an entry that passes the test.
+  pub least_index_found : 0 < least_index test entries
+      → IsFound test entries (least_index test entries)
+  unfolding least_index
+  least_index_found some = found_at (position test (static_entries ++ entries)) refl some
 
--- A place is among the entries.
-place_within : (test : Entry → Bool) (entries : List Entry) (place : Option ℕ)
-    → position test (static_entries ++ entries) ≡ place
-    → option_map_or suc place 0 ≤ 61 + length entries
-place_within test entries None is = omega arith
-place_within test entries (Some place) is =
-    let at = position-Some test (static_entries ++ entries) place no_entry is in
-    omega (arith, at.0, length-append static_entries entries, length-static)
+  -- A place is among the entries.
+  place_within : (place : Option ℕ) → position test (static_entries ++ entries) ≡ place
+      → option_map_or suc place 0 ≤ 61 + length entries
+  place_within None is = omega arith
+  place_within (Some place) is =
+      let at = position-Some test (static_entries ++ entries) place no_entry is in
+      omega (arith, at.0, length-append static_entries entries, length-static)
 
--- The least index is among the entries.
-pub least_index_within : (test : Entry → Bool) (entries : List Entry)
-    → least_index test entries ≤ 61 + length entries
-unfolding least_index
-least_index_within test entries =
-    place_within test entries (position test (static_entries ++ entries)) refl
+  -- The least index is among the entries.
+  pub least_index_within : least_index test entries ≤ 61 + length entries
+  unfolding least_index
+  least_index_within = place_within (position test (static_entries ++ entries)) refl
 
 -- The least index is small enough to be written, where the size of the entries is a number of 32
 -- bits.

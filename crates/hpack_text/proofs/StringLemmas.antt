@@ -102,52 +102,48 @@ huffman_fault_encodes_none Fault text octets following none h s =
 abbrev pub LeadingStr : List ℕ → List ℕ → ℕ → Type 0
 LeadingStr octets text count = (count ≤ length octets) × Str text (take count octets)
 
--- Where a string is at the start, no fault but running out of memory is one of the octets.
-pub only_memory : (octets text : List ℕ) (count : ℕ) (fault : TextFault)
-    → Str text (take count octets) → StrFault octets fault → fault ≡ faults.Memory
-only_memory octets text count faults.Truncated encoded (inl cut) =
-    let begins =
-    begins_with_str text (take count octets) (drop count octets) octets encoded
-    (sym (take-append-drop count octets)) in
-    absurd (truncated_encodes_none 7 (length begins.body) octets begins.head
-    (begins.body ++ drop count octets) cut begins.joined begins.head_length)
-only_memory octets text count faults.Truncated encoded (inr short) =
-    let begins =
-    begins_with_str text (take count octets) (drop count octets) octets encoded
-    (sym (take-append-drop count octets)) in
-    absurd (short_encodes_none text octets (drop count octets) short begins)
-only_memory octets text count faults.TooLong encoded h =
-    let begins =
-    begins_with_str text (take count octets) (drop count octets) octets encoded
-    (sym (take-append-drop count octets)) in
-    absurd (too_long_encodes_none 7 (length begins.body) octets begins.head
-    (begins.body ++ drop count octets) h begins.joined begins.head_length)
-only_memory octets text count faults.BadPadding encoded h =
-    let begins =
-    begins_with_str text (take count octets) (drop count octets) octets encoded
-    (sym (take-append-drop count octets)) in
-    absurd (huffman_fault_encodes_none HasBadPadding text octets (drop count octets)
-    (λ body fault. fault.none text) h begins)
-only_memory octets text count faults.EndSymbol encoded h =
-    let begins =
-    begins_with_str text (take count octets) (drop count octets) octets encoded
-    (sym (take-append-drop count octets)) in
-    absurd (huffman_fault_encodes_none HasEndSymbol text octets (drop count octets)
-    (λ body fault. fault.none text) h begins)
-only_memory octets text count faults.Memory encoded h = refl
+module _ (octets text : List ℕ) where
+  -- Where a string is at the start, no fault but running out of memory is one of the octets.
+  pub only_memory : (count : ℕ) (fault : TextFault) → Str text (take count octets)
+      → StrFault octets fault → fault ≡ faults.Memory
+  only_memory count faults.Truncated encoded (inl cut) =
+      let begins = begins_with_str text (take count octets) (drop count octets) octets encoded
+      (sym (take-append-drop count octets)) in
+      absurd (truncated_encodes_none 7 (length begins.body) octets begins.head
+      (begins.body ++ drop count octets) cut begins.joined begins.head_length)
+  only_memory count faults.Truncated encoded (inr short) =
+      let begins = begins_with_str text (take count octets) (drop count octets) octets encoded
+      (sym (take-append-drop count octets)) in
+      absurd (short_encodes_none text octets (drop count octets) short begins)
+  only_memory count faults.TooLong encoded h =
+      let begins = begins_with_str text (take count octets) (drop count octets) octets encoded
+      (sym (take-append-drop count octets)) in
+      absurd (too_long_encodes_none 7 (length begins.body) octets begins.head
+      (begins.body ++ drop count octets) h begins.joined begins.head_length)
+  only_memory count faults.BadPadding encoded h =
+      let begins = begins_with_str text (take count octets) (drop count octets) octets encoded
+      (sym (take-append-drop count octets)) in
+      absurd (huffman_fault_encodes_none HasBadPadding text octets (drop count octets)
+      (λ body fault. fault.none text) h begins)
+  only_memory count faults.EndSymbol encoded h =
+      let begins = begins_with_str text (take count octets) (drop count octets) octets encoded
+      (sym (take-append-drop count octets)) in
+      absurd (huffman_fault_encodes_none HasEndSymbol text octets (drop count octets)
+      (λ body fault. fault.none text) h begins)
+  only_memory count faults.Memory encoded h = refl
 
--- A string that was read is the one that is at the start.
-pub only_one_str : (octets text other : List ℕ) (count used : ℕ) → LeadingStr octets other used
-    → count ≤ length octets → Str text (take count octets) → (other ≡ text) × (used ≡ count)
-only_one_str octets text other count used h within encoded =
-    let whole = take-append-drop used octets ∙ sym (take-append-drop count octets) in
-    let (same, texts) =
-    Str-unique other text (take used octets) (take count octets) (drop used octets)
-    (drop count octets) h.1 encoded whole in (
-      texts,
-      sym (length-take-le used octets h.0)
-          ∙ (ap (λ (xs : List ℕ). length xs) same ∙ length-take-le count octets within),
-    )
+  -- A string that was read is the one that is at the start.
+  pub only_one_str : (other : List ℕ) (count used : ℕ) → LeadingStr octets other used
+      → count ≤ length octets → Str text (take count octets) → (other ≡ text) × (used ≡ count)
+  only_one_str other count used h within encoded =
+      let whole = take-append-drop used octets ∙ sym (take-append-drop count octets) in
+      let (same, texts) =
+      Str-unique other text (take used octets) (take count octets) (drop used octets)
+      (drop count octets) h.1 encoded whole in (
+        texts,
+        sym (length-take-le used octets h.0)
+            ∙ (ap (λ (xs : List ℕ). length xs) same ∙ length-take-le count octets within),
+      )
 
 -- what is said of a string whose text was appended
 abbrev pub AppendsStr : List ℕ → List ℕ → List ℕ → ℕ → Type 0
@@ -195,46 +191,42 @@ pub string-raw : (text : List ℕ) → length text < length (huffman_bits text)
 unfolding string
 string-raw text lt = search rules
 
--- What is written for a string encodes it.
-pub string_encodes : (text : List ℕ) → AllByRecursion IsOctet text → length text < 2 ^ 35
-    → Str text (string text)
-string_encodes text all lt =
-    elim (cases_lt (length text) (length (huffman_bits text))) [
-      | inl longer ↦ record {
-        head = integer 7 0 (length text);
-        body = text;
-        joined = string-raw text longer;
-        head_length = integer_encodes 7 0 (length text) (omega arith) (omega arith) refl lt;
-        holds = subst (λ b. Holds b text text)
-            (sym (ap has_bit_h (sym (append-nil (integer 7 0 (length text))))
-            ∙ raw_head (length text) [])) (refl, all);
-      }
-      | inr no_longer ↦ record {
-        head = integer 7 128 (length (huffman_bits text));
-        body = huffman_bits text;
-        joined = string-huffman_bits text no_longer;
-        head_length =
-            integer_encodes 7 128 (length (huffman_bits text)) (omega arith) (omega arith) refl
-            (omega arith);
-        holds = subst (λ b. Holds b text (huffman_bits text))
-            (sym (ap has_bit_h (sym (append-nil (integer 7 128 (length (huffman_bits text)))))
-            ∙ huffman_head (length (huffman_bits text)) []))
-            (huffman_bits_encode text all);
-      }
-    ]
+module _ (text : List ℕ) where
+  -- What is written for a string encodes it.
+  pub string_encodes : AllByRecursion IsOctet text → length text < 2 ^ 35 → Str text (string text)
+  string_encodes all lt = elim (cases_lt (length text) (length (huffman_bits text))) [
+    | inl longer ↦ record {
+      head = integer 7 0 (length text);
+      body = text;
+      joined = string-raw text longer;
+      head_length = integer_encodes 7 0 (length text) (omega arith) (omega arith) refl lt;
+      holds = subst (λ b. Holds b text text)
+          (sym (ap has_bit_h (sym (append-nil (integer 7 0 (length text))))
+          ∙ raw_head (length text) [])) (refl, all);
+    }
+    | inr no_longer ↦ record {
+      head = integer 7 128 (length (huffman_bits text));
+      body = huffman_bits text;
+      joined = string-huffman_bits text no_longer;
+      head_length =
+          integer_encodes 7 128 (length (huffman_bits text)) (omega arith) (omega arith) refl
+          (omega arith);
+      holds = subst (λ b. Holds b text (huffman_bits text))
+          (sym (ap has_bit_h (sym (append-nil (integer 7 128 (length (huffman_bits text)))))
+          ∙ huffman_head (length (huffman_bits text)) [])) (huffman_bits_encode text all);
+    }
+  ]
 
--- A string is written Huffman-encoded exactly where that isn't longer.
-pub string_huffman_where : (text : List ℕ)
-    → has_bit_h (string text) ≡ nat_le (length (huffman_bits text)) (length text)
-string_huffman_where text =
-    elim (cases_lt (length text) (length (huffman_bits text))) [
-      | inl longer ↦ ap has_bit_h (string-raw text longer)
-          ∙ (raw_head (length text) text
-          ∙ sym (lt-leb (length (huffman_bits text)) (length text) longer))
-      | inr no_longer ↦ ap has_bit_h (string-huffman_bits text no_longer)
-          ∙ (huffman_head (length (huffman_bits text)) (huffman_bits text)
-          ∙ sym (le-leb (length (huffman_bits text)) (length text) no_longer))
-    ]
+  -- A string is written Huffman-encoded exactly where that isn't longer.
+  pub string_huffman_where : has_bit_h (string text) ≡ nat_le (length (huffman_bits text))
+      (length text)
+  string_huffman_where = elim (cases_lt (length text) (length (huffman_bits text))) [
+    | inl longer ↦ ap has_bit_h (string-raw text longer) ∙ (raw_head (length text) text
+        ∙ sym (lt-leb (length (huffman_bits text)) (length text) longer))
+    | inr no_longer ↦ ap has_bit_h (string-huffman_bits text no_longer)
+        ∙ (huffman_head (length (huffman_bits text)) (huffman_bits text)
+        ∙ sym (le-leb (length (huffman_bits text)) (length text) no_longer))
+  ]
 
 -- what is after the first octets, as a slice up to the end
 drop_whole : (octets : List ℕ) (count : ℕ)

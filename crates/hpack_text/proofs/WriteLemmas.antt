@@ -167,40 +167,36 @@ pub AppendsPadded-push : (old new : List ℕ) (count value octet : ℕ) → 0 < 
     → AppendsPadded old new (bits_of count value)
 AppendsPadded-push old new count value octet some padded pushed = search rules
 
--- Where no bits were left, nothing is appended.
-pub AppendsPadded-none : (old : List ℕ) (count value : ℕ) → count ≤ 0
-    → AppendsPadded old old (bits_of count value)
-unfolding bits_of
-AppendsPadded-none old zero value none =
-    record {
-      added = [];
-      joined = sym (append-nil old);
-      octets = tt;
-      padding = 0;
-      short =
-          omega arith;
-      encoded = refl;
-    }
-AppendsPadded-none old (suc count) value none = absurd (omega arith)
+module _ (old : List ℕ) where
+  -- Where no bits were left, nothing is appended.
+  pub AppendsPadded-none : (count value : ℕ) → count ≤ 0
+      → AppendsPadded old old (bits_of count value)
+  unfolding bits_of
+  AppendsPadded-none zero value none =
+      record {
+        added = [];
+        joined = sym (append-nil old);
+        octets = tt;
+        padding = 0;
+        short = omega arith;
+        encoded = refl;
+      }
+  AppendsPadded-none (suc count) value none = absurd (omega arith)
 
--- The codes of a text, and the padding after them, are what is written for it.
-pub written_text : (old mid new text : List ℕ) (left : List Bool)
-    → Appends old mid (codes text) left → AppendsPadded mid new left
-    → new ≡ old ++ huffman_bits text
-written_text old mid new text left adds padded =
-    let whole = adds.added ++ padded.added in
-    let encoded : bits whole ≡ codes text ++ replicate padded.padding true =
-    flat_map-append (bits_of 8) adds.added padded.added
-    ∙ (ap (λ (xs : List Bool). bits adds.added ++ xs) padded.encoded
-    ∙ (sym (append_assoc (bits adds.added) left (replicate padded.padding true))
-    ∙ ap (λ (xs : List Bool). xs ++ replicate padded.padding true) (sym adds.encoded))) in
-    let same : whole ≡ huffman_bits text =
-    is_huffman_bits text whole padded.padding
-    (all_octets-append adds.added padded.added adds.octets padded.octets) padded.short
-    encoded in
-    padded.joined
-    ∙ (ap (λ (xs : List ℕ). xs ++ padded.added) adds.joined
-    ∙ (append_assoc old adds.added padded.added ∙ ap (λ (xs : List ℕ). old ++ xs) same))
+  -- The codes of a text, and the padding after them, are what is written for it.
+  pub written_text : (mid new text : List ℕ) (left : List Bool) → Appends old mid (codes text) left
+      → AppendsPadded mid new left → new ≡ old ++ huffman_bits text
+  written_text mid new text left adds padded =
+      let whole = adds.added ++ padded.added in
+      let encoded : bits whole ≡ codes text ++ replicate padded.padding true =
+      flat_map-append (bits_of 8) adds.added padded.added
+      ∙ (ap (λ (xs : List Bool). bits adds.added ++ xs) padded.encoded
+      ∙ (sym (append_assoc (bits adds.added) left (replicate padded.padding true))
+      ∙ ap (λ (xs : List Bool). xs ++ replicate padded.padding true) (sym adds.encoded))) in
+      let same : whole ≡ huffman_bits text = is_huffman_bits text whole padded.padding
+      (all_octets-append adds.added padded.added adds.octets padded.octets) padded.short encoded in
+      padded.joined ∙ (ap (λ (xs : List ℕ). xs ++ padded.added) adds.joined
+      ∙ (append_assoc old adds.added padded.added ∙ ap (λ (xs : List ℕ). old ++ xs) same))
 
 -- one more octet's code
 pub codes-take-more : (text : List ℕ) (i : ℕ) → i < length text
