@@ -1,11 +1,9 @@
 -- What holds of the commands.
-use Rattle.std.proofs.Common.{◌≡◌, ◌<◌, refl, arith, codes, lit<, true, zero}
-use Rattle.std.proofs.Common.{suc, ℕ}
-use Rattle.std.specs.List.{slice_index_or}
-use Rattle.std.specs.Str.{bytes_eq}
-use Rattle.clap.specs.Words.{Rule}
-use Rattle.h2_args.specs.Commands.{SideNames, get_app, loop_app, number_option_rule, number_rule}
-use Rattle.h2_args.specs.Commands.{replay_app, required_rule, serve_app, show_app}
+use Rattle.h2_args.proofs.Names.{◌≡◌, ◌<◌, refl, arith, codes, true, ℕ, slice_index_or, bytes_eq}
+use Rattle.h2_args.proofs.Names.{Rule, get_app, loop_app, number_option_rule, number_rule}
+use Rattle.h2_args.proofs.Names.{replay_app, required_rule, serve_app, show_app}
+use Rattle.std.proofs.Common.{lit<, zero, suc}
+use Rattle.h2_args.specs.Commands.{SideNames}
 use Rattle.h2_args.proofs.RequiredLemmas.{IsAlone, IsNamedAt, IsRequiredAt}
 
 pub show_is_alone : (names : SideNames) → IsAlone (show_app names)

@@ -1,11 +1,9 @@
 -- What the words give where a parse succeeds.
-use Rattle.std.proofs.Common.{◌≡◌, ◌∙◌, true, sym, ap, List, [], Some, None}
+use Rattle.h2_args.proofs.Names.{◌≡◌, ◌∙◌, true, sym, ap, List, [], Some, None, App, Row, Text}
+use Rattle.h2_args.proofs.Names.{app_of, fault_of, found_of, is_simple_and_free, rows_of, is_empty}
+use Rattle.h2_args.proofs.Names.{Command, ArgMatches}
 use Rattle.std.specs.Prelude.{if◌then◌else◌}
-use Rattle.clap.specs.Words.{App, HasMatchesOf, Kinds, Row, Text, app_of, fault_of, found_of}
-use Rattle.clap.specs.Words.{is_simple, is_simple_and_free, matches_of, rows_of}
-use Rattle.clap.specs.Walk.{is_empty}
-use Rattle.clap.specs.declared.builder.command.Command.{Command}
-use Rattle.clap.specs.declared.parser.matches.ArgMatches.{ArgMatches}
+use Rattle.clap.specs.Words.{HasMatchesOf, Kinds, is_simple, matches_of}
 use Rattle.h2_args.specs.Words.{given_by}
 
 -- At an `Ok` the words give what the matches found say.

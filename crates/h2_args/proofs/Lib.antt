@@ -4,3 +4,4 @@ pub mod CommandLemmas
 pub mod OptionLemmas
 pub mod NumberOptionLemmas
 pub mod examples
+pub mod Names

@@ -1,30 +1,23 @@
 -- What a parse gives an option of a number, by what clap reads of the command.
-use Rattle.std.proofs.Common.{◌≡◌, ◌∙◌, ◌<◌, ◌≤◌, ℕ, Bool, true, refl, sym, ap, subst, arith, inl}
-use Rattle.std.proofs.Common.{inr, List, [], ◌∷◌, length, Option, Some, None, option_map}
-use Rattle.std.specs.List.{All, slice_index_or}
+use Rattle.h2_args.proofs.Names.{◌≡◌, ◌∙◌, ◌<◌, ◌≤◌, ℕ, Bool, true, refl, sym, ap, subst, arith}
+use Rattle.h2_args.proofs.Names.{inl, inr, List, [], ◌∷◌, length, Option, Some, None}
+use Rattle.h2_args.proofs.Names.{slice_index_or, bytes_eq, ParsesUnsigned, digits_value}
+use Rattle.h2_args.proofs.Names.{without_leading_plus, pos, unwrap_or, Result, Ok, ◌^◌}
+use Rattle.h2_args.proofs.Names.{bytes_eq-Decides, App, IsParsedFrom, Row, Rule, Text, Accepts}
+use Rattle.h2_args.proofs.Names.{app_of, args_of, found_of, one_of, one_text, read_as, reading_of}
+use Rattle.h2_args.proofs.Names.{rows_of, rule_of, ReadsOne, without_minus, IsAuto, Arg, Command}
+use Rattle.h2_args.proofs.Names.{ValueParser, Signed, ArgMatches, Found, signed_reads}
+use Rattle.h2_args.proofs.Names.{one_text-rows, number_option_rule}
+use Rattle.std.proofs.Common.{option_map}
+use Rattle.std.specs.List.{All}
 use Rattle.std.specs.Borrow.{Bor}
-use Rattle.std.specs.Str.{bytes_eq}
-use Rattle.std.specs.Str.Parse.{ParsesUnsigned, digits_value, without_leading_plus}
-use Rattle.std.specs.Prelude.{pos, unwrap_or, Result, Ok, ◌^◌, slice_get}
+use Rattle.std.specs.Prelude.{slice_get}
 use Rattle.std.proofs.lemmas.List.Elements.{All-get_or}
-use Rattle.std.proofs.lemmas.Slice.Eq.{bytes_eq-Decides}
-use Rattle.clap.specs.Words.{App, IsParsedFrom, Row, Rule, SameRules, Text, Accepts, app_of}
-use Rattle.clap.specs.Words.{args_of, found_of, groups_of, matched_of, one_of, one_text, parser_of}
-use Rattle.clap.specs.Words.{read_as, reading_of, rows_of, rule_of, ReadsOne, without_minus}
+use Rattle.clap.specs.Words.{SameRules, groups_of, matched_of, parser_of}
 use Rattle.clap.specs.Facts.{Entry, EntryPasses, HasReading, PassesArg, ValuesPass, parser_of_value}
-use Rattle.clap.specs.Built.{IsAuto}
-use Rattle.clap.specs.declared.builder.arg.Arg.{Arg}
-use Rattle.clap.specs.declared.builder.command.Command.{Command}
 use Rattle.clap.specs.declared.builder.value_parser.Reading.{Reading}
-use Rattle.clap.specs.declared.builder.value_parser.ValueParser.{ValueParser}
-use Rattle.clap.specs.declared.builder.value_parser.ValueParser.TheVariants.{Signed}
-use Rattle.clap.specs.declared.parser.matches.ArgMatches.{ArgMatches}
-use Rattle.clap.specs.declared.parser.matches.Found.{Found}
 use Rattle.clap.specs.declared.parser.matches.MatchedArg.{MatchedArg}
 use Rattle.clap.proofs.CallerLemmas.{entry_by_id, same_rules_by_id}
-use Rattle.clap.proofs.CallerReads.{signed_reads}
-use Rattle.clap.proofs.WalkLemmas.{one_text-rows}
-use Rattle.h2_args.specs.Commands.{number_option_rule}
 use Rattle.h2_args.specs.Words.{number_or}
 use Rattle.h2_args.proofs.RequiredLemmas.{IsAlone, IsNamedAt, head, inside, named, own, plain, rule}
 use Rattle.h2_args.proofs.RequiredLemmas.{simple, unique}

@@ -1,13 +1,8 @@
 -- What the getters of flags and options read, by the rows of the matches.
-use Rattle.std.proofs.Common.{◌≡◌, ◌∙◌, Bool, true, false, refl, sym, ap, Option, Some, None, codes}
-use Rattle.std.specs.Prelude.{unwrap_or}
-use Rattle.std.specs.Str.{bytes_eq}
+use Rattle.h2_args.proofs.Names.{◌≡◌, ◌∙◌, Bool, true, false, refl, sym, ap, Option, Some, None}
+use Rattle.h2_args.proofs.Names.{codes, unwrap_or, bytes_eq, bytes_eq-Decides, ReadsOne, Text}
+use Rattle.h2_args.proofs.Names.{one_of, one_text, rows_of, Found, one_text-rows}
 use Rattle.std.specs.Str.Parse.{ParsesBool}
-use Rattle.std.proofs.lemmas.Slice.Eq.{bytes_eq-Decides}
-use Rattle.clap.specs.Words.{ReadsOne, Text, one_of, one_text}
-use Rattle.clap.specs.Words.{rows_of}
-use Rattle.clap.specs.declared.parser.matches.Found.{Found}
-use Rattle.clap.proofs.WalkLemmas.{one_text-rows}
 use Rattle.h2_args.specs.Words.{is_set}
 
 -- A flag is read as set where its value is `true`.

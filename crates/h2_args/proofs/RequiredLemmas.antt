@@ -1,33 +1,26 @@
 -- What a parse gives a required argument, by what clap reads of the command.
-use Rattle.std.proofs.Common.{◌≡◌, ◌∙◌, ◌<◌, ◌≤◌, ℕ, true, false, refl, sym, ap, subst}
-use Rattle.std.proofs.Common.{arith, inl, inr, List, [], ◌∷◌, length, Option, Some, None, codes}
-use Rattle.std.proofs.Common.{is_some, ◌||◌}
-use Rattle.std.specs.List.{list_all, slice_index_or}
-use Rattle.std.specs.Str.{bytes_eq}
-use Rattle.std.specs.Str.Parse.{ParsesUnsigned, digits_value, without_leading_plus}
-use Rattle.std.specs.Prelude.{pos, unwrap_or, Result, Ok, ◌^◌}
+use Rattle.h2_args.proofs.Names.{◌≡◌, ◌∙◌, ◌<◌, ◌≤◌, ℕ, true, false, refl, sym, ap, subst, arith}
+use Rattle.h2_args.proofs.Names.{inl, inr, List, [], ◌∷◌, length, Option, Some, None, codes}
+use Rattle.h2_args.proofs.Names.{is_some, slice_index_or, bytes_eq, ParsesUnsigned, digits_value}
+use Rattle.h2_args.proofs.Names.{without_leading_plus, pos, unwrap_or, Result, Ok, ◌^◌, App}
+use Rattle.h2_args.proofs.Names.{IsParsedFrom, Rule, Text, Accepts, app_of, args_of, first_of}
+use Rattle.h2_args.proofs.Names.{found_of, one_of, one_text, read_as, reading_of, rows_of, rule_of}
+use Rattle.h2_args.proofs.Names.{ReadsOne, Row, without_minus, is_empty, IsAuto, Arg, Command}
+use Rattle.h2_args.proofs.Names.{ValueParser, Signed, ArgMatches, signed_reads, first_value-rows}
+use Rattle.h2_args.proofs.Names.{one_text-rows, number_rule, number_given}
+use Rattle.std.proofs.Common.{◌||◌}
+use Rattle.std.specs.List.{list_all}
 use Rattle.std.proofs.lemmas.List.{get_or-map, length-map}
-use Rattle.clap.specs.Words.{App, IsParsedFrom, IsPlain, Rule, Text, Accepts, app_of}
-use Rattle.clap.specs.Words.{args_of, first_of, first_value, found_of, one_of, one_text, read_as}
-use Rattle.clap.specs.Words.{reading_of, rows_of, rule_of, ReadsOne, Row, without_minus}
-use Rattle.clap.specs.Walk.{is_empty}
+use Rattle.clap.specs.Words.{IsPlain, first_value}
 use Rattle.clap.specs.Simple.{IsSimple, is_ready, is_ready_leaf}
 use Rattle.clap.specs.Facts.{least_values, unwrap_or_range}
 use Rattle.clap.specs.Faults.{has_free_rules}
-use Rattle.clap.specs.Built.{IsAuto}
 use Rattle.clap.specs.declared.builder.action.ArgAction.TheVariants.{Set}
-use Rattle.clap.specs.declared.builder.arg.Arg.{Arg}
-use Rattle.clap.specs.declared.builder.command.Command.{Command}
-use Rattle.clap.specs.declared.builder.value_parser.ValueParser.{ValueParser}
-use Rattle.clap.specs.declared.builder.value_parser.ValueParser.TheVariants.{Signed}
-use Rattle.clap.specs.declared.parser.matches.ArgMatches.{ArgMatches}
 use Rattle.clap.proofs.CallerLemmas.{required_has_value}
-use Rattle.clap.proofs.CallerReads.{required_reads, signed_reads}
+use Rattle.clap.proofs.CallerReads.{required_reads}
 use Rattle.clap.proofs.FaultLemmas.{free_args}
 use Rattle.clap.proofs.SimpleLemmas.{ready_simple, simple_groups}
-use Rattle.clap.proofs.WalkLemmas.{both, first_value-rows, one_text-rows}
-use Rattle.h2_args.specs.Commands.{number_rule}
-use Rattle.h2_args.specs.Words.{number_given}
+use Rattle.clap.proofs.WalkLemmas.{both}
 
 -- the command has no rule of one argument on another, and no argument that changes how words are
 -- read

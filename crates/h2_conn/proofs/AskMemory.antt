@@ -3,7 +3,7 @@ use Rattle.h2_conn.proofs.Names.{◌≡◌, ◌≢◌, ◌∙◌, ◌+◌, ◌�
 use Rattle.h2_conn.proofs.Names.{None, is_some, Result, Err, refl, ap, sym, arith, Code, Refusal}
 use Rattle.h2_conn.proofs.Names.{Memory, Values, returns_before_put_out, Log, log_view, View, End}
 use Rattle.h2_conn.proofs.Names.{end_view, Represents, views_alike, CutterState, PartsRepresent}
-use Rattle.std.proofs.Common.{IsSome}
+use Rattle.h2_conn.proofs.Names.{IsSome}
 use Rattle.h2_spec_log.specs.declared.refusal.Refusal.TheVariants.{Closed}
 use Rattle.h2_spec_log.specs.CallRules.{sends_no_data}
 

@@ -54,8 +54,7 @@ pub use Rattle.h2_spec_machine.specs.Machine.{with_begun}
 pub use Rattle.h2_spec_machine.specs.Represents.{Represents}
 pub use Rattle.h2_wire.proofs.ReadingLemmas.{none_some}
 pub use Rattle.h2_wire.specs.Cutter.{body_at, CutterLimited, CutterRepresents, CutterState}
-pub use Rattle.h2_wire.specs.Cutter.{data_of_frame}
-pub use Rattle.h2_wire.specs.Cutter.{saturated}
+pub use Rattle.h2_wire.specs.Cutter.{data_of_frame, saturated}
 pub use Rattle.h2_wire.specs.Faults.{wire_fault_code}
 pub use Rattle.h2_wire.specs.Streams.{Frames, Limits}
 pub use Rattle.h2_wire.specs.declared.cut.Complete.{Complete}
@@ -63,9 +62,10 @@ pub use Rattle.h2_wire.specs.declared.fault.WireFault.{WireFault}
 pub use Rattle.hpack.specs.declared.types.field.Field.{Field}
 pub use Rattle.hpack_text.proofs.ReadLemmas.{all_octets}
 pub use Rattle.std.proofs.Common.{[], ap, arith, Bool, drop, Err, false, IfOk, IfSome}
-pub use Rattle.std.proofs.Common.{if◌then◌else◌, inl, inr, is_some, length, List, min, nat_le}
-pub use Rattle.std.proofs.Common.{nat_lt, None, not, Ok, Option, refl, Result, rules, Some, subst}
-pub use Rattle.std.proofs.Common.{suc, sym, take, true, ℕ, ◌++◌, ◌+◌, ◌||◌, ◌∙◌, ◌∷◌, ◌≡◌, ◌≢◌, ◌≤◌}
+pub use Rattle.std.proofs.Common.{if◌then◌else◌, inl, inr, is_some, IsSome, length, List, min}
+pub use Rattle.std.proofs.Common.{nat_le, nat_lt, None, not, Ok, Option, refl, Result, rules, Some}
+pub use Rattle.std.proofs.Common.{subst, suc, sym, take, true, ℕ, ◌++◌, ◌+◌, ◌||◌, ◌∙◌, ◌∷◌, ◌≡◌}
+pub use Rattle.std.proofs.Common.{◌≢◌, ◌≤◌}
 pub use Rattle.std.proofs.Math.Seq.{take-length}
 pub use Rattle.std.proofs.lemmas.Bool.Decides.{nat_tests}
 pub use Rattle.std.proofs.lemmas.List.{length-take-le, take-append-drop}

@@ -3,8 +3,7 @@
 use Rattle.h2_conn.proofs.Names.{◌≡◌, ℕ, Bool, List, [], ◌∷◌, Option, Some, None, Ok, IfSome, refl}
 use Rattle.h2_conn.proofs.Names.{sym, ap, subst, ◌∙◌, option_map, Field, Frame, Complete}
 use Rattle.h2_conn.proofs.Names.{CutterState, body_at, data_of_frame, alone, block, Event, View}
-use Rattle.h2_conn.proofs.Names.{Verdict}
-use Rattle.h2_conn.proofs.Names.{ConnectionFault, StreamFault, NoEvent, Reported, Decoded}
+use Rattle.h2_conn.proofs.Names.{Verdict, ConnectionFault, StreamFault, NoEvent, Reported, Decoded}
 use Rattle.h2_conn.proofs.Names.{FrameStep, fails_with, begins_block, completes, frame_step}
 use Rattle.h2_conn.proofs.Names.{verdict_of, End, end_view, with_begun, after_frame, FrameEvent}
 use Rattle.h2_conn.proofs.Names.{IsDecodedBy, step_events, frame_events, FrameTaken, LocatedEvent}

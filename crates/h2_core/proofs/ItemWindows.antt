@@ -1,8 +1,9 @@
 -- Windows of streams in the numbers that the code keeps them in: what is near zero doesn't wrap.
 use Rattle.h2_core.proofs.Names.{◌≡◌, ℕ, ◌<◌, ◌^◌, Bool, false, ℤ, pos, ◌+ℤ◌, ◌-ℤ◌, arith}
 use Rattle.h2_core.proofs.Names.{nat_tests, ints, greatest_window, overflows_by, exceeds, is_far}
+use Rattle.h2_core.proofs.Names.{true, ◌≤◌}
 use lib.Signed.{mag}
-use Rattle.std.proofs.Common.{int_lt, FitsSigned, to_z, of_z, w64, true, ◌≤◌}
+use Rattle.std.proofs.Common.{int_lt, FitsSigned, to_z, of_z, w64}
 
 -- A window is itself.
 pub kept_is : (window : ℤ) → is_far window ≡ false → to_z w64 (of_z w64 window) ≡ window

@@ -5,11 +5,10 @@ use Rattle.h2_ends.proofs.Names.{is_too_large, active, MayAnswer, IsOver, Malfor
 use Rattle.h2_ends.proofs.Names.{trailer_fields, broken_by_response, End, Outgoing, Stream, EndLog}
 use Rattle.h2_ends.proofs.Names.{message_for, end_with_message, IsAsked, is_head_alone}
 use Rattle.h2_ends.proofs.Names.{RefusesMessage, IsUnchanged, EndRepresents, IsStream, kept_at, inr}
+use Rattle.h2_ends.proofs.Names.{sameb, the_type}
 use Rattle.h2_ends.specs.EndCalls.{MayRespond, IsNotAsked, broken_by_answer}
 use Rattle.h2_ends.specs.Represents.{IsKept, IsOutgoing}
 use Rattle.std.specs.Prelude.{Ok, Err}
-use denote.Enum.Bare.{sameb}
-use Rattle.h2_spec_log.specs.contracts.role.Role.{the_type}
 use Rattle.h2_ends.proofs.RequestHeads.{server_reads}
 use Rattle.h2_ends.proofs.RequestSends.{is_server_by}
 use Rattle.h2_ends.specs.declared.outgoing.Outgoing.TheVariants as outgoings

@@ -2,10 +2,10 @@
 use Rattle.h2_ends.proofs.Names.{◌≡◌, inl, inr, ℕ, ◌+◌, ◌<◌, ◌≤◌, ◌^◌, Bool, true, false, List}
 use Rattle.h2_ends.proofs.Names.{length, take, drop, length-drop, ◌-◌, Vec, Global, Option, Some}
 use Rattle.h2_ends.proofs.Names.{None, min, refl, sym, ap, ◌∙◌, subst, arith, take-length}
-use Rattle.h2_ends.proofs.Names.{AllByRecursion, Field, Role, Refusal, Values, Act}
-use Rattle.h2_ends.proofs.Names.{Answer, SendFields, SendData, Count, Done, Refused, Conn}
-use Rattle.h2_ends.proofs.Names.{ConnAnswers, Stream, Waiting, Spans, Sent, Stuck, SendState}
-use Rattle.h2_ends.proofs.Names.{EndLog, end_after_call, IsStopped, Sends}
+use Rattle.h2_ends.proofs.Names.{AllByRecursion, Field, Role, Refusal, Values, Act, Answer}
+use Rattle.h2_ends.proofs.Names.{SendFields, SendData, Count, Done, Refused, Conn, ConnAnswers}
+use Rattle.h2_ends.proofs.Names.{Stream, Waiting, Spans, Sent, Stuck, SendState, EndLog}
+use Rattle.h2_ends.proofs.Names.{end_after_call, IsStopped, Sends}
 use Rattle.h2_spec_log.specs.Acts.{IsTypedAct}
 use Rattle.h2_ends.specs.Sends.{HasGone, StopsBy}
 use Rattle.std.proofs.Common.{not, is_some, is_none, option_map, Result, Ok}

@@ -1,10 +1,10 @@
 -- Octets of a body are reported of active streams alone.
 use Rattle.h2_ends.proofs.Names.{◌≡◌, ℕ, Bool, true, List, [], ◌∷◌, ◌++◌, Option, Some, None, sym}
-use Rattle.h2_ends.proofs.Names.{ap, ◌∙◌, subst, Frame, Data, Item, alone, Event, DataEvent}
+use Rattle.h2_ends.proofs.Names.{ap, ◌∙◌, subst, Data, Item, alone, Event, DataEvent}
 use Rattle.h2_ends.proofs.Names.{UnprocessedEvent, Log, active, View, log_view, Verdict}
 use Rattle.h2_ends.proofs.Names.{ConnectionFault, StreamFault, NoEvent, Reported, MayTake, Took}
 use Rattle.h2_ends.proofs.Names.{reports_unprocessed, ends_no_frame, ends_frame, meets_fault}
-use Rattle.h2_frame.specs.Frames.{Reset, Settings, Ping, GoAway}
+use Rattle.h2_frame.specs.Frames.{Frame, Reset, Settings, Ping, GoAway}
 use Rattle.h2_block.specs.Grouping.{block}
 use Rattle.h2_spec_log.specs.Log.{state, next_unprocessed}
 use Rattle.h2_spec_log.specs.LogSteps.{read, used, with_verdict, with_step, with_frame, took_frame}

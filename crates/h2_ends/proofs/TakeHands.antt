@@ -8,17 +8,16 @@ use Rattle.h2_ends.proofs.Names.{Handed, BodyHanded, Passed, EndAnswer, EndTook,
 use Rattle.h2_ends.proofs.Names.{parts_on, EndMayTake, IsReadableWith, end_with_log}
 use Rattle.h2_ends.proofs.Names.{end_with_handed, passes, hands_out, refusal_fails, Span}
 use Rattle.h2_ends.proofs.Names.{EndRepresents, InSpan, IsReadOn, MustRefuse, HasReported}
-use Rattle.h2_ends.proofs.Names.{code_unread}
+use Rattle.h2_ends.proofs.Names.{code_unread, handed_value, LocatedPart}
 use Rattle.h2_laws_pair.specs.Tokens.{tokens_of_event}
 use Rattle.h2_ends.specs.Ends.{reads_on, handed_as, handed_at, part_of_event, tokens_of_part}
-use Rattle.h2_ends.specs.Loans.{BodyLiesIn, handed_value, located_at}
+use Rattle.h2_ends.specs.Loans.{BodyLiesIn, located_at}
 use Rattle.h2_ends.specs.Taking.{ReadsFields, ReadsData, AnswersRefusal, IsRead, IsResetBy}
 use Rattle.h2_ends.specs.Taking.{answer_of_report}
 use Rattle.h2_laws_end.specs.Activity.{take_has_fields, take_has_data, take_may_close}
 use Rattle.h2_laws_end.specs.Activity.{event_may_close}
 use Rattle.std.proofs.Common.{Ok, Err, Result, IfOk}
 use Rattle.h2_conn.specs.declared.taken.ConnFault.{ConnFault}
-use Rattle.h2_ends.specs.EndEvents.{LocatedPart}
 use Rattle.h2_ends.specs.declared.taking.Unread.{Unread}
 use Rattle.h2_ends.specs.EndTakes.{refuses, runs_out_of_memory}
 use Rattle.h2_laws_pair.proofs.StepUnprocessed.{role_by_take as take_role}

@@ -2,10 +2,6 @@
 pub use Rattle.h2_block.specs.Grouping.{alone}
 pub use Rattle.h2_conn.specs.Conn.{ConnRepresents, GivesOut}
 pub use Rattle.h2_conn.specs.declared.taken.ConnFault.{ConnFault}
-pub use Rattle.h2_laws_end.proofs.Failures.{items_failed}
-pub use Rattle.h2_laws_end.proofs.TakeAnswers.{log_after_take}
-pub use Rattle.h2_laws_end.specs.Takes.{ends_frame, ends_no_frame, Failed, MayTake, meets_fault}
-pub use Rattle.h2_laws_end.specs.Takes.{TakeAnswer, Took}
 pub use Rattle.h2_ends.proofs.ControlStart.{none_sent}
 pub use Rattle.h2_ends.proofs.EndTokens.{take_calls}
 pub use Rattle.h2_ends.proofs.PumpWindows.{refused_failed}
@@ -13,6 +9,7 @@ pub use Rattle.h2_ends.proofs.TakeRefusing.{memory_fails}
 pub use Rattle.h2_ends.specs.EndCalls.{data_refused, MayPump, MayReleaseAll, MayRequest, MayRespond}
 pub use Rattle.h2_ends.specs.EndCalls.{Pumps, pumps_data, pumps_no_more, pumps_trailers, Releases}
 pub use Rattle.h2_ends.specs.EndCalls.{releases_one, releases_refused, trailers_refused}
+pub use Rattle.h2_ends.specs.EndEvents.{LentPart}
 pub use Rattle.h2_ends.specs.EndTakes.{end_with_log, EndMayTake, hands_nothing, hands_out, passes}
 pub use Rattle.h2_ends.specs.EndTakes.{refusal_fails}
 pub use Rattle.h2_ends.specs.Ends.{BodyHanded, EndAnswer, EndFailed, EndLog, EndTook, Handed}
@@ -21,7 +18,6 @@ pub use Rattle.h2_ends.specs.Ends.{Passed, reads_on, tokens_given, TrailersHande
 pub use Rattle.h2_ends.specs.Loans.{event_handed}
 pub use Rattle.h2_ends.specs.Represents.{EndAnswers, EndRepresents, EndTakes, new_end_log}
 pub use Rattle.h2_ends.specs.declared.end.End.{End}
-pub use Rattle.h2_ends.specs.EndEvents.{LentPart}
 pub use Rattle.h2_ends.specs.declared.event.EndTaken.{EndTaken}
 pub use Rattle.h2_ends.specs.declared.refusal.EndRefusal.{EndRefusal}
 pub use Rattle.h2_engines.specs.Answers.{answer_to, answer_with, body_in, body_of_parts}
@@ -67,8 +63,37 @@ pub use Rattle.h2_engines.specs.declared.request.Request.{Request}
 pub use Rattle.h2_engines.specs.declared.responder.Responder.{Responder}
 pub use Rattle.h2_frame.specs.declared.code.Code.{Code}
 pub use Rattle.h2_frame.specs.declared.code.Code.TheVariants.{InternalError}
+pub use Rattle.h2_laws_end.proofs.Failures.{items_failed}
+pub use Rattle.h2_laws_end.proofs.TakeAnswers.{log_after_take}
+pub use Rattle.h2_laws_end.specs.Takes.{ends_frame, ends_no_frame, Failed, MayTake, meets_fault}
+pub use Rattle.h2_laws_end.specs.Takes.{TakeAnswer, Took}
+pub use Rattle.h2_laws_log.proofs.LogGrowth.{grows_call}
+pub use Rattle.h2_laws_log.proofs.PartsStay.{call_calls}
+pub use Rattle.h2_laws_machine.specs.Machines.{log_after}
+pub use Rattle.h2_laws_pair.proofs.FaultsInvariant.{first_in, later_in}
+pub use Rattle.h2_laws_pair.proofs.LogOutput.{gives_call}
+pub use Rattle.h2_laws_pair.proofs.StepCalls.{call_given}
+pub use Rattle.h2_laws_pair.specs.Pairs.{given_out}
+pub use Rattle.h2_laws_pair.specs.Tokens.{EndToken, is_head_alone, OctetToken, Token}
+pub use Rattle.h2_laws_pair.specs.Tokens.{tokens_of_call, tokens_sent}
+pub use Rattle.h2_laws_pair.specs.Undisturbed.{WasAsked}
 pub use Rattle.h2_link.specs.Links.{StallsAtNoProgress, WritesAll}
 pub use Rattle.h2_link.specs.declared.error.LinkError.{LinkError}
+pub use Rattle.h2_message.proofs.PhaseSteps.{after_both}
+pub use Rattle.h2_message.specs.Fields.{method_of, path_of, value_or_nothing}
+pub use Rattle.h2_message.specs.Messages.{first_broken, interim_rules, SentMessage}
+pub use Rattle.h2_message.specs.Phases.{ends_message, phase_after, phase_after_all}
+pub use Rattle.h2_message.specs.Phases.{phase_after_head, place_after, place_at_head, place_in}
+pub use Rattle.h2_message.specs.Reading.{BreakNone, ended, FieldsPart, final_parts, IsReadable}
+pub use Rattle.h2_message.specs.Reading.{message_parts, OctetsPart, Part}
+pub use Rattle.h2_message.specs.Values.{message_value}
+pub use Rattle.h2_message.specs.declared.malformed.Malformed.{Malformed}
+pub use Rattle.h2_message.specs.declared.message.Message.{Message}
+pub use Rattle.h2_message.specs.declared.reading.Phase.{Phase}
+pub use Rattle.h2_message.specs.declared.reading.Phase.TheVariants.{AtHead}
+pub use Rattle.h2_message.specs.declared.reading.Place.{Place}
+pub use Rattle.h2_message.specs.declared.reading.Reads.{Reads}
+pub use Rattle.h2_message.specs.declared.reading.Reads.TheVariants.{Responses}
 pub use Rattle.h2_spec_log.proofs.StreamLemmas.{Keeps-call}
 pub use Rattle.h2_spec_log.specs.Acts.{Act, Answer, AreInRange, Count, Done, IsTypedAct, Number}
 pub use Rattle.h2_spec_log.specs.Acts.{Open, OutOfMemory, PutOut, Refuse, Refused, ResetStream}
@@ -87,31 +112,6 @@ pub use Rattle.h2_spec_log.specs.declared.refusal.Refusal.{Refusal}
 pub use Rattle.h2_spec_log.specs.declared.refusal.Refusal.TheVariants.{Memory, TooManyResets}
 pub use Rattle.h2_spec_log.specs.declared.role.Role.{Role}
 pub use Rattle.h2_spec_log.specs.declared.role.Role.TheVariants.{Client, Server}
-pub use Rattle.h2_laws_log.proofs.LogGrowth.{grows_call}
-pub use Rattle.h2_laws_log.proofs.PartsStay.{call_calls}
-pub use Rattle.h2_laws_machine.specs.Machines.{log_after}
-pub use Rattle.h2_message.proofs.PhaseSteps.{after_both}
-pub use Rattle.h2_message.specs.Fields.{method_of, path_of, value_or_nothing}
-pub use Rattle.h2_message.specs.Messages.{first_broken, interim_rules, SentMessage}
-pub use Rattle.h2_message.specs.Phases.{ends_message, phase_after, phase_after_all}
-pub use Rattle.h2_message.specs.Phases.{phase_after_head, place_after, place_at_head, place_in}
-pub use Rattle.h2_message.specs.Reading.{BreakNone, ended, FieldsPart, final_parts, IsReadable}
-pub use Rattle.h2_message.specs.Reading.{message_parts, OctetsPart, Part}
-pub use Rattle.h2_message.specs.Values.{message_value}
-pub use Rattle.h2_message.specs.declared.malformed.Malformed.{Malformed}
-pub use Rattle.h2_message.specs.declared.message.Message.{Message}
-pub use Rattle.h2_message.specs.declared.reading.Phase.{Phase}
-pub use Rattle.h2_message.specs.declared.reading.Phase.TheVariants.{AtHead}
-pub use Rattle.h2_message.specs.declared.reading.Place.{Place}
-pub use Rattle.h2_message.specs.declared.reading.Reads.{Reads}
-pub use Rattle.h2_message.specs.declared.reading.Reads.TheVariants.{Responses}
-pub use Rattle.h2_laws_pair.proofs.FaultsInvariant.{first_in, later_in}
-pub use Rattle.h2_laws_pair.proofs.LogOutput.{gives_call}
-pub use Rattle.h2_laws_pair.proofs.StepCalls.{call_given}
-pub use Rattle.h2_laws_pair.specs.Pairs.{given_out}
-pub use Rattle.h2_laws_pair.specs.Tokens.{EndToken, is_head_alone, OctetToken, Token}
-pub use Rattle.h2_laws_pair.specs.Tokens.{tokens_of_call, tokens_sent}
-pub use Rattle.h2_laws_pair.specs.Undisturbed.{WasAsked}
 pub use Rattle.hpack.specs.declared.types.field.Field.{Field}
 pub use Rattle.std.proofs.Common.{[], ap, append-nil, append_assoc, arith, Bool, Bor, drop, Err}
 pub use Rattle.std.proofs.Common.{false, Global, inl, inr, length, List, None, Ok, Option}
@@ -128,4 +128,3 @@ pub use Rattle.std.specs.Io.KnownBytes.{Appends}
 pub use Rattle.std.specs.List.{AllByRecursion, Contains, slice_get}
 pub use Rattle.std.specs.Prelude.{IfErr, nat_lt}
 pub use Rattle.std.specs.Str.{bytes_eq}
-pub use Rattle.std.proofs.lemmas.Grind.{common_steps}

@@ -1,21 +1,17 @@
 -- Octets that are handed to `take` again and again.
-use Rattle.std.proofs.Common.{◌≡◌, ℕ, ◌-◌, List, [], ◌++◌, length, take, drop, Option, Some}
-use Rattle.std.proofs.Common.{None, refl, sym, ap, subst, ◌∙◌, append_assoc, append-nil}
-use Rattle.h2_frame.specs.declared.code.Code.{Code}
-use Rattle.h2_spec_log.specs.Acts.{Values}
-use Rattle.h2_spec_log.specs.Acts as logs
-use Rattle.h2_spec_log.specs.Log.{Log}
+use Rattle.h2_replay.proofs.Names.{◌≡◌, ℕ, ◌-◌, List, [], ◌++◌, length, take, drop, Option, Some}
+use Rattle.h2_replay.proofs.Names.{None, refl, sym, ap, subst, ◌∙◌, append_assoc, append-nil, Code}
+use Rattle.h2_replay.proofs.Names.{Values, Log, Conn, ConnRepresents, Next, kept_by_octets}
+use Rattle.h2_replay.proofs.Names.{KeepsNews, GoesOn}
+use Rattle.h2_replay.specs.Replay.{all_by_octets}
 use Rattle.h2_laws_end.specs.Replays.{TakesAll, is_done, goes_on, has_fault}
-use Rattle.h2_conn.specs.declared.conn.Conn.{Conn}
-use Rattle.h2_conn.specs.Conn.{ConnRepresents}
-use Rattle.h2_replay.specs.declared.taking.Next.{Next}
-use Rattle.h2_replay.specs.declared.taking.Next.TheVariants as nexts
 use Rattle.h2_replay.specs.declared.turns.Turn.{Turn}
-use Rattle.h2_replay.specs.declared.turns.Answer.TheVariants as answers
-use Rattle.h2_replay.specs.Replay.{all_by_octets, kept_by_octets}
-use Rattle.h2_replay.specs.Taking.{KeepsNews, GoesOn, TakesPieceOf, TakesAllOf}
+use Rattle.h2_replay.specs.Taking.{TakesPieceOf, TakesAllOf}
 use Rattle.h2_replay.proofs.StepOutput.{all_joined}
 use Rattle.h2_replay.proofs.Octets.{rest_of}
+use Rattle.h2_spec_log.specs.Acts as logs
+use Rattle.h2_replay.specs.declared.taking.Next.TheVariants as nexts
+use Rattle.h2_replay.specs.declared.turns.Answer.TheVariants as answers
 
 -- Some octets were used, and it goes on with the rest.
 pub record TakesSome (values : Values) (log : Log) (octets rest : List ℕ) (old turns : List Turn)

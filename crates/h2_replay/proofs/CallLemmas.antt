@@ -1,18 +1,13 @@
 -- A connection after a call, and the octets that it puts out.
-use Rattle.std.proofs.Common.{◌≡◌, ℕ, ◌+◌, List, [], ◌++◌, take, drop, Result, Ok}
-use Rattle.std.proofs.Common.{Err, IfOk, OnErr, refl, sym, ap, subst, ◌∙◌}
-use Rattle.std.proofs.lemmas.List.{drop-take}
+use Rattle.h2_replay.proofs.Names.{◌≡◌, ℕ, ◌+◌, List, [], ◌++◌, take, drop, refl, sym, ap, subst}
+use Rattle.h2_replay.proofs.Names.{◌∙◌, drop-take, Act, Answer, PutOut, Count, Refused, shown}
+use Rattle.h2_replay.proofs.Names.{IsTypedAct, Log, with_call, Conn, ConnAnswers, answer_by}
+use Rattle.h2_replay.proofs.Names.{call_of, MakesCall}
+use Rattle.std.proofs.Common.{Result, Ok, Err, IfOk, OnErr}
 use Rattle.h2_spec_log.specs.declared.refusal.Refusal.{Refusal}
-use Rattle.h2_spec_log.specs.Acts.{Act, Answer}
-use Rattle.h2_spec_log.specs.Acts.{PutOut, Count}
-use Rattle.h2_spec_log.specs.Acts.{Refused, shown, IsTypedAct}
-use Rattle.h2_spec_log.specs.Log.{Log}
-use Rattle.h2_spec_log.specs.LogCalls.{with_call}
-use Rattle.h2_conn.specs.declared.conn.Conn.{Conn}
-use Rattle.h2_conn.specs.Conn.{ConnAnswers, ConnShows, GivesOut, answer_by}
-use Rattle.h2_replay.specs.declared.acts.Act as code
-use Rattle.h2_replay.specs.Calls.{call_of, MakesCall}
+use Rattle.h2_conn.specs.Conn.{ConnShows, GivesOut}
 use Rattle.h2_replay.proofs.StepOutput.{given_by, writes_call}
+use Rattle.h2_replay.specs.declared.acts.Act as code
 
 -- It gives nothing out.
 abbrev pub GivesNone : Act → Type 0

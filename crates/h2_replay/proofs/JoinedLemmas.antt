@@ -1,18 +1,15 @@
 -- What the turns of a replay tell together.
-use Rattle.std.proofs.Common.{◌≡◌, ℕ, List, [], ◌∷◌, ◌++◌, reverse, Some, None}
-use Rattle.std.proofs.Common.{refl, sym, ap, ◌∙◌, append_assoc, append-nil}
+use Rattle.h2_replay.proofs.Names.{◌≡◌, ℕ, List, [], ◌∷◌, ◌++◌, reverse, Some, None, refl, sym, ap}
+use Rattle.h2_replay.proofs.Names.{◌∙◌, append_assoc, append-nil, Role, Event, Values, In, Out}
+use Rattle.h2_replay.proofs.Names.{Happened, Called, Answered, TakeCalled, TakeAnswered, Log}
+use Rattle.h2_replay.proofs.Names.{ReplayAct, Take, Make, IsReplay, starts, takes, calls}
+use Rattle.h2_replay.proofs.Names.{turn_value, by_octets}
+use Rattle.h2_replay.specs.Replay.{each_octet, all_by_octets, kept_by_octets}
 use Rattle.std.proofs.lemmas.List.{reverse-append}
-use Rattle.h2_spec_log.specs.declared.role.Role.{Role}
-use Rattle.h2_spec_log.specs.Events.{Event}
-use Rattle.h2_spec_log.specs.Acts.{Values, Turn, In, Out, Happened, Called, Answered}
-use Rattle.h2_spec_log.specs.Acts.{TakeCalled, TakeAnswered}
-use Rattle.h2_spec_log.specs.Log.{Log}
+use Rattle.h2_spec_log.specs.Acts.{Turn}
 use Rattle.h2_laws_log.specs.Turns.{octets_in, octets_out, events_in}
-use Rattle.h2_laws_end.specs.Replays.{ReplayAct, Take, Make, IsReplay, starts, takes, calls}
-use Rattle.h2_replay.specs.declared.turns.Turn as code
-use Rattle.h2_replay.specs.Values.{turn_value}
-use Rattle.h2_replay.specs.Replay.{each_octet, by_octets, all_by_octets, kept_by_octets}
 use Rattle.h2_replay.specs.Joined.{used_in, written_in, event_in, joined, EndsWithCall}
+use Rattle.h2_replay.specs.declared.turns.Turn as code
 
 -- what turns have of something, in order
 flat : {A : Type 0} → (Turn → List A) → List Turn → List A

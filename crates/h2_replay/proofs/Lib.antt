@@ -7,3 +7,4 @@ pub mod AllLemmas
 pub mod CallLemmas
 pub mod RecordLemmas
 pub mod JoinedLemmas
+pub mod Names

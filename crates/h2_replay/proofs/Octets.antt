@@ -1,10 +1,9 @@
 -- Parts of lists.
-use Rattle.std.proofs.Common.{◌≡◌, ℕ, zero, suc, ◌+◌, ◌-◌, List, [], ◌∷◌, ◌++◌, length, min, take}
-use Rattle.std.proofs.Common.{drop, refl, sym, ap, ◌∙◌, arith, add-one, Some}
-use Rattle.std.proofs.Common.{length-drop}
-use Rattle.std.proofs.Math.Seq.{take-length, take-suc}
+use Rattle.h2_replay.proofs.Names.{◌≡◌, ℕ, ◌+◌, ◌-◌, List, [], ◌∷◌, ◌++◌, length, take, drop, refl}
+use Rattle.h2_replay.proofs.Names.{sym, ap, ◌∙◌, arith, Some, length-drop, take-length, slice_get}
+use Rattle.std.proofs.Common.{zero, suc, min, add-one}
+use Rattle.std.proofs.Math.Seq.{take-suc}
 use Rattle.std.proofs.lemmas.Option.{slice_get_within, get_or_from_slice_get}
-use Rattle.std.specs.List.{slice_get}
 
 -- No more than all of a list is dropped.
 pub drop_min : {A : Type 0} (count bounded : ℕ) (list : List A) → bounded ≡ min count (length list)

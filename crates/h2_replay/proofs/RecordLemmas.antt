@@ -1,32 +1,30 @@
 -- A replay with one act more.
-use Rattle.std.proofs.Common.{◌≡◌, ℕ, ◌+◌, ◌≤◌, List, [], ◌∷◌, ◌++◌, length, take, drop, Option}
-use Rattle.std.proofs.Common.{refl, sym, ap, subst, ◌∙◌, append_assoc, append-nil}
-use Rattle.std.proofs.lemmas.List.{drop-take, drop-drop, take-append-drop}
-use Rattle.h2_frame.specs.declared.code.Code.{Code}
-use Rattle.h2_spec_log.specs.declared.role.Role.{Role}
-use Rattle.h2_spec_log.specs.Acts.{Values, AreInRange, Turn, Out, Called, Answered, TakeCalled}
-use Rattle.h2_spec_log.specs.Acts.{shown, TakeAnswered, Act, Answer, IsTypedAct, OutOfMemory}
-use Rattle.h2_spec_log.specs.Acts.{Number, Count, Done, Refused}
-use Rattle.h2_spec_log.specs.Log.{Log, waiting, output}
+use Rattle.h2_replay.proofs.Names.{◌≡◌, ℕ, ◌+◌, ◌≤◌, List, [], ◌∷◌, ◌++◌, length, take, drop}
+use Rattle.h2_replay.proofs.Names.{Option, refl, sym, ap, subst, ◌∙◌, append_assoc, append-nil}
+use Rattle.h2_replay.proofs.Names.{drop-take, Code, Role, Values, Out, Called, Answered, TakeCalled}
+use Rattle.h2_replay.proofs.Names.{shown, TakeAnswered, Act, Answer, IsTypedAct, OutOfMemory}
+use Rattle.h2_replay.proofs.Names.{Number, Count, Done, Refused, Log, with_call, ReplayAct, Take}
+use Rattle.h2_replay.proofs.Names.{Make, IsReplay, starts, takes, calls, Conn, ConnRepresents}
+use Rattle.h2_replay.proofs.Names.{turn_value, each_octet, by_octets, ReplayTakesOctets, call_of}
+use Rattle.h2_replay.proofs.Names.{MakesCall, Records}
+use Rattle.h2_spec_log.specs.Log.{waiting, output}
 use Rattle.h2_spec_log.specs.LogSteps.{with_sent}
-use Rattle.h2_spec_log.specs.LogCalls.{with_call, opened}
+use Rattle.h2_spec_log.specs.LogCalls.{opened}
+use Rattle.h2_replay.specs.Values.{acts_made, act_value, answer_turn, call_turn}
+use Rattle.h2_replay.specs.Replay.{all_by_octets, kept_by_octets}
+use Rattle.std.proofs.lemmas.List.{drop-drop, take-append-drop}
+use Rattle.h2_spec_log.specs.Acts.{AreInRange, Turn}
 use Rattle.h2_spec_log.specs.Histories.{IsLog, begins, took_some, took_one, met_fault, called_one}
 use Rattle.h2_spec_log.specs.Histories.{ran_out_of_memory, reported_one}
-use Rattle.h2_laws_end.specs.Replays.{ReplayAct, Take, Make, IsReplay, starts, takes, calls}
-use Rattle.h2_conn.specs.declared.conn.Conn.{Conn}
-use Rattle.h2_conn.specs.Conn.{ConnRepresents}
+use Rattle.h2_replay.specs.Taking.{IsTakeAnswer, fault_of_answer}
+use Rattle.h2_replay.specs.Calls.{IsCall, MakesCallOf, answer_value}
+use Rattle.h2_replay.proofs.StepOutput.{all_joined, writes_call, given_by}
+use Rattle.h2_replay.proofs.TakingLemmas.{kept_more, kept_joined, joined_since}
 use Rattle.h2_replay.specs.declared.acts.Act as code
 use Rattle.h2_replay.specs.declared.acts.Act.TheVariants as acts
 use Rattle.h2_replay.specs.declared.turns.Turn as kept
 use Rattle.h2_replay.specs.declared.turns.Answer as answered
 use Rattle.h2_replay.specs.declared.turns.Answer.TheVariants as answers
-use Rattle.h2_replay.specs.Values.{act_value, acts_made, turn_value, answer_turn, call_turn}
-use Rattle.h2_replay.specs.Replay.{each_octet, by_octets, all_by_octets, kept_by_octets}
-use Rattle.h2_replay.specs.Taking.{ReplayTakesOctets, IsTakeAnswer, fault_of_answer}
-use Rattle.h2_replay.specs.Calls.{IsCall, call_of, MakesCall, MakesCallOf, answer_value}
-use Rattle.h2_replay.specs.Recording.{Records}
-use Rattle.h2_replay.proofs.StepOutput.{all_joined, writes_call, given_by}
-use Rattle.h2_replay.proofs.TakingLemmas.{kept_more, kept_joined, joined_since}
 
 -- How octets that were taken are answered.
 answered_alike : (answer : answered.Answer) → IsTakeAnswer answer

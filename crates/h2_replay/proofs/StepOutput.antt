@@ -1,19 +1,19 @@
 -- What the steps of a log add to its output, octet by octet.
-use Rattle.std.proofs.Common.{◌≡◌, ℕ, ◌+◌, List, [], ◌∷◌, ◌++◌, refl, sym, ap, ◌∙◌, append_assoc}
-use Rattle.std.proofs.Common.{append-nil, add-zero}
+use Rattle.h2_replay.proofs.Names.{◌≡◌, ℕ, ◌+◌, List, [], ◌∷◌, ◌++◌, refl, sym, ap, ◌∙◌}
+use Rattle.h2_replay.proofs.Names.{append_assoc, append-nil, Code, Item, Act, Answer, PutOut, Count}
+use Rattle.h2_replay.proofs.Names.{Number, Done, OutOfMemory, Refused, Out, Log, with_sent}
+use Rattle.h2_replay.proofs.Names.{with_unreturned, by_octets}
+use Rattle.h2_spec_log.specs.LogCalls.{with_call, called}
+use Rattle.h2_replay.specs.Replay.{each_octet, all_by_octets}
+use Rattle.std.proofs.Common.{add-zero}
 use Rattle.std.proofs.lemmas.List.{map-append}
-use Rattle.h2_frame.specs.declared.code.Code.{Code}
-use Rattle.h2_block.specs.Grouping.{Item}
 use Rattle.h2_spec_log.specs.Items.{encoding_of_items}
-use Rattle.h2_spec_log.specs.Acts.{Act, Answer, Refuse, PutOut, Count, Number, Done, OutOfMemory}
-use Rattle.h2_spec_log.specs.Acts.{Refused, Turn, Out}
-use Rattle.h2_spec_log.specs.Log.{Log, max_payload_sent}
-use Rattle.h2_spec_log.specs.LogSteps.{with_sent, with_unreturned, with_failure}
-use Rattle.h2_spec_log.specs.LogCalls.{called, with_call}
+use Rattle.h2_spec_log.specs.Acts.{Refuse, Turn}
+use Rattle.h2_spec_log.specs.Log.{max_payload_sent}
+use Rattle.h2_spec_log.specs.LogSteps.{with_failure}
 use Rattle.h2_laws_log.proofs.GrowthBySteps.{HoldsOfFailures, holds_unreturned, holds_failure}
 use Rattle.h2_laws_log.proofs.GrowthBySteps.{holds_sent_unreturned, holds_refused, holds_ready}
 use Rattle.h2_laws_log.proofs.GrowthBySteps.{holds_items}
-use Rattle.h2_replay.specs.Replay.{each_octet, by_octets, all_by_octets}
 
 -- Octets after others.
 pub each_joined : (turn : List ℕ → Turn) (octets more : List ℕ)

@@ -1,27 +1,24 @@
 -- What a call of `take` adds to a log, octet by octet.
-use Rattle.std.proofs.Common.{◌≡◌, ℕ, List, []}
-use Rattle.std.proofs.Common.{◌∷◌, ◌++◌, map, Option, None, refl, sym, ap, subst, ◌∙◌}
-use Rattle.std.proofs.Common.{append-nil, append_assoc}
+use Rattle.h2_replay.proofs.Names.{◌≡◌, ℕ, List, [], ◌∷◌, ◌++◌, map, Option, None, refl, sym, ap}
+use Rattle.h2_replay.proofs.Names.{subst, ◌∙◌, append-nil, append_assoc, Item, Event, In, Out}
+use Rattle.h2_replay.proofs.Names.{Happened, Log, with_unreturned, TakeAnswer, Took, Failed}
+use Rattle.h2_replay.proofs.Names.{MayTake, log_after_take}
+use Rattle.h2_replay.specs.Replay.{each_octet, all_by_octets}
 use Rattle.std.proofs.lemmas.List.{append_cancel_right}
 use Rattle.h2_frame.specs.Frames.{Frame}
-use Rattle.h2_block.specs.Grouping.{Item}
-use Rattle.h2_spec_log.specs.Events.{Event, UnprocessedEvent}
-use Rattle.h2_spec_log.specs.Acts.{Turn, In, Out, Happened}
-use Rattle.h2_spec_log.specs.Log.{Log, next_unprocessed}
+use Rattle.h2_spec_log.specs.Events.{UnprocessedEvent}
+use Rattle.h2_spec_log.specs.Acts.{Turn}
+use Rattle.h2_spec_log.specs.Log.{next_unprocessed}
 use Rattle.h2_spec_log.specs.LogView.{log_view}
 use Rattle.h2_spec_log.specs.Verdicts.{Verdict, ConnectionFault, StreamFault, NoEvent, Reported}
 use Rattle.h2_spec_log.specs.ItemRules.{Decoded, FrameStep, fails_with, begins_block, completes}
 use Rattle.h2_spec_log.specs.ItemRules.{frame_step}
-use Rattle.h2_spec_log.specs.LogSteps.{used, read, with_reported, with_unreturned}
-use Rattle.h2_spec_log.specs.LogSteps.{with_verdict, with_step, with_frame}
-use Rattle.h2_laws_end.specs.Takes.{TakeAnswer, Took, Failed, MayTake, has_failed}
-use Rattle.h2_laws_end.specs.Takes.{reports_unprocessed, ends_no_frame, ends_frame, meets_fault}
-use Rattle.h2_laws_end.specs.Takes.{runs_out_of_memory, events_answered, AfterTake}
-use Rattle.h2_laws_end.proofs.TakeAnswers.{log_after_take}
-use Rattle.h2_replay.specs.Replay.{each_octet, all_by_octets}
-use Rattle.h2_replay.proofs.StepOutput.{both_joined, AddsOutput}
-use Rattle.h2_replay.proofs.StepOutput.{writes_none, writes_more, writes_unreturned}
-use Rattle.h2_replay.proofs.StepOutput.{writes_failure}
+use Rattle.h2_spec_log.specs.LogSteps.{used, read, with_reported, with_verdict, with_step}
+use Rattle.h2_spec_log.specs.LogSteps.{with_frame}
+use Rattle.h2_laws_end.specs.Takes.{has_failed, reports_unprocessed, ends_no_frame, ends_frame}
+use Rattle.h2_laws_end.specs.Takes.{meets_fault, runs_out_of_memory, events_answered, AfterTake}
+use Rattle.h2_replay.proofs.StepOutput.{both_joined, AddsOutput, writes_none, writes_more}
+use Rattle.h2_replay.proofs.StepOutput.{writes_unreturned, writes_failure}
 
 -- The second log has written more, and then reported these events.
 pub record AddsEvents (log next : Log) : Type 0 where

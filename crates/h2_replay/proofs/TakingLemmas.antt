@@ -1,27 +1,24 @@
 -- A call of `take`, and what is kept of it.
-use Rattle.std.proofs.Common.{◌≡◌, ◌≢◌, ℕ, ◌-◌, ◌^◌, ◌≤◌, nat_lt, Bool, true, false}
-use Rattle.std.proofs.Common.{List, [], ◌∷◌, ◌++◌, length, take, drop, map, Option, Some, None}
-use Rattle.std.proofs.Common.{if◌then◌else◌, refl, sym, ap, subst, ◌∙◌, inl, inr, arith, ltb-true}
-use Rattle.std.proofs.Common.{ltb-false, append_assoc, append-nil, length-drop}
-use Rattle.std.proofs.Math.Seq.{take-length, drop-append_seam}
+use Rattle.h2_replay.proofs.Names.{◌≡◌, ℕ, ◌-◌, ◌≤◌, Bool, false, List, [], ◌∷◌, ◌++◌, length, take}
+use Rattle.h2_replay.proofs.Names.{drop, map, Option, Some, None, refl, sym, ap, subst, ◌∙◌, arith}
+use Rattle.h2_replay.proofs.Names.{append_assoc, append-nil, length-drop, take-length, Code, Values}
+use Rattle.h2_replay.proofs.Names.{In, Out, Happened, Event, Log, TakeAnswer, Took, Failed, MayTake}
+use Rattle.h2_replay.proofs.Names.{log_after_take, KeptEvent, kept_event_value, turn_value}
+use Rattle.h2_replay.proofs.Names.{each_octet, by_octets, taken_answer, taken_events, KeepsNews}
+use Rattle.h2_replay.proofs.Names.{GoesOn, IsWithinPiece}
+use Rattle.h2_spec_log.specs.Log.{waiting, output}
+use Rattle.h2_replay.specs.Replay.{all_by_octets, kept_by_octets}
+use Rattle.std.proofs.Common.{◌≢◌, ◌^◌, nat_lt, true, if◌then◌else◌, inl, inr, ltb-true, ltb-false}
+use Rattle.std.proofs.Math.Seq.{drop-append_seam}
 use Rattle.std.proofs.lemmas.List.{append_cancel_left, length-append, take-append-le}
 use Rattle.std.proofs.lemmas.List.{drop-append-le}
-use Rattle.h2_frame.specs.declared.code.Code.{Code}
 use Rattle.h2_wire.specs.Cutter.{saturated}
-use Rattle.h2_spec_log.specs.Acts.{Values, In, Out, Happened}
-use Rattle.h2_spec_log.specs.Acts as logs
-use Rattle.h2_spec_log.specs.Events.{Event}
-use Rattle.h2_spec_log.specs.Log.{Log, waiting, output}
-use Rattle.h2_laws_end.specs.Takes.{TakeAnswer, Took, Failed, MayTake}
-use Rattle.h2_laws_end.proofs.TakeAnswers.{log_after_take}
 use Rattle.h2_replay.specs.declared.taking.Taking.{Taking}
-use Rattle.h2_replay.specs.declared.taking.Next.TheVariants as nexts
 use Rattle.h2_replay.specs.declared.turns.Turn.{Turn}
-use Rattle.h2_replay.specs.Values.{KeptEvent, kept_event_value, turn_value}
-use Rattle.h2_replay.specs.Replay.{each_octet, by_octets, all_by_octets, kept_by_octets}
-use Rattle.h2_replay.specs.Taking.{answered_by, taken_answer, taken_events, next_by, next_of}
-use Rattle.h2_replay.specs.Taking.{KeepsNews, GoesOn, IsWithinPiece}
+use Rattle.h2_replay.specs.Taking.{answered_by, next_by, next_of}
 use Rattle.h2_replay.proofs.StepTakes.{AddsTake, events_of_answer}
+use Rattle.h2_spec_log.specs.Acts as logs
+use Rattle.h2_replay.specs.declared.taking.Next.TheVariants as nexts
 
 -- One more turn is kept.
 pub kept_more : (turns : List Turn) (turn : Turn)

@@ -1,27 +1,21 @@
 -- The least active number above another, in the table of streams.
-use Rattle.std.proofs.Common.{◌≡◌, ◌≢◌, ℕ, ◌+◌, ◌-◌, ◌%◌, ◌^◌, ◌<◌, ◌≤◌, Bool, true, false}
-use Rattle.std.proofs.Common.{List, length, min, nat_eq, nat_lt, nat_le, Option, Some, None}
-use Rattle.std.proofs.Common.{IsSome, refl, sym, ap, ◌∙◌, arith}
-use Rattle.std.specs.FinMap as map
-use Rattle.std.specs.Cmp.{nat_eq_equiv}
-use Rattle.std.specs.HashMap.{HashMap, IsUnique}
-use Rattle.std.specs.List.{slice_get}
-use Rattle.std.specs.Map.{keys_of}
-use Rattle.std.specs.Option.{option_map, is_some}
-use Rattle.std.proofs.lemmas.Bool.{both_ways, ltb-true, ltb-false, leb-true, leb-false, eqb-true}
-use Rattle.std.proofs.lemmas.Bool.{eqb-false}
-use Rattle.std.proofs.lemmas.Option.{slice_get-map, slice_get_within}
-use Rattle.std.proofs.lemmas.Map.Entries.{place_from_lookup, hash_map_get_place}
-use Rattle.h2_spec_machine.specs.End.{StreamEntry, active_entry, reset_entry, StreamMap}
+use Rattle.h2_streams.proofs.Names.{◌≡◌, ℕ, ◌+◌, ◌^◌, ◌<◌, Bool, true, false, List, length, nat_eq}
+use Rattle.h2_streams.proofs.Names.{nat_lt, Option, Some, None, IsSome, refl, sym, ap, ◌∙◌, arith}
+use Rattle.h2_streams.proofs.Names.{nat_eq_equiv, HashMap, IsUnique, slice_get, keys_of, option_map}
+use Rattle.h2_streams.proofs.Names.{is_some, both_ways, ltb-true, ltb-false, slice_get-map}
+use Rattle.h2_streams.proofs.Names.{slice_get_within, place_from_lookup, hash_map_get_place}
+use Rattle.h2_streams.proofs.Names.{StreamEntry, active_entry, reset_entry, StreamMap, view_of_kept}
+use Rattle.h2_streams.proofs.Names.{active_at, is_reset, IsKeptWell, Kept}
+use Rattle.std.proofs.Common.{◌≢◌, ◌-◌, ◌%◌, ◌≤◌, min, nat_le}
+use Rattle.std.proofs.lemmas.Bool.{leb-true, leb-false, eqb-true, eqb-false}
 use Rattle.h2_spec_machine.specs.Machine.{first_active, is_active_entry}
 use Rattle.h2_streams.specs.Streams.{number_or_none}
-use Rattle.h2_streams.specs.Table.{view_of_kept, active_at, is_reset, IsKeptWell}
 use Rattle.h2_streams.specs.Table.{IsLeastAbove}
-use Rattle.h2_streams.specs.declared.table.Kept.{Kept}
 use Rattle.h2_streams.proofs.KeptEntries.{entry_at, get_kept}
 use Rattle.h2_spec_machine.proofs.SortedEntries.{first_found, first_least, two_least}
 use Rattle.h2_streams.proofs.Places.{below_or_here}
 use Rattle.h2_streams.proofs.TableSteps.{streams}
+use Rattle.std.specs.FinMap as map
 
 -- What is found and active is an active stream.
 kept_by : (send recv : ℕ) (b : Bool) (kept : Option Kept) (x : StreamEntry)

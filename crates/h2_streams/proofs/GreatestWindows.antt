@@ -1,27 +1,21 @@
 -- The greatest send window of the active streams, and what it tells of all of them.
-use Rattle.std.proofs.Common.{◌≡◌, ℕ, ◌+◌, ◌<◌, Bool, true, false, cond, ℤ, pos, ◌+ℤ◌}
-use Rattle.std.proofs.Common.{int_lt, ◌≤ℤ◌, List, [], ◌∷◌, length, Option, Some, None, IfSome, refl}
-use Rattle.std.proofs.Common.{sym, ap, ◌∙◌, nat_eq, arith}
-use Rattle.std.specs.List.{slice_get}
-use Rattle.std.specs.Map.{values_of}
-use Rattle.std.specs.Option.{option_map, is_some}
-use Rattle.std.specs.HashMap.{HashMap, IsUnique}
-use Rattle.std.specs.Cmp.{nat_eq_equiv}
-use Rattle.std.specs.FinMap as map
-use Rattle.std.proofs.lemmas.Int.{ints}
-use Rattle.std.proofs.lemmas.Bool.{both_ways}
-use Rattle.std.proofs.lemmas.Option.{slice_get-map, slice_get_within}
-use Rattle.std.proofs.lemmas.Map.Entries.{place_from_lookup, hash_map_get_place}
-use Rattle.h2_spec_machine.specs.End.{StreamEntry, active_entry, reset_entry, StreamMap, any_above}
-use Rattle.h2_spec_machine.specs.End.{above_by_shift}
+use Rattle.h2_streams.proofs.Names.{◌≡◌, ℕ, ◌+◌, ◌<◌, Bool, true, false, cond, ℤ, pos, ◌+ℤ◌, List}
+use Rattle.h2_streams.proofs.Names.{[], ◌∷◌, length, Option, Some, None, IfSome, refl, sym, ap, ◌∙◌}
+use Rattle.h2_streams.proofs.Names.{nat_eq, arith, slice_get, values_of, option_map, is_some}
+use Rattle.h2_streams.proofs.Names.{HashMap, IsUnique, nat_eq_equiv, ints, both_ways, slice_get-map}
+use Rattle.h2_streams.proofs.Names.{slice_get_within, place_from_lookup, hash_map_get_place}
+use Rattle.h2_streams.proofs.Names.{StreamEntry, active_entry, reset_entry, StreamMap, view_of_kept}
+use Rattle.h2_streams.proofs.Names.{active_at, is_reset, IsKeptWell, greater_of, is_far_offset}
+use Rattle.h2_streams.proofs.Names.{Kept}
+use Rattle.std.proofs.Common.{int_lt, ◌≤ℤ◌}
+use Rattle.h2_spec_machine.specs.End.{any_above, above_by_shift}
 use Rattle.h2_streams.specs.Streams.{is_above_by_shift}
-use Rattle.h2_streams.specs.Table.{view_of_kept, active_at, is_reset, IsKeptWell, greater_of}
-use Rattle.h2_streams.specs.Table.{IsGreatestOf, IsGreatestOffset, is_far_offset}
-use Rattle.h2_streams.specs.declared.table.Kept.{Kept}
+use Rattle.h2_streams.specs.Table.{IsGreatestOf, IsGreatestOffset}
 use Rattle.h2_streams.proofs.KeptEntries.{entry_at, get_kept, near_found}
 use Rattle.h2_spec_machine.proofs.SortedEntries.{above_found, any_found, both_same}
 use Rattle.h2_streams.proofs.Places.{below_or_here}
 use Rattle.h2_streams.proofs.TableSteps.{streams}
+use Rattle.std.specs.FinMap as map
 
 -- the greatest difference among the first of what is kept
 pub record GreatestBefore (n : ℕ) (values : List Kept) (offset : ℤ) : Type 0 where

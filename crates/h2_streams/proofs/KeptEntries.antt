@@ -1,19 +1,14 @@
 -- What the table of streams answers of each number, and when two tables are the same.
-use Rattle.std.proofs.Common.{◌≡◌, ℕ, Bool, true, false, cond, List, [], ◌∷◌, Option, Some, None}
-use Rattle.std.proofs.Common.{map as each, ◌||◌, IsSome, IfSome, nat_eq, refl, ap, subst, ◌∙◌}
-use Rattle.std.proofs.Common.{ℤ, pos, ◌+ℤ◌, ◌-ℤ◌, arith}
-use Rattle.std.specs.Ordering.{nat_cmp}
-use Rattle.std.specs.Cmp.{nat_cmp_total, unsigned_tied}
-use Rattle.std.specs.FinMap as map
-use Rattle.std.specs.Option.{option_map}
-use Rattle.std.proofs.lemmas.Bool.{both_ways}
-use Rattle.std.proofs.lemmas.Int.{ints}
-use Rattle.h2_spec_machine.specs.End.{StreamEntry, active_entry, reset_entry, StreamMap, stream_in}
-use Rattle.h2_streams.specs.Streams.{stream_view}
-use Rattle.h2_streams.specs.Table.{view_of_kept, active_map, with_resets, active_at, is_reset}
-use Rattle.h2_streams.specs.Table.{IsKeptWell, IsNearKept}
+use Rattle.h2_streams.proofs.Names.{◌≡◌, ℕ, Bool, true, false, cond, List, [], ◌∷◌, Option, Some}
+use Rattle.h2_streams.proofs.Names.{None, IsSome, IfSome, nat_eq, refl, ap, ◌∙◌, ℤ, pos, ◌+ℤ◌, ◌-ℤ◌}
+use Rattle.h2_streams.proofs.Names.{arith, nat_cmp, nat_cmp_total, unsigned_tied, option_map}
+use Rattle.h2_streams.proofs.Names.{both_ways, ints, StreamEntry, active_entry, reset_entry}
+use Rattle.h2_streams.proofs.Names.{StreamMap, stream_in, stream_view, view_of_kept, active_at}
+use Rattle.h2_streams.proofs.Names.{is_reset, IsKeptWell, IsNearKept, Kept}
+use Rattle.h2_streams.specs.Table.{active_map, with_resets}
+use Rattle.std.proofs.Common.{map as each, ◌||◌, subst}
 use Rattle.h2_streams.specs.declared.entry.Stream.{Stream}
-use Rattle.h2_streams.specs.declared.table.Kept.{Kept}
+use Rattle.std.specs.FinMap as map
 
 -- what the table answers of a number, by whether it was reset, and what is kept of it
 abbrev pub entry_at : (send recv : ℕ) → Bool → Option Kept → Option StreamEntry

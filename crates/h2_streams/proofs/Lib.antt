@@ -5,3 +5,4 @@ pub mod Offsets
 pub mod Places
 pub mod Shifts
 pub mod TableSteps
+pub mod Names

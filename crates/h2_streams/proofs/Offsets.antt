@@ -1,10 +1,8 @@
 -- Windows and their differences from initial windows, as `i64` computes them.
-use Rattle.std.proofs.Common.{◌≡◌, ℕ, ◌^◌, ◌<◌, false, ℤ, pos, ◌+ℤ◌, ◌-ℤ◌, arith}
-use mir.Syntax.{w64}
-use mir.Val.{SFits, to_z, of_z}
-use Rattle.std.proofs.lemmas.Int.{ints, to_z-of_z}
+use Rattle.h2_streams.proofs.Names.{◌≡◌, ℕ, ◌^◌, ◌<◌, false, ℤ, pos, ◌+ℤ◌, ◌-ℤ◌, arith, w64, SFits}
+use Rattle.h2_streams.proofs.Names.{ints, to_z-of_z, is_far_offset}
+use mir.Val.{to_z, of_z}
 use Rattle.h2_streams.specs.Streams.{is_far}
-use Rattle.h2_streams.specs.Table.{is_far_offset}
 
 -- A difference that is near fits.
 offset_fits : (offset : ℤ) → is_far_offset offset ≡ false → SFits w64 offset

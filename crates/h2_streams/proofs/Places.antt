@@ -1,7 +1,6 @@
 -- What holds of all places below one.
-use Rattle.std.proofs.Common.{◌≡◌, ℕ, ◌+◌, ◌<◌, Bool, true, false, List, Some, refl, nat_lt, arith}
-use Rattle.std.specs.List.{slice_get}
-use Rattle.std.proofs.lemmas.Bool.{ltb-true, ltb-false}
+use Rattle.h2_streams.proofs.Names.{◌≡◌, ℕ, ◌+◌, ◌<◌, Bool, true, false, List, Some, refl, nat_lt}
+use Rattle.h2_streams.proofs.Names.{arith, slice_get, ltb-true, ltb-false}
 
 -- What holds below a place and at it holds below the next one.
 pub below_or_here : {X : Type 0} (P : X → Type 0) (n i : ℕ) (this x : X) (xs : List X)

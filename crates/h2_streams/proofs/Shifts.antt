@@ -1,13 +1,10 @@
 -- What becomes of the table of streams where all windows are shifted.
-use Rattle.std.proofs.Common.{◌≡◌, ℕ, Bool, true, false, List, Option}
-use Rattle.std.proofs.Common.{Some, None, refl, sym, ap, ◌∙◌, arith}
-use Rattle.std.proofs.Common.{ℤ, pos, ◌+ℤ◌, ◌-ℤ◌}
-use Rattle.std.proofs.lemmas.Int.{ints}
-use Rattle.h2_spec_machine.specs.End.{StreamEntry, active_entry, reset_entry}
+use Rattle.h2_streams.proofs.Names.{◌≡◌, ℕ, Bool, true, false, List, Option, Some, None, refl, sym}
+use Rattle.h2_streams.proofs.Names.{ap, ◌∙◌, arith, ℤ, pos, ◌+ℤ◌, ◌-ℤ◌, ints, StreamEntry}
+use Rattle.h2_streams.proofs.Names.{active_entry, reset_entry, view_of_kept, active_at, is_reset}
+use Rattle.h2_streams.proofs.Names.{Kept}
 use Rattle.h2_spec_machine.specs.Machine.{each_entry, shifted_entry, recv_shifted_entry}
 use Rattle.h2_spec_machine.proofs.ChangedEntries.{changed_entry, get_each}
-use Rattle.h2_streams.specs.Table.{view_of_kept, active_at, is_reset}
-use Rattle.h2_streams.specs.declared.table.Kept.{Kept}
 use Rattle.h2_streams.proofs.KeptEntries.{entry_at, get_kept, same_streams}
 use Rattle.h2_streams.proofs.TableSteps.{streams}
 

@@ -1,17 +1,16 @@
 -- What becomes of the table of streams where one is opened, changed, closed or reset, and where
 -- windows are shifted.
-use Rattle.std.proofs.Common.{◌≡◌, ℕ, Bool, true, false, cond, List, [], Option, Some, None}
-use Rattle.std.proofs.Common.{IsSome, IfSome, nat_eq, refl, sym, ap, ◌∙◌, eqb-true}
-use Rattle.std.proofs.lemmas.Bool.{both_ways}
-use Rattle.std.specs.Ordering.{nat_cmp, is_eq}
-use Rattle.std.specs.Cmp.{nat_cmp_total, unsigned_tied, nat_eq_equiv}
-use Rattle.std.specs.FinMap as map
+use Rattle.h2_streams.proofs.Names.{◌≡◌, ℕ, Bool, true, false, cond, List, [], Option, Some, None}
+use Rattle.h2_streams.proofs.Names.{IsSome, IfSome, nat_eq, refl, sym, ap, ◌∙◌, both_ways, nat_cmp}
+use Rattle.h2_streams.proofs.Names.{nat_cmp_total, unsigned_tied, nat_eq_equiv, active_entry}
+use Rattle.h2_streams.proofs.Names.{reset_entry, StreamMap, stream_in, view_of_kept, active_map}
+use Rattle.h2_streams.proofs.Names.{with_resets, active_at, is_reset, IsKeptWell, IsNearKept, Kept}
+use Rattle.std.proofs.Common.{eqb-true}
+use Rattle.std.specs.Ordering.{is_eq}
 use Rattle.h2_spec_log.specs.View.{StreamView}
-use Rattle.h2_spec_machine.specs.End.{active_entry, reset_entry, StreamMap, stream_in}
-use Rattle.h2_streams.specs.Table.{view_of_kept, active_map, with_resets, active_at, is_reset}
-use Rattle.h2_streams.specs.Table.{TableState, IsKeptWell, IsNearKept}
-use Rattle.h2_streams.specs.declared.table.Kept.{Kept}
+use Rattle.h2_streams.specs.Table.{TableState}
 use Rattle.h2_streams.proofs.KeptEntries.{entry_at, get_kept, same_streams}
+use Rattle.std.specs.FinMap as map
 
 -- the streams of a table
 abbrev pub streams : (send recv : ℕ) → List (ℕ × Kept) → List ℕ → StreamMap

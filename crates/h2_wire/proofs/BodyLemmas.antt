@@ -1,19 +1,16 @@
 -- Where the body of a complete frame lies.
-use Rattle.std.proofs.Common.{◌≡◌, ℕ, ◌+◌, ◌-◌, ◌≤◌, List, length, take, drop, Option, Some}
-use Rattle.std.proofs.Common.{None, IfSome, refl, sym, ap, ◌∙◌, arith, length-drop, drop-drop}
-use Rattle.std.proofs.Common.{length-take}
-use Rattle.std.proofs.lemmas.Bool.{le-leb}
-use Rattle.std.proofs.lemmas.List.{drop-take, take_all, take-take}
+use Rattle.h2_wire.proofs.Names.{◌≡◌, ℕ, ◌+◌, ◌-◌, ◌≤◌, List, length, take, drop, Option, Some}
+use Rattle.h2_wire.proofs.Names.{None, IfSome, refl, sym, ap, ◌∙◌, arith, length-drop, drop-drop}
+use Rattle.h2_wire.proofs.Names.{length-take, le-leb, drop-take, take_all, Frame, Carries, Complete}
+use Rattle.h2_wire.proofs.Names.{Source, CutterState, octets_of, octets_at}
+use Rattle.h2_frame.specs.Frames.{pad_of, Data, Headers, Priority, Reset, Settings, Ping, GoAway}
+use Rattle.h2_frame.specs.Frames.{WindowUpdate, Continuation, Unknown, unpadded, is_padded}
+use Rattle.std.proofs.lemmas.List.{take-take}
 use Rattle.h2_frame.specs.Heads.{has_padding}
-use Rattle.h2_frame.specs.Frames.{Frame, Data, Headers, Priority, Reset, Settings, Ping, GoAway}
-use Rattle.h2_frame.specs.Frames.{WindowUpdate, Continuation, Unknown, Carries, unpadded, pad_of}
-use Rattle.h2_frame.specs.Frames.{is_padded}
 use Rattle.h2_frame.proofs.PaddingLemmas.{padded_is_unpadded}
-use Rattle.h2_wire.specs.declared.cut.Complete.{Complete}
-use Rattle.h2_wire.specs.declared.cut.Source.{Source}
+use Rattle.h2_wire.specs.Cutter.{HasFrame, octets_from, octets_within, body_between, body_at}
+use Rattle.h2_wire.specs.Cutter.{data_of_frame}
 use Rattle.h2_wire.specs.declared.cut.Source.TheVariants as sources
-use Rattle.h2_wire.specs.Cutter.{CutterState, HasFrame, octets_of, octets_at, octets_from}
-use Rattle.h2_wire.specs.Cutter.{octets_within, body_between, body_at, data_of_frame}
 
 -- The octets of a frame are the first of those from where it begins.
 frame_begins : (kept piece : List ℕ) (count : ℕ) (source : Source)

@@ -1,38 +1,29 @@
 -- What the steps of a call make of a buffer's state.
-use Rattle.std.proofs.Common.{◌≡◌, ◌≢◌, ℕ, ◌+◌, ◌-◌, ◌<◌, ◌≤◌, Bool, false, List, ◌++◌, length}
-use Rattle.std.proofs.Common.{take, drop, [], ◌∷◌, Option, None, Some, MatchOption, Result, Ok, Err}
-use Rattle.std.proofs.Common.{refl, arith, length-append, length-take, length-drop, append_assoc}
-use Rattle.std.proofs.Common.{subst, ap, sym, ◌∙◌}
-use Rattle.std.proofs.lemmas.List.{take_rest, take-append-drop, length-take-le, drop-append-le}
-use Rattle.std.proofs.lemmas.List.{take_at}
+use Rattle.h2_wire.proofs.Names.{◌≡◌, ◌≢◌, ℕ, ◌+◌, ◌-◌, ◌<◌, ◌≤◌, Bool, false, List, ◌++◌, length}
+use Rattle.h2_wire.proofs.Names.{take, drop, [], ◌∷◌, Option, None, Some, MatchOption, Result, Ok}
+use Rattle.h2_wire.proofs.Names.{Err, refl, arith, length-append, length-take, length-drop}
+use Rattle.h2_wire.proofs.Names.{append_assoc, subst, ap, sym, ◌∙◌, take_rest, take-append-drop}
+use Rattle.h2_wire.proofs.Names.{drop-append_seam, Code, WireFault, Buffer, Phase, Head, head_of}
+use Rattle.h2_wire.proofs.Names.{head_fault, Frame, Encodes, payload_fault, pad_of, head_of-append}
+use Rattle.h2_wire.proofs.Names.{Limits, IsAfterPreface, IsPartial, CutterState, saturated}
+use Rattle.h2_wire.proofs.Names.{CutterRepresents, CutterFaults, CutterFails, CutterPasses}
+use Rattle.h2_wire.proofs.Names.{CutterCompletes, octets_of, octets_at, Source, Complete, Advance}
+use Rattle.h2_wire.proofs.Names.{state_of, unparsed_of, fault_of, is_in_preface, IsPartialPayload}
+use Rattle.h2_wire.proofs.Names.{BufferTakes}
+use Rattle.h2_wire.specs.Streams.{preface, BeginsWithPreface, GoesPastPreface}
+use Rattle.std.proofs.lemmas.List.{length-take-le, drop-append-le, take_at, get_or-drop}
+use Rattle.std.proofs.lemmas.List.{get_or_append_left}
 use Rattle.std.proofs.lemmas.Slice.{take-put_mid}
 use borrow.Rule.Slice.PartMut.{put_mid}
-use Rattle.std.proofs.lemmas.List.{get_or-drop, get_or_append_left}
 use Rattle.std.proofs.Math.ListN.{get_or}
-use Rattle.std.proofs.Math.Seq.{drop-append_seam, drop-append-add}
-use Rattle.h2_frame.specs.declared.code.Code.{Code}
-use Rattle.h2_wire.specs.declared.fault.WireFault.{WireFault}
-use Rattle.h2_wire.specs.declared.fault.WireFault.TheVariants as faults
-use Rattle.h2_wire.specs.declared.buffer.Buffer.{Buffer}
-use Rattle.h2_wire.specs.declared.buffer.Phase.{Phase}
-use Rattle.h2_wire.specs.declared.buffer.Phase.TheVariants as phases
-use Rattle.h2_frame.specs.declared.heads.Head.{Head}
-use Rattle.h2_frame.specs.Heads.{head_of, head_fault}
-use Rattle.h2_frame.specs.Frames.{Frame, Encodes, payload_fault, pad_of}
-use Rattle.h2_frame.proofs.HeadLemmas.{head_of-append}
-use Rattle.h2_wire.specs.Streams.{preface, BeginsWithPreface, GoesPastPreface, Limits}
-use Rattle.h2_wire.specs.Streams.{IsAfterPreface, IsPartial}
-use Rattle.h2_wire.specs.Cutter.{CutterState, saturated, CutterRepresents, CutterFaults}
-use Rattle.h2_wire.specs.Cutter.{CutterFails, CutterPasses, CutterCompletes, octets_of, octets_at}
-use Rattle.h2_wire.specs.declared.cut.Source.{Source}
-use Rattle.h2_wire.specs.declared.cut.Complete.{Complete}
-use Rattle.h2_wire.specs.declared.cut.Advance.{Advance}
-use Rattle.h2_wire.specs.Buffer.{state_of, unparsed_of, fault_of, is_in_preface, BufferInvariant}
-use Rattle.h2_wire.specs.Buffer.{IsPartialPayload}
-use Rattle.h2_wire.specs.Step.{StartsFrame, StartsPayload, EndsFrame, BufferTakes}
+use Rattle.std.proofs.Math.Seq.{drop-append-add}
+use Rattle.h2_wire.specs.Buffer.{BufferInvariant}
+use Rattle.h2_wire.specs.Step.{StartsFrame, StartsPayload, EndsFrame}
 use Rattle.h2_wire.proofs.CallLemmas.{fails_at}
 use Rattle.h2_wire.proofs.StepLemmas.{continues_partial, completes_frame, head_of-take, opens_past}
 use Rattle.h2_wire.proofs.StepLemmas.{wrong_payload}
+use Rattle.h2_wire.specs.declared.fault.WireFault.TheVariants as faults
+use Rattle.h2_wire.specs.declared.buffer.Phase.TheVariants as phases
 
 -- where there is no fault yet, what is said of a first one
 pub if_first : (fault : Option WireFault) (First : Type 0) (Known : WireFault → Type 0)

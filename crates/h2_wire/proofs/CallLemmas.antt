@@ -1,12 +1,10 @@
 -- What a call leaves, from what it makes of the stream.
-use Rattle.std.proofs.Common.{◌≡◌, ℕ, ◌+◌, ◌≤◌, Bool, false, List, [], ◌++◌, length, take, None}
-use Rattle.std.proofs.Common.{Some, ap, sym, ◌∙◌, inr, arith, length-append}
-use Rattle.h2_frame.specs.Frames.{Frame}
-use Rattle.h2_wire.specs.declared.fault.WireFault.{WireFault}
+use Rattle.h2_wire.proofs.Names.{◌≡◌, ℕ, ◌+◌, ◌≤◌, Bool, false, List, [], ◌++◌, length, take, None}
+use Rattle.h2_wire.proofs.Names.{Some, ap, sym, ◌∙◌, inr, arith, length-append, Frame, WireFault}
+use Rattle.h2_wire.proofs.Names.{Limits, IsAfterPreface, EndsWithFault, CutterState, saturated}
+use Rattle.h2_wire.proofs.Names.{CutterRepresents, CutterContinues, CutterFaults}
+use Rattle.h2_wire.specs.Streams.{preface}
 use Rattle.h2_wire.specs.Faults.{is_bad_preface}
-use Rattle.h2_wire.specs.Streams.{preface, Limits, IsAfterPreface, EndsWithFault}
-use Rattle.h2_wire.specs.Cutter.{CutterState, saturated, CutterRepresents, CutterContinues}
-use Rattle.h2_wire.specs.Cutter.{CutterFaults}
 use Rattle.std.proofs.Math.Seq.{take-append-add}
 use Rattle.h2_wire.proofs.StreamLemmas.{past_not_in_preface}
 

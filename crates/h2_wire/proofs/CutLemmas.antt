@@ -1,22 +1,17 @@
 -- What a call answers, from what it made of its buffer.
-use Rattle.std.proofs.Common.{◌≡◌, ℕ, ◌+◌, ◌^◌, ◌<◌, length, length-drop, Bool, true, false, List}
-use Rattle.std.proofs.Common.{[], drop, Option, None, Some, IfSome, Result, Ok, Err, refl, ap}
-use Rattle.std.proofs.Common.{arith, inl, inr, lit<}
-use Rattle.std.proofs.lemmas.List.{take_all}
-use Rattle.h2_frame.specs.declared.heads.Head.{Head}
+use Rattle.h2_wire.proofs.Names.{◌≡◌, ℕ, ◌+◌, ◌<◌, length, length-drop, Bool, true, false, List, []}
+use Rattle.h2_wire.proofs.Names.{drop, Option, None, Some, IfSome, Result, Ok, Err, refl, ap, arith}
+use Rattle.h2_wire.proofs.Names.{inl, inr, take_all, Head, head_of, Frame, frame_of, Carries}
+use Rattle.h2_wire.proofs.Names.{Encodes, Complete, Code, WireFault, CutterState, CutterRepresents}
+use Rattle.h2_wire.proofs.Names.{CutterPasses, CutterCompletes, octets_of}
+use Rattle.h2_wire.specs.Streams.{preface, expected_preface}
+use Rattle.std.proofs.Common.{◌^◌, lit<}
 use Rattle.h2_frame.specs.declared.frame.FrameRef.{FrameRef}
-use Rattle.h2_frame.specs.Heads.{head_of}
-use Rattle.h2_frame.specs.Frames.{Frame, frame_of, Carries, Encodes}
 use Rattle.h2_frame.specs.Encoding.{refusal}
 use Rattle.h2_frame.proofs.RefusalLemmas.{refusal-carried}
-use Rattle.h2_wire.specs.declared.cut.Complete.{Complete}
-use Rattle.h2_frame.specs.declared.code.Code.{Code}
-use Rattle.h2_wire.specs.declared.fault.WireFault.{WireFault}
-use Rattle.h2_wire.specs.declared.fault.WireFault.TheVariants as faults
-use Rattle.h2_wire.specs.Streams.{preface, expected_preface}
-use Rattle.h2_wire.specs.Cutter.{CutterState, CutterRepresents, CutterAdvances, CutterPasses}
-use Rattle.h2_wire.specs.Cutter.{CutterCompletes, octets_of}
+use Rattle.h2_wire.specs.Cutter.{CutterAdvances}
 use Rattle.h2_wire.proofs.StreamLemmas.{IsPartial-empty}
+use Rattle.h2_wire.specs.declared.fault.WireFault.TheVariants as faults
 
 -- A complete frame is one that can be written.
 pub good_frame : (octets : List ℕ) (head : Head) (value : Frame) → head ≡ head_of octets

@@ -1,19 +1,15 @@
 -- A stream has one fault at most, and no reading past it.
-use Rattle.std.proofs.Common.{◌≡◌, ◌≢◌, ℕ, suc, ◌+◌, Bool, List, [], ◌∷◌, ◌++◌, length, take, drop}
-use Rattle.std.proofs.Common.{Option, Some, refl, ap, sym, ◌∙◌, inl, inr, arith, append_assoc}
-use Rattle.std.proofs.Common.{length-append, length-take}
-use Rattle.std.proofs.lemmas.List.{take-append-drop}
-use Rattle.h2_frame.specs.declared.code.Code.{Code}
-use Rattle.h2_frame.specs.Heads.{head_of, head_fault}
-use Rattle.h2_frame.specs.Frames.{Frame}
-use Rattle.h2_frame.proofs.HeadLemmas.{head_of-append}
-use Rattle.h2_wire.specs.declared.fault.WireFault.{WireFault}
-use Rattle.h2_wire.specs.declared.fault.WireFault.TheVariants as faults
-use Rattle.h2_wire.specs.Streams.{Limits, IsSound, IsPartial, IsInsidePreface, IsAfterPreface}
-use Rattle.h2_wire.specs.Streams.{Frames, IsWrongPreface, EndsWithFault, WireFaultAt}
+use Rattle.h2_wire.proofs.Names.{◌≡◌, ◌≢◌, ℕ, ◌+◌, Bool, List, [], ◌∷◌, ◌++◌, length, take, drop}
+use Rattle.h2_wire.proofs.Names.{Option, Some, refl, ap, sym, ◌∙◌, inl, inr, arith, append_assoc}
+use Rattle.h2_wire.proofs.Names.{length-append, length-take, take-append-drop, Code, head_of}
+use Rattle.h2_wire.proofs.Names.{head_fault, Frame, head_of-append, WireFault, Limits, IsSound}
+use Rattle.h2_wire.proofs.Names.{IsPartial, IsInsidePreface, IsAfterPreface, Frames, EndsWithFault}
+use Rattle.std.proofs.Common.{suc}
+use Rattle.h2_wire.specs.Streams.{IsWrongPreface, WireFaultAt}
 use Rattle.h2_wire.proofs.ReadingLemmas.{none_some, same_prefix, same_following, same_head}
 use Rattle.h2_wire.proofs.ReadingLemmas.{partial_stops, wrong_head_stops, wrong_payload_stops}
 use Rattle.h2_wire.proofs.ReadingLemmas.{one_past}
+use Rattle.h2_wire.specs.declared.fault.WireFault.TheVariants as faults
 
 -- no head at fault begins a partial frame
 pub partial_no_head : (limit : ℕ) (prefix more : List ℕ) (code : Code)

@@ -1,17 +1,11 @@
 -- What the cutter keeps of a frame that was answered doesn't count for what a call makes of it.
-use Rattle.std.proofs.Common.{◌≡◌, ℕ, List, Bool, None, Result, Ok, Err, Option, Some, MatchOption}
-use Rattle.std.proofs.Common.{sym, subst}
-use Rattle.h2_frame.specs.Frames.{Frame}
-use Rattle.h2_wire.specs.declared.fault.WireFault.{WireFault}
-use Rattle.h2_wire.specs.declared.fault.WireFault.TheVariants as faults
-use Rattle.h2_wire.specs.declared.cut.Complete.{Complete}
-use Rattle.h2_wire.specs.declared.cut.Advance.{Advance}
-use Rattle.h2_wire.specs.declared.buffer.Buffer.{Buffer}
-use Rattle.h2_wire.specs.Streams.{Limits}
-use Rattle.h2_wire.specs.Cutter.{CutterState, CutterRepresents, CutterContinues, CutterFaults}
-use Rattle.h2_wire.specs.Cutter.{CutterFails, Advances}
-use Rattle.h2_wire.specs.Step.{BufferTakes}
+use Rattle.h2_wire.proofs.Names.{◌≡◌, ℕ, List, Bool, None, Result, Ok, Err, Option, Some}
+use Rattle.h2_wire.proofs.Names.{MatchOption, sym, subst, Frame, WireFault, Complete, Advance}
+use Rattle.h2_wire.proofs.Names.{Buffer, Limits, CutterState, CutterRepresents, CutterContinues}
+use Rattle.h2_wire.proofs.Names.{CutterFaults, CutterFails, BufferTakes}
+use Rattle.h2_wire.specs.Cutter.{Advances}
 use Rattle.h2_wire.proofs.BufferLemmas.{fails_preface, fails_head, fails_payload}
+use Rattle.h2_wire.specs.declared.fault.WireFault.TheVariants as faults
 
 -- the state with other octets kept
 abbrev with_kept : CutterState → List ℕ → CutterState

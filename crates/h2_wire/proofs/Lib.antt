@@ -8,3 +8,4 @@ pub mod LimitLemmas
 pub mod FaultLemmas
 pub mod StepLemmas
 pub mod KeptLemmas
+pub mod Names

@@ -1,20 +1,16 @@
 -- Streams with other limits of payloads.
-use Rattle.std.proofs.Common.{◌≡◌, ℕ, ◌+◌, ◌<◌, ◌≤◌, nat_le, max, Bool, true, false, List, [], ◌∷◌}
-use Rattle.std.proofs.Common.{length, if◌then◌else◌, None, refl, ap, ◌∙◌, inl, inr, arith}
-use Rattle.std.proofs.Common.{length-append}
-use Rattle.std.proofs.lemmas.Bool.{cases_lt, le-leb, lt-leb}
+use Rattle.h2_wire.proofs.Names.{◌≡◌, ℕ, ◌+◌, ◌<◌, ◌≤◌, Bool, true, false, List, [], ◌∷◌, length}
+use Rattle.h2_wire.proofs.Names.{None, refl, ap, ◌∙◌, inl, inr, arith, length-append, le-leb, Head}
+use Rattle.h2_wire.proofs.Names.{head_of, Frame, form_fault-head_fault, length-head_fault, Phase}
+use Rattle.h2_wire.proofs.Names.{Limits, AreFrames, Frames, IsInsidePreface, CutterState, FitsPhase}
+use Rattle.h2_frame.specs.Heads.{head_fault}
+use Rattle.h2_wire.specs.Streams.{preface, expected_preface}
+use Rattle.std.proofs.Common.{nat_le, max, if◌then◌else◌}
+use Rattle.std.proofs.lemmas.Bool.{cases_lt, lt-leb}
 use Rattle.std.proofs.lemmas.Bool.Decides.{nat_tests}
-use Rattle.h2_frame.specs.declared.heads.Head.{Head}
-use Rattle.h2_frame.specs.Heads.{head_of, head_fault}
-use Rattle.h2_frame.specs.Frames.{Frame}
-use Rattle.h2_frame.proofs.HeadLemmas.{form_fault-head_fault, length-head_fault}
-use Rattle.h2_wire.specs.declared.buffer.Phase.{Phase}
-use Rattle.h2_wire.specs.declared.buffer.Phase.TheVariants as phases
-use Rattle.h2_wire.specs.Streams.{preface, expected_preface, Limits, AreFrames, Frames}
-use Rattle.h2_wire.specs.Streams.{IsInsidePreface}
-use Rattle.h2_wire.specs.Cutter.{CutterState, CutterLimited}
-use Rattle.h2_wire.specs.Buffer.{FitsPhase}
+use Rattle.h2_wire.specs.Cutter.{CutterLimited}
 use Rattle.h2_wire.proofs.ReadingLemmas.{nine_in_frame}
+use Rattle.h2_wire.specs.declared.buffer.Phase.TheVariants as phases
 
 -- A head without fault has none by a greater limit.
 wider_head : (head : Head) (limit other : ℕ) → limit ≤ other → head_fault head limit ≡ None

@@ -1,14 +1,11 @@
 -- A stream has one reading or one fault.
-use Rattle.std.proofs.Common.{◌≡◌, ℕ, ◌+◌, ◌<◌, ◌≤◌, Bool, List, [], ◌∷◌, ◌++◌, length, take, drop}
-use Rattle.std.proofs.Common.{Option, None, Some, refl, ap, sym, ◌∙◌, arith, subst, append_assoc}
-use Rattle.std.proofs.Common.{length-append}
-use Rattle.std.proofs.Math.Seq.{take-append_seam, drop-append_seam}
-use Rattle.h2_frame.specs.declared.code.Code.{Code}
-use Rattle.h2_frame.specs.Heads.{head_of, head_fault}
-use Rattle.h2_frame.specs.Frames.{Frame, Encodes, payload_fault}
+use Rattle.h2_wire.proofs.Names.{◌≡◌, ℕ, ◌+◌, ◌<◌, ◌≤◌, Bool, List, [], ◌∷◌, ◌++◌, length, take}
+use Rattle.h2_wire.proofs.Names.{drop, Option, None, Some, refl, ap, sym, ◌∙◌, arith, subst}
+use Rattle.h2_wire.proofs.Names.{append_assoc, length-append, drop-append_seam, Code, head_of}
+use Rattle.h2_wire.proofs.Names.{head_fault, Frame, Encodes, payload_fault, head_of-append}
+use Rattle.h2_wire.proofs.Names.{expected_preface, Limits, IsFrame, AreFrames, IsSound, IsPartial}
+use Rattle.std.proofs.Math.Seq.{take-append_seam}
 use Rattle.h2_frame.proofs.FrameLemmas.{one_frame_lem}
-use Rattle.h2_frame.proofs.HeadLemmas.{head_of-append}
-use Rattle.h2_wire.specs.Streams.{expected_preface, Limits, IsFrame, AreFrames, IsSound, IsPartial}
 
 -- Frames with one more are some.
 pub some_frames : (frames : List Frame) (last : Frame) → frames ++ last ∷ [] ≡ [] → ⊥

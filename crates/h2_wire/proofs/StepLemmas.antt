@@ -1,24 +1,21 @@
 -- What the steps of a call make of the stream, whatever it was: inside the preface, at its end, and
 -- after it.
-use Rattle.std.proofs.Common.{◌≡◌, ◌≢◌, ℕ, ◌+◌, ◌-◌, ◌<◌, ◌≤◌, nat_lt, ◌&&◌, Bool, true, false}
-use Rattle.std.proofs.Common.{List, [], ◌∷◌, ◌++◌, length, take, drop, get_or, None, Some, refl, ap}
-use Rattle.std.proofs.Common.{sym, ◌∙◌, inl, inr, arith, append_assoc, append-nil, length-append}
-use Rattle.std.proofs.Common.{length-take}
+use Rattle.h2_wire.proofs.Names.{◌≡◌, ◌≢◌, ℕ, ◌+◌, ◌-◌, ◌<◌, ◌≤◌, nat_lt, ◌&&◌, Bool, true, false}
+use Rattle.h2_wire.proofs.Names.{List, [], ◌∷◌, ◌++◌, length, take, drop, None, Some, refl, ap, sym}
+use Rattle.h2_wire.proofs.Names.{◌∙◌, inl, inr, arith, append_assoc, append-nil, length-append}
+use Rattle.h2_wire.proofs.Names.{length-take, take-append-drop, Code, Head, head_of, head_fault}
+use Rattle.h2_wire.proofs.Names.{Frame, payload_fault, head_of-append, Limits, IsFrame, IsPartial}
+use Rattle.h2_wire.proofs.Names.{IsAfterPreface, EndsWithFault, CutterState, saturated}
+use Rattle.h2_wire.proofs.Names.{CutterRepresents, CutterContinues, Opens}
+use Rattle.h2_wire.specs.Streams.{preface, expected_preface}
+use Rattle.std.proofs.Common.{get_or}
 use Rattle.std.proofs.lemmas.Bool.{lt-ltb, false≢true}
-use Rattle.std.proofs.lemmas.List.{take_more, take-append-drop}
+use Rattle.std.proofs.lemmas.List.{take_more}
 use Rattle.std.proofs.Math.Seq.{take-add}
-use Rattle.h2_frame.specs.declared.code.Code.{Code}
-use Rattle.h2_frame.specs.declared.heads.Head.{Head}
-use Rattle.h2_frame.specs.Heads.{head_of, head_fault}
-use Rattle.h2_frame.specs.Frames.{Frame, payload_fault}
-use Rattle.h2_frame.proofs.HeadLemmas.{head_of-append}
-use Rattle.h2_wire.specs.declared.fault.WireFault.TheVariants as faults
-use Rattle.h2_wire.specs.Streams.{preface, expected_preface, Limits, IsFrame, IsPartial}
-use Rattle.h2_wire.specs.Streams.{IsAfterPreface, EndsWithFault}
-use Rattle.h2_wire.specs.Cutter.{CutterState, saturated, CutterRepresents, CutterContinues}
-use Rattle.h2_wire.specs.Step.{Opens, OpensSoundly}
+use Rattle.h2_wire.specs.Step.{OpensSoundly}
 use Rattle.h2_wire.proofs.StreamLemmas.{IsPartial-empty, past_more, past_frame, past_not_in_preface}
 use Rattle.h2_wire.proofs.CallLemmas.{saturated-add, continues_after}
+use Rattle.h2_wire.specs.declared.fault.WireFault.TheVariants as faults
 
 -- a preface that is awaited is expected
 expects_awaited : (expects : Bool) (count : ℕ) → true ≡ expects && nat_lt count 24 → expects ≡ true

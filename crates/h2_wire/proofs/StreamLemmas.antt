@@ -1,11 +1,10 @@
 -- Streams that continue: by octets that complete no frame, and by those that do.
-use Rattle.std.proofs.Common.{◌≡◌, ℕ, ◌+◌, nat_lt, ◌&&◌, Bool, true, false, List, [], ◌∷◌, ◌++◌}
-use Rattle.std.proofs.Common.{length, refl, ap, sym, ◌∙◌, arith, append_assoc, length-append}
-use Rattle.std.proofs.Common.{append-nil}
+use Rattle.h2_wire.proofs.Names.{◌≡◌, ℕ, ◌+◌, nat_lt, ◌&&◌, Bool, true, false, List, [], ◌∷◌, ◌++◌}
+use Rattle.h2_wire.proofs.Names.{length, refl, ap, sym, ◌∙◌, arith, append_assoc, length-append}
+use Rattle.h2_wire.proofs.Names.{append-nil, Frame, Limits, IsFrame, AreFrames, IsSound, IsPartial}
+use Rattle.h2_wire.proofs.Names.{IsAfterPreface}
+use Rattle.h2_wire.specs.Streams.{preface, expected_preface}
 use Rattle.std.proofs.lemmas.Bool.{le-ltb}
-use Rattle.h2_frame.specs.Frames.{Frame}
-use Rattle.h2_wire.specs.Streams.{preface, expected_preface, Limits, IsFrame, AreFrames, IsSound}
-use Rattle.h2_wire.specs.Streams.{IsPartial, IsAfterPreface}
 
 -- one more frame after frames
 pub AreFrames-push : (limits : Limits) (preceding : ℕ) (frames : List Frame) (body : List ℕ)

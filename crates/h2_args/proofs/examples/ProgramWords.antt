@@ -1,12 +1,9 @@
 -- Words that begin with no command's name, written out.
-use Rattle.std.proofs.Common.{◌≡◌, [], ◌∷◌, codes, refl}
+use Rattle.h2_args.proofs.Names.{◌≡◌, [], ◌∷◌, codes, refl, DisplayHelp, UnknownArgument, sides}
+use Rattle.h2_args.proofs.Names.{program_faults}
 use Rattle.clap.proofs.OnLiterals.{clap_on_literals}
-use Rattle.clap.specs.declared.error.kind.ErrorKind.TheVariants.{DisplayHelp, DisplayVersion}
-use Rattle.clap.specs.declared.error.kind.ErrorKind.TheVariants.{InvalidSubcommand}
-use Rattle.clap.specs.declared.error.kind.ErrorKind.TheVariants.{UnknownArgument}
+use Rattle.clap.specs.declared.error.kind.ErrorKind.TheVariants.{DisplayVersion, InvalidSubcommand}
 use Rattle.clap.specs.declared.error.kind.ErrorKind.TheVariants as kind
-use Rattle.h2_args.specs.Commands.{sides}
-use Rattle.h2_args.specs.Words.{program_faults}
 
 no_words : program_faults sides sides []
     ≡ kind.DisplayHelpOnMissingArgumentOrSubcommand ∷ []

@@ -1,11 +1,9 @@
 -- Words after `replay`, written out.
-use Rattle.std.proofs.Common.{◌≡◌, [], ◌∷◌, true, false, codes, refl, Some}
+use Rattle.h2_args.proofs.Names.{◌≡◌, [], ◌∷◌, true, false, codes, refl, Some, ArgumentConflict}
+use Rattle.h2_args.proofs.Names.{DisplayHelp, UnknownArgument, sides, replay_faults}
 use Rattle.clap.proofs.OnLiterals.{clap_on_literals}
-use Rattle.clap.specs.declared.error.kind.ErrorKind.TheVariants.{ArgumentConflict, DisplayHelp}
-use Rattle.clap.specs.declared.error.kind.ErrorKind.TheVariants.{UnknownArgument}
 use Rattle.h2_spec_log.specs.declared.role.Role.TheVariants.{Client, Server}
-use Rattle.h2_args.specs.Commands.{sides}
-use Rattle.h2_args.specs.Words.{replay_faults, replay_options_of}
+use Rattle.h2_args.specs.Words.{replay_options_of}
 
 no_words : replay_options_of sides [] ≡ Some (record { hex = false; role = Server })
 unfolding clap_on_literals

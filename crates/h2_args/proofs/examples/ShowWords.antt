@@ -1,12 +1,11 @@
 -- Words after `show`, written out.
-use Rattle.std.proofs.Common.{◌≡◌, [], ◌∷◌, true, false, codes, refl, Some, None}
+use Rattle.h2_args.proofs.Names.{◌≡◌, [], ◌∷◌, true, false, codes, refl, Some, None}
+use Rattle.h2_args.proofs.Names.{ArgumentConflict, DisplayHelp, UnknownArgument, ValueValidation}
+use Rattle.h2_args.proofs.Names.{sides, show_faults}
 use Rattle.clap.proofs.OnLiterals.{clap_on_literals}
-use Rattle.clap.specs.declared.error.kind.ErrorKind.TheVariants.{ArgumentConflict, DisplayHelp}
-use Rattle.clap.specs.declared.error.kind.ErrorKind.TheVariants.{InvalidValue, UnknownArgument}
-use Rattle.clap.specs.declared.error.kind.ErrorKind.TheVariants.{TooManyValues, ValueValidation}
+use Rattle.clap.specs.declared.error.kind.ErrorKind.TheVariants.{InvalidValue, TooManyValues}
 use Rattle.h2_show.specs.declared.options.Side.TheVariants.{Client, Server}
-use Rattle.h2_args.specs.Commands.{sides}
-use Rattle.h2_args.specs.Words.{show_faults, show_options_of}
+use Rattle.h2_args.specs.Words.{show_options_of}
 
 no_words : show_options_of sides []
     ≡ Some (record { hex = false; from = Client; max_frame = 16384 })

@@ -1,8 +1,7 @@
 -- Words after `serve`, `get` and `loop`, written out.
-use Rattle.std.proofs.Common.{◌≡◌, [], ◌∷◌, codes, refl, Some}
+use Rattle.h2_args.proofs.Names.{◌≡◌, [], ◌∷◌, codes, refl, Some, UnknownArgument, ValueValidation}
 use Rattle.clap.proofs.OnLiterals.{clap_on_literals}
 use Rattle.clap.specs.declared.error.kind.ErrorKind.TheVariants.{MissingRequiredArgument}
-use Rattle.clap.specs.declared.error.kind.ErrorKind.TheVariants.{UnknownArgument, ValueValidation}
 use Rattle.h2_args.specs.Words.{get_faults, loop_faults, octets_asked, serve_faults}
 use Rattle.h2_args.specs.Words.{serve_options_of, url_of}
 

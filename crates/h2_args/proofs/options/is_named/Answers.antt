@@ -1,6 +1,4 @@
-use Rattle.std.proofs.Common.{◌∙◌, ap, Option}
-use Rattle.clap.specs.Words.{Text, found_of}
-use Rattle.clap.proofs.WalkLemmas.{first_value-rows}
+use Rattle.h2_args.proofs.Names.{◌∙◌, ap, Option, Text, found_of, first_value-rows}
 use Rattle.h2_args.specs.Words.{has_value}
 use Rattle.h2_args.proofs.options.is_named.Goals as goal
 

@@ -1,5 +1,4 @@
-use Rattle.std.proofs.Common.{◌∙◌}
-use Rattle.clap.specs.Words.{found_of}
+use Rattle.h2_args.proofs.Names.{◌∙◌, found_of}
 use Rattle.h2_args.proofs.OptionLemmas.{flag_read}
 use Rattle.h2_args.proofs.options.is_set.Goals as goal
 

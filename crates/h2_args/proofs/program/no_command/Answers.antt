@@ -1,8 +1,5 @@
-use Rattle.std.proofs.Common.{◌∙◌, ap, sym, IfErr, map, string_bytes, refl, rules}
-use Rattle.std.proofs.lemmas.Result.{IfErr-weaker}
-use Rattle.clap.specs.Words.{App, HasKind, fault_of, is_simple_and_free}
-use Rattle.h2_args.specs.Commands.{sides}
-use Rattle.h2_args.specs.Words.{program_faults}
+use Rattle.h2_args.proofs.Names.{◌∙◌, ap, sym, IfErr, map, string_bytes, refl, rules, IfErr-weaker}
+use Rattle.h2_args.proofs.Names.{App, HasKind, fault_of, is_simple_and_free, sides, program_faults}
 use Rattle.h2_args.proofs.program.no_command.Goals as goal
 
 pub returns-clause-ok : goal.returns-clause-ok

@@ -1,8 +1,9 @@
-use Rattle.std.proofs.Common.{◌≡◌, ◌∙◌, ap, ap₂}
+use Rattle.h2_args.proofs.Names.{◌≡◌, ◌∙◌, ap, App, app_of, Command, get_app, loop_app, replay_app}
+use Rattle.h2_args.proofs.Names.{serve_app, show_app}
+use Rattle.std.proofs.Common.{ap₂}
 use Rattle.std.proofs.lemmas.Result.{IfOk-weaker}
-use Rattle.clap.specs.Words.{App, AddsSubcommand, app_of, with_subcommand}
-use Rattle.clap.specs.declared.builder.command.Command.{Command}
-use Rattle.h2_args.specs.Commands.{bare_program, get_app, loop_app, replay_app, serve_app, show_app}
+use Rattle.clap.specs.Words.{AddsSubcommand, with_subcommand}
+use Rattle.h2_args.specs.Commands.{bare_program}
 use Rattle.h2_args.proofs.CommandLemmas.{get_is_alone, loop_is_alone, replay_is_alone}
 use Rattle.h2_args.proofs.CommandLemmas.{serve_is_alone, show_is_alone}
 use Rattle.h2_args.proofs.RequiredLemmas.{IsAlone, simple}

@@ -1,8 +1,6 @@
-use Rattle.std.proofs.Common.{◌∙◌, IfErr, map, string_bytes, refl, ap, sym, rules, Some}
-use Rattle.std.proofs.lemmas.Result.{IfErr-weaker}
-use Rattle.clap.specs.Words.{HasKind}
-use Rattle.h2_args.specs.Commands.{replay_app, sides}
-use Rattle.h2_args.specs.Words.{replay_faults, replay_options_in}
+use Rattle.h2_args.proofs.Names.{◌∙◌, IfErr, map, string_bytes, refl, ap, sym, rules, Some}
+use Rattle.h2_args.proofs.Names.{IfErr-weaker, HasKind, replay_app, sides, replay_faults}
+use Rattle.h2_args.specs.Words.{replay_options_in}
 use Rattle.h2_args.proofs.GivenLemmas.{given_by-Ok}
 use Rattle.h2_args.proofs.replay.replay_args.Goals as goal
 

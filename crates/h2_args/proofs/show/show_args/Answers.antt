@@ -1,16 +1,14 @@
-use Rattle.std.proofs.Common.{◌≡◌, ◌∙◌, ℕ, IfErr, map, string_bytes, refl, ap, sym, rules, Some}
-use Rattle.std.proofs.Common.{arith, codes}
-use Rattle.std.proofs.lemmas.Result.{IfErr-weaker}
-use Rattle.std.specs.Str.Parse.{ExplainsUnsignedError, HasUnsignedDigitsIfOk, ParsesUnsigned}
-use Rattle.clap.specs.Words.{HasKind, found_of, rows_of}
+use Rattle.h2_args.proofs.Names.{◌≡◌, ◌∙◌, ℕ, IfErr, map, string_bytes, refl, ap, sym, rules, Some}
+use Rattle.h2_args.proofs.Names.{arith, codes, IfErr-weaker, ExplainsUnsignedError}
+use Rattle.h2_args.proofs.Names.{HasUnsignedDigitsIfOk, ParsesUnsigned, HasKind, found_of, rows_of}
+use Rattle.h2_args.proofs.Names.{show_app, sides, show_faults}
 use Rattle.h2_show.specs.declared.options.ShowOptions.{ShowOptions}
-use Rattle.h2_args.specs.Commands.{show_app, sides}
-use Rattle.h2_args.specs.Words.{show_faults, show_options_in}
+use Rattle.h2_args.specs.Words.{show_options_in}
 use Rattle.h2_args.proofs.CommandLemmas.{show_is_alone, show_names_limit}
 use Rattle.h2_args.proofs.GivenLemmas.{given_by-Ok}
 use Rattle.h2_args.proofs.NumberOptionLemmas.{GivesNumberOr, option_number}
-use Rattle.h2_args.proofs.show.show_args.Goals as goal
 use Rattle.h2_args.proofs.show.show_args.Goals.{After-get_one}
+use Rattle.h2_args.proofs.show.show_args.Goals as goal
 
 -- the limit of payloads is the number that is given, or 16,384
 limit : (c : After-get_one)

@@ -1,9 +1,6 @@
-use Rattle.std.proofs.Common.{◌≡◌, ◌∙◌, [], Option, refl, ap, sym, codes, true, is_some}
-use Rattle.std.proofs.Common.{false, Some, None}
-use Rattle.std.specs.Prelude.{unwrap_or}
-use Rattle.clap.specs.Words.{Text, first_of, found_of, rows_of}
-use Rattle.clap.proofs.WalkLemmas.{first_value-rows}
-use Rattle.h2_args.specs.Commands.{get_app, required_rule}
+use Rattle.h2_args.proofs.Names.{◌≡◌, ◌∙◌, [], Option, refl, ap, sym, codes, true, is_some, false}
+use Rattle.h2_args.proofs.Names.{Some, None, unwrap_or, Text, first_of, found_of, rows_of}
+use Rattle.h2_args.proofs.Names.{first_value-rows, get_app, required_rule}
 use Rattle.h2_args.specs.Words.{url_in}
 use Rattle.h2_args.proofs.CommandLemmas.{get_is_alone, get_wants_url}
 use Rattle.h2_args.proofs.GivenLemmas.{given_by-Ok}

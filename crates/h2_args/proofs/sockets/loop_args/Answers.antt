@@ -1,14 +1,11 @@
-use Rattle.std.proofs.Common.{◌≡◌, ◌∙◌, refl, ap, sym, codes, arith}
-use Rattle.std.proofs.Common.{Some, None}
-use Rattle.std.specs.Str.Parse.{ExplainsUnsignedError, HasUnsignedDigitsIfOk, ParsesUnsigned}
-use Rattle.clap.specs.Words.{found_of, rows_of}
-use Rattle.h2_args.specs.Commands.{loop_app}
-use Rattle.h2_args.specs.Words.{number_given}
+use Rattle.h2_args.proofs.Names.{◌≡◌, ◌∙◌, refl, ap, sym, codes, arith, Some, None}
+use Rattle.h2_args.proofs.Names.{ExplainsUnsignedError, HasUnsignedDigitsIfOk, ParsesUnsigned}
+use Rattle.h2_args.proofs.Names.{found_of, rows_of, loop_app, number_given}
 use Rattle.h2_args.proofs.CommandLemmas.{loop_is_alone, loop_wants_number}
 use Rattle.h2_args.proofs.GivenLemmas.{given_by-Ok}
 use Rattle.h2_args.proofs.RequiredLemmas.{GivesNumber, required_number}
-use Rattle.h2_args.proofs.sockets.loop_args.Goals as goal
 use Rattle.h2_args.proofs.sockets.loop_args.Goals.{After-get_one}
+use Rattle.h2_args.proofs.sockets.loop_args.Goals as goal
 
 number : (c : After-get_one)
     → GivesNumber c.get_one.result 0 1048576 (codes "N")

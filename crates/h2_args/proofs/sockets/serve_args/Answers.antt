@@ -1,14 +1,13 @@
-use Rattle.std.proofs.Common.{◌≡◌, ◌∙◌, refl, ap, sym, codes, arith, Some, None}
-use Rattle.std.specs.Str.Parse.{ExplainsUnsignedError, HasUnsignedDigitsIfOk, ParsesUnsigned}
-use Rattle.clap.specs.Words.{found_of, rows_of}
-use Rattle.h2_args.specs.Commands.{serve_app}
+use Rattle.h2_args.proofs.Names.{◌≡◌, ◌∙◌, refl, ap, sym, codes, arith, Some, None}
+use Rattle.h2_args.proofs.Names.{ExplainsUnsignedError, HasUnsignedDigitsIfOk, ParsesUnsigned}
+use Rattle.h2_args.proofs.Names.{found_of, rows_of, serve_app}
 use Rattle.h2_args.specs.Words.{serve_options_in}
 use Rattle.h2_args.specs.declared.sockets.ServeOptions.{ServeOptions}
 use Rattle.h2_args.proofs.CommandLemmas.{serve_is_alone, serve_wants_count, serve_wants_port}
 use Rattle.h2_args.proofs.GivenLemmas.{given_by-Ok}
 use Rattle.h2_args.proofs.RequiredLemmas.{GivesNumber, required_number}
-use Rattle.h2_args.proofs.sockets.serve_args.Goals as goal
 use Rattle.h2_args.proofs.sockets.serve_args.Goals.{After-get_one, After-get_one-2}
+use Rattle.h2_args.proofs.sockets.serve_args.Goals as goal
 
 -- the first number of the words is the port
 port_of : (c : After-get_one) → GivesNumber c.get_one.result 1 65535 (codes "PORT")

@@ -1,13 +1,13 @@
 -- The octets that are lent are those that lie there.
 use Rattle.h2_ends.proofs.Names.{◌≡◌, ◌∙◌, ℕ, List, [], Bool, false, Some, refl, sym, ap, both_ways}
-use Rattle.h2_ends.proofs.Names.{Field, End, EndTook, Handed}
-use Rattle.h2_ends.specs.Loans.{BodyLiesIn, IsBodyIn, event_handed, handed_value}
-use Rattle.h2_ends.specs.EndEvents.{LocatedPart, end_event_with_parts}
-use Rattle.h2_ends.specs.declared.event.EndEvent.TheVariants as events
+use Rattle.h2_ends.proofs.Names.{Field, End, EndTook, Handed, handed_value, LocatedPart}
+use Rattle.h2_ends.specs.Loans.{BodyLiesIn, IsBodyIn, event_handed}
+use Rattle.h2_ends.specs.EndEvents.{end_event_with_parts}
 use Rattle.h2_wire.specs.Cutter.{body_at}
 use Rattle.h2_wire.specs.declared.cut.Complete.{Complete}
 use Rattle.std.specs.Borrow.{Bor}
 use Rattle.h2_ends.proofs.lending.lend.Goals.{in-Body+in-Some-octets, in_default-handed}
+use Rattle.h2_ends.specs.declared.event.EndEvent.TheVariants as events
 use Rattle.h2_ends.proofs.lending.lend.Goals as goal
 
 -- An event is lent with the fields that are kept, and the octets of its body, if it is one.

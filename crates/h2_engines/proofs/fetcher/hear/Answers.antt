@@ -1,12 +1,12 @@
 -- By the lemmas on what a client hears.
 use Rattle.h2_engines.proofs.Names.{◌≡◌, refl, ap, arith, inl, inr, err_from_is_err_and}
 use Rattle.h2_engines.proofs.Names.{event_handed}
-use Rattle.std.proofs.Common.{if◌then◌else◌}
 use Rattle.h2_engines.specs.ClientSteps.{ErrsFetching}
+use Rattle.std.proofs.Common.{if◌then◌else◌}
 use Rattle.h2_engines.proofs.FetcherHears.{heard_nothing, heard_part, heard_error, heard_fault}
 use Rattle.h2_engines.proofs.FetcherHears.{errs_reset}
-use Rattle.h2_engines.specs.declared.request.Next.TheVariants as goes
 use Rattle.h2_engines.proofs.fetcher.hear.Goals.{then-is_whole, else-is_whole}
+use Rattle.h2_engines.specs.declared.request.Next.TheVariants as goes
 use Rattle.h2_engines.proofs.fetcher.hear.Goals as goal
 
 pub returns-in-Some-Reset-clause-hears : goal.returns-in-Some-Reset-clause-hears

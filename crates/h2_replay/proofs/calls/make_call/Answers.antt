@@ -1,13 +1,12 @@
 -- By the lemmas on each call.
-use Rattle.std.proofs.Common.{refl, subst, List, ℕ, arith}
-use Rattle.hpack.specs.declared.types.field.Field.{Field}
+use Rattle.h2_replay.proofs.Names.{refl, subst, List, ℕ, arith, Field, SendData, Number, Count}
+use Rattle.h2_replay.proofs.Names.{Done, ConnAnswers, answer_by}
+use Rattle.h2_spec_log.specs.Acts.{IsTypedAct, Open, SendFields}
 use Rattle.hpack.specs.Written.{AreOctets}
 use Rattle.std.specs.List.{AllByRecursion}
 use Rattle.hpack_text.specs.Bits.{IsOctet}
-use Rattle.h2_spec_log.specs.Acts.{IsTypedAct, Open, SendFields, SendData, Number, Count, Done}
-use Rattle.h2_conn.specs.Conn.{ConnAnswers, answer_by}
-use Rattle.h2_replay.proofs.CallLemmas.{answered_call, shown_call, put_out_call, typed_as}
-use Rattle.h2_replay.proofs.CallLemmas.{makes_as, shows_itself}
+use Rattle.h2_replay.proofs.CallLemmas.{answered_call, shown_call, put_out_call, typed_as, makes_as}
+use Rattle.h2_replay.proofs.CallLemmas.{shows_itself}
 use Rattle.h2_replay.proofs.calls.make_call.Goals as goal
 
 pub returns-in-Open-clause-typed : goal.returns-in-Open-clause-typed

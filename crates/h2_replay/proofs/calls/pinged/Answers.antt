@@ -1,6 +1,7 @@
 -- Octets are of their type, and the call gives nothing out.
-use Rattle.std.proofs.Common.{refl, rules}
-use Rattle.h2_spec_log.specs.Acts.{IsTypedAct, Done}
+use Rattle.h2_replay.proofs.Names.{refl, Done}
+use Rattle.h2_spec_log.specs.Acts.{IsTypedAct}
+use Rattle.std.proofs.Common.{rules}
 use Rattle.hpack_text.proofs.ReadLemmas.{all_octets}
 use Rattle.h2_replay.proofs.CallLemmas.{answered_call, shows_itself}
 use Rattle.h2_replay.proofs.calls.pinged.Goals as goal

@@ -1,7 +1,5 @@
 -- The next field is copied.
-use Rattle.std.proofs.Common.{◌≡◌, Some}
-use Rattle.hpack.specs.declared.types.field.Field.{Field}
-use Rattle.std.specs.List.{slice_get}
+use Rattle.h2_replay.proofs.Names.{◌≡◌, Some, Field, slice_get}
 use Rattle.h2_replay.proofs.Octets.{take_next}
 use Rattle.h2_replay.proofs.events.copy_list.Goals as goal
 

@@ -1,4 +1,4 @@
-use Rattle.std.proofs.Common.{◌≡◌, take}
+use Rattle.h2_replay.proofs.Names.{◌≡◌, take}
 use Rattle.h2_replay.proofs.events.copy_list.Given as goal
 
 abbrev pub invariant-loop-place : goal.invariant-loop-place

@@ -1,6 +1,5 @@
 -- By the last act.
-use Rattle.h2_laws_end.specs.Replays.{Make}
-use Rattle.std.proofs.Common.{◌∷◌}
+use Rattle.h2_replay.proofs.Names.{Make, ◌∷◌}
 use Rattle.h2_replay.proofs.JoinedLemmas.{last_act}
 use Rattle.h2_replay.proofs.laws.calls_of_a_replay.Goals as goal
 

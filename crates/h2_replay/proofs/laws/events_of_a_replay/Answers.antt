@@ -1,12 +1,9 @@
 -- By the laws of what an end reads, and of logs with one script.
-use Rattle.std.proofs.Common.{sym, ap, ◌∙◌, reverse}
-use Rattle.h2_spec_log.specs.Log.{Log}
-use Rattle.h2_laws_end.proofs.ReplayedOctets.{replay_recorded}
+use Rattle.h2_replay.proofs.Names.{sym, ap, ◌∙◌, reverse, Log, replay_recorded, replay_closed}
 use Rattle.h2_laws_end.proofs.RunsOfLogs.{same_but_turns}
 use Rattle.h2_replay.proofs.JoinedLemmas.{events_kept}
 use Rattle.h2_laws_end.proofs.Grouped.{items_grouped}
 use Rattle.h2_laws_end.proofs.ReadingCalls.{log_has_readings}
-use Rattle.h2_laws_end.proofs.ReplayedLogs.{replay_closed}
 use Rattle.h2_replay.proofs.laws.events_of_a_replay.Goals as goal
 
 pub returns-clause-grouped : goal.returns-clause-grouped

@@ -1,6 +1,6 @@
 -- By the law of failures.
+use Rattle.h2_replay.proofs.Names.{replay_closed}
 use Rattle.h2_laws_end.proofs.Failures.{failed_last}
-use Rattle.h2_laws_end.proofs.ReplayedLogs.{replay_closed}
 use Rattle.h2_replay.proofs.laws.fault_of_a_replay.Goals as goal
 
 pub returns : goal.returns

@@ -1,8 +1,6 @@
 -- By the laws of what an end writes.
-use Rattle.std.proofs.Common.{◌∙◌}
+use Rattle.h2_replay.proofs.Names.{◌∙◌, replay_closed, replay_recorded}
 use Rattle.h2_laws_log.proofs.TurnsOfLogs.{turns_report}
-use Rattle.h2_laws_end.proofs.ReplayedLogs.{replay_closed}
-use Rattle.h2_laws_end.proofs.ReplayedOctets.{replay_recorded}
 use Rattle.h2_laws_end.proofs.Replies.{replies_of_logs}
 use Rattle.h2_laws_end.proofs.SendableCalls.{written_sendable}
 use Rattle.h2_laws_end.proofs.Sendings.{log_sent}

@@ -1,6 +1,6 @@
 -- By the lemmas on what turns tell together.
-use Rattle.std.proofs.Common.{◌∙◌, ap, sym, ◌++◌, List, ℕ, reverse}
-use Rattle.h2_laws_end.proofs.ReplayedOctets.{replay_recorded, replay_used, replay_all_used}
+use Rattle.h2_replay.proofs.Names.{◌∙◌, ap, sym, ◌++◌, List, ℕ, reverse, replay_recorded}
+use Rattle.h2_laws_end.proofs.ReplayedOctets.{replay_used, replay_all_used}
 use Rattle.h2_replay.proofs.JoinedLemmas.{used_kept, written_kept, events_kept}
 use Rattle.h2_replay.proofs.laws.turns_are_of_the_log.Goals as goal
 

@@ -1,8 +1,8 @@
 -- A call that is answered with a number was accepted.
-use Rattle.std.proofs.Common.{◌≡◌, ◌<◌, ℕ, Bool, false, List, sym, pos, int_lt}
-use Rattle.h2_spec_log.specs.Acts.{SendData, Count}
-use Rattle.h2_spec_log.specs.Log.{Log, send_window}
-use Rattle.h2_spec_log.specs.LogCalls.{MayAnswer, with_call, accepts, refuses, lacks, fails}
+use Rattle.h2_replay.proofs.Names.{◌≡◌, ℕ, Bool, false, List, sym, SendData, Count, Log, with_call}
+use Rattle.std.proofs.Common.{◌<◌, pos, int_lt}
+use Rattle.h2_spec_log.specs.Log.{send_window}
+use Rattle.h2_spec_log.specs.LogCalls.{MayAnswer, accepts, refuses, lacks, fails}
 use Rattle.h2_spec_log.specs.Windows.{connection_send_window}
 use Rattle.h2_laws_end.proofs.DataWindows.{windows_hold}
 use Rattle.h2_replay.proofs.laws.windows_of_a_replay.Goals as goal

@@ -1,5 +1,5 @@
 -- By the lemma on calls.
-use Rattle.std.proofs.Common.{refl, ◌∙◌, ap, ◌++◌, List, ℕ, drop}
+use Rattle.h2_replay.proofs.Names.{refl, ◌∙◌, ap, ◌++◌, List, ℕ, drop}
 use Rattle.h2_replay.proofs.RecordLemmas.{call_records}
 use Rattle.h2_replay.proofs.run.keep_call.Goals as goal
 

@@ -1,7 +1,6 @@
 -- By the lemma on octets that are taken.
-use Rattle.std.proofs.Common.{refl, subst, List, ℕ, []}
+use Rattle.h2_replay.proofs.Names.{refl, subst, List, ℕ, [], ReplayTakesOctets}
 use Rattle.h2_replay.specs.declared.turns.Turn.{Turn}
-use Rattle.h2_replay.specs.Taking.{ReplayTakesOctets}
 use Rattle.h2_replay.proofs.RecordLemmas.{take_records}
 use Rattle.h2_replay.proofs.run.keep_take.Goals as goal
 

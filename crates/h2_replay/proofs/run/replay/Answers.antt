@@ -1,13 +1,10 @@
 -- A new end, and then one act after another.
-use Rattle.std.proofs.Common.{refl, ◌∙◌, ap, ◌++◌, ◌∷◌, [], List, sym, subst}
-use Rattle.h2_flow.specs.ConfigValues.{values_of}
-use Rattle.h2_laws_end.specs.Replays.{ReplayAct}
-use Rattle.h2_spec_log.specs.LogCalls.{opened}
-use Rattle.h2_replay.specs.declared.turns.Turn.{Turn}
-use Rattle.h2_replay.specs.declared.turns.Turn.TheVariants as turns
-use Rattle.h2_replay.specs.Recording.{Records}
+use Rattle.h2_replay.proofs.Names.{refl, ◌∙◌, ap, ◌++◌, ◌∷◌, [], List, sym, subst, values_of}
+use Rattle.h2_replay.proofs.Names.{ReplayAct, opened, Records}
 use Rattle.h2_replay.specs.Values.{acts_made}
+use Rattle.h2_replay.specs.declared.turns.Turn.{Turn}
 use Rattle.h2_replay.proofs.RecordLemmas.{opening_records, one_more_act}
+use Rattle.h2_replay.specs.declared.turns.Turn.TheVariants as turns
 use Rattle.h2_replay.proofs.run.replay.Goals as goal
 
 pub loop-act-init : goal.loop-act-init

@@ -1,7 +1,5 @@
 -- The acts so far are made.
-use Rattle.h2_flow.specs.ConfigValues.{values_of}
-use Rattle.h2_replay.specs.Recording.{Records}
-use Rattle.h2_replay.specs.Values.{acts_made}
+use Rattle.h2_replay.proofs.Names.{values_of, Records, acts_made}
 use Rattle.h2_replay.proofs.run.replay.Given as goal
 
 abbrev pub invariant-loop-act : goal.invariant-loop-act

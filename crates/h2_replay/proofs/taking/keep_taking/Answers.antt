@@ -1,11 +1,8 @@
 -- Two turns are kept, or three.
-use Rattle.std.proofs.Common.{◌∙◌, ap, sym, refl, None, Option, List, map}
-use Rattle.h2_spec_log.specs.Acts.{In, Happened}
-use Rattle.h2_spec_log.specs.Events.{Event}
-use Rattle.h2_frame.specs.declared.code.Code.{Code}
-use Rattle.h2_replay.specs.Replay.{each_octet, all_by_octets}
-use Rattle.h2_replay.specs.Values.{KeptEvent, kept_event_value}
-use Rattle.h2_replay.specs.Taking.{reported_by, taken_events}
+use Rattle.h2_replay.proofs.Names.{◌∙◌, ap, sym, refl, None, Option, List, map, In, Happened, Event}
+use Rattle.h2_replay.proofs.Names.{Code, each_octet, all_by_octets, KeptEvent, kept_event_value}
+use Rattle.h2_replay.proofs.Names.{taken_events}
+use Rattle.h2_replay.specs.Taking.{reported_by}
 use Rattle.h2_replay.proofs.TakingLemmas.{kept_twice, kept_without, kept_with, one_event}
 use Rattle.h2_replay.proofs.taking.keep_taking.Goals as goal
 

@@ -1,8 +1,6 @@
 -- So far what has happened is that of the octets before the rest, and it goes on with the rest.
-use Rattle.std.proofs.Common.{◌≤◌, vec_len}
-use Rattle.h2_spec_log.specs.Acts.{Values}
-use Rattle.h2_spec_log.specs.Log.{Log}
-use Rattle.h2_conn.specs.Conn.{ConnRepresents}
+use Rattle.h2_replay.proofs.Names.{◌≤◌, Values, Log, ConnRepresents}
+use Rattle.std.proofs.Common.{vec_len}
 use Rattle.h2_replay.proofs.AllLemmas.{TakesSome}
 use Rattle.h2_replay.proofs.taking.take_all.Given as goal
 

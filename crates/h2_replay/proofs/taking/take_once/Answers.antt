@@ -1,13 +1,11 @@
 -- By the lemmas on the octets that a call of `take` has used.
-use Rattle.std.proofs.Common.{◌≡◌, ap, sym, refl, subst, Some, Option}
+use Rattle.h2_replay.proofs.Names.{◌≡◌, ap, sym, refl, subst, Some, Option, Event, Took, MayTake}
+use Rattle.h2_replay.proofs.Names.{KeptEvent, kept_event_value}
 use Rattle.std.specs.Option.{option_map}
-use Rattle.h2_spec_log.specs.Events.{Event}
-use Rattle.h2_laws_end.specs.Takes.{Took, MayTake}
 use Rattle.h2_conn.specs.Events.{lent_value}
-use Rattle.h2_replay.specs.Values.{KeptEvent, kept_event_value}
 use Rattle.h2_replay.proofs.TakingLemmas.{took_input, failed_input}
-use Rattle.h2_replay.proofs.taking.take_once.Goals as goal
 use Rattle.h2_replay.proofs.taking.take_once.Goals.{in-Some+in_ok-copy_event-in-Some, in-None}
+use Rattle.h2_replay.proofs.taking.take_once.Goals as goal
 
 pub returns-in-Ok-clause-takes : goal.returns-in-Ok-clause-takes
 returns-in-Ok-clause-takes c values log represents =

@@ -1,7 +1,6 @@
 -- By the lemmas on a call of `take`, and what is kept of it.
-use Rattle.std.proofs.Common.{sym, subst, take, length}
-use Rattle.h2_replay.specs.declared.taking.Next.{Next}
-use Rattle.h2_replay.specs.Taking.{GoesOn, IsWithinPiece, taken_answer, taken_events}
+use Rattle.h2_replay.proofs.Names.{sym, subst, take, length, Next, GoesOn, IsWithinPiece}
+use Rattle.h2_replay.proofs.Names.{taken_answer, taken_events}
 use Rattle.h2_replay.proofs.StepTakes.{take_adds}
 use Rattle.h2_replay.proofs.TakingLemmas.{goes_on_of, is_within, take_keeps, used_are, joined_are}
 use Rattle.h2_replay.proofs.TakingLemmas.{same_events}

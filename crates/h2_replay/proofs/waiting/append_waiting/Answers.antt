@@ -1,6 +1,5 @@
 -- The queued output lies in two slices.
-use Rattle.std.proofs.Common.{◌∙◌, ◌++◌, ◌-◌, ℕ, List, ap, sym, append_assoc, drop}
-use Rattle.h2_output.proofs.PieceLemmas.{drop-parts}
+use Rattle.h2_replay.proofs.Names.{◌∙◌, ◌++◌, ◌-◌, ℕ, List, ap, sym, append_assoc, drop, drop-parts}
 use Rattle.h2_replay.proofs.Octets.{drop_min, rest_of}
 use Rattle.h2_replay.proofs.waiting.append_waiting.Goals as goal
 

@@ -1,6 +1,5 @@
 -- What was put out comes before the queued output.
-use Rattle.std.proofs.Common.{◌∙◌, ◌++◌, ◌-◌, ℕ, List, ap, sym, drop}
-use Rattle.h2_output.proofs.PieceLemmas.{drop-parts}
+use Rattle.h2_replay.proofs.Names.{◌∙◌, ◌++◌, ◌-◌, ℕ, List, ap, sym, drop, drop-parts}
 use Rattle.h2_replay.proofs.Octets.{rest_of}
 use Rattle.h2_replay.proofs.waiting.joined_output.Goals as goal
 

@@ -1,14 +1,5 @@
-use Rattle.std.proofs.Common.{◌≡◌, length}
-use Rattle.std.proofs.Common.{◌∙◌, rules}
-use mir.Syntax.{w64}
-use mir.Val.{SFits}
-use Rattle.std.specs.Map.{values_of}
-use Rattle.std.specs.Map.Iter.{deref}
-use Rattle.std.proofs.lemmas.Int.{to_z-of_z}
-use Rattle.std.proofs.lemmas.List.{length_push}
-use Rattle.std.proofs.lemmas.Map.Iter.{iter_turn, iter_end}
-use Rattle.h2_streams.specs.Table.{greater_of}
-use Rattle.h2_streams.specs.declared.table.Kept.{Kept}
+use Rattle.h2_streams.proofs.Names.{◌≡◌, length, ◌∙◌, rules, w64, SFits, values_of, deref}
+use Rattle.h2_streams.proofs.Names.{to_z-of_z, length_push, iter_turn, iter_end, greater_of, Kept}
 use Rattle.h2_streams.proofs.GreatestWindows.{greatest_more, greatest_of_all}
 use Rattle.h2_streams.proofs.table.greatest_send_offset.Goals as goal
 

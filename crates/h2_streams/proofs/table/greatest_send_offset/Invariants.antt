@@ -1,5 +1,4 @@
-use Rattle.std.proofs.Common.{length}
-use Rattle.std.specs.Map.{values_of}
+use Rattle.h2_streams.proofs.Names.{length, values_of}
 use Rattle.h2_streams.proofs.GreatestWindows.{IsGreatestBefore}
 use Rattle.h2_streams.proofs.table.greatest_send_offset.Given as goal
 

@@ -1,8 +1,5 @@
-use Rattle.std.proofs.Common.{◌≡◌, ℕ, ◌^◌, ◌<◌, ◌∙◌, length, rules}
-use Rattle.std.specs.Map.{keys_of}
-use Rattle.std.specs.Map.Iter.{deref}
-use Rattle.std.proofs.lemmas.List.{length_push}
-use Rattle.std.proofs.lemmas.Map.Iter.{iter_turn, iter_end}
+use Rattle.h2_streams.proofs.Names.{◌≡◌, ℕ, ◌^◌, ◌<◌, ◌∙◌, length, rules, keys_of, deref}
+use Rattle.h2_streams.proofs.Names.{length_push, iter_turn, iter_end}
 use Rattle.h2_streams.proofs.ActiveNumbers.{least_more, none_of_all, least_of_all}
 use Rattle.h2_streams.proofs.table.least_above.Goals as goal
 

@@ -1,5 +1,4 @@
-use Rattle.std.proofs.Common.{length}
-use Rattle.std.specs.Map.{keys_of}
+use Rattle.h2_streams.proofs.Names.{length, keys_of}
 use Rattle.h2_streams.proofs.ActiveNumbers.{LeastBefore}
 use Rattle.h2_streams.proofs.table.least_above.Given as goal
 

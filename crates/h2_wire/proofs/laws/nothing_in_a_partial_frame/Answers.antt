@@ -1,5 +1,5 @@
 -- By the lemmas on partial frames.
-use Rattle.std.proofs.Common.{refl, ◌++◌}
+use Rattle.h2_wire.proofs.Names.{refl, ◌++◌}
 use Rattle.h2_wire.proofs.FaultLemmas.{partial_no_head, partial_no_frame}
 use Rattle.h2_wire.proofs.ReadingLemmas.{partial_stops}
 use Rattle.h2_wire.proofs.laws.nothing_in_a_partial_frame.Goals as goal

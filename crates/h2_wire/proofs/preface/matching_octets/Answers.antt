@@ -1,7 +1,8 @@
 -- The octets continue the preface as far as they match.
-use Rattle.std.proofs.Common.{◌≡◌, ◌+◌, ◌<◌, drop, get_or, arith, get_or-drop, length-drop}
-use Rattle.std.proofs.lemmas.List.{take_more_same}
+use Rattle.h2_wire.proofs.Names.{◌≡◌, ◌+◌, ◌<◌, drop, arith, length-drop}
 use Rattle.h2_wire.specs.Streams.{preface}
+use Rattle.std.proofs.Common.{get_or, get_or-drop}
+use Rattle.std.proofs.lemmas.List.{take_more_same}
 use Rattle.h2_wire.proofs.preface.matching_octets.Goals as goal
 use Rattle.h2_wire.proofs.preface.matching_octets.Goals.{
   then-matched-count-eq24-via-then-matched-count-eq24,

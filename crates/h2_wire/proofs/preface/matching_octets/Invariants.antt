@@ -1,6 +1,5 @@
 -- The octets so far continue the preface.
-use Rattle.std.proofs.Common.{◌≡◌, ◌+◌, ◌≤◌, take, drop}
-use Rattle.h2_wire.specs.Streams.{preface}
+use Rattle.h2_wire.proofs.Names.{◌≡◌, ◌+◌, ◌≤◌, take, drop, preface}
 use Rattle.h2_wire.proofs.preface.matching_octets.Given as goal
 
 abbrev pub invariant-loop-count : goal.invariant-loop-count

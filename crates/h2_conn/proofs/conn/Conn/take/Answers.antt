@@ -1,8 +1,7 @@
 -- What is lent is what has happened.
-use Rattle.h2_conn.proofs.Names.{◌∙◌, ℕ, refl, sym, ap, Some, List, [], err_from_is_err_and}
-use Rattle.h2_conn.proofs.Names.{◌≡◌, option_map, happened_value, Event, CutterState, body_at}
-use Rattle.h2_conn.proofs.Names.{Complete, IfSome, None}
-use Rattle.std.proofs.Common.{Option, IsSome}
+use Rattle.h2_conn.proofs.Names.{◌∙◌, ℕ, refl, sym, ap, Some, List, [], err_from_is_err_and, ◌≡◌}
+use Rattle.h2_conn.proofs.Names.{option_map, happened_value, Event, CutterState, body_at, Complete}
+use Rattle.h2_conn.proofs.Names.{IfSome, None, Option, IsSome}
 use Rattle.h2_conn.specs.Loans.{frame_in}
 use Rattle.h2_conn.proofs.TakeParts.{said_so}
 use Rattle.h2_conn.proofs.conn.Conn.take.Goals as goal

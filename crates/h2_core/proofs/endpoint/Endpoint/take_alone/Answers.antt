@@ -1,8 +1,8 @@
-use Rattle.std.proofs.lemmas.List.{length-replicate}
-use Rattle.std.proofs.Common.{length-append, replicate, ℕ, List, Some}
-use Rattle.h2_core.proofs.Names.{◌≡◌, ◌≤◌, ◌+◌, length, true, ap, inl, inr, arith, frame_of, FrameRef}
-use Rattle.h2_core.proofs.Names.{end_of}
+use Rattle.h2_core.proofs.Names.{length-append, ℕ, List, Some, ◌≡◌, ◌≤◌, ◌+◌, length, true, ap, inl}
+use Rattle.h2_core.proofs.Names.{inr, arith, frame_of, FrameRef, end_of}
 use Rattle.h2_frame.specs.Encoding.{payload_of, padded}
+use Rattle.std.proofs.lemmas.List.{length-replicate}
+use Rattle.std.proofs.Common.{replicate}
 use Rattle.h2_core.proofs.FrameWritable.{writable, data_number, update_number, update_increment}
 use Rattle.h2_core.proofs.FrameWritable.{is_quiet, quiet_taken}
 use Rattle.h2_core.proofs.endpoint.Endpoint.take_alone.Goals.{Joined-pad, in-Some, in-None}

@@ -1,20 +1,24 @@
 -- DATA by the state of its stream, and within both windows.
-use Rattle.h2_core.proofs.Names.{◌≡◌, ◌&&◌, ℕ, Option, true, false, sym, ap, ◌∙◌, inl, inr, refl, [], ◌∷◌, arith, pos, stream_view, rules}
-use Rattle.h2_core.proofs.Names.{ProtocolError, FlowControlError, StreamClosed, exceeds, alone}
-use Rattle.h2_core.proofs.Names.{stream_at, frame_of_data, end_of, end_view, Reported, needs_memory, err_from_is_err_and}
-use Rattle.std.proofs.lemmas.Bool.{and_from}
+use Rattle.h2_core.proofs.Names.{◌≡◌, ◌&&◌, ℕ, Option, true, false, sym, ap, ◌∙◌, inl, inr, refl}
+use Rattle.h2_core.proofs.Names.{[], ◌∷◌, arith, pos, stream_view, rules, ProtocolError}
+use Rattle.h2_core.proofs.Names.{FlowControlError, StreamClosed, exceeds, alone, stream_at}
+use Rattle.h2_core.proofs.Names.{frame_of_data, end_of, end_view, Reported, needs_memory}
+use Rattle.h2_core.proofs.Names.{err_from_is_err_and}
 use Rattle.h2_frame.specs.Encoding.{stream_of}
 use Rattle.h2_spec_log.specs.Items.{stream_of_item}
 use Rattle.h2_spec_log.specs.ItemEffects.{events_of}
-use Rattle.h2_spec_log.specs.Events.{DataEvent}
 use Rattle.h2_spec_machine.specs.Machine.{after_stream_fault}
+use Rattle.std.proofs.lemmas.Bool.{and_from}
+use Rattle.h2_spec_log.specs.Events.{DataEvent}
 use Rattle.h2_core.proofs.SoundFacts.{counted, owed_fits, send_near, recv_near}
 use Rattle.h2_core.proofs.ItemWindows.{narrowed_is, narrowed_near, exceeds_asked, within_asked}
 use Rattle.h2_core.proofs.ItemWindows.{none_exceeds}
-use Rattle.h2_core.proofs.ItemVerdicts.{fault_taken, fault_item, report_taken, lacks_memory, with_waiting}
+use Rattle.h2_core.proofs.ItemVerdicts.{fault_taken, fault_item, report_taken, lacks_memory}
+use Rattle.h2_core.proofs.ItemVerdicts.{with_waiting}
 use Rattle.h2_core.proofs.ItemData.{HasFlow, idle_data, past_data, beyond_connection, beyond_stream}
 use Rattle.h2_core.proofs.ItemData.{discarded_taken, late_data, reported_data, reported_after}
-use Rattle.h2_core.proofs.endpoint.Endpoint.take_data.Goals.{else-frame-gt0-via-then-frame-gt0+else-stream-from, else-frame-gt0-via-else-frame-gt0}
+use Rattle.h2_core.proofs.endpoint.Endpoint.take_data.Goals.{else-frame-gt0-via-then-frame-gt0+else-stream-from}
+use Rattle.h2_core.proofs.endpoint.Endpoint.take_data.Goals.{else-frame-gt0-via-else-frame-gt0}
 use Rattle.h2_core.proofs.endpoint.Endpoint.take_data.Goals as goal
 
 pub returns-in-Idle : goal.returns-in-Idle

@@ -1,16 +1,16 @@
 use Rattle.h2_core.proofs.Names.{◌≡◌, None, Some, inl, refl, sym, ap, ◌∙◌, Option, Bool, true}
 use Rattle.h2_core.proofs.Names.{false, subst, Begun, alone, FrameRef, frame_of, Headers, End}
-use Rattle.h2_spec_log.specs.ItemRules.{may_be_first}
 use Rattle.h2_core.proofs.Names.{end_of, IsSoundEnd, not, ◌&&◌, List, ℕ}
-use Rattle.h2_frame.specs.Frames.{Settings}
-use Rattle.h2_frame.specs.declared.frame.FrameRef.TheVariants as lent
+use Rattle.h2_spec_log.specs.ItemRules.{may_be_first}
 use Rattle.h2_block.specs.Grouping.{is_standalone}
+use Rattle.h2_frame.specs.Frames.{Settings}
 use Rattle.std.proofs.Common.{is_some}
 use Rattle.h2_core.proofs.FrameFailures.{stopped_same}
 use Rattle.h2_core.proofs.FrameWritable.{headers_number}
 use Rattle.h2_core.proofs.FrameTaking.{early_fails, headers_taken, standalone_step}
 use Rattle.h2_core.proofs.FrameTaking.{other_standalone, alone_taken, alone_stopped, alone_small}
 use Rattle.h2_core.proofs.endpoint.Endpoint.take_frame.Goals.{Joined-frame, After-is_inside}
+use Rattle.h2_frame.specs.declared.frame.FrameRef.TheVariants as lent
 use Rattle.h2_core.proofs.endpoint.Endpoint.take_frame.Goals as goal
 
 settings_first : (ack : Bool) (pairs : List (ℕ × ℕ)) → not ack ≡ may_be_first (Settings ack pairs)

@@ -5,9 +5,8 @@ use Rattle.h2_ends.proofs.InSteps.{called_as}
 use Rattle.h2_ends.proofs.EndTokens.{refused_tokens}
 use Rattle.h2_ends.proofs.RequestSends.{unchanged_by, is_client}
 use Rattle.h2_ends.proofs.RequestSteps.{refused_fields_keep}
-use Rattle.h2_ends.proofs.RespondHeads.{nothing_asked, client_asked, asked_here}
-use Rattle.h2_ends.proofs.RespondHeads.{was_answered, breaks_response, refuses_response}
-use Rattle.h2_ends.proofs.RespondHeads.{may_respond}
+use Rattle.h2_ends.proofs.RespondHeads.{nothing_asked, client_asked, asked_here, was_answered}
+use Rattle.h2_ends.proofs.RespondHeads.{breaks_response, refuses_response, may_respond}
 use Rattle.h2_ends.proofs.end.End.answer.Goals.{in-NotGiven, in_default-matches}
 use Rattle.h2_ends.specs.declared.outgoing.Outgoing.TheVariants as outgoings
 use Rattle.h2_ends.proofs.end.End.answer.Goals as goal

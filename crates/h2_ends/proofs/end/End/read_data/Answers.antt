@@ -1,5 +1,6 @@
-use Rattle.h2_ends.proofs.Names.{◌≡◌, ℕ, List, length, true, Some, refl, sym, ap, Values, EndLog, OctetsPart}
-use Rattle.h2_ends.specs.Taking.{ReadsData, IsReadOn}
+use Rattle.h2_ends.proofs.Names.{◌≡◌, ℕ, List, length, true, Some, refl, sym, ap, Values, EndLog}
+use Rattle.h2_ends.proofs.Names.{OctetsPart, IsReadOn}
+use Rattle.h2_ends.specs.Taking.{ReadsData}
 use Rattle.std.specs.Option.{is_some}
 use Rattle.h2_ends.proofs.TableSteps.{keeps_but}
 use Rattle.h2_ends.proofs.TakeReads.{IsReadBut, with_reading, first_data, data_taken, data_refused}

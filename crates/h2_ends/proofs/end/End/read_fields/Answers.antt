@@ -1,9 +1,9 @@
-use Rattle.h2_ends.proofs.Names.{◌≡◌, Some, refl, sym, ap, Values, EndLog, FieldsPart, Place, place_after, parts_on}
-use Rattle.h2_ends.specs.Taking.{ReadsFields, IsReadOn}
+use Rattle.h2_ends.proofs.Names.{◌≡◌, Some, refl, sym, ap, Values, EndLog, FieldsPart, Place}
+use Rattle.h2_ends.proofs.Names.{place_after, parts_on, IsReadOn, reads_on}
+use Rattle.h2_ends.specs.Taking.{ReadsFields}
 use Rattle.std.specs.Option.{is_some}
 use Rattle.h2_ends.proofs.TableSteps.{keeps_but}
 use Rattle.h2_ends.proofs.TakeReads.{IsReadBut, with_reading, fields_taken, fields_refused}
-use Rattle.h2_ends.specs.Ends.{reads_on}
 use Rattle.h2_ends.proofs.TakeInStep.{represents_all}
 use Rattle.h2_ends.proofs.end.End.read_fields.Goals.{After-fields}
 use Rattle.h2_ends.proofs.end.End.read_fields.Goals as goal

@@ -1,4 +1,4 @@
-use Rattle.std.proofs.Common.{ap}
+use Rattle.h2_streams.proofs.Names.{ap}
 use Rattle.h2_streams.proofs.TableSteps.{table_with, active, streams_closed, well_closed}
 use Rattle.h2_streams.proofs.table.StreamTable.close.Goals as goal
 

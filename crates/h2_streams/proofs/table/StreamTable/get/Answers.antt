@@ -1,4 +1,4 @@
-use Rattle.std.proofs.Common.{sym}
+use Rattle.h2_streams.proofs.Names.{sym}
 use Rattle.h2_streams.proofs.KeptEntries.{get_kept, nothing_kept}
 use Rattle.h2_streams.proofs.table.StreamTable.get.Goals as goal
 

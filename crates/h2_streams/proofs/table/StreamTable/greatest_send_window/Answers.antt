@@ -1,7 +1,6 @@
-use Rattle.std.proofs.Common.{◌≡◌, ◌^◌, ◌<◌, false, None, Some, rules}
+use Rattle.h2_streams.proofs.Names.{◌≡◌, ◌^◌, ◌<◌, false, None, Some, rules, is_far_offset}
 use Rattle.h2_streams.proofs.GreatestWindows.{above_same, greatest_near}
 use Rattle.h2_streams.proofs.Offsets.{window_is}
-use Rattle.h2_streams.specs.Table.{is_far_offset}
 use Rattle.h2_streams.proofs.table.StreamTable.greatest_send_window.Goals as goal
 
 pub returns-in_err-offset : goal.returns-in_err-offset

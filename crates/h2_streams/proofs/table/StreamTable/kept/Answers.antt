@@ -1,4 +1,4 @@
-use Rattle.std.proofs.Common.{◌^◌, ◌<◌, ◌-ℤ◌, pos, refl, rules}
+use Rattle.h2_streams.proofs.Names.{◌^◌, ◌<◌, ◌-ℤ◌, pos, refl, rules}
 use Rattle.h2_streams.proofs.KeptEntries.{stream_back}
 use Rattle.h2_streams.proofs.Offsets.{offset_is}
 use Rattle.h2_streams.proofs.table.StreamTable.kept.Goals as goal

@@ -1,4 +1,4 @@
-use Rattle.std.proofs.Common.{Some}
+use Rattle.h2_streams.proofs.Names.{Some}
 use Rattle.h2_streams.proofs.ActiveNumbers.{least_first}
 use Rattle.h2_streams.proofs.table.StreamTable.next_active.Goals as goal
 

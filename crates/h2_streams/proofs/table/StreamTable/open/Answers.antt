@@ -1,5 +1,4 @@
-use Rattle.std.proofs.Common.{ap}
-use Rattle.h2_streams.specs.Streams.{stream_view}
+use Rattle.h2_streams.proofs.Names.{ap, stream_view}
 use Rattle.h2_streams.proofs.TableSteps.{table_with, absent, streams_set, well_set}
 use Rattle.h2_streams.proofs.table.StreamTable.open.Goals as goal
 

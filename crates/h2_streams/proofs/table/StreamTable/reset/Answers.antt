@@ -1,6 +1,5 @@
-use Rattle.std.proofs.Common.{ap, sym, ◌∙◌}
+use Rattle.h2_streams.proofs.Names.{ap, sym, ◌∙◌, is_reset}
 use Rattle.std.proofs.lemmas.Bool.{not-false}
-use Rattle.h2_streams.specs.Table.{is_reset}
 use Rattle.h2_streams.proofs.TableSteps.{table_with, streams_reset, gone_already}
 use Rattle.h2_streams.proofs.table.StreamTable.reset.Goals as goal
 

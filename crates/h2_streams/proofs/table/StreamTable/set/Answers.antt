@@ -1,10 +1,7 @@
-use Rattle.std.proofs.Common.{ap, false, refl, ◌∙◌}
-use Rattle.std.specs.Option.{is_some}
-use Rattle.std.proofs.lemmas.Bool.{both_ways}
-use Rattle.h2_streams.specs.Streams.{stream_view}
+use Rattle.h2_streams.proofs.Names.{ap, false, refl, ◌∙◌, is_some, both_ways, stream_view}
 use Rattle.h2_streams.proofs.TableSteps.{table_with, active, streams_set}
-use Rattle.h2_streams.proofs.table.StreamTable.set.Goals as goal
 use Rattle.h2_streams.proofs.table.StreamTable.set.Goals.{in-Some, in_default}
+use Rattle.h2_streams.proofs.table.StreamTable.set.Goals as goal
 
 pub returns : goal.returns
 returns c =

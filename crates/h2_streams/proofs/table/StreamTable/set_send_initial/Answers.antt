@@ -1,4 +1,4 @@
-use Rattle.std.proofs.Common.{ap}
+use Rattle.h2_streams.proofs.Names.{ap}
 use Rattle.h2_streams.proofs.Shifts.{send_shifted}
 use Rattle.h2_streams.proofs.TableSteps.{table_with}
 use Rattle.h2_streams.proofs.table.StreamTable.set_send_initial.Goals as goal

@@ -1,7 +1,6 @@
-use Rattle.std.proofs.Common.{◌^◌, ◌<◌, sym, rules}
+use Rattle.h2_streams.proofs.Names.{◌^◌, ◌<◌, sym, rules, IsNearKept}
 use Rattle.h2_streams.proofs.KeptEntries.{stream_kept, near_found}
 use Rattle.h2_streams.proofs.Offsets.{window_is}
-use Rattle.h2_streams.specs.Table.{IsNearKept}
 use Rattle.h2_streams.proofs.table.StreamTable.stream.Goals as goal
 
 pub returns-in_err-kept : goal.returns-in_err-kept

@@ -1,6 +1,5 @@
 -- A frame in the piece begins with its head.
-use Rattle.std.proofs.Common.{ℕ, ◌+◌, ◌-◌, take, drop, drop-drop, ap, sym, ◌∙◌, arith}
-use Rattle.std.proofs.lemmas.List.{drop-take}
+use Rattle.h2_wire.proofs.Names.{ℕ, ◌+◌, ◌-◌, take, drop, drop-drop, ap, sym, ◌∙◌, arith, drop-take}
 use Rattle.h2_wire.proofs.buffer.Buffer.payload.Goals as goal
 
 pub returns-in-Piece : goal.returns-in-Piece

@@ -1,6 +1,5 @@
 -- By the phase.
-use Rattle.std.proofs.Common.{◌<◌, length, arith, refl}
-use Rattle.h2_wire.specs.Buffer.{state_of}
+use Rattle.h2_wire.proofs.Names.{◌<◌, length, arith, refl, state_of}
 use Rattle.h2_wire.proofs.BufferLemmas.{starts_head, starts_payload}
 use Rattle.h2_wire.proofs.KeptLemmas.{takes_forgotten}
 use Rattle.h2_wire.proofs.buffer.Buffer.take.Goals as goal

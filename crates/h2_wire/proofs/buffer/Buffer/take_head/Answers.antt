@@ -1,18 +1,14 @@
 -- A head continues: it isn't complete yet, or is at fault, or has no fault.
-use Rattle.std.proofs.Common.{◌≡◌, ◌+◌, ◌-◌, ◌<◌, ◌≤◌, length, take, drop, arith, ◌++◌, Some, refl}
-use Rattle.std.proofs.Common.{sym, ◌∙◌, ap, length-drop, length-append}
-use Rattle.std.proofs.lemmas.List.{take_rest}
-use Rattle.h2_frame.specs.declared.heads.Head.{Head}
-use Rattle.h2_frame.specs.Heads.{head_of, head_fault}
-use Rattle.h2_frame.proofs.HeadLemmas.{form_fault-head_fault, length-head_fault}
-use Rattle.h2_wire.specs.declared.buffer.Buffer.{Buffer}
-use Rattle.h2_wire.specs.declared.buffer.Phase.TheVariants as phases
-use Rattle.h2_wire.specs.declared.fault.WireFault.TheVariants as faults
-use Rattle.h2_wire.specs.Buffer.{state_of}
+use Rattle.h2_wire.proofs.Names.{◌≡◌, ◌+◌, ◌-◌, ◌<◌, ◌≤◌, length, take, drop, arith, ◌++◌, Some}
+use Rattle.h2_wire.proofs.Names.{refl, sym, ◌∙◌, ap, length-drop, length-append, take_rest, Head}
+use Rattle.h2_wire.proofs.Names.{head_of, head_fault, form_fault-head_fault, length-head_fault}
+use Rattle.h2_wire.proofs.Names.{Buffer, state_of}
 use Rattle.h2_wire.proofs.BufferLemmas.{keeps_piece, fails_head, read_head}
 use Rattle.h2_wire.proofs.CallLemmas.{fails_at}
 use Rattle.h2_wire.proofs.ReadingLemmas.{none_some, one_code}
 use Rattle.h2_wire.proofs.StepLemmas.{wrong_head, limit_ahead}
+use Rattle.h2_wire.specs.declared.buffer.Phase.TheVariants as phases
+use Rattle.h2_wire.specs.declared.fault.WireFault.TheVariants as faults
 use Rattle.h2_wire.proofs.buffer.Buffer.take_head.Goals as goal
 
 pub returns-then-following-lacking-clause-takes : goal.returns-then-following-lacking-clause-takes

@@ -1,11 +1,11 @@
 -- A frame with a sound head continues: to the piece's end, or to its own.
-use Rattle.std.proofs.Common.{◌≡◌, ◌+◌, ◌-◌, ◌<◌, ◌≤◌, ℕ, List, length, take, drop, arith, ◌++◌}
-use Rattle.std.proofs.Common.{vec_len, refl, sym, ◌∙◌, ap, length-append, eqb-true}
-use Rattle.std.proofs.lemmas.List.{take_rest, nil_from_length}
-use Rattle.h2_wire.specs.declared.buffer.Phase.TheVariants as phases
-use Rattle.h2_wire.specs.declared.buffer.Buffer.{Buffer}
-use Rattle.h2_wire.specs.declared.cut.Source.TheVariants as sources
+use Rattle.h2_wire.proofs.Names.{◌≡◌, ◌+◌, ◌-◌, ◌<◌, ◌≤◌, ℕ, List, length, take, drop, arith, ◌++◌}
+use Rattle.h2_wire.proofs.Names.{refl, sym, ◌∙◌, ap, length-append, take_rest, Buffer}
+use Rattle.std.proofs.Common.{vec_len, eqb-true}
+use Rattle.std.proofs.lemmas.List.{nil_from_length}
 use Rattle.h2_wire.proofs.BufferLemmas.{keeps_piece, ends_frame}
+use Rattle.h2_wire.specs.declared.buffer.Phase.TheVariants as phases
+use Rattle.h2_wire.specs.declared.cut.Source.TheVariants as sources
 use Rattle.h2_wire.proofs.buffer.Buffer.take_payload.Goals as goal
 
 pub overflow_sub-missing : goal.overflow_sub-missing

@@ -1,16 +1,14 @@
 -- Inside the preface: it is complete, or continues, or an octet is wrong.
-use Rattle.std.proofs.Common.{◌≡◌, ◌+◌, ◌<◌, length, take, drop, arith, refl, sym, ◌∙◌, true, subst}
-use Rattle.std.proofs.Common.{List, ℕ, None, length-drop}
-use Rattle.std.proofs.lemmas.List.{take_all}
-use Rattle.h2_wire.specs.declared.fault.WireFault.TheVariants as faults
-use Rattle.h2_wire.specs.declared.buffer.Phase.TheVariants as phases
+use Rattle.h2_wire.proofs.Names.{◌≡◌, ◌+◌, ◌<◌, length, take, drop, arith, refl, sym, ◌∙◌, true}
+use Rattle.h2_wire.proofs.Names.{subst, List, ℕ, None, length-drop, take_all, state_of, fault_of}
+use Rattle.h2_wire.proofs.Names.{is_in_preface, unparsed_of, FitsPhase, Opens}
 use Rattle.h2_wire.specs.Streams.{preface}
-use Rattle.h2_wire.specs.Buffer.{state_of, fault_of, is_in_preface, unparsed_of, FitsPhase}
-use Rattle.h2_wire.specs.Step.{Opens}
 use Rattle.h2_wire.proofs.BufferLemmas.{fails_preface, goes_past_preface, follows_preface}
 use Rattle.h2_wire.proofs.BufferLemmas.{short_of_preface, unlike_preface}
 use Rattle.h2_wire.proofs.CallLemmas.{fails_at}
 use Rattle.h2_wire.proofs.StepLemmas.{opens_first, continues_preface, wrong_preface}
+use Rattle.h2_wire.specs.declared.fault.WireFault.TheVariants as faults
+use Rattle.h2_wire.specs.declared.buffer.Phase.TheVariants as phases
 use Rattle.h2_wire.proofs.buffer.Buffer.take_preface.Goals as goal
 
 -- the preface ends with the octets that match

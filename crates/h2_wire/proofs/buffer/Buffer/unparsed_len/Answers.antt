@@ -1,8 +1,8 @@
 -- What was matched of the preface, or what is kept of a frame.
-use Rattle.std.proofs.Common.{◌≡◌, ◌<◌, length, take, arith, sym, ◌∙◌, length-take}
-use Rattle.h2_wire.specs.declared.buffer.Phase.TheVariants as phases
-use Rattle.h2_wire.specs.Buffer.{FitsPhase, IsPartialPayload}
+use Rattle.h2_wire.proofs.Names.{◌≡◌, ◌<◌, length, take, arith, sym, ◌∙◌, length-take, FitsPhase}
+use Rattle.h2_wire.proofs.Names.{IsPartialPayload}
 use Rattle.h2_wire.specs.Streams.{preface}
+use Rattle.h2_wire.specs.declared.buffer.Phase.TheVariants as phases
 use Rattle.h2_wire.proofs.buffer.Buffer.unparsed_len.Goals as goal
 
 pub returns-in-Preface-clause-value : goal.returns-in-Preface-clause-value

@@ -1,11 +1,11 @@
 -- A call advances and lends the frame, or fails.
-use Rattle.std.proofs.Common.{refl, arith}
+use Rattle.h2_wire.proofs.Names.{refl, arith}
 use Rattle.std.proofs.lemmas.Result.{err_from_is_err_and}
 use Rattle.h2_wire.proofs.CutLemmas.{advances_none, advances_some, not_failed, failed_again}
 use Rattle.h2_wire.proofs.CutLemmas.{not_checked, checked_again, memory_again}
 use Rattle.h2_wire.specs.Cutter.{FaultsAtHead}
-use Rattle.h2_wire.proofs.cutter.Cutter.cut.Goals as goal
 use Rattle.h2_wire.proofs.cutter.Cutter.cut.Goals.{in-None, in-Some}
+use Rattle.h2_wire.proofs.cutter.Cutter.cut.Goals as goal
 
 pub returns-in_err-advance : goal.returns-in_err-advance
 returns-in_err-advance c =

@@ -1,8 +1,6 @@
 -- The frame is one that its octets encode, and the octets of DATA are its body.
-use Rattle.std.proofs.Common.{◌≡◌, List, ℕ, drop, ap, subst}
-use Rattle.h2_frame.specs.Frames.{frame_of, Carries}
-use Rattle.h2_wire.specs.Buffer.{state_of}
-use Rattle.h2_wire.specs.Cutter.{CutterState, octets_of}
+use Rattle.h2_wire.proofs.Names.{◌≡◌, List, ℕ, drop, ap, subst, frame_of, Carries, state_of}
+use Rattle.h2_wire.proofs.Names.{CutterState, octets_of}
 use Rattle.h2_wire.proofs.CutLemmas.{good_frame}
 use Rattle.h2_wire.proofs.BodyLemmas.{data_is_body}
 use Rattle.h2_wire.proofs.cutter.Cutter.frame.Goals as goal

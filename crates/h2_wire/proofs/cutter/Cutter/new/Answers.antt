@@ -1,6 +1,5 @@
 -- A new cutter represents the empty stream.
-use Rattle.std.proofs.Common.{[], subst, sym}
-use Rattle.h2_wire.specs.Cutter.{CutterState, CutterRepresents}
+use Rattle.h2_wire.proofs.Names.{[], subst, sym, CutterState, CutterRepresents}
 use Rattle.h2_wire.proofs.CutLemmas.{represents_empty}
 use Rattle.h2_wire.proofs.cutter.Cutter.new.Goals as goal
 

@@ -1,5 +1,5 @@
 -- What is kept fits as before, and the cutter represents the same stream.
-use Rattle.h2_wire.specs.Buffer.{state_of}
+use Rattle.h2_wire.proofs.Names.{state_of}
 use Rattle.h2_wire.proofs.LimitLemmas.{is_limited}
 use Rattle.h2_wire.proofs.cutter.Cutter.set_limit.Goals as goal
 
