@@ -1,0 +1,20 @@
+# Made by .ci/manual: completion of h2 in bash. Source it: . docs/h2.bash
+_h2() {
+    local word=${COMP_WORDS[COMP_CWORD]} before=${COMP_WORDS[COMP_CWORD-1]} words=
+    if [ "$COMP_CWORD" -eq 1 ]; then
+        words='show replay serve get loop --help --version'
+    else
+        case "${COMP_WORDS[1]} $before" in
+            'show --from') words='client server' ;;
+            'show --max-frame') words='16384 65536 1048576' ;;
+            'show '*) words='--hex --from --max-frame --help' ;;
+            'replay --as') words='client server' ;;
+            'replay '*) words='--hex --as --help' ;;
+            'serve '*) words='--help' ;;
+            'get '*) words='--help' ;;
+            'loop '*) words='--help' ;;
+        esac
+    fi
+    COMPREPLY=($(compgen -W "$words" -- "$word"))
+}
+complete -F _h2 h2
