@@ -42,8 +42,8 @@ same_begin limits preceding [] more body another tail end none framed joined =
 same_begin limits preceding (frame ∷ frames) more body another tail end
     (first, following, split, sound, framed) (second, beyond, parted, complete, sequel) joined =
     let line : first ++ (following ++ tail) ≡ second ++ (beyond ++ end) = sym
-    (append_assoc first following tail) ∙ ap (λ (octets : List ℕ). octets ++ tail) (sym split) ∙
-    joined ∙ ap (λ (octets : List ℕ). octets ++ end) parted ∙ append_assoc second beyond end in
+    (append_assoc first following tail) ∙ ap (λ (octets : List ℕ). octets ++ tail) (sym split)
+    ∙ joined ∙ ap (λ (octets : List ℕ). octets ++ end) parted ∙ append_assoc second beyond end in
     let one = same_frame _ _ _ first second _ _ sound complete line in
     let sequel_now : AreFrames limits (preceding + length first) (frames ++ more) beyond =
     subst (λ (octets : List ℕ). AreFrames limits (preceding + length octets) (frames ++ more)
@@ -88,8 +88,8 @@ one_more_of : (limits : Limits) (preface body part longer tail end : List ℕ) (
     → OneMore limits part longer tail end frame
 one_more_of limits preface body part longer tail end frame others opened opens joined at
     (first, none, split, sound, nothing) =
-    let others_is : others ≡ first = split ∙ ap (λ (octets : List ℕ). first ++ octets) nothing ∙
-    append-nil first in
+    let others_is : others ≡ first = split ∙ ap (λ (octets : List ℕ). first ++ octets) nothing
+    ∙ append-nil first in
     let longer_is : longer ≡ part ++ first = opens ∙ sym (append_assoc preface body others) ∙ ap
     (λ (octets : List ℕ). octets ++ others) (sym opened) ∙ ap (λ (octets : List ℕ). part ++ octets)
     others_is in

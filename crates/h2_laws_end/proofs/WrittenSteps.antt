@@ -40,8 +40,8 @@ puts_twice one two three older newer a b =
       sent = b.sent ∙ ap (λ (items : List Item). newer ++ items) a.sent ∙ sym
           (append_assoc _ _ one.sent);
       written = b.written ∙ ap (λ (octets : List ℕ). octets ++ encoding_of_items most newer) before
-          ∙ append_assoc one.written (encoding_of_items most older) (encoding_of_items most newer) ∙
-          ap (λ (octets : List ℕ). one.written ++ octets) (sym (written_after most newer older));
+          ∙ append_assoc one.written (encoding_of_items most older) (encoding_of_items most newer)
+          ∙ ap (λ (octets : List ℕ). one.written ++ octets) (sym (written_after most newer older));
     }
 
 -- Items are written.

@@ -61,48 +61,43 @@ abbrev readings : View → ℕ → Readings
 readings view id =
     record { room = reader_room view id; owed = reader_owed view id; due = reader_due view }
 
--- A machine and its log say the same to these readers, by whether the connection has failed.
-readings_by : (values : Values) (e : End) (log : Log) (id : ℕ) (failed : Option Code)
-    → e.failed ≡ failed → Represents values e log
-    → readings (end_view e) id ≡ readings (log_view log) id
-readings_by values e log id (Some code) is represents = rw (sym represents.failed ∙ is, is) refl
-readings_by values e log id None is represents =
-    ap (λ (view : View). readings view id) (views_alike values e log represents is)
+module _ (values : Values) (e : End) (log : Log) where
+  -- A machine and its log say the same to these readers, by whether the connection has failed.
+  readings_by : (id : ℕ) (failed : Option Code) → e.failed ≡ failed → Represents values e log
+      → readings (end_view e) id ≡ readings (log_view log) id
+  readings_by id (Some code) is represents = rw (sym represents.failed ∙ is, is) refl
+  readings_by id None is represents =
+      ap (λ (view : View). readings view id) (views_alike values e log represents is)
 
--- So they say the same to them.
-readings_alike : (values : Values) (e : End) (log : Log) (id : ℕ) → Represents values e log
-    → readings (end_view e) id ≡ readings (log_view log) id
-readings_alike values e log id represents = readings_by values e log id e.failed refl represents
+  -- So they say the same to them.
+  readings_alike : (id : ℕ) → Represents values e log
+      → readings (end_view e) id ≡ readings (log_view log) id
+  readings_alike id represents = readings_by id e.failed refl represents
 
--- How much may be sent on the connection, or on a stream, is the same.
-pub room_alike : (values : Values) (e : End) (log : Log) (id : ℕ) → Represents values e log
-    → (if is_some e.failed then None else if id == 0 then Some (pos e.windows.send)
-    else option_map (λ stream. stream.send_window) (stream_at e id))
-    ≡ reader_room (log_view log) id
-room_alike values e log id represents =
-    ap (λ (said : Readings). said.room) (readings_alike values e log id represents)
+  -- How much may be sent on the connection, or on a stream, is the same.
+  pub room_alike : (id : ℕ) → Represents values e log
+      → (if is_some e.failed then None else if id == 0 then Some (pos e.windows.send) else
+      option_map (λ stream. stream.send_window) (stream_at e id)) ≡ reader_room (log_view log) id
+  room_alike id represents = ap (λ (said : Readings). said.room) (readings_alike id represents)
 
--- So is what is owed on a stream.
-pub owed_alike : (values : Values) (e : End) (log : Log) (id : ℕ) → Represents values e log
-    → (if is_some e.failed then 0 else owed_on (stream_at e id)) ≡ reader_owed (log_view log) id
-owed_alike values e log id represents =
-    ap (λ (said : Readings). said.owed) (readings_alike values e log id represents)
+  -- So is what is owed on a stream.
+  pub owed_alike : (id : ℕ) → Represents values e log
+      → (if is_some e.failed then 0 else owed_on (stream_at e id)) ≡ reader_owed (log_view log) id
+  owed_alike id represents = ap (λ (said : Readings). said.owed) (readings_alike id represents)
 
--- So is what is unreturned.
-pub due_alike : (values : Values) (e : End) (log : Log) → Represents values e log
-    → (if is_some e.failed then 0 else e.windows.unreturned) ≡ reader_due (log_view log)
-due_alike values e log represents =
-    ap (λ (said : Readings). said.due) (readings_alike values e log 0 represents)
+  -- So is what is unreturned.
+  pub due_alike : Represents values e log
+      → (if is_some e.failed then 0 else e.windows.unreturned) ≡ reader_due (log_view log)
+  due_alike represents = ap (λ (said : Readings). said.due) (readings_alike 0 represents)
 
--- The next active stream is the log's, whether the connection has failed or not.
-pub next_alike : (values : Values) (e : End) (log : Log) (id : ℕ) → Represents values e log
-    → first_active id (map.entries e.streams.entries) ≡ next_active log id
-next_alike values e log id represents = next_active_same e.streams log id represents.streams
+  -- The next active stream is the log's, whether the connection has failed or not.
+  pub next_alike : (id : ℕ) → Represents values e log
+      → first_active id (map.entries e.streams.entries) ≡ next_active log id
+  next_alike id represents = next_active_same e.streams log id represents.streams
 
--- As much output waits as the log says.
-pub waiting_alike : (values : Values) (e : End) (log : Log) → Represents values e log
-    → length e.output.waiting ≡ waiting log
-waiting_alike values e log represents = waits_much e log represents.output
+  -- As much output waits as the log says.
+  pub waiting_alike : Represents values e log → length e.output.waiting ≡ waiting log
+  waiting_alike represents = waits_much e log represents.output
 
 -- So the reader of the next active stream answers alike: nothing once the connection has failed.
 pub live_alike : (values : Values) (e : End) (log : Log) (id : ℕ) → Represents values e log

@@ -120,31 +120,28 @@ machine_of role values _ (reported_one {log = log} is up some) =
 machine_of role values _ (called_one {log = log} is act answer typed may) =
     stepped _ _ log (is_called act answer) is (λ own. (typed, may)) (machine_of role values log is)
 
--- At most 262,144 octets wait, and a GOAWAY after a failure.
-pub few_wait : (role : Role) (values : Values) (log : Log) → IsLog role values log
-    → waiting log ≤ max_output + goaway_size
-few_wait role values log is =
-    let (e, s, bounded) = machine_of role values log is in
-    omega (arith, bounded.output, waits_much e log s.output)
+module _ (role : Role) (values : Values) (log : Log) where
+  -- At most 262,144 octets wait, and a GOAWAY after a failure.
+  pub few_wait : IsLog role values log → waiting log ≤ max_output + goaway_size
+  few_wait is =
+      let (e, s, bounded) = machine_of role values log is in
+      omega (arith, bounded.output, waits_much e log s.output)
 
--- At most 262,144 octets wait as long as the connection hasn't failed.
-pub few_wait_while_up : (role : Role) (values : Values) (log : Log) → IsLog role values log
-    → log.failed ≡ None → waiting log ≤ max_output
-few_wait_while_up role values log is up =
-    let (e, s, bounded) = machine_of role values log is in
-    omega (arith, bounded.up (s.failed ∙ up), waits_much e log s.output)
+  -- At most 262,144 octets wait as long as the connection hasn't failed.
+  pub few_wait_while_up : IsLog role values log → log.failed ≡ None → waiting log ≤ max_output
+  few_wait_while_up is up =
+      let (e, s, bounded) = machine_of role values log is in
+      omega (arith, bounded.up (s.failed ∙ up), waits_much e log s.output)
 
--- At most 1,000 RST_STREAM were sent.
-pub few_resets : (role : Role) (values : Values) (log : Log) → IsLog role values log
-    → resets_written log ≤ max_resets
-few_resets role values log is =
-    let (e, s, bounded) = machine_of role values log is in
-    omega (arith, bounded.resets, s.streams.resets)
+  -- At most 1,000 RST_STREAM were sent.
+  pub few_resets : IsLog role values log → resets_written log ≤ max_resets
+  few_resets is =
+      let (e, s, bounded) = machine_of role values log is in
+      omega (arith, bounded.resets, s.streams.resets)
 
--- At most 1,000 streams are active.
-pub few_active : (role : Role) (values : Values) (log : Log) → IsLog role values log
-    → active_count log ≤ max_active
-unfolding active_count
-few_active role values log is =
-    let (e, s, bounded) = machine_of role values log is in
-    omega (arith, bounded.active_count, s.streams.active_count)
+  -- At most 1,000 streams are active.
+  pub few_active : IsLog role values log → active_count log ≤ max_active
+  unfolding active_count
+  few_active is =
+      let (e, s, bounded) = machine_of role values log is in
+      omega (arith, bounded.active_count, s.streams.active_count)

@@ -131,41 +131,38 @@ accepted_law values e log (PutOut count) represents typed may none sound = put_o
 accepted_law values e log act represents typed may none sound =
     plain_law _ _ _ act represents typed may none sound (λ count same. cc) (λ id code same. cc)
 
--- After a call that is refused it does.
-refused_law : (values : Values) (e : End) (log : Log) (act : Act) (refusal : Refusal)
-    → Represents values e log → IsTypedAct act
-    → MayAnswer log act (Refused refusal)
-    → Represents values (end_after e act (Refused refusal)) (with_call log act (Refused refusal))
-unfolding end_after
-refused_law values e log act refusal represents typed may = refused_represents values e log act
-    refusal represents typed may
+module _ (values : Values) (e : End) (log : Log) (act : Act) where
+  -- After a call that is refused it does.
+  refused_law : (refusal : Refusal) → Represents values e log → IsTypedAct act
+      → MayAnswer log act (Refused refusal)
+      → Represents values (end_after e act (Refused refusal)) (with_call log act (Refused refusal))
+  unfolding end_after
+  refused_law refusal represents typed may = refused_represents values e log act
+      refusal represents typed may
 
--- After a call in which an allocation was refused, and by which the connection fails, it does.
-failing_law : (values : Values) (e : End) (log : Log) (act : Act) → Represents values e log
-    → IsTypedAct act
-    → MayAnswer log act OutOfMemory → refusal_of (log_view log) act ≡ None
-    → may_fail_for_memory (log_view log) act ≡ true
-    → Represents values (end_after e act OutOfMemory) (with_call log act OutOfMemory)
-unfolding end_after may_fail_for_memory
-failing_law values e log act represents typed may none fails_so =
-    let log_up = up_since log act (λ count same. both_ways _
-    (ap (may_fail_for_memory (log_view log)) same) fails_so) none in
-    out_of_memory_represents values e log act represents typed may (represents.failed ∙ log_up)
+  -- After a call in which an allocation was refused, and by which the connection fails, it does.
+  failing_law : Represents values e log → IsTypedAct act → MayAnswer log act OutOfMemory
+      → refusal_of (log_view log) act ≡ None → may_fail_for_memory (log_view log) act ≡ true
+      → Represents values (end_after e act OutOfMemory) (with_call log act OutOfMemory)
+  unfolding end_after may_fail_for_memory
+  failing_law represents typed may none fails_so =
+      let log_up = up_since log act (λ count same. both_ways _
+      (ap (may_fail_for_memory (log_view log)) same) fails_so) none in
+      out_of_memory_represents values e log act represents typed may (represents.failed ∙ log_up)
 
--- After each call an end represents its log, if that is sound.
-pub call_law : (values : Values) (e : End) (log : Log) (act : Act) (answer : Answer)
-    → (log.failed ≡ None → IsSound log)
-    → Represents values e log → IsTypedAct act → MayAnswer log act answer
-    → Represents values (end_after e act answer) (with_call log act answer)
-call_law values e log act answer sound represents typed (accepts none is) =
-    subst (λ (a : Answer). Represents values (end_after e act a) (with_call log act a)) (sym is)
-    (accepted_law values e log act represents typed (accepts none refl) none sound)
-call_law values e log act answer sound represents typed (refuses refusal why is) =
-    subst (λ (a : Answer). Represents values (end_after e act a) (with_call log act a)) (sym is)
-    (refused_law values e log act refusal represents typed (refuses refusal why refl))
-call_law values e log act answer sound represents typed (lacks none may is) =
-    subst (λ (a : Answer). Represents values (end_after e act a) (with_call log act a)) (sym is)
-    (refused_law values e log act Memory represents typed (lacks none may refl))
-call_law values e log act answer sound represents typed (fails none may is) =
-    subst (λ (a : Answer). Represents values (end_after e act a) (with_call log act a)) (sym is)
-    (failing_law values e log act represents typed (fails none may refl) none may)
+  -- After each call an end represents its log, if that is sound.
+  pub call_law : (answer : Answer) → (log.failed ≡ None → IsSound log) → Represents values e log
+      → IsTypedAct act → MayAnswer log act answer
+      → Represents values (end_after e act answer) (with_call log act answer)
+  call_law answer sound represents typed (accepts none is) =
+      subst (λ (a : Answer). Represents values (end_after e act a) (with_call log act a)) (sym is)
+      (accepted_law values e log act represents typed (accepts none refl) none sound)
+  call_law answer sound represents typed (refuses refusal why is) =
+      subst (λ (a : Answer). Represents values (end_after e act a) (with_call log act a)) (sym is)
+      (refused_law refusal represents typed (refuses refusal why refl))
+  call_law answer sound represents typed (lacks none may is) =
+      subst (λ (a : Answer). Represents values (end_after e act a) (with_call log act a)) (sym is)
+      (refused_law Memory represents typed (lacks none may refl))
+  call_law answer sound represents typed (fails none may is) =
+      subst (λ (a : Answer). Represents values (end_after e act a) (with_call log act a)) (sym is)
+      (failing_law represents typed (fails none may refl) none may)

@@ -157,8 +157,8 @@ release_advances h c id count false active_is g =
     let next = stream_released c id count false in
     let given = granted_advances _ base id count active_is
     (owed_less_advances h c id count active_is g) in
-    let meant : record (said base id) { recv_window = (said base id).recv_window +ℤ pos count } ≡
-    next =
+    let meant : record (said base id) { recv_window = (said base id).recv_window +ℤ pos count }
+    ≡ next =
     same_stream (record (said base id) { recv_window = (said base id).recv_window +ℤ pos count })
     next refl refl (sym (kept_less c id count)) refl refl in
     let once : map.insert (map.insert h.streams.entries id (active_entry first)) id
@@ -189,8 +189,8 @@ release_up e log id count active_is is =
     } in
     let made = wrote_up e released_one base items is.role is.up is.same refl is.waits is.started
     (release_advances (core_facts e) (core log) id count ended active_is is.going) in
-    let still : active (with_sent base items) id ≡ true = wrote_active base items id ∙
-    updates_active log.role log.received log.sent log.reported id count ended ∙ active_is in
+    let still : active (with_sent base items) id ≡ true = wrote_active base items id
+    ∙ updates_active log.role log.received log.sent log.reported id count ended ∙ active_is in
     let all : Up (after_release (queue_output e items) id count (Some (stream_of_log log id)))
     (with_unreturned (owed_at_close log (with_sent base items) id) (with_sent base items)) =
     nothing_unreturned _ _ _ id (owes_active log (with_sent base items) id still) made in

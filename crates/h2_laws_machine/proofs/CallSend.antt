@@ -61,8 +61,8 @@ sent_by e f log base id items n end send_window here true over was active_is is 
     (core base) id (items ++ base.sent) n end over a in
     let owing : owed_at_close log (with_sent base items) id ≡ unreleased base id = owes_all log
     (with_sent base items) id was closed ∙ wrote_owes base items id in
-    let owed : 0 + owed_entry (map.get (map.insert f.streams.entries id (active_entry s)) id) ≡
-    unreleased base id = rw (get_set_same f.streams.entries id (active_entry s)) (omega arith) in
+    let owed : 0 + owed_entry (map.get (map.insert f.streams.entries id (active_entry s)) id)
+    ≡ unreleased base id = rw (get_set_same f.streams.entries id (active_entry s)) (omega arith) in
     with_unreturned_up _ (with_sent base items) _ _ (owed ∙ sym owing) wrote_them
 sent_by e f log base id items n end send_window here false goes was active_is is a conserved role up
     same peer waits started run =
@@ -178,8 +178,8 @@ data_by e log id octets end count false active_is goes within is =
     (adds_all (suc count) log.role log.received id (end_view e).max_payload last (take count octets)
     log.sent goes (omega arith) (omega arith)) in
     let fits = within.send_window in
-    let conserved : (e.windows.send - count) + (count + total data_of log.sent) ≡
-    given_on_connection log.received = omega (arith, run.windows.send) in
+    let conserved : (e.windows.send - count) + (count + total data_of log.sent)
+    ≡ given_on_connection log.received = omega (arith, run.windows.send) in
     sent_up e e log base id items count last (send_window log id -ℤ pos count)
     (e.windows.send - count) active_is active_is (less_send_window _ _ count) adds conserved is.role
     is.up is.same refl is.waits is.started ran

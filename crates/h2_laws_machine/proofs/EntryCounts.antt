@@ -46,81 +46,75 @@ count_inserted_by counts empty k v e es Less p h following =
 count_inserted_by counts empty k v e es Equal p h following = omega arith
 count_inserted_by counts empty k v e es Greater p h following = omega (arith, following)
 
--- the sum after an entry that is set, over a list in order
-count_inserted : (counts : Option StreamEntry → ℕ) → counts None ≡ 0 → (k : ℕ) (v : StreamEntry)
-    (es : List (ℕ × StreamEntry)) → T (map.is_sorted nat_cmp es)
-    → count_of counts (map.put nat_cmp k v es) + counts (map.find nat_cmp k es)
-    ≡ count_of counts es + counts (Some v)
-unfolding count_of
-count_inserted counts empty k v [] h = omega (arith, empty)
-count_inserted counts empty k v (e ∷ es) h =
-    count_inserted_by counts empty k v e es (nat_cmp k e.0) refl (first _ _ h)
-    (count_inserted counts empty k v es
-    (second (below_all nat_cmp e.0 es) (map.is_sorted nat_cmp es) h))
+module _ (counts : Option StreamEntry → ℕ) where
+  -- the sum after an entry that is set, over a list in order
+  count_inserted : counts None ≡ 0 → (k : ℕ) (v : StreamEntry) (es : List (ℕ × StreamEntry))
+      → T (map.is_sorted nat_cmp es)
+      → count_of counts (map.put nat_cmp k v es) + counts (map.find nat_cmp k es) ≡ count_of counts
+      es + counts (Some v)
+  unfolding count_of
+  count_inserted empty k v [] h = omega (arith, empty)
+  count_inserted empty k v (e ∷ es) h =
+      count_inserted_by counts empty k v e es (nat_cmp k e.0) refl (first _ _ h)
+      (count_inserted empty k v es (second (below_all nat_cmp e.0 es) (map.is_sorted nat_cmp es) h))
 
--- the sum after an entry that is set
-pub count-insert : (counts : Option StreamEntry → ℕ) → counts None ≡ 0 → (m : StreamMap) (k : ℕ)
-    (v : StreamEntry)
-    → count_in counts (map.insert m k v) + counts (map.get m k)
-    ≡ count_in counts m + counts (Some v)
-count-insert counts empty m k v =
-    let inserted : map.entries (map.insert m k v) ≡ map.put nat_cmp k v (map.entries m) =
-    map.entries-insert nat_cmp_total m k v in
-    let found : map.get m k ≡ map.find nat_cmp k (map.entries m) = map.get-entries m k in
-    rw (inserted, found) (count_inserted counts empty k v (map.entries m) (map.entries_sorted m))
+  -- the sum after an entry that is set
+  pub count-insert : counts None ≡ 0 → (m : StreamMap) (k : ℕ) (v : StreamEntry)
+      → count_in counts (map.insert m k v) + counts (map.get m k) ≡ count_in counts m + counts
+      (Some v)
+  count-insert empty m k v =
+      let inserted : map.entries (map.insert m k v) ≡ map.put nat_cmp k v (map.entries m) =
+      map.entries-insert nat_cmp_total m k v in
+      let found : map.get m k ≡ map.find nat_cmp k (map.entries m) = map.get-entries m k in
+      rw (inserted, found) (count_inserted empty k v (map.entries m) (map.entries_sorted m))
 
--- the sum after an entry that is removed, by the entry
-count_removed_by : (counts : Option StreamEntry → ℕ) → counts None ≡ 0 → (m : StreamMap) (k : ℕ)
-    (x : Option StreamEntry) → map.get m k ≡ x
-    → count_in counts (map.remove m k) + counts x ≡ count_in counts m
-count_removed_by counts empty m k None is =
-    let same : count_in counts (map.remove m k) ≡ count_in counts m =
-    ap (count_in counts) (gone m k is) in
-    omega (arith, same, empty)
-count_removed_by counts empty m k (Some v) is =
-    let set : count_in counts (map.insert (map.remove m k) k v) + counts
-    (map.get (map.remove m k) k) ≡ count_in counts (map.remove m k) + counts (Some v) =
-    count-insert counts empty (map.remove m k) k v in
-    let back : count_in counts (map.insert (map.remove m k) k v) ≡ count_in counts m = ap
-    (count_in counts) (inserted_again m k v is) in
-    let none : counts (map.get (map.remove m k) k) ≡ 0 = ap counts (get_removed_same _ _) ∙ empty in
-    omega (arith, set, back, none)
+  -- the sum after an entry that is removed, by the entry
+  count_removed_by : counts None ≡ 0 → (m : StreamMap) (k : ℕ) (x : Option StreamEntry)
+      → map.get m k ≡ x → count_in counts (map.remove m k) + counts x ≡ count_in counts m
+  count_removed_by empty m k None is =
+      let same : count_in counts (map.remove m k) ≡ count_in counts m =
+      ap (count_in counts) (gone m k is) in
+      omega (arith, same, empty)
+  count_removed_by empty m k (Some v) is =
+      let set : count_in counts (map.insert (map.remove m k) k v) + counts
+      (map.get (map.remove m k) k) ≡ count_in counts (map.remove m k) + counts (Some v) =
+      count-insert empty (map.remove m k) k v in
+      let back : count_in counts (map.insert (map.remove m k) k v) ≡ count_in counts m = ap
+      (count_in counts) (inserted_again m k v is) in
+      let none : counts (map.get (map.remove m k) k) ≡ 0 = ap counts (get_removed_same _ _) ∙ empty
+      in
+      omega (arith, set, back, none)
 
--- the sum after an entry that is removed
-pub count-remove : (counts : Option StreamEntry → ℕ) → counts None ≡ 0 → (m : StreamMap) (k : ℕ)
-    → count_in counts (map.remove m k) + counts (map.get m k) ≡ count_in counts m
-count-remove counts empty m k = count_removed_by counts empty m k (map.get m k) refl
+  -- the sum after an entry that is removed
+  pub count-remove : counts None ≡ 0 → (m : StreamMap) (k : ℕ)
+      → count_in counts (map.remove m k) + counts (map.get m k) ≡ count_in counts m
+  count-remove empty m k = count_removed_by empty m k (map.get m k) refl
 
--- A list without entries counts none.
-count_of_none : (counts : Option StreamEntry → ℕ) (es : List (ℕ × StreamEntry)) → length es ≡ 0
-    → count_of counts es ≡ 0
-unfolding count_of
-count_of_none counts [] none = refl
-count_of_none counts (e ∷ es) none = absurd (omega (arith, none))
+  -- A list without entries counts none.
+  count_of_none : (es : List (ℕ × StreamEntry)) → length es ≡ 0 → count_of counts es ≡ 0
+  unfolding count_of
+  count_of_none [] none = refl
+  count_of_none (e ∷ es) none = absurd (omega (arith, none))
 
--- Nothing is counted where no stream is kept.
-pub count-empty : (counts : Option StreamEntry → ℕ) → count_in counts map.empty ≡ 0
-count-empty counts =
-    count_of_none counts (map.entries map.empty)
-    (sym (map.len-entries map.empty) ∙ map.len-empty nat_cmp StreamEntry)
+  -- Nothing is counted where no stream is kept.
+  pub count-empty : count_in counts map.empty ≡ 0
+  count-empty = count_of_none (map.entries map.empty)
+      (sym (map.len-entries map.empty) ∙ map.len-empty nat_cmp StreamEntry)
 
--- Changes that keep what each entry counts keep the sum.
-count_changed : (counts : Option StreamEntry → ℕ) (change : StreamEntry
-    → StreamEntry) (es : List (ℕ × StreamEntry))
-    → ((x : StreamEntry) → counts (Some (change x)) ≡ counts (Some x))
-    → count_of counts (changed change es) ≡ count_of counts es
-unfolding count_of
-count_changed counts change [] keeps = refl
-count_changed counts change (e ∷ es) keeps =
-    omega (arith, keeps e.1, count_changed counts change es keeps)
+  -- Changes that keep what each entry counts keep the sum.
+  count_changed : (change : StreamEntry → StreamEntry) (es : List (ℕ × StreamEntry))
+      → ((x : StreamEntry) → counts (Some (change x)) ≡ counts (Some x))
+      → count_of counts (changed change es) ≡ count_of counts es
+  unfolding count_of
+  count_changed change [] keeps = refl
+  count_changed change (e ∷ es) keeps = omega (arith, keeps e.1, count_changed change es keeps)
 
--- Changes of all streams that keep what each entry counts keep the sum.
-pub count-each : (counts : Option StreamEntry → ℕ) (change : StreamEntry
-    → StreamEntry) (m : StreamMap)
-    → ((x : StreamEntry) → counts (Some (change x)) ≡ counts (Some x))
-    → count_in counts (each_entry change m) ≡ count_in counts m
-count-each counts change m keeps =
-    ap (count_of counts) (entries_changed _ _) ∙ count_changed counts change (map.entries m) keeps
+  -- Changes of all streams that keep what each entry counts keep the sum.
+  pub count-each : (change : StreamEntry → StreamEntry) (m : StreamMap)
+      → ((x : StreamEntry) → counts (Some (change x)) ≡ counts (Some x))
+      → count_in counts (each_entry change m) ≡ count_in counts m
+  count-each change m keeps =
+      ap (count_of counts) (entries_changed _ _) ∙ count_changed change (map.entries m) keeps
 
 -- How many entries are active is their sum.
 pub active_counted : (es : List (ℕ × StreamEntry)) → count_active es ≡ count_of one_active es

@@ -26,13 +26,14 @@ low_more : (n : ℕ) (more items : List Item) → list_any is_goaway more ≡ fa
 low_more n [] items none low i above some = low i above some
 low_more n (item ∷ more) items none low i above some =
     by (is_goaway item) (list_any is_goaway more) none some
-    (λ is here. or_right (is_goaway_below i item) _ (low_more _ _ items is low i above here))
+    (λ is here. or_right (is_goaway_below i item) _ (low_more n more items is low i above here))
   where
     by : (a b : Bool) → (a || b) ≡ false → (a || list_any is_goaway (more ++ items)) ≡ true
         → (b ≡ false → list_any is_goaway (more ++ items) ≡ true
         → list_any (is_goaway_below i) (item ∷ more ++ items) ≡ true)
         → list_any (is_goaway_below i) (item ∷ more ++ items) ≡ true
-    by true b is here all = cc by false b is here all = all is here
+    by true b is here all = cc
+    by false b is here all = all is here
 
 -- A greater number keeps it.
 low_up : (n m : ℕ) (items : List Item) → n ≤ m → HasLow n items → HasLow m items
@@ -43,7 +44,8 @@ low_wrote : (log : Log) (items : List Item) → list_any is_goaway items ≡ fal
     → IsLow (with_sent log items)
 unfolding with_sent
 low_wrote log [] none low = low
-low_wrote log (item ∷ items) none low = low_more _ _ log.sent none low
+low_wrote log (item ∷ items) none low =
+    low_more (greatest_processed log.reported) (item ∷ items) log.sent none low
 
 -- The GOAWAY of a call has the last stream that was processed.
 low_goaway : (log : Log) (items : List Item) → last_processed log ≤ greatest_processed log.reported
@@ -57,14 +59,17 @@ low_none_of : (log : Log) (act : Act)
     → IsLow log
     → HasLow (greatest_processed log.reported)
     (items_of (log_view log) act (answer_of (log_view log) act) ++ log.sent)
-low_none_of log act none low = low_more _ _ log.sent none low
+low_none_of log act none low =
+    low_more (greatest_processed log.reported)
+    (items_of (log_view log) act (answer_of (log_view log) act)) log.sent none low
 
 -- The items of a call that is accepted keep it.
 low_items : (log : Log) (act : Act) → IsLow log
     → HasLow (greatest_processed log.reported)
     (items_of (log_view log) act (answer_of (log_view log) act) ++ log.sent)
 unfolding items_of is_goaway last_processed
-low_items log SendGoAway low = low_goaway log log.sent (chosen_low _ _)
+low_items log SendGoAway low =
+    low_goaway log log.sent (chosen_low (is_server log.role) (greatest_processed log.reported))
 low_items log act low = low_none_of log act (items_none (log_view log) act (λ same. cc)) low
 
 -- Items are written that keep it.
@@ -125,10 +130,12 @@ active_low_by : (log : Log) (i : ℕ) (goaway above : Bool) → IsUpLog log → 
     → nat_lt (greatest_processed log.reported) i ≡ above → i ≤ greatest_processed log.reported
 active_low_by log i false above up_log low server active_is goaway test =
     up_log.processed server goaway i active_is
-active_low_by log i true false up_log low server active_is goaway test = ltb-false _ _ test
+active_low_by log i true false up_log low server active_is goaway test =
+    ltb-false (greatest_processed log.reported) i test
 active_low_by log i true true up_log low server active_is goaway test =
     let parts = active_parts log.role i log.received log.sent log.reported active_is in
-    absurd (both_ways _ (sym (above_server log.role i log.sent server) ∙ parts.below)
+    absurd (both_ways (list_any (is_goaway_below i) log.sent)
+    (sym (above_server log.role i log.sent server) ∙ parts.below)
     (low i (ltb-true (greatest_processed log.reported) i test) goaway))
 
 -- At a server that hasn't failed an active stream is no greater than the last one that was

@@ -197,8 +197,8 @@ unfolding verdict_by_rules ends resets increment_on data_on data_verdict reset_v
 says_nothing log decoded (block stream end octets) v i is on some idle unused =
     elim (cases_eq stream i) [
       | inl same ↦
-          let here : is_used log.role stream (block stream end octets ∷ log.received) log.sent ≡
-          false =
+          let here : is_used log.role stream (block stream end octets ∷ log.received) log.sent
+          ≡ false =
           subst (λ (j : ℕ). is_used log.role j (block stream end octets ∷ log.received) log.sent
           ≡ false) (sym same) unused in
           let idle_here : state log stream ≡ Idle = subst (λ (j : ℕ). state log j ≡ Idle) (sym same)

@@ -178,25 +178,25 @@ numbered_kept : (role : Role) (values : Values) → IsUpInvariant role values Nu
 unfolding is_goaway with_reported with_sent
 numbered_kept role values =
     record {
-  opening = λ in_range. opened_numbered role values;
-  replied = λ log decoded item verdict replies f. sent_numbered (read log decoded item) _
-      (replies_none verdict item) (read_numbered log decoded item verdict
-      (rules_is log decoded item verdict replies.is replies.up) replies.up f);
-  reported = λ log event events may. reported_numbered log (event ∷ events)
-      (events_fit _ _ log (event ∷ events) may);
-  returned = λ log returns. sent_numbered (record log { unreturned = 0 })
-      (alone (WindowUpdate 0 log.unreturned) ∷ []) refl;
-  sent = λ log act accepted f. items_numbered log (called log act (answer_of (log_view log) act))
-      act accepted.none refl refl f (called_numbered log act accepted.none f);
-  called = λ log act answer is_log none f. record {
-    goaways = f.goaways;
-    processed = f.processed;
-    odd = f.odd;
-    unnamed = f.unnamed;
-    unread = f.unread;
-    released = λ i. rw (released_none i act answer log.calls none) (f.released i);
-  };
-}
+      opening = λ in_range. opened_numbered role values;
+      replied = λ log decoded item verdict replies f. sent_numbered (read log decoded item) _
+          (replies_none verdict item) (read_numbered log decoded item verdict
+          (rules_is log decoded item verdict replies.is replies.up) replies.up f);
+      reported = λ log event events may. reported_numbered log (event ∷ events)
+          (events_fit _ _ log (event ∷ events) may);
+      returned = λ log returns. sent_numbered (record log { unreturned = 0 })
+          (alone (WindowUpdate 0 log.unreturned) ∷ []) refl;
+      sent = λ log act accepted f. items_numbered log (called log act (answer_of (log_view log) act))
+          act accepted.none refl refl f (called_numbered log act accepted.none f);
+      called = λ log act answer is_log none f. record {
+        goaways = f.goaways;
+        processed = f.processed;
+        odd = f.odd;
+        unnamed = f.unnamed;
+        unread = f.unread;
+        released = λ i. rw (released_none i act answer log.calls none) (f.released i);
+      };
+    }
 
 -- Every log that hasn't failed has it.
 pub numbered_of : (role : Role) (values : Values) (log : Log) → IsLog role values log

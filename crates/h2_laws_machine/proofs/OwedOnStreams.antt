@@ -74,5 +74,5 @@ window_is_conserved values others e other log theirs way back n represents repre
     sent_data gave =
     in_steps _ _ (sum_below n (owed theirs) + theirs.unreturned) ∙ ap
     (λ (z : ℤ). z +ℤ pos (sum_below n (owed theirs) + theirs.unreturned))
-    (connection_meets log.received log.sent theirs.received theirs.sent way back sent_data gave) ∙
-    window_of_a_log others other theirs n represented too above
+    (connection_meets log.received log.sent theirs.received theirs.sent way back sent_data gave)
+    ∙ window_of_a_log others other theirs n represented too above

@@ -46,23 +46,20 @@ total-insert m k v =
     let found : map.get m k ≡ map.find nat_cmp k (map.entries m) = map.get-entries m k in
     rw (inserted, found) (sum_inserted k v (map.entries m) (map.entries_sorted m))
 
--- An entry that is removed and inserted again, at each number.
-inserted_again_at : (m : StreamMap) (k : ℕ) (v : StreamEntry) (q : ℕ) → map.get m k ≡ Some v
-    → (b : Bool)
-    → (q == k) ≡ b
-    → (if b then Some v else (if b then None else map.get m q)) ≡ map.get m q
-inserted_again_at m k v q kept true same =
-    sym (ap (λ (i : ℕ). map.get m i) (eqb-true q k same) ∙ kept)
-inserted_again_at m k v q kept false same = refl
+module _ (m : StreamMap) (k : ℕ) (v : StreamEntry) where
+  -- An entry that is removed and inserted again, at each number.
+  inserted_again_at : (q : ℕ) → map.get m k ≡ Some v → (b : Bool) → (q == k) ≡ b
+      → (if b then Some v else (if b then None else map.get m q)) ≡ map.get m q
+  inserted_again_at q kept true same = sym (ap (λ (i : ℕ). map.get m i) (eqb-true q k same) ∙ kept)
+  inserted_again_at q kept false same = refl
 
--- An entry that is removed and inserted again changes nothing.
-pub inserted_again : (m : StreamMap) (k : ℕ) (v : StreamEntry) → map.get m k ≡ Some v
-    → map.insert (map.remove m k) k v ≡ m
-inserted_again m k v kept =
-    map.same_map nat_cmp_total map.nat_cmp-IsAntisymmetric (map.insert (map.remove m k) k v) m
-    (λ q. get_set (map.remove m k) k v q
-    ∙ ap (λ (x : Option StreamEntry). if q == k then Some v else x) (get_removed m k q)
-    ∙ inserted_again_at m k v q kept (q == k) refl)
+  -- An entry that is removed and inserted again changes nothing.
+  pub inserted_again : map.get m k ≡ Some v → map.insert (map.remove m k) k v ≡ m
+  inserted_again kept =
+      map.same_map nat_cmp_total map.nat_cmp-IsAntisymmetric (map.insert (map.remove m k) k v) m
+      (λ q. get_set (map.remove m k) k v q
+      ∙ ap (λ (x : Option StreamEntry). if q == k then Some v else x) (get_removed m k q)
+      ∙ inserted_again_at q kept (q == k) refl)
 
 -- What is removed where nothing is kept, at each number.
 gone_at : (m : StreamMap) (k q : ℕ) → map.get m k ≡ None → (b : Bool) → (q == k) ≡ b

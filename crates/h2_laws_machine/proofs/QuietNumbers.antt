@@ -61,7 +61,8 @@ block_odd role i received sent (block stream end octets) allowed here =
     let same : stream ≡ i = eqb-true stream i here in
     rw (← same) (elim allowed.1 [
       | inl may ↦ may.odd
-      | inr goes ↦ eqb-true (stream % 2) 1 (active_parts _ _ _ sent [] goes.active).odd
+      | inr goes ↦ eqb-true (stream % 2) 1
+          (active_parts role stream received sent [] goes.active).odd
     ])
 
 -- a test that an opening doesn't pass
@@ -88,7 +89,8 @@ pub unused_before : (role : Role) (i : ℕ) (news items received sent : List Ite
     → is_used role i (news ++ received) (items ++ sent) ≡ false
     → is_used role i received sent ≡ false
 unused_before role i news items received sent unused =
-    false_from_ne_true _ (λ used. both_ways _ unused (used_more _ _ _ _ _ sent used))
+    false_from_ne_true _ (λ used. both_ways _ unused
+    (used_more role i news items received sent used))
 
 -- Nothing was ended and no DATA sent.
 abbrev pub IsUntouched : ℕ → List Item → Type 0
@@ -109,7 +111,8 @@ item_quiet role i received sent (block stream end octets) allowed unused =
             | inl may ↦ absurd (both_ways _ unused_here
                 (opening_uses role stream end octets received sent may.client may.odd))
             | inr goes ↦ absurd (both_ways _ unused_here (used_more role stream []
-                (block stream end octets ∷ []) received sent (active_used _ _ _ _ [] goes.active)))
+                (block stream end octets ∷ []) received sent
+                (active_used role stream received sent [] goes.active)))
           ]
       | inr other ↦ (rw (ne_eqb stream i other) refl, refl)
     ]
@@ -120,7 +123,8 @@ item_quiet role i received sent (alone (Data stream end octets pad)) allowed unu
           ≡ false =
           subst (λ (j : ℕ). is_used role j received (alone (Data stream end octets pad) ∷ sent)
           ≡ false) (sym same) unused in
-          absurd (both_ways _ unused_here (used_more _ _ [] _ _ sent
+          absurd (both_ways _ unused_here (used_more role stream []
+          (alone (Data stream end octets pad) ∷ []) received sent
           (active_used role stream received sent [] (allowed.1).goes_on.active)))
       | inr other ↦ (rw (ne_eqb stream i other) refl, rw (ne_eqb stream i other) refl)
     ]
@@ -132,10 +136,12 @@ pub sent_quiet : (role : Role) (i : ℕ) (received sent : List Item)
 unfolding ends data_on total
 sent_quiet role i _ _ (starts values ok) unused = (refl, refl)
 sent_quiet role i _ sent (reads {received = received} item with_sent) unused =
-    sent_quiet _ _ _ sent with_sent (unused_before role i (item ∷ []) [] received sent unused)
+    sent_quiet role i received sent with_sent
+    (unused_before role i (item ∷ []) [] received sent unused)
 sent_quiet role i received _ (writes {sent = sent} item with_sent allowed) unused =
-    let here = item_quiet _ _ _ _ item allowed unused in
-    let before = sent_quiet _ _ _ _ with_sent (unused_before _ _ [] (item ∷ []) _ _ unused) in (
-      any_quiet _ item _ here.0 ∙ before.0,
-      omega (arith, total_one _ item _, here.1, before.1),
+    let here = item_quiet role i received sent item allowed unused in
+    let before = sent_quiet role i received sent with_sent
+    (unused_before role i [] (item ∷ []) received sent unused) in (
+      any_quiet (ends i) item sent here.0 ∙ before.0,
+      omega (arith, total_one (data_on i) item sent, here.1, before.1),
     )

@@ -130,8 +130,8 @@ block_is_active c i end octets event q alive goes =
     let item : Item = block i end octets in
     let parts = active_parts c.role i c.received c.sent c.reported alive in
     let lasts = lasts_parts i c.received c.sent parts.lasts in
-    active_reported c.role i (item ∷ c.received) c.sent event c.reported (q.names i) ∙
-    active_by_parts _ _ _ _ _ parts.odd (opened_more c.role i item c.received c.sent parts.opened)
+    active_reported c.role i (item ∷ c.received) c.sent event c.reported (q.names i)
+    ∙ active_by_parts _ _ _ _ _ parts.odd (opened_more c.role i item c.received c.sent parts.opened)
     parts.below (rw (block_ends i end octets, or_swapped end (list_any (ends i) c.received)) goes)
     (rw (block_resets i end octets i) lasts.unreset) lasts.kept parts.unnamed
 

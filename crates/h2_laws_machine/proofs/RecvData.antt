@@ -26,27 +26,24 @@ use Rattle.h2_laws_machine.proofs.StreamsSame.{streams_set, streams_closed, said
 use Rattle.h2_laws_machine.proofs.StreamsSame.{SameAt, same_stream}
 use Rattle.h2_laws_machine.proofs.WaitingOutput.{Waits}
 
--- the event of DATA is harmless, and shows nothing taken
-reported_harmless : (i : ℕ) (octets : List ℕ) (n : ℕ) (end : Bool)
-    → ChangesNoStream (DataEvent i octets n end)
-unfolding one_acked one_pong reports_unprocessed
-reported_harmless i octets n end = record { acks = refl; pongs = refl; names = λ j. refl }
+module _ (i : ℕ) (octets : List ℕ) (n : ℕ) (end : Bool) where
+  -- the event of DATA is harmless, and shows nothing taken
+  reported_harmless : ChangesNoStream (DataEvent i octets n end)
+  unfolding one_acked one_pong reports_unprocessed
+  reported_harmless = record { acks = refl; pongs = refl; names = λ j. refl }
 
-reported_shows : (i : ℕ) (octets : List ℕ) (n : ℕ) (end : Bool)
-    → processed_by (DataEvent i octets n end) ≡ 0
-unfolding processed_by
-reported_shows i octets n end = refl
+  reported_shows : processed_by (DataEvent i octets n end) ≡ 0
+  unfolding processed_by
+  reported_shows = refl
 
--- its flow elsewhere, and on its stream
-reported_elsewhere : (i : ℕ) (octets : List ℕ) (n : ℕ) (end : Bool) (j : ℕ) → j ≢ i
-    → flow_on j (DataEvent i octets n end) ≡ 0
-unfolding flow_on
-reported_elsewhere i octets n end j other = rw (ne_eqb i j (λ is. other (sym is))) refl
+  -- its flow elsewhere, and on its stream
+  reported_elsewhere : (j : ℕ) → j ≢ i → flow_on j (DataEvent i octets n end) ≡ 0
+  unfolding flow_on
+  reported_elsewhere j other = rw (ne_eqb i j (λ is. other (sym is))) refl
 
-reported_here : (i : ℕ) (octets : List ℕ) (n : ℕ) (end : Bool)
-    → flow_on i (DataEvent i octets n end) ≡ n
-unfolding flow_on
-reported_here i octets n end = rw (eq-eqb i i refl) refl
+  reported_here : flow_on i (DataEvent i octets n end) ≡ n
+  unfolding flow_on
+  reported_here = rw (eq-eqb i i refl) refl
 
 -- DATA takes its payload of its stream's window, and ends it if it says so
 data_here : (i : ℕ) (end : Bool) (octets : List ℕ) (pad : Option ℕ)

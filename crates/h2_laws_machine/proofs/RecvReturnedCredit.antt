@@ -42,45 +42,42 @@ unfolding with_reported
 reports_core log [] = refl
 reports_core log (event ∷ events) = refl
 
--- What is unreturned is added, and perhaps returned at an end as at its log, and events are
--- reported.
-pub returned : (e : End) (log : Log) (events : List Event) (n more : ℕ) → n ≡ more → Waits e log
-    → e.windows.unreturned ≡ log.unreturned
-    → Advances (core_facts e) (record (core log) { reported = events ++ log.reported }) → After
-    (add_unreturned n e) (with_reported (with_unreturned more log) events)
-unfolding add_unreturned with_unreturned with_sent
-returned e log events n more same waits unreturned g =
-    let after = record (core log) { reported = events ++ log.reported } in
-    rw (same, waits_much e log waits.output)
-    (both_by (λ (x : End) (next : Log). After x (with_reported next events)) _
-    (after_going _ _ (reports_connection e.role e.failed _ _ events (credit_connection e.role
-    e.failed e.output.waiting log (end_view e).max_payload more e.windows.unreturned unreturned
-    waits))
-    (rw (reports_core (with_credit_returned (record log { unreturned = log.unreturned + more }))
-    events) (paid (core_facts e) after more g)))
-    (after_going _ _ (reports_connection e.role e.failed e.output.waiting
-    (record log { unreturned = log.unreturned + more }) events waits)
-    (rw (reports_core (record log { unreturned = log.unreturned + more }) events)
-    (unreturned_advances (core_facts e) after (e.windows.unreturned + more)
-    (log.unreturned + more) (omega (arith, unreturned)) g))))
+module _ (e : End) (log : Log) (events : List Event) where
+  -- What is unreturned is added, and perhaps returned at an end as at its log, and events are
+  -- reported.
+  pub returned : (n more : ℕ) → n ≡ more → Waits e log → e.windows.unreturned ≡ log.unreturned
+      → Advances (core_facts e) (record (core log) { reported = events ++ log.reported })
+      → After (add_unreturned n e) (with_reported (with_unreturned more log) events)
+  unfolding add_unreturned with_unreturned with_sent
+  returned n more same waits unreturned g =
+      let after = record (core log) { reported = events ++ log.reported } in
+      rw (same, waits_much e log waits.output)
+      (both_by (λ (x : End) (next : Log). After x (with_reported next events)) _
+      (after_going _ _ (reports_connection e.role e.failed _ _ events (credit_connection e.role
+      e.failed e.output.waiting log (end_view e).max_payload more e.windows.unreturned unreturned
+      waits))
+      (rw (reports_core (with_credit_returned (record log { unreturned = log.unreturned + more }))
+      events) (paid (core_facts e) after more g)))
+      (after_going _ _ (reports_connection e.role e.failed e.output.waiting
+      (record log { unreturned = log.unreturned + more }) events waits)
+      (rw (reports_core (record log { unreturned = log.unreturned + more }) events)
+      (unreturned_advances (core_facts e) after (e.windows.unreturned + more)
+      (log.unreturned + more) (omega (arith, unreturned)) g))))
 
--- nothing more is unreturned, and events are reported
-unsettled_none : (e : End) (log : Log) (events : List Event) → Waits e log → e.windows.unreturned
-    ≡ log.unreturned
-    → Advances (core_facts e) (record (core log) { reported = events ++ log.reported }) → After e
-    (with_reported (with_unreturned 0 log) events)
-unfolding with_unreturned
-unsettled_none e log events waits unreturned g =
-    after_going e _ (reports_connection e.role e.failed e.output.waiting
-    (record log { unreturned = log.unreturned + 0 }) events waits)
-    (rw (reports_core (record log { unreturned = log.unreturned + 0 }) events)
-    (unreturned_advances (core_facts e) (record (core log) { reported = events ++ log.reported })
-    e.windows.unreturned (log.unreturned + 0) (omega (arith, unreturned)) g))
+  -- nothing more is unreturned, and events are reported
+  unsettled_none : Waits e log → e.windows.unreturned ≡ log.unreturned
+      → Advances (core_facts e) (record (core log) { reported = events ++ log.reported })
+      → After e (with_reported (with_unreturned 0 log) events)
+  unfolding with_unreturned
+  unsettled_none waits unreturned g =
+      after_going e _ (reports_connection e.role e.failed e.output.waiting
+      (record log { unreturned = log.unreturned + 0 }) events waits)
+      (rw (reports_core (record log { unreturned = log.unreturned + 0 }) events)
+      (unreturned_advances (core_facts e) (record (core log) { reported = events ++ log.reported })
+      e.windows.unreturned (log.unreturned + 0) (omega (arith, unreturned)) g))
 
--- Where nothing more is unreturned, events are reported.
-pub unsettled : (e : End) (log : Log) (events : List Event) (more : ℕ) → more ≡ 0 → Waits e log
-    → e.windows.unreturned ≡ log.unreturned
-    → Advances (core_facts e) (record (core log) { reported = events ++ log.reported }) → After e
-    (with_reported (with_unreturned more log) events)
-unsettled e log events more none waits unreturned g = rw none (unsettled_none e log events waits
-    unreturned g)
+  -- Where nothing more is unreturned, events are reported.
+  pub unsettled : (more : ℕ) → more ≡ 0 → Waits e log → e.windows.unreturned ≡ log.unreturned
+      → Advances (core_facts e) (record (core log) { reported = events ++ log.reported })
+      → After e (with_reported (with_unreturned more log) events)
+  unsettled more none waits unreturned g = rw none (unsettled_none waits unreturned g)

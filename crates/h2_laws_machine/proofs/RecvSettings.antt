@@ -104,37 +104,35 @@ settings_take : (pairs : List (ℕ × ℕ)) → data_of (alone (Settings false p
 unfolding data_of
 settings_take pairs = refl
 
--- Streams are as active as before.
-settings_active : (c : Core) (pairs : List (ℕ × ℕ)) (i : ℕ)
-    → active_by_items (settled c pairs) i ≡ active_by_items c i
-unfolding is_block_on ends resets
-settings_active c pairs i = active_read _ _ _ _ _ c.reported refl refl refl
+module _ (c : Core) (pairs : List (ℕ × ℕ)) (i : ℕ) where
+  -- Streams are as active as before.
+  settings_active : active_by_items (settled c pairs) i ≡ active_by_items c i
+  unfolding is_block_on ends resets
+  settings_active = active_read _ _ _ _ _ c.reported refl refl refl
 
--- Its receive window, and whether the peer has ended it, are as before.
-settings_recv : (c : Core) (pairs : List (ℕ × ℕ)) (i : ℕ) → (said c i).recv_window
-    ≡ (said (settled c pairs) i).recv_window
-unfolding total data_on
-settings_recv c pairs i = rw zero-add refl
+  -- Its receive window, and whether the peer has ended it, are as before.
+  settings_recv : (said c i).recv_window ≡ (said (settled c pairs) i).recv_window
+  unfolding total data_on
+  settings_recv = rw zero-add refl
 
-settings_ended : (c : Core) (pairs : List (ℕ × ℕ)) (i : ℕ) → (said c i).ended_in
-    ≡ (said (settled c pairs) i).ended_in
-unfolding ends
-settings_ended c pairs i = refl
+  settings_ended : (said c i).ended_in ≡ (said (settled c pairs) i).ended_in
+  unfolding ends
+  settings_ended = refl
 
--- The stream with its shifted send window is what the log says.
-settings_said : (c : Core) (pairs : List (ℕ × ℕ)) (i old new : ℕ)
-    → old ≡ value_read 4 first_window c.received
-    → new ≡ value_read 4 first_window (alone (Settings false pairs) ∷ c.received)
-    → record (said c i) { send_window = ((said c i).send_window +ℤ pos new) -ℤ pos old }
-    ≡ said (settled c pairs) i
-unfolding given_on
-settings_said c pairs i old new was is =
-    let item : Item = alone (Settings false pairs) in
-    let gave : total (increment_on i) (item ∷ c.received) ≡ total (increment_on i) c.received =
-    total_quiet (increment_on i) item c.received (settings_give i pairs) in
-    same_stream (record (said c i) { send_window = ((said c i).send_window +ℤ pos new) -ℤ pos old })
-    (said (settled c pairs) i) (rw (was, is, gave) (shifted _ _ _
-    (total (data_on i) c.sent))) (settings_recv c pairs i) refl (settings_ended c pairs i) refl
+  -- The stream with its shifted send window is what the log says.
+  settings_said : (old new : ℕ) → old ≡ value_read 4 first_window c.received
+      → new ≡ value_read 4 first_window (alone (Settings false pairs) ∷ c.received)
+      → record (said c i) { send_window = ((said c i).send_window +ℤ pos new) -ℤ pos old } ≡ said
+      (settled c pairs) i
+  unfolding given_on
+  settings_said old new was is =
+      let item : Item = alone (Settings false pairs) in
+      let gave : total (increment_on i) (item ∷ c.received) ≡ total (increment_on i) c.received =
+      total_quiet (increment_on i) item c.received (settings_give i pairs) in
+      same_stream (record (said c i) {
+        send_window = ((said c i).send_window +ℤ pos new) -ℤ pos old;
+      }) (said (settled c pairs) i) (rw (was, is, gave) (shifted _ _ _
+      (total (data_on i) c.sent))) (settings_recv) refl (settings_ended) refl
 
 -- The streams are the log's, once their send windows are shifted.
 settings_streams : (h : CoreFacts) (c : Core) (pairs : List (ℕ × ℕ)) → Advances h c

@@ -66,28 +66,25 @@ fault_same c i code item j common apart other =
     (others_same c1 i code j other))
     (same_read j c2 item common.settings (apart j other).0 (apart j other).1)
 
--- The stream isn't active then.
-pub fault_dead : (c : Core) (i code : ℕ) (item : Item)
-    → active_by_items (with_fault c i code item) i ≡ false
-fault_dead c i code item =
-    let d : Core = with_fault c i code item in
-    false_from_ne_true (active_by_items d i) (λ alive.
-    both_ways _ (lasts_parts i d.received d.sent (active_parts d.role i d.received d.sent d.reported
-    alive).lasts).kept (reset_here i code c.sent))
+module _ (c : Core) (i code : ℕ) (item : Item) where
+  -- The stream isn't active then.
+  pub fault_dead : active_by_items (with_fault c i code item) i ≡ false
+  fault_dead =
+      let d : Core = with_fault c i code item in
+      false_from_ne_true (active_by_items d i) (λ alive.
+      both_ways _ (lasts_parts i d.received d.sent (active_parts d.role i d.received d.sent
+      d.reported alive).lasts).kept (reset_here i code c.sent))
 
--- One stream more was reset.
-pub fault_resets : (c : Core) (i code : ℕ) (item : Item) (n : ℕ) → n ≡ total one_reset c.sent
-    → n + 1 ≡ total one_reset (with_fault c i code item).sent
-unfolding computing
-fault_resets c i code item n is =
-    omega (arith, is, total_one one_reset (alone (Reset i code)) c.sent)
+  -- One stream more was reset.
+  pub fault_resets : (n : ℕ) → n ≡ total one_reset c.sent
+      → n + 1 ≡ total one_reset (with_fault c i code item).sent
+  unfolding computing
+  fault_resets n is = omega (arith, is, total_one one_reset (alone (Reset i code)) c.sent)
 
--- RST_STREAM uses no number.
-pub fault_used : (c : Core) (i code : ℕ) (item : Item) → greatest_used (with_fault c i code item)
-    ≡ greatest_used (reads c item)
-unfolding computing
-fault_used c i code item = used_wrote c.role (alone (Reset i code)) (item ∷ c.received) c.sent
-    (λ items. refl)
+  -- RST_STREAM uses no number.
+  pub fault_used : greatest_used (with_fault c i code item) ≡ greatest_used (reads c item)
+  unfolding computing
+  fault_used = used_wrote c.role (alone (Reset i code)) (item ∷ c.received) c.sent (λ items. refl)
 
 -- What an end keeps where an item is read that is a fault of its stream, by what it makes of the
 -- streams.

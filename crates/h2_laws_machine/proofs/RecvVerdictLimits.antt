@@ -109,51 +109,48 @@ faults_same e log (pair ∷ pairs) role g = rw (
   faults_same e log pairs role g,
 ) refl
 
--- The verdict on an item is the same before the limits.
-verdict_same : (e : End) (log : Log) (decoded : Option Decoded) (item : Item)
-    → e.role ≡ log.role → Sound (core log)
-    → Going e (core log) → verdict_by_rules (end_view e) decoded item ≡ verdict_by_rules
-    (log_view log) decoded item
-unfolding verdict_by_rules unreleased
-verdict_same e log decoded (block stream end octets) role sound g = block_verdict_same e log stream
-    decoded role sound g
-verdict_same e log decoded (alone (Data stream end octets pad)) role sound g =
-    let n = length (payload_of (Data stream end octets pad)) in
-    ap (λ (window : ℤ). data_verdict (state_at e stream) (exceeds n window)
-    (ended_in (stream_at e stream))
-    (exceeds_stream n (stream_at e stream))) (recv_same e (core log) g)
-    ∙ ap (λ (s : State). data_verdict s (exceeds n (log_view log).recv_window)
-    (ended_in (stream_at e stream))
-    (exceeds_stream n (stream_at e stream))) (state_same e (core log) stream role sound g)
-    ∙ ap (λ (s : Option StreamView). data_verdict (state log stream)
-    (exceeds n (log_view log).recv_window) (ended_in s)
-    (exceeds_stream n s)) (stream_same e.streams (core log) stream g.streams)
-verdict_same e log decoded (alone (Reset stream code)) role sound g = ap reset_verdict
-    (state_same e (core log) stream role sound g)
-verdict_same e log decoded (alone (Settings false pairs)) role sound g = ap verdict_of_fault
-    (faults_same e log pairs role g)
-verdict_same e log decoded (alone (Settings true pairs)) role sound g = rw g.own.awaits refl
-verdict_same e log decoded (alone (Ping true octets)) role sound g =
-    ap (λ (ping : Option (List ℕ)). if is_awaited_ping octets ping then Reported else NoEvent)
-    g.ping
-verdict_same e log decoded (alone (WindowUpdate stream increment)) role sound g =
-    ap₂ (λ (a b : Verdict). if stream == 0 then a else b)
-    (ap (λ (window : ℤ). connection_update_verdict increment (overflows_by increment window))
-    (send_same e (core log) g))
-    (ap (λ (s : State). update_verdict s increment (overflows_stream increment
-    (stream_at e stream))) (state_same e (core log) stream role sound g)
-    ∙ ap (λ (s : Option StreamView). update_verdict (state log stream) increment
-    (overflows_stream increment s)) (stream_same e.streams (core log) stream g.streams))
-verdict_same e log decoded item role sound g = refl
+module _ (e : End) (log : Log) (decoded : Option Decoded) where
+  -- The verdict on an item is the same before the limits.
+  verdict_same : (item : Item) → e.role ≡ log.role → Sound (core log) → Going e (core log)
+      → verdict_by_rules (end_view e) decoded item ≡ verdict_by_rules (log_view log) decoded item
+  unfolding verdict_by_rules unreleased
+  verdict_same (block stream end octets) role sound g = block_verdict_same e log stream
+      decoded role sound g
+  verdict_same (alone (Data stream end octets pad)) role sound g =
+      let n = length (payload_of (Data stream end octets pad)) in
+      ap (λ (window : ℤ). data_verdict (state_at e stream) (exceeds n window)
+      (ended_in (stream_at e stream))
+      (exceeds_stream n (stream_at e stream))) (recv_same e (core log) g)
+      ∙ ap (λ (s : State). data_verdict s (exceeds n (log_view log).recv_window)
+      (ended_in (stream_at e stream))
+      (exceeds_stream n (stream_at e stream))) (state_same e (core log) stream role sound g)
+      ∙ ap (λ (s : Option StreamView). data_verdict (state log stream)
+      (exceeds n (log_view log).recv_window) (ended_in s)
+      (exceeds_stream n s)) (stream_same e.streams (core log) stream g.streams)
+  verdict_same (alone (Reset stream code)) role sound g = ap reset_verdict
+      (state_same e (core log) stream role sound g)
+  verdict_same (alone (Settings false pairs)) role sound g = ap verdict_of_fault
+      (faults_same e log pairs role g)
+  verdict_same (alone (Settings true pairs)) role sound g = rw g.own.awaits refl
+  verdict_same (alone (Ping true octets)) role sound g =
+      ap (λ (ping : Option (List ℕ)). if is_awaited_ping octets ping then Reported else NoEvent)
+      g.ping
+  verdict_same (alone (WindowUpdate stream increment)) role sound g =
+      ap₂ (λ (a b : Verdict). if stream == 0 then a else b)
+      (ap (λ (window : ℤ). connection_update_verdict increment (overflows_by increment window))
+      (send_same e (core log) g))
+      (ap (λ (s : State). update_verdict s increment (overflows_stream increment
+      (stream_at e stream))) (state_same e (core log) stream role sound g)
+      ∙ ap (λ (s : Option StreamView). update_verdict (state log stream) increment
+      (overflows_stream increment s)) (stream_same e.streams (core log) stream g.streams))
+  verdict_same item role sound g = refl
 
--- The verdict of an item is the same after the limits.
-pub over_limits_same : (e : End) (log : Log) (decoded : Option Decoded) (item : Item) → Waits e log
-    → Sound (core log) → Going e (core log)
-    → verdict_of (end_view e) decoded item ≡ verdict_of (log_view log) decoded item
-unfolding verdict_of
-over_limits_same e log decoded item waits sound g =
-    rw (
-      verdict_same e log decoded item waits.same_role sound g,
-      g.streams.resets,
-      waits_much e log waits.output,
-    ) refl
+  -- The verdict of an item is the same after the limits.
+  pub over_limits_same : (item : Item) → Waits e log → Sound (core log) → Going e (core log)
+      → verdict_of (end_view e) decoded item ≡ verdict_of (log_view log) decoded item
+  unfolding verdict_of
+  over_limits_same item waits sound g = rw (
+    verdict_same item waits.same_role sound g,
+    g.streams.resets,
+    waits_much e log waits.output,
+  ) refl

@@ -145,26 +145,23 @@ pub nothing_unreturned : (e : End) (log after : Log) (i : ℕ) → owed_at_close
     → Up e after → Up e (with_unreturned (owed_at_close log after i) after)
 nothing_unreturned e log after i none is = rw (none, with_unreturned_none after) is
 
--- The call is recorded, with the encoder after it.
-pub called_going : (e : End) (log : Log) (act : Act) (answer : Answer) (encoder : EncoderState)
-    → encoder ≡ encoder_after_call log.encoder act answer
-    → ((i : ℕ) → released i ((act, answer) ∷ log.calls) ≡ released i log.calls)
-    → Going e (core log)
-    → Going (record e { output = record e.output { encoder = encoder } })
-    (core (called log act answer))
-called_going e log act answer encoder is same g =
-    rw is (called_advances (core_facts e) (core log) _ _ same g)
+module _ (e : End) (log : Log) (act : Act) (answer : Answer) where
+  -- The call is recorded, with the encoder after it.
+  pub called_going : (encoder : EncoderState) → encoder ≡ encoder_after_call log.encoder act answer
+      → ((i : ℕ) → released i ((act, answer) ∷ log.calls) ≡ released i log.calls)
+      → Going e (core log)
+      → Going (record e { output = record e.output { encoder = encoder } })
+      (core (called log act answer))
+  called_going encoder is same g = rw is (called_advances (core_facts e) (core log) _ _ same g)
 
--- The call is recorded.
-pub called_up : (e : End) (log : Log) (act : Act) (answer : Answer)
-    → log.encoder ≡ encoder_after_call log.encoder act answer
-    → ((i : ℕ) → released i ((act, answer) ∷ log.calls) ≡ released i log.calls) → Up e log
-    → Up e (called log act answer)
-called_up e log act answer keeps same is =
-    assumption (
-      called_going e log act answer e.output.encoder (is.going.encoder ∙ keeps) same is.going,
-      is,
-    )
+  -- The call is recorded.
+  pub called_up : log.encoder ≡ encoder_after_call log.encoder act answer
+      → ((i : ℕ) → released i ((act, answer) ∷ log.calls) ≡ released i log.calls) → Up e log
+      → Up e (called log act answer)
+  called_up keeps same is = assumption (
+    called_going e.output.encoder (is.going.encoder ∙ keeps) same is.going,
+    is,
+  )
 
 -- An end that is up is viewed as its log is.
 pub views_of_up : (e : End) (log : Log) → Up e log → end_view e ≡ view_beside e log

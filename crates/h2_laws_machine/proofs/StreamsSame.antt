@@ -95,50 +95,47 @@ active_some c i alive none =
     let odd : i % 2 ≡ 1 = eqb-true (i % 2) 1 (active_parts c.role i c.received c.sent c.reported
     alive).odd in absurd (omega (arith, odd, none))
 
--- A stream is set: it is active, and others are as they were.
-pub said_set : (streams : StreamMap) (i : ℕ) (stream : StreamView) (c d : Core) → AreSaid streams c
-    → ((j : ℕ) → j ≢ i → SameAt j c d)
-    → active_by_items d i ≡ true → stream ≡ said d i
-    → AreSaid (map.insert streams i (active_entry stream)) d
-said_set streams i stream c d are same active is j = elim (cases_eq j i) [
-  | inl here ↦ rw (here, active, is) (get_set_same streams i (active_entry (said d i)))
-  | inr other ↦ get_set_other streams i (active_entry stream) j other ∙ kept_at streams j c d
-      (same j other) (are j)
-]
+module _ (streams : StreamMap) (i : ℕ) where
+  -- A stream is set: it is active, and others are as they were.
+  pub said_set : (stream : StreamView) (c d : Core) → AreSaid streams c
+      → ((j : ℕ) → j ≢ i → SameAt j c d) → active_by_items d i ≡ true → stream ≡ said d i
+      → AreSaid (map.insert streams i (active_entry stream)) d
+  said_set stream c d are same active is j = elim (cases_eq j i) [
+    | inl here ↦ rw (here, active, is) (get_set_same streams i (active_entry (said d i)))
+    | inr other ↦ get_set_other streams i (active_entry stream) j other ∙ kept_at streams j c d
+        (same j other) (are j)
+  ]
 
--- A stream is removed: it isn't active and wasn't reset, and others are as they were.
-pub said_removed : (streams : StreamMap) (i : ℕ) (c d : Core) → AreSaid streams c
-    → ((j : ℕ) → j ≢ i → SameAt j c d)
-    → active_by_items d i ≡ false → list_any (resets i) d.sent ≡ false
-    → AreSaid (map.remove streams i) d
-said_removed streams i c d are same dead kept j = elim (cases_eq j i) [
-  | inl here ↦ rw (here, dead, kept) (get_removed_same streams i)
-  | inr other ↦ get_removed_other streams i j other ∙ kept_at streams j c d (same j other) (are j)
-]
+  -- A stream is removed: it isn't active and wasn't reset, and others are as they were.
+  pub said_removed : (c d : Core) → AreSaid streams c → ((j : ℕ) → j ≢ i → SameAt j c d)
+      → active_by_items d i ≡ false → list_any (resets i) d.sent ≡ false
+      → AreSaid (map.remove streams i) d
+  said_removed c d are same dead kept j = elim (cases_eq j i) [
+    | inl here ↦ rw (here, dead, kept) (get_removed_same streams i)
+    | inr other ↦ get_removed_other streams i j other ∙ kept_at streams j c d (same j other) (are j)
+  ]
 
--- A stream is reset: it isn't active, and others are as they were.
-pub said_reset : (streams : StreamMap) (i : ℕ) (c d : Core) → AreSaid streams c
-    → ((j : ℕ) → j ≢ i → SameAt j c d)
-    → active_by_items d i ≡ false → list_any (resets i) d.sent ≡ true
-    → AreSaid (map.insert streams i reset_entry) d
-said_reset streams i c d are same dead was j = elim (cases_eq j i) [
-  | inl here ↦ rw (here, dead, was) (get_set_same streams i reset_entry)
-  | inr other ↦ get_set_other streams i reset_entry j other ∙ kept_at streams j c d (same j other)
-      (are j)
-]
+  -- A stream is reset: it isn't active, and others are as they were.
+  pub said_reset : (c d : Core) → AreSaid streams c → ((j : ℕ) → j ≢ i → SameAt j c d)
+      → active_by_items d i ≡ false → list_any (resets i) d.sent ≡ true
+      → AreSaid (map.insert streams i reset_entry) d
+  said_reset c d are same dead was j = elim (cases_eq j i) [
+    | inl here ↦ rw (here, dead, was) (get_set_same streams i reset_entry)
+    | inr other ↦ get_set_other streams i reset_entry j other ∙ kept_at streams j c d (same j other)
+        (are j)
+  ]
 
--- A stream is set and removed at once: it isn't active and wasn't reset, and others are as they
--- were.
-pub said_over : (streams : StreamMap) (i : ℕ) (x : StreamEntry) (c d : Core) → AreSaid streams c
-    → ((j : ℕ) → j ≢ i → SameAt j c d)
-    → active_by_items d i ≡ false → list_any (resets i) d.sent ≡ false
-    → AreSaid (map.remove (map.insert streams i x) i) d
-said_over streams i x c d are same dead kept j = elim (cases_eq j i) [
-  | inl here ↦ rw (here, dead, kept) (get_removed_same (map.insert streams i x) i)
-  | inr other ↦
-      get_removed_other (map.insert streams i x) i j other ∙ get_set_other streams i x j other
-      ∙ kept_at streams j c d (same j other) (are j)
-]
+  -- A stream is set and removed at once: it isn't active and wasn't reset, and others are as they
+  -- were.
+  pub said_over : (x : StreamEntry) (c d : Core) → AreSaid streams c
+      → ((j : ℕ) → j ≢ i → SameAt j c d) → active_by_items d i ≡ false
+      → list_any (resets i) d.sent ≡ false → AreSaid (map.remove (map.insert streams i x) i) d
+  said_over x c d are same dead kept j = elim (cases_eq j i) [
+    | inl here ↦ rw (here, dead, kept) (get_removed_same (map.insert streams i x) i)
+    | inr other ↦
+        get_removed_other (map.insert streams i x) i j other ∙ get_set_other streams i x j other
+        ∙ kept_at streams j c d (same j other) (are j)
+  ]
 
 -- The log says the same of a number in two steps.
 pub same_both : (j : ℕ) (c d f : Core) → SameAt j c d → SameAt j d f → SameAt j c f

@@ -109,8 +109,8 @@ active_processed_by role received items sent news reported events item i true is
 active_processed_by role received items sent news reported events item i false is test f r server
     none kept active_is =
     let before : is_active role i (item ∷ received) (items ++ sent) (events ++ reported) ≡ true = ap
-    (λ (line : List Item). is_active role i (item ∷ received) line (events ++ reported)) (sym is) ∙
-    active_is in
+    (λ (line : List Item). is_active role i (item ∷ received) line (events ++ reported)) (sym is)
+    ∙ active_is in
     let parts = active_parts role i (item ∷ received) (items ++ sent) (events ++ reported) before in
     let opened : list_any (is_block_on i) (openings role received sent) ≡ true = ap
     (list_any (is_block_on i)) (openings_server role received sent server) ∙ sym
@@ -134,27 +134,27 @@ pub up_log_read : (role : Role) (received items sent news : List Item)
     → IsUpLogBy role (item ∷ received) news (events ++ reported)
 up_log_read role received items sent news reported events item is f r =
     record {
-  acks = omega (arith, reported_append, settings_after, ap settings_count is);
-  pongs = omega (arith, reported_append, total_after, ap (total one_ping) is);
-  processed = λ server none i active_is.
-      let lasts = active_unreset role i (item ∷ received) news (events ++ reported) active_is in
-      active_processed_by role received items sent news reported events item i (is_block_on i item)
-      is refl f r server none lasts active_is;
-  clear = λ client i above.
-      let low = greatest_after items sent in
-      let same = ap greatest_block is in
-      let before = f.clear client i (omega arith) in
-      let here = r.clear client i (omega arith) in
-      record {
-        ended = any_quiet (ends i) item received (one_none (ends i) item here.ended) ∙ before.ended;
-        reset = any_quiet (resets i) _ _ (one_none (resets i) item here.reset) ∙ before.reset;
-        given = total_quiet (increment_on i) item received
-            (one_total (increment_on i) item here.given) ∙ before.given;
-        no_data = total_quiet (data_on i) item received (one_total (data_on i) item here.no_data) ∙
-            before.no_data;
-        unnamed = none_both (reports_unprocessed i) events reported here.unnamed before.unnamed;
-      };
-}
+      acks = omega (arith, reported_append, settings_after, ap settings_count is);
+      pongs = omega (arith, reported_append, total_after, ap (total one_ping) is);
+      processed = λ server none i active_is.
+          let lasts = active_unreset role i (item ∷ received) news (events ++ reported) active_is in
+          active_processed_by role received items sent news reported events item i (is_block_on i item)
+          is refl f r server none lasts active_is;
+      clear = λ client i above.
+          let low = greatest_after items sent in
+          let same = ap greatest_block is in
+          let before = f.clear client i (omega arith) in
+          let here = r.clear client i (omega arith) in
+          record {
+            ended = any_quiet (ends i) item received (one_none (ends i) item here.ended) ∙ before.ended;
+            reset = any_quiet (resets i) _ _ (one_none (resets i) item here.reset) ∙ before.reset;
+            given = total_quiet (increment_on i) item received
+                (one_total (increment_on i) item here.given) ∙ before.given;
+            no_data = total_quiet (data_on i) item received (one_total (data_on i) item here.no_data)
+                ∙ before.no_data;
+            unnamed = none_both (reports_unprocessed i) events reported here.unnamed before.unnamed;
+          };
+    }
 
 -- At a client a number above all that were used is idle.
 pub idle_above : (role : Role) (i : ℕ) (received sent : List Item) → role ≡ Client

@@ -35,7 +35,8 @@ reply_resets : (log : Log) (decoded : Option Decoded) (item : Item) (v : Verdict
     → list_any (resets (stream_of_item item))
     (with_sent (read log decoded item) (replies_to v item)).sent ≡ true
 unfolding replies_to with_sent resets
-reply_resets log decoded item (StreamFault other) code is = or_left _ _ (eq-eqb _ _ refl)
+reply_resets log decoded item (StreamFault other) code is =
+    or_left _ _ (eq-eqb (stream_of_item item) (stream_of_item item) refl)
 reply_resets log decoded item another code is = cc
 
 -- An item that is read, with a verdict that is no fault of the connection, keeps this.
@@ -49,7 +50,8 @@ replied_up_log log decoded item v is none f =
     let g = grows_wrote (read log decoded item) (replies_to v item) in
     let reads = item_reads log decoded v item g.items first.sent
     (rules_is log decoded item v is none) g.sent none (reply_resets log decoded item v) f in
-    rw (g.role, g.received, g.reported) (up_log_read _ _ g.items _ _ _ _ item g.sent f reads)
+    rw (g.role, g.received, g.reported) (up_log_read log.role log.received g.items log.sent
+    first.sent log.reported (events_of (log_view log) decoded v item) item g.sent f reads)
 
 -- The least number that passes is no greater than the greatest.
 least_low : (test : ℕ → Bool) (items : List Item) → least_block test items ≤ greatest_block items
@@ -60,9 +62,10 @@ least_low test (block stream end octets ∷ items) =
     by (test stream) (least_low test items)
   where
     by : (b : Bool) → least_block test items ≤ greatest_block items
-        → (if b then lesser_number stream (least_block test items) else least_block test items) ≤
-        max stream (greatest_block items)
-    by true low = omega (arith, lesser_low _ _) by false low = omega arith
+        → (if b then lesser_number stream (least_block test items) else least_block test items)
+        ≤ max stream (greatest_block items)
+    by true low = omega (arith, lesser_low stream (least_block test items))
+    by false low = omega arith
 
 -- A stream that is reported as unprocessed was used, at a client.
 unprocessed_low : (role : Role) (test : ℕ → Bool) (sent : List Item)
@@ -109,38 +112,34 @@ begins_up_log role values = record {
   clear = λ client i above. assumption;
 }
 
--- Each change of a log keeps it, as long as the connection is up.
-up_kept : (role : Role) (values : Values)
-    → IsPendingInvariant role values (λ events log. log.failed ≡ None → PendingUp events log)
-unfolding with_sent
-up_kept role values = record {
-  opening = λ in_range up. begins_up_log role values;
-  used = λ log octets unparsed f. f;
-  framed = λ log frames f. f;
-  begun = λ log begun begins f. f;
-  complete = λ log f. f;
-  replied = λ log decoded item v replies f up.
-      replied_up_log log decoded item v replies.is replies.up
-      (f ((grows_wrote (read log decoded item) _).up up));
-  named = λ log is was some f up.
-      unprocessed_up_log log.role log.received log.sent log.reported (next_unprocessed log)
-      (next_low log) (f up);
-  reported = λ log event events may f. f;
-  unreturned = λ events log count f. f;
-  returned = λ events log returns f up.
-      up_log_more log.role log.received (alone (WindowUpdate 0 log.unreturned) ∷ []) log.sent
-      (events ++ log.reported) (f up);
-  failed = λ log code last names f up. let wrong : Some code ≡ None = up in cc;
-  sent = λ log act accepted f up.
-      let base = called log act (answer_of (log_view log) act) in
-      let g = grows_wrote base (items_of (log_view log) act (answer_of (log_view log) act)) in
-      up_log_grown base _ g (f (g.up up));
-  called = λ log act answer is none f. f;
-  given = λ log more f. f;
-}
+module _ (role : Role) (values : Values) where
+  -- Each change of a log keeps it, as long as the connection is up.
+  up_kept : IsPendingInvariant role values (λ events log. log.failed ≡ None → PendingUp events log)
+  unfolding with_sent
+  up_kept = record {
+    opening = λ in_range up. begins_up_log role values;
+    used = λ log octets unparsed f. f;
+    framed = λ log frames f. f;
+    begun = λ log begun begins f. f;
+    complete = λ log f. f;
+    replied = λ log decoded item v replies f up. replied_up_log log decoded item v replies.is
+        replies.up (f ((grows_wrote (read log decoded item) _).up up));
+    named = λ log is was some f up. unprocessed_up_log log.role log.received log.sent log.reported
+        (next_unprocessed log) (next_low log) (f up);
+    reported = λ log event events may f. f;
+    unreturned = λ events log count f. f;
+    returned = λ events log returns f up. up_log_more log.role log.received
+        (alone (WindowUpdate 0 log.unreturned) ∷ []) log.sent (events ++ log.reported) (f up);
+    failed = λ log code last names f up. let wrong : Some code ≡ None = up in cc;
+    sent = λ log act accepted f up.
+        let base = called log act (answer_of (log_view log) act) in
+        let g = grows_wrote base (items_of (log_view log) act (answer_of (log_view log) act)) in
+        up_log_grown base _ g (f (g.up up));
+    called = λ log act answer is none f. f;
+    given = λ log more f. f;
+  }
 
--- A log that hasn't failed is such a log.
-pub up_log_of : (role : Role) (values : Values) (log : Log) → IsLog role values log
-    → log.failed ≡ None → IsUpLog log
-up_log_of role values =
-    pending_by_logs _ _ (λ events log. log.failed ≡ None → PendingUp events log) (up_kept _ _)
+  -- A log that hasn't failed is such a log.
+  pub up_log_of : (log : Log) → IsLog role values log → log.failed ≡ None → IsUpLog log
+  up_log_of = pending_by_logs role values (λ events log. log.failed ≡ None → PendingUp events log)
+      (up_kept)

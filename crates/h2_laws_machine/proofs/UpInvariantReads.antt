@@ -187,17 +187,17 @@ pub item_reads : (log : Log) (decoded : Option Decoded) (v : Verdict) (item : It
     (events_of (log_view log) decoded v item) item
 item_reads log decoded v item items news is line none reset f =
     record {
-  acks = acks_of log decoded v item is f;
-  pongs = pongs_of log decoded v item is f;
-  processed = λ i here server stays kept active_is. active_processed log decoded v item items news i
-      is line none reset here stays kept;
-  clear = λ client i above.
-      let parts = unseen_item _ _ item i client above (λ code fault. none code (sym is ∙ fault)) in
-      record {
-        ended = or_from (ends i item) false parts.0 refl;
-        reset = or_from (resets i item) false parts.1 refl;
-        given = total_one (increment_on i) item [] ∙ rw (parts.2, total_none (increment_on i)) refl;
-        no_data = total_one (data_on i) item [] ∙ rw (parts.3, total_none (data_on i)) refl;
-        unnamed = events_unnamed log decoded v item i;
-      };
-}
+      acks = acks_of log decoded v item is f;
+      pongs = pongs_of log decoded v item is f;
+      processed = λ i here server stays kept active_is. active_processed log decoded v item items news i
+          is line none reset here stays kept;
+      clear = λ client i above.
+          let parts = unseen_item _ _ item i client above (λ code fault. none code (sym is ∙ fault)) in
+          record {
+            ended = or_from (ends i item) false parts.0 refl;
+            reset = or_from (resets i item) false parts.1 refl;
+            given = total_one (increment_on i) item [] ∙ rw (parts.2, total_none (increment_on i)) refl;
+            no_data = total_one (data_on i) item [] ∙ rw (parts.3, total_none (data_on i)) refl;
+            unnamed = events_unnamed log decoded v item i;
+          };
+    }

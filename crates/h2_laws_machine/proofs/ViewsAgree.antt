@@ -84,17 +84,17 @@ pub views_agree : (e : End) (log : Log) → e.role ≡ log.role → e.failed ≡
 unfolding next_number active_count last_processed max_streams
 views_agree e log role failed waits streams run =
     let stream = λ (k : ℕ). stream_agrees e log k streams in
-    let max_streams : (if is_server e.role then e.own.in_force.max_streams else 0) ≡
-    (log_view log).max_streams = rw role (max_streams_agree _ _ _ run.own.in_force.max_streams) in
-    let next : (if is_server e.role then 0 else number_after e.streams.highest) ≡
-    (log_view log).next_number =
+    let max_streams : (if is_server e.role then e.own.in_force.max_streams else 0)
+    ≡ (log_view log).max_streams = rw role (max_streams_agree _ _ _ run.own.in_force.max_streams) in
+    let next : (if is_server e.role then 0 else number_after e.streams.highest)
+    ≡ (log_view log).next_number =
     rw role (next_agrees log.role e.streams.highest log.received log.sent streams.highest) in
     let send = window_agrees e.windows.send (total data_of log.sent)
     (given_on_connection log.received) run.windows.send in
     let recv = window_agrees e.windows.recv (total data_of log.received)
     (granted_on_connection log.sent) run.windows.recv in
-    let goaway : is_some e.goaway.sent ≡ goaway_written log = ap is_some run.goaway.last_sent ∙
-    when_some _ _ in
+    let goaway : is_some e.goaway.sent ≡ goaway_written log = ap is_some run.goaway.last_sent
+    ∙ when_some _ _ in
     λ i. record {
       role = role i;
       failed = failed i;

@@ -54,8 +54,8 @@ wrote_output e log [] same is =
 wrote_output e log (item ∷ items) same is =
     let more = output_more _ _ _ (encoding_of_items (max_payload_sent log) (item ∷ items)) is in
     record {
-      waiting = ap (λ (most : ℕ). e.output.waiting ++ encoding_of_items most (item ∷ items)) same ∙
-          more.waiting;
+      waiting = ap (λ (most : ℕ). e.output.waiting ++ encoding_of_items most (item ∷ items)) same
+          ∙ more.waiting;
       given = more.given;
     }
 
@@ -64,47 +64,43 @@ pub waits_much : (e : End) (log : Log) → OutputOf e log → length e.output.wa
 unfolding waiting output
 waits_much e log w = ap length w.waiting ∙ length-drop log.given log.written
 
--- A frame alone that is written waits, whatever the greatest payload is.
-pub wrote_connection : (role : Role) (failed : Option Code) (waits : List ℕ) (log : Log) (most : ℕ)
-    (frame : Frame) → ConnectionFacts role failed waits log
-    → ConnectionFacts role failed (waits ++ encoding_of_items most (alone frame ∷ []))
-    (with_sent log (alone frame ∷ []))
-unfolding with_sent
-wrote_connection role failed waits log most frame s = record {
-  same_role = s.same_role;
-  same_failed = s.same_failed;
-  output = rw (alone_alike most (max_payload_sent log) frame) (output_more waits log.given
-      log.written (encoding_of_items (max_payload_sent log) (alone frame ∷ [])) s.output);
-}
+module _ (role : Role) (failed : Option Code) (waits : List ℕ) (log : Log) where
+  -- A frame alone that is written waits, whatever the greatest payload is.
+  pub wrote_connection : (most : ℕ) (frame : Frame) → ConnectionFacts role failed waits log
+      → ConnectionFacts role failed (waits ++ encoding_of_items most (alone frame ∷ []))
+      (with_sent log (alone frame ∷ []))
+  unfolding with_sent
+  wrote_connection most frame s = record {
+    same_role = s.same_role;
+    same_failed = s.same_failed;
+    output = rw (alone_alike most (max_payload_sent log) frame) (output_more waits log.given
+        log.written (encoding_of_items (max_payload_sent log) (alone frame ∷ [])) s.output);
+  }
 
--- Where the connection fails, GOAWAY waits.
-pub fails_connection : (role : Role) (failed : Option Code) (waits : List ℕ) (log : Log)
-    (most : ℕ) (code : Code) (last other : ℕ) → last ≡ other
-    → ConnectionFacts role failed waits log
-    → ConnectionFacts role (Some code) (waits
-    ++ encoding_of_items most (alone (GoAway last (code_number code) []) ∷ []))
-    (with_failure code other log)
-unfolding with_sent
-fails_connection role failed waits log most code last other same s =
-    let wrote = wrote_connection role failed waits log most (GoAway other (code_number code) []) s
-    in
-    rw same (record { same_role = wrote.same_role; same_failed = refl; output = wrote.output })
+  -- Where the connection fails, GOAWAY waits.
+  pub fails_connection : (most : ℕ) (code : Code) (last other : ℕ) → last ≡ other
+      → ConnectionFacts role failed waits log
+      → ConnectionFacts role (Some code) (waits ++ encoding_of_items most
+      (alone (GoAway last (code_number code) []) ∷ [])) (with_failure code other log)
+  unfolding with_sent
+  fails_connection most code last other same s =
+      let wrote = wrote_connection most (GoAway other (code_number code) []) s
+      in
+      rw same (record { same_role = wrote.same_role; same_failed = refl; output = wrote.output })
 
--- Events wait for nothing.
-pub reports_connection : (role : Role) (failed : Option Code) (waits : List ℕ) (log : Log)
-    (events : List Event) → ConnectionFacts role failed waits log
-    → ConnectionFacts role failed waits (with_reported log events)
-unfolding with_reported
-reports_connection role failed waits log [] s = s
-reports_connection role failed waits log (event ∷ events) s = s
+  -- Events wait for nothing.
+  pub reports_connection : (events : List Event) → ConnectionFacts role failed waits log
+      → ConnectionFacts role failed waits (with_reported log events)
+  unfolding with_reported
+  reports_connection [] s = s
+  reports_connection (event ∷ events) s = s
 
--- What is unreturned is returned.
-pub credit_connection : (role : Role) (failed : Option Code) (waits : List ℕ) (log : Log)
-    (most more unreturned : ℕ) → unreturned ≡ log.unreturned
-    → ConnectionFacts role failed waits log
-    → ConnectionFacts role failed (waits
-    ++ encoding_of_items most (alone (WindowUpdate 0 (unreturned + more)) ∷ []))
-    (with_credit_returned (record log { unreturned = log.unreturned + more }))
-unfolding with_sent
-credit_connection role failed waits log most more unreturned same s =
-    rw same (wrote_connection role failed waits log most (WindowUpdate 0 (log.unreturned + more)) s)
+  -- What is unreturned is returned.
+  pub credit_connection : (most more unreturned : ℕ) → unreturned ≡ log.unreturned
+      → ConnectionFacts role failed waits log
+      → ConnectionFacts role failed (waits ++ encoding_of_items most
+      (alone (WindowUpdate 0 (unreturned + more)) ∷ [])) (with_credit_returned
+      (record log { unreturned = log.unreturned + more }))
+  unfolding with_sent
+  credit_connection most more unreturned same s =
+      rw same (wrote_connection most (WindowUpdate 0 (log.unreturned + more)) s)

@@ -108,6 +108,6 @@ limit_in_force (item ∷ items) newer older is =
     elim (settings_or item) [
   | inl (pairs, same) ↦ rw same (limit_at_settings pairs items newer older (rw same at is)
       (λ newer others. limit_in_force items newer older others))
-  | inr none ↦ own_next 1 4096 (length older) item items (λ one. absurd (omega arith)) ∙
-      limit_in_force items newer older (sym (pairs_kept _ _ none) ∙ is)
+  | inr none ↦ own_next 1 4096 (length older) item items (λ one. absurd (omega arith))
+      ∙ limit_in_force items newer older (sym (pairs_kept _ _ none) ∙ is)
 ]

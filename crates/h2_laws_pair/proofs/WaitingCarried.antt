@@ -127,8 +127,8 @@ received_lie writer reader rest way ends under_way joined up =
     let paid = sym (take-append-drop (length way) writer.log.payloads) in
     let all = rw under_way at (written_sendable_by _ _ writer.log ends.writer_log) in
     let by = written_by_payloads _ _ writer.log ends.writer_log in
-    let many = payloads_counted writer.log.received writer.log.sent writer.log.payloads by.history ∙
-    ap length under_way in
+    let many = payloads_counted writer.log.received writer.log.sent writer.log.payloads by.history
+    ∙ ap length under_way in
     let each_one : length news ≡ length way = omega
     (arith, length-append way received, length-take (length way) writer.log.payloads) in
     let sendable = older_sendable news olds way received each_one (rw paid at all) in
