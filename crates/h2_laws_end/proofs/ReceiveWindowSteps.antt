@@ -105,12 +105,12 @@ data_fault_steps : (log : Log) (stream : ℕ) (end : Bool) (octets : List ℕ) (
     (Reset stream code) ∷ []) (ResetEvent stream code true ∷ []) log.calls
 data_fault_steps log stream end octets pad code i before =
     elim (cases_eq stream i) [
-  | inl same ↦ closed_steps (history_of log) i _ (alone (Reset stream code) ∷ []) _ before
-      (rw same (reset_closed _ _ _ _)) (reset_gives i stream code) (reset_flow i stream code true)
-  | inr other ↦ quiet_steps (history_of log) i _ _ _ log.calls before (total_one _ _
-      (data_elsewhere stream end octets pad i other)) (reset_gives i stream code)
-      (reset_flow i stream code true) refl
-]
+      | inl same ↦ closed_steps (history_of log) i _ (alone (Reset stream code) ∷ []) _ before
+          (rw same (reset_closed _ _ _ _)) (reset_gives i stream code) (reset_flow i stream code true)
+      | inr other ↦ quiet_steps (history_of log) i _ _ _ log.calls before (total_one _ _
+          (data_elsewhere stream end octets pad i other)) (reset_gives i stream code)
+          (reset_flow i stream code true) refl
+    ]
 
 -- DATA that is ignored.
 data_ignored_steps : (log : Log) (stream : ℕ) (end : Bool) (octets : List ℕ) (pad : Option ℕ)
@@ -118,11 +118,11 @@ data_ignored_steps : (log : Log) (stream : ℕ) (end : Bool) (octets : List ℕ)
     → Steps (history_of log) i (alone (Data stream end octets pad) ∷ []) [] [] log.calls
 data_ignored_steps log stream end octets pad i before closed =
     elim (cases_eq stream i) [
-  | inl same ↦ closed_steps (history_of log) i _ [] [] before (rw (← same) closed) (total_none _)
-      (flow_none i)
-  | inr other ↦ quiet_steps (history_of log) _ _ [] [] _ before (total_one _ _
-      (data_elsewhere stream end octets pad i other)) (total_none _) (flow_none i) refl
-]
+      | inl same ↦ closed_steps (history_of log) i _ [] [] before (rw (← same) closed) (total_none _)
+          (flow_none i)
+      | inr other ↦ quiet_steps (history_of log) _ _ [] [] _ before (total_one _ _
+          (data_elsewhere stream end octets pad i other)) (total_none _) (flow_none i) refl
+    ]
 
 -- DATA that is reported.
 data_reported_steps : (log : Log) (stream : ℕ) (end : Bool) (octets : List ℕ) (pad : Option ℕ)

@@ -91,11 +91,11 @@ puts_items log base items more received sent written =
     let credit = credit_of more (with_sent base items) in (
       credit,
       puts_twice _ _ _ items credit.items (record {
-            received = (puts_sent base items).received ∙ received;
-            sent = (puts_sent base items).sent ∙ ap (λ (older : List Item). items ++ older) sent;
-            written = (puts_sent base items).written ∙ ap (λ (octets : List ℕ). octets
-                ++ encoding_of_items (max_payload_sent (with_sent base items)) items) written;
-          }) credit.puts,
+        received = (puts_sent base items).received ∙ received;
+        sent = (puts_sent base items).sent ∙ ap (λ (older : List Item). items ++ older) sent;
+        written = (puts_sent base items).written ∙ ap (λ (octets : List ℕ). octets
+            ++ encoding_of_items (max_payload_sent (with_sent base items)) items) written;
+      }) credit.puts,
     )
 
 -- What was written is the items, and credit after them.

@@ -106,8 +106,8 @@ limit_in_force [] [] [] is = at_first
 limit_in_force [] newer older is = let none = pairs_none in absurd (cc)
 limit_in_force (item ∷ items) newer older is =
     elim (settings_or item) [
-  | inl (pairs, same) ↦ rw same (limit_at_settings pairs items newer older (rw same at is)
-      (λ newer others. limit_in_force items newer older others))
-  | inr none ↦ own_next 1 4096 (length older) item items (λ one. absurd (omega arith))
-      ∙ limit_in_force items newer older (sym (pairs_kept _ _ none) ∙ is)
-]
+      | inl (pairs, same) ↦ rw same (limit_at_settings pairs items newer older (rw same at is)
+          (λ newer others. limit_in_force items newer older others))
+      | inr none ↦ own_next 1 4096 (length older) item items (λ one. absurd (omega arith))
+          ∙ limit_in_force items newer older (sym (pairs_kept _ _ none) ∙ is)
+    ]
