@@ -93,15 +93,14 @@ unfolding IsTypedAct
 moves_acts side old new count result answer same fits at =
     let answered = answer_by (λ given. Count given) result in
     subst (λ (a : Acted). MakesAct old (made side (Moves count) a) new) (sym same)
-    (acts_by side old new (Moves count) (acted_as answered) at.other_end
+    (acts_by _ _ _ _ (acted_as answered) at.other_end
     (λ values one other represents keeps other_keeps.
     let (may, now) = at.answers values one.happened represents in
     let ours = kept_of side old in
     let theirs = kept_of (other_side side) old in
     let after = kept_of (other_side side) new in
     let stays = keeps_same theirs (record after { incoming = theirs.incoming }) other other
-    other_keeps
-    (record {
+    other_keeps (record {
       incoming = refl;
       accepted = ap (λ a. a.items) at.accepted;
       handed = at.handed;
@@ -112,13 +111,11 @@ moves_acts side old new count result answer same fits at =
       new_other = with_given other one (PutOut count) answered;
       may = moves count answered fits may;
       represents = now;
-      kept = keeps_same ours (kept_of side new) one (with_answer one (PutOut count) answered) keeps
-          (same_kept ours (kept_of side new) at.kept) refl refl refl refl;
+      kept = keeps_same _ _ one _ keeps (same_kept _ _ at.kept) refl refl refl refl;
       happened = refl;
       other_kept = record {
-        incoming = holds_more theirs.incoming after.incoming other.incoming _
-            (moved values side old new count one.happened result at represents)
-            other_keeps.incoming;
+        incoming = holds_more _ _ other.incoming _
+            (moved values _ _ _ _ one.happened _ at represents) other_keeps.incoming;
         accepted = stays.accepted;
         handed = stays.handed;
         unfinished = stays.unfinished;

@@ -11,7 +11,6 @@ use Rattle.h2_laws_pair.specs.Tokens.{tokens_heard, IsNoEmptyData}
 use Rattle.h2_ends.specs.Ends.{IsNoEmptyPart, part_on, parts_on, part_of_event, handed_as}
 use Rattle.h2_ends.specs.Ends.{handed_at}
 use Rattle.std.proofs.Common.{◌≡◌, ℕ, Bool, List, Some, None}
-use Rattle.h2_message.specs.Phases.{place_after}
 use Rattle.h2_ends.proofs.EndParts.{same_part, no_tokens, other_tokens}
 use Rattle.h2_joined.proofs.JointHolds.{EndHolds}
 use Rattle.h2_message.specs.declared.reading.Place.TheVariants as places
@@ -76,13 +75,12 @@ holds_more made side end event handed log holds more calls hands passes =
         | inr later ↦ Contains-append_right (event ∷ []) end.log.reported other
             (holds.passed other later)
       ]);
-      reported = λ other none here.
-          elim (first_or_later event end.log.reported other (rw more at here)) [
-            | inl is ↦ is_first handed (Passed other) end.handed
-                (passes.passes (ap part_of_event is ∙ none) ∙ ap Passed is)
-            | inr later ↦ Contains-append_right (handed ∷ []) end.handed (Passed other)
-                (holds.reported other none later)
-          ];
+      reported = λ other none here. elim (first_or_later _ _ other (rw more at here)) [
+        | inl is ↦ is_first handed (Passed other) end.handed
+            (passes.passes (ap part_of_event is ∙ none) ∙ ap Passed is)
+        | inr later ↦ Contains-append_right (handed ∷ []) end.handed (Passed other)
+            (holds.reported other none later)
+      ];
       asked = λ id code was. holds.asked id code (rw calls at was);
     }
 
@@ -136,8 +134,7 @@ place_unpassed places.Trailers id list end event is = cc
 unpassed : (reads : Reads) (parts : List (Part × Bool)) (id : ℕ) (part : Part × Bool)
     (event : Event) → handed_as reads parts id part ≡ Passed event → ⊥
 unfolding handed_as
-unpassed reads parts id (FieldsPart list, end) event is =
-    place_unpassed (place_after reads parts list) id list end event is
+unpassed reads parts id (FieldsPart list, end) event is = place_unpassed _ _ _ _ event is
 unpassed reads parts id (OctetsPart octets, end) event is = cc
 
 -- So it is handed out on its stream alone.

@@ -99,10 +99,9 @@ heard_then : (id : ℕ) (event : Event) (part : Part × Bool) (parts : List (Par
     → tokens_heard id after ≡ tokens_of_parts (parts ++ part ∷ [])
 unfolding tokens_heard
 heard_then id event part parts before after more of heard =
-    ap (tokens_heard id) more
-    ∙ ap (λ (tokens : List Token). tokens ++ tokens_of_event id event) heard
-    ∙ ap (λ (tokens : List Token). tokens_of_parts parts ++ tokens) (part_tokens event id part of)
-    ∙ sym (tokens_with parts part)
+    ap (tokens_heard id) more ∙ ap (λ (tokens : List Token). tokens ++ tokens_of_event id event)
+    heard ∙ ap (λ (tokens : List Token). tokens_of_parts parts ++ tokens)
+    (part_tokens event id part of) ∙ sym (tokens_with _ _)
 
 -- An event that was reported says something.
 newest_says : (event : Event) (before after : List Event) (id : ℕ) (part : Part × Bool)
@@ -127,11 +126,9 @@ readable_at side client_values server_values one other_half calm made end other 
     let heard = heard_then id event part parts end.log.reported one.log.reported more of
     (holds.heard id) in
     let sent = hears_at side client_values server_values one other_half calm id pair in
-    let prefix = begins_message (tokens_heard id one.log.reported) _ order.waiting
-    (tokens_said other id) (rw same at sent) order.prefix in (
+    let prefix = begins_message _ _ order.waiting _ (rw same at sent) order.prefix in (
       read_at side end other id (parts ++ part ∷ []) role accept
           (rw (tokens_with parts part) (some_with (tokens_of_parts parts) (tokens_of_part part)
-          (part_some part says)))
-          (says_with parts part (holds.says id) says) (rw heard at prefix),
+          (part_some part says))) (says_with parts part (holds.says id) says) (rw heard at prefix),
       says,
     )

@@ -18,8 +18,7 @@ pub where_at : (side : Side) (client_values server_values : Values) (one other :
     → (later → calm) → IsPairAt side client_values server_values one other later
 unfolding AreUndisturbed
 where_at side client_values server_values one other calm later pair follows =
-    goes_on_at side client_values server_values one other one other calm later pair
-    (no_step one other) (λ had. (follows had, tt))
+    goes_on_at _ _ _ _ _ _ _ _ _ pair (no_step one other) (λ had. (follows had, tt))
 
 -- an end once its connection has this log, with these octets on the pipe to it
 abbrev pub with_pipe : Half → Log → List ℕ → Half
@@ -35,15 +34,12 @@ pub took_at : (side : Side) (client_values server_values : Values) (one other : 
 took_at side client_values server_values one other calm piece later count event log pair came may =
     let steps = take_is_steps one other piece later (Took count event) log came may in
     let taken = steps.0 in
-    let unused : drop count piece ≡ taken.unused =
-    ap (drop count) taken.joined
-    ∙ ap (λ (used : ℕ). drop used (taken.octets ++ taken.unused)) (sym taken.used)
-    ∙ drop-append_seam taken.octets taken.unused in
+    let unused : drop count piece ≡ taken.unused = ap (drop count) taken.joined ∙ ap
+    (λ (used : ℕ). drop used (taken.octets ++ taken.unused)) (sym taken.used) ∙ drop-append_seam
+    taken.octets taken.unused in
     subst (λ (left : List ℕ). IsPairAt side client_values server_values
-    (with_pipe one log (left ++ later)) other calm) (sym unused)
-    (goes_on_at side client_values server_values one other
-    (with_pipe one log (taken.unused ++ later)) other calm calm pair taken.steps
-    (λ had. (had, steps.1 (λ is. cc))))
+    (with_pipe one log (left ++ later)) other calm) (sym unused) (goes_on_at _ _ _ _ _
+    _ _ _ _ pair taken.steps (λ had. (had, steps.1 (λ is. cc))))
 
 -- an end that has lost octets, with these left on the pipe to it
 abbrev pub with_lost : Half → (octets later : List ℕ) → Half
@@ -57,51 +53,47 @@ pub loses_at : (side : Side) (client_values server_values : Values) (one other :
     → IsPairAt side client_values server_values (with_lost one octets later) other calm
 unfolding AreUndisturbed IsUndisturbedStep
 loses_at side client_values server_values one other calm octets later pair failed came =
-    goes_on_at side client_values server_values one other (with_lost one octets later) other calm
-    calm pair (then_step (no_step one other) (loses octets later failed came))
-    (λ had. (had, (tt, tt)))
+    goes_on_at _ _ _ _ _ _ _ _ _ pair
+    (then_step (no_step one other) (loses octets later failed came)) (λ had. (had, (tt, tt)))
 
--- Where a call of `take` fails, its octets are lost from the one on that it has not used. The steps
--- are undisturbed, unless it was out of memory.
-pub failed_at : (side : Side) (client_values server_values : Values) (one other : Half)
-    (calm : Type 0) (piece later : List ℕ) (code : Code) (log : Log)
-    → IsPairAt side client_values server_values one other calm → one.incoming ≡ piece ++ later
-    → MayTake one.log piece (Failed code) log
-    → (lost : List ℕ) × IsPairAt side client_values server_values
-    (record { log = log; incoming = later; lost = lost }) other (calm × (code ≢ InternalError))
-failed_at side client_values server_values one other calm piece later code log pair came may =
-    let steps = take_is_steps one other piece later (Failed code) log came may in
-    let taken = steps.0 in
-    let failed : log.failed ≡ Some code =
-    (log_after_take one.log log piece (Failed code) may).5 in
-    let now = with_pipe one log (taken.unused ++ later) in (
-      one.lost ++ taken.unused,
-      loses_at side client_values server_values now other (calm × (code ≢ InternalError))
-          taken.unused later
-          (goes_on_at side client_values server_values one other now other calm
-          (calm × (code ≢ InternalError)) pair taken.steps
-          (λ had. (had.0, steps.1 (λ is. had.1 (cc)))))
-          (λ none. cc) refl,
-    )
+module _ (side : Side) (client_values server_values : Values) (one other : Half) where
+  -- Where a call of `take` fails, its octets are lost from the one on that it has not used. The
+  -- steps are undisturbed, unless it was out of memory.
+  pub failed_at : (calm : Type 0) (piece later : List ℕ) (code : Code) (log : Log)
+      → IsPairAt side client_values server_values one other calm → one.incoming ≡ piece ++ later
+      → MayTake one.log piece (Failed code) log
+      → (lost : List ℕ) × IsPairAt side client_values server_values
+      (record { log = log; incoming = later; lost = lost }) other (calm × (code ≢ InternalError))
+  failed_at calm piece later code log pair came may =
+      let steps = take_is_steps one other piece later (Failed code) log came may in
+      let taken = steps.0 in
+      let failed : log.failed ≡ Some code =
+      (log_after_take one.log log piece (Failed code) may).5 in
+      let now = with_pipe one log (taken.unused ++ later) in (
+        one.lost ++ taken.unused,
+        loses_at side client_values server_values now other (calm × (code ≢ InternalError))
+            taken.unused later (goes_on_at side client_values server_values one other now other calm
+            (calm × (code ≢ InternalError)) pair taken.steps
+            (λ had. (had.0, steps.1 (λ is. had.1 (cc))))) (λ none. cc) refl,
+      )
 
--- A stream is refused at this end, which gives nothing out. That may disturb the pair.
-pub refused_at : (side : Side) (client_values server_values : Values) (one other : Half)
-    (calm : Type 0) (id code : ℕ) (answer : Answer)
-    → IsPairAt side client_values server_values one other calm → id < 2 ^ 31 → code < 2 ^ 32
-    → MayAnswer one.log (Refuse id code) answer
-    → IsPairAt side client_values server_values
-    (record one { log = with_call one.log (Refuse id code) answer }) other ⊥
-unfolding IsTypedAct
-refused_at side client_values server_values one other calm id code answer pair low few may =
-    let log = with_call one.log (Refuse id code) answer in
-    let more = given_since one.log log in
-    let none : more ≡ [] =
-    call_gives_nothing one.log (Refuse id code) answer may (λ count is. cc) in
-    let same : other.incoming ++ more ≡ other.incoming =
-    ap (λ (given : List ℕ). other.incoming ++ given) none ∙ append-nil other.incoming in
-    subst (λ (incoming : List ℕ). IsPairAt side client_values server_values
-    (record one { log = log }) (record other { incoming = incoming }) ⊥) same
-    (goes_on_at side client_values server_values one other (record one { log = log })
-    (record other { incoming = other.incoming ++ more }) calm ⊥ pair
-    (then_step (no_step one other)
-    (calls (Refuse id code) answer (omega (arith, low), few) may)) (λ wrong. absurd wrong))
+  -- A stream is refused at this end, which gives nothing out. That may disturb the pair.
+  pub refused_at : (calm : Type 0) (id code : ℕ) (answer : Answer)
+      → IsPairAt side client_values server_values one other calm → id < 2 ^ 31 → code < 2 ^ 32
+      → MayAnswer one.log (Refuse id code) answer
+      → IsPairAt side client_values server_values (record one
+      { log = with_call one.log (Refuse id code) answer }) other ⊥
+  unfolding IsTypedAct
+  refused_at calm id code answer pair low few may =
+      let log = with_call one.log (Refuse id code) answer in
+      let more = given_since one.log log in
+      let none : more ≡ [] =
+      call_gives_nothing one.log (Refuse id code) answer may (λ count is. cc) in
+      let same : other.incoming ++ more ≡ other.incoming =
+      ap (λ (given : List ℕ). other.incoming ++ given) none ∙ append-nil other.incoming in
+      subst (λ (incoming : List ℕ). IsPairAt side client_values server_values
+      (record one { log = log }) (record other { incoming = incoming }) ⊥) same
+      (goes_on_at side client_values server_values one other (record one { log = log })
+      (record other { incoming = other.incoming ++ more }) calm ⊥ pair
+      (then_step (no_step one other)
+      (calls (Refuse id code) answer (omega (arith, low), few) may)) (λ wrong. absurd wrong))

@@ -108,9 +108,7 @@ leads_nothing around end piece later count log is may =
     record {
       lost = is.lost;
       other_lost = is.other_lost;
-      pair = took_at around.side around.client_values around.server_values
-          (half_with end.log (piece ++ later) is.lost) (half_of around.other is.other_lost)
-          (AllHadMemory around.made) piece later count None log is.pair refl may;
+      pair = took_at _ _ _ _ _ (AllHadMemory around.made) _ _ _ None log is.pair refl may;
       calm = λ had. record {
         holds = holds_none around.made around.side end log (is.calm had).holds
             (reports_none end.log log piece count
@@ -121,99 +119,90 @@ leads_nothing around end piece later count log is may =
       };
     }
 
--- It reports an event: the pair with that.
-reported_in : (around : Around) (end : EndLog) (piece later : List ℕ) (count : ℕ) (event : Event)
-    (log : Log) → (is : HoldsIn around end (piece ++ later))
-    → MayTake end.log piece (Took count (Some event)) log
-    → IsPairIn around (half_with log (drop count piece ++ later) is.lost) is.other_lost
-    (AllHadMemory around.made)
-reported_in around end piece later count event log is may =
-    took_at around.side around.client_values around.server_values
-    (half_with end.log (piece ++ later) is.lost) (half_of around.other is.other_lost)
-    (AllHadMemory around.made) piece later count (Some event) log is.pair refl may
+module _ (around : Around) (end : EndLog) (piece later : List ℕ) (count : ℕ) (event : Event) where
+  -- It reports an event: the pair with that.
+  reported_in : (log : Log) → (is : HoldsIn around end (piece ++ later))
+      → MayTake end.log piece (Took count (Some event)) log
+      → IsPairIn around (half_with log (drop count piece ++ later) is.lost) is.other_lost
+      (AllHadMemory around.made)
+  reported_in log is may = took_at around.side around.client_values around.server_values
+      (half_with end.log (piece ++ later) is.lost) (half_of around.other is.other_lost)
+      (AllHadMemory around.made) piece later count (Some event) log is.pair refl may
 
--- One that is no part of a message is passed on.
-leads_passed : (around : Around) (end : EndLog) (piece later : List ℕ) (count : ℕ) (event : Event)
-    (log : Log) → HoldsIn around end (piece ++ later)
-    → MayTake end.log piece (Took count (Some event)) log → part_of_event event ≡ None
-    → HoldsIn around (end_with_handed end log (Passed event)) (drop count piece ++ later)
-leads_passed around end piece later count event log is may none =
-    record {
-      lost = is.lost;
-      other_lost = is.other_lost;
-      pair = reported_in around end piece later count event log is may;
-      calm = λ had. record {
-        holds = holds_passed around.made around.side end event log (is.calm had).holds
-            (reports end.log log piece count event
-            (log_after_take end.log log piece (Took count (Some event)) may))
-            (take_calls end.log log piece (Took count (Some event)) may) none;
-        accepted = accept_same around.side end (end_with_handed end log (Passed event))
-            around.other.happened refl (is.calm had).accepted;
-      };
-    }
+  -- One that is no part of a message is passed on.
+  leads_passed : (log : Log) → HoldsIn around end (piece ++ later)
+      → MayTake end.log piece (Took count (Some event)) log → part_of_event event ≡ None
+      → HoldsIn around (end_with_handed end log (Passed event)) (drop count piece ++ later)
+  leads_passed log is may none =
+      record {
+        lost = is.lost;
+        other_lost = is.other_lost;
+        pair = reported_in log is may;
+        calm = λ had. record {
+          holds = holds_passed around.made around.side end event log (is.calm had).holds
+              (reports end.log log piece count event
+              (log_after_take end.log log piece (Took count (Some event)) may))
+              (take_calls end.log log piece (Took count (Some event)) may) none;
+          accepted = accept_same around.side end (end_with_handed end log (Passed event))
+              around.other.happened refl (is.calm had).accepted;
+        };
+      }
 
--- A part of a message can be read, and says something, as long as memory was not refused.
-readable_in : (around : Around) (end : EndLog) (piece later : List ℕ) (count : ℕ) (event : Event)
-    (log : Log) (id : ℕ) (part : Part × Bool) → KeepsOrder around.other.happened
-    → HoldsIn around end (piece ++ later) → MayTake end.log piece (Took count (Some event)) log
-    → part_of_event event ≡ Some (id, part) → AllHadMemory around.made
-    → IsReadableWith end id part × IsNoEmptyPart part
-readable_in around end piece later count event log id part order is may of had =
-    readable_at around.side around.client_values around.server_values
-    (half_with log (drop count piece ++ later) is.lost) (half_of around.other is.other_lost)
-    (AllHadMemory around.made) around.made end around.other.happened event id part
-    (reported_in around end piece later count event log is may) refl
-    (reports end.log log piece count event
-    (log_after_take end.log log piece (Took count (Some event)) may))
-    (has_role_at around.side around.client_values around.server_values
-    (half_with end.log (piece ++ later) is.lost) (half_of around.other is.other_lost)
-    (AllHadMemory around.made) is.pair)
-    (is.calm had).holds (is.calm had).accepted (order.sends id) of
+  -- A part of a message can be read, and says something, as long as memory was not refused.
+  readable_in : (log : Log) (id : ℕ) (part : Part × Bool) → KeepsOrder around.other.happened
+      → HoldsIn around end (piece ++ later) → MayTake end.log piece (Took count (Some event)) log
+      → part_of_event event ≡ Some (id, part) → AllHadMemory around.made
+      → IsReadableWith end id part × IsNoEmptyPart part
+  readable_in log id part order is may of had =
+      readable_at around.side around.client_values around.server_values
+      (half_with log (drop count piece ++ later) is.lost) (half_of around.other is.other_lost)
+      (AllHadMemory around.made) around.made end around.other.happened event id part
+      (reported_in log is may) refl (reports end.log log piece count event
+      (log_after_take end.log log piece (Took count (Some event)) may))
+      (has_role_at around.side around.client_values around.server_values
+      (half_with end.log (piece ++ later) is.lost) (half_of around.other is.other_lost)
+      (AllHadMemory around.made) is.pair)
+      (is.calm had).holds (is.calm had).accepted (order.sends id) of
 
--- One that can be read is handed out.
-leads_handed : (around : Around) (end : EndLog) (piece later : List ℕ) (count : ℕ) (event : Event)
-    (log : Log) (id : ℕ) (part : Part × Bool) → KeepsOrder around.other.happened
-    → HoldsIn around end (piece ++ later) → MayTake end.log piece (Took count (Some event)) log
-    → part_of_event event ≡ Some (id, part) → IsReadableWith end id part
-    → HoldsIn around
-    (end_with_handed end log (handed_as (reads_on end id) (parts_on id end.handed) id part))
-    (drop count piece ++ later)
-leads_handed around end piece later count event log id part order is may of readable =
-    let handed = handed_as (reads_on end id) (parts_on id end.handed) id part in
-    record {
-      lost = is.lost;
-      other_lost = is.other_lost;
-      pair = reported_in around end piece later count event log is may;
-      calm = λ had. record {
-        holds = holds_handed around.made around.side end event log (reads_on end id)
-            (parts_on id end.handed) id part (is.calm had).holds
-            (reports end.log log piece count event
-            (log_after_take end.log log piece (Took count (Some event)) may))
-            (take_calls end.log log piece (Took count (Some event)) may) of
-            (readable_in around end piece later count event log id part order is may of had).1
-            readable;
-        accepted = accept_same around.side end (end_with_handed end log handed)
-            around.other.happened refl (is.calm had).accepted;
-      };
-    }
+  -- One that can be read is handed out.
+  leads_handed : (log : Log) (id : ℕ) (part : Part × Bool) → KeepsOrder around.other.happened
+      → HoldsIn around end (piece ++ later) → MayTake end.log piece (Took count (Some event)) log
+      → part_of_event event ≡ Some (id, part) → IsReadableWith end id part
+      → HoldsIn around (end_with_handed end log (handed_as (reads_on end id) (parts_on id
+      end.handed) id part)) (drop count piece ++ later)
+  leads_handed log id part order is may of readable =
+      let handed = handed_as (reads_on end id) (parts_on id end.handed) id part in
+      record {
+        lost = is.lost;
+        other_lost = is.other_lost;
+        pair = reported_in log is may;
+        calm = λ had. record {
+          holds = holds_handed around.made around.side end event log (reads_on end id)
+              (parts_on id end.handed) id part (is.calm had).holds
+              (reports end.log log piece count event
+              (log_after_take end.log log piece (Took count (Some event)) may))
+              (take_calls end.log log piece (Took count (Some event)) may) of
+              (readable_in log id part order is may of had).1 readable;
+          accepted = accept_same around.side end (end_with_handed end log handed)
+              around.other.happened refl (is.calm had).accepted;
+        };
+      }
 
--- A stream is refused once a part of a message was reported on it.
-refused_in : (around : Around) (end : EndLog) (piece later : List ℕ) (count : ℕ) (event : Event)
-    (log : Log) (id : ℕ) (part : Part × Bool) (code : ℕ) (refused : Answer)
-    → (is : HoldsIn around end (piece ++ later))
-    → MayTake end.log piece (Took count (Some event)) log
-    → part_of_event event ≡ Some (id, part) → code < 2 ^ 32
-    → MayAnswer log (Refuse id code) refused
-    → IsPairIn around (half_with (with_call log (Refuse id code) refused)
-    (drop count piece ++ later) is.lost) is.other_lost ⊥
-refused_in around end piece later count event log id part code refused is may of few answers =
-    let one = half_with log (drop count piece ++ later) is.lost in
-    let other = half_of around.other is.other_lost in
-    let pair = reported_in around end piece later count event log is may in
-    refused_at around.side around.client_values around.server_values one other
-    (AllHadMemory around.made) id code refused pair
-    (part_low_at around.side around.client_values around.server_values one other
-    (AllHadMemory around.made) end.log piece count event id part pair may of) few answers
+  -- A stream is refused once a part of a message was reported on it.
+  refused_in : (log : Log) (id : ℕ) (part : Part × Bool) (code : ℕ) (refused : Answer)
+      → (is : HoldsIn around end (piece ++ later))
+      → MayTake end.log piece (Took count (Some event)) log → part_of_event event ≡ Some (id, part)
+      → code < 2 ^ 32 → MayAnswer log (Refuse id code) refused
+      → IsPairIn around (half_with (with_call log (Refuse id code) refused)
+      (drop count piece ++ later) is.lost) is.other_lost ⊥
+  refused_in log id part code refused is may of few answers =
+      let one = half_with log (drop count piece ++ later) is.lost in
+      let other = half_of around.other is.other_lost in
+      let pair = reported_in log is may in
+      refused_at around.side around.client_values around.server_values one other
+      (AllHadMemory around.made) id code refused pair
+      (part_low_at around.side around.client_values around.server_values one other
+      (AllHadMemory around.made) end.log piece count event id part pair may of) few answers
 
 -- Where the connection has failed with that, what was not used is lost.
 falls_in : (around : Around) (code : Code) (end : EndLog) (log : Log) (unused later lost : List ℕ)
@@ -224,9 +213,7 @@ falls_in around code end log unused later lost other_lost pair failed calm =
     record {
       lost = lost ++ unused;
       other_lost = other_lost;
-      pair = loses_at around.side around.client_values around.server_values
-          (half_with log (unused ++ later) lost) (half_of around.other other_lost) ⊥ unused later
-          pair (λ none. cc) refl;
+      pair = loses_at _ _ _ _ _ ⊥ unused later pair (λ none. cc) refl;
       calm = calm;
     }
 
@@ -241,76 +228,69 @@ leads_reset around end log piece later count id lost other_lost pair calm =
     record {
       lost = lost;
       other_lost = other_lost;
-      pair = where_at around.side around.client_values around.server_values
-          (half_with log (drop count piece ++ later) lost) (half_of around.other other_lost) ⊥
-          (AllHadMemory around.made) pair calm;
+      pair = where_at _ _ _ _ _ ⊥ (AllHadMemory around.made) pair calm;
       calm = λ had. absurd (calm had);
     }
 
--- The connection fails as it takes octets. As long as memory was not refused it has no fault.
-leads_failed : (around : Around) (end : EndLog) (piece later : List ℕ) (code : Code) (log : Log)
-    → HoldsIn around end (piece ++ later) → MayTake end.log piece (Failed code) log
-    → FallsIn around code (end_with_log end log) later
-leads_failed around end piece later code log is may =
-    let other = half_of around.other is.other_lost in
-    let calm = AllHadMemory around.made × (code ≢ InternalError) in
-    let fell = failed_at around.side around.client_values around.server_values
-    (half_with end.log (piece ++ later) is.lost) other (AllHadMemory around.made) piece later code
-    log is.pair refl may in
-    let down : log.failed ≡ Some code =
-    (log_after_take end.log log piece (Failed code) may).5 in
-    record {
-      lost = fell.0;
-      other_lost = is.other_lost;
-      pair = where_at around.side around.client_values around.server_values
-          (half_with log later fell.0) other calm ⊥ fell.1 (λ wrong. absurd wrong);
-      calm = λ had memory.
-          let up : log.failed ≡ None = up_at around.side around.client_values around.server_values
-          (half_with log later fell.0) other calm fell.1 (had, memory) in
-          cc;
-    }
+module _ (around : Around) (end : EndLog) (piece later : List ℕ) where
+  -- The connection fails as it takes octets. As long as memory was not refused it has no fault.
+  leads_failed : (code : Code) (log : Log) → HoldsIn around end (piece ++ later)
+      → MayTake end.log piece (Failed code) log → FallsIn around code (end_with_log end log) later
+  leads_failed code log is may =
+      let other = half_of around.other is.other_lost in
+      let calm = AllHadMemory around.made × (code ≢ InternalError) in
+      let fell = failed_at around.side around.client_values around.server_values
+      (half_with end.log (piece ++ later) is.lost) other (AllHadMemory around.made) piece later code
+      log is.pair refl may in
+      let down : log.failed ≡ Some code = (log_after_take end.log log piece (Failed code) may).5 in
+      record {
+        lost = fell.0;
+        other_lost = is.other_lost;
+        pair = where_at around.side around.client_values around.server_values
+            (half_with log later fell.0) other calm ⊥ fell.1 (λ wrong. absurd wrong);
+        calm = λ had memory.
+            let up : log.failed ≡ None = up_at around.side around.client_values around.server_values
+            (half_with log later fell.0) other calm fell.1 (had, memory) in
+            cc;
+      }
 
--- After a call of `take` it holds again.
-pub take_leads : (around : Around) (end : EndLog) (piece later : List ℕ) (answer : EndAnswer)
-    (after : EndLog) → KeepsOrder around.other.happened → HoldsIn around end (piece ++ later)
-    → EndMayTake end piece answer after → LeadsIn around piece later answer after
-unfolding part_of_event
-take_leads around end piece later answer after order is (fails code log may answers same) =
-    rw (answers, same) (leads_failed around end piece later code log is may)
-take_leads around end piece later answer after order is
-    (hands_nothing count log may answers same) =
-    rw (answers, same) (leads_nothing around end piece later count log is may)
-take_leads around end piece later answer after order is
-    (passes count event log may none answers same) =
-    rw (answers, same) (leads_passed around end piece later count event log is may none)
-take_leads around end piece later answer after order is
-    (hands_out count event log may id part of readable answers same) =
-    rw (answers, same)
-    (leads_handed around end piece later count event log id part order is may of readable)
-take_leads around end piece later answer after order is
-    (refuses count event log may id part of stops refused answers_it up answers same) =
-    rw (answers, same) (leads_reset around end (with_call log (Refuse id 1) refused) piece later
-    count id is.lost is.other_lost
-    (refused_in around end piece later count event log id part 1 refused is may of (omega arith)
-    answers_it)
-    (λ had. stops (readable_in around end piece later count event log id part order is may of
-    had).0))
-take_leads around end piece later answer after order is
-    (refusal_fails count event log may id part of stops refused answers_it code down answers
-    same) =
-    rw (answers, same) (falls_in around code end (with_call log (Refuse id 1) refused)
-    (drop count piece) later is.lost is.other_lost
-    (refused_in around end piece later count event log id part 1 refused is may of (omega arith)
-    answers_it) down
-    (λ had other. stops (readable_in around end piece later count event log id part order is may of
-    had).0))
-take_leads around end piece later answer after order is
-    (runs_out_of_memory count id list ends log may role first readable refused answers_it answers
-    same) =
-    rw (answers, same) (falls_in around InternalError end (with_call log (Refuse id 2) refused)
-    (drop count piece) later is.lost is.other_lost
-    (refused_in around end piece later count (FieldsEvent id list ends) log id
-    (FieldsPart list, ends) 2 refused is may refl (omega arith) answers_it)
-    (memory_fails log id refused
-    (log_after_take end.log log piece (Took count (Some (FieldsEvent id list ends))) may).6
-    answers_it) (λ had other. other refl))
+  -- After a call of `take` it holds again.
+  pub take_leads : (answer : EndAnswer) (after : EndLog) → KeepsOrder around.other.happened
+      → HoldsIn around end (piece ++ later) → EndMayTake end piece answer after
+      → LeadsIn around piece later answer after
+  unfolding part_of_event
+  take_leads answer after order is (fails code log may answers same) =
+      rw (answers, same) (leads_failed code log is may)
+  take_leads answer after order is (hands_nothing count log may answers same) =
+      rw (answers, same) (leads_nothing around end piece later count log is may)
+  take_leads answer after order is (passes count event log may none answers same) =
+      rw (answers, same) (leads_passed around end piece later count event log is may none)
+  take_leads answer after order is
+      (hands_out count event log may id part of readable answers same) = rw (answers, same)
+      (leads_handed around end piece later count event log id part order is may of readable)
+  take_leads answer after order is
+      (refuses count event log may id part of stops refused answers_it up answers same) =
+      rw (answers, same) (leads_reset around end (with_call log (Refuse id 1) refused) piece later
+      count id is.lost is.other_lost
+      (refused_in around end piece later count event log id part 1 refused is may of (omega arith)
+      answers_it)
+      (λ had. stops (readable_in around end piece later count event log id part order is may of
+      had).0))
+  take_leads answer after order is
+      (refusal_fails count event log may id part of stops refused answers_it code down answers
+      same) = rw (answers, same) (falls_in around code end (with_call log (Refuse id 1) refused)
+      (drop count piece) later is.lost is.other_lost
+      (refused_in around end piece later count event log id part 1 refused is may of (omega arith)
+      answers_it) down
+      (λ had other. stops (readable_in around end piece later count event log id part order is may
+      of had).0))
+  take_leads answer after order is
+      (runs_out_of_memory count id list ends log may role first readable refused answers_it answers
+      same) =
+      rw (answers, same) (falls_in around InternalError end (with_call log (Refuse id 2) refused)
+      (drop count piece) later is.lost is.other_lost
+      (refused_in around end piece later count (FieldsEvent id list ends) log id
+      (FieldsPart list, ends) 2 refused is may refl (omega arith) answers_it)
+      (memory_fails log id refused
+      (log_after_take end.log log piece (Took count (Some (FieldsEvent id list ends))) may).6
+      answers_it) (λ had other. other refl))

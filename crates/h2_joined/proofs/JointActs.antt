@@ -77,43 +77,34 @@ nothing_done : (client_values server_values : Values) (made : List Made) (one : 
     (client server : JointEnd) → JointHolds client_values server_values made client server
     → JointHolds client_values server_values (one ∷ made) client server
 nothing_done client_values server_values made one client server holds =
-    act_ends client_values server_values (one ∷ made) client server
-    (act_begins client_values server_values made one client server holds) holds.client_order
-    holds.server_order
+    act_ends _ _ _ _ _ (act_begins _ _ _ _ _ _ holds) holds.client_order holds.server_order
 
--- An ordinary call at the client keeps what holds between two calls,
-abbrev ClientStays : (client_values server_values : Values) (made : List Made)
-    (client server : JointEnd) → EndLog → Type 0
-ClientStays client_values server_values made client server end =
-    JointStays client_values server_values made (with_happened client end) server
+module _ (client_values server_values : Values) (made : List Made) (client server : JointEnd) where
+  -- An ordinary call at the client keeps what holds between two calls,
+  abbrev ClientStays : EndLog → Type 0
+  ClientStays end = JointStays client_values server_values made (with_happened client end) server
 
-client_kept : (client_values server_values : Values) (made : List Made)
-    (client server : JointEnd)
-    → KeptByCalls (ClientStays client_values server_values made client server)
-client_kept client_values server_values made client server end act answer stays ordinary typed may
-    next =
-    client_called_within client_values server_values made (with_happened client end) server act
-    answer end.accepted stays typed may (ordinary_of_act made Client act answer ordinary)
-    (ordinary_stays_in act ordinary)
-    (λ had. accepted_alike end server.happened _ server.happened refl refl
-    (stays.calm had).accepted)
+  client_kept : KeptByCalls (ClientStays)
+  client_kept end act answer stays ordinary typed may
+      next =
+      client_called_within client_values server_values made (with_happened client end) server act
+      answer end.accepted stays typed may (ordinary_of_act made Client act answer ordinary)
+      (ordinary_stays_in act ordinary)
+      (λ had. accepted_alike end server.happened _ server.happened refl refl
+      (stays.calm had).accepted)
 
--- and one at the server.
-abbrev ServerStays : (client_values server_values : Values) (made : List Made)
-    (client server : JointEnd) → EndLog → Type 0
-ServerStays client_values server_values made client server end =
-    JointStays client_values server_values made client (with_happened server end)
+  -- and one at the server.
+  abbrev ServerStays : EndLog → Type 0
+  ServerStays end = JointStays client_values server_values made client (with_happened server end)
 
-server_kept : (client_values server_values : Values) (made : List Made)
-    (client server : JointEnd)
-    → KeptByCalls (ServerStays client_values server_values made client server)
-server_kept client_values server_values made client server end act answer stays ordinary typed may
-    next =
-    server_called_within client_values server_values made client (with_happened server end) act
-    answer end.accepted stays typed may (ordinary_of_act made Server act answer ordinary)
-    (ordinary_stays_in act ordinary)
-    (λ had. accepted_alike client.happened end client.happened _ refl refl
-    (stays.calm had).accepted)
+  server_kept : KeptByCalls (ServerStays)
+  server_kept end act answer stays ordinary typed may
+      next =
+      server_called_within client_values server_values made client (with_happened server end) act
+      answer end.accepted stays typed may (ordinary_of_act made Server act answer ordinary)
+      (ordinary_stays_in act ordinary)
+      (λ had. accepted_alike client.happened end client.happened _ refl refl
+      (stays.calm had).accepted)
 
 -- A request at the client.
 client_requested : (client_values server_values : Values) (made : List Made) (one : Made)
@@ -127,8 +118,7 @@ client_requested client_values server_values made one client server message (Ok 
     let act = Open message.head (is_head_alone message) in
     let stays = act_begins client_values server_values made one client server holds in
     subst (ClientStays client_values server_values (one ∷ made) client server) (sym same)
-    (client_called_within client_values server_values (one ∷ made) client server act (Number id)
-    ((id, message) ∷ client.happened.accepted) stays typed may
+    (client_called_within _ _ _ _ _ _ _ ((id, message) ∷ client.happened.accepted) stays typed may
     (ordinary_of_act (one ∷ made) Client act (Number id) tt) (ordinary_stays_in act tt)
     (λ had. request_accepted client_values server_values made client server message id
     (is_head_alone message) holds unbroken may (holds.calm had.1).accepted))
@@ -143,68 +133,60 @@ apart : (one : Role) → one ≡ roles.Client → one ≡ roles.Server → ⊥
 apart roles.Client client server = cc
 apart roles.Server client server = cc
 
-server_requested : (client_values server_values : Values) (made : List Made) (one : Made)
-    (client server : JointEnd) (message : SentMessage) (result : Result ℕ EndRefusal)
-    (after : EndLog) → JointHolds client_values server_values made client server
-    → MayRequest server.happened message result after
-    → JointStays client_values server_values (one ∷ made) client (with_happened server after)
-unfolding MayRequest
-server_requested client_values server_values made one client server message (Ok id) after holds
-    (unbroken, fits, may, same) =
-    let log = (both_logs client_values server_values (half_of client holds.client_lost)
-    (half_of server holds.server_lost) holds.pair).server_log in
-    absurd (apart server.happened.log.role (opened_is_new roles.Server server_values
-    server.happened.log message.head (is_head_alone message) id log may).0
-    (stream_of_log roles.Server server_values server.happened.log log).role)
-server_requested client_values server_values made one client server message (Err refusal) after
-    holds may =
-    holds_by_refused_request (ServerStays client_values server_values (one ∷ made) client server)
-    (server_kept client_values server_values (one ∷ made) client server) server.happened after
-    message refusal may (act_begins client_values server_values made one client server holds)
+module _ (client_values server_values : Values) (made : List Made) (one : Made)
+    (client server : JointEnd) where
+  server_requested : (message : SentMessage) (result : Result ℕ EndRefusal) (after : EndLog)
+      → JointHolds client_values server_values made client server
+      → MayRequest server.happened message result after
+      → JointStays client_values server_values (one ∷ made) client (with_happened server after)
+  unfolding MayRequest
+  server_requested message (Ok id) after holds (unbroken, fits, may, same) =
+      let log = (both_logs client_values server_values (half_of client holds.client_lost)
+      (half_of server holds.server_lost) holds.pair).server_log in
+      absurd (apart server.happened.log.role (opened_is_new roles.Server server_values
+      server.happened.log message.head (is_head_alone message) id log may).0
+      (stream_of_log roles.Server server_values server.happened.log log).role)
+  server_requested message (Err refusal) after holds may =
+      holds_by_refused_request (ServerStays client_values server_values (one ∷ made) client server)
+      (server_kept client_values server_values (one ∷ made) client server) server.happened after
+      message refusal may (act_begins client_values server_values made one client server holds)
 
-client_responded : (client_values server_values : Values) (made : List Made) (one : Made)
-    (client server : JointEnd) (id : ℕ) (message : SentMessage)
-    (result : Result (Unit {0}) EndRefusal) (after : EndLog)
-    → JointHolds client_values server_values made client server
-    → MayRespond client.happened id message result after
-    → JointStays client_values server_values (one ∷ made) (with_happened client after) server
-unfolding MayRespond
-client_responded client_values server_values made one client server id message (Ok done) after
-    holds (asked, none, unbroken, fits, may, same) =
-    let log = (both_logs client_values server_values (half_of client holds.client_lost)
-    (half_of server holds.server_lost) holds.pair).client_log in
-    absurd (apart client.happened.log.role
-    (stream_of_log roles.Client client_values client.happened.log log).role asked.server)
-client_responded client_values server_values made one client server id message (Err refusal) after
-    holds may =
-    holds_by_refused_response (ClientStays client_values server_values (one ∷ made) client server)
-    (client_kept client_values server_values (one ∷ made) client server) client.happened after id
-    message refusal may (act_begins client_values server_values made one client server holds)
+  client_responded : (id : ℕ) (message : SentMessage) (result : Result (Unit {0}) EndRefusal)
+      (after : EndLog) → JointHolds client_values server_values made client server
+      → MayRespond client.happened id message result after
+      → JointStays client_values server_values (one ∷ made) (with_happened client after) server
+  unfolding MayRespond
+  client_responded id message (Ok done) after holds (asked, none, unbroken, fits, may, same) =
+      let log = (both_logs client_values server_values (half_of client holds.client_lost)
+      (half_of server holds.server_lost) holds.pair).client_log in
+      absurd (apart client.happened.log.role
+      (stream_of_log roles.Client client_values client.happened.log log).role asked.server)
+  client_responded id message (Err refusal) after holds may =
+      holds_by_refused_response (ClientStays client_values server_values (one ∷ made) client server)
+      (client_kept client_values server_values (one ∷ made) client server) client.happened after id
+      message refusal may (act_begins client_values server_values made one client server holds)
 
--- A response at the server.
-server_responded : (client_values server_values : Values) (made : List Made) (one : Made)
-    (client server : JointEnd) (id : ℕ) (message : SentMessage)
-    (result : Result (Unit {0}) EndRefusal) (after : EndLog)
-    → JointHolds client_values server_values made client server → id < 2 ^ 32
-    → AreOctets message.head → MayRespond server.happened id message result after
-    → JointStays client_values server_values (one ∷ made) client (with_happened server after)
-unfolding MayRespond IsTypedAct
-server_responded client_values server_values made one client server id message (Ok done) after
-    holds small typed (asked, none, unbroken, fits, may, same) =
-    let act = SendFields id message.head (is_head_alone message) in
-    let stays = act_begins client_values server_values made one client server holds in
-    subst (ServerStays client_values server_values (one ∷ made) client server) (sym same)
-    (server_called_within client_values server_values (one ∷ made) client server act Done
-    ((id, message) ∷ server.happened.accepted) stays (small, typed) may
-    (ordinary_of_act (one ∷ made) Server act Done tt) (ordinary_stays_in act tt)
-    (λ had. let calm = holds.calm had.1 in
-    response_accepted client_values server_values made client server id message
-    (is_head_alone message) holds calm.server_holds asked unbroken calm.accepted))
-server_responded client_values server_values made one client server id message (Err refusal) after
-    holds small typed may =
-    holds_by_refused_response (ServerStays client_values server_values (one ∷ made) client server)
-    (server_kept client_values server_values (one ∷ made) client server) server.happened after id
-    message refusal may (act_begins client_values server_values made one client server holds)
+  -- A response at the server.
+  server_responded : (id : ℕ) (message : SentMessage) (result : Result (Unit {0}) EndRefusal)
+      (after : EndLog) → JointHolds client_values server_values made client server → id < 2 ^ 32
+      → AreOctets message.head → MayRespond server.happened id message result after
+      → JointStays client_values server_values (one ∷ made) client (with_happened server after)
+  unfolding MayRespond IsTypedAct
+  server_responded id message (Ok done) after
+      holds small typed (asked, none, unbroken, fits, may, same) =
+      let act = SendFields id message.head (is_head_alone message) in
+      let stays = act_begins client_values server_values made one client server holds in
+      subst (ServerStays client_values server_values (one ∷ made) client server) (sym same)
+      (server_called_within client_values server_values (one ∷ made) client server act Done
+      ((id, message) ∷ server.happened.accepted) stays (small, typed) may
+      (ordinary_of_act (one ∷ made) Server act Done tt) (ordinary_stays_in act tt)
+      (λ had. let calm = holds.calm had.1 in
+      response_accepted client_values server_values made client server id message
+      (is_head_alone message) holds calm.server_holds asked unbroken calm.accepted))
+  server_responded id message (Err refusal) after holds small typed may =
+      holds_by_refused_response (ServerStays client_values server_values (one ∷ made) client server)
+      (server_kept client_values server_values (one ∷ made) client server) server.happened after id
+      message refusal may (act_begins client_values server_values made one client server holds)
 
 -- the act that makes a call
 abbrev call_made : Side → Act → Answer → Made
@@ -217,10 +199,8 @@ call_of_act made side act answer call =
     record {
       no_refusal = λ id code is. absurd (subst IsControlCall is call);
       reset = λ id code is done. subst (λ (one : Made). Contains
-          (call_made side act answer ∷ made) one)
-          (ap (λ (a : Act). call_made side a answer) is
-          ∙ ap (λ (said : Answer). call_made side (ResetStream id code) said) done)
-          (first_in (call_made side act answer) made);
+          (call_made side act answer ∷ made) one) (ap (λ (a : Act). call_made side a answer) is
+          ∙ ap (λ (said : Answer). call_made side (ResetStream id code) said) done) (first_in _ _);
     }
 
 call_stays_in : (act : Act) → IsControlCall act → (count : ℕ) → act ≢ PutOut count
@@ -232,162 +212,134 @@ move_of_act : (made : List Made) (side : Side) (count : ℕ) (answer : Answer)
 move_of_act made side count answer =
     record { no_refusal = λ id code is. cc; reset = λ id code is done. absurd (cc) }
 
--- An act at the client keeps what holds,
-client_acted : (client_values server_values : Values) (made : List Made)
-    (client server new_client new_server : JointEnd) (doing : Doing) (answer : Acted)
-    → JointHolds client_values server_values made client server
-    → MayDo client server doing answer new_client new_server → KeepsOrder new_client.happened
-    → JointHolds client_values server_values
-    (record { side = Client; doing = doing; acted = answer } ∷ made) new_client new_server
-client_acted client_values server_values made client server _ _ _ _ holds
-    (requests message result after typed may) order =
-    act_ends client_values server_values _ (with_happened client after) server
-    (client_requested client_values server_values made _ client server message result after holds
-    typed may) order holds.server_order
-client_acted client_values server_values made client server _ _ _ _ holds
-    (responds id message result after small typed may) order =
-    act_ends client_values server_values _ (with_happened client after) server
-    (client_responded client_values server_values made _ client server id message result after
-    holds may) order holds.server_order
-client_acted client_values server_values made client server _ _ _ _ holds
-    (pumps result after may) order =
-    act_ends client_values server_values _ (with_happened client after) server
-    (holds_by_pump (ClientStays client_values server_values _ client server)
-    (client_kept client_values server_values _ client server) client.happened after result may
-    (act_begins client_values server_values made _ client server holds)) order holds.server_order
-client_acted client_values server_values made client server _ _ _ _ holds
-    (releases_all result after may) order =
-    act_ends client_values server_values _ (with_happened client after) server
-    (holds_by_release (ClientStays client_values server_values _ client server)
-    (client_kept client_values server_values _ client server) client.happened after result may
-    (act_begins client_values server_values made _ client server holds)) order holds.server_order
-client_acted client_values server_values made client server _ _ _ _ holds
-    (calls act answer call typed may) order =
-    act_ends client_values server_values _ (with_answer client act answer) server
-    (client_called_within client_values server_values _ client server act answer
-    client.happened.accepted (act_begins client_values server_values made _ client server holds)
-    typed may (call_of_act made Client act answer call) (call_stays_in act call)
-    (λ had. accepted_alike client.happened server.happened _ server.happened refl refl
-    (holds.calm had.1).accepted)) order holds.server_order
-client_acted client_values server_values made client server _ _ _ _ holds
-    (moves count answer typed may) order =
-    act_ends client_values server_values _ (with_answer client (PutOut count) answer)
-    (with_given server client (PutOut count) answer)
-    (client_called client_values server_values _ client server (PutOut count) answer
-    client.happened.accepted (act_begins client_values server_values made _ client server holds)
-    typed may (move_of_act _ Client count answer)
-    (λ had. accepted_alike client.happened server.happened _ server.happened refl refl
-    (holds.calm had.1).accepted)) order holds.server_order
-client_acted client_values server_values made client server _ _ _ _ holds
-    (delivers count after up delivered) order =
-    client_delivered client_values server_values made client server count Whole after holds
-    delivered order
-client_acted client_values server_values made client server _ _ _ _ holds
-    (delivery_fails count code after up delivered) order =
-    client_delivered client_values server_values made client server count (Fails code) after holds
-    delivered order
-client_acted client_values server_values made client server _ _ _ _ holds
-    (has_failed count code failed) order =
-    nothing_done client_values server_values made _ client server holds
-client_acted client_values server_values made client server _ _ _ _ holds
-    (delivery_stops count unused after up delivered) order =
-    client_delivered client_values server_values made client server count (Stops unused) after
-    holds delivered order
-client_acted client_values server_values made client server _ _ _ _ holds
-    (no_copy_of_a_request message) order =
-    nothing_done client_values server_values made _ client server holds
-client_acted client_values server_values made client server _ _ _ _ holds
-    (no_copy_of_a_response id message) order =
-    nothing_done client_values server_values made _ client server holds
+module _ (client_values server_values : Values) (made : List Made) (client server : JointEnd) where
+  -- An act at the client keeps what holds,
+  client_acted : (new_client new_server : JointEnd) (doing : Doing) (answer : Acted)
+      → JointHolds client_values server_values made client server
+      → MayDo client server doing answer new_client new_server → KeepsOrder new_client.happened
+      → JointHolds client_values server_values
+      (record { side = Client; doing = doing; acted = answer } ∷ made) new_client new_server
+  client_acted _ _ _ _ holds (requests message result after typed may) order =
+      act_ends client_values server_values _ (with_happened client after) server
+      (client_requested client_values server_values made _ client server message result after holds
+      typed may) order holds.server_order
+  client_acted _ _ _ _ holds (responds id message result after small typed may) order =
+      act_ends client_values server_values _ (with_happened client after) server
+      (client_responded client_values server_values made _ client server id message result after
+      holds may) order holds.server_order
+  client_acted _ _ _ _ holds (pumps result after may) order =
+      act_ends client_values server_values _ (with_happened client after) server
+      (holds_by_pump (ClientStays client_values server_values _ client server)
+      (client_kept client_values server_values _ client server) client.happened after result may
+      (act_begins client_values server_values made _ client server holds)) order holds.server_order
+  client_acted _ _ _ _ holds (releases_all result after may) order =
+      act_ends client_values server_values _ (with_happened client after) server
+      (holds_by_release (ClientStays client_values server_values _ client server)
+      (client_kept client_values server_values _ client server) client.happened after result may
+      (act_begins client_values server_values made _ client server holds)) order holds.server_order
+  client_acted _ _ _ _ holds (calls act answer call typed may) order =
+      act_ends client_values server_values _ (with_answer client act answer) server
+      (client_called_within client_values server_values _ client server act answer
+      client.happened.accepted (act_begins client_values server_values made _ client server holds)
+      typed may (call_of_act made Client act answer call) (call_stays_in act call)
+      (λ had. accepted_alike client.happened server.happened _ server.happened refl refl
+      (holds.calm had.1).accepted)) order holds.server_order
+  client_acted _ _ _ _ holds (moves count answer typed may) order =
+      act_ends client_values server_values _ (with_answer client (PutOut count) answer)
+      (with_given server client (PutOut count) answer)
+      (client_called client_values server_values _ client server (PutOut count) answer
+      client.happened.accepted (act_begins client_values server_values made _ client server holds)
+      typed may (move_of_act _ Client count answer)
+      (λ had. accepted_alike client.happened server.happened _ server.happened refl refl
+      (holds.calm had.1).accepted)) order holds.server_order
+  client_acted _ _ _ _ holds (delivers count after up delivered) order =
+      client_delivered client_values server_values made client server count Whole after holds
+      delivered order
+  client_acted _ _ _ _ holds (delivery_fails count code after up delivered) order =
+      client_delivered client_values server_values made client server count (Fails code) after holds
+      delivered order
+  client_acted _ _ _ _ holds (has_failed count code failed) order =
+      nothing_done client_values server_values made _ client server holds
+  client_acted _ _ _ _ holds (delivery_stops count unused after up delivered) order =
+      client_delivered client_values server_values made client server count (Stops unused) after
+      holds delivered order
+  client_acted _ _ _ _ holds (no_copy_of_a_request message) order =
+      nothing_done client_values server_values made _ client server holds
+  client_acted _ _ _ _ holds (no_copy_of_a_response id message) order =
+      nothing_done client_values server_values made _ client server holds
 
--- and so does one at the server.
-server_acted : (client_values server_values : Values) (made : List Made)
-    (client server new_client new_server : JointEnd) (doing : Doing) (answer : Acted)
-    → JointHolds client_values server_values made client server
-    → MayDo server client doing answer new_server new_client → KeepsOrder new_server.happened
-    → JointHolds client_values server_values
-    (record { side = Server; doing = doing; acted = answer } ∷ made) new_client new_server
-server_acted client_values server_values made client server _ _ _ _ holds
-    (requests message result after typed may) order =
-    act_ends client_values server_values _ client (with_happened server after)
-    (server_requested client_values server_values made _ client server message result after holds
-    may) holds.client_order order
-server_acted client_values server_values made client server _ _ _ _ holds
-    (responds id message result after small typed may) order =
-    act_ends client_values server_values _ client (with_happened server after)
-    (server_responded client_values server_values made _ client server id message result after
-    holds small typed may) holds.client_order order
-server_acted client_values server_values made client server _ _ _ _ holds
-    (pumps result after may) order =
-    act_ends client_values server_values _ client (with_happened server after)
-    (holds_by_pump (ServerStays client_values server_values _ client server)
-    (server_kept client_values server_values _ client server) server.happened after result may
-    (act_begins client_values server_values made _ client server holds)) holds.client_order order
-server_acted client_values server_values made client server _ _ _ _ holds
-    (releases_all result after may) order =
-    act_ends client_values server_values _ client (with_happened server after)
-    (holds_by_release (ServerStays client_values server_values _ client server)
-    (server_kept client_values server_values _ client server) server.happened after result may
-    (act_begins client_values server_values made _ client server holds)) holds.client_order order
-server_acted client_values server_values made client server _ _ _ _ holds
-    (calls act answer call typed may) order =
-    act_ends client_values server_values _ client (with_answer server act answer)
-    (server_called_within client_values server_values _ client server act answer
-    server.happened.accepted (act_begins client_values server_values made _ client server holds)
-    typed may (call_of_act made Server act answer call) (call_stays_in act call)
-    (λ had. accepted_alike client.happened server.happened client.happened _ refl refl
-    (holds.calm had.1).accepted)) holds.client_order order
-server_acted client_values server_values made client server _ _ _ _ holds
-    (moves count answer typed may) order =
-    act_ends client_values server_values _ (with_given client server (PutOut count) answer)
-    (with_answer server (PutOut count) answer)
-    (server_called client_values server_values _ client server (PutOut count) answer
-    server.happened.accepted (act_begins client_values server_values made _ client server holds)
-    typed may (move_of_act _ Server count answer)
-    (λ had. accepted_alike client.happened server.happened client.happened _ refl refl
-    (holds.calm had.1).accepted)) holds.client_order order
-server_acted client_values server_values made client server _ _ _ _ holds
-    (delivers count after up delivered) order =
-    server_delivered client_values server_values made client server count Whole after holds
-    delivered order
-server_acted client_values server_values made client server _ _ _ _ holds
-    (delivery_fails count code after up delivered) order =
-    server_delivered client_values server_values made client server count (Fails code) after holds
-    delivered order
-server_acted client_values server_values made client server _ _ _ _ holds
-    (has_failed count code failed) order =
-    nothing_done client_values server_values made _ client server holds
-server_acted client_values server_values made client server _ _ _ _ holds
-    (delivery_stops count unused after up delivered) order =
-    server_delivered client_values server_values made client server count (Stops unused) after
-    holds delivered order
-server_acted client_values server_values made client server _ _ _ _ holds
-    (no_copy_of_a_request message) order =
-    nothing_done client_values server_values made _ client server holds
-server_acted client_values server_values made client server _ _ _ _ holds
-    (no_copy_of_a_response id message) order =
-    nothing_done client_values server_values made _ client server holds
+  -- and so does one at the server.
+  server_acted : (new_client new_server : JointEnd) (doing : Doing) (answer : Acted)
+      → JointHolds client_values server_values made client server
+      → MayDo server client doing answer new_server new_client → KeepsOrder new_server.happened
+      → JointHolds client_values server_values
+      (record { side = Server; doing = doing; acted = answer } ∷ made) new_client new_server
+  server_acted _ _ _ _ holds (requests message result after typed may) order =
+      act_ends client_values server_values _ client (with_happened server after)
+      (server_requested client_values server_values made _ client server message result after holds
+      may) holds.client_order order
+  server_acted _ _ _ _ holds (responds id message result after small typed may) order =
+      act_ends client_values server_values _ client (with_happened server after)
+      (server_responded client_values server_values made _ client server id message result after
+      holds small typed may) holds.client_order order
+  server_acted _ _ _ _ holds (pumps result after may) order =
+      act_ends client_values server_values _ client (with_happened server after)
+      (holds_by_pump (ServerStays client_values server_values _ client server)
+      (server_kept client_values server_values _ client server) server.happened after result may
+      (act_begins client_values server_values made _ client server holds)) holds.client_order order
+  server_acted _ _ _ _ holds (releases_all result after may) order =
+      act_ends client_values server_values _ client (with_happened server after)
+      (holds_by_release (ServerStays client_values server_values _ client server)
+      (server_kept client_values server_values _ client server) server.happened after result may
+      (act_begins client_values server_values made _ client server holds)) holds.client_order order
+  server_acted _ _ _ _ holds (calls act answer call typed may) order =
+      act_ends client_values server_values _ client (with_answer server act answer)
+      (server_called_within client_values server_values _ client server act answer
+      server.happened.accepted (act_begins client_values server_values made _ client server holds)
+      typed may (call_of_act made Server act answer call) (call_stays_in act call)
+      (λ had. accepted_alike client.happened server.happened client.happened _ refl refl
+      (holds.calm had.1).accepted)) holds.client_order order
+  server_acted _ _ _ _ holds (moves count answer typed may) order =
+      act_ends client_values server_values _ (with_given client server (PutOut count) answer)
+      (with_answer server (PutOut count) answer)
+      (server_called client_values server_values _ client server (PutOut count) answer
+      server.happened.accepted (act_begins client_values server_values made _ client server holds)
+      typed may (move_of_act _ Server count answer)
+      (λ had. accepted_alike client.happened server.happened client.happened _ refl refl
+      (holds.calm had.1).accepted)) holds.client_order order
+  server_acted _ _ _ _ holds (delivers count after up delivered) order =
+      server_delivered client_values server_values made client server count Whole after holds
+      delivered order
+  server_acted _ _ _ _ holds (delivery_fails count code after up delivered) order =
+      server_delivered client_values server_values made client server count (Fails code) after holds
+      delivered order
+  server_acted _ _ _ _ holds (has_failed count code failed) order =
+      nothing_done client_values server_values made _ client server holds
+  server_acted _ _ _ _ holds (delivery_stops count unused after up delivered) order =
+      server_delivered client_values server_values made client server count (Stops unused) after
+      holds delivered order
+  server_acted _ _ _ _ holds (no_copy_of_a_request message) order =
+      nothing_done client_values server_values made _ client server holds
+  server_acted _ _ _ _ holds (no_copy_of_a_response id message) order =
+      nothing_done client_values server_values made _ client server holds
 
--- So does one act more,
-next_holds : (client_values server_values : Values) (made : List Made)
-    (client server new_client new_server : JointEnd) (act : Made)
-    → JointHolds client_values server_values made client server
-    → IsNextAct client server act new_client new_server
-    → JointHolds client_values server_values (act ∷ made) new_client new_server
-next_holds client_values server_values made client server new_client new_server _ holds
-    (at_client doing answer may) =
-    let logs = both_logs client_values server_values (half_of client holds.client_lost)
-    (half_of server holds.server_lost) holds.pair in
-    client_acted client_values server_values made client server new_client new_server doing answer
-    holds may (act_keeps_order roles.Client client_values client server new_client new_server doing
-    answer logs.client_log holds.client_order may)
-next_holds client_values server_values made client server new_client new_server _ holds
-    (at_server doing answer may) =
-    let logs = both_logs client_values server_values (half_of client holds.client_lost)
-    (half_of server holds.server_lost) holds.pair in
-    server_acted client_values server_values made client server new_client new_server doing answer
-    holds may (act_keeps_order roles.Server server_values server client new_server new_client doing
-    answer logs.server_log holds.server_order may)
+  -- So does one act more,
+  next_holds : (new_client new_server : JointEnd) (act : Made)
+      → JointHolds client_values server_values made client server
+      → IsNextAct client server act new_client new_server
+      → JointHolds client_values server_values (act ∷ made) new_client new_server
+  next_holds new_client new_server _ holds (at_client doing answer may) =
+      let logs = both_logs client_values server_values (half_of client holds.client_lost)
+      (half_of server holds.server_lost) holds.pair in
+      client_acted new_client new_server doing answer
+      holds may (act_keeps_order roles.Client client_values client server new_client new_server
+      doing answer logs.client_log holds.client_order may)
+  next_holds new_client new_server _ holds (at_server doing answer may) =
+      let logs = both_logs client_values server_values (half_of client holds.client_lost)
+      (half_of server holds.server_lost) holds.pair in
+      server_acted new_client new_server doing answer
+      holds may (act_keeps_order roles.Server server_values server client new_server new_client
+      doing answer logs.server_log holds.server_order may)
 
 -- and whatever acts were made it holds.
 pub joint_holds : (client_values server_values : Values) (made : List Made)

@@ -41,49 +41,46 @@ one_message : (o : Option SentMessage) (one other : SentMessage) → o ≡ Some 
     → one ≡ other
 one_message o one other is also = cc
 
--- A stream for which the client has accepted a message is used.
-accepted_used : (client_values server_values : Values) (made : List Made)
-    (client server : JointEnd) (i : ℕ) (message : SentMessage)
-    → JointHolds client_values server_values made client server
-    → message_for i client.happened.accepted ≡ Some message
-    → is_number_used client.happened.log i ≡ true
-accepted_used client_values server_values made client server i message holds is =
-    sent_used Client client_values client.happened.log i (both_logs client_values server_values
-    (half_of client holds.client_lost) (half_of server holds.server_lost) holds.pair).client_log
-    ((holds.client_order.sends i).begun (not_none _ message is))
+module _ (client_values server_values : Values) (made : List Made) (client server : JointEnd) where
+  -- A stream for which the client has accepted a message is used.
+  accepted_used : (i : ℕ) (message : SentMessage)
+      → JointHolds client_values server_values made client server
+      → message_for i client.happened.accepted ≡ Some message
+      → is_number_used client.happened.log i ≡ true
+  accepted_used i message holds is =
+      sent_used Client client_values client.happened.log i (both_logs client_values server_values
+      (half_of client holds.client_lost) (half_of server holds.server_lost) holds.pair).client_log
+      ((holds.client_order.sends i).begun (not_none _ message is))
 
--- So a request on a new stream leaves what the server answers.
-pub request_accepted : (client_values server_values : Values) (made : List Made)
-    (client server : JointEnd) (message : SentMessage) (id : ℕ) (end : Bool)
-    → JointHolds client_values server_values made client server
-    → broken_by_request message ≡ None
-    → MayAnswer client.happened.log (Open message.head end) (Number id)
-    → AcceptWell client.happened server.happened
-    → AcceptWell (end_called client.happened (Open message.head end) (Number id)
-    ((id, message) ∷ client.happened.accepted)) server.happened
-request_accepted client_values server_values made client server message id end holds unbroken may
-    well =
-    let accepted = client.happened.accepted in
-    let new = (opened_is_new Client client_values client.happened.log message.head end id
-    (both_logs client_values server_values (half_of client holds.client_lost)
-    (half_of server holds.server_lost) holds.pair).client_log may).2 in
-    record {
-      requests = λ i one is. elim (cases_Bool (id == i)) [
-        | inl here ↦ subst (λ (any : SentMessage). broken_by_request any ≡ None)
-            (one_message _ message one (given_here i id message accepted here) is) unbroken
-        | inr other ↦ well.requests i one (sym (given_before i id message accepted other) ∙ is)
-      ];
-      answers = λ i one is. let answer = well.answers i one is in
-          let was = accepted_used client_values server_values made client server i answer.request
-          holds answer.accepted in
-          let other : (id == i) ≡ false = ne_eqb id i (λ same. both_ways _ new
-          (subst (λ (j : ℕ). is_number_used client.happened.log j ≡ true) (sym same) was)) in
-          record {
-            request = answer.request;
-            accepted = given_before i id message accepted other ∙ answer.accepted;
-            well = answer.well;
-          };
-    }
+  -- So a request on a new stream leaves what the server answers.
+  pub request_accepted : (message : SentMessage) (id : ℕ) (end : Bool)
+      → JointHolds client_values server_values made client server → broken_by_request message ≡ None
+      → MayAnswer client.happened.log (Open message.head end) (Number id)
+      → AcceptWell client.happened server.happened
+      → AcceptWell (end_called client.happened (Open message.head end) (Number id)
+      ((id, message) ∷ client.happened.accepted)) server.happened
+  request_accepted message id end holds unbroken may
+      well =
+      let accepted = client.happened.accepted in
+      let new = (opened_is_new Client client_values client.happened.log message.head end id
+      (both_logs client_values server_values (half_of client holds.client_lost)
+      (half_of server holds.server_lost) holds.pair).client_log may).2 in
+      record {
+        requests = λ i one is. elim (cases_Bool (id == i)) [
+          | inl here ↦ subst (λ (any : SentMessage). broken_by_request any ≡ None)
+              (one_message _ message one (given_here i id message accepted here) is) unbroken
+          | inr other ↦ well.requests i one (sym (given_before i id message accepted other) ∙ is)
+        ];
+        answers = λ i one is. let answer = well.answers i one is in
+            let was = accepted_used i answer.request holds answer.accepted in
+            let other : (id == i) ≡ false = ne_eqb id i (λ same. both_ways _ new
+            (subst (λ (j : ℕ). is_number_used client.happened.log j ≡ true) (sym same) was)) in
+            record {
+              request = answer.request;
+              accepted = given_before i id message accepted other ∙ answer.accepted;
+              well = answer.well;
+            };
+      }
 
 -- The first part that was handed out is the head of the message that was said, if it says anything.
 first_is_head : (parts : List (Part × Bool)) (said : Option SentMessage)
@@ -107,44 +104,39 @@ first_is_head ((OctetsPart [], false) ∷ parts) said says some begins = elim (s
   | inr ends ↦ absurd (both_ways false refl ends)
 ]
 
--- So what the server answers is the request that the client has accepted.
-answers_request : (client_values server_values : Values) (made : List Made)
-    (client server : JointEnd) (id : ℕ) (message : SentMessage)
-    → JointHolds client_values server_values made client server
-    → EndHolds made Server server.happened → IsAsked server.happened id
-    → broken_by_answer server.happened id message ≡ None
-    → IsAnswer client.happened id message
-answers_request client_values server_values made client server id message holds server_holds asked
-    unbroken =
-    let head = first_is_head (parts_on id server.happened.handed)
-    (message_for id client.happened.accepted) (server_holds.says id) asked.handed
-    (server_hands client_values server_values made client server id holds) in
-    record {
-      request = head.0;
-      accepted = head.1;
-      well = subst (λ (b : Bool). broken_by_response b message ≡ None) head.2 unbroken;
-    }
+module _ (client_values server_values : Values) (made : List Made) (client server : JointEnd)
+    (id : ℕ) (message : SentMessage) where
+  -- So what the server answers is the request that the client has accepted.
+  answers_request : JointHolds client_values server_values made client server
+      → EndHolds made Server server.happened → IsAsked server.happened id
+      → broken_by_answer server.happened id message ≡ None → IsAnswer client.happened id message
+  answers_request holds server_holds asked
+      unbroken =
+      let head = first_is_head (parts_on id server.happened.handed)
+      (message_for id client.happened.accepted) (server_holds.says id) asked.handed
+      (server_hands client_values server_values made client server id holds) in
+      record {
+        request = head.0;
+        accepted = head.1;
+        well = subst (λ (b : Bool). broken_by_response b message ≡ None) head.2 unbroken;
+      }
 
--- A response breaks no rule as an answer to that.
-pub response_accepted : (client_values server_values : Values) (made : List Made)
-    (client server : JointEnd) (id : ℕ) (message : SentMessage) (end : Bool)
-    → JointHolds client_values server_values made client server
-    → EndHolds made Server server.happened → IsAsked server.happened id
-    → broken_by_answer server.happened id message ≡ None
-    → AcceptWell client.happened server.happened
-    → AcceptWell client.happened (end_called server.happened (SendFields id message.head end) Done
-    ((id, message) ∷ server.happened.accepted))
-response_accepted client_values server_values made client server id message end holds server_holds
-    asked unbroken well =
-    let accepted = server.happened.accepted in
-    record {
-      requests = well.requests;
-      answers = λ i one is. elim (cases_Bool (id == i)) [
-        | inl here ↦ subst (λ (j : ℕ). IsAnswer client.happened j one) (eqb-true id i here)
-            (subst (λ (any : SentMessage). IsAnswer client.happened id any)
-            (one_message _ message one (given_here i id message accepted here) is)
-            (answers_request client_values server_values made client server id message holds
-            server_holds asked unbroken))
-        | inr other ↦ well.answers i one (sym (given_before i id message accepted other) ∙ is)
-      ];
-    }
+  -- A response breaks no rule as an answer to that.
+  pub response_accepted : (end : Bool) → JointHolds client_values server_values made client server
+      → EndHolds made Server server.happened → IsAsked server.happened id
+      → broken_by_answer server.happened id message ≡ None
+      → AcceptWell client.happened server.happened
+      → AcceptWell client.happened (end_called server.happened (SendFields id message.head end) Done
+      ((id, message) ∷ server.happened.accepted))
+  response_accepted end holds server_holds asked unbroken well =
+      let accepted = server.happened.accepted in
+      record {
+        requests = well.requests;
+        answers = λ i one is. elim (cases_Bool (id == i)) [
+          | inl here ↦ subst (λ (j : ℕ). IsAnswer client.happened j one) (eqb-true id i here)
+              (subst (λ (any : SentMessage). IsAnswer client.happened id any)
+              (one_message _ message one (given_here i id message accepted here) is)
+              (answers_request holds server_holds asked unbroken))
+          | inr other ↦ well.answers i one (sym (given_before i id message accepted other) ∙ is)
+        ];
+      }

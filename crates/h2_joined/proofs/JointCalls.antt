@@ -133,105 +133,92 @@ accepted_alike client server new_client new_server same other_same well =
           };
     }
 
--- A call at the client,
-pub client_called : (client_values server_values : Values) (made : List Made)
-    (client server : JointEnd) (act : Act) (answer : Answer) (accepted : List (ℕ × SentMessage))
-    → JointStays client_values server_values made client server → IsTypedAct act
-    → MayAnswer client.happened.log act answer → IsOfAct made Client act answer
-    → (AllHadMemory made
-    → AcceptWell (end_called client.happened act answer accepted) server.happened)
-    → JointStays client_values server_values made
-    (with_happened client (end_called client.happened act answer accepted))
-    (with_given server client act answer)
-unfolding IsUndisturbed IsUndisturbedStep
-client_called client_values server_values made client server act answer accepted stays typed may
-    of_act well =
-    record {
-      client_lost = stays.client_lost;
-      server_lost = stays.server_lost;
-      pair = client_steps stays.pair (calls act answer typed may);
-      calm = λ had. let calm = stays.calm had in
-          record {
-            undisturbed = (
-              calm.undisturbed,
-              (
-                answers_in_memory client.happened.log act answer of_act.no_refusal may,
-                leaves_up client.happened.log act of_act.no_refusal,
-              ),
-            );
-            client_holds = end_kept made Client client.happened act answer accepted
-                calm.client_holds of_act;
-            server_holds = calm.server_holds;
-            accepted = well had;
-            all_reported = λ finished.
-                call_reports_all client.happened.log act answer may (calm.all_reported finished);
-          };
-    }
+module _ (client_values server_values : Values) (made : List Made) (client server : JointEnd)
+    (act : Act) (answer : Answer) (accepted : List (ℕ × SentMessage)) where
+  -- A call at the client,
+  pub client_called : JointStays client_values server_values made client server → IsTypedAct act
+      → MayAnswer client.happened.log act answer → IsOfAct made Client act answer
+      → (AllHadMemory made → AcceptWell (end_called client.happened act answer accepted)
+      server.happened)
+      → JointStays client_values server_values made (with_happened client
+      (end_called client.happened act answer accepted)) (with_given server client act answer)
+  unfolding IsUndisturbed IsUndisturbedStep
+  client_called stays typed may of_act well =
+      record {
+        client_lost = stays.client_lost;
+        server_lost = stays.server_lost;
+        pair = client_steps stays.pair (calls act answer typed may);
+        calm = λ had. let calm = stays.calm had in
+            record {
+              undisturbed = (
+                calm.undisturbed,
+                (
+                  answers_in_memory client.happened.log act answer of_act.no_refusal may,
+                  leaves_up client.happened.log act of_act.no_refusal,
+                ),
+              );
+              client_holds = end_kept made Client client.happened act answer accepted
+                  calm.client_holds of_act;
+              server_holds = calm.server_holds;
+              accepted = well had;
+              all_reported = λ finished.
+                  call_reports_all client.happened.log act answer may (calm.all_reported finished);
+            };
+      }
 
--- and at the server.
-pub server_called : (client_values server_values : Values) (made : List Made)
-    (client server : JointEnd) (act : Act) (answer : Answer) (accepted : List (ℕ × SentMessage))
-    → JointStays client_values server_values made client server → IsTypedAct act
-    → MayAnswer server.happened.log act answer → IsOfAct made Server act answer
-    → (AllHadMemory made
-    → AcceptWell client.happened (end_called server.happened act answer accepted))
-    → JointStays client_values server_values made (with_given client server act answer)
-    (with_happened server (end_called server.happened act answer accepted))
-unfolding IsUndisturbed IsUndisturbedStep
-server_called client_values server_values made client server act answer accepted stays typed may
-    of_act well =
-    record {
-      client_lost = stays.client_lost;
-      server_lost = stays.server_lost;
-      pair = server_steps stays.pair (calls act answer typed may);
-      calm = λ had. let calm = stays.calm had in
-          record {
-            undisturbed = (
-              calm.undisturbed,
-              (
-                answers_in_memory server.happened.log act answer of_act.no_refusal may,
-                leaves_up server.happened.log act of_act.no_refusal,
-              ),
-            );
-            client_holds = calm.client_holds;
-            server_holds = end_kept made Server server.happened act answer accepted
-                calm.server_holds of_act;
-            accepted = well had;
-            all_reported = calm.all_reported;
-          };
-    }
+  -- and at the server.
+  pub server_called : JointStays client_values server_values made client server → IsTypedAct act
+      → MayAnswer server.happened.log act answer → IsOfAct made Server act answer
+      → (AllHadMemory made → AcceptWell client.happened (end_called server.happened act answer
+      accepted))
+      → JointStays client_values server_values made (with_given client server act answer)
+      (with_happened server (end_called server.happened act answer accepted))
+  unfolding IsUndisturbed IsUndisturbedStep
+  server_called stays typed may of_act well =
+      record {
+        client_lost = stays.client_lost;
+        server_lost = stays.server_lost;
+        pair = server_steps stays.pair (calls act answer typed may);
+        calm = λ had. let calm = stays.calm had in
+            record {
+              undisturbed = (
+                calm.undisturbed,
+                (
+                  answers_in_memory server.happened.log act answer of_act.no_refusal may,
+                  leaves_up server.happened.log act of_act.no_refusal,
+                ),
+              );
+              client_holds = calm.client_holds;
+              server_holds = end_kept made Server server.happened act answer accepted
+                  calm.server_holds of_act;
+              accepted = well had;
+              all_reported = calm.all_reported;
+            };
+      }
 
--- The same of a call that puts no output out.
-pub client_called_within : (client_values server_values : Values) (made : List Made)
-    (client server : JointEnd) (act : Act) (answer : Answer) (accepted : List (ℕ × SentMessage))
-    → JointStays client_values server_values made client server → IsTypedAct act
-    → MayAnswer client.happened.log act answer → IsOfAct made Client act answer
-    → ((count : ℕ) → act ≢ PutOut count)
-    → (AllHadMemory made
-    → AcceptWell (end_called client.happened act answer accepted) server.happened)
-    → JointStays client_values server_values made
-    (with_happened client (end_called client.happened act answer accepted)) server
-client_called_within client_values server_values made client server act answer accepted stays typed
-    may of_act within well =
-    subst (λ (other : JointEnd). JointStays client_values server_values made
-    (with_happened client (end_called client.happened act answer accepted)) other)
-    (nothing_given server client act answer may within)
-    (client_called client_values server_values made client server act answer accepted stays typed
-    may of_act well)
+  -- The same of a call that puts no output out.
+  pub client_called_within : JointStays client_values server_values made client server
+      → IsTypedAct act → MayAnswer client.happened.log act answer → IsOfAct made Client act answer
+      → ((count : ℕ) → act ≢ PutOut count)
+      → (AllHadMemory made → AcceptWell (end_called client.happened act answer accepted)
+      server.happened)
+      → JointStays client_values server_values made (with_happened client
+      (end_called client.happened act answer accepted)) server
+  client_called_within stays typed may of_act within well =
+      subst (λ (other : JointEnd). JointStays client_values server_values made
+      (with_happened client (end_called client.happened act answer accepted)) other)
+      (nothing_given server client act answer may within) (client_called stays typed
+      may of_act well)
 
-pub server_called_within : (client_values server_values : Values) (made : List Made)
-    (client server : JointEnd) (act : Act) (answer : Answer) (accepted : List (ℕ × SentMessage))
-    → JointStays client_values server_values made client server → IsTypedAct act
-    → MayAnswer server.happened.log act answer → IsOfAct made Server act answer
-    → ((count : ℕ) → act ≢ PutOut count)
-    → (AllHadMemory made
-    → AcceptWell client.happened (end_called server.happened act answer accepted))
-    → JointStays client_values server_values made client
-    (with_happened server (end_called server.happened act answer accepted))
-server_called_within client_values server_values made client server act answer accepted stays typed
-    may of_act within well =
-    subst (λ (other : JointEnd). JointStays client_values server_values made other
-    (with_happened server (end_called server.happened act answer accepted)))
-    (nothing_given client server act answer may within)
-    (server_called client_values server_values made client server act answer accepted stays typed
-    may of_act well)
+  pub server_called_within : JointStays client_values server_values made client server
+      → IsTypedAct act → MayAnswer server.happened.log act answer → IsOfAct made Server act answer
+      → ((count : ℕ) → act ≢ PutOut count)
+      → (AllHadMemory made → AcceptWell client.happened (end_called server.happened act answer
+      accepted))
+      → JointStays client_values server_values made client (with_happened server
+      (end_called server.happened act answer accepted))
+  server_called_within stays typed may of_act within well =
+      subst (λ (other : JointEnd). JointStays client_values server_values made other
+      (with_happened server (end_called server.happened act answer accepted)))
+      (nothing_given client server act answer may within) (server_called stays typed
+      may of_act well)

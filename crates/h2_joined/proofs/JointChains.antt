@@ -28,14 +28,12 @@ holds_by_pumps : (Holds : EndLog → Type 0) → KeptByCalls Holds → (end afte
 holds_by_pumps Holds kept _ _ _ _ (pumps_no_more end) holds = holds
 holds_by_pumps Holds kept _ _ _ _
     (pumps_data end id sent more octets ends refused after next typed waits may others) holds =
-    holds_by_pumps Holds kept
-    (end_with_log end (with_call end.log (SendData id octets ends) (Count sent))) after more
+    holds_by_pumps _ kept _ _ more
     refused others (kept end (SendData id octets ends) (Count sent) holds tt typed may
     (data_next end id octets ends sent waits))
 holds_by_pumps Holds kept _ _ _ _
     (pumps_trailers end id more list refused after next typed wait may others) holds =
-    holds_by_pumps Holds kept
-    (end_with_log end (with_call end.log (SendFields id list true) Done)) after more refused others
+    holds_by_pumps _ kept _ _ more refused others
     (kept end (SendFields id list true) Done holds tt typed may (trailers_next end id list wait))
 holds_by_pumps Holds kept _ _ _ _
     (data_refused end id octets ends refusal next typed waits may) holds =
@@ -51,8 +49,7 @@ holds_by_releases : (Holds : EndLog → Type 0) → KeptByCalls Holds → (end a
     (refused : Option Refusal) → Releases end refused after → Holds end → Holds after
 holds_by_releases Holds kept _ _ _ (releases_no_more end) holds = holds
 holds_by_releases Holds kept _ _ _ (releases_one end id refused after next typed may others) holds =
-    holds_by_releases Holds kept
-    (end_with_log end (with_call end.log (Release id (owed end.log id)) Done)) after refused others
+    holds_by_releases _ kept _ _ refused others
     (kept end (Release id (owed end.log id)) Done holds tt typed may
     (no_part_next end (Release id (owed end.log id)) Done tt))
 holds_by_releases Holds kept _ _ _ (releases_refused end id refusal next typed may) holds =
@@ -125,5 +122,4 @@ holds_by_refused_response Holds kept end after id message refusals.Answered (ask
 holds_by_refused_response Holds kept end after id message (refusals.BadMessage rule)
     (asked, none, broken, same) holds = subst Holds (sym same) holds
 holds_by_refused_response Holds kept end after id message (refusals.Conn refusal)
-    (asked, none, well, refuses, unchanged) holds =
-    holds_unchanged Holds kept end after unchanged holds
+    (asked, none, well, refuses, unchanged) holds = holds_unchanged _ kept _ after unchanged holds

@@ -36,9 +36,7 @@ pub client_faultless : (client_values server_values : Values) (made : List Made)
 client_faultless client_values server_values made client server holds had =
     let calm = holds.calm had in
     reports_no_fault made Client Server client.happened server.happened calm.client_holds
-    calm.server_holds (faultless_client client_values server_values
-    (half_of client holds.client_lost) (half_of server holds.server_lost) holds.pair
-    calm.undisturbed)
+    calm.server_holds (faultless_client _ _ _ _ holds.pair calm.undisturbed)
 
 pub server_faultless : (client_values server_values : Values) (made : List Made)
     (client server : JointEnd) → JointHolds client_values server_values made client server
@@ -46,9 +44,7 @@ pub server_faultless : (client_values server_values : Values) (made : List Made)
 server_faultless client_values server_values made client server holds had =
     let calm = holds.calm had in
     reports_no_fault made Server Client server.happened client.happened calm.server_holds
-    calm.client_holds (faultless_server client_values server_values
-    (half_of client holds.client_lost) (half_of server holds.server_lost) holds.pair
-    calm.undisturbed)
+    calm.client_holds (faultless_server _ _ _ _ holds.pair calm.undisturbed)
 
 -- Two quiet ends are a quiet pair.
 quiet_pair : (client_values server_values : Values) (made : List Made)
@@ -108,14 +104,11 @@ handed_whole : (one other : EndLog) (made : List Made) (side : Side) (i : ℕ)
     → tokens_handed one i ≡ tokens_said other i
 unfolding tokens_given
 handed_whole one other made side i None is begins sends holds quiet heard =
-    none_begins (tokens_handed one i) begins.0 (sym (ap tokens_given is) ∙ begins.1)
-    ∙ sym (ap tokens_given is)
+    none_begins _ begins.0 (sym (ap tokens_given is) ∙ begins.1) ∙ sym (ap tokens_given is)
 handed_whole one other made side i (Some message) is begins sends holds quiet heard =
-    sym (holds.heard i)
-    ∙ heard message sends.waiting (sending_of other i message is sends)
-    (subst (λ (waiting : List Token). IsStuck other.log i waiting) (waiting_of other i sends)
-    (quiet.stuck i))
-    ∙ sym (said_of other i message is)
+    sym (holds.heard i) ∙ heard message sends.waiting (sending_of other i message is sends)
+    (subst (λ (waiting : List Token). IsStuck other.log i waiting) (waiting_of _ _ sends)
+    (quiet.stuck i)) ∙ sym (said_of other i message is)
 
 pub server_has_all : (client_values server_values : Values) (made : List Made)
     (client server : JointEnd) (i : ℕ) → JointHolds client_values server_values made client server
@@ -128,8 +121,7 @@ server_has_all client_values server_values made client server i holds had quiet 
     (holds.client_order.sends i) calm.server_holds quiet.quiet_client
     (λ message waiting sending stuck. server_hears_whole client_values server_values
     (half_of client holds.client_lost) (half_of server holds.server_lost) i message waiting
-    holds.pair calm.undisturbed
-    (quiet_pair client_values server_values made client server holds had quiet)
+    holds.pair calm.undisturbed (quiet_pair _ _ _ _ server holds had quiet)
     (λ reset. unreset (reset_in made client server i calm.client_holds calm.server_holds reset))
     sending stuck)
 
@@ -144,7 +136,6 @@ client_has_all client_values server_values made client server i holds had quiet 
     (holds.server_order.sends i) calm.client_holds quiet.quiet_server
     (λ message waiting sending stuck. client_hears_whole client_values server_values
     (half_of client holds.client_lost) (half_of server holds.server_lost) i message waiting
-    holds.pair calm.undisturbed
-    (quiet_pair client_values server_values made client server holds had quiet)
+    holds.pair calm.undisturbed (quiet_pair _ _ _ _ server holds had quiet)
     (λ reset. unreset (reset_in made client server i calm.client_holds calm.server_holds reset))
     sending stuck)

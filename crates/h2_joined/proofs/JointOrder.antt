@@ -39,22 +39,19 @@ handed_said one other i hands sends heard =
     (prefix_of_prefix (tokens_handed one i) (tokens_heard i one.log.reported)
     (tokens_out other i) (handed_begins one i hands) heard) sends.prefix
 
--- So it is at the server, and at the client.
-pub server_hands : (client_values server_values : Values) (made : List Made)
-    (client server : JointEnd) (i : ℕ) → JointHolds client_values server_values made client server
-    → IsPrefixOfTokens (tokens_handed server.happened i) (tokens_said client.happened i)
-server_hands client_values server_values made client server i holds =
-    handed_said server.happened client.happened i (holds.server_order.hands i)
-    (holds.client_order.sends i) (server_hears client_values server_values
-    (half_of client holds.client_lost) (half_of server holds.server_lost) i holds.pair)
+module _ (client_values server_values : Values) (made : List Made) (client server : JointEnd) where
+  -- So it is at the server, and at the client.
+  pub server_hands : (i : ℕ) → JointHolds client_values server_values made client server
+      → IsPrefixOfTokens (tokens_handed server.happened i) (tokens_said client.happened i)
+  server_hands i holds = handed_said server.happened client.happened i (holds.server_order.hands i)
+      (holds.client_order.sends i) (server_hears client_values server_values
+      (half_of client holds.client_lost) (half_of server holds.server_lost) i holds.pair)
 
-pub client_hands : (client_values server_values : Values) (made : List Made)
-    (client server : JointEnd) (i : ℕ) → JointHolds client_values server_values made client server
-    → IsPrefixOfTokens (tokens_handed client.happened i) (tokens_said server.happened i)
-client_hands client_values server_values made client server i holds =
-    handed_said client.happened server.happened i (holds.client_order.hands i)
-    (holds.server_order.sends i) (client_hears client_values server_values
-    (half_of client holds.client_lost) (half_of server holds.server_lost) i holds.pair)
+  pub client_hands : (i : ℕ) → JointHolds client_values server_values made client server
+      → IsPrefixOfTokens (tokens_handed client.happened i) (tokens_said server.happened i)
+  client_hands i holds = handed_said client.happened server.happened i (holds.client_order.hands i)
+      (holds.server_order.sends i) (client_hears client_values server_values
+      (half_of client holds.client_lost) (half_of server holds.server_lost) i holds.pair)
 
 -- A stream that was opened is used.
 opened_used : (role : Role) (i : ℕ) (received sent : List Item) → IsOpened role i received sent

@@ -1,12 +1,11 @@
 -- Whatever acts were made, what was handed out at each of two joined ends is what its place says,
 -- and each message that the server has accepted has a final head.
-use Rattle.h2_joined.proofs.Names.{◌⊎◌, inl, inr, ◌==◌, true, if◌then◌else◌, [], ◌∷◌, ◌++◌, suc}
-use Rattle.h2_joined.proofs.Names.{drop, Result, Ok, Err, refl, sym, ap, ◌∙◌, subst, append-nil}
-use Rattle.h2_joined.proofs.Names.{cases_eq, cases_Bool, Role, Values, Refuse, PutOut, Event}
-use Rattle.h2_joined.proofs.Names.{FieldsEvent, ResetEvent, Log, with_call, is_server, grows_call}
-use Rattle.h2_joined.proofs.Names.{Took, Responses, SentMessage, asks_head_first, Part}
-use Rattle.h2_joined.proofs.Names.{is_head_alone, EndRefusal, EndLog, Handed, Passed, EndAnswer}
-use Rattle.h2_joined.proofs.Names.{asked_head, handed_as, EndMayTake, IsReadableWith, end_with_log}
+use Rattle.h2_joined.proofs.Names.{◌⊎◌, inl, inr, ◌==◌, true, if◌then◌else◌, [], ◌∷◌, ◌++◌, Result}
+use Rattle.h2_joined.proofs.Names.{Ok, Err, refl, sym, ap, ◌∙◌, subst, append-nil, cases_eq}
+use Rattle.h2_joined.proofs.Names.{cases_Bool, Role, Values, Refuse, PutOut, Event, FieldsEvent}
+use Rattle.h2_joined.proofs.Names.{ResetEvent, Log, with_call, is_server, grows_call, Took}
+use Rattle.h2_joined.proofs.Names.{Responses, SentMessage, Part, EndRefusal, EndLog, Handed, Passed}
+use Rattle.h2_joined.proofs.Names.{EndAnswer, handed_as, EndMayTake, IsReadableWith, end_with_log}
 use Rattle.h2_joined.proofs.Names.{end_with_handed, hands_nothing, hands_out, refusal_fails}
 use Rattle.h2_joined.proofs.Names.{runs_out_of_memory, MessageToken, new_end_log, handed_elsewhere}
 use Rattle.h2_joined.proofs.Names.{readable_here, Acted, Doing, JointEnd, Made, Delivery, Whole}
@@ -19,9 +18,7 @@ use Rattle.h2_ends.specs.MessageTokens.{parts_heard, parts_heard_in}
 use Rattle.std.proofs.Common.{◌≡◌, ℕ, Bool, false, List, Some, None}
 use Rattle.h2_laws_end.specs.Takes.{Failed}
 use Rattle.h2_laws_end.proofs.OverNumbers.{open_answer}
-use Rattle.h2_message.specs.declared.reading.Phase.TheVariants.{AtHead}
 use Rattle.h2_message.specs.declared.reading.Reads.TheVariants.{Requests}
-use Rattle.h2_message.specs.Phases.{phase_after_all}
 use Rattle.h2_message.proofs.PhaseWhole.{not_readable}
 use Rattle.h2_laws_pair.proofs.StepUnprocessed.{role_by_take as take_role}
 use Rattle.h2_ends.specs.EndTakes.{fails, passes, refuses}
@@ -46,27 +43,24 @@ pub record KeepsPlaces (role : Role) (end : EndLog) : Type 0 where
       → message_for i end.accepted ≡ Some message
       → place_where false false message.head ≡ places.Head
 
--- Of the stream either nothing is handed out, or a part that is what its place says.
-abbrev IsPlaced : (server : Bool) → (before : List Handed) → ℕ → Handed → Type 0
-IsPlaced server before i handed =
-    ((part_on i handed ≡ []) × (parts_heard_in i handed ≡ []))
-    ⊎ ((part : Part × Bool) × (part_on i handed ≡ part ∷ [])
-    × (parts_heard_in i handed
-    ≡ placed_part (begun_after false server (parts_on i before)) server part))
+module _ (server : Bool) (before : List Handed) where
+  -- Of the stream either nothing is handed out, or a part that is what its place says.
+  abbrev IsPlaced : ℕ → Handed → Type 0
+  IsPlaced i handed = ((part_on i handed ≡ []) × (parts_heard_in i handed ≡ []))
+      ⊎ ((part : Part × Bool) × (part_on i handed ≡ part ∷ [])
+      × (parts_heard_in i handed
+      ≡ placed_part (begun_after false server (parts_on i before)) server part))
 
--- So all parts are, with what is handed out.
-placed_with : (server : Bool) (before : List Handed) (i : ℕ) (handed : Handed)
-    → IsPlaced server before i handed
-    → parts_heard i before ≡ parts_placed false server (parts_on i before)
-    → parts_heard i (handed ∷ before) ≡ parts_placed false server (parts_on i (handed ∷ before))
-unfolding parts_heard parts_on
-placed_with server before i handed (inl none) is =
-    rw (none.0, none.1) (append-nil (parts_heard i before) ∙ is
-    ∙ ap (parts_placed false server) (sym (append-nil (parts_on i before))))
-placed_with server before i handed (inr one) is =
-    rw (one.1, one.2) (ap (λ (tokens : List MessageToken). tokens
-    ++ placed_part (begun_after false server (parts_on i before)) server one.0) is
-    ∙ sym (placed_more false server (parts_on i before) one.0))
+  -- So all parts are, with what is handed out.
+  placed_with : (i : ℕ) (handed : Handed) → IsPlaced i handed
+      → parts_heard i before ≡ parts_placed false server (parts_on i before)
+      → parts_heard i (handed ∷ before) ≡ parts_placed false server (parts_on i (handed ∷ before))
+  unfolding parts_heard parts_on
+  placed_with i handed (inl none) is = rw (none.0, none.1) (append-nil (parts_heard i before) ∙ is
+      ∙ ap (parts_placed false server) (sym (append-nil (parts_on i before))))
+  placed_with i handed (inr one) is = rw (one.1, one.2) (ap (λ (tokens : List MessageToken). tokens
+      ++ placed_part (begun_after false server (parts_on i before)) server one.0) is
+      ∙ sym (placed_more false server (parts_on i before) one.0))
 
 -- Where the connection goes on, and nothing is handed out, it stays so,
 places_with_log : (role : Role) (end : EndLog) (log : Log) → log.role ≡ end.log.role
@@ -100,9 +94,7 @@ requests_by false to_head = refl
 requests_read : (role : Role) (end : EndLog) (i : ℕ) → end.log.role ≡ role
     → reads_requests (reads_on end i) ≡ is_server role
 unfolding reads_on
-requests_read role end i same =
-    requests_by (is_server end.log.role) (asked_head (message_for i end.accepted))
-    ∙ ap is_server same
+requests_read role end i same = requests_by _ _ ∙ ap is_server same
 
 -- A part that can be read is handed out on its stream, as what its place says.
 part_placed : (role : Role) (end : EndLog) (id : ℕ) (part : Part × Bool)
@@ -112,8 +104,7 @@ part_placed : (role : Role) (end : EndLog) (id : ℕ) (part : Part × Bool)
 part_placed role end id part same readable i =
     let reads = reads_on end id in
     let parts = parts_on id end.handed in
-    let taken = has_phase (phase_after_all reads (Some AtHead) (parts ++ part ∷ []))
-    (λ none. not_readable reads (parts ++ part ∷ []) none readable) in
+    let taken = has_phase _ (λ none. not_readable reads (parts ++ part ∷ []) none readable) in
     let here = readable_here reads parts id part readable in
     elim (cases_eq i id) [
       | inl is ↦ rw is (inr (
@@ -135,45 +126,39 @@ call_places role end act answer keeps ordinary typed may next =
     places_with_log role end (with_call end.log act answer) (grows_call end.log act answer).role
     keeps
 
--- So does any call of `take`.
-take_places : (role : Role) (end after : EndLog) (piece : List ℕ) (answer : EndAnswer)
-    → EndMayTake end piece answer after → KeepsPlaces role end → KeepsPlaces role after
-take_places role end after piece answer (fails code log may answers same) keeps =
-    subst (KeepsPlaces role) (sym same)
-    (places_with_log role end log (take_role end.log log piece (Failed code) may) keeps)
-take_places role end after piece answer (hands_nothing count log may answers same) keeps =
-    subst (KeepsPlaces role) (sym same)
-    (places_with_log role end log (take_role end.log log piece (Took count None) may) keeps)
-take_places role end after piece answer (passes count event log may unread answers same) keeps =
-    subst (KeepsPlaces role) (sym same) (places_with role end log (Passed event)
-    (take_role end.log log piece (Took count (Some event)) may)
-    (passed_placed (is_server role) end.handed event) keeps)
-take_places role end after piece answer
-    (hands_out count event log may id part of readable answers same) keeps =
-    subst (KeepsPlaces role) (sym same) (places_with role end log _
-    (take_role end.log log piece (Took count (Some event)) may)
-    (part_placed role end id part keeps.role_is readable) keeps)
-take_places role end after piece answer
-    (refuses count event log may id part of stops refused answers_it up answers same) keeps =
-    subst (KeepsPlaces role) (sym same)
-    (places_with role end (with_call log (Refuse id 1) refused) (Passed (ResetEvent id 1 true))
-    ((grows_call log (Refuse id 1) refused).role
-    ∙ take_role end.log log piece (Took count (Some event)) may)
-    (passed_placed (is_server role) end.handed (ResetEvent id 1 true)) keeps)
-take_places role end after piece answer
-    (refusal_fails count event log may id part of stops refused answers_it code down answers same)
-    keeps =
-    subst (KeepsPlaces role) (sym same)
-    (places_with_log role end (with_call log (Refuse id 1) refused)
-    ((grows_call log (Refuse id 1) refused).role
-    ∙ take_role end.log log piece (Took count (Some event)) may) keeps)
-take_places role end after piece answer
-    (runs_out_of_memory count id list ends log may server first readable refused answers_it
-    answers same) keeps =
-    subst (KeepsPlaces role) (sym same)
-    (places_with_log role end (with_call log (Refuse id 2) refused)
-    ((grows_call log (Refuse id 2) refused).role
-    ∙ take_role end.log log piece (Took count (Some (FieldsEvent id list ends))) may) keeps)
+module _ (role : Role) (end after : EndLog) (piece : List ℕ) (answer : EndAnswer) where
+  -- So does any call of `take`.
+  take_places : EndMayTake end piece answer after → KeepsPlaces role end → KeepsPlaces role after
+  take_places (fails code log may answers same) keeps = subst (KeepsPlaces role) (sym same)
+      (places_with_log role end log (take_role end.log log piece (Failed code) may) keeps)
+  take_places (hands_nothing count log may answers same) keeps = subst (KeepsPlaces role) (sym same)
+      (places_with_log role end log (take_role end.log log piece (Took count None) may) keeps)
+  take_places (passes count event log may unread answers same) keeps =
+      subst (KeepsPlaces role) (sym same) (places_with role end log (Passed event)
+      (take_role end.log log piece (Took count (Some event)) may)
+      (passed_placed (is_server role) end.handed event) keeps)
+  take_places (hands_out count event log may id part of readable answers same) keeps =
+      subst (KeepsPlaces role) (sym same) (places_with role end log _
+      (take_role end.log log piece (Took count (Some event)) may)
+      (part_placed role end id part keeps.role_is readable) keeps)
+  take_places (refuses count event log may id part of stops refused answers_it up answers same)
+      keeps = subst (KeepsPlaces role) (sym same)
+      (places_with role end (with_call log (Refuse id 1) refused) (Passed (ResetEvent id 1 true))
+      ((grows_call log (Refuse id 1) refused).role
+      ∙ take_role end.log log piece (Took count (Some event)) may)
+      (passed_placed (is_server role) end.handed (ResetEvent id 1 true)) keeps)
+  take_places
+      (refusal_fails count event log may id part of stops refused answers_it code down answers same)
+      keeps = subst (KeepsPlaces role) (sym same)
+      (places_with_log role end (with_call log (Refuse id 1) refused)
+      ((grows_call log (Refuse id 1) refused).role
+      ∙ take_role end.log log piece (Took count (Some event)) may) keeps)
+  take_places
+      (runs_out_of_memory count id list ends log may server first readable refused answers_it
+      answers same) keeps = subst (KeepsPlaces role) (sym same)
+      (places_with_log role end (with_call log (Refuse id 2) refused)
+      ((grows_call log (Refuse id 2) refused).role
+      ∙ take_role end.log log piece (Took count (Some (FieldsEvent id list ends))) may) keeps)
 
 -- So it stays so where octets are delivered.
 delivery_places : (role : Role) (calls : ℕ) (end after : EndLog) (octets : List ℕ)
@@ -184,8 +169,7 @@ delivery_places role _ end after _ _ (joints.is_whole calls octets few may) keep
 delivery_places role _ end after _ _
     (joints.goes_on {between = between} calls octets count handed delivery few may more delivered)
     keeps =
-    delivery_places role (suc calls) between after (drop count octets) delivery delivered
-    (take_places role end between octets _ may keeps)
+    delivery_places _ _ between _ _ _ delivered (take_places role end between octets _ may keeps)
 delivery_places role _ end after _ _ (joints.fails calls octets code few may) keeps =
     take_places role end after octets _ may keeps
 delivery_places role _ end _ _ _ (joints.stops calls octets) keeps = keeps
@@ -203,12 +187,10 @@ request_places role end after message (Ok id) (unbroken, fits, may, same) keeps 
       role_is = (grows_call end.log _ _).role ∙ keeps.role_is;
       placed = keeps.placed;
       final = λ server i one is. absurd (no_server role
-          (sym keeps.role_is ∙ (open_answer end.log message.head (is_head_alone message) id may).0)
-          server);
+          (sym keeps.role_is ∙ (open_answer _ _ _ id may).0) server);
     })
 request_places role end after message (Err refusal) may keeps =
-    holds_by_refused_request (KeepsPlaces role) (call_places role) end after message refusal may
-    keeps
+    holds_by_refused_request _ (call_places role) _ _ _ refusal may keeps
 
 -- and a response has a final head.
 final_with : (id : ℕ) (message : SentMessage) (accepted : List (ℕ × SentMessage))
@@ -233,13 +215,11 @@ respond_places role end after id message (Ok done) (asked, none, well, fits, may
     subst (KeepsPlaces role) (sym same) (record {
       role_is = (grows_call end.log _ _).role ∙ keeps.role_is;
       placed = keeps.placed;
-      final = λ server. final_with id message end.accepted
-          (response_final (asks_head_first (parts_on id end.handed)) message well)
+      final = λ server. final_with id message end.accepted (response_final _ _ well)
           (keeps.final server);
     })
 respond_places role end after id message (Err refusal) may keeps =
-    holds_by_refused_response (KeepsPlaces role) (call_places role) end after id message refusal
-    may keeps
+    holds_by_refused_response _ (call_places role) _ _ _ _ refusal may keeps
 
 -- So it stays with each act, at both ends.
 act_places : (role peer : Role) (one other new_one new_other : JointEnd) (doing : Doing)
@@ -275,8 +255,7 @@ act_places role peer one other _ _ _ _ (joints.delivery_fails count code after u
 act_places role peer one other _ _ _ _ (joints.has_failed count code failed) keeps there =
     (keeps, there)
 act_places role peer one other _ _ _ _ (joints.delivery_stops count unused after up delivered)
-    keeps there =
-    (delivery_places role 0 one.happened after _ (Stops unused) delivered keeps, there)
+    keeps there = (delivery_places _ 0 _ after _ (Stops unused) delivered keeps, there)
 act_places role peer one other _ _ _ _ (joints.no_copy_of_a_request message) keeps there =
     (keeps, there)
 act_places role peer one other _ _ _ _ (joints.no_copy_of_a_response id message) keeps there =
@@ -294,8 +273,7 @@ next_places : (client server new_client new_server : JointEnd) (act : Made)
     → KeepsPlaces roles.Client client.happened × KeepsPlaces roles.Server server.happened
     → KeepsPlaces roles.Client new_client.happened × KeepsPlaces roles.Server new_server.happened
 next_places client server new_client new_server _ (joints.at_client doing answer may) both =
-    act_places roles.Client roles.Server client server new_client new_server doing answer may
-    both.0 both.1
+    act_places roles.Client roles.Server _ _ _ new_server doing answer may both.0 both.1
 next_places client server new_client new_server _ (joints.at_server doing answer may) both =
     let after = act_places roles.Server roles.Client server client new_server new_client doing
     answer may both.1 both.0 in (after.1, after.0)
@@ -307,5 +285,4 @@ joint_places client_values server_values _ _ _ (joints.begins client_range serve
     (new_places roles.Client client_values, new_places roles.Server server_values)
 joint_places client_values server_values _ new_client new_server
     (joints.continues {history = made} {client = client} {server = server} is act next) =
-    next_places client server new_client new_server act next
-    (joint_places client_values server_values made client server is)
+    next_places _ _ _ _ act next (joint_places client_values server_values made client server is)

@@ -120,45 +120,41 @@ pub record HappensAt (values : Values) (new : End) (one other : JointEnd) (doing
   pub accepted : after.accepted ≡ one.happened.accepted
   pub handed : after.handed ≡ one.happened.handed
 
-pub acts_on_end : (side : Side) (old new : Joined) (doing : Doing) (answer : Acted)
-    → ChangesEnd side old new
-    → ((values : Values) (one other : JointEnd)
-    → EndRepresents values (end_at side old) one.happened
-    → HappensAt values (end_at side new) one other doing answer)
-    → MakesAct old (made side doing answer) new
-acts_on_end side old new doing answer changes happens =
-    acts_by side old new doing answer changes.other_end
-    (λ values one other represents keeps other_keeps.
-    let does = happens values one other represents in
-    record {
-      new_one = with_happened one does.after;
-      new_other = other;
-      may = does.may;
-      represents = does.represents;
-      kept = keeps_same (kept_of side old) (kept_of side new) one (with_happened one does.after)
-          keeps changes.kept refl does.accepted does.handed refl;
-      happened = refl;
-      other_kept = keeps_same (kept_of (other_side side) old) (kept_of (other_side side) new)
-          other other other_keeps (same_kept (kept_of (other_side side) old)
-          (kept_of (other_side side) new) changes.other_kept) refl refl refl refl;
-    })
+module _ (side : Side) (old new : Joined) (doing : Doing) where
+  pub acts_on_end : (answer : Acted) → ChangesEnd side old new
+      → ((values : Values) (one other : JointEnd) → EndRepresents values (end_at side old)
+      one.happened → HappensAt values (end_at side new) one other doing answer)
+      → MakesAct old (made side doing answer) new
+  acts_on_end answer changes happens = acts_by side old new doing answer changes.other_end
+      (λ values one other represents keeps other_keeps.
+      let does = happens values one other represents in
+      record {
+        new_one = with_happened one does.after;
+        new_other = other;
+        may = does.may;
+        represents = does.represents;
+        kept = keeps_same (kept_of side old) (kept_of side new) one (with_happened one does.after)
+            keeps changes.kept refl does.accepted does.handed refl;
+        happened = refl;
+        other_kept = keeps_same (kept_of (other_side side) old) (kept_of (other_side side) new)
+            other other other_keeps (same_kept (kept_of (other_side side) old)
+            (kept_of (other_side side) new) changes.other_kept) refl refl refl refl;
+      })
 
--- Memory was refused to copy a message, before anything was done.
-pub acts_without_copy : (side : Side) (old new : Joined) (doing : Doing)
-    → ((one other : JointEnd) → MayDo one other doing acted.Memory one other)
-    → end_at side new ≡ end_at side old → ChangesEnd side old new
-    → MakesAct old (made side doing acted.Memory) new
-acts_without_copy side old new doing may same changes =
-    acts_on_end side old new doing acted.Memory changes
-    (λ values one other represents.
-    record {
-      after = one.happened;
-      may = may one other;
-      represents = subst (λ (end : End). EndRepresents values end one.happened) (sym same)
-          represents;
-      accepted = refl;
-      handed = refl;
-    })
+  -- Memory was refused to copy a message, before anything was done.
+  pub acts_without_copy : ((one other : JointEnd) → MayDo one other doing acted.Memory one other)
+      → end_at side new ≡ end_at side old → ChangesEnd side old new
+      → MakesAct old (made side doing acted.Memory) new
+  acts_without_copy may same changes = acts_on_end acted.Memory changes
+      (λ values one other represents.
+      record {
+        after = one.happened;
+        may = may one other;
+        represents = subst (λ (end : End). EndRepresents values end one.happened) (sym same)
+            represents;
+        accepted = refl;
+        handed = refl;
+      })
 
 -- Only this end has changed, and of what is kept of it this is accepted too.
 pub record AcceptsAt (side : Side) (old new : Joined) (one : Accepted) : Type 0 where
@@ -185,22 +181,19 @@ keeps_accepted : (side : Side) (old new : Joined) (accepted : Accepted) (one new
 keeps_accepted side old new accepted one new_one accepts keeps incoming said handed unfinished =
     let before = kept_of side old in
     let after = kept_of side new in
-    let same = keeps_same before (record after { accepted = before.accepted }) one
+    let same = keeps_same _ (record after { accepted = before.accepted }) _
     (record new_one { happened = record new_one.happened { accepted = one.happened.accepted } })
     keeps (record {
       incoming = accepts.incoming;
       accepted = refl;
       handed = accepts.handed;
       unfinished = accepts.unfinished;
-    })
-    incoming refl handed unfinished in
+    }) incoming refl handed unfinished in
     record {
       incoming = same.incoming;
-      accepted = said
-          ∙ ap (λ (all : List (ℕ × SentMessage)). accepted_value accepted ∷ all) keeps.accepted
-          ∙ sym (newest accepted_value before.accepted.items accepted)
-          ∙ ap (λ (items : List Accepted). reverse (each accepted_value items))
-          (sym accepts.accepted);
+      accepted = said ∙ ap (λ (all : List (ℕ × SentMessage)). accepted_value accepted ∷ all)
+          keeps.accepted ∙ sym (newest accepted_value before.accepted.items accepted) ∙ ap
+          (λ (items : List Accepted). reverse (each accepted_value items)) (sym accepts.accepted);
       handed = same.handed;
       unfinished = same.unfinished;
     }
@@ -229,10 +222,9 @@ acts_accepting side old new doing answer accepted accepts says =
       new_other = other;
       may = does.may;
       represents = does.represents;
-      kept = keeps_accepted side old new accepted one (with_happened one does.after) accepts
-          keeps refl does.says does.handed refl;
+      kept = keeps_accepted side old new accepted one (with_happened one does.after) accepts keeps
+          refl does.says does.handed refl;
       happened = refl;
-      other_kept = keeps_same (kept_of (other_side side) old) (kept_of (other_side side) new)
-          other other other_keeps (same_kept (kept_of (other_side side) old)
+      other_kept = keeps_same _ _ other other other_keeps (same_kept (kept_of (other_side side) old)
           (kept_of (other_side side) new) accepts.other_kept) refl refl refl refl;
     })

@@ -52,10 +52,8 @@ pumped_says before (Ok count) after may =
       | inl all ↦ pump_says before count _ after all.0
       | inr all ↦ pump_says before count _ after all.0
     ]
-pumped_says before (Err (refusals.Conn reasons.Closed)) after may =
-    says_itself before after may.1
-pumped_says before (Err (refusals.Conn reasons.Memory)) after may =
-    pump_says before may.1 _ after may.2
+pumped_says before (Err (refusals.Conn reasons.Closed)) after may = says_itself _ _ may.1
+pumped_says before (Err (refusals.Conn reasons.Memory)) after may = pump_says _ may.1 _ _ may.2
 pumped_says before (Err other) after may = absurd may
 
 release_says : (before : EndLog) (refused : Option Refusal) (after : EndLog)
@@ -68,47 +66,41 @@ release_says before refused after (releases_one end id refusal last next typed m
 release_says before refused after (releases_refused end id refusal next typed may) =
     record { accepted = refl; handed = refl }
 
-pub released_says : (before : EndLog) (result : Result (Unit {0}) EndRefusal) (after : EndLog)
-    → MayReleaseAll before result after → SaysNothing before after
-unfolding MayReleaseAll
-released_says before (Ok done) after may = release_says before _ after may.1
-released_says before (Err (refusals.Conn reasons.Closed)) after may =
-    says_itself before after may.1
-released_says before (Err (refusals.Conn reasons.OutputFull)) after may =
-    release_says before _ after may.1
-released_says before (Err (refusals.Conn reasons.Memory)) after may =
-    release_says before _ after may.1
-released_says before (Err other) after may = absurd may
+module _ (before : EndLog) where
+  pub released_says : (result : Result (Unit {0}) EndRefusal) (after : EndLog)
+      → MayReleaseAll before result after → SaysNothing before after
+  unfolding MayReleaseAll
+  released_says (Ok done) after may = release_says before _ after may.1
+  released_says (Err (refusals.Conn reasons.Closed)) after may = says_itself before after may.1
+  released_says (Err (refusals.Conn reasons.OutputFull)) after may =
+      release_says before _ after may.1
+  released_says (Err (refusals.Conn reasons.Memory)) after may = release_says before _ after may.1
+  released_says (Err other) after may = absurd may
 
--- A refused message changes nothing, but that the connection may have refused a call.
-unchanged_says : (before after : EndLog) → IsUnchanged before after → SaysNothing before after
-unfolding IsUnchanged
-unchanged_says before after (inl same) = says_itself before after same
-unchanged_says before after (inr called) =
-    record {
-      accepted = ap (λ (end : EndLog). end.accepted) called.5;
-      handed = ap (λ (end : EndLog). end.handed) called.5;
-    }
+  -- A refused message changes nothing, but that the connection may have refused a call.
+  unchanged_says : (after : EndLog) → IsUnchanged before after → SaysNothing before after
+  unfolding IsUnchanged
+  unchanged_says after (inl same) = says_itself before after same
+  unchanged_says after (inr called) =
+      record {
+        accepted = ap (λ (end : EndLog). end.accepted) called.5;
+        handed = ap (λ (end : EndLog). end.handed) called.5;
+      }
 
-pub request_refused : (before : EndLog) (message : SentMessage) (refusal : EndRefusal)
-    (after : EndLog) → MayRequest before message (Err refusal) after → SaysNothing before after
-unfolding MayRequest
-request_refused before message (refusals.BadMessage rule) after may =
-    says_itself before after may.1
-request_refused before message (refusals.Conn refusal) after may =
-    unchanged_says before after may.2
-request_refused before message other after may = absurd may
+  pub request_refused : (message : SentMessage) (refusal : EndRefusal) (after : EndLog)
+      → MayRequest before message (Err refusal) after → SaysNothing before after
+  unfolding MayRequest
+  request_refused message (refusals.BadMessage rule) after may = says_itself before after may.1
+  request_refused message (refusals.Conn refusal) after may = unchanged_says after may.2
+  request_refused message other after may = absurd may
 
-pub respond_refused : (before : EndLog) (id : ℕ) (message : SentMessage) (refusal : EndRefusal)
-    (after : EndLog) → MayRespond before id message (Err refusal) after
-    → SaysNothing before after
-unfolding MayRespond
-respond_refused before id message refusals.NotAsked after may = says_itself before after may.1
-respond_refused before id message refusals.Answered after may = says_itself before after may.2
-respond_refused before id message (refusals.BadMessage rule) after may =
-    says_itself before after may.3
-respond_refused before id message (refusals.Conn refusal) after may =
-    unchanged_says before after may.4
+  pub respond_refused : (id : ℕ) (message : SentMessage) (refusal : EndRefusal) (after : EndLog)
+      → MayRespond before id message (Err refusal) after → SaysNothing before after
+  unfolding MayRespond
+  respond_refused id message refusals.NotAsked after may = says_itself before after may.1
+  respond_refused id message refusals.Answered after may = says_itself before after may.2
+  respond_refused id message (refusals.BadMessage rule) after may = says_itself before after may.3
+  respond_refused id message (refusals.Conn refusal) after may = unchanged_says after may.4
 
 -- The end has accepted a message.
 pub record SaysMessage (before : EndLog) (id : ℕ) (message : SentMessage) (after : EndLog)
@@ -158,23 +150,18 @@ taken_as before answer is log handed after same now says =
           ∙ ap (λ (one : EndAnswer). handed_after one before.handed) (sym same);
     }
 
-pub taken_says : (before : EndLog) (piece : List ℕ) (answer : EndAnswer) (after : EndLog)
-    → EndMayTake before piece answer after → SaysTaken before answer after
-taken_says before piece answer after (fails code log takes same now) =
-    taken_as before answer _ log _ after same now refl
-taken_says before piece answer after (hands_nothing count log takes same now) =
-    taken_as before answer _ log _ after same now refl
-taken_says before piece answer after (passes count event log takes none same now) =
-    taken_as before answer _ log _ after same now refl
-taken_says before piece answer after (hands_out count event log takes id part is readable same
-    now) =
-    taken_as before answer _ log _ after same now refl
-taken_says before piece answer after (refuses count event log takes id part is broken refused may
-    up same now) =
-    taken_as before answer _ _ _ after same now refl
-taken_says before piece answer after (refusal_fails count event log takes id part is broken
-    refused may code down same now) =
-    taken_as before answer _ _ _ after same now refl
-taken_says before piece answer after (runs_out_of_memory count id list ends log takes role none
-    readable refused may same now) =
-    taken_as before answer _ _ _ after same now refl
+module _ (before : EndLog) (piece : List ℕ) (answer : EndAnswer) (after : EndLog) where
+  pub taken_says : EndMayTake before piece answer after → SaysTaken before answer after
+  taken_says (fails code log takes same now) = taken_as before answer _ log _ after same now refl
+  taken_says (hands_nothing count log takes same now) =
+      taken_as before answer _ log _ after same now refl
+  taken_says (passes count event log takes none same now) =
+      taken_as before answer _ log _ after same now refl
+  taken_says (hands_out count event log takes id part is readable same now) =
+      taken_as before answer _ log _ after same now refl
+  taken_says (refuses count event log takes id part is broken refused may up same now) =
+      taken_as before answer _ _ _ after same now refl
+  taken_says (refusal_fails count event log takes id part is broken
+      refused may code down same now) = taken_as before answer _ _ _ after same now refl
+  taken_says (runs_out_of_memory count id list ends log takes role none
+      readable refused may same now) = taken_as before answer _ _ _ after same now refl

@@ -17,16 +17,14 @@ pub left_after : (pipe : Pipe) (octets : List ℕ) (count used : ℕ) → HoldsO
 left_after pipe octets count used holds small is =
     let sum = length-append holds.delivered octets in
     let all = ap length holds.items in
-    let more : used ≡ length holds.delivered + min count (length octets) =
-    omega (arith, is, sum, all, holds.count, small) in
+    let more : used ≡ length holds.delivered + min count (length octets) = omega
+    (arith, is, sum, all, holds.count, small) in
     rw (
       holds.items,
       more,
-      ← drop-drop (min count (length octets)) (length holds.delivered)
-          (holds.delivered ++ octets),
+      ← drop-drop _ (length holds.delivered) _,
       drop_at holds.delivered octets (length holds.delivered) refl,
-    )
-    (drop_min count octets)
+    ) (drop_min count octets)
 
 -- The octets that were delivered are kept, while they are less than half.
 pub holds_behind : (pipe new : Pipe) (octets : List ℕ) (count used : ℕ)

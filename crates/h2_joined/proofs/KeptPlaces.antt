@@ -22,9 +22,8 @@ pub part_more : {A : Type 0} (items more : List A) (span : Span) → IsSpan (len
     → part_of (items ++ more) span ≡ part_of items span
 part_more items more span is =
     ap (take (span.end - span.start))
-    (drop-append-le span.start items more (omega (arith, is.ordered, is.within)))
-    ∙ take-append-le (span.end - span.start) (drop span.start items) more
-    (omega (arith, length-drop span.start items, is.within))
+    (drop-append-le span.start items more (omega (arith, is.ordered, is.within))) ∙ take-append-le _
+    _ more (omega (arith, length-drop span.start items, is.within))
 
 -- So does a field,
 field_more : (octets more : List ℕ) (place : FieldPlace) → IsFieldPlace (length octets) place
@@ -35,8 +34,7 @@ field_more octets more place is =
       name = name;
       value = value;
       sensitive = place.sensitive;
-    })
-    (part_more octets more place.name is.name) (part_more octets more place.value is.value)
+    }) (part_more _ _ place.name is.name) (part_more octets more place.value is.value)
 
 pub fields_more : (octets more : List ℕ) (fields : List FieldPlace)
     → AllByRecursion (IsFieldPlace (length octets)) fields
@@ -59,47 +57,44 @@ all_dropped P zero items all = all
 all_dropped P (suc n) [] all = tt
 all_dropped P (suc n) (item ∷ items) all = all_dropped P n items all.1
 
--- The fields of a span stay,
-listed : (octets more : List ℕ) (fields others : List FieldPlace) (list : Span)
-    → AllByRecursion (IsFieldPlace (length octets)) fields → IsSpan (length fields) list
-    → stored_fields (octets ++ more) (part_of (fields ++ others) list)
-    ≡ stored_fields octets (part_of fields list)
-listed octets more fields others list all is =
-    ap (λ (l : List FieldPlace). stored_fields (octets ++ more) l) (part_more fields others list is)
-    ∙ fields_more octets more (part_of fields list)
-    (all_taken (IsFieldPlace (length octets)) (list.end - list.start) (drop list.start fields)
-    (all_dropped (IsFieldPlace (length octets)) list.start fields all))
+module _ (octets more : List ℕ) (fields others : List FieldPlace) where
+  -- The fields of a span stay,
+  listed : (list : Span) → AllByRecursion (IsFieldPlace (length octets)) fields
+      → IsSpan (length fields) list
+      → stored_fields (octets ++ more) (part_of (fields ++ others) list) ≡ stored_fields octets
+      (part_of fields list)
+  listed list all is = ap (λ (l : List FieldPlace). stored_fields (octets ++ more) l)
+      (part_more fields others list is) ∙ fields_more octets more (part_of fields list)
+      (all_taken (IsFieldPlace (length octets)) (list.end - list.start) (drop list.start fields)
+      (all_dropped (IsFieldPlace (length octets)) list.start fields all))
 
--- and an event,
-event_more : (octets more : List ℕ) (fields others : List FieldPlace) (place : EventPlace)
-    → AllByRecursion (IsFieldPlace (length octets)) fields
-    → IsEventPlace (length octets) (length fields) place
-    → event_kept (octets ++ more) (fields ++ others) place ≡ event_kept octets fields place
-unfolding event_kept IsEventPlace
-event_more octets more fields others (places.Interim id list) all is =
-    ap (λ (l : List Field). InterimHanded id l) (listed octets more fields others list all is)
-event_more octets more fields others (places.Head id list end) all is =
-    ap (λ (l : List Field). HeadHanded id l end) (listed octets more fields others list all is)
-event_more octets more fields others (places.Body id part end) all is =
-    ap (λ (o : List ℕ). BodyHanded id o end) (part_more octets more part is)
-event_more octets more fields others (places.Trailers id list) all is =
-    ap (λ (l : List Field). TrailersHanded id l) (listed octets more fields others list all is)
-event_more octets more fields others (places.Reset id code ours) all is = refl
-event_more octets more fields others (places.Unprocessed id) all is = refl
-event_more octets more fields others (places.GoAway last code) all is = refl
-event_more octets more fields others places.Acked all is = refl
-event_more octets more fields others (places.Pong pong) all is = refl
+  -- and an event,
+  event_more : (place : EventPlace) → AllByRecursion (IsFieldPlace (length octets)) fields
+      → IsEventPlace (length octets) (length fields) place
+      → event_kept (octets ++ more) (fields ++ others) place ≡ event_kept octets fields place
+  unfolding event_kept IsEventPlace
+  event_more (places.Interim id list) all is =
+      ap (λ (l : List Field). InterimHanded id l) (listed list all is)
+  event_more (places.Head id list end) all is =
+      ap (λ (l : List Field). HeadHanded id l end) (listed list all is)
+  event_more (places.Body id part end) all is =
+      ap (λ (o : List ℕ). BodyHanded id o end) (part_more octets more part is)
+  event_more (places.Trailers id list) all is =
+      ap (λ (l : List Field). TrailersHanded id l) (listed list all is)
+  event_more (places.Reset id code ours) all is = refl
+  event_more (places.Unprocessed id) all is = refl
+  event_more (places.GoAway last code) all is = refl
+  event_more places.Acked all is = refl
+  event_more (places.Pong pong) all is = refl
 
-pub events_more : (octets more : List ℕ) (fields others : List FieldPlace)
-    (events : List EventPlace) → AllByRecursion (IsFieldPlace (length octets)) fields
-    → AllByRecursion (IsEventPlace (length octets) (length fields)) events
-    → map (event_kept (octets ++ more) (fields ++ others)) events
-    ≡ map (event_kept octets fields) events
-events_more octets more fields others [] all are = refl
-events_more octets more fields others (place ∷ events) all are =
-    ap₂ (λ (h : Handed) (hs : List Handed). h ∷ hs)
-    (event_more octets more fields others place all are.0)
-    (events_more octets more fields others events all are.1)
+  pub events_more : (events : List EventPlace)
+      → AllByRecursion (IsFieldPlace (length octets)) fields
+      → AllByRecursion (IsEventPlace (length octets) (length fields)) events
+      → map (event_kept (octets ++ more) (fields ++ others)) events ≡ map (event_kept octets fields)
+      events
+  events_more [] all are = refl
+  events_more (place ∷ events) all are = ap₂ (λ (h : Handed) (hs : List Handed). h ∷ hs)
+      (event_more place all are.0) (events_more events all are.1)
 
 -- What lies among so many lies among more.
 span_within : (count more : ℕ) (span : Span) → count ≤ more → IsSpan count span → IsSpan more span
@@ -117,28 +112,25 @@ fields_within count more (place ∷ fields) less all = (
   fields_within count more fields less all.1,
 )
 
-event_within : (octets more fields others : ℕ) (place : EventPlace) → octets ≤ more
-    → fields ≤ others → IsEventPlace octets fields place → IsEventPlace more others place
-unfolding IsEventPlace
-event_within octets more fields others (places.Interim id list) less fewer is =
-    span_within fields others list fewer is
-event_within octets more fields others (places.Head id list end) less fewer is =
-    span_within fields others list fewer is
-event_within octets more fields others (places.Body id part end) less fewer is =
-    span_within octets more part less is
-event_within octets more fields others (places.Trailers id list) less fewer is =
-    span_within fields others list fewer is
-event_within octets more fields others (places.Reset id code ours) less fewer is = tt
-event_within octets more fields others (places.Unprocessed id) less fewer is = tt
-event_within octets more fields others (places.GoAway last code) less fewer is = tt
-event_within octets more fields others places.Acked less fewer is = tt
-event_within octets more fields others (places.Pong pong) less fewer is = tt
+module _ (octets more fields others : ℕ) where
+  event_within : (place : EventPlace) → octets ≤ more → fields ≤ others
+      → IsEventPlace octets fields place → IsEventPlace more others place
+  unfolding IsEventPlace
+  event_within (places.Interim id list) less fewer is = span_within fields others list fewer is
+  event_within (places.Head id list end) less fewer is = span_within fields others list fewer is
+  event_within (places.Body id part end) less fewer is = span_within octets more part less is
+  event_within (places.Trailers id list) less fewer is = span_within fields others list fewer is
+  event_within (places.Reset id code ours) less fewer is = tt
+  event_within (places.Unprocessed id) less fewer is = tt
+  event_within (places.GoAway last code) less fewer is = tt
+  event_within places.Acked less fewer is = tt
+  event_within (places.Pong pong) less fewer is = tt
 
-pub events_within : (octets more fields others : ℕ) (events : List EventPlace) → octets ≤ more
-    → fields ≤ others → AllByRecursion (IsEventPlace octets fields) events
-    → AllByRecursion (IsEventPlace more others) events
-events_within octets more fields others [] less fewer all = tt
-events_within octets more fields others (place ∷ events) less fewer all = (
-  event_within octets more fields others place less fewer all.0,
-  events_within octets more fields others events less fewer all.1,
-)
+  pub events_within : (events : List EventPlace) → octets ≤ more → fields ≤ others
+      → AllByRecursion (IsEventPlace octets fields) events
+      → AllByRecursion (IsEventPlace more others) events
+  events_within [] less fewer all = tt
+  events_within (place ∷ events) less fewer all = (
+    event_within place less fewer all.0,
+    events_within events less fewer all.1,
+  )

@@ -57,12 +57,11 @@ part_kept_first : {A : Type 0} (before more others : List A) (span : Span)
     → span.start ≡ length before → span.end ≡ length (before ++ more)
     → part_of (before ++ (more ++ others)) span ≡ more
 part_kept_first before more others span starts ends =
-    let count : span.end - span.start ≡ length more =
-    omega (arith, starts, ends, length-append before more) in
+    let count : span.end - span.start ≡ length more = omega
+    (arith, starts, ends, length-append before more) in
     ap₂ (λ (n : ℕ) (items : List _). take n items) count
     (ap (λ (n : ℕ). drop n (before ++ (more ++ others))) starts
-    ∙ drop-append_seam before (more ++ others))
-    ∙ take-append_seam more others
+    ∙ drop-append_seam before (more ++ others)) ∙ take-append_seam _ _
 
 -- A field is kept by its name and its value.
 pub field_kept : (old one two new : Store) (name value : Span) (names values : List ℕ)
@@ -83,16 +82,15 @@ field_kept old one two new name value names values sensitive first second same_e
           omega (arith, fields, grows);
       kept = λ room place.
           let (names_are, name_start, name_end) = first.kept (omega (arith, room)) in
-          let counted : vec_len one.octets ≡ vec_len old.octets + length names =
-          one.octets.ok.0 ∙ ap length names_are
-          ∙ omega (arith, length-append old.octets.items names, old.octets.ok.0) in
-          let (values_are, value_start, value_end) =
-          second.kept (omega (arith, room, counted, first.capacity)) in
-          let all : two.octets.items ≡ old.octets.items ++ (names ++ values) =
-          values_are ∙ ap (λ (o : List ℕ). o ++ values) names_are
-          ∙ append_assoc old.octets.items names values in
-          let items : new.octets.items ≡ old.octets.items ++ (names ++ values) =
-          ap (λ v. v.items) same_octets ∙ all in
+          let counted : vec_len one.octets ≡ vec_len old.octets + length names = one.octets.ok.0 ∙
+          ap length names_are ∙ omega (arith, length-append old.octets.items names, old.octets.ok.0)
+          in
+          let (values_are, value_start, value_end) = second.kept
+          (omega (arith, room, counted, first.capacity)) in
+          let all : two.octets.items ≡ old.octets.items ++ (names ++ values) = values_are ∙ ap
+          (λ (o : List ℕ). o ++ values) names_are ∙ append_assoc _ _ values in
+          let items : new.octets.items ≡ old.octets.items ++ (names ++ values) = ap (λ v. v.items)
+          same_octets ∙ all in
           let fields = second.fields ∙ first.fields in
           let lengths = length-append old.octets.items (names ++ values) in
           let halves = length-append names values in
@@ -102,23 +100,19 @@ field_kept old one two new name value names values sensitive first second same_e
           record {
             place = record { name = name; value = value; sensitive = sensitive };
             octets = items;
-            fields = pushes (rw fields (omega (arith, place)))
-                ∙ ap (λ v. v.items ++ record {
-                  name = name;
-                  value = value;
-                  sensitive = sensitive;
-                } ∷ []) fields;
+            fields = pushes (rw fields (omega (arith, place))) ∙ ap (λ v. v.items ++ record {
+              name = name;
+              value = value;
+              sensitive = sensitive;
+            } ∷ []) fields;
             same = rw items (ap₂ (λ (n v : List ℕ). record {
               name = n;
               value = v;
               sensitive = sensitive;
-            })
-                (part_kept_first old.octets.items names values name name_start
-                (name_end ∙ ap length names_are))
-                (ap (λ (o : List ℕ). part_of o value)
-                (sym (append_assoc old.octets.items names values))
-                ∙ part_kept (old.octets.items ++ names) values value
-                (value_start ∙ ap length names_are)
+            }) (part_kept_first old.octets.items names values name name_start
+                (name_end ∙ ap length names_are)) (ap (λ (o : List ℕ). part_of o value)
+                (sym (append_assoc old.octets.items names values)) ∙ part_kept
+                (old.octets.items ++ names) values value (value_start ∙ ap length names_are)
                 (value_end ∙ ap length (values_are ∙ ap (λ (o : List ℕ). o ++ values) names_are))));
             within = record {
               name = record {
@@ -145,33 +139,28 @@ placed_kept old mid new handed place placed octets fields events stored =
     let more_fields = length-append old.fields.items placed.fields in
     let count = ap length octets_are in
     let fields_count = ap length fields_are in
-    let less : length old.octets.items ≤ length new.octets.items =
-    omega (arith, more_octets, count) in
-    let fewer : length old.fields.items ≤ length new.fields.items =
-    omega (arith, more_fields, fields_count) in
-    let kept : map (event_kept new.octets.items new.fields.items) old.events.items
-    ≡ events_kept old =
-    rw (octets_are, fields_are) (events_more old.octets.items placed.octets old.fields.items
-    placed.fields old.events.items stored.fields stored.events) in
-    let one : event_kept new.octets.items new.fields.items place ≡ handed =
-    rw (octets, fields) placed.same in
+    let less : length old.octets.items ≤ length new.octets.items = omega (arith, more_octets, count)
+    in
+    let fewer : length old.fields.items ≤ length new.fields.items = omega
+    (arith, more_fields, fields_count) in
+    let kept : map (event_kept new.octets.items new.fields.items) old.events.items ≡ events_kept old
+    = rw (octets_are, fields_are) (events_more _ placed.octets _
+    placed.fields _ stored.fields stored.events) in
+    let one : event_kept new.octets.items new.fields.items place ≡ handed = rw (octets, fields)
+    placed.same in
     record {
       more = ap (λ (e : List EventPlace). map
-          (event_kept new.octets.items new.fields.items) e) events
-          ∙ map-append (event_kept new.octets.items new.fields.items) old.events.items (place ∷ [])
+          (event_kept new.octets.items new.fields.items) e) events ∙ map-append _ _ _
           ∙ ap₂ (λ (before : List Handed) (last : Handed). before ++ last ∷ []) kept one;
       stored = record {
         fields = subst (λ (f : List FieldPlace).
             AllByRecursion (IsFieldPlace (length new.octets.items)) f) (sym fields_are)
-            (all_joined (IsFieldPlace (length new.octets.items)) old.fields.items placed.fields
-            (fields_within _ _ old.fields.items less stored.fields)
+            (all_joined _ _ placed.fields (fields_within _ _ old.fields.items less stored.fields)
             (subst (λ (o : List ℕ). AllByRecursion (IsFieldPlace (length o)) placed.fields)
             (sym octets) placed.fields_within));
         events = subst (λ (e : List EventPlace). AllByRecursion
             (IsEventPlace (length new.octets.items) (length new.fields.items)) e) (sym events)
-            (all_joined (IsEventPlace (length new.octets.items) (length new.fields.items))
-            old.events.items (place ∷ [])
-            (events_within _ _ _ _ old.events.items less fewer stored.events)
+            (all_joined _ _ _ (events_within _ _ _ _ old.events.items less fewer stored.events)
             (rw (octets, fields) placed.within, tt));
       };
     }
@@ -245,8 +234,8 @@ list_goes_on old now new list count field left taken sofar keeps =
           let text = field.name ++ field.value in
           let halves = length-append field.name field.value in
           let octets_count = ap length one.octets ∙ length-append now.octets.items text in
-          let fields_count =
-          ap length one.fields ∙ length-append now.fields.items (one.place ∷ []) in
+          let fields_count = ap length one.fields ∙ length-append now.fields.items (one.place ∷ [])
+          in
           let less : length now.octets.items ≤ length new.octets.items = omega (arith, octets_count)
           in
           record {
@@ -255,18 +244,15 @@ list_goes_on old now new list count field left taken sofar keeps =
               places = before.places ++ one.place ∷ [];
               octets_are = one.octets ∙ ap (λ (o : List ℕ). o ++ text) before.octets_are
                   ∙ append_assoc old.octets.items before.octets text;
-              fields_are = one.fields
-                  ∙ ap (λ (f : List FieldPlace). f ++ one.place ∷ []) before.fields_are
-                  ∙ append_assoc old.fields.items before.places (one.place ∷ []);
-              same = map-append (stored_field new.octets.items) before.places (one.place ∷ [])
-                  ∙ ap₂ (λ (fs : List Field) (f : Field). fs ++ f ∷ [])
+              fields_are = one.fields ∙ ap (λ (f : List FieldPlace). f ++ one.place ∷ [])
+                  before.fields_are ∙ append_assoc old.fields.items before.places (one.place ∷ []);
+              same = map-append (stored_field new.octets.items) before.places (one.place ∷ []) ∙ ap₂
+                  (λ (fs : List Field) (f : Field). fs ++ f ∷ [])
                   (ap (λ (o : List ℕ). stored_fields o before.places) one.octets
                   ∙ fields_more now.octets.items text before.places before.within ∙ before.same)
-                  one.same
-                  ∙ sym taken;
-              within = all_joined (IsFieldPlace (length new.octets.items)) before.places
-                  (one.place ∷ []) (fields_within _ _ before.places less before.within)
-                  (one.within, tt);
+                  one.same ∙ sym taken;
+              within = all_joined _ _ (one.place ∷ [])
+                  (fields_within _ _ before.places less before.within) (one.within, tt);
             };
             octets_room = omega (
               arith,
@@ -295,48 +281,45 @@ record ListPlaced (list : List Field) (span : Span) (new : Store) : Type 0 where
   same : stored_fields new.octets.items (part_of new.fields.items span) ≡ list
   within : IsSpan (length new.fields.items) span
 
-list_placed : (old new : Store) (list : List Field) (span : Span) → KeepsList old list span new
-    → AreFieldsKept old list new → ListPlaced list span new
-list_placed old new list span keeps kept =
-    let count = ap length kept.fields_are ∙ length-append old.fields.items kept.places in
-    record {
-      same = ap (λ (f : List FieldPlace). stored_fields new.octets.items (part_of f span))
-          kept.fields_are
-          ∙ ap (λ (f : List FieldPlace). stored_fields new.octets.items f)
-          (part_kept old.fields.items kept.places span keeps.start
-          (keeps.end ∙ ap length kept.fields_are))
-          ∙ kept.same;
-      within = record {
-        ordered = omega (arith, keeps.start, keeps.end, count);
-        within = omega (arith, keeps.end);
-      };
-    }
+module _ (old new : Store) (list : List Field) (span : Span) where
+  list_placed : KeepsList old list span new → AreFieldsKept old list new → ListPlaced list span new
+  list_placed keeps kept =
+      let count = ap length kept.fields_are ∙ length-append old.fields.items kept.places in
+      record {
+        same = ap (λ (f : List FieldPlace). stored_fields new.octets.items (part_of f span))
+            kept.fields_are ∙ ap (λ (f : List FieldPlace). stored_fields new.octets.items f)
+            (part_kept old.fields.items kept.places span keeps.start
+            (keeps.end ∙ ap length kept.fields_are)) ∙ kept.same;
+        within = record {
+          ordered = omega (arith, keeps.start, keeps.end, count);
+          within = omega (arith, keeps.end);
+        };
+      }
 
--- So an event with a list has its place,
-pub list_event : (old new : Store) (list : List Field) (span : Span) (handed : Handed)
-    (place : EventPlace) → KeepsList old list span new
-    → (Fits handed → list_size list ≤ most_event_octets)
-    → (stored_fields new.octets.items (part_of new.fields.items span) ≡ list
-    → event_kept new.octets.items new.fields.items place ≡ handed)
-    → (IsSpan (length new.fields.items) span
-    → IsEventPlace (length new.octets.items) (length new.fields.items) place)
-    → PlacesEvent old handed place new
-list_event old new list span handed place keeps small same within =
-    record {
-      events = keeps.events;
-      placed = λ room fit.
-          let kept = keeps.kept room (small fit) in
-          let placed = list_placed old new list span keeps kept in
-          record {
-            octets = kept.octets;
-            fields = kept.places;
-            octets_are = kept.octets_are;
-            fields_are = kept.fields_are;
-            same = same placed.same;
-            fields_within = kept.within;
-            within = within placed.within;
-          };
-    }
+  -- So an event with a list has its place,
+  pub list_event : (handed : Handed) (place : EventPlace) → KeepsList old list span new
+      → (Fits handed → list_size list ≤ most_event_octets)
+      → (stored_fields new.octets.items (part_of new.fields.items span) ≡ list → event_kept
+      new.octets.items new.fields.items place ≡ handed)
+      → (IsSpan (length new.fields.items) span → IsEventPlace (length new.octets.items)
+      (length new.fields.items) place)
+      → PlacesEvent old handed place new
+  list_event handed place keeps small same within =
+      record {
+        events = keeps.events;
+        placed = λ room fit.
+            let kept = keeps.kept room (small fit) in
+            let placed = list_placed keeps kept in
+            record {
+              octets = kept.octets;
+              fields = kept.places;
+              octets_are = kept.octets_are;
+              fields_are = kept.fields_are;
+              same = same placed.same;
+              fields_within = kept.within;
+              within = within placed.within;
+            };
+      }
 
 -- one with a body,
 pub body_event : (old new : Store) (octets : List ℕ) (span : Span) (id : ℕ) (end : Bool)
@@ -354,9 +337,8 @@ body_event old new octets span id end keeps =
             fields = [];
             octets_are = are;
             fields_are = ap (λ v. v.items) keeps.fields ∙ sym (append-nil old.fields.items);
-            same = ap (λ (o : List ℕ). BodyHanded id o end)
-                (ap (λ (o : List ℕ). part_of o span) are
-                ∙ part_kept old.octets.items octets span starts (ends ∙ ap length are));
+            same = ap (λ (o : List ℕ). BodyHanded id o end) (ap (λ (o : List ℕ). part_of o span) are
+                ∙ part_kept _ _ span starts (ends ∙ ap length are));
             fields_within = tt;
             within = record {
               ordered = omega (arith, starts, ends, count);

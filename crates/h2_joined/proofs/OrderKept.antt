@@ -1,10 +1,9 @@
 -- What was sent and handed out at two joined ends keeps the order, whatever acts are made.
-use Rattle.h2_joined.proofs.Names.{Result, Ok, Err, sym, subst, Role, Values, Act, Open, SendFields}
-use Rattle.h2_joined.proofs.Names.{ResetStream, SendPing, SendGoAway, ChangeSettings, PutOut}
-use Rattle.h2_joined.proofs.Names.{Number, Done, IsLog, opened_is_new, SentMessage, is_head_alone}
-use Rattle.h2_joined.proofs.Names.{EndRefusal, EndLog, EndTook, EndFailed, KeepsOrder, no_part_next}
-use Rattle.h2_joined.proofs.Names.{Acted, Doing, JointEnd, Delivery, IsDelivered, MayDo}
-use Rattle.h2_joined.proofs.Names.{IsControlCall}
+use Rattle.h2_joined.proofs.Names.{Result, Ok, Err, sym, subst, Role, Values, Act, ResetStream}
+use Rattle.h2_joined.proofs.Names.{SendPing, SendGoAway, ChangeSettings, PutOut, Done, IsLog}
+use Rattle.h2_joined.proofs.Names.{opened_is_new, SentMessage, is_head_alone, EndRefusal, EndLog}
+use Rattle.h2_joined.proofs.Names.{EndTook, EndFailed, KeepsOrder, no_part_next, Acted, Doing}
+use Rattle.h2_joined.proofs.Names.{JointEnd, Delivery, IsDelivered, MayDo, IsControlCall}
 use Rattle.h2_ends.specs.EndCalls.{MayRequest, MayRespond}
 use Rattle.std.proofs.Common.{ℕ, List}
 use Rattle.h2_ends.proofs.EndOrder.{order_by_call, order_by_head, order_by_take, unsaid_unsent}
@@ -26,10 +25,9 @@ order_requested : (role : Role) (values : Values) (before after : EndLog) (messa
 unfolding MayRequest
 order_requested role values before after message (Ok id) log is (unbroken, fits, may, same) =
     let alone = is_head_alone message in
-    let new = opened_is_new role values before.log message.head alone id log may in
-    subst KeepsOrder (sym same) (order_by_head before (Open message.head alone) (Number id) id
-    message is may (unused_unsent role values before.log id log new.2)
-    (λ i other. open_elsewhere i id message other) (open_here id message))
+    let new = opened_is_new _ _ _ _ _ _ log may in
+    subst KeepsOrder (sym same) (order_by_head _ _ _ _ _ is may (unused_unsent _ _ _ _ log new.2)
+    (λ i other. open_elsewhere i id message other) (open_here _ _))
 order_requested role values before after message (Err refusal) log is may =
     holds_by_refused_request KeepsOrder order_called before after message refusal may is
 
@@ -39,8 +37,7 @@ order_responded : (before after : EndLog) (id : ℕ) (message : SentMessage)
     → MayRespond before id message result after → KeepsOrder after
 unfolding MayRespond
 order_responded before after id message (Ok done) is (asked, none, unbroken, fits, may, same) =
-    subst KeepsOrder (sym same) (order_by_head before
-    (SendFields id message.head (is_head_alone message)) Done id message is may
+    subst KeepsOrder (sym same) (order_by_head _ _ Done _ message is may
     (unsaid_unsent before id (is.sends id) none)
     (λ i other. fields_elsewhere i id message other) (fields_here id message))
 order_responded before after id message (Err refusal) is may =
@@ -85,11 +82,9 @@ act_keeps_order role values one other _ _ _ _ log is (joints.pumps result after 
 act_keeps_order role values one other _ _ _ _ log is (joints.releases_all result after may) =
     holds_by_release KeepsOrder order_called one.happened after result may is
 act_keeps_order role values one other _ _ _ _ log is (joints.calls act answer call typed may) =
-    order_by_call one.happened act answer is may
-    (no_part_next one.happened act answer (no_part_of_act act call))
+    order_by_call _ act _ is may (no_part_next one.happened act answer (no_part_of_act act call))
 act_keeps_order role values one other _ _ _ _ log is (joints.moves count answer typed may) =
-    order_by_call one.happened (PutOut count) answer is may
-    (no_part_next one.happened (PutOut count) answer tt)
+    order_by_call _ (PutOut count) _ is may (no_part_next one.happened (PutOut count) answer tt)
 act_keeps_order role values one other _ _ _ _ log is (joints.delivers count after up delivered) =
     order_delivered 0 one.happened _ _ after is delivered
 act_keeps_order role values one other _ _ _ _ log is

@@ -58,46 +58,42 @@ makes_one acts act answer first old new makes does memory client_values server_v
     let more = one_more client_values server_values before acts act answer old new so_far.0 does in
     (more.0, rw more.1 (memory, so_far.1))
 
--- The next act of a list, by its place.
-next_taken : (acts : List JointAct) (place : ℕ) (act : JointAct) → place < length acts
-    → act ≡ get_or acts place act → take (place + 1) acts ≡ take place acts ++ act ∷ []
-next_taken acts place act within is =
-    rw add-one (take-suc acts place act within
-    ∙ ap (λ (item : JointAct). take place acts ++ item ∷ []) (sym is))
+module _ (acts : List JointAct) (place : ℕ) (act : JointAct) where
+  -- The next act of a list, by its place.
+  next_taken : place < length acts → act ≡ get_or acts place act
+      → take (place + 1) acts ≡ take place acts ++ act ∷ []
+  next_taken within is = rw add-one (take-suc acts place act within
+      ∙ ap (λ (item : JointAct). take place acts ++ item ∷ []) (sym is))
 
-pub makes_next : (acts : List JointAct) (place : ℕ) (act : JointAct) (answer : Acted)
-    (first old new : Joined) → place < length acts → act ≡ get_or acts place act
-    → MakesAll first (take place acts) old → MakesAct old (made_of act answer) new
-    → GotMemory answer → MakesAll first (take (place + 1) acts) new
-makes_next acts place act answer first old new within is makes does memory =
-    subst (λ (so_far : List JointAct). MakesAll first so_far new)
-    (sym (next_taken acts place act within is))
-    (makes_one (take place acts) act answer first old new makes does memory)
+  pub makes_next : (answer : Acted) (first old new : Joined) → place < length acts
+      → act ≡ get_or acts place act → MakesAll first (take place acts) old
+      → MakesAct old (made_of act answer) new → GotMemory answer
+      → MakesAll first (take (place + 1) acts) new
+  makes_next answer first old new within is makes does memory =
+      subst (λ (so_far : List JointAct). MakesAll first so_far new) (sym (next_taken within is))
+      (makes_one (take place acts) act answer first old new makes does memory)
 
--- It is the last one, where it hasn't got its memory.
-pub stops_there : (acts : List JointAct) (place : ℕ) (act : JointAct) (answer : Acted)
-    (first old new : Joined) → place < length acts → act ≡ get_or acts place act
-    → MakesAll first (take place acts) old → MakesAct old (made_of act answer) new
-    → (GotMemory answer → ⊥) → StopsAtAct first acts new
-stops_there acts place act answer first old new within is makes does lacks = (
-  take place acts ++ act ∷ [],
-  drop (place + 1) acts,
-  sym (take-append-drop (place + 1) acts)
-      ∙ ap (λ (so_far : List JointAct). so_far ++ drop (place + 1) acts)
-      (next_taken acts place act within is),
-  λ client_values server_values before client server both.
-      let so_far = makes client_values server_values before client server both in
-      let more = one_more client_values server_values before (take place acts) act answer old new
-      so_far.0 does in
-      (more.0, made_of act answer, so_far.0.news, more.1, lacks, so_far.1),
-)
+  -- It is the last one, where it hasn't got its memory.
+  pub stops_there : (answer : Acted) (first old new : Joined) → place < length acts
+      → act ≡ get_or acts place act → MakesAll first (take place acts) old
+      → MakesAct old (made_of act answer) new → (GotMemory answer → ⊥) → StopsAtAct first acts new
+  stops_there answer first old new within is makes does lacks = (
+    take place acts ++ act ∷ [],
+    drop (place + 1) acts,
+    sym (take-append-drop (place + 1) acts)
+        ∙ ap (λ (so_far : List JointAct). so_far ++ drop (place + 1) acts) (next_taken within is),
+    λ client_values server_values before client server both.
+        let so_far = makes client_values server_values before client server both in
+        let more = one_more client_values server_values before (take place acts) act answer old new
+        so_far.0 does in
+        (more.0, made_of act answer, so_far.0.news, more.1, lacks, so_far.1),
+  )
 
 -- All were made.
 pub makes_all : (acts : List JointAct) (place : ℕ) (first joined : Joined) → length acts ≤ place
     → MakesAll first (take place acts) joined → MakesAll first acts joined
 makes_all acts place first joined over makes =
-    subst (λ (so_far : List JointAct). MakesAll first so_far joined) (take_all place acts over)
-    makes
+    subst (λ (so_far : List JointAct). MakesAll first so_far joined) (take_all _ _ over) makes
 
 -- The headline holds then of two ends that were new.
 pub runs_all : (client_values server_values : Values) (acts : List JointAct) (first joined : Joined)
@@ -117,6 +113,5 @@ runs_all client_values server_values acts first joined client server is makes =
         acts_are = all.0.acts_are;
         memory = all.1;
       };
-      headline = has_headline client_values server_values joined all.0.news all.0.client
-          all.0.server represents;
+      headline = has_headline _ _ _ _ _ all.0.server represents;
     }

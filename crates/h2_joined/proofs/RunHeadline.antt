@@ -26,48 +26,45 @@ prefix_of_same : (one two whole other : List MessageToken) → one ≡ two
 prefix_of_same one two whole other is (more, all) same =
     (more, sym same ∙ all ∙ ap (λ (parts : List MessageToken). parts ++ more) (sym is))
 
-pub in_order : (client_values server_values : Values) (joined : Joined) (made : List Made)
-    (client server : JointEnd)
-    → JoinedRepresents client_values server_values joined made client server → AreInOrder joined
-in_order client_values server_values joined made client server is = record {
-  at_server_in_order = λ i.
-      prefix_of_same (parts_recorded joined.at_server i) (parts_heard i server.happened.handed)
-      (parts_said (message_for i client.happened.accepted)) (parts_accepted joined.at_client i)
-      (handed_same joined.at_server server.happened i is.server_kept.handed)
-      (parts_begin_at_server client_values server_values made client server i is.joint)
-      (accepted_same joined.at_client client i is.client_kept);
-  at_client_in_order = λ i.
-      prefix_of_same (parts_recorded joined.at_client i) (parts_heard i client.happened.handed)
-      (parts_said (message_for i server.happened.accepted)) (parts_accepted joined.at_server i)
-      (handed_same joined.at_client client.happened i is.client_kept.handed)
-      (parts_begin_at_client client_values server_values made client server i is.joint)
-      (accepted_same joined.at_server server i is.server_kept);
-}
+module _ (client_values server_values : Values) (joined : Joined) (made : List Made)
+    (client server : JointEnd) where
+  pub in_order : JoinedRepresents client_values server_values joined made client server
+      → AreInOrder joined
+  in_order is = record {
+    at_server_in_order = λ i.
+        prefix_of_same (parts_recorded joined.at_server i) (parts_heard i server.happened.handed)
+        (parts_said (message_for i client.happened.accepted)) (parts_accepted joined.at_client i)
+        (handed_same joined.at_server server.happened i is.server_kept.handed)
+        (parts_begin_at_server client_values server_values made client server i is.joint)
+        (accepted_same joined.at_client client i is.client_kept);
+    at_client_in_order = λ i.
+        prefix_of_same (parts_recorded joined.at_client i) (parts_heard i client.happened.handed)
+        (parts_said (message_for i server.happened.accepted)) (parts_accepted joined.at_server i)
+        (handed_same joined.at_client client.happened i is.client_kept.handed)
+        (parts_begin_at_client client_values server_values made client server i is.joint)
+        (accepted_same joined.at_server server i is.server_kept);
+  }
 
-pub are_whole : (client_values server_values : Values) (joined : Joined) (made : List Made)
-    (client server : JointEnd)
-    → JoinedRepresents client_values server_values joined made client server
-    → AreQuiet client server → AreWhole joined made client
-are_whole client_values server_values joined made client server is quiet = record {
-  at_server_whole = λ i not_reset.
-      handed_same joined.at_server server.happened i is.server_kept.handed
-      ∙ (parts_whole_at_server client_values server_values made client server i is.joint quiet
-      not_reset ∙ accepted_same joined.at_client client i is.client_kept);
-  at_client_whole = λ i not_reset.
-      handed_same joined.at_client client.happened i is.client_kept.handed
-      ∙ (parts_whole_at_client client_values server_values made client server i is.joint quiet
-      not_reset ∙ accepted_same joined.at_server server i is.server_kept);
-}
+  pub are_whole : JoinedRepresents client_values server_values joined made client server
+      → AreQuiet client server → AreWhole joined made client
+  are_whole is quiet = record {
+    at_server_whole = λ i not_reset.
+        handed_same joined.at_server server.happened i is.server_kept.handed
+        ∙ (parts_whole_at_server client_values server_values made client server i is.joint quiet
+        not_reset ∙ accepted_same joined.at_client client i is.client_kept);
+    at_client_whole = λ i not_reset.
+        handed_same joined.at_client client.happened i is.client_kept.handed
+        ∙ (parts_whole_at_client client_values server_values made client server i is.joint quiet
+        not_reset ∙ accepted_same joined.at_server server i is.server_kept);
+  }
 
--- The headline holds of every two joined ends.
-pub has_headline : (client_values server_values : Values) (joined : Joined) (made : List Made)
-    (client server : JointEnd)
-    → JoinedRepresents client_values server_values joined made client server
-    → HasHeadline joined made client server
-has_headline client_values server_values joined made client server is = record {
-  in_order = in_order client_values server_values joined made client server is;
-  client_without_fault = client_no_fault client_values server_values made client server is.joint;
-  server_without_fault = server_no_fault client_values server_values made client server is.joint;
-  keep_windows = keep_throughout client_values server_values made client server is.joint;
-  whole = are_whole client_values server_values joined made client server is;
-}
+  -- The headline holds of every two joined ends.
+  pub has_headline : JoinedRepresents client_values server_values joined made client server
+      → HasHeadline joined made client server
+  has_headline is = record {
+    in_order = in_order is;
+    client_without_fault = client_no_fault client_values server_values made client server is.joint;
+    server_without_fault = server_no_fault client_values server_values made client server is.joint;
+    keep_windows = keep_throughout client_values server_values made client server is.joint;
+    whole = are_whole is;
+  }

@@ -19,52 +19,43 @@ use Rattle.h2_joined.proofs.JointMemory.{had_memory}
 use Rattle.h2_joined.proofs.JointOrder.{server_hands, client_hands}
 use Rattle.h2_joined.specs.declared.act.Side.TheVariants as sides
 
-pub prefix_at_server : (client_values server_values : Values) (made : List Made)
-    (client server : JointEnd) (i : ℕ) → IsJoint client_values server_values made client server
-    → IsPrefixOfTokens (tokens_handed server.happened i) (tokens_said client.happened i)
-prefix_at_server client_values server_values made client server i joint =
-    server_hands client_values server_values made client server i
-    (joint_holds client_values server_values made client server joint)
+module _ (client_values server_values : Values) (made : List Made) (client server : JointEnd) where
+  pub prefix_at_server : (i : ℕ) → IsJoint client_values server_values made client server
+      → IsPrefixOfTokens (tokens_handed server.happened i) (tokens_said client.happened i)
+  prefix_at_server i joint = server_hands client_values server_values made client server i
+      (joint_holds client_values server_values made client server joint)
 
-pub prefix_at_client : (client_values server_values : Values) (made : List Made)
-    (client server : JointEnd) (i : ℕ) → IsJoint client_values server_values made client server
-    → IsPrefixOfTokens (tokens_handed client.happened i) (tokens_said server.happened i)
-prefix_at_client client_values server_values made client server i joint =
-    client_hands client_values server_values made client server i
-    (joint_holds client_values server_values made client server joint)
+  pub prefix_at_client : (i : ℕ) → IsJoint client_values server_values made client server
+      → IsPrefixOfTokens (tokens_handed client.happened i) (tokens_said server.happened i)
+  prefix_at_client i joint = client_hands client_values server_values made client server i
+      (joint_holds client_values server_values made client server joint)
 
-pub client_no_fault : (client_values server_values : Values) (made : List Made)
-    (client server : JointEnd) → IsJoint client_values server_values made client server
-    → MemorySufficed client server → ReportsNoFault made client.happened sides.Server
-client_no_fault client_values server_values made client server joint had =
-    client_faultless client_values server_values made client server
-    (joint_holds client_values server_values made client server joint)
-    (had_memory client_values server_values made client server joint had)
+  pub client_no_fault : IsJoint client_values server_values made client server
+      → MemorySufficed client server → ReportsNoFault made client.happened sides.Server
+  client_no_fault joint had = client_faultless client_values server_values made client server
+      (joint_holds client_values server_values made client server joint)
+      (had_memory client_values server_values made client server joint had)
 
-pub server_no_fault : (client_values server_values : Values) (made : List Made)
-    (client server : JointEnd) → IsJoint client_values server_values made client server
-    → MemorySufficed client server → ReportsNoFault made server.happened sides.Client
-server_no_fault client_values server_values made client server joint had =
-    server_faultless client_values server_values made client server
-    (joint_holds client_values server_values made client server joint)
-    (had_memory client_values server_values made client server joint had)
+  pub server_no_fault : IsJoint client_values server_values made client server
+      → MemorySufficed client server → ReportsNoFault made server.happened sides.Client
+  server_no_fault joint had = server_faultless client_values server_values made client server
+      (joint_holds client_values server_values made client server joint)
+      (had_memory client_values server_values made client server joint had)
 
--- No DATA of either end passes its windows.
-client_keeps : (client_values server_values : Values) (made : List Made)
-    (client server : JointEnd) → IsJoint client_values server_values made client server
-    → KeepsWindows client.happened.log
-client_keeps client_values server_values made client server joint =
-    let holds = joint_holds client_values server_values made client server joint in
-    keeps_windows Client client_values client.happened.log
-    (both_logs client_values server_values _ _ holds.pair).client_log
+  -- No DATA of either end passes its windows.
+  client_keeps : IsJoint client_values server_values made client server
+      → KeepsWindows client.happened.log
+  client_keeps joint =
+      let holds = joint_holds client_values server_values made client server joint in
+      keeps_windows Client client_values client.happened.log
+      (both_logs client_values server_values _ _ holds.pair).client_log
 
-server_keeps : (client_values server_values : Values) (made : List Made)
-    (client server : JointEnd) → IsJoint client_values server_values made client server
-    → KeepsWindows server.happened.log
-server_keeps client_values server_values made client server joint =
-    let holds = joint_holds client_values server_values made client server joint in
-    keeps_windows Server server_values server.happened.log
-    (both_logs client_values server_values _ _ holds.pair).server_log
+  server_keeps : IsJoint client_values server_values made client server
+      → KeepsWindows server.happened.log
+  server_keeps joint =
+      let holds = joint_holds client_values server_values made client server joint in
+      keeps_windows Server server_values server.happened.log
+      (both_logs client_values server_values _ _ holds.pair).server_log
 
 -- Both did so after each act.
 keep_at : (client_values server_values : Values) (made : List Made) (client server : JointEnd)
@@ -95,28 +86,25 @@ keep_at client_values server_values _ client server
       server_kept,
     )
 
-pub keep_throughout : (client_values server_values : Values) (made : List Made)
-    (client server : JointEnd) → IsJoint client_values server_values made client server
-    → KeepWindowsThroughout made client server
-keep_throughout client_values server_values made client server joint =
-    keep_at client_values server_values made client server joint
+module _ (client_values server_values : Values) (made : List Made) (client server : JointEnd) where
+  pub keep_throughout : IsJoint client_values server_values made client server
+      → KeepWindowsThroughout made client server
+  keep_throughout joint = keep_at client_values server_values made client server joint
 
--- Two quiet ends hold no octets of a frame that isn't complete.
-pub hold_nothing : (client_values server_values : Values) (made : List Made)
-    (client server : JointEnd) → IsJoint client_values server_values made client server
-    → AreQuiet client server
-    → (client.happened.log.unparsed ≡ []) × (server.happened.log.unparsed ≡ [])
-hold_nothing client_values server_values made client server joint quiet =
-    let holds = joint_holds client_values server_values made client server joint in
-    let one = half_of client holds.client_lost in
-    let other = half_of server holds.server_lost in (
-      none_unparsed other one (ends_to_client client_values server_values one other holds.pair)
-          (carried other one (to_client holds.pair)) quiet.quiet_client.up quiet.to_client
-          quiet.quiet_server.given,
-      none_unparsed one other (ends_to_server client_values server_values one other holds.pair)
-          (carried one other (to_server holds.pair)) quiet.quiet_server.up quiet.to_server
-          quiet.quiet_client.given,
-    )
+  -- Two quiet ends hold no octets of a frame that isn't complete.
+  pub hold_nothing : IsJoint client_values server_values made client server → AreQuiet client server
+      → (client.happened.log.unparsed ≡ []) × (server.happened.log.unparsed ≡ [])
+  hold_nothing joint quiet =
+      let holds = joint_holds client_values server_values made client server joint in
+      let one = half_of client holds.client_lost in
+      let other = half_of server holds.server_lost in (
+        none_unparsed other one (ends_to_client client_values server_values one other holds.pair)
+            (carried other one (to_client holds.pair)) quiet.quiet_client.up quiet.to_client
+            quiet.quiet_server.given,
+        none_unparsed one other (ends_to_server client_values server_values one other holds.pair)
+            (carried one other (to_server holds.pair)) quiet.quiet_server.up quiet.to_server
+            quiet.quiet_client.given,
+      )
 
 -- Two quiet ends are up, so that memory was not refused to their connections.
 quiet_had_memory : (client server : JointEnd) → AreQuiet client server
@@ -126,22 +114,19 @@ quiet_had_memory client server quiet =
     let server_up = quiet.quiet_server.up in
     record { client_went_on = λ failed. cc; server_went_on = λ failed. cc }
 
-pub whole_at_server : (client_values server_values : Values) (made : List Made)
-    (client server : JointEnd) (i : ℕ) → IsJoint client_values server_values made client server
-    → AreQuiet client server → (WasResetIn made client i → ⊥)
-    → tokens_handed server.happened i ≡ tokens_said client.happened i
-whole_at_server client_values server_values made client server i joint quiet =
-    server_has_all client_values server_values made client server i
-    (joint_holds client_values server_values made client server joint)
-    (had_memory client_values server_values made client server joint
-    (quiet_had_memory client server quiet)) quiet
+module _ (client_values server_values : Values) (made : List Made) (client server : JointEnd) where
+  pub whole_at_server : (i : ℕ) → IsJoint client_values server_values made client server
+      → AreQuiet client server → (WasResetIn made client i → ⊥)
+      → tokens_handed server.happened i ≡ tokens_said client.happened i
+  whole_at_server i joint quiet = server_has_all client_values server_values made client server i
+      (joint_holds client_values server_values made client server joint)
+      (had_memory client_values server_values made client server joint
+      (quiet_had_memory client server quiet)) quiet
 
-pub whole_at_client : (client_values server_values : Values) (made : List Made)
-    (client server : JointEnd) (i : ℕ) → IsJoint client_values server_values made client server
-    → AreQuiet client server → (WasResetIn made client i → ⊥)
-    → tokens_handed client.happened i ≡ tokens_said server.happened i
-whole_at_client client_values server_values made client server i joint quiet =
-    client_has_all client_values server_values made client server i
-    (joint_holds client_values server_values made client server joint)
-    (had_memory client_values server_values made client server joint
-    (quiet_had_memory client server quiet)) quiet
+  pub whole_at_client : (i : ℕ) → IsJoint client_values server_values made client server
+      → AreQuiet client server → (WasResetIn made client i → ⊥)
+      → tokens_handed client.happened i ≡ tokens_said server.happened i
+  whole_at_client i joint quiet = client_has_all client_values server_values made client server i
+      (joint_holds client_values server_values made client server joint)
+      (had_memory client_values server_values made client server joint
+      (quiet_had_memory client server quiet)) quiet

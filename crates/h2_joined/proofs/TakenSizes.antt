@@ -11,7 +11,7 @@ use Rattle.h2_joined.proofs.Names.{EndTook, reads_on, parts_on, EndMayTake, hand
 use Rattle.h2_joined.proofs.Names.{hands_out, refusal_fails, runs_out_of_memory, EndRepresents}
 use Rattle.h2_ends.specs.Ends.{part_of_event, handed_at, handed_as}
 use Rattle.h2_joined.specs.Stored.{Fits}
-use Rattle.std.proofs.Common.{◌≡◌, ℕ, nat_lt, Bool, false, List, Some, None}
+use Rattle.std.proofs.Common.{◌≡◌, ℕ, Bool, false, List, Some, None}
 use Rattle.std.proofs.lemmas.Bool.{ltb-false}
 use Rattle.std.proofs.lemmas.Bool.Decides.{nat_tests}
 use Rattle.h2_frame.specs.Encoding.{payload_of}
@@ -26,7 +26,7 @@ use Rattle.h2_spec_log.specs.Windows.{granted_on_connection, passes}
 use Rattle.h2_spec_log.specs.Verdicts.{Verdict, ConnectionFault, StreamFault, NoEvent, Reported}
 use Rattle.h2_spec_log.specs.Verdicts.{block_verdict, data_verdict, opening_verdict}
 use Rattle.h2_spec_log.specs.ItemRules.{Decoded, FrameStep, fails_with, begins_block, completes}
-use Rattle.h2_spec_log.specs.ItemRules.{frame_step, verdict_by_rules, verdict_of}
+use Rattle.h2_spec_log.specs.ItemRules.{frame_step, verdict_by_rules}
 use Rattle.h2_spec_log.specs.ItemEffects.{events_of, decoded_fields}
 use Rattle.h2_spec_log.specs.LogSteps.{used, read, with_reported, with_unreturned, with_failure}
 use Rattle.h2_spec_log.specs.LogSteps.{with_verdict, with_step, with_frame, took_frame}
@@ -120,12 +120,10 @@ rules_say : (log : Log) (decoded : Option Decoded) (item : Item) → IsNarrow lo
 unfolding verdict_by_rules
 rules_say log None (block stream end octets) narrow = tt
 rules_say log (Some decoded) (block stream end octets) narrow =
-    block_says _ (state log stream) _ _ _ _ (nat_lt max_list (list_size decoded.fields))
-    (λ small. ltb-false max_list (list_size decoded.fields) small)
+    block_says _ _ _ _ _ _ _ (λ small. ltb-false max_list (list_size decoded.fields) small)
 rules_say log decoded (alone (Data stream end octets pad)) narrow =
     rw (data_by_sums log decoded stream end octets pad) (data_says _ (state log stream) _ _ _
-    (body_fits stream end octets pad (granted_on_connection log.sent) (total data_of log.received)
-    narrow))
+    (body_fits _ _ _ _ _ (total data_of log.received) narrow))
 rules_say log decoded (alone frame) narrow =
     any_says (verdict_by_rules (log_view log) decoded (alone frame))
 
@@ -191,8 +189,7 @@ step_reports before log decoded (fails_with code) same narrow =
 step_reports before log decoded (begins_block begun) same narrow = ([], same, tt)
 step_reports before log decoded (completes item) same narrow =
     let now = record log { begun = None } in
-    verdict_reports before now decoded item _ same
-    (events_fit (log_view now) decoded (verdict_of (log_view now) decoded item) item
+    verdict_reports before now decoded item _ same (events_fit (log_view now) _ _ item
     (says_of (Unit {0}) (Unit {0}) (FitsItem decoded item) now decoded item
     (rules_say now decoded item narrow)))
 
@@ -228,8 +225,7 @@ event_fits role values log after piece answer count event came
     let says = subst (λ (a : TakeAnswer). AnswersFrame log after (length octets) a) is answers in
     let (events, reported, all) = frame_reports log octets decoded frame
     (is_narrow role values log came takes.up) in
-    one_fits event events log.reported (sym says.2 ∙ (ap (λ (l : Log). l.reported) same ∙ reported))
-    all
+    one_fits _ events _ (sym says.2 ∙ (ap (λ (l : Log). l.reported) same ∙ reported)) all
 event_fits role values log after piece answer count event came
     (meets_fault takes octets unused joined fault at answers same) is = absurd (cc)
 event_fits role values log after piece answer count event came
@@ -261,8 +257,7 @@ placed_fits places.Trailers id list end fit = fit
 handed_fits : (reads : Reads) (parts : List (Part × Bool)) (id : ℕ) (part : Part × Bool)
     → FitsPart part → Fits (handed_as reads parts id part)
 unfolding handed_as Fits
-handed_fits reads parts id (FieldsPart list, end) fit =
-    placed_fits _ id list end fit
+handed_fits reads parts id (FieldsPart list, end) fit = placed_fits _ _ _ end fit
 handed_fits reads parts id (OctetsPart octets, end) fit = fit
 
 -- What is no part of a message has no octets.
@@ -283,8 +278,7 @@ answer_fits role values end after piece answer used handed came
 answer_fits role values end after piece answer used handed came
     (hands_out count event log may id part of readable answers same) is =
     let one : handed ≡ handed_as (reads_on end id) (parts_on id end.handed) id part = cc in
-    subst Fits (sym one) (handed_fits (reads_on end id) (parts_on id end.handed) id part
-    (part_fits event id part of
+    subst Fits (sym one) (handed_fits _ _ id part (part_fits event id part of
     (event_fits role values end.log log piece (Took count (Some event)) count event came may refl)))
 answer_fits role values end after piece answer used handed came
     (refuses count event log may id part of broken refused answers_it up answers same) is =
@@ -302,5 +296,4 @@ pub taken_fits : (values : Values) (old : End) (end : EndLog) (piece : List ℕ)
     (handed : Handed) (after : EndLog) → EndRepresents values old end
     → EndMayTake end piece (EndTook used (Some handed)) after → Fits handed
 taken_fits values old end piece used handed after represents may =
-    answer_fits _ values end after piece (EndTook used (Some handed)) used handed
-    (represents.streams.conn.machine.came) may refl
+    answer_fits _ _ _ _ _ _ _ handed (represents.streams.conn.machine.came) may refl

@@ -17,10 +17,9 @@ came_in : (writer reader : Half) → CarriesOctets writer reader → reader.log.
     → reader.incoming ≡ [] → writer.log.given ≡ length writer.log.written
     → writer.log.written ≡ reader.log.input
 came_in writer reader octets up empty all =
-    let first : reader.log.input ++ [] ≡ take writer.log.given writer.log.written =
-    rw (octets.none_lost up, empty) at octets.carried in
-    sym (take_all writer.log.given writer.log.written (omega (arith, all))) ∙ sym first
-    ∙ append-nil reader.log.input
+    let first : reader.log.input ++ [] ≡ take writer.log.given writer.log.written = rw
+    (octets.none_lost up, empty) at octets.carried in
+    sym (take_all _ _ (omega (arith, all))) ∙ sym first ∙ append-nil reader.log.input
 
 -- It is whole frames, and so read.
 pub none_unparsed : (writer reader : Half) → AreEnds writer reader → CarriesOctets writer reader
