@@ -10,10 +10,11 @@ ghost use Rattle.h2_frame.specs.Pairs.{lent_pairs};
 ghost use Rattle.h2_show.specs.Lines.{frame_line, frame_words, flag_word, pad_word, pad_octets};
 ghost use Rattle.h2_show.specs.Lines.{hex_octet};
 ghost use Rattle.h2_show.specs.Lines.{hex_digit, is_plain as plain, shown_octet, shown_octets};
-ghost use Rattle.h2_show.specs.Lines.{field_line, field_lent, answered_lines};
+ghost use Rattle.h2_show.specs.Lines.{field_line, field_lent};
+ghost use Rattle.h2_show.specs.Printed.{block_lines};
 
 use h2_frame::{FrameRef, Pairs};
-use hpack::{FieldRef, List};
+use hpack::{Decoded, FieldList, FieldRef};
 use std::fmt;
 use std::io::{self, Write};
 
@@ -240,21 +241,32 @@ fn write_settings<W: fmt::Write>(
 
 // contract: show (own) A list above 65,536 octets has one line, without fields
 // rule: show (own) A list above 65,536 octets has one line, without fields
-/// Prints the lines of a block's list: one a field, or that the list is too large.
-pub(crate) fn write_list<W: Write>(list: &List, out: &mut W) -> io::Result<()>
+/// Prints the lines of the list of the block that a frame ends, where it ends one: one a field, or
+/// that the list is too large.
+pub(crate) fn write_list<W: Write>(
+    decoded: Option<Decoded>,
+    list: &FieldList,
+    out: &mut W,
+) -> io::Result<()>
     ensures { OnOk result (Appends (W.contents out.old) (W.contents out.new)
-        (answered_lines list.now)) }
+        (block_lines decoded list.now)) }
 {
-    let List::Whole(fields) = list else {
-        return out.write_all(b"  list too large\n");
-    };
-    for field in fields {
-        let field = FieldRef {
-            name: field.name.as_slice(),
-            value: field.value.as_slice(),
-            sensitive: field.sensitive,
-        };
-        write_field(field, out)?;
+    match decoded {
+        Some(Decoded::Whole) => write_fields(list, out),
+        Some(Decoded::TooLarge) => out.write_all(b"  list too large\n"),
+        None => Ok(()),
+    }
+}
+
+// Prints the lines of the fields of a list.
+fn write_fields<W: Write>(list: &FieldList, out: &mut W) -> io::Result<()>
+    ensures { OnOk result (Appends (W.contents out.old) (W.contents out.new)
+        (flat_map field_line list.now)) }
+{
+    for place in 0..list.len() {
+        if let Some(field) = list.get(place) {
+            write_field(field, out)?;
+        }
     }
     Ok(())
 }
