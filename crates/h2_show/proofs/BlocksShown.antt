@@ -214,6 +214,7 @@ show_block blocks new gather frame frames lines stream end octets decoded list c
       unfinished = rw (same, ended) refl;
       all = ap (λ (some : List ℕ). some ++ (frame_line frame ++ decoded_lines decoded list))
           shows.all ∙ append_assoc shows.first (flat_map frame_line shows.left)
-          (frame_line frame ++ decoded_lines decoded list) ∙ ap (λ (some : List ℕ). shows.first ++ some)
+          (frame_line frame ++ decoded_lines decoded list)
+          ∙ ap (λ (some : List ℕ). shows.first ++ some)
           (lent ∙ sym (append-nil text)) ∙ sym (append-nil (shows.first ++ (text ++ [])));
     }
