@@ -1,13 +1,13 @@
 -- Frames are taken one by one: they group, and their blocks decode.
 use Rattle.h2_show.proofs.Names.{◌≡◌, ℕ, Bool, false, List, [], ◌∷◌, ◌++◌, None, MatchOption, refl}
-use Rattle.h2_show.proofs.Names.{subst, inr, Frame, Item, alone, block, Entries, Decodes, Blocks}
-use Rattle.h2_show.proofs.Names.{BlockError, EndsWithBlockError, BlocksRepresent, BlockErrorReports}
-use Rattle.h2_show.proofs.Names.{rules}
+use Rattle.h2_show.proofs.Names.{subst, inr, Frame, Item, alone, block, Entries, DecodesInto}
+use Rattle.h2_show.proofs.Names.{Blocks, BlockError, EndsWithBlockError, BlocksRepresent}
+use Rattle.h2_show.proofs.Names.{BlockErrorReports, Field, rules}
 use Rattle.h2_block.specs.declared.fault.BlockFault.{BlockFault}
 use Rattle.h2_block.specs.declared.fault.BlockFault.TheVariants as grouping
 use Rattle.h2_block.specs.Gather.{GatherState, GatherRepresents, GatherFaults, GatherFails}
 use Rattle.h2_block.specs.Gather.{block_fault_code}
-use Rattle.hpack.specs.declared.types.field.List.{List as FieldList}
+use Rattle.hpack.specs.declared.types.field.Decoded.{Decoded}
 use Rattle.h2_show.specs.declared.blocks.BlockError.TheVariants as errors
 use Rattle.h2_show.specs.Blocks.{ItemsDecode, error_of_grouping, DecodingErrorReports}
 
@@ -28,7 +28,8 @@ pub represent_alone : (blocks : Blocks) (gather : GatherState) (frame passed : F
     → ((so_far : List Frame) (items : List Item) → GatherRepresents blocks.gather so_far items
     → GatherRepresents gather (so_far ++ frame ∷ []) (items ++ alone passed ∷ []))
     → BlocksRepresent blocks frames
-    → BlocksRepresent (record { gather = gather; decoder = blocks.decoder }) (frames ++ frame ∷ [])
+    → BlocksRepresent (record { gather = gather; decoder = blocks.decoder; list = blocks.list })
+    (frames ++ frame ∷ [])
 represent_alone blocks gather frame passed frames continues represents =
     let decoded = represents.decoded in
     let after = continues frames decoded.items
@@ -51,7 +52,8 @@ pub represent_more : (blocks : Blocks) (gather : GatherState) (frame : Frame)
     → ((so_far : List Frame) (items : List Item) → GatherRepresents blocks.gather so_far items
     → GatherRepresents gather (so_far ++ frame ∷ []) (items ++ []))
     → BlocksRepresent blocks frames
-    → BlocksRepresent (record { gather = gather; decoder = blocks.decoder }) (frames ++ frame ∷ [])
+    → BlocksRepresent (record { gather = gather; decoder = blocks.decoder; list = blocks.list })
+    (frames ++ frame ∷ [])
 represent_more blocks gather frame frames continues represents =
     let decoded = represents.decoded in
     let after = continues frames decoded.items
@@ -69,13 +71,14 @@ represent_more blocks gather frame frames continues represents =
 
 -- a frame that ends a block, which decodes
 pub represent_block : (blocks new : Blocks) (gather : GatherState) (frame : Frame)
-    (frames : List Frame) (stream : ℕ) (end : Bool) (octets : List ℕ) (list : FieldList)
+    (frames : List Frame) (stream : ℕ) (end : Bool) (octets : List ℕ) (ended : Decoded)
+    (fields : List Field)
     → ((so_far : List Frame) (items : List Item) → GatherRepresents blocks.gather so_far items
     → GatherRepresents gather (so_far ++ frame ∷ []) (items ++ block stream end octets ∷ []))
-    → new.gather ≡ gather → Decodes blocks.decoder octets 65536 list new.decoder
+    → new.gather ≡ gather → DecodesInto blocks.decoder octets 65536 ended fields new.decoder
     → BlocksRepresent blocks frames → BlocksRepresent new (frames ++ frame ∷ [])
-represent_block blocks new gather frame frames stream end octets list continues same decodes
-    represents =
+represent_block blocks new gather frame frames stream end octets ended fields continues same
+    decodes represents =
     let decoded = represents.decoded in
     let after = continues frames decoded.items
     (record { sound = represents.grouping; split = decoded.grouped }) in

@@ -2,12 +2,12 @@
 use Rattle.h2_show.proofs.Names.{◌≡◌, ℕ, Bool, true, List, [], ◌∷◌, ◌++◌, Option, None, refl, sym}
 use Rattle.h2_show.proofs.Names.{◌∙◌, ap, subst, append_assoc, append-nil, flat_map, arith}
 use Rattle.h2_show.proofs.Names.{nat_tests, flat_map-append, Frame, Item, alone, block, Begun}
-use Rattle.h2_show.proofs.Names.{Field, Decodes, IsList, Entries, Blocks, BlocksRepresent}
-use Rattle.h2_show.proofs.Names.{frame_line, list_lines, answered_lines, AreShown, BlocksShow}
-use Rattle.h2_show.proofs.Names.{common_steps, rules}
+use Rattle.h2_show.proofs.Names.{Field, DecodesInto, HoldsList, Entries, Blocks}
+use Rattle.h2_show.proofs.Names.{BlocksRepresent, frame_line, list_lines, decoded_lines, AreShown}
+use Rattle.h2_show.proofs.Names.{BlocksShow, common_steps, rules}
 use Rattle.h2_block.specs.Grouping.{IsLeft, IsItem, is_standalone, AreItems}
 use Rattle.h2_block.specs.Gather.{GatherState, GatherRepresents}
-use Rattle.hpack.specs.declared.types.field.List.{List as AnsweredList}
+use Rattle.hpack.specs.declared.types.field.Decoded.{Decoded}
 use Rattle.hpack.specs.Blocks.{Block}
 use Rattle.h2_show.specs.Blocks.{ItemsDecode}
 
@@ -91,8 +91,8 @@ pub show_alone : (blocks : Blocks) (gather : GatherState) (frame passed : Frame)
     → ((so_far : List Frame) (items : List Item) → GatherRepresents blocks.gather so_far items
     → GatherRepresents gather (so_far ++ frame ∷ []) (items ++ alone passed ∷ []))
     → BlocksShow blocks frames lines
-    → BlocksShow (record { gather = gather; decoder = blocks.decoder }) (frames ++ frame ∷ [])
-    (lines ++ (frame_line frame ++ []))
+    → BlocksShow (record { gather = gather; decoder = blocks.decoder; list = blocks.list })
+    (frames ++ frame ∷ []) (lines ++ (frame_line frame ++ []))
 show_alone blocks gather frame passed frames lines continues shows =
     let after = continues shows.left [] (only_left _ _ _ shows) in
     let (one, others, whole, is, none) = after.split.grouped in
@@ -126,8 +126,8 @@ pub show_more : (blocks : Blocks) (gather : GatherState) (frame : Frame)
     → ((so_far : List Frame) (items : List Item) → GatherRepresents blocks.gather so_far items
     → GatherRepresents gather (so_far ++ frame ∷ []) (items ++ []))
     → BlocksShow blocks frames lines
-    → BlocksShow (record { gather = gather; decoder = blocks.decoder }) (frames ++ frame ∷ [])
-    (lines ++ (frame_line frame ++ []))
+    → BlocksShow (record { gather = gather; decoder = blocks.decoder; list = blocks.list })
+    (frames ++ frame ∷ []) (lines ++ (frame_line frame ++ []))
 show_more blocks gather frame frames lines continues shows =
     let after = continues shows.left [] (only_left blocks frames lines shows) in
     let nothing : after.split.complete ≡ [] = after.split.grouped in
@@ -152,23 +152,24 @@ show_more blocks gather frame frames lines continues shows =
           (sym (flat_map-append frame_line shows.left (frame ∷ [])));
     }
 
--- the lines of a list that was answered are those of the fields
-answered_is : (fields : List Field) (list : AnsweredList) → IsList 65536 fields list
-    → answered_lines list ≡ list_lines fields
-answered_is fields list large = grind (arith, common_steps, nat_tests, flat_map)
+-- the lines of a list that holds a block's fields are those of the fields
+decoded_is : (fields list : List Field) (decoded : Decoded) → HoldsList 65536 fields decoded list
+    → decoded_lines decoded list ≡ list_lines fields
+decoded_is fields list decoded holds = grind (arith, common_steps, nat_tests, flat_map)
 
 -- a frame that ends a block, which decodes
 pub show_block : (blocks new : Blocks) (gather : GatherState) (frame : Frame)
     (frames : List Frame) (lines : List ℕ) (stream : ℕ) (end : Bool) (octets : List ℕ)
-    (list : AnsweredList)
+    (decoded : Decoded) (list : List Field)
     → ((so_far : List Frame) (items : List Item) → GatherRepresents blocks.gather so_far items
     → GatherRepresents gather (so_far ++ frame ∷ []) (items ++ block stream end octets ∷ []))
     → gather.begun ≡ None → new.gather ≡ gather
-    → Decodes blocks.decoder octets 65536 list new.decoder
+    → DecodesInto blocks.decoder octets 65536 decoded list new.decoder
     → BlocksShow blocks frames lines
-    → BlocksShow new (frames ++ frame ∷ []) (lines ++ (frame_line frame ++ answered_lines list))
-show_block blocks new gather frame frames lines stream end octets list continues ended same decodes
-    shows =
+    → BlocksShow new (frames ++ frame ∷ [])
+    (lines ++ (frame_line frame ++ decoded_lines decoded list))
+show_block blocks new gather frame frames lines stream end octets decoded list continues ended same
+    decodes shows =
     let after = continues shows.left [] (only_left blocks frames lines shows) in
     let (one, others, whole, is, none) = after.split.grouped in
     let nothing : after.split.left ≡ [] = subst
@@ -177,9 +178,10 @@ show_block blocks new gather frame frames lines stream end octets list continues
     append-nil (one ++ others) ∙ ap (λ (some : List Frame). one ++ some) none ∙ append-nil one in
     let text : List ℕ = flat_map frame_line (shows.left ++ frame ∷ []) ++ list_lines decodes.fields
     in
-    let lent : flat_map frame_line shows.left ++ (frame_line frame ++ answered_lines list) ≡ text =
+    let lent : flat_map frame_line shows.left ++ (frame_line frame ++ decoded_lines decoded list)
+    ≡ text =
     ap (λ (some : List ℕ). flat_map frame_line shows.left ++ (frame_line frame ++ some))
-    (answered_is decodes.fields list decodes.handed)
+    (decoded_is decodes.fields list decoded decodes.holds)
     ∙ sym (append_assoc (flat_map frame_line shows.left) (frame_line frame)
     (list_lines decodes.fields)) ∙ ap (λ (some : List ℕ). some ++ list_lines decodes.fields)
     (ap (λ (some : List ℕ). flat_map frame_line shows.left ++ some)
@@ -210,8 +212,9 @@ show_block blocks new gather frame frames lines stream end octets list continues
             (refl, rw decodes.state refl, refl),
           );
       unfinished = rw (same, ended) refl;
-      all = ap (λ (some : List ℕ). some ++ (frame_line frame ++ answered_lines list)) shows.all ∙
-          append_assoc shows.first (flat_map frame_line shows.left)
-          (frame_line frame ++ answered_lines list) ∙ ap (λ (some : List ℕ). shows.first ++ some)
+      all = ap (λ (some : List ℕ). some ++ (frame_line frame ++ decoded_lines decoded list))
+          shows.all ∙ append_assoc shows.first (flat_map frame_line shows.left)
+          (frame_line frame ++ decoded_lines decoded list)
+          ∙ ap (λ (some : List ℕ). shows.first ++ some)
           (lent ∙ sym (append-nil text)) ∙ sym (append-nil (shows.first ++ (text ++ [])));
     }

@@ -6,12 +6,14 @@ use Rattle.h2_show.proofs.Names.{append-nil, codes, Appends-trans, drop-cons, no
 use Rattle.h2_show.proofs.Names.{nat_tests, common_steps, flat_map-append, take_rest}
 use Rattle.h2_show.proofs.Names.{take-append-drop, Appends, Reset, Settings, Ping, GoAway}
 use Rattle.h2_show.proofs.Names.{WindowUpdate, shown_octets, flag_word, pair_words, frame_words}
-use Rattle.h2_show.proofs.Names.{rules}
+use Rattle.h2_show.proofs.Names.{rules, Field, field_line}
 use Rattle.std.proofs.Common.{◌/◌, ◌%◌, get_or, position, suc, decimal, ◌*◌}
 use Rattle.std.proofs.lemmas.List.{drop_all, take_more, get_or-take}
 use Rattle.std.proofs.lemmas.List.Quantifiers.{position-Some}
 use Rattle.std.proofs.lemmas.List.Sums.{fails_before_first}
 use Rattle.std.proofs.lemmas.Fmt.{decimal_digit}
+use Rattle.std.proofs.lemmas.Option.{slice_get_within, get_or_from_slice_get}
+use Rattle.std.specs.List.{slice_get}
 use Rattle.h2_frame.specs.Pairs.{pairs_of}
 use Rattle.h2_show.specs.Lines.{hex_digit, hex_octet, is_plain, shown_octet}
 use Rattle.h2_frame.proofs.PairLemmas.{length-pairs_in}
@@ -219,3 +221,19 @@ settings_words ack pairs =
 -- the octets of the pairs are no more than the octets that they lie in
 pub pairs_fit : (octets : List ℕ) → 6 * length (pairs_of octets) ≤ length octets
 pairs_fit octets = rw (length-pairs_in (length octets / 6) octets) (omega arith)
+
+-- the lines of fields and of the next one, which is written
+pub next_field : (list : List Field) (place : ℕ) (next : Field)
+    (start before after : Option (List ℕ)) → slice_get list place ≡ Some next
+    → Appends start before (flat_map field_line (take place list))
+    → Appends before after (field_line next)
+    → Appends start after (flat_map field_line (take (place + 1) list))
+next_field list place next start before after there written last =
+    let within = slice_get_within list place next there in
+    subst (λ (text : List ℕ). Appends start after text)
+    (sym (ap (flat_map field_line) (take_more list place next within)
+    ∙ flat_map-append field_line (take place list) (get_or list place next ∷ [])
+    ∙ ap (λ (text : List ℕ). flat_map field_line (take place list) ++ text)
+    (append-nil (field_line (get_or list place next))
+    ∙ ap field_line (get_or_from_slice_get list place next next there))))
+    (Appends-trans start before after _ _ written last)

@@ -23,7 +23,7 @@ pub use Rattle.h2_frame.specs.declared.frame.FrameRef.{FrameRef}
 pub use Rattle.h2_show.specs.Blocks.{BlocksRepresent, BlockErrorReports, EndsWithBlockError}
 pub use Rattle.h2_show.specs.Lines.{frame_line, field_line, pair_words, list_lines, fault_line}
 pub use Rattle.h2_show.specs.Lines.{rest_line, unfinished_line, shown_octets, flag_word}
-pub use Rattle.h2_show.specs.Lines.{preface_line, answered_lines}
+pub use Rattle.h2_show.specs.Lines.{preface_line, decoded_lines}
 pub use Rattle.h2_show.specs.Printed.{ViewerPrints, BlocksShow, ViewerShows, due_line, error_lines}
 pub use Rattle.h2_show.specs.Printed.{end_lines, ShowsAfter, ViewerFailsWith}
 pub use Rattle.h2_show.specs.Report.{begins_with_preface, limits_of, StatusReportsOctets}
@@ -42,6 +42,6 @@ pub use Rattle.h2_wire.specs.Cutter.{CutterAdvances, CutterFails}
 pub use Rattle.h2_wire.specs.Streams.{Limits, Frames}
 pub use Rattle.h2_wire.specs.declared.cut.Cut.{Cut}
 pub use Rattle.h2_wire.specs.declared.fault.WireFault.{WireFault}
-pub use Rattle.hpack.specs.Lists.{Decodes, list_size, IsList}
+pub use Rattle.hpack.specs.Lists.{DecodesInto, list_size, HoldsList}
 pub use Rattle.hpack.specs.Tables.{Entries}
 pub use Rattle.hpack.specs.declared.types.field.Field.{Field}

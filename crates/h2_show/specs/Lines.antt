@@ -6,8 +6,8 @@ use Rattle.std.specs.Prelude.{flat_map, Option, Some, None}
 use Rattle.std.specs.Option.{is_some}
 use Rattle.hpack.specs.declared.types.field.Field.{Field}
 use Rattle.hpack.specs.declared.types.field.FieldRef.{FieldRef}
-use Rattle.hpack.specs.declared.types.field.List.{List as AnsweredList}
-use Rattle.hpack.specs.declared.types.field.List.TheVariants.{Whole, TooLarge}
+use Rattle.hpack.specs.declared.types.field.Decoded.{Decoded}
+use Rattle.hpack.specs.declared.types.field.Decoded.TheVariants.{Whole, TooLarge}
 use Rattle.hpack.specs.Lists.{list_size}
 use Rattle.h2_frame.specs.declared.code.Code.{Code}
 use Rattle.h2_frame.specs.Codes.{name_of}
@@ -63,11 +63,11 @@ abbrev pub field_lent : FieldRef → Field
 field_lent field =
     record { name = field.name.now; value = field.value.now; sensitive = field.sensitive }
 
--- the lines of a list, as a decoder returns it
+-- the lines of a list that a decoder was given
 -- rule: show (own) A list above 65,536 octets has one line, without fields
-abbrev pub answered_lines : AnsweredList → List ℕ
-answered_lines (Whole fields) = flat_map field_line fields.items
-answered_lines TooLarge = codes "  list too large\n"
+abbrev pub decoded_lines : Decoded → List Field → List ℕ
+decoded_lines Whole fields = flat_map field_line fields
+decoded_lines TooLarge fields = codes "  list too large\n"
 
 -- a space and the word of a flag, where the flag is set
 -- rule: show (own) The line of a frame has its type, stream, octets and more

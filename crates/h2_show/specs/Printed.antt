@@ -2,7 +2,8 @@
 use Rattle.std.specs.Prelude.{◌≡◌, ℕ, ◌==◌, not, Bool, false, if◌then◌else◌, List, [], ◌++◌}
 use Rattle.std.specs.Prelude.{flat_map, Option, Some, None, Ok}
 use Rattle.hex.specs.Hex.{decode_of}
-use Rattle.hpack.specs.declared.types.field.List.{List as AnsweredList}
+use Rattle.hpack.specs.declared.types.field.Decoded.{Decoded}
+use Rattle.hpack.specs.declared.types.field.Field.{Field}
 use Rattle.h2_frame.specs.declared.code.Code.TheVariants.{ProtocolError}
 use Rattle.h2_frame.specs.Frames.{Frame}
 use Rattle.h2_wire.specs.declared.fault.WireFault.TheVariants as faults
@@ -17,7 +18,7 @@ use Rattle.h2_cli.specs.declared.status.Status.TheVariants.{Fault}
 use Rattle.h2_show.specs.declared.viewer.ShowError.{ShowError}
 use Rattle.h2_show.specs.declared.viewer.ShowError.TheVariants.{Wire, Block, Output}
 use Rattle.h2_show.specs.Blocks.{first_table, show_table_limit}
-use Rattle.h2_show.specs.Lines.{frame_line, answered_lines, preface_line, fault_line, rest_line}
+use Rattle.h2_show.specs.Lines.{frame_line, decoded_lines, preface_line, fault_line, rest_line}
 use Rattle.h2_show.specs.Lines.{unfinished_line}
 use Rattle.h2_cli.specs.Hexadecimal.{without_blanks}
 use Rattle.h2_show.specs.Shown.{AreShown, preface_lines, Shows, ShowsOctets}
@@ -37,9 +38,9 @@ pub record BlocksShow (blocks : Blocks) (frames : List Frame) (lines : List ℕ)
   pub all : lines ≡ first ++ flat_map frame_line left
 
 -- the lines of the list of the block that a frame ends, where it ends one
-abbrev pub block_lines : Option AnsweredList → List ℕ
-block_lines None = []
-block_lines (Some list) = answered_lines list
+abbrev pub block_lines : Option Decoded → List Field → List ℕ
+block_lines None fields = []
+block_lines (Some decoded) fields = decoded_lines decoded fields
 
 -- the line of the preface, where it is still to be printed
 abbrev pub due_line : Bool → List ℕ

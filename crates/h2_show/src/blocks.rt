@@ -3,7 +3,7 @@
 ghost use Rattle.std.specs.Prelude.{◌≡◌, ℕ, false, [], ◌∷◌, ◌++◌, List as Items, IfOk, IfErr, OnOk};
 ghost use Rattle.std.specs.Option.{is_some};
 ghost use Rattle.h2_frame.specs.Frames.{Frame, frame_of};
-ghost use Rattle.hpack.specs.Lists.{Decodes};
+ghost use Rattle.hpack.specs.Lists.{DecodesInto};
 ghost use Rattle.h2_show.specs.Blocks.{BlocksRepresent, BlockErrorReports, DecodingErrorReports};
 ghost use Rattle.h2_show.specs.Blocks.{error_of_grouping, error_of_decoding};
 ghost use Rattle.h2_show.specs.Lines.{frame_line};
@@ -12,7 +12,7 @@ ghost use Rattle.h2_show.specs.Printed.{BlocksShow, block_lines};
 use h2_block::{BlockFault, Gather, Gathered};
 use h2_frame::limits::{FIRST_TABLE, MAX_LIST, MAX_TABLE_LIMIT};
 use h2_frame::{Code, FrameRef};
-use hpack::{Decoder, Fault, List};
+use hpack::{Decoded, Decoder, Fault, FieldList};
 use std::alloc::{AllocError, Global};
 
 /// Groups the frames of one end, and decodes their field blocks.
@@ -20,6 +20,8 @@ use std::alloc::{AllocError, Global};
 pub(crate) struct Blocks {
     gather: Gather,
     decoder: Decoder,
+    /// The fields of the last block, whose room is used again.
+    list: FieldList,
 }
 
 /// Why a frame isn't taken.
@@ -70,27 +72,28 @@ impl Blocks {
         Ok(Blocks {
             gather: Gather::new(alloc),
             decoder,
+            list: FieldList::new(alloc),
         })
     }
 
     // contract: 4.3 A block that does not decode is COMPRESSION_ERROR, of the connection
     // contract: show (own) A list above 65,536 octets has one line, without fields
-    /// Takes the next frame, and returns the list of the block that it ends.
+    /// Takes the next frame, and returns what [`Blocks::list`] has of the block that it ends.
     ///
     /// # Errors
     ///
     /// [`BlockError::Fault`] where the frame doesn't group (RFC 9113, section 6.10), or ends a
     /// block that doesn't decode (section 4.3); [`BlockError::Memory`] when out of memory.
-    pub(crate) fn take(&mut self, frame: FrameRef<'_>) -> Result<Option<List>, BlockError>
+    pub(crate) fn take(&mut self, frame: FrameRef<'_>) -> Result<Option<Decoded>, BlockError>
         ensures ok { OnOk result ((frames : Items Frame) → BlocksRepresent self.old frames
             → BlocksRepresent self.new (frames ++ frame_of frame.entry ∷ [])) }
         ensures err { IfErr result (λ error. (frames : Items Frame)
             → BlocksRepresent self.old frames
             → BlockErrorReports (frames ++ frame_of frame.entry ∷ []) error) }
-        ensures shown { IfOk result (λ list. (frames : Items Frame) (lines : Items ℕ)
+        ensures shown { IfOk result (λ decoded. (frames : Items Frame) (lines : Items ℕ)
             → BlocksShow self.old frames lines
             → BlocksShow self.new (frames ++ frame_of frame.entry ∷ [])
-            (lines ++ (frame_line (frame_of frame.entry) ++ block_lines list))) }
+            (lines ++ (frame_line (frame_of frame.entry) ++ block_lines decoded self.new.list))) }
     {
         match self.gather.take(frame)? {
             Gathered::Pass(_) | Gathered::More => Ok(None),
@@ -100,15 +103,23 @@ impl Blocks {
 
     // rule: 4.3 A block that does not decode is COMPRESSION_ERROR, of the connection
     // rule: show (own) A list above 65,536 octets has one line, without fields
-    // Decodes a block.
-    fn decode(&mut self, octets: &[u8]) -> Result<List, BlockError>
-        ensures ok { IfOk result (λ list. (self.old.decoder.failed ≡ false)
-            × Decodes self.old.decoder octets.now 65536 list self.new.decoder) }
+    // Decodes a block into the list.
+    fn decode(&mut self, octets: &[u8]) -> Result<Decoded, BlockError>
+        ensures ok { IfOk result (λ decoded. (self.old.decoder.failed ≡ false)
+            × DecodesInto self.old.decoder octets.now 65536 decoded self.new.list
+            self.new.decoder) }
         ensures err { IfErr result (λ error. self.old.decoder.failed ≡ false
             → DecodingErrorReports self.old.decoder octets.now error) }
         ensures same { self.new.gather ≡ self.old.gather }
     {
-        Ok(self.decoder.decode(octets, MAX_LIST)?)
+        Ok(self.decoder.decode_into(octets, MAX_LIST, &mut self.list)?)
+    }
+
+    /// The fields of the last block; none where they were too large.
+    pub(crate) fn list(&self) -> &FieldList
+        ensures { result.now ≡ self.now.list }
+    {
+        &self.list
     }
 
     /// Whether a block has begun and isn't complete.

@@ -5,15 +5,17 @@ ghost use Rattle.std.specs.Prelude.{Some};
 ghost use Rattle.std.specs.Prelude.{flat_map, if◌then◌else◌, OnOk};
 ghost use Rattle.std.specs.Fmt.{WritesOnOk};
 ghost use Rattle.std.specs.Io.KnownBytes.{Appends};
-ghost use Rattle.h2_frame.specs.Frames.{frame_of, Settings};
+ghost use Rattle.h2_frame.specs.Frames.{frame_of, Data, Headers, Reset, Settings, Ping, GoAway};
+ghost use Rattle.h2_frame.specs.Frames.{WindowUpdate, Continuation, Unknown};
 ghost use Rattle.h2_frame.specs.Pairs.{lent_pairs};
 ghost use Rattle.h2_show.specs.Lines.{frame_line, frame_words, flag_word, pad_word, pad_octets};
 ghost use Rattle.h2_show.specs.Lines.{hex_octet};
 ghost use Rattle.h2_show.specs.Lines.{hex_digit, is_plain as plain, shown_octet, shown_octets};
-ghost use Rattle.h2_show.specs.Lines.{field_line, field_lent, answered_lines};
+ghost use Rattle.h2_show.specs.Lines.{field_line, field_lent};
+ghost use Rattle.h2_show.specs.Printed.{block_lines};
 
 use h2_frame::{FrameRef, Pairs};
-use hpack::{FieldRef, List};
+use hpack::{Decoded, FieldList, FieldRef};
 use std::fmt;
 use std::io::{self, Write};
 
@@ -51,10 +53,7 @@ impl fmt::Display for FrameLine<'_> {
                 end,
                 octets,
                 pad,
-            } => {
-                let length = data_length(octets, pad);
-                write!(f, "DATA {stream} {length}{}{}", Word(end, "end"), Pad(pad))
-            }
+            } => write_data(f, stream, end, octets, pad),
             FrameRef::Headers {
                 stream,
                 end,
@@ -62,44 +61,26 @@ impl fmt::Display for FrameLine<'_> {
                 fragment,
                 pad,
                 priority,
-            } => {
-                let prioritized = priority.is_some();
-                let length = headers_length(fragment, pad, prioritized);
-                write!(f, "HEADERS {stream} {length}{}", Word(end, "end"))?;
-                write!(f, "{}{}", Word(whole, "whole"), Pad(pad))?;
-                write!(f, "{}", Word(prioritized, "priority"))
-            }
+            } => write_headers(f, stream, end, whole, fragment, pad, priority),
             FrameRef::Priority { stream, .. } => write!(f, "PRIORITY {stream} {PRIORITY}"),
-            FrameRef::Reset { stream, code } => write!(f, "RST_STREAM {stream} 4 code={code}"),
+            FrameRef::Reset { stream, code } => write_reset(f, stream, code),
             FrameRef::Settings { ack, pairs } => write_settings(f, ack, pairs),
-            FrameRef::Ping { ack, octets } => {
-                write!(f, "PING 0 8{} {}", Word(ack, "ack"), Hexadecimal(octets))
-            }
-            FrameRef::GoAway { last, code, debug } => {
-                let length = goaway_length(debug);
-                let count = debug.len();
-                write!(f, "GOAWAY 0 {length} last={last} code={code} debug={count}")
-            }
+            FrameRef::Ping { ack, octets } => write_ping(f, ack, octets),
+            FrameRef::GoAway { last, code, debug } => write_goaway(f, last, code, debug),
             FrameRef::WindowUpdate { stream, increment } => {
-                write!(f, "WINDOW_UPDATE {stream} 4 add={increment}")
+                write_window_update(f, stream, increment)
             }
             FrameRef::Continuation {
                 stream,
                 whole,
                 fragment,
-            } => {
-                let length = fragment.len();
-                write!(f, "CONTINUATION {stream} {length}{}", Word(whole, "whole"))
-            }
+            } => write_continuation(f, stream, whole, fragment),
             FrameRef::Unknown {
                 kind,
                 flags,
                 stream,
                 payload,
-            } => {
-                let length = payload.len();
-                write!(f, "KIND{kind} {stream} {length} flags={flags}")
-            }
+            } => write_unknown(f, kind, flags, stream, payload),
         }
     }
 }
@@ -220,6 +201,115 @@ fn padded(pad: Option<u8>) -> usize
     }
 }
 
+// Each kind of frame has a function of its own, so that only its locals are set up.
+
+#[tactic(auto, unfolding(crate::specs::Lines::frame_words))]
+fn write_data<W: fmt::Write>(
+    f: &mut fmt::Formatter<W>,
+    stream: u32,
+    end: bool,
+    octets: &[u8],
+    pad: Option<u8>,
+) -> fmt::Result
+    ensures { WritesOnOk W.write_str_gives f.old result
+        (frame_words (Data stream end octets.now pad)) f.new }
+{
+    let length = data_length(octets, pad);
+    write!(f, "DATA {stream} {length}{}{}", Word(end, "end"), Pad(pad))
+}
+
+#[tactic(auto, unfolding(crate::specs::Lines::frame_words))]
+fn write_headers<W: fmt::Write>(
+    f: &mut fmt::Formatter<W>,
+    stream: u32,
+    end: bool,
+    whole: bool,
+    fragment: &[u8],
+    pad: Option<u8>,
+    priority: Option<[u8; 5]>,
+) -> fmt::Result
+    ensures { WritesOnOk W.write_str_gives f.old result
+        (frame_words (Headers stream end whole fragment.now pad priority)) f.new }
+{
+    let prioritized = priority.is_some();
+    let length = headers_length(fragment, pad, prioritized);
+    write!(f, "HEADERS {stream} {length}{}", Word(end, "end"))?;
+    write!(f, "{}{}", Word(whole, "whole"), Pad(pad))?;
+    write!(f, "{}", Word(prioritized, "priority"))
+}
+
+#[tactic(auto, unfolding(crate::specs::Lines::frame_words))]
+fn write_reset<W: fmt::Write>(f: &mut fmt::Formatter<W>, stream: u32, code: u32) -> fmt::Result
+    ensures { WritesOnOk W.write_str_gives f.old result
+        (frame_words (Reset stream code)) f.new }
+{
+    write!(f, "RST_STREAM {stream} 4 code={code}")
+}
+
+#[tactic(auto, unfolding(crate::specs::Lines::frame_words))]
+fn write_ping<W: fmt::Write>(f: &mut fmt::Formatter<W>, ack: bool, octets: [u8; 8]) -> fmt::Result
+    ensures { WritesOnOk W.write_str_gives f.old result
+        (frame_words (Ping ack octets)) f.new }
+{
+    write!(f, "PING 0 8{} {}", Word(ack, "ack"), Hexadecimal(octets))
+}
+
+#[tactic(auto, unfolding(crate::specs::Lines::frame_words))]
+fn write_goaway<W: fmt::Write>(
+    f: &mut fmt::Formatter<W>,
+    last: u32,
+    code: u32,
+    debug: &[u8],
+) -> fmt::Result
+    ensures { WritesOnOk W.write_str_gives f.old result
+        (frame_words (GoAway last code debug.now)) f.new }
+{
+    let length = goaway_length(debug);
+    let count = debug.len();
+    write!(f, "GOAWAY 0 {length} last={last} code={code} debug={count}")
+}
+
+#[tactic(auto, unfolding(crate::specs::Lines::frame_words))]
+fn write_window_update<W: fmt::Write>(
+    f: &mut fmt::Formatter<W>,
+    stream: u32,
+    increment: u32,
+) -> fmt::Result
+    ensures { WritesOnOk W.write_str_gives f.old result
+        (frame_words (WindowUpdate stream increment)) f.new }
+{
+    write!(f, "WINDOW_UPDATE {stream} 4 add={increment}")
+}
+
+#[tactic(auto, unfolding(crate::specs::Lines::frame_words))]
+fn write_continuation<W: fmt::Write>(
+    f: &mut fmt::Formatter<W>,
+    stream: u32,
+    whole: bool,
+    fragment: &[u8],
+) -> fmt::Result
+    ensures { WritesOnOk W.write_str_gives f.old result
+        (frame_words (Continuation stream whole fragment.now)) f.new }
+{
+    let length = fragment.len();
+    write!(f, "CONTINUATION {stream} {length}{}", Word(whole, "whole"))
+}
+
+#[tactic(auto, unfolding(crate::specs::Lines::frame_words))]
+fn write_unknown<W: fmt::Write>(
+    f: &mut fmt::Formatter<W>,
+    kind: u8,
+    flags: u8,
+    stream: u32,
+    payload: &[u8],
+) -> fmt::Result
+    ensures { WritesOnOk W.write_str_gives f.old result
+        (frame_words (Unknown kind flags stream payload.now)) f.new }
+{
+    let length = payload.len();
+    write!(f, "KIND{kind} {stream} {length} flags={flags}")
+}
+
 // rule: show (own) The line of a frame has its type, stream, octets and more
 #[tactic(auto, unfolding(crate::specs::Lines::frame_words))]
 fn write_settings<W: fmt::Write>(
@@ -240,21 +330,32 @@ fn write_settings<W: fmt::Write>(
 
 // contract: show (own) A list above 65,536 octets has one line, without fields
 // rule: show (own) A list above 65,536 octets has one line, without fields
-/// Prints the lines of a block's list: one a field, or that the list is too large.
-pub(crate) fn write_list<W: Write>(list: &List, out: &mut W) -> io::Result<()>
+/// Prints the lines of the list of the block that a frame ends, where it ends one: one a field, or
+/// that the list is too large.
+pub(crate) fn write_list<W: Write>(
+    decoded: Option<Decoded>,
+    list: &FieldList,
+    out: &mut W,
+) -> io::Result<()>
     ensures { OnOk result (Appends (W.contents out.old) (W.contents out.new)
-        (answered_lines list.now)) }
+        (block_lines decoded list.now)) }
 {
-    let List::Whole(fields) = list else {
-        return out.write_all(b"  list too large\n");
-    };
-    for field in fields {
-        let field = FieldRef {
-            name: field.name.as_slice(),
-            value: field.value.as_slice(),
-            sensitive: field.sensitive,
-        };
-        write_field(field, out)?;
+    match decoded {
+        Some(Decoded::Whole) => write_fields(list, out),
+        Some(Decoded::TooLarge) => out.write_all(b"  list too large\n"),
+        None => Ok(()),
+    }
+}
+
+// Prints the lines of the fields of a list.
+fn write_fields<W: Write>(list: &FieldList, out: &mut W) -> io::Result<()>
+    ensures { OnOk result (Appends (W.contents out.old) (W.contents out.new)
+        (flat_map field_line list.now)) }
+{
+    for place in 0..list.len() {
+        if let Some(field) = list.get(place) {
+            write_field(field, out)?;
+        }
     }
     Ok(())
 }
@@ -281,6 +382,18 @@ pub fn write_field<W: Write>(field: FieldRef<'_>, out: &mut W) -> io::Result<()>
 // rule: show (own) The line of a field has its mark, its name and its value
 // Prints octets as text: those that aren't printable ASCII, and the backslash, escaped.
 fn write_text<W: Write>(octets: &[u8], out: &mut W) -> io::Result<()>
+    ensures { OnOk result (Appends (W.contents out.old) (W.contents out.new)
+        (shown_octets octets.now)) }
+{
+    match plain_count(octets) {
+        None => out.write_all(octets),
+        Some(_) => write_escaped(octets, out),
+    }
+}
+
+// rule: show (own) The line of a field has its mark, its name and its value
+// Prints octets as text, of which some are escaped.
+fn write_escaped<W: Write>(octets: &[u8], out: &mut W) -> io::Result<()>
     ensures { OnOk result (Appends (W.contents out.old) (W.contents out.new)
         (shown_octets octets.now)) }
 {

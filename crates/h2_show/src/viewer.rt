@@ -149,12 +149,10 @@ impl Viewer {
                 self.preface.advance(self.cutter.is_past_preface(), out)?;
                 continue;
             };
-            let list = self.blocks.take(frame)?;
+            let decoded = self.blocks.take(frame)?;
             self.preface.advance(true, out)?;
             write_frame(frame, out)?;
-            if let Some(list) = list {
-                write_list(&list, out)?;
-            }
+            write_list(decoded, self.blocks.list(), out)?;
         }
         Ok(())
     }

@@ -45,14 +45,14 @@ returns-in-Pass c =
 pub returns-in_ok-decode-in-Block-clause-ok : goal.returns-in_ok-decode-in-Block-clause-ok
 returns-in_ok-decode-in-Block-clause-ok c = λ frames represents.
     represent_block c.args.self.now c.decode.new.self c.take.new.self _ frames c.in-Block.stream
-    c.in-Block.end c.in-Block.octets.items _
+    c.in-Block.end c.in-Block.octets.items _ _
     (rw c.in-Block.is at c.in_ok-take.ensures.takes) c.decode.ensures.same
     (rw c.deref.ensures.value at c.in_ok-decode-in-Block.ensures.ok.1) represents
 
 pub returns-in_ok-decode-in-Block-clause-shown : goal.returns-in_ok-decode-in-Block-clause-shown
 returns-in_ok-decode-in-Block-clause-shown c = λ frames lines shows.
     show_block c.args.self.now c.decode.new.self c.take.new.self _ frames lines c.in-Block.stream
-    c.in-Block.end c.in-Block.octets.items _
+    c.in-Block.end c.in-Block.octets.items _ _
     (rw c.in-Block.is at c.in_ok-take.ensures.takes)
     (rw c.in-Block.is at c.in_ok-take.ensures.ended) c.decode.ensures.same
     (rw c.deref.ensures.value at c.in_ok-decode-in-Block.ensures.ok.1) shows

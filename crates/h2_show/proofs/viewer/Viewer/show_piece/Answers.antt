@@ -27,18 +27,18 @@ returns-in_err-cut-clause-fault g c =
           (rw c.in_err-cut.was at c.cut.follows.holds-at-none) is,
     ))
 
-pub returns-in_err-list-clause-fault : goal.returns-in_err-list-clause-fault
-returns-in_err-list-clause-fault g c =
-    let result = c.from_residual-in_err-list.result in
-    let answer = err_from_is_err_and result c.from_residual-in_err-list.ensures.1 in
+pub returns-in_err-decoded-clause-fault : goal.returns-in_err-decoded-clause-fault
+returns-in_err-decoded-clause-fault g c =
+    let result = c.from_residual-in_err-decoded.result in
+    let answer = err_from_is_err_and result c.from_residual-in_err-decoded.ensures.1 in
     rw (answer.1, answer.2) (λ is.
     let (printed, written, prints) = c.loop-done.invariant.printed in (
       printed,
       written,
-      fails_with_block c.in_err-list.field-0.0 _ c.loop-done.self.cutter _ _
+      fails_with_block c.in_err-decoded.field-0.0 _ c.loop-done.self.cutter _ _
           c.loop-done.self.blocks _ c.loop-done.self.preface.is_due c.args.piece.now
           c.loop-done.done c.in_ok-cut.cut c.in-Some.frame printed prints c.in-Some.is
-          (rw c.in_ok-cut.was at c.cut.follows.holds-at-none) c.in_err-list.ensures.err is,
+          (rw c.in_ok-cut.was at c.cut.follows.holds-at-none) c.in_err-decoded.ensures.err is,
     ))
 
 pub returns-in_err-cut-clause-err : goal.returns-in_err-cut-clause-err
@@ -69,63 +69,17 @@ loop-done-preserved-in_default g c =
       );
     }
 
-pub returns-in_err-list-clause-err : goal.returns-in_err-list-clause-err
-returns-in_err-list-clause-err g c =
-    let result = c.from_residual-in_err-list.result in
-    let answer = err_from_is_err_and result c.from_residual-in_err-list.ensures.1 in
+pub returns-in_err-decoded-clause-err : goal.returns-in_err-decoded-clause-err
+returns-in_err-decoded-clause-err g c =
+    let result = c.from_residual-in_err-decoded.result in
+    let answer = err_from_is_err_and result c.from_residual-in_err-decoded.ensures.1 in
     rw (answer.1, answer.2) (
-    fails_at_frame c.in_err-list.field-0.0 _ c.loop-done.self.cutter _ _ c.loop-done.self.blocks
+    fails_at_frame c.in_err-decoded.field-0.0 _ c.loop-done.self.cutter _ _ c.loop-done.self.blocks
     c.args.piece.now c.loop-done.done c.in_ok-cut.cut c.in-Some.frame c.loop-done.invariant.shown
     c.in-Some.is (rw c.in_ok-cut.was at c.cut.follows.holds-at-none)
     (used_within c.args.piece.now c.loop-done.done c.in_ok-cut.cut.used
-    c.loop-done.invariant.within c.in_ok-cut.ensures.used) c.in_err-list.ensures.err
+    c.loop-done.invariant.within c.in_ok-cut.ensures.used) c.in_err-decoded.ensures.err
     )
-
-pub loop-done-preserved-in_ok-write_list : goal.loop-done-preserved-in_ok-write_list
-loop-done-preserved-in_ok-write_list g c =
-    record {
-      within = used_within c.args.piece.now c.loop-done.done c.in_ok-cut.cut.used
-          c.loop-done.invariant.within c.in_ok-cut.ensures.used;
-      shown = continues_with_frame _ c.loop-done.self.cutter _ _ c.loop-done.self.blocks _
-          c.args.piece.now c.loop-done.done c.in_ok-cut.cut c.in-Some.frame
-          c.loop-done.invariant.shown c.in-Some.is
-          (rw c.in_ok-cut.was at c.cut.follows.holds-at-none) c.in_ok-list.ensures.ok;
-      printed = let (printed, written, prints) = c.loop-done.invariant.printed in (
-        _,
-        frame_written _ _ _ _ _ c.loop-done.self.preface.is_due printed _ _ written
-            c.in_ok-advance-2.ensures.line c.in_ok-write_frame.ensures
-            c.in_ok-write_list.ensures,
-        prints_frame _ c.loop-done.self.cutter _ _ c.loop-done.self.blocks _ _
-            c.loop-done.self.preface.is_due _ c.args.piece.now c.loop-done.done
-            c.in_ok-cut.cut c.in-Some.frame printed _ prints c.in-Some.is
-            (rw c.in_ok-cut.was at c.cut.follows.holds-at-none)
-            c.in_ok-advance-2.ensures.due
-            (rw c.in-Some-list.is at c.in_ok-list.ensures.shown),
-      );
-    }
-
-pub loop-done-preserved-in_ok-write_list-2 : goal.loop-done-preserved-in_ok-write_list-2
-loop-done-preserved-in_ok-write_list-2 g c =
-    record {
-      within = used_within c.args.piece.now c.loop-done.done c.in_ok-cut.cut.used
-          c.loop-done.invariant.within c.in_ok-cut.ensures.used;
-      shown = continues_with_frame _ c.loop-done.self.cutter _ _ c.loop-done.self.blocks _
-          c.args.piece.now c.loop-done.done c.in_ok-cut.cut c.in-Some.frame
-          c.loop-done.invariant.shown c.in-Some.is
-          (rw c.in_ok-cut.was at c.cut.follows.holds-at-none) c.in_ok-list.ensures.ok;
-      printed = let (printed, written, prints) = c.loop-done.invariant.printed in (
-        _,
-        frame_written _ _ _ _ _ c.loop-done.self.preface.is_due printed _ _ written
-            c.in_ok-advance-2.ensures.line c.in_ok-write_frame.ensures
-            c.in_ok-write_list.ensures,
-        prints_frame _ c.loop-done.self.cutter _ _ c.loop-done.self.blocks _ _
-            c.loop-done.self.preface.is_due _ c.args.piece.now c.loop-done.done
-            c.in_ok-cut.cut c.in-Some.frame printed _ prints c.in-Some.is
-            (rw c.in_ok-cut.was at c.cut.follows.holds-at-none)
-            c.in_ok-advance-2.ensures.due
-            (rw c.in-Some-list.is at c.in_ok-list.ensures.shown),
-      );
-    }
 
 pub loop-done-preserved : goal.loop-done-preserved
 loop-done-preserved g c =
@@ -135,16 +89,16 @@ loop-done-preserved g c =
       shown = continues_with_frame _ c.loop-done.self.cutter _ _ c.loop-done.self.blocks _
           c.args.piece.now c.loop-done.done c.in_ok-cut.cut c.in-Some.frame
           c.loop-done.invariant.shown c.in-Some.is
-          (rw c.in_ok-cut.was at c.cut.follows.holds-at-none) c.in_ok-list.ensures.ok;
+          (rw c.in_ok-cut.was at c.cut.follows.holds-at-none) c.in_ok-decoded.ensures.ok;
       printed = let (printed, written, prints) = c.loop-done.invariant.printed in (
         _,
-        frame_written _ _ _ _ _ c.loop-done.self.preface.is_due printed _ [] written
-            c.in_ok-advance-2.ensures.line c.in_ok-write_frame.ensures (Appends-nil _),
+        frame_written _ _ _ _ _ c.loop-done.self.preface.is_due printed _ _ written
+            c.in_ok-advance-2.ensures.line c.in_ok-write_frame.ensures
+            (rw c.list.ensures at c.in_ok-write_list.ensures),
         prints_frame _ c.loop-done.self.cutter _ _ c.loop-done.self.blocks _ _
             c.loop-done.self.preface.is_due _ c.args.piece.now c.loop-done.done
-            c.in_ok-cut.cut c.in-Some.frame printed [] prints c.in-Some.is
+            c.in_ok-cut.cut c.in-Some.frame printed _ prints c.in-Some.is
             (rw c.in_ok-cut.was at c.cut.follows.holds-at-none)
-            c.in_ok-advance-2.ensures.due
-            (rw c.in_default-list.is at c.in_ok-list.ensures.shown),
+            c.in_ok-advance-2.ensures.due c.in_ok-decoded.ensures.shown,
       );
     }

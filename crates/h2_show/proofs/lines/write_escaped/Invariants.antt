@@ -1,6 +1,6 @@
 -- A prefix of the octets is written, and the rest is to come.
 use Rattle.h2_show.proofs.Names.{ℕ, List, ◌≡◌, ◌++◌, length, Appends, shown_octets}
-use Rattle.h2_show.proofs.lines.write_text.Given as goal
+use Rattle.h2_show.proofs.lines.write_escaped.Given as goal
 
 abbrev pub invariant-loop-count : goal.invariant-loop-count
 invariant-loop-count g l =
