@@ -54,6 +54,7 @@ impl Endpoint {
         ensures { EndTakesFrame (end_of self.old) (frame_of frame.entry) self.new.list result
             (end_of self.new) }
     {
+        // The first frame must be SETTINGS, without ACK (section 3.4).
         let may_be_first = match frame {
             FrameRef::Settings { ack, .. } => !ack,
             _ => false,
@@ -145,6 +146,7 @@ impl Endpoint {
                 octets,
                 pad,
             } => {
+                // The pad length and the padding count for the windows too (section 6.1).
                 let padding = match pad {
                     Some(count) => 1 + u32::from(count),
                     None => 0,

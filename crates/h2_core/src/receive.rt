@@ -34,12 +34,13 @@ impl Endpoint {
     // rule: 5.1 After the peer has ended a stream DATA is STREAM_CLOSED
     // rule: 5.1 On a closed stream DATA is STREAM_CLOSED (its scope: own)
     // rule: 5.1 What comes on a stream that this end has reset is dropped
-    // rule: 6.1 The complete payload of DATA, padding included, counts for windows
     // rule: 6.9.1 DATA above the connection's window is FLOW_CONTROL_ERROR
     // rule: 6.9.1 DATA above its stream's window is FLOW_CONTROL_ERROR (scope: own)
     // rule: 6.9.1 DATA of no octets is within any window
-    /// DATA (section 6.1): it takes of both windows; on a stream that this end has closed it is
-    /// discarded, and on one that is half-closed (remote) it is a stream error.
+    /// DATA (section 6.1). On an active stream it uses both windows and is reported; on one that
+    /// this end has closed it uses the connection's, and is discarded; after the peer's END_STREAM
+    /// it is a stream error; on an idle or a closed stream, or above a window, it fails the
+    /// connection.
     pub(crate) fn take_data<'a>(
         &mut self,
         frame: DataFrame<'a>,

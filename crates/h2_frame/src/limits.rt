@@ -27,8 +27,8 @@ pub const MAX_BLOCK: usize = 65_552;
 /// (own; RFC 9113, sections 6.5.2 and 10.5.1): `max_list`.
 pub const MAX_LIST: u32 = 65_536;
 
-/// So many octets of waiting output, or more, refuse an end's own calls, and no credit is returned
-/// by itself (own; RFC 9113, section 10.5): `full_output`.
+/// With so many octets of waiting output, or more, an end refuses its own calls, and returns no
+/// credit of its own accord (own; RFC 9113, section 10.5): `full_output`.
 pub const FULL_OUTPUT: usize = 65_536;
 
 /// The waiting output, in octets, that no reply may exceed (own; RFC 9113, section 10.5):

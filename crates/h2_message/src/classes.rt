@@ -44,7 +44,7 @@ pub(crate) enum Status {
 }
 
 // contract: 8.3.1 A method that is no token, or is CONNECT (own), breaks M7
-/// What a method says: nothing where it is one of the two that nearly all requests have.
+/// The class of a method. GET and POST, which most requests have, are compared first.
 #[inline(always)]
 pub(crate) fn method_class(value: &[u8]) -> Method
     ensures { result ≡ method_class value.now }
@@ -59,7 +59,7 @@ pub(crate) fn method_class(value: &[u8]) -> Method
 }
 
 // rule: 8.3.1 A method that is no token, or is CONNECT (own), breaks M7
-/// What a method says that may be any.
+/// The class of a method, whichever it is.
 #[inline(never)]
 #[tactic(auto, unfolding(crate::specs::Classes::method_class, crate::specs::Octets::is_bad_method))]
 fn class_of_other_method(value: &[u8]) -> Method

@@ -1,7 +1,7 @@
 //! Scans of octets, up to 32 at once.
 //!
-//! Few octets are ones that a bad octet may be among: those are looked for first, many at once, and
-//! only where there are some is each octet looked at.
+//! A first scan asks of many octets at once whether one is unusual in a name, or low in a value, as
+//! every bad one is. Only where one is are they checked exactly.
 
 ghost use Rattle.std.specs.Prelude.{◌≡◌, ◌≤◌, ◌<◌, ◌+◌, length, take};
 ghost use Rattle.std.specs.List.{list_any};
@@ -14,7 +14,6 @@ use std::simd::prelude::*;
 const LANES: usize = 32;
 
 // rule: 8.2.1 A name with an octet that it must not have breaks M1
-// rule: 8.2.1 (own) An empty name breaks M1
 /// Whether no name has this octet (RFC 9113, section 8.2.1).
 #[inline]
 #[tactic(auto, unfolding(crate::specs::Octets::is_bad_in_name))]
@@ -25,7 +24,6 @@ pub(crate) fn is_bad_in_name(octet: u8) -> bool
 }
 
 // rule: 8.2.1 A name with an octet that it must not have breaks M1
-// rule: 8.2.1 (own) An empty name breaks M1
 /// Whether no name has this octet after its first one.
 #[inline]
 #[tactic(auto, unfolding(crate::specs::Octets::is_bad_after_first))]
@@ -36,7 +34,6 @@ fn is_bad_after_first(octet: u8) -> bool
 }
 
 // rule: 8.2.1 A value with NUL, CR or LF breaks M2
-// rule: 8.2.1 A value that begins or ends with a space or a tab breaks M2
 /// Whether no value has this octet (section 8.2.1).
 #[inline]
 #[tactic(auto, unfolding(crate::specs::Octets::is_bad_in_value))]
@@ -47,7 +44,6 @@ fn is_bad_in_value(octet: u8) -> bool
 }
 
 // rule: 8.2.1 A name with an octet that it must not have breaks M1
-// rule: 8.2.1 (own) An empty name breaks M1
 // contract: 8.2.1 (own) A scan of 32 octets at once answers what each octet's condition says
 // rule: 8.2.1 (own) A scan of 32 octets at once answers what each octet's condition says
 /// Whether no name has one of these octets after its first one.
@@ -59,7 +55,6 @@ pub(crate) fn has_bad_after_first(octets: &[u8]) -> bool
 }
 
 // rule: 8.2.1 A name with an octet that it must not have breaks M1
-// rule: 8.2.1 (own) An empty name breaks M1
 /// The same, octet by octet.
 #[inline(never)]
 fn scan_after_first(octets: &[u8]) -> bool
@@ -147,7 +142,7 @@ fn run_has_unusual<const N: usize>(octets: &[u8]) -> bool
 }
 
 // rule: 8.2.1 (own) A scan of 32 octets at once answers what each octet's condition says
-/// No small letter, no hyphen, nor one of the four signs from 0x7b to 0x7e.
+/// Whether an octet is neither a lowercase letter, nor a hyphen, nor one of 0x7b to 0x7e.
 #[inline]
 #[tactic(auto, unfolding(crate::specs::Octets::is_unusual))]
 fn is_unusual(octet: u8) -> bool
@@ -157,7 +152,6 @@ fn is_unusual(octet: u8) -> bool
 }
 
 // rule: 8.2.1 A value with NUL, CR or LF breaks M2
-// rule: 8.2.1 A value that begins or ends with a space or a tab breaks M2
 // contract: 8.2.1 (own) A scan of 32 octets at once answers what each octet's condition says
 // rule: 8.2.1 (own) A scan of 32 octets at once answers what each octet's condition says
 /// Whether no value has one of these octets.
@@ -169,8 +163,7 @@ pub(crate) fn has_bad_in_value(octets: &[u8]) -> bool
 }
 
 // rule: 8.2.1 A value with NUL, CR or LF breaks M2
-// rule: 8.2.1 A value that begins or ends with a space or a tab breaks M2
-/// The same, of octets that a bad one may be among, as a tab.
+/// The same, exactly, in runs of 32: for values with an octet up to a carriage return, as a tab.
 #[inline(never)]
 fn scan_value(octets: &[u8]) -> bool
     ensures { result ≡ list_any is_bad_in_value octets.now }
@@ -279,7 +272,7 @@ fn run_has_low<const N: usize>(octets: &[u8]) -> bool
 }
 
 // rule: 8.2.1 (own) A scan of 32 octets at once answers what each octet's condition says
-/// An octet up to a carriage return.
+/// Whether an octet is at most a carriage return.
 #[inline]
 #[tactic(auto, unfolding(crate::specs::Octets::is_low))]
 fn is_low(octet: u8) -> bool

@@ -52,7 +52,6 @@ pub(crate) fn is_bad_value(value: &[u8]) -> bool
     has_bad_in_value(value) || begins_blank(value) || ends_blank(value)
 }
 
-// rule: 8.2.1 A value with NUL, CR or LF breaks M2
 // rule: 8.2.1 A value that begins or ends with a space or a tab breaks M2
 /// Whether the first octet is a space or a tab.
 #[tactic(auto, unfolding(crate::specs::Octets::begins_blank))]
@@ -65,6 +64,7 @@ fn begins_blank(value: &[u8]) -> bool
     }
 }
 
+// rule: 8.2.1 A value that begins or ends with a space or a tab breaks M2
 /// Whether the last octet is a space or a tab.
 fn ends_blank(value: &[u8]) -> bool
     ensures { result ≡ begins_blank (reverse value.now) }
@@ -75,6 +75,7 @@ fn ends_blank(value: &[u8]) -> bool
     }
 }
 
+// rule: 8.2.1 A value that begins or ends with a space or a tab breaks M2
 /// A space or a tab.
 #[inline(always)]
 #[tactic(auto, unfolding(crate::specs::Octets::is_blank))]

@@ -28,8 +28,9 @@ pub(crate) struct Kept {
     pub(crate) state: StreamState,
 }
 
-/// The streams of one end. Numbers are looked up by their hashes, so that a call costs about the
-/// same for a thousand streams as for one.
+/// The streams of one end. Numbers are looked up by their hashes, so that a look-up costs about the
+/// same for a thousand streams as for one. `next_active` and `greatest_send_window` go over all
+/// active streams.
 #[derive(Drop)]
 pub struct StreamTable {
     /// The active streams, by number.
@@ -271,8 +272,8 @@ fn greater_of(greatest: Option<i64>, offset: i64) -> i64
     }
 }
 
-/// The next number or the one after it, if it is active. An end numbers its streams in twos, so it
-/// mostly is while none of them has ended.
+/// The first of the next two numbers that is active. A client uses odd numbers (RFC 9113, section
+/// 5.1.1), so it is mostly there while no stream has ended.
 fn next_but_one(active: &HashMap<u32, Kept>, above: u32) -> Option<u32>
     ensures { IfSome result (λ number. IsLeastAbove above active.now.entries (Some number)) }
 {
@@ -288,7 +289,7 @@ fn next_but_one(active: &HashMap<u32, Kept>, above: u32) -> Option<u32>
 }
 
 /// The least active number above another, if there are any. Those above it wrap to less than
-/// `rest`, in their order, and no others do: so a turn is a sum and a minimum.
+/// `rest`, in their order, and no others do: so each step of the loop is one addition and one minimum.
 fn least_above(active: &HashMap<u32, Kept>, above: u32) -> Option<u32>
     ensures { IsLeastAbove above active.now.entries result }
 {
