@@ -289,7 +289,8 @@ fn next_but_one(active: &HashMap<u32, Kept>, above: u32) -> Option<u32>
 }
 
 /// The least active number above another, if there are any. Those above it wrap to less than
-/// `rest`, in their order, and no others do: so each step of the loop is one addition and one minimum.
+/// `rest`, in their order, and no others do: so each step of the loop is one addition and one
+/// minimum.
 fn least_above(active: &HashMap<u32, Kept>, above: u32) -> Option<u32>
     ensures { IsLeastAbove above active.now.entries result }
 {
