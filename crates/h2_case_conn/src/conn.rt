@@ -99,11 +99,18 @@ fn keep(acts: &mut Vec<Act>, act: Act, text: &mut Text) {
     }
 }
 
-// Takes all output away.
+// Takes all output away, from where it lies.
 fn output(alloc: Global, conn: &mut Conn) -> Vec<u8> {
     let mut out = Vec::new(alloc);
     for _ in 0..u64::MAX {
-        if matches!(conn.put_out(usize::MAX, &mut out), Ok(0) | Err(_)) {
+        if conn.ready().is_err() {
+            break;
+        }
+        let (first, last) = conn.waiting_octets();
+        if out.extend_from_slice(first).is_err() || out.extend_from_slice(last).is_err() {
+            break;
+        }
+        if matches!(conn.consume(usize::MAX), Ok(0) | Err(_)) {
             break;
         }
     }

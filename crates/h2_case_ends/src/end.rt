@@ -1,17 +1,17 @@
 //! A client or a server of complete messages.
 //!
 //! - `new client`, `new server`, `take`, `out`, `out N`, `drop out`, `ping OCTETS`, `go_away`,
-//!   `reset ID CODE`, `change VALUES`, `waiting`, `room ID`, `owed ID` and `next_live ID` as of
-//!   one end of a connection (`h2_case_conn::conn`). What is handed out is as [`crate::end_events`]
-//!   says.
+//!   `reset ID CODE`, `release ID N`, `change VALUES`, `waiting`, `room ID`, `owed ID` and
+//!   `next_live ID` as of one end of a connection (`h2_case_conn::conn`). What is handed out is as
+//!   [`crate::end_events`] says.
 //! - `start`: the peer's opening comes, with SETTINGS without values, and all output is taken away
 //!   and not shown.
 //! - `request MESSAGE`, `respond ID MESSAGE`: messages are written as [`h2_case::messages`] says.
 //!   A refused one must be returned unchanged.
 //! - `serve each N MESSAGE`, at a client `ask each N MESSAGE`: see [`crate::crowds`].
-//! - `pump`, `release_all`, `is_quiet`; `active`: the numbers of all active streams, and
-//!   `count active`: their number; `count out`: the number of octets of output that are taken
-//!   away.
+//! - `pump`, `release_all`, `is_quiet`, `is_full`, `is_drained`; `active`: the numbers of all
+//!   active streams, and `count active`: their number; `count out`: the number of octets of output
+//!   that are taken away.
 //! - `other`: the commands that follow are for the other of two ends, which is new at first.
 //!   `exchange N`: octets go to the other end and back, N at once at most, until none are queued
 //!   ([`crate::joined`]).
@@ -56,11 +56,11 @@ fn new_side(alloc: Global, words: &mut Words<'_>, text: &mut Text) -> Option<Sid
     side
 }
 
-// Takes all output away.
+// Takes all output away, from where it lies.
 fn output(alloc: Global, side: &mut Side) -> Vec<u8> {
     let mut out = Vec::new(alloc);
     for _ in 0..u64::MAX {
-        if matches!(side.put_out(usize::MAX, &mut out), Ok(0) | Err(_)) {
+        if matches!(side.consume_all(&mut out), Ok(0) | Err(_)) {
             break;
         }
     }
@@ -229,6 +229,10 @@ fn answer_call(alloc: Global, side: &mut Side, name: &str, words: &mut Words<'_>
             let id = words.number();
             add_done(alloc, text, side.reset(id, words.number()));
         }
+        "release" => {
+            let id = words.number();
+            add_done(alloc, text, side.release(id, words.number()));
+        }
         "ping" => add_done(alloc, text, side.ping(read_ping(alloc, words))),
         "go_away" => add_done(alloc, text, side.go_away()),
         "change" => add_done(alloc, text, side.change_settings(read_config(words))),
@@ -241,6 +245,8 @@ fn read(side: &Side, name: &str, words: &mut Words<'_>, text: &mut Text) {
     match name {
         "waiting" => add_value(text, side.conn().waiting()),
         "is_quiet" => add_value(text, side.is_quiet()),
+        "is_full" => add_value(text, side.is_full()),
+        "is_drained" => add_value(text, side.is_drained()),
         "active" => add_active(side, false, text),
         "room" => add_option(text, side.conn().room(words.number())),
         "owed" => add_value(text, side.conn().owed(words.number())),

@@ -117,6 +117,27 @@ impl Side {
         }
     }
 
+    pub(crate) fn release(&mut self, id: u32, count: u32) -> Result<(), Refusal> {
+        match self {
+            Side::Client(client) => client.release(id, count),
+            Side::Server(server) => server.release(id, count),
+        }
+    }
+
+    pub(crate) fn is_full(&self) -> bool {
+        match self {
+            Side::Client(client) => client.is_full(),
+            Side::Server(server) => server.is_full(),
+        }
+    }
+
+    pub(crate) fn is_drained(&self) -> bool {
+        match self {
+            Side::Client(client) => client.is_drained(),
+            Side::Server(server) => server.is_drained(),
+        }
+    }
+
     pub(crate) fn go_away(&mut self) -> Result<(), Refusal> {
         match self {
             Side::Client(client) => client.go_away(),
@@ -137,4 +158,29 @@ impl Side {
             Side::Server(server) => server.put_out(count, out),
         }
     }
+    // Copies what waits from where it lies, and takes it away.
+    pub(crate) fn consume_all(&mut self, out: &mut Vec<u8>) -> Result<usize, Refusal> {
+        match self {
+            Side::Client(client) => {
+                client.ready()?;
+                let (first, second) = client.waiting_octets();
+                append(out, first, second)?;
+                client.consume(usize::MAX)
+            }
+            Side::Server(server) => {
+                server.ready()?;
+                let (first, second) = server.waiting_octets();
+                append(out, first, second)?;
+                server.consume(usize::MAX)
+            }
+        }
+    }
+}
+
+// Appends two slices.
+fn append(out: &mut Vec<u8>, first: &[u8], second: &[u8]) -> Result<(), Refusal> {
+    if out.extend_from_slice(first).is_err() || out.extend_from_slice(second).is_err() {
+        return Err(Refusal::Memory);
+    }
+    Ok(())
 }

@@ -1,6 +1,8 @@
 -- Hexadecimal text with blanks.
 use Rattle.std.specs.Prelude.{ℕ, ◌==◌, ◌||◌, not, Bool, List, filter, IsErr}
 use Rattle.hex.specs.Hex.{decode_of}
+use Rattle.hex.specs.declared.error.FromHexError.{FromHexError}
+use Rattle.hex.specs.declared.error.FromHexError.TheVariants.{OutOfMemory}
 use Rattle.h2_cli.specs.declared.failure.Failure.{Failure}
 use Rattle.h2_cli.specs.declared.failure.Failure.TheVariants as failures
 use Rattle.h2_cli.specs.declared.hexadecimal.HexError.{HexError}
@@ -25,6 +27,11 @@ IsBadHex text = IsErr (decode_of (without_blanks text))
 abbrev pub HexErrorReports : List ℕ → HexError → Type 0
 HexErrorReports text BadHex = IsBadHex text
 HexErrorReports text Memory = Unit {0}
+
+-- a fault of decoding digits, as an error of reading a text
+abbrev pub error_of_hex : FromHexError → HexError
+error_of_hex OutOfMemory = Memory
+error_of_hex _ = BadHex
 
 -- an error of reading a text, as the failure of a command
 -- rule: show (own) Hexadecimal is read without its blanks; other text is refused

@@ -4,7 +4,6 @@ use Rattle.std.specs.Prelude.{MatchBool, codes, decimal, nat_eq}
 use Rattle.std.specs.List.{starts_with}
 use Rattle.std.specs.declared.io.ErrorKind.{ErrorKind}
 use Rattle.std.specs.declared.io.ErrorKind.TheVariants as kinds
-use Rattle.h2_frame.specs.declared.code.Code.{Code}
 use Rattle.h2_frame.specs.Codes.{code_number, name_of}
 use Rattle.h2_cli.specs.declared.hint.Hint.{Hint}
 use Rattle.h2_cli.specs.declared.hint.Hint.TheVariants as hints

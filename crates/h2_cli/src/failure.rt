@@ -12,7 +12,7 @@ use std::io;
 use thiserror::Error;
 
 /// Why a command fails. Its text is the line for standard error.
-#[derive(Clone, Copy, Debug, PartialEq, Eq, Error)]
+#[derive(Clone, Copy, Debug, PartialEq, Eq, Hash, Error)]
 pub enum Failure {
     /// A read or a write failed.
     #[error("N1 Device")]

@@ -3,14 +3,15 @@
 ghost use Rattle.std.specs.Prelude.{◌≡◌, IfOk, MatchResult, Ok};
 ghost use Rattle.hex.specs.Hex.{decode_of};
 ghost use Rattle.h2_cli.specs.Hexadecimal.{is_skipped_blank as blank, without_blanks};
-ghost use Rattle.h2_cli.specs.Hexadecimal.{HexErrorReports};
+ghost use Rattle.h2_cli.specs.Hexadecimal.{HexErrorReports, error_of_hex};
+ghost use Rattle.h2_cli.specs.declared.hexadecimal.HexError.TheVariants.{Memory};
 
 use hex::FromHexError;
 use std::alloc::{AllocError, Global};
 use thiserror::Error;
 
 /// Why a text isn't read as hexadecimal.
-#[derive(Clone, Copy, Debug, PartialEq, Eq, Error)]
+#[derive(Clone, Copy, Debug, PartialEq, Eq, Hash, Error)]
 pub enum HexError {
     /// Besides blanks it has an octet that is no hexadecimal digit, or an odd number of digits.
     #[error("bad hex")]
@@ -18,6 +19,25 @@ pub enum HexError {
     /// Out of memory.
     #[error("out of memory")]
     Memory,
+}
+
+impl From<AllocError> for HexError {
+    ghost from_gives = { λ _ error. error ≡ Memory };
+
+    fn from(_error: AllocError) -> HexError {
+        HexError::Memory
+    }
+}
+
+impl From<FromHexError> for HexError {
+    ghost from_gives = { λ fault error. error ≡ error_of_hex fault };
+
+    fn from(fault: FromHexError) -> HexError {
+        match fault {
+            FromHexError::OutOfMemory => HexError::Memory,
+            _ => HexError::BadHex,
+        }
+    }
 }
 
 // rule: show (own) Hexadecimal is read without its blanks; other text is refused
@@ -33,12 +53,9 @@ pub fn from_hex(alloc: Global, text: &[u8]) -> Result<Vec<u8>, HexError>
         (λ octets. decode_of (without_blanks text.now) ≡ Ok octets.items)
         (HexErrorReports text.now) }
 {
-    let digits = digits_of(alloc, text).map_err(|_| HexError::Memory)?;
-    match hex::decode(alloc, digits.as_slice()) {
-        Ok(octets) => Ok(octets),
-        Err(FromHexError::OutOfMemory) => Err(HexError::Memory),
-        Err(_) => Err(HexError::BadHex),
-    }
+    let digits = digits_of(alloc, text)?;
+    let octets = hex::decode(alloc, digits.as_slice())?;
+    Ok(octets)
 }
 
 // The text without its blanks.

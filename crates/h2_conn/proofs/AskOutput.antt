@@ -2,12 +2,15 @@
 use Rattle.h2_conn.proofs.Names.{◌≡◌, ℕ, suc, ◌+◌, ◌++◌, min, nat_lt, Bool, true, false, ◌||◌, List}
 use Rattle.h2_conn.proofs.Names.{length, take, drop, Option, Some, None, Result, Ok, Err, inr, IfOk}
 use Rattle.h2_conn.proofs.Names.{refl, sym, ap, ◌∙◌, arith, Code, CutterState, Refusal, Memory}
-use Rattle.h2_conn.proofs.Names.{Values, IsTypedAct, PutOut, Count, returns_before_put_out, Log}
-use Rattle.h2_conn.proofs.Names.{log_view, End, end_view, before_put_out_at, Represents}
-use Rattle.h2_conn.proofs.Names.{waiting_alike, PutsOut, answer_by, never_refused}
-use Rattle.h2_spec_log.specs.CallRules.{may_lack_memory, encoder_after_call}
+use Rattle.h2_conn.proofs.Names.{Values, PutOut, Count, returns_before_put_out, Log}
+use Rattle.h2_conn.proofs.Names.{log_view, End, end_view, Represents}
+use Rattle.h2_conn.proofs.Names.{waiting_alike, Consumes, PutsOut, answer_by, never_refused}
+use Rattle.h2_spec_log.specs.CallRules.{may_lack_memory, encoder_after_call, has_failed}
 use Rattle.h2_spec_log.specs.LogCalls.{with_call, called, before_put_out}
-use Rattle.std.proofs.Common.{zero, IfErr, IsOk, is_ok}
+use Rattle.h2_spec_log.specs.Acts.{Answer, IsTypedAct}
+use Rattle.h2_spec_log.specs.Limits.{full_output}
+use Rattle.h2_spec_machine.specs.Machine.{after_call, before_put_out_at, return_credit}
+use Rattle.std.proofs.Common.{zero, IfErr, IsOk, is_ok, subst, if◌then◌else◌, not, ◌&&◌}
 use Rattle.std.proofs.lemmas.Bool.{both_ways, lt-ltb}
 use Rattle.std.proofs.lemmas.List.{drop-take}
 use Rattle.h2_spec_log.specs.Log.{released}
@@ -59,6 +62,18 @@ pub ok_as : {A : Type 0} (X Y : A → Type 0) (result : Result A Refusal)
 ok_as X Y (Ok value) says ok = says value ok
 ok_as X Y (Err refusal) says ok = ok
 
+-- What was put out is consumed, and a refusal leaves the end as it was.
+pub consumed_by : (result : Result ℕ Refusal) (e new : End) (count : ℕ) (before after : List ℕ)
+    → IfOk result (λ given. PutsOut e count given before after new)
+    → IfOk result (λ given. Consumes e count given new)
+consumed_by result e new count before after = ok_as _ _ result (λ given puts. puts.consumed)
+
+pub same_by : {A : Type 0} (result : Result A Refusal) (e new : End) (kept : Type 0)
+    → IfErr result (λ refusal. (refusal ≡ Memory) × kept × (new ≡ e))
+    → IfErr result (λ refusal. (refusal ≡ Memory) × (new ≡ e))
+same_by (Ok value) e new kept err = err
+same_by (Err refusal) e new kept (memory, is, same) = (memory, same)
+
 -- Where it needs no memory unless something is returned first or put out, memory is refused to it
 -- only then.
 pub lacks_by : (result : Result ℕ Refusal) (returns : Bool) (most : ℕ)
@@ -81,17 +96,56 @@ put_out_lacks_alike values e log count represents =
 
 -- The call's answer.
 pub put_out_answers : (result : Result ℕ Refusal) (cutter : CutterState) (e new : End) (count : ℕ)
-    (before after : List ℕ) → IsTypedAct (PutOut count)
+    → IsTypedAct (PutOut count)
     → (result ≡ Err Memory → may_lack_memory (end_view e) (PutOut count) ≡ true)
-    → IfOk result (λ given. PutsOut e count given before after new)
-    → IfErr result (λ refusal. (refusal ≡ Memory) × (after ≡ before) × (new ≡ e))
+    → IfOk result (λ given. Consumes e count given new)
+    → IfErr result (λ refusal. (refusal ≡ Memory) × (new ≡ e))
     → PartsAnswer cutter e (PutOut count) (answer_by (λ given. Count given) result) new
-put_out_answers (Ok given) cutter e new count before after typed lacking ok err values log parts =
+put_out_answers (Ok given) cutter e new count typed lacking ok err values log parts =
     accepted_with values cutter e new log (PutOut count) (Count given) refl parts typed ok.answer
     (put_out_alike values e log count parts.machine) (never_refused e count) ok.machine
-put_out_answers (Err refusal) cutter e new count before after typed lacking ok
-    (memory, kept, same) values log parts =
+put_out_answers (Err refusal) cutter e new count typed lacking ok (memory, same) values log
+    parts =
     refused_at values cutter e new log (PutOut count) refusal parts typed
     (λ lacks free. sym (put_out_lacks_alike values e log count parts.machine)
     ∙ lacking (ap Err memory))
     (record { why = inr (memory, never_refused e count); same = same })
+
+-- Where 0 octets are to be consumed, the answer is that of putting out 0;
+pub ready_consumes : (result : Result ℕ Refusal) (cutter : CutterState) (e new : End)
+    → (returns_before_put_out (end_view e) ≡ false → IsOk result)
+    → IfOk result (λ given. Consumes e 0 given new)
+    → IfErr result (λ refusal. (refusal ≡ Memory) × (new ≡ e))
+    → PartsAnswer cutter e (PutOut 0) (answer_by (λ given. Count given) result) new
+unfolding IsTypedAct may_lack_memory
+ready_consumes result cutter e new nothing ok err =
+    put_out_answers result cutter e new 0 (omega arith)
+    (lacks_by result (returns_before_put_out (end_view e)) (min 0 (length e.output.waiting))
+    (λ none few. nothing none)) ok err
+
+-- none are consumed;
+pub ready_answers : (result : Result ℕ Refusal) (given : ℕ) (cutter : CutterState) (e new : End)
+    → result ≡ Ok given → IfOk result (λ given. Consumes e 0 given new)
+    → PartsAnswer cutter e (PutOut 0) (answer_by (λ given. Count given) result) new
+    → PartsAnswer cutter e (PutOut 0) (Count 0) new
+ready_answers (Ok given) other cutter e new is ok answers =
+    subst (λ (answer : Answer). PartsAnswer cutter e (PutOut 0) answer new)
+    (ok.answer ∙ ap Count (omega arith)) answers
+ready_answers (Err refusal) other cutter e new is ok answers = cc
+
+-- and nothing is to be returned any more.
+no_credit : (failed few : Bool) → (not failed && (nat_lt 0 0 && few)) ≡ false
+no_credit true few = refl
+no_credit false few = refl
+
+none_returned : (e : End) (returns : Bool) → returns_before_put_out (end_view e) ≡ returns
+    → returns_before_put_out (end_view (if returns then return_credit e else e)) ≡ false
+none_returned e true is = no_credit (has_failed (end_view (return_credit e)))
+    (nat_lt (end_view (return_credit e)).waiting full_output)
+none_returned e false is = is
+
+pub ready_returned : (e new : End) (given : ℕ) → Consumes e 0 given new
+    → returns_before_put_out (end_view new) ≡ false
+unfolding after_call before_put_out_at
+ready_returned e new given consumes =
+    rw consumes.machine (none_returned e (returns_before_put_out (end_view e)) refl)

@@ -1,10 +1,10 @@
 -- A call leaves the values of an end sound.
 use Rattle.h2_conn.proofs.Names.{◌≡◌, ℕ, Bool, true, false, if◌then◌else◌, None, Result, Ok, Err}
-use Rattle.h2_conn.proofs.Names.{inl, inr, IfOk, List, refl, sym, ap, subst, ◌∙◌, Refusal, Memory}
+use Rattle.h2_conn.proofs.Names.{inl, inr, IfOk, refl, sym, ap, subst, ◌∙◌, Refusal, Memory}
 use Rattle.h2_conn.proofs.Names.{Act, IsTypedAct, Refuse, PutOut, refusal_of}
 use Rattle.h2_conn.proofs.Names.{returns_before_put_out, End, end_view, holds, is_whole, counted}
 use Rattle.h2_conn.proofs.Names.{is_counted, fits, are_in_range, CallRefused, CallAccepted}
-use Rattle.h2_conn.proofs.Names.{CallRefuses, IsSoundEnd, PutsOut, never_refused}
+use Rattle.h2_conn.proofs.Names.{CallRefuses, Consumes, IsSoundEnd, never_refused}
 use Rattle.h2_spec_machine.specs.Machine.{after_call, before_put_out_at, return_credit}
 use Rattle.std.proofs.Common.{IfErr, OnOk}
 use Rattle.h2_laws_machine.proofs.BoundsOfSteps.{call_bounded}
@@ -85,23 +85,20 @@ unfolding after_call
 put_out_failed e count = ready_same e
 
 -- Putting output out leaves it whether an end has failed, whatever it returns.
-pub still_failed : (result : Result ℕ Refusal) (e new : End) (count : ℕ) (before after : List ℕ)
-    → IfOk result (λ given. PutsOut e count given before after new)
-    → IfErr result (λ refusal. (refusal ≡ Memory) × (after ≡ before) × (new ≡ e))
-    → new.failed ≡ e.failed
-still_failed (Ok given) e new count before after ok err =
+pub still_failed : (result : Result ℕ Refusal) (e new : End) (count : ℕ)
+    → IfOk result (λ given. Consumes e count given new)
+    → IfErr result (λ refusal. (refusal ≡ Memory) × (new ≡ e)) → new.failed ≡ e.failed
+still_failed (Ok given) e new count ok err =
     ap (λ (x : End). x.failed) ok.machine ∙ put_out_failed e count
-still_failed (Err refusal) e new count before after ok (memory, kept, same) =
-    ap (λ (x : End). x.failed) same
+still_failed (Err refusal) e new count ok (memory, same) = ap (λ (x : End). x.failed) same
 
 -- Putting output out leaves an end sound that hasn't failed.
-pub put_out_sound : (result : Result ℕ Refusal) (e new : End) (count : ℕ) (before after : List ℕ)
+pub put_out_sound : (result : Result ℕ Refusal) (e new : End) (count : ℕ)
     → IsTypedAct (PutOut count) → IsSoundEnd e
-    → IfOk result (λ given. PutsOut e count given before after new)
-    → IfErr result (λ refusal. (refusal ≡ Memory) × (after ≡ before) × (new ≡ e))
-    → IsSoundEnd new
-put_out_sound (Ok given) e new count before after typed sound ok err =
+    → IfOk result (λ given. Consumes e count given new)
+    → IfErr result (λ refusal. (refusal ≡ Memory) × (new ≡ e)) → IsSoundEnd new
+put_out_sound (Ok given) e new count typed sound ok err =
     subst IsSoundEnd (sym ok.machine)
     (accepted_sound e (PutOut count) (never_refused e count) typed sound)
-put_out_sound (Err refusal) e new count before after typed sound ok (memory, kept, same) =
+put_out_sound (Err refusal) e new count typed sound ok (memory, same) =
     subst IsSoundEnd (sym same) sound

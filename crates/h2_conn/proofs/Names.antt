@@ -8,7 +8,7 @@ pub use Rattle.h2_core.specs.Endpoint.{end_of, IsSoundEnd}
 pub use Rattle.h2_core.specs.Events.{FrameEvent}
 pub use Rattle.h2_core.specs.Frames.{FailsWithoutMemory, frame_events, FrameTaken, IsDecodedBy}
 pub use Rattle.h2_core.specs.Frames.{step_events}
-pub use Rattle.h2_core.specs.Readers.{PutsOut}
+pub use Rattle.h2_core.specs.Readers.{Consumes, PutsOut}
 pub use Rattle.h2_flow.specs.ConfigValues.{values_of}
 pub use Rattle.h2_frame.specs.Frames.{Frame}
 pub use Rattle.h2_frame.specs.declared.code.Code.{Code}

@@ -1,6 +1,6 @@
 -- The parts of a connection where its cutter is given the limit of payloads that is in force.
 use Rattle.h2_conn.proofs.Names.{◌≡◌, ◌≤◌, ℕ, nat_le, Bool, true, false, if◌then◌else◌, List}
-use Rattle.h2_conn.proofs.Names.{length, None, refl, sym, ap, subst, ◌∙◌, arith, CutterState}
+use Rattle.h2_conn.proofs.Names.{length, None, refl, sym, ap, ◌∙◌, arith, CutterState}
 use Rattle.h2_conn.proofs.Names.{CutterRepresents, CutterLimited, saturated, body_at, Limits}
 use Rattle.h2_conn.proofs.Names.{Complete, Values, most_max_frame, is_server, payload_limit, Log}
 use Rattle.h2_conn.proofs.Names.{acked, limits_from, Keeps, End, payload_limit_of, Represents}

@@ -9,14 +9,12 @@ use Rattle.h2_conn.proofs.Names.{verdict_of, End, end_view, with_begun, after_fr
 use Rattle.h2_conn.proofs.Names.{IsDecodedBy, step_events, frame_events, FrameTaken, LocatedEvent}
 use Rattle.h2_conn.proofs.Names.{happened_value}
 use Rattle.h2_spec_log.specs.ItemEffects.{events_of}
-use Rattle.std.specs.Borrow.{Bor}
 use Rattle.h2_frame.specs.Frames.{Data, Headers, Priority, Reset, Settings, Ping, GoAway}
 use Rattle.h2_frame.specs.Frames.{WindowUpdate, Continuation, Unknown}
 use Rattle.h2_spec_log.specs.Events.{DataEvent}
 use Rattle.h2_laws_machine.proofs.RecvFrames.{completes_frame}
 use Rattle.h2_core.specs.Events.{with_parts}
 use Rattle.h2_core.specs.Items.{events_reported}
-use Rattle.h2_conn.specs.Events.{lent_value}
 use Rattle.h2_conn.specs.Loans.{LiesThere, IsBodyOf}
 use Rattle.h2_core.specs.declared.event.Event.TheVariants as events
 

@@ -1,7 +1,7 @@
 //! The queued output, lent and given out.
 
 ghost use Rattle.std.specs.Prelude.{◌≡◌, ◌≤◌, ◌+◌, ◌++◌, drop, min, false, vec_len, IfOk, IsOk};
-ghost use Rattle.std.specs.Prelude.{OnErr};
+ghost use Rattle.std.specs.Prelude.{OnErr, OnOk};
 ghost use Rattle.std.specs.Vec.{vec_capacity};
 ghost use Rattle.h2_spec_log.specs.Acts.{Values, PutOut, Count};
 ghost use Rattle.h2_spec_log.specs.CallRules.{returns_before_put_out};
@@ -47,5 +47,49 @@ impl Conn {
             → vec_len out.old + min count (waiting log) ≤ vec_capacity out.old → IsOk result }
     {
         self.inner.end.put_out(count, out)
+    }
+
+    // rule: calls (own) Output is given out in order and once
+    /// Makes the queued output ready to be written from where it lies: where less than 65,536
+    /// octets are queued, all that is unreturned is returned. [`Conn::waiting_octets`] lends then
+    /// what [`Conn::put_out`] would give, and [`Conn::consume`] takes away what was written. It is
+    /// [`Conn::consume`] of 0 octets.
+    ///
+    /// # Errors
+    ///
+    /// [`Refusal::Memory`] (C12), only where something is to be returned. Nothing has changed.
+    pub fn ready(&mut self) -> Result<(), Refusal>
+        ensures answers { ConnAnswers self.old (PutOut 0)
+            (answer_by (λ done. Count 0) result) self.new }
+
+        // Nothing is returned first then, so consuming takes no memory.
+        ensures returned { OnOk result ((values : Values) (log : Log)
+            → ConnRepresents values self.new log → returns_before_put_out (log_view log) ≡ false) }
+        ensures room { (values : Values) (log : Log) → ConnRepresents values self.old log
+            → returns_before_put_out (log_view log) ≡ false → IsOk result }
+    {
+        self.inner.end.consume(0)?;
+        Ok(())
+    }
+
+    // rule: calls (own) Output is given out in order and once
+    /// Takes away at most `count` octets of the queued output, which [`Conn::waiting_octets`] lent
+    /// and the caller has written, and returns their number: as [`Conn::put_out`], without a copy.
+    /// As there, all that is unreturned is returned first where less than 65,536 octets are queued,
+    /// and the octets of that may be among those that are taken away. So call [`Conn::ready`]
+    /// before each [`Conn::waiting_octets`], and give the number of octets that were written, not
+    /// more.
+    ///
+    /// # Errors
+    ///
+    /// [`Refusal::Memory`] (C12), as of [`Conn::put_out`]. Nothing has changed. It does not come
+    /// after [`Conn::ready`], where no other call was made in between.
+    pub fn consume(&mut self, count: usize) -> Result<usize, Refusal>
+        ensures answers { ConnAnswers self.old (PutOut count)
+            (answer_by (λ given. Count given) result) self.new }
+        ensures room { (values : Values) (log : Log) → ConnRepresents values self.old log
+            → returns_before_put_out (log_view log) ≡ false → IsOk result }
+    {
+        self.inner.end.consume(count)
     }
 }

@@ -12,35 +12,32 @@ use Rattle.std.proofs.lemmas.List.{length-take-le}
 use Rattle.h2_spec_log.specs.declared.refusal.Refusal.TheVariants.{ListTooLarge}
 use Rattle.h2_spec_log.specs.Acts.{SendFields, SendData}
 
--- No condition refuses fields.
-pub fields_free : (e : End) (id : ℕ) (stream : StreamView) (fields : List Field) (end : Bool)
-    → e.failed ≡ None → stream_at e id ≡ Some stream → stream.ended_out ≡ false
-    → length e.output.waiting < 65536 → list_size fields ≤ 65536
-    → refusal_of (end_view e) (SendFields id fields end) ≡ None
-unfolding first_of conditions
-fields_free e id stream fields end up active goes room small =
-    rw (
-      up,
-      active,
-      goes,
-      lt-leb 65536 (length e.output.waiting) room,
-      le-ltb 65536 (list_size fields) small,
-    )
+module _ (e : End) (id : ℕ) (stream : StreamView) (fields : List Field) (end : Bool) where
+  -- No condition refuses fields.
+  pub fields_free : e.failed ≡ None → stream_at e id ≡ Some stream → stream.ended_out ≡ false
+      → length e.output.waiting < 65536 → list_size fields ≤ 65536
+      → refusal_of (end_view e) (SendFields id fields end) ≡ None
+  unfolding first_of conditions
+  fields_free up active goes room small = rw (
+    up,
+    active,
+    goes,
+    lt-leb 65536 (length e.output.waiting) room,
+    le-ltb 65536 (list_size fields) small,
+  )
 
--- A list that is too large, where nothing else refuses fields.
-pub fields_large : (e : End) (id : ℕ) (stream : StreamView) (fields : List Field) (end : Bool)
-    → e.failed ≡ None → stream_at e id ≡ Some stream → stream.ended_out ≡ false
-    → length e.output.waiting < 65536 → 65536 < list_size fields
-    → refusal_of (end_view e) (SendFields id fields end) ≡ Some ListTooLarge
-unfolding first_of conditions
-fields_large e id stream fields end up active goes room large =
-    rw (
-      up,
-      active,
-      goes,
-      lt-leb 65536 (length e.output.waiting) room,
-      lt-ltb 65536 (list_size fields) large,
-    )
+  -- A list that is too large, where nothing else refuses fields.
+  pub fields_large : e.failed ≡ None → stream_at e id ≡ Some stream → stream.ended_out ≡ false
+      → length e.output.waiting < 65536 → 65536 < list_size fields
+      → refusal_of (end_view e) (SendFields id fields end) ≡ Some ListTooLarge
+  unfolding first_of conditions
+  fields_large up active goes room large = rw (
+    up,
+    active,
+    goes,
+    lt-leb 65536 (length e.output.waiting) room,
+    lt-ltb 65536 (list_size fields) large,
+  )
 
 -- No condition refuses DATA.
 pub data_free : (e : End) (id : ℕ) (stream : StreamView) (octets : List ℕ) (end : Bool)

@@ -198,38 +198,34 @@ table_alike e table code last =
       waiting = refl;
     }
 
--- A block changes an end as it changes the one with its table already, unless it fails.
-block_after : (e : End) (id : ℕ) (end : Bool) (octets : List ℕ) (decoded : Decoded)
-    (verdict : Verdict) → ((code : Code) → verdict ≢ ConnectionFault code)
-    → after_verdict (with_table e decoded.after) (Some decoded) (block id end octets) verdict
-    ≡ after_verdict e (Some decoded) (block id end octets) verdict
-unfolding after_verdict after_stream_fault after_ignored after_reported
-block_after e id end octets decoded (ConnectionFault code) goes_on = absurd (goes_on code refl)
-block_after e id end octets decoded (StreamFault code) goes_on = refl
-block_after e id end octets decoded NoEvent goes_on = refl
-block_after e id end octets decoded Reported goes_on = refl
+module _ (e : End) (id : ℕ) (end : Bool) (octets : List ℕ) (decoded : Decoded) where
+  -- A block changes an end as it changes the one with its table already, unless it fails.
+  block_after : (verdict : Verdict) → ((code : Code) → verdict ≢ ConnectionFault code)
+      → after_verdict (with_table e decoded.after) (Some decoded) (block id end octets) verdict
+      ≡ after_verdict e (Some decoded) (block id end octets) verdict
+  unfolding after_verdict after_stream_fault after_ignored after_reported
+  block_after (ConnectionFault code) goes_on = absurd (goes_on code refl)
+  block_after (StreamFault code) goes_on = refl
+  block_after NoEvent goes_on = refl
+  block_after Reported goes_on = refl
 
--- The block is taken by the end whose table is the one after it.
-pub block_taken : (e : End) (id : ℕ) (end : Bool) (octets : List ℕ) (decoded : Decoded)
-    (list : List Field) (reported : Option FrameEvent) (new : End) → e.failed ≡ None
-    → BlockSays e.reading.table e.own.in_force.table_limit octets decoded.fields decoded.after
-    → ItemTaken (with_table e decoded.after) (Some decoded) (block id end octets) list reported new
-    → BlockTaken e id end octets list reported new
-block_taken e id end octets decoded list reported new up says taken =
-    let after : new ≡ after_item e (Some decoded) (block id end octets) =
-    taken.after
-    ∙ block_after e id end octets decoded (verdict_of (end_view e) (Some decoded)
-    (block id end octets)) taken.goes_on in
-    record {
-      decoded = Some decoded;
-      says = says;
-      after = after;
-      up = ap (λ (x : End). x.failed) after
-          ∙ verdict_up e (Some decoded) (block id end octets)
-          (verdict_of (end_view e) (Some decoded) (block id end octets)) taken.goes_on
-          ∙ up;
-      events = taken.events;
-    }
+  -- The block is taken by the end whose table is the one after it.
+  pub block_taken : (list : List Field) (reported : Option FrameEvent) (new : End) → e.failed ≡ None
+      → BlockSays e.reading.table e.own.in_force.table_limit octets decoded.fields decoded.after
+      → ItemTaken (with_table e decoded.after) (Some decoded) (block id end octets) list reported
+      new
+      → BlockTaken e id end octets list reported new
+  block_taken list reported new up says taken =
+      let after : new ≡ after_item e (Some decoded) (block id end octets) = taken.after
+      ∙ block_after (verdict_of (end_view e) (Some decoded) (block id end octets)) taken.goes_on in
+      record {
+        decoded = Some decoded;
+        says = says;
+        after = after;
+        up = ap (λ (x : End). x.failed) after ∙ verdict_up e (Some decoded) (block id end octets)
+            (verdict_of (end_view e) (Some decoded) (block id end octets)) taken.goes_on ∙ up;
+        events = taken.events;
+      }
 
 -- One that is no block fails the connection.
 pub no_block_fails : (e new : End) (id : ℕ) (end : Bool) (octets : List ℕ)

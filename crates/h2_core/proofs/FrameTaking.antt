@@ -65,195 +65,186 @@ begun_sound e sound =
       };
     }
 
--- A frame that may come, and has no fault, is grouped; one with a fault fails the connection.
-pub step_grouped : (e : End) (frame : Frame)
-    → (not e.reading.started && not (may_be_first frame)) ≡ false
-    → next_fault e.reading.begun frame ≡ None
-    → frame_step (end_view e) frame ≡ grouped e.reading.begun frame
-unfolding frame_step grouping_step
-step_grouped e frame started good = rw (started, good) refl
+module _ (e : End) where
+  -- A frame that may come, and has no fault, is grouped; one with a fault fails the connection.
+  pub step_grouped : (frame : Frame) → (not e.reading.started && not (may_be_first frame)) ≡ false
+      → next_fault e.reading.begun frame ≡ None
+      → frame_step (end_view e) frame ≡ grouped e.reading.begun frame
+  unfolding frame_step grouping_step
+  step_grouped frame started good = rw (started, good) refl
 
-pub step_faulty : (e : End) (frame : Frame) (fault : BlockFault)
-    → (not e.reading.started && not (may_be_first frame)) ≡ false
-    → next_fault e.reading.begun frame ≡ Some fault
-    → frame_step (end_view e) frame ≡ fails_with (block_fault_code fault)
-unfolding frame_step grouping_step
-step_faulty e frame fault started bad = rw (started, bad) refl
+  pub step_faulty : (frame : Frame) (fault : BlockFault)
+      → (not e.reading.started && not (may_be_first frame)) ≡ false
+      → next_fault e.reading.begun frame ≡ Some fault
+      → frame_step (end_view e) frame ≡ fails_with (block_fault_code fault)
+  unfolding frame_step grouping_step
+  step_faulty frame fault started bad = rw (started, bad) refl
 
--- A frame after which a block isn't complete.
-pub more_taken : (e new : End) (frame : Frame) (one : Begun) (list : List Field)
-    → frame_step (end_view e) frame ≡ begins_block one → new ≡ with_begun e (Some one)
-    → e.failed ≡ None → FrameTaken e frame list None new
-unfolding after_frame after_step
-more_taken e new frame one list is same up =
-    record {
-      decoded = None;
-      says = subst (λ (s : FrameStep). IsDecodedBy e None s) (sym is) refl;
-      after = same ∙ sym (ap (after_step e None) is);
-      up = ap (λ (x : End). x.failed) same ∙ up;
-      events = sym (ap (step_events e None) is);
-    }
+  -- A frame after which a block isn't complete.
+  pub more_taken : (new : End) (frame : Frame) (one : Begun) (list : List Field)
+      → frame_step (end_view e) frame ≡ begins_block one → new ≡ with_begun e (Some one)
+      → e.failed ≡ None → FrameTaken e frame list None new
+  unfolding after_frame after_step
+  more_taken new frame one list is same up =
+      record {
+        decoded = None;
+        says = subst (λ (s : FrameStep). IsDecodedBy e None s) (sym is) refl;
+        after = same ∙ sym (ap (after_step e None) is);
+        up = ap (λ (x : End). x.failed) same ∙ up;
+        events = sym (ap (step_events e None) is);
+      }
 
-outside : (e : End) → e.reading.begun ≡ None → with_begun e None ≡ e
-outside e none = ap (with_begun e) (sym none)
+  outside : e.reading.begun ≡ None → with_begun e None ≡ e
+  outside none = ap (with_begun e) (sym none)
 
--- A frame that is an item by itself.
-pub alone_taken : (e new : End) (frame : Frame) (list : List Field) (reported : Option FrameEvent)
-    → frame_step (end_view e) frame ≡ completes (alone frame) → e.reading.begun ≡ None
-    → e.failed ≡ None → ItemTaken e None (alone frame) list reported new
-    → FrameTaken e frame list reported new
-unfolding after_frame after_step
-alone_taken e new frame list reported is none up taken =
-    record {
-      decoded = None;
-      says = subst (λ (s : FrameStep). IsDecodedBy e None s) (sym is) refl;
-      after = taken.after
-          ∙ ap (λ (x : End). after_item x None (alone frame)) (sym (outside e none))
-          ∙ sym (ap (after_step e None) is);
-      up = ap (λ (x : End). x.failed) taken.after
-          ∙ verdict_up e None (alone frame) (verdict_of (end_view e) None (alone frame))
-          taken.goes_on
-          ∙ up;
-      events = taken.events
-          ∙ ap (λ (x : End). item_events x None (alone frame)) (sym (outside e none))
-          ∙ sym (ap (step_events e None) is);
-    }
+  -- A frame that is an item by itself.
+  pub alone_taken : (new : End) (frame : Frame) (list : List Field) (reported : Option FrameEvent)
+      → frame_step (end_view e) frame ≡ completes (alone frame) → e.reading.begun ≡ None
+      → e.failed ≡ None → ItemTaken e None (alone frame) list reported new
+      → FrameTaken e frame list reported new
+  unfolding after_frame after_step
+  alone_taken new frame list reported is none up taken =
+      record {
+        decoded = None;
+        says = subst (λ (s : FrameStep). IsDecodedBy e None s) (sym is) refl;
+        after = taken.after ∙ ap (λ (x : End). after_item x None (alone frame)) (sym (outside none))
+            ∙ sym (ap (after_step e None) is);
+        up = ap (λ (x : End). x.failed) taken.after ∙ verdict_up e None (alone frame)
+            (verdict_of (end_view e) None (alone frame)) taken.goes_on ∙ up;
+        events = taken.events ∙ ap (λ (x : End). item_events x None (alone frame))
+            (sym (outside none)) ∙ sym (ap (step_events e None) is);
+      }
 
-same_alike : (e : End) (code : Code) (last : ℕ) → FailsAlike (fail code last e) (fail code last e)
-same_alike e code last =
-    record {
-      down = λ wrong. cc;
-      role = refl;
-      failed = refl;
-      streams = refl;
-      windows = refl;
-      waiting = refl;
-    }
+  same_alike : (code : Code) (last : ℕ) → FailsAlike (fail code last e) (fail code last e)
+  same_alike code last =
+      record {
+        down = λ wrong. cc;
+        role = refl;
+        failed = refl;
+        streams = refl;
+        windows = refl;
+        waiting = refl;
+      }
 
--- What stops one fails the connection.
-pub alone_stopped : (e mid new : End) (frame : Frame) (list : List Field) (stop : StepError)
-    (answer : Code) → frame_step (end_view e) frame ≡ completes (alone frame)
-    → e.reading.begun ≡ None → TakesItem e None (alone frame) list (Err stop) mid
-    → FailsBy mid stop answer new
-    → FrameFails e frame answer new ⊎ FrameLacksMemory e frame answer new
-unfolding after_frame after_step after_verdict
-alone_stopped e mid new frame list (Fault code opened) answer is none stopped fails =
-    let last : ℕ = max e.streams.last_processed opened in
-    let after : after_frame e None frame ≡ fail code last e =
-    ap (after_step e None) is
-    ∙ ap (λ (x : End). after_item x None (alone frame)) (outside e none)
-    ∙ ap (after_verdict e None (alone frame)) stopped.0
-    ∙ ap (λ (n : ℕ). fail code (max e.streams.last_processed n) e) (sym stopped.1) in
-    let became : new ≡ fail code last e =
-    fails.1 ∙ ap (λ (x : End). fail code (max x.streams.last_processed opened) x) stopped.2 in
-    inl (record {
-      decoded = None;
-      says = subst (λ (s : FrameStep). IsDecodedBy e None s) (sym is) refl;
-      fails = ap (λ (x : End). x.failed) after ∙ ap Some (sym fails.0);
-      after = rw (after, became) (same_alike e code last);
-    })
-alone_stopped e mid new frame list OutOfMemory answer is none stopped fails =
-    inr (record {
-      needs = ap (step_needs_memory (end_view (with_begun e None))) is
-          ∙ ap (λ (x : End).
-          needs_memory (end_view x) (verdict_of (end_view x) None (alone frame)) (alone frame))
-          (outside e none)
-          ∙ stopped.0;
-      fails = record {
-        lacks = fails.0;
-        after = rw (fails.1, stopped.1) (same_alike e InternalError e.streams.last_processed);
-      };
-    })
-
--- It opens nothing.
-pub alone_small : (e mid : End) (frame : Frame) (list : List Field) (stop : StepError)
-    → TakesItem e None (alone frame) list (Err stop) mid → IsSmall stop
-unfolding opened_by
-alone_small e mid frame list (Fault code opened) h = omega (arith, h.1)
-alone_small e mid frame list OutOfMemory h = tt
-
-says_of : (e : End) (decoded : Option Decoded) (id : ℕ) (end : Bool) (octets : List ℕ)
-    → IsDecodedOf (with_begun e None) octets decoded
-    → IsDecodedBy e decoded (completes (block id end octets))
-says_of e None id end octets h = h
-says_of e (Some decoded) id end octets h = h
-
--- A frame that completes a block.
-pub block_frame : (e new : End) (frame : Frame) (id : ℕ) (end : Bool) (octets : List ℕ)
-    (list : List Field) (result : Result (Option FrameEvent) Code)
-    → frame_step (end_view e) frame ≡ completes (block id end octets)
-    → TakesBlock (with_begun e None) id end octets list result new
-    → EndTakesFrame e frame list result new
-unfolding after_frame after_step
-block_frame e new frame id end octets list (Ok reported) is t =
-    record {
-      decoded = t.decoded;
-      says = subst (λ (s : FrameStep). IsDecodedBy e t.decoded s) (sym is)
-          (says_of e t.decoded id end octets t.says);
-      after = t.after ∙ sym (ap (after_step e t.decoded) is);
-      up = t.up;
-      events = t.events ∙ sym (ap (step_events e t.decoded) is);
-    }
-block_frame e new frame id end octets list (Err code) is (inl t) =
-    inl (record {
-      decoded = t.decoded;
-      says = subst (λ (s : FrameStep). IsDecodedBy e t.decoded s) (sym is)
-          (says_of e t.decoded id end octets t.says);
-      fails = ap (λ (x : End). x.failed) (ap (after_step e t.decoded) is) ∙ t.fails;
-      after = subst (λ (x : End). FailsAlike x new) (sym (ap (after_step e t.decoded) is)) t.after;
-    })
-block_frame e new frame id end octets list (Err code) is (inr t) =
-    inr (record {
-      needs = ap (step_needs_memory (end_view (with_begun e None))) is;
-      fails = record {
-        lacks = t.lacks;
-        after = record {
-          down = λ wrong. cc;
-          role = t.after.role;
-          failed = t.after.failed;
-          streams = t.after.streams;
-          windows = t.after.windows;
-          waiting = t.after.waiting;
+  -- What stops one fails the connection.
+  pub alone_stopped : (mid new : End) (frame : Frame) (list : List Field) (stop : StepError)
+      (answer : Code) → frame_step (end_view e) frame ≡ completes (alone frame)
+      → e.reading.begun ≡ None → TakesItem e None (alone frame) list (Err stop) mid
+      → FailsBy mid stop answer new → FrameFails e frame answer new
+      ⊎ FrameLacksMemory e frame answer new
+  unfolding after_frame after_step after_verdict
+  alone_stopped mid new frame list (Fault code opened) answer is none stopped fails =
+      let last : ℕ = max e.streams.last_processed opened in
+      let after : after_frame e None frame ≡ fail code last e = ap (after_step e None) is
+      ∙ ap (λ (x : End). after_item x None (alone frame)) (outside none)
+      ∙ ap (after_verdict e None (alone frame)) stopped.0
+      ∙ ap (λ (n : ℕ). fail code (max e.streams.last_processed n) e) (sym stopped.1) in
+      let became : new ≡ fail code last e =
+      fails.1 ∙ ap (λ (x : End). fail code (max x.streams.last_processed opened) x) stopped.2 in
+      inl (record {
+        decoded = None;
+        says = subst (λ (s : FrameStep). IsDecodedBy e None s) (sym is) refl;
+        fails = ap (λ (x : End). x.failed) after ∙ ap Some (sym fails.0);
+        after = rw (after, became) (same_alike code last);
+      })
+  alone_stopped mid new frame list OutOfMemory answer is none stopped fails =
+      inr (record {
+        needs = ap (step_needs_memory (end_view (with_begun e None))) is ∙ ap (λ (x : End).
+            needs_memory (end_view x) (verdict_of (end_view x) None (alone frame)) (alone frame))
+            (outside none) ∙ stopped.0;
+        fails = record {
+          lacks = fails.0;
+          after = rw (fails.1, stopped.1) (same_alike InternalError e.streams.last_processed);
         };
-      };
-    })
+      })
 
--- A frame at fault fails the connection.
-pub frame_fails : (e new : End) (frame : Frame) (code answer : Code)
-    → frame_step (end_view e) frame ≡ fails_with code → answer ≡ code
-    → FailsAlike (fail answer e.streams.last_processed e) new → FrameFails e frame answer new
-unfolding after_frame after_step
-frame_fails e new frame code answer is same failed =
-    let after : after_frame e None frame ≡ fail answer e.streams.last_processed e =
-    ap (after_step e None) is
-    ∙ ap (λ (x : Code). fail x e.streams.last_processed e) (sym same) in
-    record {
-      decoded = None;
-      says = subst (λ (s : FrameStep). IsDecodedBy e None s) (sym is) refl;
-      fails = ap (λ (x : End). x.failed) after;
-      after = subst (λ (x : End). FailsAlike x new) (sym after) failed;
-    }
+  -- It opens nothing.
+  pub alone_small : (mid : End) (frame : Frame) (list : List Field) (stop : StepError)
+      → TakesItem e None (alone frame) list (Err stop) mid → IsSmall stop
+  unfolding opened_by
+  alone_small mid frame list (Fault code opened) h = omega (arith, h.1)
+  alone_small mid frame list OutOfMemory h = tt
 
--- A frame that comes too early fails the connection.
-early_step : (e : End) (frame : Frame)
-    → (not e.reading.started && not (may_be_first frame)) ≡ true
-    → frame_step (end_view e) frame ≡ fails_with ProtocolError
-unfolding frame_step
-early_step e frame early = rw early refl
+  says_of : (decoded : Option Decoded) (id : ℕ) (end : Bool) (octets : List ℕ)
+      → IsDecodedOf (with_begun e None) octets decoded
+      → IsDecodedBy e decoded (completes (block id end octets))
+  says_of None id end octets h = h
+  says_of (Some decoded) id end octets h = h
 
-pub early_fails : (e new : End) (frame : Frame) (stop : StepError) (answer : Code)
-    → (not e.reading.started && not (may_be_first frame)) ≡ true
-    → stop ≡ Fault ProtocolError 0 → FailsBy e stop answer new → FrameFails e frame answer new
-early_fails e new frame stop answer early is fails =
-    let by : FailsBy e (Fault ProtocolError 0) answer new =
-    subst (λ (s : StepError). FailsBy e s answer new) is fails in
-    let last : max e.streams.last_processed 0 ≡ e.streams.last_processed = omega arith in
-    let became : new ≡ fail answer e.streams.last_processed e =
-    by.1
-    ∙ ap (λ (n : ℕ). fail ProtocolError n e) last
-    ∙ ap (λ (x : Code). fail x e.streams.last_processed e) (sym by.0) in
-    frame_fails e new frame ProtocolError answer (early_step e frame early) by.0
-    (rw became (same_alike e answer e.streams.last_processed))
+  -- A frame that completes a block.
+  pub block_frame : (new : End) (frame : Frame) (id : ℕ) (end : Bool) (octets : List ℕ)
+      (list : List Field) (result : Result (Option FrameEvent) Code)
+      → frame_step (end_view e) frame ≡ completes (block id end octets)
+      → TakesBlock (with_begun e None) id end octets list result new
+      → EndTakesFrame e frame list result new
+  unfolding after_frame after_step
+  block_frame new frame id end octets list (Ok reported) is t =
+      record {
+        decoded = t.decoded;
+        says = subst (λ (s : FrameStep). IsDecodedBy e t.decoded s) (sym is)
+            (says_of t.decoded id end octets t.says);
+        after = t.after ∙ sym (ap (after_step e t.decoded) is);
+        up = t.up;
+        events = t.events ∙ sym (ap (step_events e t.decoded) is);
+      }
+  block_frame new frame id end octets list (Err code) is (inl t) =
+      inl (record {
+        decoded = t.decoded;
+        says = subst (λ (s : FrameStep). IsDecodedBy e t.decoded s) (sym is)
+            (says_of t.decoded id end octets t.says);
+        fails = ap (λ (x : End). x.failed) (ap (after_step e t.decoded) is) ∙ t.fails;
+        after = subst (λ (x : End). FailsAlike x new) (sym (ap (after_step e t.decoded) is))
+            t.after;
+      })
+  block_frame new frame id end octets list (Err code) is (inr t) =
+      inr (record {
+        needs = ap (step_needs_memory (end_view (with_begun e None))) is;
+        fails = record {
+          lacks = t.lacks;
+          after = record {
+            down = λ wrong. cc;
+            role = t.after.role;
+            failed = t.after.failed;
+            streams = t.after.streams;
+            windows = t.after.windows;
+            waiting = t.after.waiting;
+          };
+        };
+      })
+
+  -- A frame at fault fails the connection.
+  pub frame_fails : (new : End) (frame : Frame) (code answer : Code)
+      → frame_step (end_view e) frame ≡ fails_with code → answer ≡ code
+      → FailsAlike (fail answer e.streams.last_processed e) new → FrameFails e frame answer new
+  unfolding after_frame after_step
+  frame_fails new frame code answer is same failed =
+      let after : after_frame e None frame ≡ fail answer e.streams.last_processed e =
+      ap (after_step e None) is ∙ ap (λ (x : Code). fail x e.streams.last_processed e) (sym same) in
+      record {
+        decoded = None;
+        says = subst (λ (s : FrameStep). IsDecodedBy e None s) (sym is) refl;
+        fails = ap (λ (x : End). x.failed) after;
+        after = subst (λ (x : End). FailsAlike x new) (sym after) failed;
+      }
+
+  -- A frame that comes too early fails the connection.
+  early_step : (frame : Frame) → (not e.reading.started && not (may_be_first frame)) ≡ true
+      → frame_step (end_view e) frame ≡ fails_with ProtocolError
+  unfolding frame_step
+  early_step frame early = rw early refl
+
+  pub early_fails : (new : End) (frame : Frame) (stop : StepError) (answer : Code)
+      → (not e.reading.started && not (may_be_first frame)) ≡ true → stop ≡ Fault ProtocolError 0
+      → FailsBy e stop answer new → FrameFails e frame answer new
+  early_fails new frame stop answer early is fails =
+      let by : FailsBy e (Fault ProtocolError 0) answer new =
+      subst (λ (s : StepError). FailsBy e s answer new) is fails in
+      let last : max e.streams.last_processed 0 ≡ e.streams.last_processed = omega arith in
+      let became : new ≡ fail answer e.streams.last_processed e = by.1
+      ∙ ap (λ (n : ℕ). fail ProtocolError n e) last
+      ∙ ap (λ (x : Code). fail x e.streams.last_processed e) (sym by.0) in
+      frame_fails new frame ProtocolError answer (early_step frame early) by.0
+      (rw became (same_alike answer e.streams.last_processed))
 
 -- HEADERS that is a complete block, outside blocks.
 headers_faultless : (begun : Option Begun) (stream : ℕ) (end : Bool) (fragment : List ℕ)

@@ -184,46 +184,41 @@ marked_reset e id items used processed =
       };
     }) id (0 + owed_entry (map.get e.streams.entries id)) used processed
 
--- The end after a stream error by a block, where its table is there already.
-pub after_fault : (e : End) (id : ℕ) (end : Bool) (octets : List ℕ) (decoded : Decoded)
-    (code : Code) → decoded.after ≡ e.reading.table
-    → after_stream_fault e (Some decoded) (block id end octets) code
-    ≡ mark_used (reset_stream (queue_output e (alone (ResetFrame id (code_number code)) ∷ [])) id 0)
-    id (is_fresh e id) (is_fresh e id && is_calm code)
-unfolding after_stream_fault
-after_fault e id end octets decoded code same =
-    ap (λ (x : End). reset_stream (queue_output (mark_used x id (is_fresh e id)
-    (is_fresh e id && is_calm code)) (alone (ResetFrame id (code_number code)) ∷ [])) id 0)
-    (table_same e id end octets decoded same)
-    ∙ marked_reset e id (alone (ResetFrame id (code_number code)) ∷ []) (is_fresh e id)
-    (is_fresh e id && is_calm code)
+module _ (e : End) (id : ℕ) (end : Bool) (octets : List ℕ) (decoded : Decoded) (code : Code) where
+  -- The end after a stream error by a block, where its table is there already.
+  pub after_fault : decoded.after ≡ e.reading.table
+      → after_stream_fault e (Some decoded) (block id end octets) code ≡ mark_used
+      (reset_stream (queue_output e (alone (ResetFrame id (code_number code)) ∷ [])) id 0) id
+      (is_fresh e id) (is_fresh e id && is_calm code)
+  unfolding after_stream_fault
+  after_fault same = ap (λ (x : End). reset_stream (queue_output (mark_used x id (is_fresh e id)
+      (is_fresh e id && is_calm code)) (alone (ResetFrame id (code_number code)) ∷ [])) id 0)
+      (table_same e id end octets decoded same)
+      ∙ marked_reset e id (alone (ResetFrame id (code_number code)) ∷ []) (is_fresh e id)
+      (is_fresh e id && is_calm code)
 
--- A stream error by a block, within the limits, is answered so.
-pub fault_taken : (e : End) (id : ℕ) (end : Bool) (octets : List ℕ) (decoded : Decoded)
-    (code : Code) (list : List Field) (new : End)
-    → by_block e id end octets decoded ≡ StreamFault code
-    → is_over_limits e ≡ false
-    → new ≡ after_stream_fault e (Some decoded) (block id end octets) code
-    → ItemTaken e (Some decoded) (block id end octets) list
-    (Some (Reset id (code_number code) true)) new
-unfolding after_verdict events_of stream_of_item
-fault_taken e id end octets decoded code list new is few after =
-    let verdict : verdict_of (end_view e) (Some decoded) (block id end octets) ≡ StreamFault code =
-    limits_of_fault e id end octets decoded code is
-    ∙ ap (λ (b : Bool). limited b code) few in
-    record {
-      goes_on = λ other wrong. cc;
-      after = after ∙ sym (after_by e id end octets decoded (StreamFault code) verdict);
-      events = sym (events_by e id end octets decoded (StreamFault code) verdict);
-    }
+  -- A stream error by a block, within the limits, is answered so.
+  pub fault_taken : (list : List Field) (new : End)
+      → by_block e id end octets decoded ≡ StreamFault code → is_over_limits e ≡ false
+      → new ≡ after_stream_fault e (Some decoded) (block id end octets) code
+      → ItemTaken e (Some decoded) (block id end octets) list
+      (Some (Reset id (code_number code) true)) new
+  unfolding after_verdict events_of stream_of_item
+  fault_taken list new is few after =
+      let verdict : verdict_of (end_view e) (Some decoded) (block id end octets) ≡ StreamFault code
+      = limits_of_fault e id end octets decoded code is ∙ ap (λ (b : Bool). limited b code) few in
+      record {
+        goes_on = λ other wrong. cc;
+        after = after ∙ sym (after_by e id end octets decoded (StreamFault code) verdict);
+        events = sym (events_by e id end octets decoded (StreamFault code) verdict);
+      }
 
--- One that is over the limits is a connection error.
-pub fault_over : (e : End) (id : ℕ) (end : Bool) (octets : List ℕ) (decoded : Decoded)
-    (code : Code) → by_block e id end octets decoded ≡ StreamFault code → is_over_limits e ≡ true
-    → verdict_of (end_view e) (Some decoded) (block id end octets)
-    ≡ ConnectionFault EnhanceYourCalm
-fault_over e id end octets decoded code is much =
-    limits_of_fault e id end octets decoded code is ∙ ap (λ (b : Bool). limited b code) much
+  -- One that is over the limits is a connection error.
+  pub fault_over : by_block e id end octets decoded ≡ StreamFault code → is_over_limits e ≡ true
+      → verdict_of (end_view e) (Some decoded) (block id end octets) ≡ ConnectionFault
+      EnhanceYourCalm
+  fault_over is much =
+      limits_of_fault e id end octets decoded code is ∙ ap (λ (b : Bool). limited b code) much
 
 active_by : (entry : Option StreamEntry) (idle above : Bool) (stream : StreamView)
     → stream_in entry ≡ Some stream → state_by_entry entry idle above ≡ Active
@@ -256,109 +251,98 @@ further_opens e id end octets decoded stream is =
     ap (λ (s : State). if is_idle s && peer_opens (end_view e) id && not (is_some e.goaway.sent)
     && not (is_at_capacity (end_view e)) then id else 0) (active_of e id stream is)
 
--- A stream error that stops.
-pub fault_error : (one new : Endpoint) (id : ℕ) (end : Bool) (octets : List ℕ) (decoded : Decoded)
-    (code : Code) (opened : ℕ) (stop : StepError) (list : List Field)
-    → by_block (end_of one) id end octets decoded ≡ StreamFault code
-    → opened_by (end_view (end_of one)) (Some decoded) (block id end octets) ≡ opened
-    → ResetsForFault one id code 0 opened (Err stop) new
-    → TakesItem (end_of one) (Some decoded) (block id end octets) list (Err stop) (end_of new)
-fault_error one new id end octets decoded code opened (Fault fault stream) list is opens h = (
-  fault_over (end_of one) id end octets decoded code is h.0
-      ∙ ap ConnectionFault (sym h.1),
-  h.2 ∙ sym opens,
-  h.3,
-)
-fault_error one new id end octets decoded code opened OutOfMemory list is opens h =
-    let verdict : verdict_of (end_view (end_of one)) (Some decoded) (block id end octets)
-    ≡ StreamFault code =
-    limits_of_fault (end_of one) id end octets decoded code is
-    ∙ ap (λ (b : Bool). limited b code) h.0 in (
-      ap (λ (v : Verdict). needs_memory (end_view (end_of one)) v (block id end octets)) verdict,
-      h.1,
-    )
+module _ (one new : Endpoint) (id : ℕ) (end : Bool) (octets : List ℕ) (decoded : Decoded) where
+  -- A stream error that stops.
+  pub fault_error : (code : Code) (opened : ℕ) (stop : StepError) (list : List Field)
+      → by_block (end_of one) id end octets decoded ≡ StreamFault code
+      → opened_by (end_view (end_of one)) (Some decoded) (block id end octets) ≡ opened
+      → ResetsForFault one id code 0 opened (Err stop) new
+      → TakesItem (end_of one) (Some decoded) (block id end octets) list (Err stop) (end_of new)
+  fault_error code opened (Fault fault stream) list is opens h = (
+    fault_over (end_of one) id end octets decoded code is h.0 ∙ ap ConnectionFault (sym h.1),
+    h.2 ∙ sym opens,
+    h.3,
+  )
+  fault_error code opened OutOfMemory list is opens h =
+      let verdict : verdict_of (end_view (end_of one)) (Some decoded) (block id end octets)
+      ≡ StreamFault code = limits_of_fault (end_of one) id end octets decoded code is
+      ∙ ap (λ (b : Bool). limited b code) h.0 in (
+        ap (λ (v : Verdict). needs_memory (end_view (end_of one)) v (block id end octets)) verdict,
+        h.1,
+      )
 
--- One that is answered, on a number that is fresh or not.
-pub fault_answer : (one new : Endpoint) (id : ℕ) (end : Bool) (octets : List ℕ) (decoded : Decoded)
-    (code : Code) (opened : ℕ) (reported : Option FrameEvent) (list : List Field) (fresh : Bool)
-    (last : End) → by_block (end_of one) id end octets decoded ≡ StreamFault code
-    → is_fresh (end_of one) id ≡ fresh → decoded.after ≡ one.decoder.table
-    → ResetsForFault one id code 0 opened (Ok reported) new
-    → last ≡ mark_used (end_of new) id fresh (fresh && is_calm code)
-    → ItemTaken (end_of one) (Some decoded) (block id end octets) list reported last
-fault_answer one new id end octets decoded code opened reported list fresh last is number same h
-    marked =
-    let reset : End = reset_stream (queue_output (end_of one)
-    (alone (ResetFrame id (code_number code)) ∷ [])) id 0 in
-    rw h.1 (fault_taken (end_of one) id end octets decoded code list last is h.0
-    (marked
-    ∙ ap (λ (x : End). mark_used x id fresh (fresh && is_calm code))
-    (h.2 ∙ ap (λ (x : End). reset_stream (queue_output x
-    (alone (ResetFrame id (code_number code)) ∷ [])) id 0) (narrow_none (end_of one)))
-    ∙ ap (λ (b : Bool). mark_used reset id b (b && is_calm code)) (sym number)
-    ∙ sym (after_fault (end_of one) id end octets decoded code same)))
+  -- One that is answered, on a number that is fresh or not.
+  pub fault_answer : (code : Code) (opened : ℕ) (reported : Option FrameEvent) (list : List Field)
+      (fresh : Bool) (last : End) → by_block (end_of one) id end octets decoded ≡ StreamFault code
+      → is_fresh (end_of one) id ≡ fresh → decoded.after ≡ one.decoder.table
+      → ResetsForFault one id code 0 opened (Ok reported) new
+      → last ≡ mark_used (end_of new) id fresh (fresh && is_calm code)
+      → ItemTaken (end_of one) (Some decoded) (block id end octets) list reported last
+  fault_answer code opened reported list fresh last is number same h
+      marked =
+      let reset : End = reset_stream (queue_output (end_of one)
+      (alone (ResetFrame id (code_number code)) ∷ [])) id 0 in
+      rw h.1 (fault_taken (end_of one) id end octets decoded code list last is h.0 (marked
+      ∙ ap (λ (x : End). mark_used x id fresh (fresh && is_calm code))
+      (h.2 ∙ ap (λ (x : End). reset_stream (queue_output x
+      (alone (ResetFrame id (code_number code)) ∷ [])) id 0) (narrow_none (end_of one)))
+      ∙ ap (λ (b : Bool). mark_used reset id b (b && is_calm code)) (sym number)
+      ∙ sym (after_fault (end_of one) id end octets decoded code same)))
 
--- A stream error, on a number that isn't fresh.
-pub fault_item : (one new : Endpoint) (id : ℕ) (end : Bool) (octets : List ℕ) (decoded : Decoded)
-    (code : Code) (result : Result (Option FrameEvent) StepError)
-    → by_block (end_of one) id end octets decoded ≡ StreamFault code
-    → is_fresh (end_of one) id ≡ false
-    → opened_by (end_view (end_of one)) (Some decoded) (block id end octets) ≡ 0
-    → decoded.after ≡ one.decoder.table
-    → ResetsForFault one id code 0 0 result new
-    → TakesItem (end_of one) (Some decoded) (block id end octets) new.list result (end_of new)
-fault_item one new id end octets decoded code (Ok reported) is stale opens same h =
-    fault_answer one new id end octets decoded code 0 reported new.list false (end_of new) is stale
-    same h refl
-fault_item one new id end octets decoded code (Err stop) is stale opens same h =
-    fault_error one new id end octets decoded code 0 stop new.list is opens h
+  -- A stream error, on a number that isn't fresh.
+  pub fault_item : (code : Code) (result : Result (Option FrameEvent) StepError)
+      → by_block (end_of one) id end octets decoded ≡ StreamFault code
+      → is_fresh (end_of one) id ≡ false
+      → opened_by (end_view (end_of one)) (Some decoded) (block id end octets) ≡ 0
+      → decoded.after ≡ one.decoder.table → ResetsForFault one id code 0 0 result new
+      → TakesItem (end_of one) (Some decoded) (block id end octets) new.list result (end_of new)
+  fault_item code (Ok reported) is stale opens same h =
+      fault_answer code 0 reported new.list false (end_of new) is stale same h refl
+  fault_item code (Err stop) is stale opens same h = fault_error code 0 stop new.list is opens h
 
--- A block that is reported.
-pub reported_taken : (e : End) (id : ℕ) (end : Bool) (octets : List ℕ) (decoded : Decoded)
-    (list : List Field) (new : End) → by_block e id end octets decoded ≡ Reported
-    → list ≡ decoded.fields → decoded.after ≡ e.reading.table
-    → new ≡ receive_block e id end (stream_at e id)
-    → ItemTaken e (Some decoded) (block id end octets) list (Some (Fields id tt end)) new
-unfolding after_verdict after_reported events_of
-reported_taken e id end octets decoded list new is whole same after =
-    let verdict = limits_leave e id end octets decoded Reported refl is in
-    record {
-      goes_on = λ other wrong. cc;
-      after = after
-          ∙ ap (λ (x : End). receive_block x id end (stream_at e id))
-          (sym (table_same e id end octets decoded same))
-          ∙ sym (after_by e id end octets decoded Reported verdict);
-      events = ap (λ (x : List Field). FieldsEvent id x end ∷ []) whole
-          ∙ sym (events_by e id end octets decoded Reported verdict);
-    }
+module _ (e : End) (id : ℕ) (end : Bool) (octets : List ℕ) (decoded : Decoded)
+    (list : List Field) where
+  -- A block that is reported.
+  pub reported_taken : (new : End) → by_block e id end octets decoded ≡ Reported
+      → list ≡ decoded.fields → decoded.after ≡ e.reading.table
+      → new ≡ receive_block e id end (stream_at e id)
+      → ItemTaken e (Some decoded) (block id end octets) list (Some (Fields id tt end)) new
+  unfolding after_verdict after_reported events_of
+  reported_taken new is whole same after =
+      let verdict = limits_leave e id end octets decoded Reported refl is in
+      record {
+        goes_on = λ other wrong. cc;
+        after = after ∙ ap (λ (x : End). receive_block x id end (stream_at e id))
+            (sym (table_same e id end octets decoded same))
+            ∙ sym (after_by e id end octets decoded Reported verdict);
+        events = ap (λ (x : List Field). FieldsEvent id x end ∷ []) whole
+            ∙ sym (events_by e id end octets decoded Reported verdict);
+      }
 
--- A block that would be reported, for which memory was refused.
-pub report_lacks : (e : End) (id : ℕ) (end : Bool) (octets : List ℕ) (decoded : Decoded)
-    (list : List Field) (new : End) → by_block e id end octets decoded ≡ Reported → new ≡ e
-    → TakesItem e (Some decoded) (block id end octets) list (Err OutOfMemory) new
-report_lacks e id end octets decoded list new is same = (
-  ap (λ (v : Verdict). needs_memory (end_view e) v (block id end octets))
-      (limits_leave e id end octets decoded Reported refl is),
-  same,
-)
+  -- A block that would be reported, for which memory was refused.
+  pub report_lacks : (new : End) → by_block e id end octets decoded ≡ Reported → new ≡ e
+      → TakesItem e (Some decoded) (block id end octets) list (Err OutOfMemory) new
+  report_lacks new is same = (
+    ap (λ (v : Verdict). needs_memory (end_view e) v (block id end octets))
+        (limits_leave e id end octets decoded Reported refl is),
+    same,
+  )
 
--- A block that is ignored.
-pub ignored_taken : (e : End) (id : ℕ) (end : Bool) (octets : List ℕ) (decoded : Decoded)
-    (list : List Field) (fresh : Bool) (new : End) → by_block e id end octets decoded ≡ NoEvent
-    → decoded.after ≡ e.reading.table → is_fresh e id ≡ fresh → new ≡ mark_used e id fresh false
-    → ItemTaken e (Some decoded) (block id end octets) list None new
-unfolding after_verdict after_ignored events_of
-ignored_taken e id end octets decoded list fresh new is same number after =
-    let verdict = limits_leave e id end octets decoded NoEvent refl is in
-    record {
-      goes_on = λ other wrong. cc;
-      after = after
-          ∙ ap (λ (b : Bool). mark_used e id b false) (sym number)
-          ∙ ap (λ (x : End). mark_used x id (is_fresh e id) false)
-          (sym (table_same e id end octets decoded same))
-          ∙ sym (after_by e id end octets decoded NoEvent verdict);
-      events = sym (events_by e id end octets decoded NoEvent verdict);
-    }
+  -- A block that is ignored.
+  pub ignored_taken : (fresh : Bool) (new : End) → by_block e id end octets decoded ≡ NoEvent
+      → decoded.after ≡ e.reading.table → is_fresh e id ≡ fresh → new ≡ mark_used e id fresh false
+      → ItemTaken e (Some decoded) (block id end octets) list None new
+  unfolding after_verdict after_ignored events_of
+  ignored_taken fresh new is same number after =
+      let verdict = limits_leave e id end octets decoded NoEvent refl is in
+      record {
+        goes_on = λ other wrong. cc;
+        after = after ∙ ap (λ (b : Bool). mark_used e id b false) (sym number)
+            ∙ ap (λ (x : End). mark_used x id (is_fresh e id) false)
+            (sym (table_same e id end octets decoded same))
+            ∙ sym (after_by e id end octets decoded NoEvent verdict);
+        events = sym (events_by e id end octets decoded NoEvent verdict);
+      }
 
 -- What a fresh number opens.
 pub fresh_opens : (e : End) (id : ℕ) (end : Bool) (octets : List ℕ) (decoded : Decoded)

@@ -29,118 +29,106 @@ exceeds_connection flow window much = grind (arith, ints, nat_tests)
 within_connection : (flow window : ℕ) → flow ≤ window → exceeds flow (pos window) ≡ false
 within_connection flow window few = grind (arith, ints, nat_tests)
 
--- The verdict goes by the state of its stream.
-by_state : (e : End) (one : DataFrame) (pad : Option ℕ) (state : State) → HasFlow one pad
-    → state_at e one.stream ≡ state
-    → verdict_by_rules (end_view e) None (alone (frame_of_data one pad))
-    ≡ data_verdict state (exceeds one.flow (pos e.windows.recv)) (ended_in (stream_at e one.stream))
-    (exceeds_stream one.flow (stream_at e one.stream))
-unfolding verdict_by_rules
-by_state e one pad state flow is = rw (flow, is) refl
+module _ (e : End) (one : DataFrame) (pad : Option ℕ) where
+  -- The verdict goes by the state of its stream.
+  by_state : (state : State) → HasFlow one pad → state_at e one.stream ≡ state
+      → verdict_by_rules (end_view e) None (alone (frame_of_data one pad)) ≡ data_verdict state
+      (exceeds one.flow (pos e.windows.recv)) (ended_in (stream_at e one.stream))
+      (exceeds_stream one.flow (stream_at e one.stream))
+  unfolding verdict_by_rules
+  by_state state flow is = rw (flow, is) refl
 
--- On an idle stream it is a connection error, and so it is on a closed one.
-pub idle_data : (e : End) (one : DataFrame) (pad : Option ℕ) → HasFlow one pad
-    → Idle ≡ state_at e one.stream
-    → verdict_of (end_view e) None (alone (frame_of_data one pad)) ≡ ConnectionFault ProtocolError
-unfolding data_verdict
-idle_data e one pad flow is =
-    fault_stands (end_view e) (frame_of_data one pad) ProtocolError
-    (by_state e one pad Idle flow (sym is))
+  -- On an idle stream it is a connection error, and so it is on a closed one.
+  pub idle_data : HasFlow one pad → Idle ≡ state_at e one.stream
+      → verdict_of (end_view e) None (alone (frame_of_data one pad)) ≡ ConnectionFault ProtocolError
+  unfolding data_verdict
+  idle_data flow is = fault_stands (end_view e) (frame_of_data one pad) ProtocolError
+      (by_state Idle flow (sym is))
 
-pub past_data : (e : End) (one : DataFrame) (pad : Option ℕ) → HasFlow one pad
-    → Closed ≡ state_at e one.stream
-    → verdict_of (end_view e) None (alone (frame_of_data one pad)) ≡ ConnectionFault StreamClosed
-unfolding data_verdict
-past_data e one pad flow is =
-    fault_stands (end_view e) (frame_of_data one pad) StreamClosed
-    (by_state e one pad Closed flow (sym is))
+  pub past_data : HasFlow one pad → Closed ≡ state_at e one.stream
+      → verdict_of (end_view e) None (alone (frame_of_data one pad)) ≡ ConnectionFault StreamClosed
+  unfolding data_verdict
+  past_data flow is = fault_stands (end_view e) (frame_of_data one pad) StreamClosed
+      (by_state Closed flow (sym is))
 
--- So is what exceeds the connection's window on any other.
-pub beyond_connection : (e : End) (one : DataFrame) (pad : Option ℕ) → HasFlow one pad
-    → (state_at e one.stream ≡ ClosedByUs) ⊎ (state_at e one.stream ≡ Active)
-    → e.windows.recv < one.flow
-    → verdict_of (end_view e) None (alone (frame_of_data one pad))
-    ≡ ConnectionFault FlowControlError
-unfolding data_verdict
-beyond_connection e one pad flow (inl is) much =
-    fault_stands (end_view e) (frame_of_data one pad) FlowControlError
-    (by_state e one pad ClosedByUs flow is
-    ∙ rw (exceeds_connection one.flow e.windows.recv much) refl)
-beyond_connection e one pad flow (inr is) much =
-    fault_stands (end_view e) (frame_of_data one pad) FlowControlError
-    (by_state e one pad Active flow is
-    ∙ rw (exceeds_connection one.flow e.windows.recv much) refl)
+  -- So is what exceeds the connection's window on any other.
+  pub beyond_connection : HasFlow one pad → (state_at e one.stream ≡ ClosedByUs)
+      ⊎ (state_at e one.stream ≡ Active) → e.windows.recv < one.flow
+      → verdict_of (end_view e) None (alone (frame_of_data one pad)) ≡ ConnectionFault
+      FlowControlError
+  unfolding data_verdict
+  beyond_connection flow (inl is) much =
+      fault_stands (end_view e) (frame_of_data one pad) FlowControlError
+      (by_state ClosedByUs flow is ∙ rw (exceeds_connection one.flow e.windows.recv much) refl)
+  beyond_connection flow (inr is) much =
+      fault_stands (end_view e) (frame_of_data one pad) FlowControlError (by_state Active flow is
+      ∙ rw (exceeds_connection one.flow e.windows.recv much) refl)
 
--- On a stream that this end has closed it has no event.
-discarded : (e : End) (one : DataFrame) (pad : Option ℕ) → HasFlow one pad
-    → state_at e one.stream ≡ ClosedByUs → one.flow ≤ e.windows.recv
-    → verdict_of (end_view e) None (alone (frame_of_data one pad)) ≡ NoEvent
-unfolding data_verdict replies_to
-discarded e one pad flow is few =
-    quiet_verdict (end_view e) (frame_of_data one pad) NoEvent
-    (by_state e one pad ClosedByUs flow is
-    ∙ rw (within_connection one.flow e.windows.recv few) refl) refl refl
+  -- On a stream that this end has closed it has no event.
+  discarded : HasFlow one pad → state_at e one.stream ≡ ClosedByUs → one.flow ≤ e.windows.recv
+      → verdict_of (end_view e) None (alone (frame_of_data one pad)) ≡ NoEvent
+  unfolding data_verdict replies_to
+  discarded flow is few = quiet_verdict (end_view e) (frame_of_data one pad) NoEvent
+      (by_state ClosedByUs flow is
+      ∙ rw (within_connection one.flow e.windows.recv few) refl) refl refl
 
--- On a stream that is half-closed (remote) it is a stream error.
-pub late_data : (e : End) (one : DataFrame) (pad : Option ℕ) (stream : StreamView)
-    → HasFlow one pad → stream_at e one.stream ≡ Some stream → stream.ended_in ≡ true
-    → one.flow ≤ e.windows.recv
-    → verdict_by_rules (end_view e) None (alone (frame_of_data one pad)) ≡ StreamFault StreamClosed
-unfolding data_verdict
-late_data e one pad stream flow active ended few =
-    by_state e one pad Active flow (active_state e one.stream stream active)
-    ∙ rw (within_connection one.flow e.windows.recv few, active, ended) refl
+  -- On a stream that is half-closed (remote) it is a stream error.
+  pub late_data : (stream : StreamView) → HasFlow one pad → stream_at e one.stream ≡ Some stream
+      → stream.ended_in ≡ true → one.flow ≤ e.windows.recv
+      → verdict_by_rules (end_view e) None (alone (frame_of_data one pad)) ≡ StreamFault
+      StreamClosed
+  unfolding data_verdict
+  late_data stream flow active ended few =
+      by_state Active flow (active_state e one.stream stream active)
+      ∙ rw (within_connection one.flow e.windows.recv few, active, ended) refl
 
--- What exceeds the stream's window is a connection error.
-pub beyond_stream : (e : End) (one : DataFrame) (pad : Option ℕ) (stream : StreamView)
-    → HasFlow one pad → stream_at e one.stream ≡ Some stream → stream.ended_in ≡ false
-    → one.flow ≤ e.windows.recv → exceeds one.flow stream.recv_window ≡ true
-    → verdict_of (end_view e) None (alone (frame_of_data one pad))
-    ≡ ConnectionFault FlowControlError
-unfolding data_verdict
-beyond_stream e one pad stream flow active unended few much =
-    fault_stands (end_view e) (frame_of_data one pad) FlowControlError
-    (by_state e one pad Active flow (active_state e one.stream stream active)
-    ∙ rw (within_connection one.flow e.windows.recv few, active, unended, much) refl)
+  -- What exceeds the stream's window is a connection error.
+  pub beyond_stream : (stream : StreamView) → HasFlow one pad → stream_at e one.stream ≡ Some stream
+      → stream.ended_in ≡ false → one.flow ≤ e.windows.recv
+      → exceeds one.flow stream.recv_window ≡ true
+      → verdict_of (end_view e) None (alone (frame_of_data one pad)) ≡ ConnectionFault
+      FlowControlError
+  unfolding data_verdict
+  beyond_stream stream flow active unended few much =
+      fault_stands (end_view e) (frame_of_data one pad) FlowControlError
+      (by_state Active flow (active_state e one.stream stream active)
+      ∙ rw (within_connection one.flow e.windows.recv few, active, unended, much) refl)
 
--- All other is reported.
-pub reported_data : (e : End) (one : DataFrame) (pad : Option ℕ) (stream : StreamView)
-    → HasFlow one pad → stream_at e one.stream ≡ Some stream → stream.ended_in ≡ false
-    → one.flow ≤ e.windows.recv → exceeds one.flow stream.recv_window ≡ false
-    → verdict_of (end_view e) None (alone (frame_of_data one pad)) ≡ Reported
-unfolding data_verdict
-reported_data e one pad stream flow active unended few within =
-    report_stands (end_view e) (frame_of_data one pad)
-    (by_state e one pad Active flow (active_state e one.stream stream active)
-    ∙ rw (within_connection one.flow e.windows.recv few, active, unended, within) refl)
+  -- All other is reported.
+  pub reported_data : (stream : StreamView) → HasFlow one pad → stream_at e one.stream ≡ Some stream
+      → stream.ended_in ≡ false → one.flow ≤ e.windows.recv
+      → exceeds one.flow stream.recv_window ≡ false
+      → verdict_of (end_view e) None (alone (frame_of_data one pad)) ≡ Reported
+  unfolding data_verdict
+  reported_data stream flow active unended few within =
+      report_stands (end_view e) (frame_of_data one pad)
+      (by_state Active flow (active_state e one.stream stream active)
+      ∙ rw (within_connection one.flow e.windows.recv few, active, unended, within) refl)
 
--- What is reported takes of both windows, and is owed.
-pub reported_after : (e : End) (one : DataFrame) (pad : Option ℕ) (stream : StreamView)
-    (window : ℤ) (waiting : List ℕ) → HasFlow one pad → stream_at e one.stream ≡ Some stream
-    → stream.ended_in ≡ false → window ≡ stream.recv_window -ℤ pos one.flow
-    → waiting ≡ e.output.waiting
-    → update_stream (narrow_recv_window (with_waiting e waiting) one.flow) one.stream
-    (record stream {
-      recv_window = window;
-      owed = stream.owed + one.flow;
-      ended_in = one.end;
-    })
-    ≡ after_reported e None (alone (frame_of_data one pad))
-unfolding after_reported
-reported_after e one pad stream window waiting flow active unended is same =
-    rw (is, same, flow, active, unended) refl
+  -- What is reported takes of both windows, and is owed.
+  pub reported_after : (stream : StreamView)
+      (window : ℤ) (waiting : List ℕ) → HasFlow one pad → stream_at e one.stream ≡ Some stream
+      → stream.ended_in ≡ false → window ≡ stream.recv_window -ℤ pos one.flow
+      → waiting ≡ e.output.waiting
+      → update_stream (narrow_recv_window (with_waiting e waiting) one.flow) one.stream
+      (record stream {
+        recv_window = window;
+        owed = stream.owed + one.flow;
+        ended_in = one.end;
+      }) ≡ after_reported e None (alone (frame_of_data one pad))
+  unfolding after_reported
+  reported_after stream window waiting flow active unended is same =
+      rw (is, same, flow, active, unended) refl
 
--- What is discarded is taken so.
-pub discarded_taken : (e : End) (one : DataFrame) (pad : Option ℕ) (list : List Field)
-    (result : Result (Option FrameEvent) StepError) (new : End) → HasFlow one pad
-    → state_at e one.stream ≡ ClosedByUs → one.flow ≤ e.windows.recv
-    → DiscardsData e one.flow result new
-    → TakesItem e None (alone (frame_of_data one pad)) list result new
-unfolding after_ignored
-discarded_taken e one pad list (Ok answer) new flow is few h =
-    rw h.0 (ignored_taken e (frame_of_data one pad) list new (discarded e one pad flow is few)
-    (rw (← flow) h.1))
-discarded_taken e one pad list (Err stop) new flow is few h =
-    rw h.0 (lacks_memory e (frame_of_data one pad) list NoEvent new
-    (discarded e one pad flow is few)
-    (ap (λ (count : ℕ). returns_credit count (length e.output.waiting)) (sym flow) ∙ h.1) h.2)
+  -- What is discarded is taken so.
+  pub discarded_taken : (list : List Field) (result : Result (Option FrameEvent) StepError)
+      (new : End) → HasFlow one pad → state_at e one.stream ≡ ClosedByUs → one.flow ≤ e.windows.recv
+      → DiscardsData e one.flow result new
+      → TakesItem e None (alone (frame_of_data one pad)) list result new
+  unfolding after_ignored
+  discarded_taken list (Ok answer) new flow is few h =
+      rw h.0 (ignored_taken e (frame_of_data one pad) list new (discarded flow is few)
+      (rw (← flow) h.1))
+  discarded_taken list (Err stop) new flow is few h =
+      rw h.0 (lacks_memory e (frame_of_data one pad) list NoEvent new (discarded flow is few)
+      (ap (λ (count : ℕ). returns_credit count (length e.output.waiting)) (sym flow) ∙ h.1) h.2)

@@ -49,66 +49,60 @@ widens_connection e increment some few =
     quiet_verdict (end_view e) (WindowUpdate 0 increment) NoEvent
     (rw (nonzero, fits e.windows.send increment few) refl) refl refl
 
--- On a stream the verdict goes by its state.
-by_state : (e : End) (id increment : ℕ) (state : State) → id ≢ 0 → state_at e id ≡ state
-    → verdict_by_rules (end_view e) None (alone (WindowUpdate id increment))
-    ≡ update_verdict state increment (overflows_stream increment (stream_at e id))
-unfolding verdict_by_rules
-by_state e id increment state some is =
-    let nonzero : (id == 0) ≡ false = grind (arith, nat_tests) in
-    rw (nonzero, is) refl
+module _ (e : End) (id increment : ℕ) where
+  -- On a stream the verdict goes by its state.
+  by_state : (state : State) → id ≢ 0 → state_at e id ≡ state
+      → verdict_by_rules (end_view e) None (alone (WindowUpdate id increment)) ≡ update_verdict
+      state increment (overflows_stream increment (stream_at e id))
+  unfolding verdict_by_rules
+  by_state state some is =
+      let nonzero : (id == 0) ≡ false = grind (arith, nat_tests) in
+      rw (nonzero, is) refl
 
--- On an idle stream it is a connection error.
-pub idle_update : (e : End) (id increment : ℕ) → id ≢ 0 → Idle ≡ state_at e id
-    → verdict_of (end_view e) None (alone (WindowUpdate id increment))
-    ≡ ConnectionFault ProtocolError
-unfolding update_verdict
-idle_update e id increment some is =
-    fault_stands (end_view e) (WindowUpdate id increment) ProtocolError
-    (by_state e id increment Idle some (sym is))
+  -- On an idle stream it is a connection error.
+  pub idle_update : id ≢ 0 → Idle ≡ state_at e id
+      → verdict_of (end_view e) None (alone (WindowUpdate id increment)) ≡ ConnectionFault
+      ProtocolError
+  unfolding update_verdict
+  idle_update some is = fault_stands (end_view e) (WindowUpdate id increment) ProtocolError
+      (by_state Idle some (sym is))
 
--- On a closed one it has no event.
-pub closed_update : (e : End) (id increment : ℕ) → id ≢ 0
-    → (state_at e id ≡ ClosedByUs) ⊎ (state_at e id ≡ Closed)
-    → verdict_of (end_view e) None (alone (WindowUpdate id increment)) ≡ NoEvent
-unfolding update_verdict replies_to
-closed_update e id increment some (inl is) =
-    quiet_verdict (end_view e) (WindowUpdate id increment) NoEvent
-    (by_state e id increment ClosedByUs some is) refl refl
-closed_update e id increment some (inr is) =
-    quiet_verdict (end_view e) (WindowUpdate id increment) NoEvent
-    (by_state e id increment Closed some is) refl refl
+  -- On a closed one it has no event.
+  pub closed_update : id ≢ 0 → (state_at e id ≡ ClosedByUs) ⊎ (state_at e id ≡ Closed)
+      → verdict_of (end_view e) None (alone (WindowUpdate id increment)) ≡ NoEvent
+  unfolding update_verdict replies_to
+  closed_update some (inl is) = quiet_verdict (end_view e) (WindowUpdate id increment) NoEvent
+      (by_state ClosedByUs some is) refl refl
+  closed_update some (inr is) = quiet_verdict (end_view e) (WindowUpdate id increment) NoEvent
+      (by_state Closed some is) refl refl
 
--- On an active one: no octets are a stream error.
-pub empty_resets : (e : End) (id increment : ℕ) (stream : StreamView) (code : Code) → id ≢ 0
-    → stream_at e id ≡ Some stream → increment ≡ 0 → code ≡ ProtocolError
-    → verdict_by_rules (end_view e) None (alone (WindowUpdate id increment)) ≡ StreamFault code
-unfolding update_verdict
-empty_resets e id increment stream code some active none is =
-    by_state e id increment Active some (active_state e id stream active) ∙ rw (none, is) refl
+  -- On an active one: no octets are a stream error.
+  pub empty_resets : (stream : StreamView) (code : Code) → id ≢ 0 → stream_at e id ≡ Some stream
+      → increment ≡ 0 → code ≡ ProtocolError
+      → verdict_by_rules (end_view e) None (alone (WindowUpdate id increment)) ≡ StreamFault code
+  unfolding update_verdict
+  empty_resets stream code some active none is =
+      by_state Active some (active_state e id stream active) ∙ rw (none, is) refl
 
--- So is too great a window.
-pub great_resets : (e : End) (id increment : ℕ) (stream : StreamView) (code : Code) → id ≢ 0
-    → stream_at e id ≡ Some stream → increment ≢ 0
-    → overflows_by increment stream.send_window ≡ true → code ≡ FlowControlError
-    → verdict_by_rules (end_view e) None (alone (WindowUpdate id increment)) ≡ StreamFault code
-unfolding update_verdict
-great_resets e id increment stream code some active more much is =
-    let nonzero : (increment == 0) ≡ false = grind (arith, nat_tests) in
-    by_state e id increment Active some (active_state e id stream active)
-    ∙ rw (nonzero, active, much, is) refl
+  -- So is too great a window.
+  pub great_resets : (stream : StreamView) (code : Code) → id ≢ 0 → stream_at e id ≡ Some stream
+      → increment ≢ 0 → overflows_by increment stream.send_window ≡ true → code ≡ FlowControlError
+      → verdict_by_rules (end_view e) None (alone (WindowUpdate id increment)) ≡ StreamFault code
+  unfolding update_verdict
+  great_resets stream code some active more much is =
+      let nonzero : (increment == 0) ≡ false = grind (arith, nat_tests) in
+      by_state Active some (active_state e id stream active) ∙ rw (nonzero, active, much, is) refl
 
--- Any other increment has no event.
-pub widens_stream : (e : End) (id increment : ℕ) (stream : StreamView) → id ≢ 0
-    → stream_at e id ≡ Some stream → increment ≢ 0
-    → overflows_by increment stream.send_window ≡ false
-    → verdict_of (end_view e) None (alone (WindowUpdate id increment)) ≡ NoEvent
-unfolding update_verdict replies_to
-widens_stream e id increment stream some active more few =
-    let nonzero : (increment == 0) ≡ false = grind (arith, nat_tests) in
-    quiet_verdict (end_view e) (WindowUpdate id increment) NoEvent
-    (by_state e id increment Active some (active_state e id stream active)
-    ∙ rw (nonzero, active, few) refl) refl refl
+  -- Any other increment has no event.
+  pub widens_stream : (stream : StreamView) → id ≢ 0 → stream_at e id ≡ Some stream → increment ≢ 0
+      → overflows_by increment stream.send_window ≡ false
+      → verdict_of (end_view e) None (alone (WindowUpdate id increment)) ≡ NoEvent
+  unfolding update_verdict replies_to
+  widens_stream stream some active more few =
+      let nonzero : (increment == 0) ≡ false = grind (arith, nat_tests) in
+      quiet_verdict (end_view e) (WindowUpdate id increment) NoEvent
+      (by_state Active some (active_state e id stream active)
+      ∙ rw (nonzero, active, few) refl) refl refl
 
 -- An increment on a number without a stream changes nothing.
 pub widen_none : (e : End) (id increment : ℕ) → id ≢ 0 → stream_at e id ≡ None

@@ -8,7 +8,7 @@ use Rattle.h2_spec_log.specs.Items.{encoding_of_items, encoding_of_item}
 use Rattle.h2_spec_machine.specs.Machine.{after_call, before_put_out_at}
 use Rattle.std.proofs.Common.{Result, Ok, Err}
 use Rattle.std.proofs.lemmas.List.{drop_min}
-use Rattle.h2_core.specs.Readers.{PutsOut}
+use Rattle.h2_core.specs.Readers.{Consumes, PutsOut}
 
 -- What holds of a success holds where there is no error.
 pub without_error : {A E P : Type 0} (result : Result A E) → false ≡ is_err result
@@ -43,7 +43,21 @@ pub waiting_ready : (e ready : End) (waiting update : ℕ) → ready ≡ before_
     → length ready.output.waiting ≡ waiting + update
 waiting_ready e ready waiting update is size more = rw (is, size, more) (length-ready e)
 
--- The first of the queued octets are put out.
+-- The first of the queued octets are consumed,
+pub consumed : (e ready new : End) (count given : ℕ) → ready ≡ before_put_out_at e
+    → given ≡ min count (length ready.output.waiting)
+    → new ≡ record ready {
+      output = record ready.output { waiting = drop given ready.output.waiting };
+    }
+    → Consumes e count given new
+unfolding after_call
+consumed e ready new count given is size machine =
+    record {
+      answer = rw (size, is, length-ready e) refl;
+      machine = rw (machine, size, drop_min count ready.output.waiting, is) refl;
+    }
+
+-- and put out.
 pub given_out : (e ready new : End) (count given : ℕ) (before after : List ℕ)
     → ready ≡ before_put_out_at e → given ≡ min count (length ready.output.waiting)
     → after ≡ before ++ take given ready.output.waiting
@@ -51,10 +65,5 @@ pub given_out : (e ready new : End) (count given : ℕ) (before after : List ℕ
       output = record ready.output { waiting = drop given ready.output.waiting };
     }
     → PutsOut e count given before after new
-unfolding after_call
 given_out e ready new count given before after is size octets machine =
-    record {
-      answer = rw (size, is, length-ready e) refl;
-      octets = rw (← is) octets;
-      machine = rw (machine, size, drop_min count ready.output.waiting, is) refl;
-    }
+    record { consumed = consumed e ready new count given is size machine; octets = rw (← is) octets }

@@ -62,51 +62,48 @@ found_in : (e : End) (i : ℕ) (stream : StreamView) → stream_at e i ≡ Some 
     → stream_in (map.find nat_cmp i (map.entries e.streams.entries)) ≡ Some stream
 found_in e i stream active = ap stream_in (sym (map.get-entries e.streams.entries i)) ∙ active
 
--- Where a stream is active, one at least is counted.
-pub counted : (e : End) (i : ℕ) (stream : StreamView) → IsSoundEnd e → stream_at e i ≡ Some stream
-    → 1 ≤ e.streams.active_count
-counted e i stream sound active =
-    omega (
-      arith,
-      found_is_counted i (map.entries e.streams.entries),
-      ap one_of (found_in e i stream active),
-      sound.counts.active,
-    )
+module _ (e : End) where
+  -- Where a stream is active, one at least is counted.
+  pub counted : (i : ℕ) (stream : StreamView) → IsSoundEnd e → stream_at e i ≡ Some stream
+      → 1 ≤ e.streams.active_count
+  counted i stream sound active = omega (
+    arith,
+    found_is_counted i (map.entries e.streams.entries),
+    ap one_of (found_in e i stream active),
+    sound.counts.active,
+  )
 
--- The connection's receive window, what is unreturned and what one stream owes are 65,535 at most.
-pub owed_fits : (e : End) (i : ℕ) (stream : StreamView) → IsSoundEnd e → stream_at e i ≡ Some stream
-    → e.windows.recv + (e.windows.unreturned + stream.owed) ≤ 65535
-owed_fits e i stream sound active =
-    omega (
-      arith,
-      found_owes i (map.entries e.streams.entries),
-      ap owed_of (found_in e i stream active),
-      sound.window.whole,
-    )
+  -- The connection's receive window, what is unreturned and what one stream owes are 65,535 at
+  -- most.
+  pub owed_fits : (i : ℕ) (stream : StreamView) → IsSoundEnd e → stream_at e i ≡ Some stream
+      → e.windows.recv + (e.windows.unreturned + stream.owed) ≤ 65535
+  owed_fits i stream sound active = omega (
+    arith,
+    found_owes i (map.entries e.streams.entries),
+    ap owed_of (found_in e i stream active),
+    sound.window.whole,
+  )
 
-pub connection_fits : (e : End) → IsSoundEnd e → e.windows.recv + e.windows.unreturned ≤ 65535
-connection_fits e sound = omega (arith, sound.window.whole)
+  pub connection_fits : IsSoundEnd e → e.windows.recv + e.windows.unreturned ≤ 65535
+  connection_fits sound = omega (arith, sound.window.whole)
 
--- The windows of a stream in range are near zero.
-near_send : (e : End) (stream : StreamView) → StreamIsInRange e stream
-    → is_far stream.send_window ≡ false
-near_send e stream range = grind (arith, ints)
+  -- The windows of a stream in range are near zero.
+  near_send : (stream : StreamView) → StreamIsInRange e stream → is_far stream.send_window ≡ false
+  near_send stream range = grind (arith, ints)
 
-near_recv : (e : End) (stream : StreamView) → StreamIsInRange e stream
-    → e.own.in_force.initial_window < 2 ^ 31
-    → is_far stream.recv_window ≡ false
-near_recv e stream range small = grind (arith, ints)
+  near_recv : (stream : StreamView) → StreamIsInRange e stream
+      → e.own.in_force.initial_window < 2 ^ 31 → is_far stream.recv_window ≡ false
+  near_recv stream range small = grind (arith, ints)
 
--- The windows of an active stream are near zero.
-pub send_near : (e : End) (i : ℕ) (stream : StreamView) → IsSoundEnd e → stream_at e i ≡ Some stream
-    → is_far stream.send_window ≡ false
-send_near e i stream sound active = near_send e stream (sound.ranges.streams i stream active)
+  -- The windows of an active stream are near zero.
+  pub send_near : (i : ℕ) (stream : StreamView) → IsSoundEnd e → stream_at e i ≡ Some stream
+      → is_far stream.send_window ≡ false
+  send_near i stream sound active = near_send stream (sound.ranges.streams i stream active)
 
-pub recv_near : (e : End) (i : ℕ) (stream : StreamView) → IsSoundEnd e → stream_at e i ≡ Some stream
-    → is_far stream.recv_window ≡ false
-recv_near e i stream sound active =
-    near_recv e stream (sound.ranges.streams i stream active)
-    (omega (arith, sound.ranges.own_window))
+  pub recv_near : (i : ℕ) (stream : StreamView) → IsSoundEnd e → stream_at e i ≡ Some stream
+      → is_far stream.recv_window ≡ false
+  recv_near i stream sound active = near_recv stream (sound.ranges.streams i stream active)
+      (omega (arith, sound.ranges.own_window))
 
 -- Nothing is kept of a number that was not used.
 pub absent_above : (e : End) (i : ℕ) → IsSoundEnd e → e.streams.highest < i

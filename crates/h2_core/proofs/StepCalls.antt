@@ -10,19 +10,16 @@ use Rattle.std.proofs.Common.{Result, Ok, Err, is_some}
 use Rattle.std.specs.Result.{OnErr}
 use Rattle.h2_frame.specs.Frames.{Reset}
 
--- The first condition holds.
-pub first-here : (refusal : Refusal) (others : List (Bool × Refusal)) (test : Bool) → test ≡ true
-    → first_of ((test, refusal) ∷ others) ≡ Some refusal
-unfolding first_of
-first-here refusal others test holds =
-    ap (λ (b : Bool). if b then Some refusal else first_of others) holds
+module _ (refusal : Refusal) (others : List (Bool × Refusal)) (test : Bool) where
+  -- The first condition holds.
+  pub first-here : test ≡ true → first_of ((test, refusal) ∷ others) ≡ Some refusal
+  unfolding first_of
+  first-here holds = ap (λ (b : Bool). if b then Some refusal else first_of others) holds
 
--- It doesn't.
-pub first-later : (refusal : Refusal) (others : List (Bool × Refusal)) (test : Bool)
-    → test ≡ false → first_of ((test, refusal) ∷ others) ≡ first_of others
-unfolding first_of
-first-later refusal others test fails =
-    ap (λ (b : Bool). if b then Some refusal else first_of others) fails
+  -- It doesn't.
+  pub first-later : test ≡ false → first_of ((test, refusal) ∷ others) ≡ first_of others
+  unfolding first_of
+  first-later fails = ap (λ (b : Bool). if b then Some refusal else first_of others) fails
 
 -- No condition is left.
 pub first-none : first_of [] ≡ None

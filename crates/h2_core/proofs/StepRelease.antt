@@ -127,45 +127,37 @@ released_by e id count stream ended =
     ++ encoding_of_items (end_view e).max_payload (alone (WindowUpdate 0 count)
     ∷ (if ended then [] else alone (WindowUpdate id count) ∷ [])))
 
--- The end after the call.
-after-release : (e : End) (id count : ℕ) (stream : StreamView) → stream_at e id ≡ Some stream
-    → after_call e (Release id count) ≡ released_by e id count stream stream.ended_in
-unfolding after_call items_of encoder_after_call
-after-release e id count stream active =
-    ap (λ (found : Option StreamView). after_release
-    (queue_output e (alone (WindowUpdate 0 count)
-    ∷ (if ended_in found then [] else alone (WindowUpdate id count) ∷ []))) id count found) active
+module _ (e : End) (id count : ℕ) (stream : StreamView) where
+  -- The end after the call.
+  after-release : stream_at e id ≡ Some stream
+      → after_call e (Release id count) ≡ released_by e id count stream stream.ended_in
+  unfolding after_call items_of encoder_after_call
+  after-release active = ap (λ (found : Option StreamView). after_release
+      (queue_output e (alone (WindowUpdate 0 count)
+      ∷ (if ended_in found then [] else alone (WindowUpdate id count) ∷ []))) id count found) active
 
--- The peer has ended the stream: its window stays.
-pub release-ended : (e : End) (id count : ℕ) (stream : StreamView) → stream_at e id ≡ Some stream
-    → stream.ended_in ≡ true
-    → after_call e (Release id count)
-    ≡ released e id count (record stream { owed = stream.owed - count })
-    (e.output.waiting ++ encoding_of (WindowUpdate 0 count))
-unfolding encoding_of_items encoding_of_item
-release-ended e id count stream active ended =
-    after-release e id count stream active
-    ∙ ap (λ (b : Bool). released_by e id count stream b) ended
+  -- The peer has ended the stream: its window stays.
+  pub release-ended : stream_at e id ≡ Some stream → stream.ended_in ≡ true
+      → after_call e (Release id count) ≡ released e id count
+      (record stream { owed = stream.owed - count }) (e.output.waiting ++ encoding_of
+      (WindowUpdate 0 count))
+  unfolding encoding_of_items encoding_of_item
+  release-ended active ended = after-release active
+      ∙ ap (λ (b : Bool). released_by e id count stream b) ended
 
--- It hasn't: both windows are widened.
-pub release-open : (e : End) (id count : ℕ) (stream : StreamView) → stream_at e id ≡ Some stream
-    → stream.ended_in ≡ false
-    → after_call e (Release id count)
-    ≡ released e id count
-    (record stream {
-      owed = stream.owed - count;
-      recv_window = stream.recv_window +ℤ pos count;
-    })
-    ((e.output.waiting ++ encoding_of (WindowUpdate id count))
-    ++ encoding_of (WindowUpdate 0 count))
-unfolding encoding_of_items encoding_of_item
-release-open e id count stream active going =
-    after-release e id count stream active
-    ∙ ap (λ (b : Bool). released_by e id count stream b) going
-    ∙ ap (λ (waiting : List ℕ). released e id count
-    (record stream {
-      owed = stream.owed - count;
-      recv_window = stream.recv_window +ℤ pos count;
-    }) waiting)
-    (sym (append_assoc e.output.waiting (encoding_of (WindowUpdate id count))
-    (encoding_of (WindowUpdate 0 count))))
+  -- It hasn't: both windows are widened.
+  pub release-open : stream_at e id ≡ Some stream
+      → stream.ended_in ≡ false
+      → after_call e (Release id count) ≡ released e id count (record stream {
+        owed = stream.owed - count;
+        recv_window = stream.recv_window +ℤ pos count;
+      }) ((e.output.waiting ++ encoding_of (WindowUpdate id count))
+      ++ encoding_of (WindowUpdate 0 count))
+  unfolding encoding_of_items encoding_of_item
+  release-open active going = after-release active
+      ∙ ap (λ (b : Bool). released_by e id count stream b) going
+      ∙ ap (λ (waiting : List ℕ). released e id count (record stream {
+        owed = stream.owed - count;
+        recv_window = stream.recv_window +ℤ pos count;
+      }) waiting) (sym (append_assoc e.output.waiting (encoding_of (WindowUpdate id count))
+      (encoding_of (WindowUpdate 0 count))))

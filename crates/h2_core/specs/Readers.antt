@@ -21,9 +21,12 @@ room_of e id =
 abbrev pub owed_of : End → ℕ → ℕ
 owed_of e id = if is_some e.failed then 0 else owed_on (stream_at e id)
 
--- `given` octets were put out: the first of the queued output, once what is unreturned was
--- returned.
-pub record PutsOut (e : End) (count given : ℕ) (before after : List ℕ) (new : End) : Type 0 where
+-- `given` octets of the queued output were consumed, once what is unreturned was returned.
+pub record Consumes (e : End) (count given : ℕ) (new : End) : Type 0 where
   pub answer : Count given ≡ answer_of (end_view e) (PutOut count)
-  pub octets : after ≡ before ++ take given (before_put_out_at e).output.waiting
   pub machine : new ≡ after_call e (PutOut count)
+
+-- They were put out: they are the first of what was queued then.
+pub record PutsOut (e : End) (count given : ℕ) (before after : List ℕ) (new : End) : Type 0 where
+  pub consumed : Consumes e count given new
+  pub octets : after ≡ before ++ take given (before_put_out_at e).output.waiting

@@ -1,13 +1,13 @@
 //! The queued output of an end, and putting it out.
 
 ghost use Rattle.std.specs.Prelude.{◌≡◌, ◌+◌, ◌≤◌, ◌++◌, length, min, true, false, None};
-ghost use Rattle.std.specs.Prelude.{IfOk, IfErr, IsOk, vec_len};
+ghost use Rattle.std.specs.Prelude.{IfOk, IfErr, IsOk, if◌then◌else◌, vec_len};
 ghost use Rattle.std.specs.Vec.{vec_capacity};
 ghost use Rattle.h2_spec_log.specs.CallRules.{returns_before_put_out};
 ghost use Rattle.h2_spec_machine.specs.End.{end_view};
 ghost use Rattle.h2_spec_machine.specs.Machine.{before_put_out_at};
 ghost use Rattle.h2_core.specs.Endpoint.{end_of, IsSoundEnd};
-ghost use Rattle.h2_core.specs.Readers.{PutsOut};
+ghost use Rattle.h2_core.specs.Readers.{Consumes, PutsOut};
 
 use crate::endpoint::Endpoint;
 use crate::sizes::SMALL_FRAME;
@@ -45,17 +45,53 @@ impl Endpoint {
             → vec_len out.old + min count (length self.old.output.waiting + 13)
             ≤ vec_capacity out.old → IsOk result }
     {
-        let update = if self.returns_before_output() {
-            SMALL_FRAME
-        } else {
-            0
-        };
+        let update = self.update_room();
         let given = count.min(self.output.len() + update);
         if out.reserve(given).is_err() || self.output.reserve(update).is_err() {
             return Err(Refusal::Memory);
         }
         self.return_before_output();
         Ok(self.output.put_out(count, out).unwrap())
+    }
+
+    // contract: 6.9 Nothing of the window of the connection is lost
+    // contract: calls (own) A call that sends nothing takes no memory
+    /// Removes at most `count` octets of the queued output, which were read where they lie, and
+    /// returns their number. Where less than 65,536 octets are queued, all that is unreturned is
+    /// returned first. It works after a failure too.
+    ///
+    /// # Errors
+    ///
+    /// [`Refusal::Memory`] (C12) where an allocation was refused. Nothing has changed.
+    pub fn consume(&mut self, count: usize) -> Result<usize, Refusal>
+        requires sound { self.old.failed ≡ None → IsSoundEnd (end_of self.old) }
+        ensures ok { IfOk result (λ given. Consumes (end_of self.old) count given
+            (end_of self.new)) }
+        ensures err { IfErr result (λ refusal. (refusal ≡ Refusal.Memory)
+            × (end_of self.new ≡ end_of self.old)) }
+
+        // Where nothing is returned first, or there is room for that, it takes no memory.
+        ensures nothing { returns_before_put_out (end_view (end_of self.old)) ≡ false
+            → IsOk result }
+        ensures due { 13 ≤ self.old.output.spare → IsOk result }
+    {
+        let update = self.update_room();
+        if self.output.reserve(update).is_err() {
+            return Err(Refusal::Memory);
+        }
+        self.return_before_output();
+        Ok(self.output.consume(count))
+    }
+
+    /// The room that is needed for what is returned before output is put out.
+    fn update_room(&self) -> usize
+        ensures { result ≡ (if returns_before_put_out (end_view (end_of self.now)) then 13 else 0) }
+    {
+        if self.returns_before_output() {
+            SMALL_FRAME
+        } else {
+            0
+        }
     }
 
     /// Whether all that is unreturned is returned before output is put out.

@@ -86,14 +86,14 @@ impl Endpoint {
     }
 
     /// Whether a pair is an initial window that brings some send window above 2<sup>31</sup> - 1.
-    /// The greatest of the windows is computed once, and then known.
+    /// Where the table doesn't know, the greatest of the windows is computed once, and then known.
     fn overflows(&self, id: u16, value: u32, greatest: &mut Option<Option<i64>>) -> bool
         requires known { KnowsGreatest self.now.streams greatest.old }
         ensures overflows { result ≡ (id == 4 && any_above self.now.streams.send_initial value
             (map.entries self.now.streams.entries)) }
         ensures known { KnowsGreatest self.now.streams greatest.new }
     {
-        if id != 4 {
+        if id != 4 || self.streams.is_none_above(value) {
             return false;
         }
         let window = match *greatest {

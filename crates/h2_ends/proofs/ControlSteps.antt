@@ -5,7 +5,8 @@ use Rattle.h2_ends.proofs.Names.{ConnAnswers, answer_by, tokens_of_call, End, En
 use Rattle.h2_ends.proofs.Names.{EndRepresents, RepresentsBut}
 use Rattle.h2_laws_end.specs.Activity.{call_may_close}
 use Rattle.std.proofs.Common.{Result, Ok, Err}
-use Rattle.h2_spec_log.specs.Acts.{ResetStream, SendPing, SendGoAway, ChangeSettings, PutOut}
+use Rattle.h2_spec_log.specs.Acts.{Release, ResetStream, SendPing, SendGoAway, ChangeSettings}
+use Rattle.h2_spec_log.specs.Acts.{PutOut}
 use Rattle.h2_ends.specs.Represents.{EndAnswers}
 use Rattle.h2_ends.proofs.EndTokens.{no_part_tokens}
 use Rattle.h2_ends.proofs.InSteps.{called_as, called_but}
@@ -29,10 +30,10 @@ done_opens : (result : Result (Unit {0}) Refusal) (i : ℕ)
 done_opens (Ok done) i = λ is. cc
 done_opens (Err refusal) i = λ is. cc
 
-count_opens : (result : Result ℕ Refusal) (i : ℕ)
-    → answer_by (λ given. Count given) result ≢ Number i
-count_opens (Ok given) i = λ is. cc
-count_opens (Err refusal) i = λ is. cc
+count_opens : {A : Type 0} (count_of : A → ℕ) (result : Result A Refusal) (i : ℕ)
+    → answer_by (λ given. Count (count_of given)) result ≢ Number i
+count_opens count_of (Ok given) i = λ is. cc
+count_opens count_of (Err refusal) i = λ is. cc
 
 -- Nor closes one, but for a reset that is done.
 reset_closes : (id code i : ℕ) (refusal : Refusal)
@@ -62,7 +63,21 @@ put_out_closes : (count i : ℕ) (answer : Answer) → call_may_close i (PutOut 
 unfolding call_may_close
 put_out_closes count i answer = refl
 
+release_closes : (id count i : ℕ) (answer : Answer)
+    → call_may_close i (Release id count) answer ≡ false
+unfolding call_may_close
+release_closes id count i answer = refl
+
 -- So each of them is answered by the end as by its connection.
+pub releases : (old new : End) (id count : ℕ) (result : Result (Unit {0}) Refusal)
+    → ConnAnswers old.conn (Release id count) (answer_by (λ done. Done) result) new.conn
+    → new.role ≡ old.role → new.streams ≡ old.streams → new.spans ≡ old.spans
+    → EndAnswers old (Release id count) (answer_by (λ done. Done) result) new
+releases old new id count result answers role streams spans =
+    quiet_answers old new (Release id count) _ answers role streams spans
+    (λ i. no_part_tokens i (Release id count) _ tt) (done_opens result)
+    (λ i. release_closes id count i _)
+
 pub pings : (old new : End) (octets : List ℕ) (result : Result (Unit {0}) Refusal)
     → ConnAnswers old.conn (SendPing octets) (answer_by (λ done. Done) result) new.conn
     → new.role ≡ old.role → new.streams ≡ old.streams → new.spans ≡ old.spans
@@ -88,13 +103,15 @@ changes_settings old new own result answers role streams spans =
     (λ i. no_part_tokens i (ChangeSettings own) _ tt) (done_opens result)
     (λ i. settings_closes own i _)
 
-pub puts_out : (old new : End) (count : ℕ) (result : Result ℕ Refusal)
-    → ConnAnswers old.conn (PutOut count) (answer_by (λ given. Count given) result) new.conn
-    → new.role ≡ old.role → new.streams ≡ old.streams → new.spans ≡ old.spans
-    → EndAnswers old (PutOut count) (answer_by (λ given. Count given) result) new
-puts_out old new count result answers role streams spans =
+pub puts_out : {A : Type 0} (count_of : A → ℕ) (old new : End) (count : ℕ)
+    (result : Result A Refusal)
+    → ConnAnswers old.conn (PutOut count) (answer_by (λ given. Count (count_of given)) result)
+    new.conn → new.role ≡ old.role → new.streams ≡ old.streams → new.spans ≡ old.spans
+    → EndAnswers old (PutOut count) (answer_by (λ given. Count (count_of given)) result) new
+puts_out count_of old new count result answers role streams spans =
     quiet_answers old new (PutOut count) _ answers role streams spans
-    (λ i. no_part_tokens i (PutOut count) _ tt) (count_opens result) (λ i. put_out_closes count i _)
+    (λ i. no_part_tokens i (PutOut count) _ tt) (count_opens count_of result)
+    (λ i. put_out_closes count i _)
 
 -- So is a reset that is refused; one that is done may close the stream.
 pub reset_is_refused : (old new : End) (id code : ℕ) (refusal : Refusal)

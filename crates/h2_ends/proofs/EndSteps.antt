@@ -127,48 +127,45 @@ called_end happened act answer accepted = record {
   handed = happened.handed;
 }
 
--- A call that sends tokens on one stream at most leaves all that is kept of the others.
-pub stepped : (values : Values) (end new : End) (happened : EndLog) (act : Act) (answer : Answer)
-    (id : ℕ) (stream : Option Stream) (accepted : List (ℕ × SentMessage))
-    → RepresentsMessages values end happened → MayAnswer happened.log act answer
-    → ConnRepresents values new.conn (with_call happened.log act answer)
-    → new.role ≡ end.role → KeepsOne end new id stream
-    → ((i : ℕ) → i ≢ id → tokens_of_call i act answer ≡ [])
-    → ((i : ℕ) → i ≢ id → message_for i accepted ≡ message_for i happened.accepted)
-    → IsOver (with_call happened.log act answer) id
-    ⊎ IsKept (called_end happened act answer accepted) id stream
-    → SendsInOrder (called_end happened act answer accepted) id
-    → RepresentsMessages values new (called_end happened act answer accepted)
-stepped values end new happened act answer id stream accepted is may conn role keeps none given one
-    sent =
-    most_same values end new happened (called_end happened act answer accepted) id stream is conn
-    role (grows_call happened.log act answer).role keeps
-    (λ i past. over_by_call happened.log act answer i may past)
-    (λ i other. record {
-      handed = refl;
-      accepted = given i other;
-      sent = call_adds_none i happened.log act answer (none i other);
-      role = (grows_call happened.log act answer).role;
-      used_still = used_by_call happened.log act answer i;
-    }) one sent
+module _ (values : Values) (end new : End) (happened : EndLog) (act : Act) (answer : Answer) where
+  -- A call that sends tokens on one stream at most leaves all that is kept of the others.
+  pub stepped : (id : ℕ) (stream : Option Stream) (accepted : List (ℕ × SentMessage))
+      → RepresentsMessages values end happened → MayAnswer happened.log act answer
+      → ConnRepresents values new.conn (with_call happened.log act answer) → new.role ≡ end.role
+      → KeepsOne end new id stream → ((i : ℕ) → i ≢ id → tokens_of_call i act answer ≡ [])
+      → ((i : ℕ) → i ≢ id → message_for i accepted ≡ message_for i happened.accepted)
+      → IsOver (with_call happened.log act answer) id
+      ⊎ IsKept (called_end happened act answer accepted) id stream
+      → SendsInOrder (called_end happened act answer accepted) id
+      → RepresentsMessages values new (called_end happened act answer accepted)
+  stepped id stream accepted is may conn role keeps none given one
+      sent =
+      most_same values end new happened (called_end happened act answer accepted) id stream is conn
+      role (grows_call happened.log act answer).role keeps
+      (λ i past. over_by_call happened.log act answer i may past)
+      (λ i other. record {
+        handed = refl;
+        accepted = given i other;
+        sent = call_adds_none i happened.log act answer (none i other);
+        role = (grows_call happened.log act answer).role;
+        used_still = used_by_call happened.log act answer i;
+      }) one sent
 
--- A call that sends no token leaves all that is kept.
-pub quiet_call : (values : Values) (end new : End) (happened : EndLog) (act : Act)
-    (answer : Answer) → RepresentsMessages values end happened → MayAnswer happened.log act answer
-    → ConnRepresents values new.conn (with_call happened.log act answer)
-    → new.role ≡ end.role → new.streams ≡ end.streams
-    → ((i : ℕ) → tokens_of_call i act answer ≡ [])
-    → RepresentsMessages values new (end_with_log happened (with_call happened.log act answer))
-quiet_call values end new happened act answer is may conn role streams none =
-    all_same values end new happened (end_with_log happened (with_call happened.log act answer)) is
-    conn role streams (λ i past. over_by_call happened.log act answer i may past)
-    (λ i. record {
-      handed = refl;
-      accepted = refl;
-      sent = call_adds_none i happened.log act answer (none i);
-      role = (grows_call happened.log act answer).role;
-      used_still = used_by_call happened.log act answer i;
-    })
+  -- A call that sends no token leaves all that is kept.
+  pub quiet_call : RepresentsMessages values end happened → MayAnswer happened.log act answer
+      → ConnRepresents values new.conn (with_call happened.log act answer) → new.role ≡ end.role
+      → new.streams ≡ end.streams → ((i : ℕ) → tokens_of_call i act answer ≡ [])
+      → RepresentsMessages values new (end_with_log happened (with_call happened.log act answer))
+  quiet_call is may conn role streams none =
+      all_same values end new happened (end_with_log happened (with_call happened.log act answer))
+      is conn role streams (λ i past. over_by_call happened.log act answer i may past)
+      (λ i. record {
+        handed = refl;
+        accepted = refl;
+        sent = call_adds_none i happened.log act answer (none i);
+        role = (grows_call happened.log act answer).role;
+        used_still = used_by_call happened.log act answer i;
+      })
 
 -- Nothing has happened.
 pub same_itself : (happened : EndLog) (i : ℕ) → IsSame happened happened i
@@ -275,41 +272,38 @@ unfolding IsKept IsOutgoing
 outgoing_kept happened id None kept = (kept.unsaid, kept.unsent)
 outgoing_kept happened id (Some stream) kept = kept.outgoing
 
--- What is sent is the same, whatever is handed out.
-pub outgoing_handed : (happened : EndLog) (handed : Handed) (id : ℕ) (outgoing : Outgoing)
-    → IsOutgoing happened id outgoing
-    → IsOutgoing (end_with_handed happened happened.log handed) id outgoing
-unfolding IsOutgoing
-outgoing_handed happened handed id outgoings.NotGiven is = is
-outgoing_handed happened handed id (outgoings.Waiting waiting) is =
-    record {
-      message = is.message;
-      accepted = is.accepted;
-      rest = is.rest;
-      begun = is.begun;
-      some = is.some;
-      fits = is.fits;
-    }
-outgoing_handed happened handed id outgoings.Sent is = is
+module _ (happened : EndLog) (handed : Handed) (id : ℕ) where
+  -- What is sent is the same, whatever is handed out.
+  pub outgoing_handed : (outgoing : Outgoing) → IsOutgoing happened id outgoing
+      → IsOutgoing (end_with_handed happened happened.log handed) id outgoing
+  unfolding IsOutgoing
+  outgoing_handed outgoings.NotGiven is = is
+  outgoing_handed (outgoings.Waiting waiting) is =
+      record {
+        message = is.message;
+        accepted = is.accepted;
+        rest = is.rest;
+        begun = is.begun;
+        some = is.some;
+        fits = is.fits;
+      }
+  outgoing_handed outgoings.Sent is = is
 
--- So is how it is sent, and what is read.
-pub sent_handed : (happened : EndLog) (handed : Handed) (id : ℕ) → SendsInOrder happened id
-    → SendsInOrder (end_with_handed happened happened.log handed) id
-sent_handed happened handed id is =
-    record { waiting = is.waiting; prefix = is.prefix; begun = is.begun }
+  -- So is how it is sent, and what is read.
+  pub sent_handed : SendsInOrder happened id
+      → SendsInOrder (end_with_handed happened happened.log handed) id
+  sent_handed is = record { waiting = is.waiting; prefix = is.prefix; begun = is.begun }
 
-pub reads_handed : (happened : EndLog) (handed : Handed) (id : ℕ)
-    → reads_on (end_with_handed happened happened.log handed) id ≡ reads_on happened id
-unfolding reads_on
-reads_handed happened handed id = refl
+  pub reads_handed : reads_on (end_with_handed happened happened.log handed) id ≡ reads_on happened
+      id
+  unfolding reads_on
+  reads_handed = refl
 
--- The part follows those that were handed out before.
-pub parts_handed : (happened : EndLog) (handed : Handed) (id : ℕ) (part : Part × Bool)
-    → part_on id handed ≡ part ∷ []
-    → parts_on id (handed ∷ happened.handed) ≡ parts_on id happened.handed ++ part ∷ []
-unfolding parts_on
-parts_handed happened handed id part is =
-    ap (λ (more : List (Part × Bool)). parts_on id happened.handed ++ more) is
+  -- The part follows those that were handed out before.
+  pub parts_handed : (part : Part × Bool) → part_on id handed ≡ part ∷ []
+      → parts_on id (handed ∷ happened.handed) ≡ parts_on id happened.handed ++ part ∷ []
+  unfolding parts_on
+  parts_handed part is = ap (λ (more : List (Part × Bool)). parts_on id happened.handed ++ more) is
 
 -- Parts with one more are some.
 pub not_empty : (parts : List (Part × Bool)) (part : Part × Bool) → parts ++ part ∷ [] ≢ []

@@ -11,21 +11,18 @@ use Rattle.h2_laws_machine.specs.Machines.{log_after}
 use Rattle.h2_laws_pair.proofs.HeardCalls.{step_calls}
 use Rattle.h2_laws_machine.specs.Machines as steps
 
--- After a call its tokens follow those that were sent before.
-pub call_tokens : (i : ℕ) (log : Log) (act : Act) (answer : Answer)
-    → tokens_sent i (with_call log act answer).calls
-    ≡ tokens_sent i log.calls ++ tokens_of_call i act answer
-unfolding tokens_sent
-call_tokens i log act answer = ap (tokens_sent i) (call_calls log act answer)
+module _ (i : ℕ) (log : Log) (act : Act) (answer : Answer) where
+  -- After a call its tokens follow those that were sent before.
+  pub call_tokens : tokens_sent i (with_call log act answer).calls ≡ tokens_sent i log.calls
+      ++ tokens_of_call i act answer
+  unfolding tokens_sent
+  call_tokens = ap (tokens_sent i) (call_calls log act answer)
 
--- A call without tokens leaves those that were sent.
-pub call_adds_none : (i : ℕ) (log : Log) (act : Act) (answer : Answer)
-    → tokens_of_call i act answer ≡ []
-    → tokens_sent i (with_call log act answer).calls ≡ tokens_sent i log.calls
-call_adds_none i log act answer none =
-    call_tokens i log act answer
-    ∙ ap (λ (more : List Token). tokens_sent i log.calls ++ more) none
-    ∙ append-nil (tokens_sent i log.calls)
+  -- A call without tokens leaves those that were sent.
+  pub call_adds_none : tokens_of_call i act answer ≡ []
+      → tokens_sent i (with_call log act answer).calls ≡ tokens_sent i log.calls
+  call_adds_none none = call_tokens ∙ ap (λ (more : List Token). tokens_sent i log.calls ++ more)
+      none ∙ append-nil (tokens_sent i log.calls)
 
 -- A call that is refused has none.
 pub refused_tokens : (i : ℕ) (act : Act) (refusal : Refusal)
@@ -51,30 +48,24 @@ no_part_tokens i (SendFields id fields end) answer none = absurd none
 no_part_tokens i (SendData id octets end) answer none = absurd none
 no_part_tokens i act answer none = refl
 
--- Taking octets is no call.
-pub take_calls : (log after : Log) (piece : List ℕ) (answer : TakeAnswer)
-    → MayTake log piece answer after → after.calls ≡ log.calls
-unfolding log_after
-take_calls log after piece answer (has_failed code failed answers same) =
-    ap (λ (new : Log). new.calls) same
-take_calls log after piece answer (reports_unprocessed up some answers same) =
-    ap (λ (new : Log). new.calls) same
-    ∙ step_calls log steps.reports_unprocessed (λ act said wrong. cc)
-take_calls log after piece answer (ends_no_frame takes unparsed part answers same) =
-    ap (λ (new : Log). new.calls) same
-    ∙ step_calls log (steps.uses_part piece unparsed) (λ act said wrong. cc)
-take_calls log after piece answer
-    (ends_frame takes octets unused joined frame decoded framed sees same answers) =
-    ap (λ (new : Log). new.calls) same
-    ∙ step_calls log (steps.ends_frame octets frame decoded) (λ act said wrong. cc)
-take_calls log after piece answer
-    (meets_fault takes octets unused joined fault at answers same) =
-    ap (λ (new : Log). new.calls) same
-    ∙ step_calls log (steps.meets_fault octets fault) (λ act said wrong. cc)
-take_calls log after piece answer
-    (runs_out_of_memory up octets unused joined may answers same) =
-    ap (λ (new : Log). new.calls) same
-    ∙ step_calls log (steps.runs_out_of_memory octets) (λ act said wrong. cc)
+module _ (log after : Log) (piece : List ℕ) (answer : TakeAnswer) where
+  -- Taking octets is no call.
+  pub take_calls : MayTake log piece answer after → after.calls ≡ log.calls
+  unfolding log_after
+  take_calls (has_failed code failed answers same) = ap (λ (new : Log). new.calls) same
+  take_calls (reports_unprocessed up some answers same) = ap (λ (new : Log). new.calls) same
+      ∙ step_calls log steps.reports_unprocessed (λ act said wrong. cc)
+  take_calls (ends_no_frame takes unparsed part answers same) = ap (λ (new : Log). new.calls) same
+      ∙ step_calls log (steps.uses_part piece unparsed) (λ act said wrong. cc)
+  take_calls (ends_frame takes octets unused joined frame decoded framed sees same answers) =
+      ap (λ (new : Log). new.calls) same
+      ∙ step_calls log (steps.ends_frame octets frame decoded) (λ act said wrong. cc)
+  take_calls (meets_fault takes octets unused joined fault at answers same) =
+      ap (λ (new : Log). new.calls) same
+      ∙ step_calls log (steps.meets_fault octets fault) (λ act said wrong. cc)
+  take_calls (runs_out_of_memory up octets unused joined may answers same) =
+      ap (λ (new : Log). new.calls) same
+      ∙ step_calls log (steps.runs_out_of_memory octets) (λ act said wrong. cc)
 
 -- The end has this role.
 abbrev HasRole : Role → Role → List Item → List Item → List Event → Type 0

@@ -96,31 +96,28 @@ pub active_called : (role : Role) (values : Values) (log : Log) (act : Act) (ans
 active_called role values log act answer stream i is may stays keeps =
     λ some. active_by_call role values log act answer i is may (keeps some) stays
 
--- A connection that is up was so before.
-up_before : (log after : Log) (piece : List ℕ) (answer : TakeAnswer)
-    → MayTake log piece answer after → after.failed ≡ None → log.failed ≡ None
-up_before log after piece answer (has_failed code failed answers same) up =
-    ap (λ (new : Log). new.failed) (sym same) ∙ up
-up_before log after piece answer (reports_unprocessed was some answers same) up = was
-up_before log after piece answer (ends_no_frame takes unparsed part answers same) up = takes.up
-up_before log after piece answer
-    (ends_frame takes octets unused joined frame decoded framed sees same answers) up = takes.up
-up_before log after piece answer
-    (meets_fault takes octets unused joined fault at answers same) up = takes.up
-up_before log after piece answer
-    (runs_out_of_memory was octets unused joined may answers same) up = was
+module _ (log after : Log) (piece : List ℕ) where
+  -- A connection that is up was so before.
+  up_before : (answer : TakeAnswer) → MayTake log piece answer after → after.failed ≡ None
+      → log.failed ≡ None
+  up_before answer (has_failed code failed answers same) up =
+      ap (λ (new : Log). new.failed) (sym same) ∙ up
+  up_before answer (reports_unprocessed was some answers same) up = was
+  up_before answer (ends_no_frame takes unparsed part answers same) up = takes.up
+  up_before answer
+      (ends_frame takes octets unused joined frame decoded framed sees same answers) up = takes.up
+  up_before answer (meets_fault takes octets unused joined fault at answers same) up = takes.up
+  up_before answer (runs_out_of_memory was octets unused joined may answers same) up = was
 
--- What was heard on a stream of which nothing is reported.
-heard_taken : (log after : Log) (piece : List ℕ) (answer : TakeAnswer) (i : ℕ)
-    → AfterTake log after piece answer → tokens_reported i answer ≡ []
-    → tokens_heard i after.reported ≡ tokens_heard i log.reported
-unfolding tokens_heard
-heard_taken log after piece (Took count None) i says none = ap (tokens_heard i) says.5
-heard_taken log after piece (Took count (Some event)) i says none =
-    ap (tokens_heard i) says.5
-    ∙ ap (λ (more : List Token). tokens_heard i log.reported ++ more) none
-    ∙ append-nil (tokens_heard i log.reported)
-heard_taken log after piece (Failed code) i says none = ap (tokens_heard i) says.4
+  -- What was heard on a stream of which nothing is reported.
+  heard_taken : (answer : TakeAnswer) (i : ℕ) → AfterTake log after piece answer
+      → tokens_reported i answer ≡ [] → tokens_heard i after.reported ≡ tokens_heard i log.reported
+  unfolding tokens_heard
+  heard_taken (Took count None) i says none = ap (tokens_heard i) says.5
+  heard_taken (Took count (Some event)) i says none = ap (tokens_heard i) says.5
+      ∙ ap (λ (more : List Token). tokens_heard i log.reported ++ more) none
+      ∙ append-nil (tokens_heard i log.reported)
+  heard_taken (Failed code) i says none = ap (tokens_heard i) says.4
 
 -- So it leaves what was handed out.
 pub handed_taken : (happened : EndLog) (piece : List ℕ) (answer : TakeAnswer) (log : Log) (i : ℕ)

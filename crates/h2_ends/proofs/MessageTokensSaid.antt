@@ -50,30 +50,27 @@ octets_placed [] = refl
 octets_placed (octet ∷ octets) =
     ap (λ (tokens : List MessageToken). BodyToken octet ∷ tokens) (octets_placed octets)
 
--- After a final head parts are what their tokens are there.
-placed_in_body : (server : Bool) (parts : List (Part × Bool))
-    → parts_placed true server parts ≡ each token_in_body (tokens_of_parts parts)
-unfolding parts_placed tokens_of_parts tokens_of_part
-placed_in_body server [] = refl
-placed_in_body server ((FieldsPart list, end) ∷ parts) =
-    rw (map-append, end_placed end, placed_in_body server parts) refl
-placed_in_body server ((OctetsPart octets, end) ∷ parts) =
-    rw (map-append, map-append, octets_placed octets, end_placed end, placed_in_body server parts)
-    refl
+module _ (server : Bool) where
+  -- After a final head parts are what their tokens are there.
+  placed_in_body : (parts : List (Part × Bool))
+      → parts_placed true server parts ≡ each token_in_body (tokens_of_parts parts)
+  unfolding parts_placed tokens_of_parts tokens_of_part
+  placed_in_body [] = refl
+  placed_in_body ((FieldsPart list, end) ∷ parts) =
+      rw (map-append, end_placed end, placed_in_body parts) refl
+  placed_in_body ((OctetsPart octets, end) ∷ parts) =
+      rw (map-append, map-append, octets_placed octets, end_placed end, placed_in_body parts) refl
 
--- So it is with all parts of a message, where the first token is its final head.
-parts_by_tokens : (server : Bool) (parts : List (Part × Bool))
-    → HeadFirst server (tokens_of_parts parts)
-    → parts_placed false server parts ≡ tokens_placed (tokens_of_parts parts)
-unfolding parts_placed tokens_of_parts tokens_of_part end_tokens last_tokens
-parts_by_tokens server [] first = refl
-parts_by_tokens server ((FieldsPart list, true) ∷ parts) first =
-    rw (first, placed_in_body server parts) refl
-parts_by_tokens server ((FieldsPart list, false) ∷ parts) first =
-    rw (first, placed_in_body server parts) refl
-parts_by_tokens server ((OctetsPart (octet ∷ octets), end) ∷ parts) first = absurd first
-parts_by_tokens server ((OctetsPart [], true) ∷ parts) first = absurd first
-parts_by_tokens server ((OctetsPart [], false) ∷ parts) first = parts_by_tokens server parts first
+  -- So it is with all parts of a message, where the first token is its final head.
+  parts_by_tokens : (parts : List (Part × Bool)) → HeadFirst server (tokens_of_parts parts)
+      → parts_placed false server parts ≡ tokens_placed (tokens_of_parts parts)
+  unfolding parts_placed tokens_of_parts tokens_of_part end_tokens last_tokens
+  parts_by_tokens [] first = refl
+  parts_by_tokens ((FieldsPart list, true) ∷ parts) first = rw (first, placed_in_body parts) refl
+  parts_by_tokens ((FieldsPart list, false) ∷ parts) first = rw (first, placed_in_body parts) refl
+  parts_by_tokens ((OctetsPart (octet ∷ octets), end) ∷ parts) first = absurd first
+  parts_by_tokens ((OctetsPart [], true) ∷ parts) first = absurd first
+  parts_by_tokens ((OctetsPart [], false) ∷ parts) first = parts_by_tokens parts first
 
 -- Trailers are listed as their token is.
 trailers_placed : (trailers : Option (List Field))

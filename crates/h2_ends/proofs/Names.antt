@@ -25,8 +25,8 @@ pub use Rattle.h2_ends.specs.Represents.{IsOutgoing, IsStream, IsUntouched, IsWa
 pub use Rattle.h2_ends.specs.Represents.{kept_at, outgoing_in, OwesWithin, RepresentsBut}
 pub use Rattle.h2_ends.specs.Represents.{RepresentsMessages, SendsInOrder, tokens_kept, WaitsWithin}
 pub use Rattle.h2_ends.specs.Represents.{WasRefused}
-pub use Rattle.h2_ends.specs.Sends.{HasGone, HasPumped, IsNextIn, keeps_of, NoneWaits, PumpGoes}
-pub use Rattle.h2_ends.specs.Sends.{PumpsOn, Sends, WaitsAsBefore}
+pub use Rattle.h2_ends.specs.Sends.{HasGone, HasPumped, IsNextIn, IsNextKept, keeps_of, NoneWaits}
+pub use Rattle.h2_ends.specs.Sends.{PumpGoes, PumpsOn, Sends, WaitsAsBefore}
 pub use Rattle.h2_ends.specs.Taking.{AnswersRefusal, code_unread, end_with_part, HasReported}
 pub use Rattle.h2_ends.specs.Taking.{IsReadOn, MustRefuse, ReadsData, ReadsFields}
 pub use Rattle.h2_ends.specs.declared.end.End.{End}

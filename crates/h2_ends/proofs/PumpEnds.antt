@@ -37,16 +37,13 @@ to_end values new keeps happened is same =
       sent = is.sent;
     }
 
--- The stream with the number is that one, and any other is as before.
-pub keeps_here : (keeps : ℕ → Option Stream) (id : ℕ) (stream : Stream)
-    → keeps_with keeps id stream id ≡ Some stream
-keeps_here keeps id stream =
-    ap (λ (b : Bool). if b then Some stream else keeps id) (eq-eqb id id refl)
+module _ (keeps : ℕ → Option Stream) (id : ℕ) (stream : Stream) where
+  -- The stream with the number is that one, and any other is as before.
+  pub keeps_here : keeps_with keeps id stream id ≡ Some stream
+  keeps_here = ap (λ (b : Bool). if b then Some stream else keeps id) (eq-eqb id id refl)
 
-pub keeps_other : (keeps : ℕ → Option Stream) (id : ℕ) (stream : Stream) (i : ℕ) → i ≢ id
-    → keeps_with keeps id stream i ≡ keeps i
-keeps_other keeps id stream i other =
-    ap (λ (b : Bool). if b then Some stream else keeps i) (ne_eqb i id other)
+  pub keeps_other : (i : ℕ) → i ≢ id → keeps_with keeps id stream i ≡ keeps i
+  keeps_other i other = ap (λ (b : Bool). if b then Some stream else keeps i) (ne_eqb i id other)
 
 -- A stream that is active is kept as is said.
 pub kept_is : (values : Values) (conn : Conn) (role : Role) (keeps : ℕ → Option Stream)

@@ -1,13 +1,11 @@
 -- The calls of a pump, one more at their end; and which streams come next.
-use Rattle.h2_ends.proofs.Names.{◌≡◌, ◌≢◌, ◌⊎◌, inl, inr, ℕ, ◌+◌, ◌<◌, ◌≤◌, ◌==◌, Bool, true, false}
-use Rattle.h2_ends.proofs.Names.{if◌then◌else◌, Option, Some, None, refl, ap, subst, arith}
-use Rattle.h2_ends.proofs.Names.{ltb-true, ltb-false, both_ways, and_parts, eqb-true, cases_Bool}
-use Rattle.h2_ends.proofs.Names.{false_from_ne_true, Refusal, Log, active, reader_next_live}
-use Rattle.h2_ends.proofs.Names.{active_parts, EndLog, Pumps, sends_nothing, sends_data}
-use Rattle.std.proofs.Common.{◌||◌, nat_lt, is_some}
-use Rattle.std.proofs.lemmas.Bool.{or_parts}
-use Rattle.h2_spec_log.specs.Log.{next_active}
-use Rattle.h2_laws_log.proofs.NextStreams.{next_passes, next_found}
+use Rattle.h2_ends.proofs.Names.{◌≡◌, ◌⊎◌, inl, inr, ℕ, ◌+◌, ◌<◌, ◌≤◌, true, false, Option}
+use Rattle.h2_ends.proofs.Names.{Some, None, subst, arith, ltb-true, ltb-false, eqb-true}
+use Rattle.h2_ends.proofs.Names.{cases_Bool, false_from_ne_true, Refusal, Log, active}
+use Rattle.h2_ends.proofs.Names.{active_parts, End, EndLog, InSpan, IsInStep, IsNextKept}
+use Rattle.h2_ends.proofs.Names.{KeepsActiveOnly, keeps_of, Pumps, sends_nothing, sends_data}
+use Rattle.h2_ends.proofs.Names.{Span, Spans, Stream}
+use Rattle.std.proofs.Common.{nat_lt}
 use Rattle.h2_ends.specs.EndCalls.{pumps_no_more, pumps_data, pumps_trailers}
 use Rattle.h2_ends.specs.Pumping.{PumpsSoFar, sends_trailers}
 
@@ -65,51 +63,30 @@ pub record IsNext (log : Log) (last id : ℕ) : Type 0 where
   pub above : last < id
   pub between : (j : ℕ) → last < j → j < id → active log j ≡ false
 
--- Nothing active lies below the next that is.
-none_between : (log : Log) (last j : ℕ) → last < j → j < next_active log last
-    → active log j ≡ false
-none_between log last j above below = false_from_ne_true _ (λ alive.
-    let found = next_found log last j alive above in omega (arith, below, found.1))
+-- Nothing is active of which nothing is kept, as long as the connection is up.
+pub none_kept : (spans : Spans) (stream : Option Stream) (happened : EndLog) (i : ℕ)
+    → IsInStep spans stream happened i → happened.log.failed ≡ None → stream ≡ None
+    → active happened.log i ≡ false
+none_kept spans stream happened i so up none =
+    false_from_ne_true _ (λ alive. so.all up alive none)
 
-next_is : (log : Log) (last : ℕ) → next_active log last ≢ 0 → IsNext log last (next_active log last)
-next_is log last some =
-    let both = and_parts _ _ (next_passes log last some) in
+-- The next stream of which something is kept is the next that is active.
+pub next_kept : (spans : Spans) (end : End) (span : Span) (happened : EndLog) (last id : ℕ)
+    → ((i : ℕ) → IsInStep spans (keeps_of end i) happened i)
+    → KeepsActiveOnly happened.log (keeps_of end) → happened.log.failed ≡ None
+    → IsNextKept end span last id → IsNext happened.log last id
+next_kept spans end span happened last id in_step only up next =
     record {
-      alive = both.0;
-      above = ltb-true last (next_active log last) both.1;
-      between = none_between log last;
+      alive = only id next.kept;
+      above = next.higher;
+      between = λ j above below.
+          none_kept spans (keeps_of end j) happened j (in_step j) up (next.between j above below);
     }
 
--- What the reader answers, by its test.
-pub some_by : (b : Bool) (next id : ℕ) → (if b then None else Some next) ≡ Some id
-    → (b ≡ false) × (next ≡ id)
-some_by true next id is = cc
-some_by false next id is = (refl, cc)
-
-pub next_read : (log : Log) (last id : ℕ) → reader_next_live log last ≡ Some id
-    → IsNext log last id
-next_read log last id is =
-    let both = some_by (is_some log.failed || next_active log last == 0) (next_active log last) id
-    is in
-    let some = (or_parts (is_some log.failed) (next_active log last == 0) both.0).1 in
-    subst (λ (i : ℕ). IsNext log last i) both.1
-    (next_is log last (λ none. zero_test (next_active log last) none some))
-  where
-    zero_test : (n : ℕ) → n ≡ 0 → n == 0 ≡ false → ⊥
-    zero_test n none some = both_ways _ some (rw none refl)
-
--- Where it answers none, none is above.
-pub none_by : (b : Bool) (next : ℕ) → (if b then None else Some next) ≡ None → b ≡ true
-none_by true next is = refl
-none_by false next is = cc
-
-up_by : (failed : Bool) (none : Bool) → failed ≡ false → (failed || none) ≡ true → none ≡ true
-up_by true none up is = cc
-up_by false none up is = is
-
-pub none_read : (log : Log) (last : ℕ) → log.failed ≡ None → reader_next_live log last ≡ None
-    → (j : ℕ) → last < j → active log j ≡ false
-none_read log last up is j above = false_from_ne_true _ (λ alive.
-    let test = up_by (is_some log.failed) (next_active log last == 0) (ap is_some up)
-    (none_by (is_some log.failed || next_active log last == 0) (next_active log last) is) in
-    (next_found log last j alive above).0 (eqb-true (next_active log last) 0 test))
+-- Where nothing of a span is kept above a number, nothing is active there.
+pub none_active : (spans : Spans) (end : End) (happened : EndLog) (last : ℕ) (span : Span)
+    → ((i : ℕ) → IsInStep spans (keeps_of end i) happened i) → happened.log.failed ≡ None
+    → ((i : ℕ) → last < i → InSpan span i → keeps_of end i ≡ None)
+    → (i : ℕ) → last < i → InSpan span i → active happened.log i ≡ false
+none_active spans end happened last span in_step up none i above within =
+    none_kept spans (keeps_of end i) happened i (in_step i) up (none i above within)

@@ -12,26 +12,23 @@ use Rattle.h2_laws_end.proofs.OverCalls.{items_no_block}
 use Rattle.h2_laws_end.proofs.OverLists.{IsInactive, inactive_sent}
 use Rattle.h2_laws_end.proofs.OverSteps.{call_keeps}
 
--- What is sent with a call is more of it.
-pub out_after : (end : EndLog) (act : Act) (answer : Answer) (i : ℕ)
-    → tokens_out (end_after_call end act answer) i ≡ tokens_out end i ++ tokens_of_call i act answer
-unfolding tokens_sent
-out_after end act answer i = ap (tokens_sent i) (call_calls end.log act answer)
+module _ (end : EndLog) (act : Act) (answer : Answer) (i : ℕ) where
+  -- What is sent with a call is more of it.
+  pub out_after : tokens_out (end_after_call end act answer) i ≡ tokens_out end i ++ tokens_of_call
+      i act answer
+  unfolding tokens_sent
+  out_after = ap (tokens_sent i) (call_calls end.log act answer)
 
-pub out_same : (end : EndLog) (act : Act) (answer : Answer) (i : ℕ)
-    → tokens_of_call i act answer ≡ []
-    → tokens_out (end_after_call end act answer) i ≡ tokens_out end i
-out_same end act answer i none =
-    out_after end act answer i ∙ ap (λ (line : List Token). tokens_out end i ++ line) none
-    ∙ append-nil (tokens_out end i)
+  pub out_same : tokens_of_call i act answer ≡ []
+      → tokens_out (end_after_call end act answer) i ≡ tokens_out end i
+  out_same none = out_after ∙ ap (λ (line : List Token). tokens_out end i ++ line) none
+      ∙ append-nil (tokens_out end i)
 
--- As much waits then.
-pub waiting_same : (end : EndLog) (act : Act) (answer : Answer) (i : ℕ)
-    → tokens_of_call i act answer ≡ []
-    → tokens_waiting (end_after_call end act answer) i ≡ tokens_waiting end i
-waiting_same end act answer i none =
-    ap (λ (line : List Token). drop (length line) (tokens_said end i))
-    (out_same end act answer i none)
+  -- As much waits then.
+  pub waiting_same : tokens_of_call i act answer ≡ []
+      → tokens_waiting (end_after_call end act answer) i ≡ tokens_waiting end i
+  waiting_same none = ap (λ (line : List Token). drop (length line) (tokens_said end i))
+      (out_same none)
 
 -- A call that sends octets sends nothing on another stream, whatever it answers.
 pub data_none : (i id : ℕ) (octets : List ℕ) (end : Bool) (answer : Answer) → i ≢ id
@@ -91,21 +88,18 @@ stuck_by end act answer i closed none stuck = λ after_active.
           answer closed over) after_active)
     ]
 
--- So it is with sending on another stream, accepted or refused.
-pub stuck_by_data : (end : EndLog) (id : ℕ) (octets : List ℕ) (ends : Bool) (answer : Answer)
-    (i : ℕ) → i ≢ id → IsStuckOn end i
-    → IsStuckOn (end_after_call end (SendData id octets ends) answer) i
-stuck_by_data end id octets ends answer i other =
-    stuck_by end (SendData id octets ends) answer i
-    (data_no_block end.log i id octets ends answer) (data_none i id octets ends answer other)
+module _ (end : EndLog) (id : ℕ) where
+  -- So it is with sending on another stream, accepted or refused.
+  pub stuck_by_data : (octets : List ℕ) (ends : Bool) (answer : Answer) (i : ℕ) → i ≢ id
+      → IsStuckOn end i → IsStuckOn (end_after_call end (SendData id octets ends) answer) i
+  stuck_by_data octets ends answer i other = stuck_by end (SendData id octets ends) answer i
+      (data_no_block end.log i id octets ends answer) (data_none i id octets ends answer other)
 
-pub stuck_by_fields : (end : EndLog) (id : ℕ) (fields : List Field) (ends : Bool)
-    (answer : Answer) (i : ℕ) → i ≢ id → IsStuckOn end i
-    → IsStuckOn (end_after_call end (SendFields id fields ends) answer) i
-stuck_by_fields end id fields ends answer i other =
-    stuck_by end (SendFields id fields ends) answer i
-    (fields_no_block end.log i id fields ends answer other)
-    (fields_none i id fields ends answer other)
+  pub stuck_by_fields : (fields : List Field) (ends : Bool) (answer : Answer) (i : ℕ) → i ≢ id
+      → IsStuckOn end i → IsStuckOn (end_after_call end (SendFields id fields ends) answer) i
+  stuck_by_fields fields ends answer i other = stuck_by end (SendFields id fields ends) answer i
+      (fields_no_block end.log i id fields ends answer other)
+      (fields_none i id fields ends answer other)
 
 -- A stream is stuck that isn't active,
 pub stuck_inactive : (end : EndLog) (i : ℕ) → active end.log i ≡ false → IsStuckOn end i

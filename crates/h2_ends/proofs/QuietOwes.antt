@@ -4,7 +4,7 @@ use Rattle.h2_ends.proofs.Names.{◌≡◌, ◌≢◌, ◌⊎◌, inl, inr, ℕ,
 use Rattle.h2_ends.proofs.Names.{Some, None, if◌then◌else◌, refl, sym, ◌∙◌, subst, Code, Values}
 use Rattle.h2_ends.proofs.Names.{reader_owed, owed, log_view, End, EndLog, EndRepresents, IsNextIn}
 use Rattle.std.proofs.Common.{is_some}
-use Rattle.h2_ends.proofs.PumpSteps.{next_read}
+use Rattle.h2_ends.proofs.PumpSteps.{next_kept, none_active}
 use Rattle.h2_ends.proofs.ReleaseSteps.{IsReleasing, release_begins, release_comes, release_passes}
 use Rattle.h2_ends.proofs.ReleaseSteps.{none_is_owed}
 use Rattle.h2_ends.proofs.SendingRelease.{ReadsOwed, owed_read}
@@ -24,24 +24,22 @@ owes_begins end last first = λ values happened is up.
 
 -- passes the next active one, where nothing is owed,
 pub owes_passes : (end : End) (last id count : ℕ) → OwesNoneTo end (last + 1)
-    → IsNextIn end.conn end.spans.owing last (Some id) → ReadsOwed end.conn id count
+    → IsNextIn end end.spans.owing last (Some id) → ReadsOwed end.conn id count
     → count ≡ 0 → OwesNoneTo end (id + 1)
 owes_passes end last id count looked next reads none = λ values happened is up.
-    let conn = is.streams.conn in
-    let read = (next values happened.log conn).0 in
     release_passes values happened end happened id
     (release_comes values happened end happened last id (looked values happened is up)
-    (next_read happened.log last id read))
-    (sym (owed_read happened.log id count up (reads values happened.log conn)) ∙ none)
+    (next_kept end.spans end end.spans.owing happened last id is.in_step is.active up next.0))
+    (sym (owed_read happened.log id count up (reads values happened.log is.streams.conn)) ∙ none)
 
 -- and ends where none of the span is left.
 pub owes_nowhere : (end : End) (last : ℕ) → OwesNoneTo end (last + 1)
-    → IsNextIn end.conn end.spans.owing last None → (values : Values) (happened : EndLog)
+    → IsNextIn end end.spans.owing last None → (values : Values) (happened : EndLog)
     → EndRepresents values end happened → happened.log.failed ≡ None
     → (i : ℕ) → owed happened.log i ≡ 0
 owes_nowhere end last looked next = λ values happened is up.
     none_is_owed values happened end happened last (looked values happened is up)
-    ((next values happened.log is.streams.conn).1 up)
+    (none_active end.spans end happened last end.spans.owing is.in_step up next.1)
 
 -- Where the connection answers that something is owed, it is.
 up_or : (failed : Option Code) → (failed ≡ None) ⊎ (is_some failed ≡ true)

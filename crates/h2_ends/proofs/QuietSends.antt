@@ -16,7 +16,7 @@ use Rattle.h2_laws_pair.specs.Quiet.{CouldGo}
 use Rattle.h2_ends.proofs.EndSteps.{outgoing_kept}
 use Rattle.h2_ends.proofs.PumpCalls.{pump_begins, pump_comes, pump_passes, all_stuck}
 use Rattle.h2_ends.proofs.PumpEnds.{by_end, stuck_unless_waiting}
-use Rattle.h2_ends.proofs.PumpSteps.{next_read}
+use Rattle.h2_ends.proofs.PumpSteps.{next_kept, none_active}
 use Rattle.h2_ends.proofs.PumpTokens.{octets_left, tail_kept, waiting_is_kept, some_octet}
 use Rattle.h2_ends.proofs.PumpTokens.{stuck_waiting, trailers_left}
 use Rattle.h2_ends.proofs.QuietRoom.{has_both, no_room_of_all, no_room_of_stream}
@@ -146,29 +146,28 @@ stuck_begins end last first = λ values happened is up.
 
 -- passes the next active one, where nothing could go,
 pub stuck_passes : (end : End) (last id : ℕ) → StuckTo end (last + 1)
-    → IsNextIn end.conn end.spans.waiting last (Some id)
+    → IsNextIn end end.spans.waiting last (Some id)
     → ((values : Values) (happened : EndLog) → EndRepresents values end happened
     → happened.log.failed ≡ None → IsStuckOn happened id) → StuckTo end (id + 1)
 stuck_passes end last id looked next stuck = λ values happened is up.
-    let read = (next values happened.log is.streams.conn).0 in
     pump_passes values happened 0 end.conn end.role end.spans (keeps_of end) happened id
     (pump_comes values happened 0 end happened last id (looked values happened is up)
-    (next_read happened.log last id read)) (stuck values happened is up)
+    (next_kept end.spans end end.spans.waiting happened last id is.in_step is.active up next.0))
+    (stuck values happened is up)
 
 -- and ends where none of the span is left.
 pub stuck_everywhere : (end : End) (last : ℕ) → StuckTo end (last + 1)
-    → IsNextIn end.conn end.spans.waiting last None → (values : Values) (happened : EndLog)
+    → IsNextIn end end.spans.waiting last None → (values : Values) (happened : EndLog)
     → EndRepresents values end happened → happened.log.failed ≡ None
     → (i : ℕ) → IsStuckOn happened i
 stuck_everywhere end last looked next = λ values happened is up.
     all_stuck values happened 0 end happened last (looked values happened is up) is.active
-    ((next values happened.log is.streams.conn).1 up)
+    (none_active end.spans end happened last end.spans.waiting is.in_step up next.1)
 
 -- The stream that is looked at is active.
-pub goes_there : (end : End) (last id : ℕ) → IsNextIn end.conn end.spans.waiting last (Some id)
+pub goes_there : (end : End) (last id : ℕ) → IsNextIn end end.spans.waiting last (Some id)
     → (values : Values) (happened : EndLog) → EndRepresents values end happened
     → (active happened.log id ≡ true → IsStuckOn happened id → ⊥)
     → (i : ℕ) × (IsStuckOn happened i → ⊥)
 goes_there end last id next values happened is goes =
-    let read = (next values happened.log is.streams.conn).0 in
-    (id, goes (next_read happened.log last id read).alive)
+    (id, goes (is.active id next.0.kept))

@@ -159,27 +159,24 @@ release_goes_on values start end new happened id is some typed may conn role str
           none_owed_more happened.log id (owed happened.log id) j Done (is.below j low);
     }) (none_owed happened.log id)
 
--- It ends where no active stream of the span is left,
-pub none_is_owed : (values : Values) (start : EndLog) (end : End) (happened : EndLog)
-    (last : ℕ) → IsReleasing values start end happened (last + 1)
-    → ((j : ℕ) → last < j → InSpan end.spans.owing j → active happened.log j ≡ false)
-    → (i : ℕ) → owed happened.log i ≡ 0
-none_is_owed values start end happened last is none i = elim (below_or i last) [
-  | inl here ↦ is.below i here
-  | inr above ↦ elim (cases_eq (owed happened.log i) 0) [
-    | inl zero ↦ zero
-    | inr some ↦ owed_inactive happened.log i
-        (none i above ((is.represents.in_step i).owes some))
+module _ (values : Values) (start : EndLog) (end : End) (happened : EndLog) (last : ℕ) where
+  -- It ends where no active stream of the span is left,
+  pub none_is_owed : IsReleasing values start end happened (last + 1)
+      → ((j : ℕ) → last < j → InSpan end.spans.owing j → active happened.log j ≡ false) → (i : ℕ)
+      → owed happened.log i ≡ 0
+  none_is_owed is none i = elim (below_or i last) [
+    | inl here ↦ is.below i here
+    | inr above ↦ elim (cases_eq (owed happened.log i) 0) [
+      | inl zero ↦ zero
+      | inr some ↦ owed_inactive happened.log i (none i above ((is.represents.in_step i).owes some))
+    ]
   ]
-]
 
-pub release_ends : (values : Values) (start : EndLog) (end : End) (happened : EndLog) (last : ℕ)
-    → start.log.failed ≡ None → IsReleasing values start end happened (last + 1)
-    → ((j : ℕ) → last < j → InSpan end.spans.owing j → active happened.log j ≡ false)
-    → MayReleaseAll start (Ok (record {})) happened
-unfolding MayReleaseAll
-release_ends values start end happened last up is none =
-    (up, releases_all start happened is.calls, none_is_owed values start end happened last is none)
+  pub release_ends : start.log.failed ≡ None → IsReleasing values start end happened (last + 1)
+      → ((j : ℕ) → last < j → InSpan end.spans.owing j → active happened.log j ≡ false)
+      → MayReleaseAll start (Ok (record {})) happened
+  unfolding MayReleaseAll
+  release_ends up is none = (up, releases_all start happened is.calls, none_is_owed is none)
 
 -- where the span may be any,
 pub none_owing : (values : Values) (end : End) (happened : EndLog) (span : Span)

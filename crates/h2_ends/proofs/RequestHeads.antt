@@ -182,73 +182,68 @@ answered_parts : (end : EndLog) (id : ℕ) (message : SentMessage) (after : EndL
 unfolding MayRespond
 answered_parts end id message after may = (may.0, may.1, may.3, may.4)
 
--- An end that has answered a request with the head of a response, and keeps the rest of it: the
--- stream may be closed where the head is alone.
-pub respond_given : (values : Values) (old answered given : End) (end : EndLog) (id : ℕ)
-    (message : Message) → EndRepresents values old end
-    → IsAnswered values end id (message_value message) old answered
-    → IsGiven answered id message given
-    → RepresentsBut values given (end_with_message end (SendFields id message.head.items
-    (is_head_alone (message_value message))) Done id (message_value message)) id
-respond_given values old answered given end id message is answers gives =
-    let value = message_value message in
-    let act = SendFields id value.head (is_head_alone value) in
-    let after = end_with_message end act Done id value in
-    let parts = answered_parts end id value after answers.may in
-    let asked = parts.0 in
-    let server : after.log.role ≡ Server =
-    (grows_call end.log act Done).role ∙ asked.server in
-    let had = kept_asked end id (kept_at id old.streams.entries) asked (is.streams.streams id) in
-    let stream = had.0 in
-    let none = unsent_by end id stream.outgoing parts.1 had.2.outgoing in
-    let accepted = accepted_here id value end.accepted in
-    let sent : tokens_out after id ≡ head_tokens value =
-    sent_first end act Done after.accepted id (head_tokens value) none (fields_here id value) in
-    let keeps : KeepsOne old given id (Some (given_stream message stream)) = record {
-      one = kept_given answered given id message stream gives (rw answers.streams had.1);
-      others = λ i other. gives.keeps.others i other ∙ rw answers.streams refl;
-    } in
-    let streams = sent_head values old given end act Done id value (given_stream message stream)
-    is parts.3 none (λ i other. fields_elsewhere i id value other) (fields_here id value)
-    (rw gives.conn answers.conn) (gives.role ∙ answers.role) keeps
-    (record {
-      was_used = used_by_call end.log act Done id had.2.was_used;
-      reading = rw (server_reads after id server, ← server_reads end id asked.server)
-          had.2.reading;
-      outgoing = outgoing_after_head after id message accepted sent parts.2;
-      asked = λ same. asked.handed;
-    }) in
-    let before = in_step_called _ values old.spans (kept_at id old.streams.entries) end act Done
-    after.accepted id is.streams.conn.machine.came parts.3 (λ same. cc) (is.in_step id) in
-    stepped_but values old given end act Done id (Some (given_stream message stream))
-    after.accepted is parts.3 streams keeps
-    (λ i within. gives.more i (rw answers.spans within)) (rw answers.spans at gives.owing)
-    (λ i other same. cc)
-    (λ i other. fields_keep i id value.head (is_head_alone value) other)
-    (record {
-      all = λ up alive none. cc;
-      handed = before.handed;
-      within = within_given given.spans.waiting id message stream gives.here;
-      owes = λ some. rw (gives.owing, answers.spans) (before.owes some);
-    })
+module _ (values : Values) (old answered given : End) (end : EndLog) (id : ℕ) where
+  -- An end that has answered a request with the head of a response, and keeps the rest of it: the
+  -- stream may be closed where the head is alone.
+  pub respond_given : (message : Message) → EndRepresents values old end
+      → IsAnswered values end id (message_value message) old answered
+      → IsGiven answered id message given
+      → RepresentsBut values given (end_with_message end (SendFields id message.head.items
+      (is_head_alone (message_value message))) Done id (message_value message)) id
+  respond_given message is answers gives =
+      let value = message_value message in
+      let act = SendFields id value.head (is_head_alone value) in
+      let after = end_with_message end act Done id value in
+      let parts = answered_parts end id value after answers.may in
+      let asked = parts.0 in
+      let server : after.log.role ≡ Server = (grows_call end.log act Done).role ∙ asked.server in
+      let had = kept_asked end id (kept_at id old.streams.entries) asked (is.streams.streams id) in
+      let stream = had.0 in
+      let none = unsent_by end id stream.outgoing parts.1 had.2.outgoing in
+      let accepted = accepted_here id value end.accepted in
+      let sent : tokens_out after id ≡ head_tokens value =
+      sent_first end act Done after.accepted id (head_tokens value) none (fields_here id value) in
+      let keeps : KeepsOne old given id (Some (given_stream message stream)) = record {
+        one = kept_given answered given id message stream gives (rw answers.streams had.1);
+        others = λ i other. gives.keeps.others i other ∙ rw answers.streams refl;
+      } in
+      let streams = sent_head values old given end act Done id value (given_stream message stream)
+      is parts.3 none (λ i other. fields_elsewhere i id value other) (fields_here id value)
+      (rw gives.conn answers.conn) (gives.role ∙ answers.role) keeps
+      (record {
+        was_used = used_by_call end.log act Done id had.2.was_used;
+        reading = rw (server_reads after id server, ← server_reads end id asked.server)
+            had.2.reading;
+        outgoing = outgoing_after_head after id message accepted sent parts.2;
+        asked = λ same. asked.handed;
+      }) in
+      let before = in_step_called _ values old.spans (kept_at id old.streams.entries) end act Done
+      after.accepted id is.streams.conn.machine.came parts.3 (λ same. cc) (is.in_step id) in
+      stepped_but values old given end act Done id (Some (given_stream message stream))
+      after.accepted is parts.3 streams keeps
+      (λ i within. gives.more i (rw answers.spans within)) (rw answers.spans at gives.owing)
+      (λ i other same. cc) (λ i other. fields_keep i id value.head (is_head_alone value) other)
+      (record {
+        all = λ up alive none. cc;
+        handed = before.handed;
+        within = within_given given.spans.waiting id message stream gives.here;
+        owes = λ some. rw (gives.owing, answers.spans) (before.owes some);
+      })
 
--- Where more than the head waits, it is active still.
-pub respond_waits : (values : Values) (old answered given : End) (end : EndLog) (id : ℕ)
-    (message : Message) → is_head_alone (message_value message) ≡ false
-    → EndRepresents values old end
-    → IsAnswered values end id (message_value message) old answered
-    → IsGiven answered id message given
-    → EndRepresents values given (end_with_message end (SendFields id message.head.items
-    (is_head_alone (message_value message))) Done id (message_value message))
-respond_waits values old answered given end id message waits is answers gives =
-    let value = message_value message in
-    let act = SendFields id value.head (is_head_alone value) in
-    let after = end_with_message end act Done id value in
-    let parts = answered_parts end id value after answers.may in
-    and_that values given after id
-    (respond_given values old answered given end id message is answers gives)
-    (λ some. active_by_call _ values end.log act Done id is.streams.conn.machine.came
-    parts.3 parts.0.active (head_keeps id id value.head (is_head_alone value) waits))
+  -- Where more than the head waits, it is active still.
+  pub respond_waits : (message : Message) → is_head_alone (message_value message) ≡ false
+      → EndRepresents values old end → IsAnswered values end id (message_value message) old answered
+      → IsGiven answered id message given
+      → EndRepresents values given (end_with_message end (SendFields id message.head.items
+      (is_head_alone (message_value message))) Done id (message_value message))
+  respond_waits message waits is answers gives =
+      let value = message_value message in
+      let act = SendFields id value.head (is_head_alone value) in
+      let after = end_with_message end act Done id value in
+      let parts = answered_parts end id value after answers.may in
+      and_that values given after id (respond_given message is answers gives)
+      (λ some. active_by_call _ values end.log act Done id is.streams.conn.machine.came
+      parts.3 parts.0.active (head_keeps id id value.head (is_head_alone value) waits))
 
 -- What `request` may answer then.
 pub may_request : (values : Values) (end : EndLog) (message : SentMessage) (old opened : End)

@@ -44,67 +44,62 @@ pub or_memory : (first found : Option Refusal) (refusal : Refusal) → found ≡
 or_memory first None refusal same is = inr (sym same, is)
 or_memory first (Some one) refusal same is = inl (sym same ∙ ap Some (sym is))
 
--- The call is refused for sure, and so the message.
-opens_surely : (values : Values) (old new : End) (end : EndLog) (message : SentMessage)
-    (list : List Field) (ends : Bool) (result : Result ℕ Refusal)
-    → (refusal : Refusal) × (refusal_of (log_view end.log) (Open list ends) ≡ Some refusal)
-    → ((refusal : Refusal) → refusal_of (log_view end.log) (Open list ends) ≡ Some refusal
-    → RefusesMessage end.log (Open message.head (is_head_alone message)) message refusal)
-    → IsTypedAct (Open list ends) → EndRepresents values old end
-    → MayAnswer end.log (Open list ends) (answer_by (λ id. Number id) result)
-    → ConnRepresents values new.conn
-    (with_call end.log (Open list ends) (answer_by (λ id. Number id) result))
-    → new.role ≡ old.role → new.streams ≡ old.streams → new.spans ≡ old.spans
-    → OpensStream values end message old result new
-opens_surely values old new end message list ends (Ok id) first refuses typed is may conn role
-    streams waiting =
-    let wrong = is_refused end.log (Open list ends) (Number id) first.0 first.1 may in cc
-opens_surely values old new end message list ends (Err refusal) first refuses typed is may conn
-    role streams waiting =
-    let act = Open list ends in
-    let same : Refused refusal ≡ Refused first.0 =
-    is_refused end.log act (Refused refusal) first.0 first.1 may in
-    let one : first.0 ≡ refusal = cc in (
-      end_with_log end (with_call end.log act (Refused refusal)),
-      refuses refusal (first.1 ∙ ap Some one),
-      unchanged_by end act refusal typed tt may,
-      called_as values old new end act (Refused refusal) is may conn role streams waiting
-          (λ i. refused_tokens i act refusal) (λ i wrong. cc)
-          (λ i. refused_open_keeps i list ends refusal),
-    )
+module _ (values : Values) (old new : End) (end : EndLog) (message : SentMessage) where
+  -- The call is refused for sure, and so the message.
+  opens_surely : (list : List Field) (ends : Bool) (result : Result ℕ Refusal) → (refusal : Refusal)
+      × (refusal_of (log_view end.log) (Open list ends) ≡ Some refusal)
+      → ((refusal : Refusal) → refusal_of (log_view end.log) (Open list ends) ≡ Some refusal
+      → RefusesMessage end.log (Open message.head (is_head_alone message)) message refusal)
+      → IsTypedAct (Open list ends) → EndRepresents values old end
+      → MayAnswer end.log (Open list ends) (answer_by (λ id. Number id) result)
+      → ConnRepresents values new.conn (with_call end.log (Open list ends)
+      (answer_by (λ id. Number id) result))
+      → new.role ≡ old.role → new.streams ≡ old.streams → new.spans ≡ old.spans
+      → OpensStream values end message old result new
+  opens_surely list ends (Ok id) first refuses typed is may conn role streams waiting =
+      let wrong = is_refused end.log (Open list ends) (Number id) first.0 first.1 may in cc
+  opens_surely list ends (Err refusal) first refuses typed is may conn role streams waiting =
+      let act = Open list ends in
+      let same : Refused refusal ≡ Refused first.0 =
+      is_refused end.log act (Refused refusal) first.0 first.1 may in
+      let one : first.0 ≡ refusal = cc in (
+        end_with_log end (with_call end.log act (Refused refusal)),
+        refuses refusal (first.1 ∙ ap Some one),
+        unchanged_by end act refusal typed tt may,
+        called_as values old new end act (Refused refusal) is may conn role streams waiting
+            (λ i. refused_tokens i act refusal) (λ i wrong. cc)
+            (λ i. refused_open_keeps i list ends refusal),
+      )
 
--- Trailers that are too large are refused in place of the message.
-pub opens_trailers : (values : Values) (old new : End) (end : EndLog) (message : SentMessage)
-    (result : Result ℕ Refusal) → is_too_large (trailer_fields message.trailers) ≡ true
-    → IsTypedAct (Open (trailer_fields message.trailers) true)
-    → EndRepresents values old end
-    → MayAnswer end.log (Open (trailer_fields message.trailers) true)
-    (answer_by (λ id. Number id) result)
-    → ConnRepresents values new.conn (with_call end.log
-    (Open (trailer_fields message.trailers) true) (answer_by (λ id. Number id) result))
-    → new.role ≡ old.role → new.streams ≡ old.streams → new.spans ≡ old.spans
-    → OpensStream values end message old result new
-opens_trailers values old new end message result large typed is may conn role streams waiting =
-    opens_surely values old new end message (trailer_fields message.trailers) true result
-    (open_too_large (log_view end.log) (trailer_fields message.trailers) true large)
-    (λ refusal holds. trailers_refuse_open end.log message (is_head_alone message) refusal large
-    holds) typed is may conn role streams waiting
+  -- Trailers that are too large are refused in place of the message.
+  pub opens_trailers : (result : Result ℕ Refusal)
+      → is_too_large (trailer_fields message.trailers) ≡ true
+      → IsTypedAct (Open (trailer_fields message.trailers) true) → EndRepresents values old end
+      → MayAnswer end.log (Open (trailer_fields message.trailers) true)
+      (answer_by (λ id. Number id) result)
+      → ConnRepresents values new.conn (with_call end.log (Open (trailer_fields message.trailers)
+      true) (answer_by (λ id. Number id) result))
+      → new.role ≡ old.role → new.streams ≡ old.streams → new.spans ≡ old.spans
+      → OpensStream values end message old result new
+  opens_trailers result large typed is may conn role streams waiting =
+      opens_surely (trailer_fields message.trailers) true result
+      (open_too_large (log_view end.log) (trailer_fields message.trailers) true large)
+      (λ refusal holds. trailers_refuse_open end.log message (is_head_alone message) refusal large
+      holds) typed is may conn role streams waiting
 
--- Where no number comes next, the head is refused.
-pub opens_nowhere : (values : Values) (old new : End) (end : EndLog) (message : SentMessage)
-    (result : Result ℕ Refusal) → reader_next_number end.log ≡ None
-    → IsTypedAct (Open message.head true) → EndRepresents values old end
-    → MayAnswer end.log (Open message.head true) (answer_by (λ id. Number id) result)
-    → ConnRepresents values new.conn
-    (with_call end.log (Open message.head true) (answer_by (λ id. Number id) result))
-    → new.role ≡ old.role → new.streams ≡ old.streams → new.spans ≡ old.spans
-    → OpensStream values end message old result new
-opens_nowhere values old new end message result none typed is may conn role streams waiting =
-    opens_surely values old new end message message.head true result
-    (no_number_refuses end.log message.head true none)
-    (λ refusal holds. refuses_head end.log (Open message.head (is_head_alone message)) message
-    refusal (whatever_end (log_view end.log) message.head (is_head_alone message) true ∙ holds))
-    typed is may conn role streams waiting
+  -- Where no number comes next, the head is refused.
+  pub opens_nowhere : (result : Result ℕ Refusal) → reader_next_number end.log ≡ None
+      → IsTypedAct (Open message.head true) → EndRepresents values old end
+      → MayAnswer end.log (Open message.head true) (answer_by (λ id. Number id) result)
+      → ConnRepresents values new.conn (with_call end.log (Open message.head true)
+      (answer_by (λ id. Number id) result))
+      → new.role ≡ old.role → new.streams ≡ old.streams → new.spans ≡ old.spans
+      → OpensStream values end message old result new
+  opens_nowhere result none typed is may conn role streams waiting =
+      opens_surely message.head true result (no_number_refuses end.log message.head true none)
+      (λ refusal holds. refuses_head end.log (Open message.head (is_head_alone message)) message
+      refusal (whatever_end (log_view end.log) message.head (is_head_alone message) true ∙ holds))
+      typed is may conn role streams waiting
 
 next_by : (log : Log) (id : ℕ) (b : Bool) → (is_some log.failed || is_server log.role) ≡ b
     → (if b then None else Some (next_number log)) ≡ Some id
@@ -144,63 +139,60 @@ kept_as_before old new id none keeps i =
       | inr other ↦ keeps.others i other
     ]
 
--- The connection refuses the head.
-pub opens_not : (values : Values) (old new : End) (end : EndLog) (message : SentMessage) (id : ℕ)
-    (result : Result ℕ Refusal) → is_err result ≡ true
-    → is_too_large (trailer_fields message.trailers) ≡ false
-    → reader_next_number end.log ≡ Some id
-    → IsTypedAct (Open message.head (is_head_alone message)) → EndRepresents values old end
-    → MayAnswer end.log (Open message.head (is_head_alone message))
-    (answer_by (λ id. Number id) result)
-    → ConnRepresents values new.conn (with_call end.log
-    (Open message.head (is_head_alone message)) (answer_by (λ id. Number id) result))
-    → new.role ≡ old.role → new.spans ≡ old.spans → KeepsOne old new id None
-    → OpensStream values end message old result new
-opens_not values old new end message id (Ok number) err fits next typed is may conn role waiting
-    keeps = absurd (both_ways false refl err)
-opens_not values old new end message id (Err refusal) err fits next typed is may conn role waiting
-    keeps =
-    let act = Open message.head (is_head_alone message) in
-    let none = (untouched values old end id is (next_is_new end.log id next).1).1 in
-    let mid = record old { conn = new.conn } in (
-      end_with_log end (with_call end.log act (Refused refusal)),
-      refuses_fitting end.log act message refusal fits
-          (refused_so end.log act refusal (λ same. cc) may),
-      unchanged_by end act refusal typed tt may,
-      kept_alike values mid new (end_with_log end (with_call end.log act (Refused refusal)))
-          (called_as values old mid end act (Refused refusal) is may conn refl refl refl
-          (λ i. refused_tokens i act refusal)
-          (λ i wrong. cc)
-          (λ i. refused_open_keeps i message.head (is_head_alone message) refusal)) refl role
-          waiting (kept_as_before old new id none keeps),
-    )
+module _ (values : Values) (old new : End) (end : EndLog) (message : SentMessage) (id : ℕ) where
+  -- The connection refuses the head.
+  pub opens_not : (result : Result ℕ Refusal) → is_err result ≡ true
+      → is_too_large (trailer_fields message.trailers) ≡ false
+      → reader_next_number end.log ≡ Some id
+      → IsTypedAct (Open message.head (is_head_alone message)) → EndRepresents values old end
+      → MayAnswer end.log (Open message.head (is_head_alone message))
+      (answer_by (λ id. Number id) result)
+      → ConnRepresents values new.conn (with_call end.log (Open message.head (is_head_alone
+      message)) (answer_by (λ id. Number id) result))
+      → new.role ≡ old.role → new.spans ≡ old.spans → KeepsOne old new id None
+      → OpensStream values end message old result new
+  opens_not (Ok number) err fits next typed is may conn role waiting
+      keeps = absurd (both_ways false refl err)
+  opens_not (Err refusal) err fits next typed is may conn role waiting
+      keeps =
+      let act = Open message.head (is_head_alone message) in
+      let none = (untouched values old end id is (next_is_new end.log id next).1).1 in
+      let mid = record old { conn = new.conn } in (
+        end_with_log end (with_call end.log act (Refused refusal)),
+        refuses_fitting end.log act message refusal fits
+            (refused_so end.log act refusal (λ same. cc) may),
+        unchanged_by end act refusal typed tt may,
+        kept_alike values mid new (end_with_log end (with_call end.log act (Refused refusal)))
+            (called_as values old mid end act (Refused refusal) is may conn refl refl refl
+            (λ i. refused_tokens i act refusal) (λ i wrong. cc)
+            (λ i. refused_open_keeps i message.head (is_head_alone message) refusal)) refl role
+            waiting (kept_as_before old new id none keeps),
+      )
 
--- The connection has opened the stream.
-pub opens_new : (values : Values) (old new : End) (end : EndLog) (message : SentMessage) (id : ℕ)
-    (result : Result ℕ Refusal) (reading : Reading) → is_err result ≡ false
-    → is_too_large (trailer_fields message.trailers) ≡ false
-    → reader_next_number end.log ≡ Some id
-    → MayAnswer end.log (Open message.head (is_head_alone message))
-    (answer_by (λ id. Number id) result)
-    → ConnRepresents values new.conn (with_call end.log
-    (Open message.head (is_head_alone message)) (answer_by (λ id. Number id) result))
-    → new.role ≡ old.role → new.spans ≡ old.spans
-    → Follows (Responses (asks_head message.head)) [] reading
-    → KeepsOne old new id (Some (record { reading = reading; outgoing = outgoings.NotGiven }))
-    → OpensStream values end message old result new
-opens_new values old new end message id (Ok number) reading ok fits next may conn role waiting
-    follows keeps =
-    let same : id ≡ number = (next_is_new end.log id next).0
-    ∙ sym (open_answer end.log message.head (is_head_alone message) number may).1 in
-    record {
-      fits = fits;
-      answers = may;
-      conn = conn;
-      role = role;
-      spans = waiting;
-      reading = reading;
-      follows = follows;
-      keeps = rw same at keeps;
-    }
-opens_new values old new end message id (Err refusal) reading ok fits next may conn role waiting
-    follows keeps = absurd (both_ways true ok refl)
+  -- The connection has opened the stream.
+  pub opens_new : (result : Result ℕ Refusal) (reading : Reading) → is_err result ≡ false
+      → is_too_large (trailer_fields message.trailers) ≡ false
+      → reader_next_number end.log ≡ Some id
+      → MayAnswer end.log (Open message.head (is_head_alone message))
+      (answer_by (λ id. Number id) result)
+      → ConnRepresents values new.conn (with_call end.log
+      (Open message.head (is_head_alone message)) (answer_by (λ id. Number id) result))
+      → new.role ≡ old.role → new.spans ≡ old.spans
+      → Follows (Responses (asks_head message.head)) [] reading
+      → KeepsOne old new id (Some (record { reading = reading; outgoing = outgoings.NotGiven }))
+      → OpensStream values end message old result new
+  opens_new (Ok number) reading ok fits next may conn role waiting follows keeps =
+      let same : id ≡ number = (next_is_new end.log id next).0
+      ∙ sym (open_answer end.log message.head (is_head_alone message) number may).1 in
+      record {
+        fits = fits;
+        answers = may;
+        conn = conn;
+        role = role;
+        spans = waiting;
+        reading = reading;
+        follows = follows;
+        keeps = rw same at keeps;
+      }
+  opens_new (Err refusal) reading ok fits next may conn role waiting
+      follows keeps = absurd (both_ways true ok refl)

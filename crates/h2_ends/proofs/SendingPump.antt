@@ -1,7 +1,7 @@
 -- The loop of a pump, whatever had happened when it began.
-use Rattle.h2_ends.proofs.Names.{◌≡◌, ◌≢◌, ◌⊎◌, inl, inr, ℕ, ◌+◌, ◌-◌, ◌<◌, true, false, Option}
-use Rattle.h2_ends.proofs.Names.{Some, None, refl, sym, ap, ◌∙◌, subst, arith, Code, Refusal}
-use Rattle.h2_ends.proofs.Names.{Closed, Values, Log, reader_next_live, Conn, ConnRepresents, End}
+use Rattle.h2_ends.proofs.Names.{◌≡◌, ◌≢◌, ◌⊎◌, inl, inr, ℕ, ◌+◌, ◌-◌, true, false, Option}
+use Rattle.h2_ends.proofs.Names.{Some, None, refl, sym, ap, ◌∙◌, subst, Code, Refusal}
+use Rattle.h2_ends.proofs.Names.{Closed, Values, Log, Conn, ConnRepresents, End}
 use Rattle.h2_ends.proofs.Names.{SendState, Idle, Sent, Stuck, Full, Span, EndLog, Pumps, MayPump}
 use Rattle.h2_ends.proofs.Names.{KeepsActiveOnly, EndRepresents, RepresentsBut, InSpan, outgoing_in}
 use Rattle.h2_ends.proofs.Names.{PumpsOn, PumpGoes, NoneWaits, WaitsAsBefore, IsNextIn, keeps_of}
@@ -12,33 +12,9 @@ use Rattle.h2_ends.proofs.PumpCalls.{WaitsIn, pump_begins, waits_at_first, pump_
 use Rattle.h2_ends.proofs.PumpCalls.{waits_between, waits_past, pump_ends, ends_represent}
 use Rattle.h2_ends.proofs.PumpCalls.{pump_is_full, pump_lacks, pump_is_closed}
 use Rattle.h2_ends.proofs.PumpEnds.{by_end, to_end}
-use Rattle.h2_ends.proofs.PumpSteps.{next_read, none_read}
+use Rattle.h2_ends.proofs.PumpSteps.{next_kept, none_active}
 use Rattle.h2_ends.specs.declared.refusal.EndRefusal.TheVariants as refusals
 use Rattle.h2_ends.specs.declared.outgoing.Outgoing.TheVariants as outgoings
-
--- What `next_live` answers of any log that the connection represents: where that is none, or is
--- beyond the span, no active stream of the span is left.
-abbrev pub ReadsNext : Conn → ℕ → Option ℕ → Type 0
-ReadsNext conn last next =
-    (values : Values) (log : Log) → ConnRepresents values conn log
-    → next ≡ reader_next_live log last
-
-pub next_beyond : (conn : Conn) (span : Span) (above id : ℕ) → ReadsNext conn above (Some id)
-    → span.last < id → IsNextIn conn span above None
-next_beyond conn span above id reads beyond = λ values log is. (
-  tt,
-  λ up i high within.
-      let last = within.last in
-      (next_read log above id (sym (reads values log is))).between i high
-      (omega (arith, last, beyond)),
-)
-
-pub next_none : (conn : Conn) (span : Span) (above : ℕ) → ReadsNext conn above None
-    → IsNextIn conn span above None
-next_none conn span above reads = λ values log is. (
-  tt,
-  λ up i high within. none_read log above up (sym (reads values log is)) i high,
-)
 
 -- The pump has sent so many octets, and nothing could go on streams up to a number; of these a
 -- message waits only on those of a span.
@@ -108,7 +84,7 @@ forgets_none new forgotten id (inr gone) none waits is = wrong (ap outgoing_in (
 
 module _ (old now : End) (left : Span) (count last : ℕ) (goes : PumpsTo old now left count last)
   where
-    module _ (id : ℕ) (next : IsNextIn now.conn now.spans.waiting last (Some id)) (new : End)
+    module _ (id : ℕ) (next : IsNextIn now now.spans.waiting last (Some id)) (new : End)
         (sum : ℕ) where
       -- comes to a stream, on which it sends,
       comes_there : (progress : SendState) → PumpsOn now id count (Ok progress) new sum
@@ -117,8 +93,8 @@ module _ (old now : End) (left : Span) (count last : ℕ) (goes : PumpsTo old no
           × ((after : EndLog) × HasPumped values start id (Ok progress) sum new after)
       comes_there progress sends = λ values start is.
           let (up, (happened, so)) = goes values start is in
-          let live = next_read happened.log last id
-          (next values happened.log so.goes.represents.represents).0 in (
+          let live = next_kept now.spans now now.spans.waiting happened last id so.goes.in_step so.active so.goes.up
+          next.0 in (
             up,
             waits_between values start now left happened last id so.active live so.waits,
             sends values start happened
@@ -228,8 +204,8 @@ module _ (old now : End) (left : Span) (count last : ℕ) (goes : PumpsTo old no
       unfolding HasPumped
       pump_refused refusal sends = λ values start is.
           let (up, (happened, so)) = goes values start is in
-          let live = next_read happened.log last id
-          (next values happened.log so.goes.represents.represents).0 in
+          let live = next_kept now.spans now now.spans.waiting happened last id so.goes.in_step so.active so.goes.up
+          next.0 in
           let (after, ended) = sends values start happened
           (pump_comes values start count now happened last id so.goes live) so.active
           live.alive in (
@@ -241,11 +217,12 @@ module _ (old now : End) (left : Span) (count last : ℕ) (goes : PumpsTo old no
           )
 
     -- or no stream of the span is left.
-    pub pump_over : IsNextIn now.conn now.spans.waiting last None
+    pub pump_over : IsNextIn now now.spans.waiting last None
         → EndPumps old (Ok count) (record now { spans = record now.spans { waiting = left } })
     pump_over next = λ values start is.
         let (up, (happened, so)) = goes values start is in
-        let none = (next values happened.log so.goes.represents.represents).1 so.goes.up in (
+        let none = none_active now.spans now happened last now.spans.waiting so.goes.in_step
+        so.goes.up next.1 in (
           happened,
           pump_ends values start count now happened last up so.goes so.active none,
           ends_represent values start count now left happened last so.goes so.active none so.waits,

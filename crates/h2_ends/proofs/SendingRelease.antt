@@ -10,7 +10,7 @@ use Rattle.h2_spec_log.specs.Log.{owed}
 use Rattle.h2_ends.specs.EndCalls.{MayReleaseAll}
 use Rattle.std.proofs.Common.{is_some, Ok, Err}
 use Rattle.h2_ends.specs.Represents.{EndReleases}
-use Rattle.h2_ends.proofs.PumpSteps.{next_read}
+use Rattle.h2_ends.proofs.PumpSteps.{next_kept, none_active}
 use Rattle.h2_ends.proofs.ReleaseSteps.{IsReleasing, release_begins, release_comes, release_passes}
 use Rattle.h2_ends.proofs.ReleaseSteps.{release_goes_on, release_ends, release_is_refused}
 use Rattle.h2_ends.proofs.ReleaseSteps.{refusal_represents, after_release, after_refusal}
@@ -89,14 +89,15 @@ begins_release old failed reads up last first = λ values start is.
 
 -- comes to a stream,
 pub comes_to : (old now : End) (last id : ℕ) → ReleasesTo old now (last + 1)
-    → IsNextIn now.conn now.spans.owing last (Some id) → ReleasesTo old now id
+    → IsNextIn now now.spans.owing last (Some id) → ReleasesTo old now id
 comes_to old now last id goes next = λ values start is.
     let (up, (happened, so)) = goes values start is in
-    let read = (next values happened.log so.represents.streams.conn).0 in (
+    let is = so.represents in (
       up,
       (
         happened,
-        release_comes values start now happened last id so (next_read happened.log last id read),
+        release_comes values start now happened last id so
+            (next_kept now.spans now now.spans.owing happened last id is.in_step is.active so.up next.0),
       ),
     )
 
@@ -155,11 +156,12 @@ refuses_stream old now new id count refusal goes reads some small few answers ro
 
 -- It ends where none of the span is left.
 pub ends_release : (old now : End) (last : ℕ) (span : Span) → ReleasesTo old now (last + 1)
-    → IsNextIn now.conn now.spans.owing last None
+    → IsNextIn now now.spans.owing last None
     → EndReleases old (Ok (record {})) (record now { spans = record now.spans { owing = span } })
 ends_release old now last span goes next = λ values start is.
     let (up, (happened, so)) = goes values start is in
-    let none = (next values happened.log so.represents.streams.conn).1 so.up in (
+    let none = none_active now.spans now happened last now.spans.owing so.represents.in_step so.up
+    next.1 in (
       happened,
       release_ends values start now happened last up so none,
       none_owing values now happened span so.represents

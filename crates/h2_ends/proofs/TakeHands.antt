@@ -123,78 +123,72 @@ up_after : (log after : Log) (piece : List ℕ) (count : ℕ) (event : Event)
 up_after log after piece count event may =
     (log_after_take log after piece (Took count (Some event)) may).6
 
--- One of a part that can't be read is refused.
-pub part_refused : (values : Values) (now new : End) (end : EndLog) (piece : List ℕ) (count : ℕ)
-    (event : Event) (log : Log) (id : ℕ) (part : Part × Bool) (list : List Field)
-    (octets : List ℕ) (one : Answer) (result : Result LocatedPart ConnFault)
-    → HasReported values now end piece count event log → part_of_event event ≡ Some (id, part)
-    → (IsReadableWith (end_with_log end log) id part → ⊥) → MayAnswer log (Refuse id 1) one
-    → AnswersRefusal values
-    (end_with_log (end_with_log end log) (with_call log (Refuse id 1) one)) result new
-    → IsResetBy id 1 result
-    → Hands values end piece (answer_of_report list octets count result) new
-unfolding AnswersRefusal
-part_refused values now new end piece count event log id part list octets one (Ok handed) reported
-    of stops may answers is =
-    let same = reads_after values now end piece count event log id reported in
-    let after = with_call log (Refuse id 1) one in (
-      end_with_handed end after (Passed (ResetEvent id 1 true)),
-      refuses count event log reported.took id part of
-          (λ goes. stops (goes_after end log id part same goes)) one may answers.0 (rw is refl)
-          refl,
-      passed_over values new (end_with_log end after) (ResetEvent id 1 true) answers.1,
-    )
-part_refused values now new end piece count event log id part list octets one (Err fault) reported
-    of stops may answers is =
-    let same = reads_after values now end piece count event log id reported in
-    let after = with_call log (Refuse id 1) one in (
-      end_with_log end after,
-      refusal_fails count event log reported.took id part of
-          (λ goes. stops (goes_after end log id part same goes)) one may fault.code answers.0
-          refl refl,
-      answers.1,
-    )
+module _ (values : Values) (now new : End) (end : EndLog) (piece : List ℕ) (count : ℕ) where
+  -- One of a part that can't be read is refused.
+  pub part_refused : (event : Event) (log : Log) (id : ℕ) (part : Part × Bool) (list : List Field)
+      (octets : List ℕ) (one : Answer) (result : Result LocatedPart ConnFault)
+      → HasReported values now end piece count event log → part_of_event event ≡ Some (id, part)
+      → (IsReadableWith (end_with_log end log) id part → ⊥) → MayAnswer log (Refuse id 1) one
+      → AnswersRefusal values (end_with_log (end_with_log end log)
+      (with_call log (Refuse id 1) one)) result new
+      → IsResetBy id 1 result
+      → Hands values end piece (answer_of_report list octets count result) new
+  unfolding AnswersRefusal
+  part_refused event log id part list octets one (Ok handed) reported of stops may answers is =
+      let same = reads_after values now end piece count event log id reported in
+      let after = with_call log (Refuse id 1) one in (
+        end_with_handed end after (Passed (ResetEvent id 1 true)),
+        refuses count event log reported.took id part of
+            (λ goes. stops (goes_after end log id part same goes)) one may answers.0 (rw is refl)
+            refl,
+        passed_over values new (end_with_log end after) (ResetEvent id 1 true) answers.1,
+      )
+  part_refused event log id part list octets one (Err fault) reported of stops may answers is =
+      let same = reads_after values now end piece count event log id reported in
+      let after = with_call log (Refuse id 1) one in (
+        end_with_log end after,
+        refusal_fails count event log reported.took id part of
+            (λ goes. stops (goes_after end log id part same goes)) one may fault.code answers.0
+            refl refl,
+        answers.1,
+      )
 
--- Where memory was refused to the first field block at a server, the connection has failed.
-pub part_lacks : (values : Values) (now new : End) (end : EndLog) (piece : List ℕ)
-    (count id : ℕ) (list : List Field) (last : Bool) (log : Log) (fields : List Field)
-    (octets : List ℕ) (one : Answer) (result : Result LocatedPart ConnFault)
-    → HasReported values now end piece count (FieldsEvent id list last) log
-    → IsReadableWith (end_with_log end log) id (FieldsPart list, last) → log.role ≡ Server
-    → parts_on id end.handed ≡ [] → MayAnswer log (Refuse id 2) one
-    → AnswersRefusal values
-    (end_with_log (end_with_log end log) (with_call log (Refuse id 2) one)) result new
-    → Hands values end piece (answer_of_report fields octets count result) new
-unfolding AnswersRefusal
-part_lacks values now new end piece count id list last log fields octets one (Ok handed) reported
-    goes server none may answers =
-    let down = memory_fails log id one
-    (up_after end.log log piece count (FieldsEvent id list last) reported.took) may in absurd (cc)
-part_lacks values now new end piece count id list last log fields octets one (Err fault) reported
-    goes server none may answers =
-    let event = FieldsEvent id list last in
-    let same = reads_after values now end piece count event log id reported in
-    let down = memory_fails log id one
-    (up_after end.log log piece count event reported.took) may in
-    let code : fault.code ≡ InternalError = cc in (
-      end_with_log end (with_call log (Refuse id 2) one),
-      runs_out_of_memory count id list last log reported.took
-          (sym (take_role end.log log piece (Took count (Some event)) reported.took) ∙ server) none
-          (goes_before end log id (FieldsPart list, last) same goes) one may
-          (ap EndFailed code) refl,
-      answers.1,
-    )
+  -- Where memory was refused to the first field block at a server, the connection has failed.
+  pub part_lacks : (id : ℕ) (list : List Field) (last : Bool) (log : Log) (fields : List Field)
+      (octets : List ℕ) (one : Answer) (result : Result LocatedPart ConnFault)
+      → HasReported values now end piece count (FieldsEvent id list last) log
+      → IsReadableWith (end_with_log end log) id (FieldsPart list, last) → log.role ≡ Server
+      → parts_on id end.handed ≡ [] → MayAnswer log (Refuse id 2) one
+      → AnswersRefusal values (end_with_log (end_with_log end log)
+      (with_call log (Refuse id 2) one)) result new
+      → Hands values end piece (answer_of_report fields octets count result) new
+  unfolding AnswersRefusal
+  part_lacks id list last log fields octets one (Ok handed) reported goes server none may answers =
+      let down = memory_fails log id one
+      (up_after end.log log piece count (FieldsEvent id list last) reported.took) may in absurd (cc)
+  part_lacks id list last log fields octets one (Err fault) reported goes server none may answers =
+      let event = FieldsEvent id list last in
+      let same = reads_after values now end piece count event log id reported in
+      let down = memory_fails log id one
+      (up_after end.log log piece count event reported.took) may in
+      let code : fault.code ≡ InternalError = cc in (
+        end_with_log end (with_call log (Refuse id 2) one),
+        runs_out_of_memory count id list last log reported.took
+            (sym (take_role end.log log piece (Took count (Some event)) reported.took) ∙ server)
+            none (goes_before end log id (FieldsPart list, last) same goes) one may
+            (ap EndFailed code) refl,
+        answers.1,
+      )
 
--- What is no part of a message is passed on.
-pub event_passed : (values : Values) (now new : End) (end : EndLog) (piece : List ℕ) (count : ℕ)
-    (event : Event) (log : Log) → HasReported values now end piece count event log
-    → part_of_event event ≡ None → EndRepresents values new (end_with_log end log)
-    → Hands values end piece (EndTook count (Some (Passed event))) new
-event_passed values now new end piece count event log reported none is = (
-  end_with_handed end log (Passed event),
-  passes count event log reported.took none refl refl,
-  passed_over values new (end_with_log end log) event is,
-)
+  -- What is no part of a message is passed on.
+  pub event_passed : (event : Event) (log : Log) → HasReported values now end piece count event log
+      → part_of_event event ≡ None → EndRepresents values new (end_with_log end log)
+      → Hands values end piece (EndTook count (Some (Passed event))) new
+  event_passed event log reported none is = (
+    end_with_handed end log (Passed event),
+    passes count event log reported.took none refl refl,
+    passed_over values new (end_with_log end log) event is,
+  )
 
 -- A part at its place is handed out with the fields that are kept, and no octets lie there.
 handed_located : (place : Place) (id : ℕ) (list : List Field) (last : Bool) (octets : List ℕ)

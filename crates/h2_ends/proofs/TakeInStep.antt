@@ -155,75 +155,72 @@ kept_still : (P Q : Type 0) → (P → ⊥) → P ⊎ Q → Q
 kept_still P Q up (inl past) = absurd (up past)
 kept_still P Q up (inr kept) = kept
 
--- What was reported is so at an end whose span of streams on which octets are owed is wider.
-pub reported_wider : (values : Values) (now : End) (end : EndLog) (piece : List ℕ) (count : ℕ)
-    (event : Event) (log : Log) (owing : Span)
-    → ((i : ℕ) → InSpan now.spans.owing i → InSpan owing i)
-    → HasReported values now end piece count event log
-    → HasReported values (record now { spans = record now.spans { owing = owing } }) end piece
-    count event log
-reported_wider values now end piece count event log owing more reported =
-    record {
-      took = reported.took;
-      logged = reported.logged;
-      streams = record {
-        conn = reported.streams.conn;
-        role = reported.streams.role;
-        streams = reported.streams.streams;
-        sent = reported.streams.sent;
-      };
-      kept = reported.kept;
-      in_step = λ i. record {
-        all = (reported.in_step i).all;
-        handed = (reported.in_step i).handed;
-        within = (reported.in_step i).within;
-        owes = λ some. more i ((reported.in_step i).owes some);
-      };
-      active = reported.active;
-    }
+module _ (values : Values) (now : End) (end : EndLog) (piece : List ℕ) (count : ℕ) (event : Event)
+    (log : Log) where
+  -- What was reported is so at an end whose span of streams on which octets are owed is wider.
+  pub reported_wider : (owing : Span) → ((i : ℕ) → InSpan now.spans.owing i → InSpan owing i)
+      → HasReported values now end piece count event log
+      → HasReported values (record now { spans = record now.spans { owing = owing } }) end piece
+      count event log
+  reported_wider owing more reported =
+      record {
+        took = reported.took;
+        logged = reported.logged;
+        streams = record {
+          conn = reported.streams.conn;
+          role = reported.streams.role;
+          streams = reported.streams.streams;
+          sent = reported.streams.sent;
+        };
+        kept = reported.kept;
+        in_step = λ i. record {
+          all = (reported.in_step i).all;
+          handed = (reported.in_step i).handed;
+          within = (reported.in_step i).within;
+          owes = λ some. more i ((reported.in_step i).owes some);
+        };
+        active = reported.active;
+      }
 
--- A part of a message has come on a stream.
-pub read_on : (values : Values) (now : End) (end : EndLog) (piece : List ℕ) (count : ℕ)
-    (event : Event) (log : Log) (id : ℕ) (part : Part × Bool)
-    → HasReported values now end piece count event log
-    → (IsOver end.log id → ⊥) × (is_number_used log id ≡ true)
-    → tokens_of_event id event ≡ tokens_of_part part
-    → ((i : ℕ) → i ≢ id → tokens_of_event i event ≡ [])
-    → ((i : ℕ) → i ≢ id → take_has_fields i (Took count (Some event)) ≡ false)
-    → ((i : ℕ) → i ≢ id → take_has_data i (Took count (Some event)) ≡ false)
-    → OwesWithin now.spans.owing log id
-    → ((i : ℕ) → i ≢ id → take_may_close i (Took count (Some event)) ≡ false)
-    → (part.1 ≡ false → take_may_close id (Took count (Some event)) ≡ false)
-    → (active end.log id ≡ false → (log.role ≡ Server) × (active log id ≡ true))
-    → IsReadOn values now (end_with_log end log) id part
-read_on values now end piece count event log id part reported of here none no_fields no_data owes
-    lasts stays first =
-    let up = up_before end.log log piece count event reported.took in
-    let told = (log_after_take end.log log piece (Took count (Some event)) reported.took).5 in
-    record {
-      streams = reported.streams;
-      others = record {
-        others = λ i other. in_step_taken reported.logged.0 values now.spans (kept now i) end
-            piece (Took count (Some event)) log i reported.logged.1 reported.took (none i other)
-            (no_fields i other) (no_data i other) (reported.in_step i);
-        active = λ i other. active_taken reported.logged.0 values end.log log piece
-            (Took count (Some event)) (kept now i) i reported.logged.1 reported.took
-            (lasts i other) (reported.active i);
-        within = (reported.in_step id).within;
-        owes = owes;
-      };
-      kept = kept_still (IsOver end.log id) _ of.0 (reported.kept id);
-      was_used = of.1;
-      heard = heard_then id event end.log.reported log.reported told
-          ∙ ap (λ (tokens : List Token). tokens ++ tokens_of_event id event)
-          (handed_so_far end id of.0 up (reported.in_step id).handed)
-          ∙ ap (λ (tokens : List Token). tokens_handed end id ++ tokens) here;
-      first = λ nothing. first (false_from_ne_true _ (λ active.
-          (reported.in_step id).all up active nothing));
-      goes_on = λ last. active_taken reported.logged.0 values end.log log piece
-          (Took count (Some event)) (kept now id) id reported.logged.1 reported.took (stays last)
-          (reported.active id);
-    }
+  -- A part of a message has come on a stream.
+  pub read_on : (id : ℕ) (part : Part × Bool) → HasReported values now end piece count event log
+      → (IsOver end.log id → ⊥) × (is_number_used log id ≡ true)
+      → tokens_of_event id event ≡ tokens_of_part part
+      → ((i : ℕ) → i ≢ id → tokens_of_event i event ≡ [])
+      → ((i : ℕ) → i ≢ id → take_has_fields i (Took count (Some event)) ≡ false)
+      → ((i : ℕ) → i ≢ id → take_has_data i (Took count (Some event)) ≡ false)
+      → OwesWithin now.spans.owing log id
+      → ((i : ℕ) → i ≢ id → take_may_close i (Took count (Some event)) ≡ false)
+      → (part.1 ≡ false → take_may_close id (Took count (Some event)) ≡ false)
+      → (active end.log id ≡ false → (log.role ≡ Server) × (active log id ≡ true))
+      → IsReadOn values now (end_with_log end log) id part
+  read_on id part reported of here none no_fields no_data owes lasts stays first =
+      let up = up_before end.log log piece count event reported.took in
+      let told = (log_after_take end.log log piece (Took count (Some event)) reported.took).5 in
+      record {
+        streams = reported.streams;
+        others = record {
+          others = λ i other. in_step_taken reported.logged.0 values now.spans (kept now i) end
+              piece (Took count (Some event)) log i reported.logged.1 reported.took (none i other)
+              (no_fields i other) (no_data i other) (reported.in_step i);
+          active = λ i other. active_taken reported.logged.0 values end.log log piece
+              (Took count (Some event)) (kept now i) i reported.logged.1 reported.took
+              (lasts i other) (reported.active i);
+          within = (reported.in_step id).within;
+          owes = owes;
+        };
+        kept = kept_still (IsOver end.log id) _ of.0 (reported.kept id);
+        was_used = of.1;
+        heard = heard_then id event end.log.reported log.reported told
+            ∙ ap (λ (tokens : List Token). tokens ++ tokens_of_event id event)
+            (handed_so_far end id of.0 up (reported.in_step id).handed)
+            ∙ ap (λ (tokens : List Token). tokens_handed end id ++ tokens) here;
+        first = λ nothing. first (false_from_ne_true _ (λ active.
+            (reported.in_step id).all up active nothing));
+        goes_on = λ last. active_taken reported.logged.0 values end.log log piece
+            (Took count (Some event)) (kept now id) id reported.logged.1 reported.took (stays last)
+            (reported.active id);
+      }
 
 -- The tokens of a part that is handed out follow those before.
 pub handed_then : (happened : EndLog) (handed : Handed) (id : ℕ) (part : Part × Bool)

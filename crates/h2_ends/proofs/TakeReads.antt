@@ -90,49 +90,46 @@ same_again end new id stream reading found same keeps i = elim (cases_eq i id) [
   | inr other ↦ keeps.others i other
 ]
 
--- A field block is read, or not, by the reading that is kept.
-pub fields_taken : (values : Values) (end new : End) (happened : EndLog) (id : ℕ)
-    (list : List Field) (last : Bool) (place : Place) (stream : Stream) (reading : Reading)
-    → IsReadOn values end happened id (FieldsPart list, last) → kept end id ≡ Some stream
-    → ((reads : Reads) (parts : List (Part × Bool)) → Follows reads parts stream.reading
-    → FollowsFields reads parts list last (Some place) stream.reading reading)
-    → KeepsOne end new id (Some (with_reading stream reading)) → new.conn ≡ end.conn
-    → new.role ≡ end.role → new.spans ≡ end.spans
-    → IsReadBut values happened id (FieldsPart list, last) new
-    × (place ≡ place_after (reads_on happened id) (parts_on id happened.handed) list)
-unfolding FollowsFields
-fields_taken values end new happened id list last place stream reading is found follows keeps conn
-    role waiting =
-    let part : Part × Bool = (FieldsPart list, last) in
-    let now = stream_of values end happened id part stream is found in
-    let more = follows (reads_on happened id) (parts_on id happened.handed) now.reading in (
-      (
-        more.0.readable,
-        part_but values end new happened id part (with_reading stream reading) is more.0
-            (sym (ap outgoing_in found)) keeps conn role waiting,
-        active_still values end new happened id part stream is found,
-      ),
-      more.1,
-    )
+module _ (values : Values) (end new : End) (happened : EndLog) (id : ℕ) (list : List Field) where
+  -- A field block is read, or not, by the reading that is kept.
+  pub fields_taken : (last : Bool) (place : Place) (stream : Stream) (reading : Reading)
+      → IsReadOn values end happened id (FieldsPart list, last) → kept end id ≡ Some stream
+      → ((reads : Reads) (parts : List (Part × Bool)) → Follows reads parts stream.reading
+      → FollowsFields reads parts list last (Some place) stream.reading reading)
+      → KeepsOne end new id (Some (with_reading stream reading)) → new.conn ≡ end.conn
+      → new.role ≡ end.role → new.spans ≡ end.spans
+      → IsReadBut values happened id (FieldsPart list, last) new
+      × (place ≡ place_after (reads_on happened id) (parts_on id happened.handed) list)
+  unfolding FollowsFields
+  fields_taken last place stream reading is found follows keeps conn role waiting =
+      let part : Part × Bool = (FieldsPart list, last) in
+      let now = stream_of values end happened id part stream is found in
+      let more = follows (reads_on happened id) (parts_on id happened.handed) now.reading in (
+        (
+          more.0.readable,
+          part_but values end new happened id part (with_reading stream reading) is more.0
+              (sym (ap outgoing_in found)) keeps conn role waiting,
+          active_still values end new happened id part stream is found,
+        ),
+        more.1,
+      )
 
-pub fields_refused : (values : Values) (end new : End) (happened : EndLog) (id : ℕ)
-    (list : List Field) (last : Bool) (stream : Stream) (reading : Reading)
-    → IsReadOn values end happened id (FieldsPart list, last) → kept end id ≡ Some stream
-    → ((reads : Reads) (parts : List (Part × Bool)) → Follows reads parts stream.reading
-    → FollowsFields reads parts list last None stream.reading reading)
-    → KeepsOne end new id (Some (with_reading stream reading)) → new.conn ≡ end.conn
-    → new.role ≡ end.role → new.spans ≡ end.spans
-    → ReadsFields values happened id list last (Err unreads.Malformed) new
-unfolding ReadsFields FollowsFields
-fields_refused values end new happened id list last stream reading is found follows keeps conn
-    role waiting =
-    let part : Part × Bool = (FieldsPart list, last) in
-    let now = stream_of values end happened id part stream is found in
-    let more = follows (reads_on happened id) (parts_on id happened.handed) now.reading in (
-      more.0,
-      must_refuse values end new happened id part is conn role waiting
-          (same_again end new id stream reading found more.1 keeps),
-    )
+  pub fields_refused : (last : Bool) (stream : Stream) (reading : Reading)
+      → IsReadOn values end happened id (FieldsPart list, last) → kept end id ≡ Some stream
+      → ((reads : Reads) (parts : List (Part × Bool)) → Follows reads parts stream.reading
+      → FollowsFields reads parts list last None stream.reading reading)
+      → KeepsOne end new id (Some (with_reading stream reading)) → new.conn ≡ end.conn
+      → new.role ≡ end.role → new.spans ≡ end.spans
+      → ReadsFields values happened id list last (Err unreads.Malformed) new
+  unfolding ReadsFields FollowsFields
+  fields_refused last stream reading is found follows keeps conn role waiting =
+      let part : Part × Bool = (FieldsPart list, last) in
+      let now = stream_of values end happened id part stream is found in
+      let more = follows (reads_on happened id) (parts_on id happened.handed) now.reading in (
+        more.0,
+        must_refuse values end new happened id part is conn role waiting
+            (same_again end new id stream reading found more.1 keeps),
+      )
 
 -- What is read on a stream on which nothing has happened.
 reads_by : (role : Role) (given : Option SentMessage) → given ≡ None

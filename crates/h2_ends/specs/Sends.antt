@@ -1,14 +1,13 @@
 -- What sending on one stream makes of a pump that has come to it.
-use Rattle.std.specs.Prelude.{◌≡◌, ◌≢◌, ◌⊎◌, ◌≤◌, ◌<◌, ℕ, ◌+◌, true, false, Option, Some, None}
+use Rattle.std.specs.Prelude.{◌≡◌, ◌≢◌, ◌⊎◌, ◌≤◌, ◌<◌, ℕ, ◌+◌, true, Option, Some, None}
 use Rattle.std.specs.Prelude.{Result, Ok, Err, IfSome, IfNone}
 use Rattle.h2_spec_log.specs.declared.role.Role.{Role}
 use Rattle.h2_spec_log.specs.declared.refusal.Refusal.{Refusal}
 use Rattle.h2_spec_log.specs.declared.refusal.Refusal.TheVariants.{OutputFull, Memory}
 use Rattle.h2_spec_log.specs.Acts.{Values}
 use Rattle.h2_spec_log.specs.Limits.{full_output}
-use Rattle.h2_spec_log.specs.Log.{Log, active, waiting, reader_next_live}
+use Rattle.h2_spec_log.specs.Log.{active, waiting}
 use Rattle.h2_conn.specs.declared.conn.Conn.{Conn}
-use Rattle.h2_conn.specs.Conn.{ConnRepresents}
 use Rattle.h2_ends.specs.declared.end.End.{End}
 use Rattle.h2_ends.specs.declared.outgoing.Outgoing.TheVariants as outgoings
 use Rattle.h2_ends.specs.declared.outgoing.Stream.{Stream}
@@ -106,10 +105,16 @@ PumpsOn old id count result new sum =
     → active happened.log id ≡ true
     → (after : EndLog) × HasPumped values start id result sum new after
 
--- The next stream that is to be looked at: the next active one of the span.
-abbrev pub IsNextIn : Conn → Span → (above : ℕ) → Option ℕ → Type 0
-IsNextIn conn span above next =
-    (values : Values) (log : Log) → ConnRepresents values conn log
-    → IfSome next (λ id. reader_next_live log above ≡ Some id)
-    × IfNone next (log.failed ≡ None → (i : ℕ) → above < i → InSpan span i
-    → active log i ≡ false)
+-- Something is kept of the stream, which is one of the span at most, and of none between it and a
+-- number below.
+pub record IsNextKept (end : End) (span : Span) (above id : ℕ) : Type 0 where
+  pub higher : above < id
+  pub within : id ≤ span.last
+  pub kept : keeps_of end id ≢ None
+  pub between : (i : ℕ) → above < i → i < id → keeps_of end i ≡ None
+
+-- The next stream that is to be looked at: the next one of the span of which something is kept.
+abbrev pub IsNextIn : End → Span → (above : ℕ) → Option ℕ → Type 0
+IsNextIn end span above next =
+    IfSome next (λ id. IsNextKept end span above id)
+    × IfNone next ((i : ℕ) → above < i → InSpan span i → keeps_of end i ≡ None)

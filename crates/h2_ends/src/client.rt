@@ -1,14 +1,15 @@
 //! A client.
 
-ghost use Rattle.std.specs.Prelude.{◌≡◌, ◌↔◌, ◌+◌, ◌≤◌, min, true, false, vec_len};
-ghost use Rattle.std.specs.Prelude.{IfOk, IfErr, IsOk, OnErr};
+ghost use Rattle.std.specs.Prelude.{◌≡◌, ◌↔◌, ◌+◌, ◌++◌, ◌≤◌, drop, min, true, false};
+ghost use Rattle.std.specs.Prelude.{IfOk, IfErr, IsOk, OnOk, OnErr, None, vec_len};
 ghost use Rattle.std.specs.Vec.{vec_capacity};
 ghost use Rattle.h2_flow.specs.ConfigValues.{values_of};
 ghost use Rattle.h2_spec_log.specs.declared.role.Role.TheVariants as roles;
 ghost use Rattle.h2_spec_log.specs.Acts.{ResetStream, SendPing, SendGoAway, ChangeSettings, PutOut};
-ghost use Rattle.h2_spec_log.specs.Acts.{Values, Count, Done};
+ghost use Rattle.h2_spec_log.specs.Acts.{Values, Count, Done, Release};
 ghost use Rattle.h2_spec_log.specs.CallRules.{returns_before_put_out};
-ghost use Rattle.h2_spec_log.specs.Log.{Log, waiting};
+ghost use Rattle.h2_spec_log.specs.Limits.{full_output};
+ghost use Rattle.h2_spec_log.specs.Log.{Log, waiting, reader_next_live};
 ghost use Rattle.h2_spec_log.specs.LogView.{log_view};
 ghost use Rattle.h2_conn.specs.Conn.{ConnRepresents, GivesOut, answer_by};
 ghost use Rattle.h2_message.specs.Values.{message_value};
@@ -20,6 +21,7 @@ ghost use Rattle.h2_ends.specs.Represents.{EndRequests, new_end_log};
 use crate::end::End;
 use crate::refusal::EndRefusal;
 use h2_conn::{Config, Conn, Refusal};
+use h2_frame::limits::FULL_OUTPUT;
 use h2_message::Message;
 use h2_spec_log::Role;
 use std::alloc::Global;
@@ -101,6 +103,22 @@ impl Client {
         self.end.release_all()
     }
 
+    // contract: 8.1 (own) The other calls of a client and a server are the connection's
+    /// Releases so many octets of bodies that were handed out on one stream, so that the peer may
+    /// send as many more: see [`Conn::release`]. A caller that uses bodies slowly releases here
+    /// what was used, stream by stream, where [`Client::release_all`] releases everything;
+    /// [`Conn::owed`] says how much of a stream is not released.
+    ///
+    /// # Errors
+    ///
+    /// Those of [`Conn::release`], in its order. Nothing has changed.
+    pub fn release(&mut self, id: u32, count: u32) -> Result<(), Refusal>
+        ensures { EndAnswers self.old.end (Release id count) (answer_by (λ done. Done) result)
+            self.new.end }
+    {
+        self.end.release(id, count)
+    }
+
     // contract: 8.1 (own) Something is kept of each active stream, and of no other
     // contract: 8.1 (own) The other calls of a client and a server are the connection's
     /// Resets a stream with a code, and forgets what waits on it: see [`Conn::reset`].
@@ -156,6 +174,28 @@ impl Client {
         self.end.change_settings(config)
     }
 
+    // contract: calls (own) An end answers of its state, and of little once it has failed
+    /// Whether the output is full: each call that writes a frame is refused
+    /// ([`Refusal::OutputFull`], C7), and `pump` sends nothing, until less than 65,536 octets wait.
+    pub fn is_full(&self) -> bool
+        ensures { (values : Values) (log : Log) → ConnRepresents values self.now.end.conn log
+            → (result ≡ true) ↔ (full_output ≤ waiting log) }
+    {
+        self.end.conn.waiting() >= FULL_OUTPUT
+    }
+
+    // contract: calls (own) An end answers of its state, and of little once it has failed
+    /// Whether no output waits, and no stream is active or the connection has failed. After GOAWAY
+    /// or a failure the writing side can be ended then (RFC 9113, section 6.8); what still comes is
+    /// to be read and dropped before the transport is closed. It looks for an active stream as
+    /// [`Conn::next_live`] does.
+    pub fn is_drained(&self) -> bool
+        ensures { (values : Values) (log : Log) → ConnRepresents values self.now.end.conn log
+            → (result ≡ true) ↔ ((waiting log ≡ 0) × (reader_next_live log 0 ≡ None)) }
+    {
+        self.end.conn.waiting() == 0 && self.end.conn.next_live(0).is_none()
+    }
+
     // contract: 8.1 (own) An end is quiet where nothing waits, is owed or could be sent
     /// Whether the connection is up, no output waits, nothing is owed or to be returned to the
     /// connection's window, and of what waits of messages nothing could be sent. A part of a frame
@@ -187,5 +227,53 @@ impl Client {
             → vec_len out.old + min count (waiting log) ≤ vec_capacity out.old → IsOk result }
     {
         self.end.put_out(count, out)
+    }
+
+    // contract: calls (own) An end lends its output, and says the place of a fault
+    /// Lends the output that waits, in two slices, the first of which comes first: see
+    /// [`Conn::waiting_octets`]. After [`Client::ready`] it is all that can be written now.
+    pub fn waiting_octets(&self) -> (&[u8], &[u8])
+        ensures { (values : Values) (log : Log) → ConnRepresents values self.now.end.conn log
+            → result.0.now ++ result.1.now ≡ drop log.given log.written }
+    {
+        self.end.conn.waiting_octets()
+    }
+
+    // contract: 8.1 (own) The other calls of a client and a server are the connection's
+    /// Makes the output ready to be written from where it lies: see [`Conn::ready`].
+    ///
+    /// # Errors
+    ///
+    /// [`Refusal::Memory`] (C12), as of [`Conn::ready`]. Nothing has changed.
+    pub fn ready(&mut self) -> Result<(), Refusal>
+        ensures answers { EndAnswers self.old.end (PutOut 0) (answer_by (λ done. Count 0) result)
+            self.new.end }
+
+        // Nothing is returned first then, so consuming takes no memory.
+        ensures returned { OnOk result ((values : Values) (log : Log)
+            → ConnRepresents values self.new.end.conn log
+            → returns_before_put_out (log_view log) ≡ false) }
+        ensures room { (values : Values) (log : Log) → ConnRepresents values self.old.end.conn log
+            → returns_before_put_out (log_view log) ≡ false → IsOk result }
+    {
+        self.end.ready()
+    }
+
+    // contract: 8.1 (own) The other calls of a client and a server are the connection's
+    /// Takes away at most `count` octets of the output, which were written from where they lie, and
+    /// returns their number: see [`Conn::consume`]. Call [`Client::ready`] before each
+    /// [`Client::waiting_octets`], and give the number of octets that were written.
+    ///
+    /// # Errors
+    ///
+    /// [`Refusal::Memory`] (C12), as of [`Conn::consume`]. Nothing has changed. It does not come
+    /// after [`Client::ready`], where no other call was made in between.
+    pub fn consume(&mut self, count: usize) -> Result<usize, Refusal>
+        ensures answers { EndAnswers self.old.end (PutOut count)
+            (answer_by (λ given. Count given) result) self.new.end }
+        ensures room { (values : Values) (log : Log) → ConnRepresents values self.old.end.conn log
+            → returns_before_put_out (log_view log) ≡ false → IsOk result }
+    {
+        self.end.consume(count)
     }
 }

@@ -1,9 +1,10 @@
 //! The connection's own calls at an end.
 
 ghost use Rattle.std.specs.Prelude.{◌≡◌, ◌+◌, ◌≤◌, min, false, vec_len, IfOk, IsOk, OnErr};
+ghost use Rattle.std.specs.Prelude.{OnOk};
 ghost use Rattle.std.specs.Vec.{vec_capacity};
 ghost use Rattle.h2_spec_log.specs.Acts.{ResetStream, SendPing, SendGoAway, ChangeSettings, PutOut};
-ghost use Rattle.h2_spec_log.specs.Acts.{Values, Count, Done};
+ghost use Rattle.h2_spec_log.specs.Acts.{Values, Count, Done, Release};
 ghost use Rattle.h2_spec_log.specs.CallRules.{returns_before_put_out};
 ghost use Rattle.h2_spec_log.specs.Log.{Log, waiting};
 ghost use Rattle.h2_spec_log.specs.LogView.{log_view};
@@ -24,6 +25,15 @@ impl End {
         self.conn.reset(id, code)?;
         self.forget_if_over(id);
         Ok(())
+    }
+
+    // rule: 8.1 (own) The other calls of a client and a server are the connection's
+    /// Releases octets of a stream.
+    pub(crate) fn release(&mut self, id: u32, count: u32) -> Result<(), Refusal>
+        ensures { EndAnswers self.old (Release id count) (answer_by (λ done. Done) result)
+            self.new }
+    {
+        self.conn.release(id, count)
     }
 
     // rule: 8.1 (own) The other calls of a client and a server are the connection's
@@ -52,6 +62,7 @@ impl End {
         self.conn.change_settings(config)
     }
 
+    // rule: 8.1 (own) The other calls of a client and a server are the connection's
     /// Gives out output.
     pub(crate) fn put_out(&mut self, count: usize, out: &mut Vec<u8>) -> Result<usize, Refusal>
         ensures answers { EndAnswers self.old (PutOut count)
@@ -64,5 +75,30 @@ impl End {
             → vec_len out.old + min count (waiting log) ≤ vec_capacity out.old → IsOk result }
     {
         self.conn.put_out(count, out)
+    }
+
+    // rule: 8.1 (own) The other calls of a client and a server are the connection's
+    /// Returns what is unreturned, as giving out does first.
+    pub(crate) fn ready(&mut self) -> Result<(), Refusal>
+        ensures answers { EndAnswers self.old (PutOut 0) (answer_by (λ done. Count 0) result)
+            self.new }
+        ensures returned { OnOk result ((values : Values) (log : Log)
+            → ConnRepresents values self.new.conn log
+            → returns_before_put_out (log_view log) ≡ false) }
+        ensures room { (values : Values) (log : Log) → ConnRepresents values self.old.conn log
+            → returns_before_put_out (log_view log) ≡ false → IsOk result }
+    {
+        self.conn.ready()
+    }
+
+    // rule: 8.1 (own) The other calls of a client and a server are the connection's
+    /// Consumes output.
+    pub(crate) fn consume(&mut self, count: usize) -> Result<usize, Refusal>
+        ensures answers { EndAnswers self.old (PutOut count)
+            (answer_by (λ given. Count given) result) self.new }
+        ensures room { (values : Values) (log : Log) → ConnRepresents values self.old.conn log
+            → returns_before_put_out (log_view log) ≡ false → IsOk result }
+    {
+        self.conn.consume(count)
     }
 }

@@ -13,7 +13,6 @@ ghost use Rattle.h2_ends.specs.Represents.{EndRepresents};
 
 use crate::end::End;
 use crate::outgoing::Outgoing;
-use crate::sending::next_in;
 use h2_conn::Conn;
 
 impl End {
@@ -40,7 +39,7 @@ impl End {
             → end.log.failed ≡ None → result ≡ false → (i : ℕ) → owed end.log i ≡ 0 }
     {
         let mut last = self.spans.owing.first.saturating_sub(1);
-        while let Some(id) = next_in(&self.conn, self.spans.owing, last) {
+        while let Some(id) = self.next_in(self.spans.owing, last) {
             if self.conn.owed(id) != 0 {
                 return true;
             }
@@ -58,7 +57,7 @@ impl End {
             → end.log.failed ≡ None → result ≡ false → (i : ℕ) → IsStuckOn end i }
     {
         let mut last = self.spans.waiting.first.saturating_sub(1);
-        while let Some(id) = next_in(&self.conn, self.spans.waiting, last) {
+        while let Some(id) = self.next_in(self.spans.waiting, last) {
             if self.could_send_on(id) {
                 return true;
             }

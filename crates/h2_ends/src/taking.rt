@@ -154,10 +154,10 @@ impl End {
             reading,
             outgoing: Outgoing::NotGiven,
         };
-        match self.streams.insert(id, stream) {
-            Ok(_) => Ok(place),
-            Err(_) => Err(Unread::OutOfMemory),
+        if self.streams.insert(id, stream).is_err() {
+            return Err(Unread::OutOfMemory);
         }
+        Ok(place)
     }
 
     // rule: 8.1.1 A malformed message is a stream error PROTOCOL_ERROR

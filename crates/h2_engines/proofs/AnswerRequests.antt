@@ -105,10 +105,8 @@ kept_reset {end} {id} keeps large =
     let after = end_with_log end (with_call end.log (ResetStream id calm) Done) in
     by_stream keeps (was_given_up (inr (record {
       too_large = large;
-      reset = rw ((call_calls end.log (ResetStream id calm) Done))
-          (first_in (ResetStream id calm, Done) end.log.calls);
-    })) keeps.unanswered)
-    (λ i other. same_on end after i refl refl (keeps_by_call end.log (ResetStream id calm) Done))
+      reset = rw ((call_calls _ _ Done)) (first_in _ _);
+    })) keeps.unanswered) (λ i other. same_on end after i refl refl (keeps_by_call _ _ Done))
 
 -- Of no requests nothing is kept.
 none_at : (requests : Requests) (id : ℕ) → requests.kept.entries ≡ []

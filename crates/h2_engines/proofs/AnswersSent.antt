@@ -12,8 +12,8 @@ use Rattle.h2_engines.proofs.Names.{hands_nothing, passes, hands_out, End, EndRe
 use Rattle.h2_engines.proofs.Names.{new_end_log, is_head_alone, TakeAnswer, drop-append_seam}
 use Rattle.h2_engines.proofs.Names.{with_call, active, grows_call, Token, WasAsked, message_for}
 use Rattle.h2_engines.proofs.Names.{part_on, refusal_fails, take_calls, memory_fails}
-use Rattle.h2_engines.proofs.Names.{is_too_large_body, IsResponding, WasReportedReset, WasAnswered}
-use Rattle.h2_engines.proofs.Names.{AnswersAll, calm}
+use Rattle.h2_engines.proofs.Names.{is_too_large_body, IsResponding, WasReportedReset, AnswersAll}
+use Rattle.h2_engines.proofs.Names.{calm}
 use Rattle.h2_spec_log.specs.LogCalls.{opened}
 use Rattle.h2_spec_log.specs.LogSteps.{with_sent}
 use Rattle.h2_ends.specs.Ends.{parts_on, tokens_given, part_of_event, tokens_out}
@@ -83,14 +83,12 @@ act_of both = both.0
 asked_before : (log : Log) (act : Act) (answer : Answer) (i code : ℕ) → ResetsNothing act
     → WasAsked (with_call log act answer).calls i code → WasAsked log.calls i code
 asked_before log act answer i code none (inl reset) =
-    elim (first_or_later (act, answer) log.calls (ResetStream i code, Done)
-    (rw (call_calls log act answer) at reset)) [
+    elim (first_or_later _ _ (ResetStream i code, Done) (rw (call_calls log act answer) at reset)) [
       | inl same ↦ absurd ((none i code).0 (ap act_of same))
       | inr later ↦ inl later
     ]
 asked_before log act answer i code none (inr refused) =
-    elim (first_or_later (act, answer) log.calls (Refuse i code, Done)
-    (rw (call_calls log act answer) at refused)) [
+    elim (first_or_later _ _ (Refuse i code, Done) (rw (call_calls log act answer) at refused)) [
       | inl same ↦ absurd ((none i code).1 (ap act_of same))
       | inr later ↦ inr later
     ]
@@ -102,11 +100,10 @@ call_drops : (end : EndLog) (after : EndLog) (act : Act) (answer : Answer) → R
 call_drops end after act answer none is same dropped =
     let more : HandsMore end after = no_more same in
     record {
-      reported = λ i code ours here. reset_stays i more
-          (dropped.reported i code ours (rw (
-            is,
-            (grows_call end.log act answer).reported,
-          ) at here));
+      reported = λ i code ours here. reset_stays i more (dropped.reported i code ours (rw (
+        is,
+        (grows_call _ _ answer).reported,
+      ) at here));
       asked = λ i code here. dropped_stays i more
           (dropped.asked i code (asked_before end.log act answer i code none (rw is at here)));
     }
@@ -131,8 +128,7 @@ answer_drops before id message done after may was up =
     let act = SendFields id message.head (is_head_alone message) in
     let log : after.log ≡ with_call before.log act Done = ap (λ (end : EndLog). end.log) may.5 in
     call_drops before after act Done (λ i code. (λ same. cc, λ same. cc)) log
-    (ap (λ (end : EndLog). end.handed) may.5)
-    (was ((grows_call before.log act Done).up (rw log at up)))
+    (ap (λ (end : EndLog). end.handed) may.5) (was ((grows_call _ _ Done).up (rw log at up)))
 
 -- the reset of a stream whose request is too large,
 reset_drops : (end : EndLog) (id : ℕ) (answer : Answer)
@@ -141,36 +137,31 @@ reset_drops : (end : EndLog) (id : ℕ) (answer : Answer)
 reset_drops end id answer large dropped =
     let act = ResetStream id calm in
     record {
-      reported = λ i code ours here.
-          dropped.reported i code ours (rw ((grows_call end.log act answer).reported) at here);
+      reported = λ i code ours here. dropped.reported i code ours
+          (rw ((grows_call _ _ _).reported) at here);
       asked = λ i code here. asked_so i code (subst (λ (calls : List (Act × Answer)).
-          WasAsked calls i code) (call_calls end.log act answer) here);
+          WasAsked calls i code) (call_calls _ _ _) here);
     }
   where
     asked_so : (i code : ℕ) → WasAsked ((ResetStream id calm, answer) ∷ end.log.calls) i code
         → IsDropped end i
-    asked_so i code (inl reset) =
-        elim (first_or_later (ResetStream id calm, answer) end.log.calls (ResetStream i code, Done)
-        reset) [
-          | inl same ↦
-              let act : ResetStream id calm ≡ ResetStream i code = ap act_of same in
-              let one : id ≡ i = cc in
-              inr (subst (λ (j : ℕ). is_too_large_body (parts_on j end.handed) ≡ true) one large)
-          | inr later ↦ dropped.asked i code (inl later)
-        ]
-    asked_so i code (inr refused) =
-        elim (first_or_later (ResetStream id calm, answer) end.log.calls (Refuse i code, Done)
-        refused) [
-          | inl same ↦ let act : ResetStream id calm ≡ Refuse i code = ap act_of same in absurd (cc)
-          | inr later ↦ dropped.asked i code (inr later)
-        ]
+    asked_so i code (inl reset) = elim (first_or_later _ _ (ResetStream i code, Done) reset) [
+      | inl same ↦
+          let act : ResetStream id calm ≡ ResetStream i code = ap act_of same in
+          let one : id ≡ i = cc in
+          inr (subst (λ (j : ℕ). is_too_large_body (parts_on j end.handed) ≡ true) one large)
+      | inr later ↦ dropped.asked i code (inl later)
+    ]
+    asked_so i code (inr refused) = elim (first_or_later _ _ (Refuse i code, Done) refused) [
+      | inl same ↦ let act : ResetStream id calm ≡ Refuse i code = ap act_of same in absurd (cc)
+      | inr later ↦ dropped.asked i code (inr later)
+    ]
 
 -- output that is put out,
 put_drops : (end : EndLog) (count : ℕ) (answer : Answer) → AreDropped end
     → AreDropped (end_with_log end (with_call end.log (PutOut count) answer))
 put_drops end count answer dropped =
-    call_drops end (end_with_log end (with_call end.log (PutOut count) answer)) (PutOut count)
-    answer (λ i code. (λ same. cc, λ same. cc)) refl refl dropped
+    call_drops _ _ _ answer (λ i code. (λ same. cc, λ same. cc)) refl refl dropped
 
 -- and octets that are taken: the connection was up,
 was_up : {log after : Log} {piece : List ℕ} {count : ℕ} {event : Option Event}
@@ -186,14 +177,12 @@ was_up (lacks_memory up octets unused joined may answers same) = cc
 taken_reports : (before : EndLog) {log : Log} {piece : List ℕ} {count : ℕ} {event : Option Event}
     → MayTake before.log piece (Took count event) log
     → log.reported ≡ events_answered event ++ before.log.reported
-taken_reports before {log} {piece} {count} {event} may =
-    (log_after_take before.log log piece (Took count event) may).5
+taken_reports before {log} {piece} {count} {event} may = (log_after_take _ _ _ _ may).5
 
 taken_asks : (before : EndLog) {log : Log} {piece : List ℕ} {answer : TakeAnswer} {i code : ℕ}
     → MayTake before.log piece answer log → WasAsked log.calls i code
     → WasAsked before.log.calls i code
-taken_asks before {log} {piece} {answer} may here =
-    rw (take_calls before.log log piece answer may) at here
+taken_asks before {log} {piece} {answer} may here = rw (take_calls _ _ _ answer may) at here
 
 not_part : {i code id : ℕ} {ours : Bool} {part : Part × Bool} (event : Event)
     → part_of_event event ≡ Some (id, part) → event ≡ ResetEvent i code ours → ⊥

@@ -51,8 +51,7 @@ ends_at_once {values} message start error range refused =
     record {
       end = new_end_log Client values;
       fetching = begins range;
-      linked = all_in_part
-          (nothing_linked start (opened Client values) (new_log values).0 (new_log values).1);
+      linked = all_in_part (nothing_linked _ _ (new_log values).0 (new_log values).1);
       so = inr (record { refused = refused; new = refl; same = refl });
     }
 
@@ -109,21 +108,20 @@ new_driven {values} {message} start {fetcher} range not has =
     let new = opened Client values in
     let act = Open message.head (is_head_alone message) in
     let now = has.requested.3 in
-    let log : has.end.log ≡ with_call new act (Number fetcher.id) =
-    ap (λ (end : EndLog). end.log) now in
-    let parts : parts_on fetcher.id has.end.handed ≡ [] =
-    ap (λ (end : EndLog). parts_on fetcher.id end.handed) now ∙ no_parts fetcher.id in
+    let log : has.end.log ≡ with_call new act (Number fetcher.id) = ap (λ (end : EndLog). end.log)
+    now in
+    let parts : parts_on fetcher.id has.end.handed ≡ [] = ap
+    (λ (end : EndLog). parts_on fetcher.id end.handed) now ∙ no_parts fetcher.id in
     record {
       happened = requests range (Ok fetcher.id) has.requested;
       represents = has.represents;
       linked = nothing_linked start has.end.log (none_used has) (ap
           (λ (one : Log). one.given) log ∙ call_given new act (Number fetcher.id)
           (λ count same. cc) ∙ (new_log values).1);
-      up = ap (λ (one : Log). one.failed) log ∙ open_failed new message.head
-          (is_head_alone message) fetcher.id ∙ (new_log values).2;
+      up = ap (λ (one : Log). one.failed) log ∙ open_failed new message.head (is_head_alone message)
+          fetcher.id ∙ (new_log values).2;
       keeps = (
-        ap (λ (end : EndLog). message_for fetcher.id end.accepted) now ∙ message_here fetcher.id
-            message,
+        ap (λ (end : EndLog). message_for fetcher.id end.accepted) now ∙ message_here _ _,
         subst (HasCome fetcher.coming) (sym parts)
             (come_none fetcher.coming has.none_come has.no_body has.no_interims has.no_trailers),
         not,

@@ -49,11 +49,9 @@ on_interim : {old : Coming} (new : Coming) {parts : List (Part × Bool)} (list :
     → HasCome new (parts ++ (FieldsPart list, false) ∷ [])
 on_interim {old} new list interims head body trailers none sound
     (interims_alone heads nothing empty end) =
-    let all = all_and_one (λ fields. BreakNone (interim_rules fields)) (lists_of old.interims) list
-    heads.interims sound in
+    let all = all_and_one (λ fields. BreakNone (interim_rules fields)) _ _ heads.interims sound in
     let now : new.head ≡ None = head ∙ none in
-    let come : HasCome new (interim_parts (lists_of new.interims)) =
-    interims_alone (record {
+    let come : HasCome new (interim_parts (lists_of new.interims)) = interims_alone (record {
       interims = rw interims all;
       head = λ one is. absurd
           (head_there (λ (list : Vec Field Global). list.items) new.head one is now);
@@ -190,9 +188,7 @@ after_parts : (interims : List (List Field)) (head : List Field) (data_parts : L
     → (interim_parts interims ++ (FieldsPart head, false) ∷ data_parts_of data_parts) ++ part ∷ []
     ≡ interim_parts interims ++ (FieldsPart head, false)
     ∷ (data_parts_of data_parts ++ part ∷ [])
-after_parts interims head data_parts part =
-    append_assoc (interim_parts interims) ((FieldsPart head, false) ∷ data_parts_of data_parts)
-    (part ∷ [])
+after_parts interims head data_parts part = append_assoc _ _ (part ∷ [])
 
 joined_one : (data_parts : List (List ℕ)) (octets : List ℕ)
     → concat (data_parts ++ octets ∷ []) ≡ concat data_parts ++ octets
@@ -240,8 +236,7 @@ on_trailers {old} new list trailers interims head body some
     (head_and_body heads one data_parts came before no_end) =
     let value = option_map (λ (one : Vec Field Global). one.items) in
     let is = head_of new.head one (ap value head ∙ came) in
-    is_whole new is.0 data_parts is.1 trailers (rw (interims, is.2) (after_parts
-    (lists_of old.interims) one data_parts (FieldsPart list, true)
+    is_whole new is.0 data_parts is.1 trailers (rw (interims, is.2) (after_parts _ one data_parts _
     ∙ sym (read_trailers (lists_of old.interims) one data_parts list)))
     (ap (λ (octets : Vec ℕ Global). octets.items) body ∙ before)
 

@@ -22,16 +22,13 @@ unfolding phase_after_all phase_after
 after_interims to_head [] sound = refl
 after_interims to_head (fields ∷ interims) sound =
     ap (λ (phase : Option Phase). phase_after_all (Responses to_head) phase
-    (interim_parts interims)) (after_interim to_head fields sound.0)
-    ∙ after_interims to_head interims sound.1
+    (interim_parts interims)) (after_interim _ _ sound.0) ∙ after_interims to_head interims sound.1
 
 -- After one that is no interim one none does.
 head_begun : (to_head : Bool) (head : List Field) → first_broken (interim_rules head) ≢ None
     → is_begun (phase_after_head (Responses to_head) head false) ≡ true
 unfolding phase_after_head
-head_begun to_head head final =
-    rw (some_not_none (first_broken (interim_rules head)) final)
-    (final_begun (Responses to_head) head false)
+head_begun to_head head final = rw (some_not_none _ final) (final_begun _ _ false)
 
 after_head : (to_head : Bool) (interims : List (List Field)) (head : List Field)
     (data_parts : List (List ℕ))
@@ -45,9 +42,7 @@ after_head to_head interims head data_parts sound final =
     let parts = (FieldsPart head, false) ∷ data_parts_of data_parts in
     ap is_begun (after_both reads (Some AtHead) (interim_parts interims) parts
     ∙ ap (λ (phase : Option Phase). phase_after_all reads phase parts)
-    (after_interims to_head interims sound))
-    ∙ stays_begun reads (phase_after_head reads head false) (data_parts_of data_parts)
-    (head_begun to_head head final)
+    (after_interims to_head interims sound)) ∙ stays_begun _ _ _ (head_begun to_head head final)
 
 -- What the place of a field block says of it, and of the head.
 abbrev pub SaysPlace : Coming → List Field → Place → Type 0
@@ -93,7 +88,6 @@ pub octets_say : {to_head : Bool} {coming : Coming} {parts : List (Part × Bool)
     → IsReadable (Responses to_head) (parts ++ (OctetsPart octets, last) ∷ []) → coming.head ≢ None
 unfolding phase_after_all phase_after
 octets_say {to_head} {parts} octets last (interims_alone heads none empty end) readable =
-    absurd (one_more parts (OctetsPart octets, last) (after_interims to_head _ heads.interims)
-    readable refl)
+    absurd (one_more _ _ (after_interims to_head _ heads.interims) readable refl)
 octets_say {coming} octets last (head_and_body heads head data_parts came body end) readable =
     head_there (λ one. one.items) coming.head head came

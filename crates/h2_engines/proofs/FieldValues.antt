@@ -32,8 +32,7 @@ pub value_left : (name : List ℕ) (fields : List Field) (place : ℕ) (field : 
     ≡ (if named then field.value else value_or_nothing name (drop (place + 1) fields))
 unfolding is_named
 value_left name fields place field {named} there same =
-    ap (value_or_nothing name) (left_from fields place field there) ∙ value_first name field
-    (drop (place + 1) fields) named same
+    ap (value_or_nothing name) (left_from fields place field there) ∙ value_first _ _ _ named same
 
 -- and where none is left there is none.
 pub value_none : (name : List ℕ) (fields : List Field) (place : ℕ) → length fields ≤ place

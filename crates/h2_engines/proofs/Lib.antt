@@ -31,6 +31,7 @@ pub mod ResponderHears
 pub mod ResponderOutput
 pub mod ResponderRefusals
 pub mod ResponderStalls
+pub mod WritesBoth
 pub mod ResponderWrites
 pub mod SameRequests
 pub mod SentAll

@@ -168,8 +168,7 @@ sent_last {course} now {self} new error pumped kept sends writing =
     let go = pumped.going in
     let wrote = sends course go.end [] go.driven.represents go.driven.happened go.driven.linked in (
       wrote.after,
-      ends_unwritten course self new kept wrote writing
-          (holds_again course.message self.kept go.end error go.driven.keeps),
+      ends_unwritten course self new kept wrote writing (holds_again _ _ _ _ go.driven.keeps),
     )
 
 -- The link gives octets, and takes none.
@@ -185,8 +184,7 @@ read_links {start} {before} now {log} {octets} linked gives takes =
       given = appends_as start.given now.given ((log.input ++ []) ++ octets) (log.input ++ octets)
           (ap (λ (input : List ℕ). input ++ octets) (append-nil log.input)) (Appends-trans
           start.given before.given now.given (log.input ++ []) octets linked.given gives);
-      taken = appends_as start.taken now.taken (given_out log ++ []) (given_out log)
-          (append-nil (given_out log))
+      taken = appends_as _ now.taken _ (given_out log) (append-nil (given_out log))
           (Appends-trans start.taken before.taken now.taken (given_out log) [] linked.taken takes);
     }
 
@@ -224,8 +222,7 @@ read_ends {course} {middle} now self sent gives takes =
       sent.going.end,
       (
         read_driven now sent.going.driven gives takes,
-        appends_as course.start.taken now.taken (log.written ++ []) log.written
-            (append-nil log.written)
+        appends_as _ now.taken _ log.written (append-nil log.written)
             (Appends-trans course.start.taken middle.taken now.taken log.written [] sent.all takes),
         sent.returned,
         sent.sent,

@@ -127,8 +127,7 @@ stays_driven {course} {old} new {end} {after} {next} is kept stays happened repr
       represents = represents;
       linked = goes_links (given_within is.represents) stays.goes is.linked;
       up = stays.goes.failed ∙ is.up;
-      keeps = rw kept
-          (keeps_same course.message old.kept end after next (stays_same stays) is.keeps);
+      keeps = rw kept (keeps_same _ _ _ _ next (stays_same stays) is.keeps);
     }
 
 -- A machine ends early, and its link took all that was given out.
@@ -156,8 +155,7 @@ pub ends_going : {writes : Bool} {course : Course} {now : Traffic} {held : Machi
     → EndsFor writes course.start now held.kept end error
     → HasEnded writes course now held end error
 ends_going {course} {held} {end} {error} is why =
-    ends_linked course held is.happened is.represents is.linked
-    (holds_again course.message held.kept end error is.keeps) why
+    ends_linked course held is.happened is.represents is.linked (holds_again _ _ _ _ is.keeps) why
 
 -- What writes ends it so.
 pub writing_ends : (start now : Traffic) (kept : MessageState) (end : EndLog) (error : LinkError)

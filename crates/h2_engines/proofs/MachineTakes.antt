@@ -32,8 +32,7 @@ written_driven {course} {old} new {end} {unused} {next} is kept wrote =
       represents = wrote.represents;
       linked = written_links unused wrote.given wrote.taken;
       up = wrote.same.failed ∙ is.up;
-      keeps = rw kept
-          (keeps_same course.message old.kept end wrote.after next wrote.same is.keeps);
+      keeps = rw kept (keeps_same _ _ _ _ _ wrote.same is.keeps);
     }
 
 -- It could not be written.
@@ -228,8 +227,7 @@ pub heard_rest : {writes : Bool} {course : Course} {now base : Traffic} {self : 
     (rounds + 1)
 unfolding HearsSo
 heard_rest {writes} {course} {now} {base} {self} new piece used heard on hears =
-    let next = hears_rest self new piece used (Ok heard) hears course (flow writes now base)
-    on.after on.driven in
+    let next = hears_rest _ new piece used (Ok heard) hears _ _ on.after on.driven in
     record {
       after = next.0;
       turns = omega (arith, on.turns, next.1.1);
@@ -252,8 +250,7 @@ pub done_rest : {writes : Bool} {course : Course} {now base : Traffic} {self : M
 unfolding HearsSo TakenSo
 done_rest {writes} {course} {now} {base} {self} new piece used heard on hears done =
     let rest = drop used piece in
-    let next = hears_rest self new piece used (Ok heard) hears course (flow writes now base)
-    on.after on.driven in
+    let next = hears_rest _ new piece used (Ok heard) hears _ _ on.after on.driven in
     let all : length rest ≤ heard.used = omega (arith, next.1.2 done) in
     let driven = subst
     (λ (unused : List ℕ). IsDriven course (flow writes now base) new next.0 unused heard.next)

@@ -128,3 +128,4 @@ pub use Rattle.std.specs.Io.KnownBytes.{Appends}
 pub use Rattle.std.specs.List.{AllByRecursion, Contains, slice_get}
 pub use Rattle.std.specs.Prelude.{IfErr, nat_lt}
 pub use Rattle.std.specs.Str.{bytes_eq}
+pub use Rattle.std.proofs.lemmas.Grind.{common_steps}

@@ -1,19 +1,17 @@
 -- Which part of a message is read next: a head comes first, and nothing after the end.
 use Rattle.h2_engines.proofs.Names.{◌≡◌, ℕ, ◌-◌, Bool, true, false, List, [], ◌∷◌, ◌++◌, length}
-use Rattle.h2_engines.proofs.Names.{Option, Some, None, refl, sym, ap, ◌∙◌, append_assoc, nat_lt}
-use Rattle.h2_engines.proofs.Names.{Field, Reads, Phase, AtHead, first_broken, Part, FieldsPart}
-use Rattle.h2_engines.proofs.Names.{OctetsPart, IsReadable, place_after, final_parts, after_both}
-use Rattle.h2_message.specs.Reading.{ended, message_parts, final_rules, compared_length}
-use Rattle.h2_message.specs.Reading.{AreSoundInterims}
+use Rattle.h2_engines.proofs.Names.{Option, Some, None, refl, sym, ap, ◌∙◌, append_assoc, Field}
+use Rattle.h2_engines.proofs.Names.{Reads, Phase, AtHead, Part, FieldsPart, OctetsPart, IsReadable}
+use Rattle.h2_engines.proofs.Names.{place_after, final_parts, after_both}
+use Rattle.h2_message.specs.Reading.{ended, message_parts, compared_length, AreSoundInterims}
 use Rattle.h2_message.specs.Phases.{phase_after_head, phase_after, phase_after_all, ends_message}
 use Rattle.h2_message.specs.Phases.{place_at_head, place_in, is_short, phase_in_body}
 use Rattle.h2_message.specs.Phases.{phase_after_final, phase_after_data}
 use Rattle.std.proofs.Common.{◌≢◌, map as each}
-use Rattle.std.specs.Prelude.{is_some, if◌then◌else◌, not, ◌||◌}
+use Rattle.std.specs.Prelude.{if◌then◌else◌}
 use Rattle.h2_message.specs.declared.reading.Reads.TheVariants.{Requests}
 use Rattle.h2_message.specs.declared.reading.Phase.TheVariants.{InBody, AtEnd}
 use Rattle.h2_message.proofs.PhaseWhole.{not_readable}
-use Rattle.h2_message.specs.Messages.{trailer_rules}
 use Rattle.h2_message.proofs.PhaseSteps.{after_none}
 use Rattle.h2_message.specs.declared.reading.Place.TheVariants as places
 
@@ -38,25 +36,19 @@ body_begun left true = begun_by (is_short left) (Some AtEnd) refl
 pub final_begun : (reads : Reads) (list : List Field) (end : Bool)
     → is_begun (phase_after_final reads list end) ≡ true
 unfolding phase_after_final
-final_begun reads list end =
-    begun_by (is_some (first_broken (final_rules reads list)))
-    (phase_in_body (compared_length reads list) end) (body_begun (compared_length reads list) end)
+final_begun reads list end = begun_by _ _ (body_begun (compared_length reads list) end)
 
 data_begun : (left : Option ℕ) (count : ℕ) (end : Bool)
     → is_begun (phase_after_data left count end) ≡ true
 unfolding phase_after_data
 data_begun None count end = body_begun None end
-data_begun (Some number) count end =
-    begun_by (nat_lt number count) (phase_in_body (Some (number - count)) end)
-    (body_begun (Some (number - count)) end)
+data_begun (Some number) count end = begun_by _ _ (body_begun (Some (number - count)) end)
 
 part_begun : (reads : Reads) (phase : Phase) (part : Part × Bool) → is_begun (Some phase) ≡ true
     → is_begun (phase_after reads phase part) ≡ true
 unfolding phase_after
 part_begun reads AtHead part begun = cc
-part_begun reads (InBody left) (FieldsPart list, end) begun =
-    begun_by (not end || is_short left || is_some (first_broken (trailer_rules list))) (Some AtEnd)
-    refl
+part_begun reads (InBody left) (FieldsPart list, end) begun = begun_by _ (Some AtEnd) refl
 part_begun reads (InBody left) (OctetsPart octets, end) begun = data_begun left (length octets) end
 part_begun reads AtEnd part begun = refl
 
@@ -71,9 +63,7 @@ stays_begun reads (Some phase) (part ∷ parts) begun =
 pub request_begun : (first : Part × Bool) (parts : List (Part × Bool))
     → is_begun (phase_after_all Requests (Some AtHead) (first ∷ parts)) ≡ true
 unfolding phase_after_all phase_after phase_after_head
-request_begun (FieldsPart list, end) parts =
-    stays_begun Requests (phase_after_final Requests list end) parts
-    (final_begun Requests list end)
+request_begun (FieldsPart list, end) parts = stays_begun Requests _ _ (final_begun Requests _ _)
 request_begun (OctetsPart octets, end) parts = ap is_begun (after_none Requests parts)
 
 -- What is read with one part more has a phase before it, that isn't the last.
@@ -101,13 +91,11 @@ place_by : {reads : Reads} (parts : List (Part × Bool)) (list : List Field) (la
     → place_in reads phase list ≡ places.Trailers
 unfolding place_in
 place_by {reads} parts list last None is begun readable =
-    absurd (one_more parts (FieldsPart list, last) is readable
-    (after_none reads ((FieldsPart list, last) ∷ [])))
+    absurd (one_more _ _ is readable (after_none reads ((FieldsPart list, last) ∷ [])))
 place_by parts list last (Some AtHead) is begun readable = cc
 place_by parts list last (Some (InBody left)) is begun readable = refl
 place_by {reads} parts list last (Some AtEnd) is begun readable =
-    absurd (one_more parts (FieldsPart list, last) is readable
-    (ends_all reads (FieldsPart list, last)))
+    absurd (one_more _ _ is readable (ends_all reads (FieldsPart list, last)))
 
 pub place_later : {reads : Reads} (parts : List (Part × Bool)) (list : List Field) (last : Bool)
     → is_begun (phase_after_all reads (Some AtHead) parts) ≡ true
@@ -123,8 +111,7 @@ octets_at_head octets last = refl
 
 pub no_octets_first : (octets : List ℕ) (last : Bool)
     → IsReadable Requests ((OctetsPart octets, last) ∷ []) → ⊥
-no_octets_first octets last readable =
-    not_readable Requests _ (octets_at_head octets last) readable
+no_octets_first octets last readable = not_readable Requests _ (octets_at_head _ _) readable
 
 -- What is read of a request begins its parts from the head on,
 request_parts : {parts : List (Part × Bool)} (readable : IsReadable Requests parts)

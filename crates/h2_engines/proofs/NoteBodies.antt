@@ -87,8 +87,7 @@ text_length pre body is begins =
 pub kept_length : {head : List Field} {parts : List (Part × Bool)} {request : Request}
     → IsRequest head parts request
     → length request.text.items ≡ request.start + length (body_in parts)
-kept_length {head} {parts} is =
-    text_length (method_of head ++ 32 ∷ path_of head ++ 10 ∷ []) (body_in parts) is.text is.start
+kept_length {head} {parts} is = text_length _ _ is.text is.start
 
 -- Octets that have no room make the body too large, and those that have don't.
 pub no_room : {head : List Field} {parts : List (Part × Bool)} {request : Request}
@@ -116,9 +115,8 @@ pub longer_request : {head : List Field} {parts : List (Part × Bool)} {old new 
 longer_request {head} {parts} {octets} last is longer =
     let pre = method_of head ++ 32 ∷ path_of head ++ 10 ∷ [] in
     record {
-      text = longer.text ∙ ap (λ (text : List ℕ). text ++ octets) is.text ∙ append_assoc pre
-          (body_in parts) octets ∙ ap (λ (body : List ℕ). text_of head body)
-          (sym (body_more parts octets last));
+      text = longer.text ∙ ap (λ (text : List ℕ). text ++ octets) is.text ∙ append_assoc _ _ octets
+          ∙ ap (λ (body : List ℕ). text_of head body) (sym (body_more parts octets last));
       start = longer.start ∙ is.start;
       to_head = longer.to_head ∙ is.to_head;
     }

@@ -118,8 +118,7 @@ given_up_more : {end after : EndLog} {id : ℕ} {part : Part × Bool} → Hands 
 given_up_more hands (inl reset) = inl (hands.resets reset)
 given_up_more {end} {id} {part} hands (inr large) =
     inr (record {
-      too_large = ap is_too_large_body hands.parts ∙ too_large_more (parts_on id end.handed)
-          (part ∷ []) large.too_large;
+      too_large = ap is_too_large_body hands.parts ∙ too_large_more _ _ large.too_large;
       reset = hands.calls _ _ large.reset;
     })
 
@@ -221,12 +220,11 @@ notes_octets old new {end} {after} {id} octets last None next at keeps some goes
     (OctetsPart octets, last) (request_at id old) at hands some goes (keeps id))
 notes_octets old new {end} {after} {id} octets last (Some request) next at keeps some goes hands
     (inl (less, resets, changes)) =
-    let coming = is_coming end id (request_at id old) request at (keeps id) in
+    let coming = is_coming _ _ _ request at (keeps id) in
     let part : Part × Bool = (OctetsPart octets, last) in
     rw resets (
-      changes_others end after keeps changes hands.others (hands.message ∙ coming.unsaid),
-      is_large (coming.parts ++ part ∷ []) coming.head false (came_more coming hands)
-          (no_room octets last coming.request_is less),
+      changes_others _ _ keeps changes hands.others (hands.message ∙ coming.unsaid),
+      is_large _ coming.head false (came_more coming hands) (no_room _ _ coming.request_is less),
     )
 notes_octets old new {end} {id} octets last (Some request) next at keeps some goes hands
     (inr (enough, (longer, is, ended))) =
@@ -247,12 +245,11 @@ notes_trailers old new {end} {after} {id} list None next at keeps some goes hand
     drops_request end keeps hands.others ended.0 ended.1 (still_given_up end after id
     (FieldsPart list, true) (request_at id old) at hands some goes (keeps id))
 notes_trailers old new {end} {id} list (Some request) next at keeps some goes hands ended =
-    let coming = is_coming end id (request_at id old) request at (keeps id) in
+    let coming = is_coming _ _ (request_at id old) request at (keeps id) in
     let few = not_large coming.parts coming.head false coming.came coming.fits in
     ends_request old new end true next keeps hands.others (has_more (FieldsPart list) true coming
     hands (same_request list true coming.request_is) (subst
-    (λ (body : List ℕ). length body ≤ 1048576) (sym (body_same coming.parts list true)) few))
-    ended
+    (λ (body : List ℕ). length body ≤ 1048576) (sym (body_same coming.parts list true)) few)) ended
 
 -- Where nothing of a request was handed out, and nothing is noted.
 notes_nothing : {old new : Requests} (end after : EndLog) (next : Next) → KeepsRequests old end

@@ -13,8 +13,7 @@ nothing_in pre = sym (append-nil pre)
 -- The method, a space, the path and a line end, one after the other.
 text_joined : (method path : List ℕ)
     → ((method ++ 32 ∷ []) ++ path) ++ 10 ∷ [] ≡ method ++ 32 ∷ path ++ 10 ∷ []
-text_joined method path =
-    ap (λ (line : List ℕ). line ++ 10 ∷ []) (append_assoc method (32 ∷ []) path)
+text_joined method path = ap (λ (line : List ℕ). line ++ 10 ∷ []) (append_assoc _ (32 ∷ []) _)
 
 pub is_begun : (head : List Field) (request : Request) {method path : List ℕ}
     → method ≡ method_of head → path ≡ path_of head

@@ -4,7 +4,9 @@ use Rattle.h2_engines.proofs.Names.{Memory, ResetStream, Refused, LinkError, Mes
 use Rattle.h2_engines.proofs.Names.{End, EndRefusal, EndAnswers, error_after, calm, ServerAnswers}
 use Rattle.h2_engines.proofs.Names.{ServerResets, is_refused}
 use Rattle.h2_engines.specs.ServerSteps.{AnsweredSo, ResetSo}
-use Rattle.std.proofs.Common.{◌≢◌}
+use Rattle.std.proofs.Common.{◌≢◌, ◌∙◌, ap, Result, IfOk, IfErr}
+use Rattle.h2_spec_log.specs.Acts.{Done}
+use Rattle.h2_conn.specs.Conn.{answer_by}
 use Rattle.h2_ends.specs.declared.refusal.EndRefusal.TheVariants.{Conn}
 use Rattle.h2_ends.specs.Represents.{EndResponds}
 
@@ -46,3 +48,18 @@ resets_refused old new id refusal other is answers values end represents =
       now,
       subst (λ (one : LinkError). ResetSo (Refused refusal) (Err one)) (sym is) so,
     )
+
+-- So any answer but that resets are used up is taken.
+pub resets_as : (old new : End) (id : ℕ) (answer : Result (Unit {0}) Refusal)
+    (result : Result (Unit {0}) LinkError) → answer ≢ Err TooManyResets
+    → IfOk result (λ value. answer ≡ Ok value)
+    → IfErr result (λ error. (refused : Refusal) × (refusal : EndRefusal)
+    × (answer ≡ Err refused) × (refusal ≡ Conn refused) × (error ≡ error_after refusal))
+    → EndAnswers old (ResetStream id calm) (answer_by (λ done. Done) answer) new
+    → ServerResets old new id result
+unfolding ResetSo
+resets_as old new id answer (Ok done) other ok err answers = λ values end represents.
+    let (may, now) = (rw ok at answers) values end represents in (Done, may, now, refl)
+resets_as old new id answer (Err error) other ok (refused, refusal, same, made, ends) answers =
+    resets_refused old new id refused (λ is. other (same ∙ ap Err is))
+    (ends ∙ ap error_after made) (rw same at answers)

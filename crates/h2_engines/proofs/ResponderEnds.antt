@@ -55,11 +55,9 @@ pub gives_as : (start before now : Traffic) (log after : Log) (unused : List ℕ
     → after.input ≡ log.input → Appends before.given now.given []
     → HasGiven start before log unused → HasGiven start now after unused
 gives_as start before now log after unused same none given =
-    let nothing : (log.input ++ unused) ++ [] ≡ after.input ++ unused =
-    append-nil (log.input ++ unused)
-    ∙ ap (λ (octets : List ℕ). octets ++ unused) (sym same) in
-    subst (Appends start.given now.given) nothing
-    (Appends-trans start.given before.given now.given _ [] given none)
+    let nothing : (log.input ++ unused) ++ [] ≡ after.input ++ unused = append-nil
+    (log.input ++ unused) ∙ ap (λ (octets : List ℕ). octets ++ unused) (sym same) in
+    subst (Appends start.given now.given) nothing (Appends-trans _ _ now.given _ [] given none)
 
 -- It has taken all that was given out since.
 pub linked_by : {start before : Traffic} (now : Traffic) {log : Log} (after : Log)
@@ -70,8 +68,7 @@ pub linked_by : {start before : Traffic} (now : Traffic) {log : Log} (after : Lo
 linked_by {start} {before} now {log} after octets {unused} same more none took linked =
     record {
       given = gives_as start before now log after unused same none linked.given;
-      taken = rw more
-          (Appends-trans start.taken before.taken now.taken _ octets linked.taken took);
+      taken = rw more (Appends-trans _ _ now.taken _ octets linked.taken took);
     }
 
 -- Or the first octets of it.
@@ -81,16 +78,14 @@ pub takes_first : (start before now : Traffic) (log after : Log) (octets : List 
     → Appends start.taken before.taken (given_out log) → HasTakenFirst start now after
 takes_first start before now log after octets count more took taken =
     let rest = drop after.given after.written in
-    let both : octets ≡ take count octets ++ drop count octets =
-    sym (take-append-drop count octets) in
-    let all : after.written ≡ (given_out log ++ octets) ++ rest =
-    sym (take-append-drop after.given after.written)
-    ∙ ap (λ (first : List ℕ). first ++ rest) more in
+    let both : octets ≡ take count octets ++ drop count octets = sym (take-append-drop _ _) in
+    let all : after.written ≡ (given_out log ++ octets) ++ rest = sym
+    (take-append-drop after.given after.written) ∙ ap (λ (first : List ℕ). first ++ rest) more in
     record {
       first = given_out log ++ take count octets;
       rest = drop count octets ++ rest;
-      output = all ∙ ap (λ (one : List ℕ). (given_out log ++ one) ++ rest) both
-          ∙ ap (λ (one : List ℕ). one ++ rest)
+      output = all ∙ ap (λ (one : List ℕ). (given_out log ++ one) ++ rest) both ∙ ap
+          (λ (one : List ℕ). one ++ rest)
           (sym (append_assoc (given_out log) (take count octets) (drop count octets)))
           ∙ append_assoc (given_out log ++ take count octets) (drop count octets) rest;
       taken = Appends-trans start.taken before.taken now.taken _ _ taken took;
@@ -112,5 +107,4 @@ pub refused_first : (start now : Traffic) (log : Log) (act : Act) (refusal : Ref
     → Appends start.taken now.taken (given_out log)
     → HasTakenFirst start now (with_call log act (Refused refusal))
 unfolding with_call
-refused_first start now log act refusal taken =
-    given_first start now (with_call log act (Refused refusal)) taken
+refused_first start now log act refusal taken = given_first _ _ _ taken

@@ -44,6 +44,13 @@ unfolding WritesAll
 written_known before after failures failures_now errors.Memory octets so is = absurd so
 written_known before after failures failures_now error octets so is = cc
 
+-- A call of an end is none of a link, so the link has not failed by it.
+pub call_failures : (A : Type 0) {first : ℕ} (now : ℕ) (error : LinkError) → IsOfCall error
+    → now ≡ first → now ≡ failures_at_end {A = A} first (Err error)
+call_failures A now errors.Memory is same = same
+call_failures A now errors.NoProgress is same = same
+call_failures A now other is same = absurd is
+
 -- A call of an end may end a server.
 pub call_ends_server : (error : LinkError) → IsOfCall error → IsOfServer error
 call_ends_server errors.Memory is = tt

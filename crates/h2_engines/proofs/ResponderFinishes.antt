@@ -7,7 +7,7 @@ use Rattle.h2_engines.specs.ServerSteps.{FinishedSo}
 use Rattle.std.proofs.Common.{◌≢◌, if◌then◌else◌, ◌==◌, ◌||◌, is_some, zero, suc}
 use Rattle.h2_spec_log.specs.Log.{next_active, reader_next_live, reader_held}
 use Rattle.h2_laws_log.proofs.NextStreams.{next_passes, next_found}
-use Rattle.h2_ends.proofs.PumpSteps.{none_by, zero_inactive, some_by}
+use Rattle.h2_ends.proofs.PumpSteps.{zero_inactive}
 use Rattle.h2_link.specs.declared.error.LinkError.TheVariants as errors
 
 -- How many octets are held while the connection is up.
@@ -27,13 +27,21 @@ none_held (octet ∷ octets) few = absurd (omega arith)
 test_by : (next : ℕ) → next == 0 ≡ false → next ≢ 0
 test_by next some none = both_ways (next == 0) some (rw none refl)
 
+-- What the reader of the next stream answers, by its test.
+some_by : (b : Bool) (next id : ℕ) → (if b then None else Some next) ≡ Some id
+    → (b ≡ false) × (next ≡ id)
+some_by true next id is = cc
+some_by false next id is = (refl, cc)
+
+none_by : (b : Bool) (next : ℕ) → (if b then None else Some next) ≡ None → b ≡ true
+none_by true next is = refl
+none_by false next is = cc
+
 is_next : (log : Log) (last id : ℕ) → reader_next_live log last ≡ Some id → active log id ≡ true
 is_next log last id is =
-    let both = some_by (is_some log.failed || next_active log last == 0) (next_active log last) id
-    is in
+    let both = some_by (is_some log.failed || next_active log last == 0) _ _ is in
     let some = (or_parts (is_some log.failed) (next_active log last == 0) both.0).1 in
-    ap (λ (i : ℕ). active log i) (sym both.1)
-    ∙ (and_parts _ _ (next_passes log last (test_by (next_active log last) some))).0
+    ap (λ (i : ℕ). active log i) (sym both.1) ∙ (and_parts _ _ (next_passes _ _ (test_by _ some))).0
 
 some_next : (next : Option ℕ) → is_some next ≡ true → (id : ℕ) × (next ≡ Some id)
 some_next None some = cc

@@ -2,8 +2,8 @@
 use Rattle.h2_engines.proofs.Names.{◌≡◌, ℕ, Bool, true, false, List, length, Option, Some, None, Ok}
 use Rattle.h2_engines.proofs.Names.{Err, refl, inl, inr, ResetEvent, ConnFault, End, LentPart}
 use Rattle.h2_engines.proofs.Names.{EndTaken, Handed, HeadHanded, BodyHanded, TrailersHanded}
-use Rattle.h2_engines.proofs.Names.{Passed, event_handed, EndTakes, Next, Request, request_at}
-use Rattle.h2_engines.proofs.Names.{ServerHears, error_with}
+use Rattle.h2_engines.proofs.Names.{Passed, event_handed, EndTakes, Next, Request, ServerHears}
+use Rattle.h2_engines.proofs.Names.{error_with}
 use Rattle.h2_engines.specs.PartialMessages.{NotesHanded, NotesTaken, AddsOctets, EndsKept}
 use Rattle.h2_engines.specs.PartialMessages.{EndsRequest}
 use Rattle.h2_engines.specs.ServerSteps.{HeardSo, ErrsServing}
@@ -24,8 +24,7 @@ adds_on : (old new : Requests) (id : ℕ) (octets : List ℕ) (end : Bool) (requ
 unfolding AddsOctets
 adds_on old new id octets end None next so is = let same = so.0 in cc
 adds_on old new id octets end (Some request) next (inl so) is = let same = so.1 in cc
-adds_on old new id octets end (Some request) next (inr so) is =
-    ends_on old new id end so.1.0 next so.1.2 is
+adds_on old new id octets end (Some request) next (inr so) is = ends_on _ _ _ _ so.1.0 _ so.1.2 is
 
 kept_on : (old new : Requests) (id : ℕ) (request : Option Request) (next : Next)
     → EndsKept old new id request next → next ≢ nexts.Done
@@ -37,10 +36,8 @@ notes_on : (old new : Requests) (handed : Handed) (next : Next)
     → NotesHanded old new handed next → next ≢ nexts.Done
 unfolding NotesHanded
 notes_on old new (HeadHanded id list end) next so is = ends_on old new id end so.0 next so.2 is
-notes_on old new (BodyHanded id octets end) next so is =
-    adds_on old new id octets end (request_at id old) next so is
-notes_on old new (TrailersHanded id list) next so is =
-    kept_on old new id (request_at id old) next so is
+notes_on old new (BodyHanded id octets end) next so is = adds_on _ _ _ _ _ _ next so is
+notes_on old new (TrailersHanded id list) next so is = kept_on _ _ _ _ next so is
 notes_on old new (Passed (ResetEvent id code ours)) next so is = let same = so.0 in cc
 notes_on old new handed next so is = let same = so.0 in cc
 

@@ -9,8 +9,7 @@ use Rattle.h2_laws_pair.proofs.StepCalls.{call_failed}
 -- The connection is as up as before, whether credit is returned first or not.
 pub put_out_failed : (log : Log) (count given : ℕ)
     → (with_call log (PutOut count) (Count given)).failed ≡ log.failed
-put_out_failed log count given =
-    call_failed log (PutOut count) (Count given) (λ id code is. cc) (λ is. cc)
+put_out_failed log count given = call_failed _ _ (Count given) (λ id code is. cc) (λ is. cc)
 
 -- the octets that a call puts out of the output
 abbrev pub put_out_octets : Log → (count given : ℕ) → List ℕ
@@ -23,5 +22,4 @@ pub given_more : (log : Log) (count given : ℕ) → log.given ≤ length log.wr
     ≡ given_out log ++ put_out_octets log count given
 unfolding with_call
 given_more log count given within =
-    gives_more log (with_call log (PutOut count) (Count given)) within
-    (gives_call log (PutOut count) (Count given))
+    gives_more _ _ within (gives_call log (PutOut count) (Count given))

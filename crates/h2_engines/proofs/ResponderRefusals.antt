@@ -1,18 +1,15 @@
 -- What a call of an end that is refused makes of a connection over a link.
 use Rattle.h2_engines.proofs.Names.{◌≡◌, ℕ, Bool, true, false, length, Some, None, Err, refl, ap}
-use Rattle.h2_engines.proofs.Names.{subst, inl, inr, arith, SendFields, is_no_stream, is_full}
-use Rattle.h2_engines.proofs.Names.{full_output, Log, log_view, SentMessage, is_head_alone}
-use Rattle.h2_engines.proofs.Names.{LinkError, End, EndRefusal, EndLog, error_after, Traffic}
-use Rattle.h2_engines.proofs.Names.{IsWrittenOut, ReleasesSome}
-use Rattle.h2_spec_log.specs.CallRules.{conditions, first_of, has_failed, is_too_large}
+use Rattle.h2_engines.proofs.Names.{subst, inl, inr, arith, SendFields, full_output, Log}
+use Rattle.h2_engines.proofs.Names.{SentMessage, is_head_alone, LinkError, End, EndRefusal, EndLog}
+use Rattle.h2_engines.proofs.Names.{error_after, Traffic, IsWrittenOut, ReleasesSome}
+use Rattle.h2_spec_log.specs.CallRules.{conditions, first_of}
 use Rattle.h2_spec_log.specs.Log.{output, waiting}
 use Rattle.h2_ends.specs.EndCalls.{MayRespond, RefusesMessage, refusal_of_message}
 use Rattle.h2_engines.specs.ServerSteps.{EndsAfter, EndsRelease}
 use Rattle.std.proofs.Common.{◌≢◌, if◌then◌else◌}
 use Rattle.std.proofs.lemmas.List.{length-take}
 use Rattle.std.specs.Prelude.{nat_le}
-use Rattle.h2_spec_log.specs.View.{ended_out}
-use Rattle.h2_message.specs.Messages.{trailer_fields}
 use Rattle.h2_ends.specs.Represents.{EndReleases}
 use Rattle.h2_spec_log.specs.declared.refusal.Refusal.TheVariants as reasons
 use Rattle.h2_ends.specs.declared.refusal.EndRefusal.TheVariants as refusals
@@ -56,10 +53,7 @@ not_full : (log : Log) (id : ℕ) (message : SentMessage) → waiting log ≡ 0
     → refusal_of_message log (SendFields id message.head (is_head_alone message)) message
     ≢ Some reasons.OutputFull
 unfolding conditions first_of
-not_full log id message none is =
-    fourth_of_six (has_failed (log_view log)) (is_no_stream (log_view log) id)
-    (ended_out ((log_view log).stream id)) (is_full (log_view log)) (is_too_large message.head)
-    (is_too_large (trailer_fields message.trailers)) (ap (nat_le full_output) none) is
+not_full log id message none is = fourth_of_six _ _ _ _ _ _ (ap (nat_le full_output) none) is
 
 refused_otherwise : (log : Log) (id : ℕ) (message : SentMessage) → waiting log ≡ 0
     → RefusesMessage log (SendFields id message.head (is_head_alone message)) message

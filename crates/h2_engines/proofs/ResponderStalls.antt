@@ -46,9 +46,8 @@ stalls_no_more now end count refusal may is =
     rw (put_out_ends may is) (record {
       count = count;
       before = end.log.calls;
-      last = call_calls end.log (PutOut count) (Refused refusal)
-          ∙ ap (λ (one : Refusal). (PutOut count, Refused one) ∷ end.log.calls)
-          (put_out_lacks may);
+      last = call_calls _ _ (Refused refusal) ∙ ap
+          (λ (one : Refusal). (PutOut count, Refused one) ∷ end.log.calls) (put_out_lacks may);
     })
 
 -- A pump is refused only so where the connection is up.

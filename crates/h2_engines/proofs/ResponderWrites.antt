@@ -1,13 +1,14 @@
 -- What has happened at an end and over a link since its output began to be written.
-use Rattle.h2_engines.proofs.Names.{◌≡◌, ◌≤◌, ◌<◌, ℕ, ◌+◌, ◌-◌, ◌^◌, List, [], length, take, Ok}
+use Rattle.h2_engines.proofs.Names.{◌≡◌, ◌≤◌, ◌<◌, ℕ, ◌+◌, ◌-◌, ◌^◌, false, List, [], ◌++◌, length, take}
+use Rattle.h2_engines.proofs.Names.{drop, ap, sym, refl, ◌∙◌, append-nil, Ok, log_view, given_out, Log}
 use Rattle.h2_engines.proofs.Names.{Err, subst, inr, arith, Appends, Refusal, Values, Answer}
-use Rattle.h2_engines.proofs.Names.{PutOut, Count, Refused, MayAnswer, Keeps-call, GivesOut}
+use Rattle.h2_engines.proofs.Names.{PutOut, Count, Refused, MayAnswer, Keeps-call}
 use Rattle.h2_engines.proofs.Names.{LinkError, StallsAtNoProgress, End, EndLog, end_with_log}
 use Rattle.h2_engines.proofs.Names.{EndRepresents, EndAnswers, with_call, error_after, Traffic}
 use Rattle.h2_engines.proofs.Names.{IsLinked, WritesOut, HasSentAll, IsSameOfMessages}
 use Rattle.h2_engines.proofs.Names.{refused_failed}
 use Rattle.h2_spec_log.specs.Acts.{IsTypedAct}
-use Rattle.std.proofs.Common.{◌≢◌}
+use Rattle.std.proofs.Common.{◌≢◌, Result, IsOk}
 use Rattle.h2_ends.specs.declared.refusal.EndRefusal.TheVariants.{Conn}
 use Rattle.h2_engines.proofs.ResponderOutput.{put_out_failed, put_out_octets, given_more}
 use Rattle.h2_engines.proofs.ResponderEnds.{same_itself, same_twice, same_by_call, given_within}
@@ -16,7 +17,11 @@ use Rattle.h2_engines.proofs.ResponderEnds.{refused_first}
 use Rattle.h2_engines.proofs.SentAll.{put_sent}
 use Rattle.h2_engines.proofs.ResponderStalls.{stalls_by_link, stalls_no_more}
 use Rattle.h2_engines.proofs.TurnsPassed.{turns_of_call}
-use Rattle.h2_engines.proofs.WithoutLinkOutput.{none_put}
+use Rattle.h2_engines.proofs.WithoutLinkOutput.{all_given, consumes_all, no_credit_due}
+use Rattle.h2_spec_log.specs.CallRules.{returns_before_put_out}
+use Rattle.h2_spec_log.specs.Log.{waiting, output}
+use Rattle.h2_conn.specs.Conn.{ConnRepresents, answer_by}
+use Rattle.std.proofs.lemmas.List.{drop-take}
 use Rattle.h2_link.specs.declared.error.LinkError.TheVariants as errors
 
 -- Where this may have happened at an end, it may also have put output out.
@@ -46,6 +51,56 @@ put_on : {values : Values} {old : End} {before : EndLog} (end : EndLog) (count :
 put_on end count answer represents may so was =
     put_sent end count answer represents.streams.conn.machine.came may (so was)
 
+-- The octets are those that an end puts out next, whatever has happened at it.
+abbrev pub GivesNext : End → (count given : ℕ) → (octets : List ℕ) → Type 0
+GivesNext end count given octets =
+    (values : Values) (happened : EndLog) → EndRepresents values end happened
+    → octets ≡ put_out_octets happened.log count given
+
+-- as many octets as can be asked for; all that wait are fewer
+abbrev pub most : ℕ
+most = 18446744073709551615
+
+most_typed : most < 2 ^ 64
+most_typed = omega arith
+
+most_waits : {waits all : ℕ} → waits ≡ all → waits ≤ 262161 → all ≤ most
+most_waits same few = omega (arith, same, few)
+
+-- The end lends these octets, which are all that wait, so many, and nothing is returned before they
+-- are consumed.
+pub record LendsAll (ready : End) (octets : List ℕ) (waits : ℕ) : Type 0 where
+  pub few : (values : Values) (log : Log) → ConnRepresents values ready.conn log → waits ≤ 262161
+  pub all : (values : Values) (log : Log) → ConnRepresents values ready.conn log
+      → waits ≡ waiting log
+  pub lent : (values : Values) (log : Log) → ConnRepresents values ready.conn log
+      → octets ≡ drop log.given log.written
+  pub returned : (values : Values) (log : Log) → ConnRepresents values ready.conn log
+      → returns_before_put_out (log_view log) ≡ false
+
+-- They are those that are put out next, where all of these are consumed.
+lent_next : {ready new : End} {octets : List ℕ} {waits : ℕ} (given : ℕ)
+    → LendsAll ready octets waits → EndAnswers ready (PutOut most) (Count given) new
+    → GivesNext ready most given octets
+lent_next given lends answers = λ values happened is.
+    let conn = is.streams.conn in
+    let few = lends.few values happened.log conn in
+    let all = lends.all values happened.log conn in
+    consumes_all _ (given_within is) (lends.lent values happened.log conn) (most_waits all few)
+    (lends.returned values happened.log conn) (answers values happened is).0
+
+-- Memory is not refused for it then.
+is_consumed : {ready : End} {octets : List ℕ} {waits : ℕ} (values : Values) (happened : EndLog)
+    (result : Result ℕ Refusal) → LendsAll ready octets waits
+    → ((values : Values) (log : Log) → ConnRepresents values ready.conn log
+    → returns_before_put_out (log_view log) ≡ false → IsOk result)
+    → EndRepresents values ready happened → (given : ℕ) × (result ≡ Ok given)
+is_consumed values happened (Ok given) lends free is = (given, refl)
+is_consumed values happened (Err refusal) lends free is =
+    let conn = is.streams.conn in
+    let wrong = free values happened.log conn (lends.returned values happened.log conn) in
+    absurd (cc)
+
 -- Nothing was written yet.
 pub writes_nothing : (P : EndLog → Type 0) {values : Values} {start now : Traffic} {end : EndLog}
     {server : End} {unused : List ℕ} → EndRepresents values server end → P end
@@ -61,14 +116,42 @@ writes_nothing P {end} represents happened linked =
       sent = λ was. was;
     }
 
+-- Output is made ready in a round, by which nothing is put out.
+pub writes_ready : (P : EndLog → Type 0) → MayPutOut P
+    → {values : Values} {start now : Traffic} {before : EndLog} {old : End} (new : End)
+    {unused : List ℕ} {rounds : ℕ} → EndAnswers old (PutOut 0) (Count 0) new
+    → WritesOn P values start now before old unused rounds
+    → WritesOn P values start now before new unused (rounds + 1)
+unfolding IsTypedAct
+writes_ready P may {values} {now = now} new answers so =
+    let end = so.after in
+    let after = with_call end.log (PutOut 0) (Count 0) in
+    let put = answers values end so.represents in
+    let none : given_out after ≡ given_out end.log =
+    given_more end.log 0 0 (given_within so.represents)
+    ∙ ap (λ (more : List ℕ). given_out end.log ++ more) (drop-take end.log.given 0 after.written)
+    ∙ append-nil (given_out end.log) in
+    record {
+      after = end_with_log end after;
+      happened = may end 0 (Count 0) so.happened (omega arith) put.0;
+      represents = put.1;
+      same = same_twice so.same (same_by_call end _ _ (put_out_failed end.log 0 0));
+      linked = record {
+        given = rw ((Keeps-call end.log _ _).input) so.linked.given;
+        taken = rw none so.linked.taken;
+      };
+      turns = omega (arith, so.turns, turns_of_call end.log (PutOut 0) (Count 0));
+      sent = put_on end 0 (Count 0) so.represents put.0 so.sent;
+    }
+
 -- The next octets are put out, and the link takes all of them.
-pub writes_more : (P : EndLog → Type 0) → MayPutOut P
+writes_more : (P : EndLog → Type 0) → MayPutOut P
     → {values : Values} {start middle : Traffic} (now : Traffic) {before : EndLog} {old : End}
     (new : End) {unused : List ℕ} {rounds : ℕ} (count given : ℕ) {octets : List ℕ} → count < 2 ^ 64
-    → EndAnswers old (PutOut count) (Count given) new → GivesOut old.conn count given [] octets
+    → EndAnswers old (PutOut count) (Count given) new → GivesNext old count given octets
     → Appends middle.given now.given [] → Appends middle.taken now.taken octets
     → WritesOn P values start middle before old unused rounds
-    → WritesOn P values start now before new unused (rounds + 1)
+    → WritesOn P values start now before new unused rounds
 unfolding IsTypedAct
 writes_more P may {values} {middle} now new count given {octets} typed answers gives none took so =
     let end = so.after in
@@ -76,7 +159,7 @@ writes_more P may {values} {middle} now new count given {octets} typed answers g
     let put = answers values end so.represents in
     let within = given_within so.represents in
     let same : octets ≡ put_out_octets end.log count given =
-    gives values end.log so.represents.streams.conn in
+    gives values end so.represents in
     record {
       after = end_with_log end after;
       happened = may end count (Count given) so.happened typed put.0;
@@ -90,11 +173,11 @@ writes_more P may {values} {middle} now new count given {octets} typed answers g
     }
 
 -- Or only some of them.
-pub writes_first : (P : EndLog → Type 0) → MayPutOut P
+writes_first : (P : EndLog → Type 0) → MayPutOut P
     → {values : Values} {start middle : Traffic} (now : Traffic) {before : EndLog} {old : End}
     (new : End) {unused : List ℕ} {rounds : ℕ} (count given : ℕ) (octets : List ℕ) (some : ℕ)
     (error : LinkError) → count < 2 ^ 64 → EndAnswers old (PutOut count) (Count given) new
-    → GivesOut old.conn count given [] octets → Appends middle.given now.given []
+    → GivesNext old count given octets → Appends middle.given now.given []
     → Appends middle.taken now.taken (take some octets) → error ≢ errors.Memory
     → StallsAtNoProgress {A = Unit {0}} (Err error) now.stalled
     → WritesOn P values start middle before old unused rounds
@@ -107,7 +190,7 @@ writes_first P may {values} {start} {middle} now new {unused} count given octets
     let put = answers values end so.represents in
     let within = given_within so.represents in
     let same : octets ≡ put_out_octets end.log count given =
-    gives values end.log so.represents.streams.conn in
+    gives values end so.represents in
     record {
       after = end_with_log end after;
       happened = may end count (Count given) so.happened typed put.0;
@@ -124,34 +207,69 @@ writes_first P may {values} {start} {middle} now new {unused} count given octets
       sent = put_on end count (Count given) so.represents put.0 so.sent;
     }
 
--- Where no octets are put out, all of the output was written.
-pub writes_all : (P : EndLog → Type 0) → MayPutOut P
-    → {values : Values} {start now : Traffic} {before : EndLog} {old : End} (new : End)
-    {unused : List ℕ} {rounds : ℕ} (count : ℕ) (done : Unit {0}) → count < 2 ^ 64 → 0 < count
-    → EndAnswers old (PutOut count) (Count 0) new
-    → WritesOn P values start now before old unused rounds
-    → WritesOut P values start now before new unused (Ok done)
-unfolding IsTypedAct
-writes_all P may {values} {start} {now} new {unused} count done typed some answers so =
-    let end = so.after in
-    let after = with_call end.log (PutOut count) (Count 0) in
-    let put = answers values end so.represents in
-    let within = given_within so.represents in
-    let none = none_put some within put.0 in
+-- So what is lent once output was made ready is written, and consumed;
+pub writes_lent : (P : EndLog → Type 0) → MayPutOut P
+    → {values : Values} {start middle : Traffic} (now : Traffic) {before : EndLog}
+    {old : End} (ready new : End) {unused : List ℕ} {rounds : ℕ} {octets : List ℕ} {waits : ℕ}
+    (given : ℕ) → EndAnswers old (PutOut 0) (Count 0) ready → LendsAll ready octets waits
+    → EndAnswers ready (PutOut most) (Count given) new
+    → Appends middle.given now.given [] → Appends middle.taken now.taken octets
+    → WritesOn P values start middle before old unused rounds
+    → WritesOn P values start now before new unused (rounds + 1)
+writes_lent P may now ready new given made lends answers none took so =
+    writes_more P may now new most given most_typed answers (lent_next given lends answers) none
+    took (writes_ready P may ready made so)
+
+-- or only the first of it is written.
+pub writes_lent_first : (P : EndLog → Type 0) → MayPutOut P
+    → {values : Values} {start middle : Traffic} (now : Traffic) {before : EndLog}
+    {old : End} (ready new : End) {unused : List ℕ} {rounds : ℕ} {octets : List ℕ} {waits : ℕ}
+    (result : Result ℕ Refusal) (some : ℕ) (error : LinkError)
+    → EndAnswers old (PutOut 0) (Count 0) ready → LendsAll ready octets waits
+    → EndAnswers ready (PutOut most) (answer_by (λ given. Count given) result) new
+    → ((values : Values) (log : Log) → ConnRepresents values ready.conn log
+    → returns_before_put_out (log_view log) ≡ false → IsOk result)
+    → Appends middle.given now.given [] → Appends middle.taken now.taken (take some octets)
+    → error ≢ errors.Memory → StallsAtNoProgress {A = Unit {0}} (Err error) now.stalled
+    → WritesOn P values start middle before old unused rounds
+    → WritesOut P values start now before new unused (Err error)
+writes_lent_first P may {values} now ready new {octets = octets} result some error made lends answers
+    free none took known stalled so =
+    let there = writes_ready P may ready made so in
+    let (given, is) = is_consumed values there.after result lends free there.represents in
+    let consumed = rw is at answers in
+    writes_first P may now new most given octets some error most_typed consumed
+    (lent_next given lends consumed) none took known stalled there
+
+-- Where none waits then, all of the output was written.
+pub writes_all : (P : EndLog → Type 0) {values : Values} {start now : Traffic} {before : EndLog}
+    {ready : End} {unused : List ℕ} (rounds : ℕ) (done : Unit {0})
+    → ((values : Values) (log : Log) → ConnRepresents values ready.conn log → 0 ≡ waiting log)
+    → ((values : Values) (log : Log) → ConnRepresents values ready.conn log
+    → returns_before_put_out (log_view log) ≡ false)
+    → WritesOn P values start now before ready unused (rounds + 1)
+    → WritesOut P values start now before ready unused (Ok done)
+unfolding waiting output
+writes_all P {values} {start} {now} rounds done none kept so =
+    let log = so.after.log in
+    let conn = so.represents.streams.conn in
+    let some = none values log conn in
+    let all : given_out log ≡ log.written =
+    all_given log refl (omega (arith, some, given_within so.represents)) in
     record {
-      after = end_with_log end after;
-      happened = may end count (Count 0) so.happened typed put.0;
-      represents = put.1;
-      same = same_twice so.same (same_by_call end _ _ (put_out_failed end.log count 0));
-      given = rw ((Keeps-call end.log _ _).input) so.linked.given;
+      after = so.after;
+      happened = so.happened;
+      represents = so.represents;
+      same = so.same;
+      given = so.linked.given;
       taken = record {
-        all = none.all;
-        taken = rw none.same so.linked.taken;
-        returned = none.returned;
+        all = all;
+        taken = rw (← all) so.linked.taken;
+        returned = λ up. no_credit_due log up (sym some) (kept values log conn);
       };
-      turns = omega (arith, so.turns, turns_of_call end.log (PutOut count) (Count 0));
+      turns = omega (arith, so.turns);
       stalls = tt;
-      sent = put_on end count (Count 0) so.represents put.0 so.sent;
+      sent = so.sent;
     }
 
 -- Where that is refused, what was given out was written.

@@ -71,8 +71,7 @@ same_on before after id accepted handed calls =
 
 same_of_messages : {before after : EndLog} (id : ℕ) → IsSameOfMessages before after
     → SameOn before after id
-same_of_messages {before} {after} id same =
-    same_on before after id same.accepted same.handed same.calls
+same_of_messages {before} {after} id same = same_on _ _ id same.accepted same.handed same.calls
 
 pub kept_same : (requests : Requests) {before after : EndLog} → IsSameOfMessages before after
     → KeepsRequests requests before → KeepsRequests requests after

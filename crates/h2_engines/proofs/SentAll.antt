@@ -3,12 +3,11 @@
 use Rattle.h2_engines.proofs.Names.{◌≡◌, ◌≤◌, ◌<◌, ℕ, false, List, [], ◌∷◌, Option, None, Ok, sym}
 use Rattle.h2_engines.proofs.Names.{ap, subst, inl, both_ways, drop, inr, refl, arith, length}
 use Rattle.h2_engines.proofs.Names.{full_output, Refusal, Values, Answer, PutOut, MayAnswer, Log}
-use Rattle.h2_engines.proofs.Names.{Result, EndRefusal, EndLog, end_with_log, log_view, Pumps}
-use Rattle.h2_engines.proofs.Names.{pumps_no_more, pumps_data, pumps_trailers, data_refused}
-use Rattle.h2_engines.proofs.Names.{trailers_refused, Releases, releases_one, releases_refused}
-use Rattle.h2_engines.proofs.Names.{and_parts, cases_Bool, Role, IsLog, called_one, active, owed}
-use Rattle.h2_engines.proofs.Names.{with_call, Token, OctetToken, EndToken, HasSentAll, HasSent}
-use Rattle.h2_engines.proofs.Names.{sends}
+use Rattle.h2_engines.proofs.Names.{Result, EndRefusal, EndLog, end_with_log, Pumps, pumps_no_more}
+use Rattle.h2_engines.proofs.Names.{pumps_data, pumps_trailers, data_refused, trailers_refused}
+use Rattle.h2_engines.proofs.Names.{Releases, releases_one, releases_refused, and_parts, cases_Bool}
+use Rattle.h2_engines.proofs.Names.{Role, IsLog, called_one, active, owed, with_call, Token}
+use Rattle.h2_engines.proofs.Names.{OctetToken, EndToken, HasSentAll, HasSent, sends}
 use Rattle.h2_spec_log.specs.Log.{output, waiting}
 use Rattle.h2_laws_pair.specs.Tokens.{tokens_of_call, FieldsToken}
 use Rattle.h2_ends.specs.EndCalls.{MayPump, MayReleaseAll, releases_no_more, IsStuckOn}
@@ -21,7 +20,7 @@ use Rattle.h2_laws_end.proofs.OverLists.{IsInactive, inactive_sent}
 use Rattle.h2_laws_end.proofs.OverRoom.{no_room_by_call}
 use Rattle.h2_laws_end.proofs.OverSteps.{call_keeps}
 use Rattle.h2_laws_pair.specs.Quiet.{NoneCouldGo}
-use Rattle.h2_ends.specs.Ends.{tokens_said, tokens_waiting}
+use Rattle.h2_ends.specs.Ends.{tokens_said}
 use Rattle.h2_ends.proofs.EndTokens.{call_adds_none}
 use Rattle.h2_engines.specs.WithoutLink.{has_failed}
 use Rattle.h2_engines.proofs.ServeLinkLogs.{StaysOn, pumped_stays}
@@ -30,11 +29,10 @@ use Rattle.h2_engines.proofs.ServeLinkLogs.{StaysOn, pumped_stays}
 put_goes : (log : Log) (count : ℕ) (answer : Answer) (i : ℕ) (tokens : List Token)
     → NoneCouldGo log i tokens → NoneCouldGo (with_call log (PutOut count) answer) i tokens
 put_goes log count answer i [] never = tt
-put_goes log count answer i (OctetToken octet ∷ tokens) never = λ could.
-    elim (cases_Bool (has_room log i)) [
+put_goes log count answer i (OctetToken octet ∷ tokens) never =
+    λ could. elim (cases_Bool (has_room log i)) [
       | inl room ↦ never (and_parts _ _ room)
-      | inr none ↦ both_ways _ (no_room_by_call log (PutOut count) answer i none)
-          (and_from _ _ could.0 could.1)
+      | inr none ↦ both_ways _ (no_room_by_call _ _ _ i none) (and_from _ _ could.0 could.1)
     ]
 put_goes log count answer i (FieldsToken list end ∷ tokens) never = never
 put_goes log count answer i (EndToken ∷ tokens) never = never
@@ -43,20 +41,18 @@ put_goes log count answer i (EndToken ∷ tokens) never = never
 put_closed : (log : Log) (count : ℕ) (answer : Answer) (i : ℕ) → active log i ≡ false
     → active (with_call log (PutOut count) answer) i ≡ false
 put_closed log count answer i over =
-    call_keeps i (IsInactive i) (inactive_sent i) log (PutOut count) answer
-    (items_no_block i (log_view log) (PutOut count) answer
+    call_keeps i (IsInactive i) (inactive_sent i) log (PutOut count) answer (items_no_block _ _ _ _
     (λ fields ends id wrong answers. cc) (λ id fields ends wrong answers. cc)) over
 
 put_stuck : (end : EndLog) (count : ℕ) (answer : Answer) (i : ℕ) → IsStuckOn end i
     → IsStuckOn (end_with_log end (with_call end.log (PutOut count) answer)) i
 unfolding tokens_of_call
-put_stuck end count answer i stuck = λ alive.
-    elim (cases_Bool (active end.log i)) [
+put_stuck end count answer i stuck =
+    λ alive. elim (cases_Bool (active end.log i)) [
       | inl was ↦ subst (λ (tokens : List Token). NoneCouldGo
           (with_call end.log (PutOut count) answer) i (drop (length tokens) (tokens_said end i)))
-          (sym (call_adds_none i end.log (PutOut count) answer refl))
-          (put_goes end.log count answer i (tokens_waiting end i) (stuck was))
-      | inr over ↦ absurd (both_ways _ (put_closed end.log count answer i over) alive)
+          (sym (call_adds_none _ _ _ _ refl)) (put_goes _ _ _ _ _ (stuck was))
+      | inr over ↦ absurd (both_ways _ (put_closed _ _ _ _ over) alive)
     ]
 
 module _ {role : Role} {values : Values} where

@@ -68,8 +68,7 @@ called_first {log} id code answer is =
         unused = is.uses.unused;
         split = is.uses.split;
         input = (Keeps-call log (Refuse id code) answer).input ∙ is.uses.input;
-        writes = writes_twice is.uses.writes
-            (call_writes log (Refuse id code) answer (λ count wrong. cc));
+        writes = writes_twice is.uses.writes (call_writes _ _ answer (λ count wrong. cc));
       };
       counts = is.counts;
     }
@@ -86,8 +85,7 @@ pub takes_first : {before : EndLog} {piece : List ℕ} {answer : EndAnswer} {aft
     → EndMayTake before piece answer after → TakesFirst before.log after.log piece answer
 takes_first {before} {piece} {answer} may =
     let is = taken_says may in
-    says_first before answer is.says
-    (holds_called (λ (log : Log). Uses before.log log piece is.took) is
+    says_first _ _ is.says (holds_called (λ (log : Log). Uses before.log log piece is.took) is
     (took_first before.log is.log piece is.took is.takes)
     (λ log id code said uses. called_first id code said uses))
 

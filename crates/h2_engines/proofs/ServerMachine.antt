@@ -2,18 +2,16 @@
 use Rattle.h2_engines.proofs.Names.{◌≡◌, ◌≤◌, ◌<◌, ℕ, ◌+◌, ◌-◌, ◌^◌, Bool, true, false, List, ◌∷◌}
 use Rattle.h2_engines.proofs.Names.{length, Some, None, Result, Ok, Err, refl, sym, ap, ◌∙◌, subst}
 use Rattle.h2_engines.proofs.Names.{inl, arith, IfErr, Refusal, Answer, SendFields, ResetStream}
-use Rattle.h2_engines.proofs.Names.{Done, Refused, is_no_stream, is_full, Log, log_view, MayAnswer}
-use Rattle.h2_engines.proofs.Names.{accepts, lacks, is_head_alone, first_in, SentMessage}
-use Rattle.h2_engines.proofs.Names.{EndRefusal, EndLog, EndAnswer, EndTook, EndFailed, EndMayTake}
-use Rattle.h2_engines.proofs.Names.{end_with_log, LinkError, waiting, parts_on, Heard, Request}
-use Rattle.h2_engines.proofs.Names.{Responder, answer_with, is_too_large_body, IsOfCall}
-use Rattle.h2_engines.proofs.Names.{KeepsRequests, IsToAnswer, Traffic, Serving, MachineState}
-use Rattle.h2_engines.proofs.Names.{Course, IsDriven, EndsFor, HearsNoMore, gives_up, Hears, IsDue}
-use Rattle.h2_engines.proofs.Names.{Responds, IsResponding, calm, ServerHears, ServerAnswers}
-use Rattle.h2_engines.proofs.Names.{no_memory, is_refused, ServerResets}
+use Rattle.h2_engines.proofs.Names.{Done, Refused, Log, log_view, MayAnswer, accepts, lacks}
+use Rattle.h2_engines.proofs.Names.{is_head_alone, first_in, SentMessage, EndRefusal, EndLog}
+use Rattle.h2_engines.proofs.Names.{EndAnswer, EndTook, EndFailed, EndMayTake, end_with_log}
+use Rattle.h2_engines.proofs.Names.{LinkError, waiting, parts_on, Heard, Request, Responder}
+use Rattle.h2_engines.proofs.Names.{answer_with, is_too_large_body, IsOfCall, KeepsRequests}
+use Rattle.h2_engines.proofs.Names.{IsToAnswer, Traffic, Serving, Course, EndsFor, HearsNoMore}
+use Rattle.h2_engines.proofs.Names.{gives_up, Hears, Responds, IsResponding, calm, ServerHears}
+use Rattle.h2_engines.proofs.Names.{ServerAnswers, no_memory, is_refused, ServerResets}
 use Rattle.h2_spec_log.specs.Acts.{IsTypedAct}
-use Rattle.h2_spec_log.specs.CallRules.{conditions, first_of, has_failed, refusal_of}
-use Rattle.h2_spec_log.specs.CallRules.{has_all_resets}
+use Rattle.h2_spec_log.specs.CallRules.{conditions, first_of, refusal_of}
 use Rattle.h2_spec_log.specs.LogCalls.{with_call, refuses, fails}
 use Rattle.h2_ends.specs.EndCalls.{MayRespond}
 use Rattle.h2_engines.specs.PartialMessages.{KeepsNext}
@@ -156,15 +154,14 @@ not_answered writes course now new of_call responding up counted to_answer none
 not_answered writes course now new {end} {after} {error} of_call responding up counted to_answer
     none (counts_no_more most same) =
     let goes = same_goes same in
-    let accepted : length after.accepted ≡ length end.accepted =
-    ap (λ (one : EndLog). length one.accepted) same in
+    let accepted : length after.accepted ≡ length end.accepted = ap
+    (λ (one : EndLog). length one.accepted) same in
     let all : 2 ^ 32 - 1 ≤ length after.accepted = omega (arith, most, counted, accepted) in
     record {
       turns = same_turns same;
       responding = rw same responding;
       goes = goes;
-      why = calls_ends writes course.start now new.requests new.answered after error of_call
-          (goes.failed ∙ up) (λ is. stops.counts_no_more is all);
+      why = calls_ends _ _ _ _ _ _ _ of_call (goes.failed ∙ up) (λ is. stops.counts_no_more is all);
     }
 not_answered writes course now new {end} {after} {id} {request} {error} of_call responding up
     counted to_answer none (is_refused refusal may is) =
@@ -208,8 +205,7 @@ server_answers old new id request (Ok done) counted requests of_call answered wr
         keeps = (
           subst (λ (kept : Requests). KeepsRequests kept now_is.0) (sym requests)
               (kept_answered now_is.0 done is.keeps.0.0 to_answer may),
-          counted ∙ ap (λ (n : ℕ). n + 1) is.keeps.1 ∙ sym
-              (responded_counts end id message done now_is.0 may),
+          counted ∙ ap (λ (n : ℕ). n + 1) is.keeps.1 ∙ sym (responded_counts end _ _ _ _ may),
         );
       },
     )
@@ -239,10 +235,7 @@ refused_for_resets : (log : Log) (id code : ℕ)
     → refusal_of (log_view log) (ResetStream id code) ≡ Some reasons.TooManyResets
     → max_resets ≤ resets_written log
 unfolding conditions first_of
-refused_for_resets log id code is =
-    leb-true max_resets (resets_written log)
-    (last_of_four (has_failed (log_view log)) (is_no_stream (log_view log) id)
-    (is_full (log_view log)) (has_all_resets (log_view log)) is)
+refused_for_resets log id code is = leb-true max_resets _ (last_of_four _ _ _ _ is)
 
 -- A stream can't be reset, since as many were as may be.
 none_left : (log : Log) (id code : ℕ) (answer : Answer) → answer ≡ Refused reasons.TooManyResets
@@ -292,8 +285,7 @@ reset_ends writes start now requests answered end errors.Memory large may up so 
 reset_ends writes start now requests answered end {id} errors.NoProgress large may up so =
     stops.stops_itself (subst
     (λ (one : Answer). stops.ServerStops writes (reset_with end id one) errors.NoProgress)
-    (sym so.1) (stops.reset_refused refl id so.0 large
-    (first_in (ResetStream id calm, Refused so.0) end.log.calls) so.2 so.3))
+    (sym so.1) (stops.reset_refused refl id so.0 large (first_in _ _) so.2 so.3))
 reset_ends writes start now requests answered end error large may up so = absurd so
 
 reset_refused : (answer : Answer) (error : LinkError) → ResetSo answer (Err error)
@@ -327,8 +319,7 @@ server_resets old new id (Ok done) fits same requests reset writes course now en
     let answer = now_is.0 in
     let was : answer ≡ Done = now_is.3 in
     let log = with_call end.log (ResetStream id calm) answer in
-    let goes : GoesOn end.log log =
-    rw was (call_goes end.log (ResetStream id calm) Done tt) in
+    let goes : GoesOn end.log log = rw was (call_goes end.log _ Done tt) in
     let more = turns_of_call end.log (ResetStream id calm) answer in (
       end_with_log end log,
       omega (arith, more),

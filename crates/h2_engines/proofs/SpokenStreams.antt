@@ -38,7 +38,6 @@ use Rattle.h2_laws_log.proofs.ItemLists.{any_after}
 use Rattle.h2_laws_log.proofs.LogHistory.{none_both}
 use Rattle.h2_laws_log.proofs.ReaderStates.{active_parts, active_from, lasts_parts, lasts_from}
 use Rattle.h2_laws_end.specs.Activity.{call_may_close}
-use Rattle.h2_laws_end.specs.Sendings.{lists_accepted, settings_received}
 use Rattle.h2_laws_end.specs.Written.{IsCredit}
 use Rattle.h2_laws_end.proofs.ActivityCalls.{active_by_call}
 use Rattle.h2_laws_end.proofs.ActivityFrames.{active_added}
@@ -114,8 +113,7 @@ fault_said : (view : View) (decoded : Option Decoded) (code : Code) (item : Item
 unfolding events_of
 fault_said view decoded code item i here =
     subst (λ (j : ℕ). Contains (ResetEvent (stream_of_item item) (code_number code) true ∷ [])
-    (ResetEvent j (code_number code) true)) (eqb-true (stream_of_item item) i here)
-    (first_in (ResetEvent (stream_of_item item) (code_number code) true) [])
+    (ResetEvent j (code_number code) true)) (eqb-true (stream_of_item item) i here) (first_in _ [])
 
 -- No item but one of its own stream resets a stream.
 other_unreset : (i : ℕ) (item : Item) → (stream_of_item item == i) ≡ false
@@ -206,11 +204,9 @@ frame_adds (has_read item verdict credit is on is_credit adds failed) = (_, adds
 -- Where the end of a message wasn't sent, this end hasn't ended the stream.
 unended_by : (role : Role) (values : Values) (log : Log) (i : ℕ) → IsLog role values log
     → list_any is_end (tokens_sent i log.calls) ≡ false → list_any (ends i) log.sent ≡ false
-unended_by role values log i is goes = false_from_ne_true _ (λ here.
-    both_ways _ goes (rw (tokens_carried i role values log is)
-    (ended_tokens i log.sent (lists_accepted log.calls)
-    (blocks_of_lists log.sent (settings_received log.received) (lists_accepted log.calls)
-    log.encoder (log_sent role values log is)) here)))
+unended_by role values log i is goes =
+    false_from_ne_true _ (λ here. both_ways _ goes (rw (tokens_carried _ _ _ _ is)
+    (ended_tokens _ _ _ (blocks_of_lists _ _ _ _ (log_sent _ _ _ is)) here)))
 
 -- What is known of a stream stays known where no call is made.
 read_keeps : (role : Role) (values : Values) (before after : Log) (i : ℕ) → IsLog role values before
@@ -226,8 +222,7 @@ read_keeps role values before after i is calls events reported next (goes_on ali
 read_keeps role values before after i is calls events reported next (has_ended ended) =
     has_ended (rw calls ended)
 read_keeps role values before after i is calls events reported next (was_reset code ours here) =
-    was_reset code ours
-    (rw reported (Contains-append_right events before.reported (ResetEvent i code ours) here))
+    was_reset code ours (rw reported (Contains-append_right _ _ (ResetEvent i code ours) here))
 read_keeps role values before after i is calls events reported next (was_asked code asked) =
     was_asked code (rw calls asked)
 read_keeps role values before after i is calls events reported next (was_named named) =
@@ -237,8 +232,7 @@ read_keeps role values before after i is calls events reported next (was_named n
 call_sends : (log : Log) (act : Act) (answer : Answer) (i : ℕ)
     → list_any is_end (tokens_of_call i act answer) ≡ true → IsSpoken i (with_call log act answer)
 call_sends log act answer i here =
-    has_ended (ap (list_any is_end) (call_tokens i log act answer)
-    ∙ any_after is_end (tokens_sent i log.calls) (tokens_of_call i act answer) here)
+    has_ended (ap (list_any is_end) (call_tokens i log act answer) ∙ any_after is_end _ _ here)
 
 call_closes : (log : Log) (act : Act) (answer : Answer) (i : ℕ)
     → call_may_close i act answer ≡ true → IsSpoken i (with_call log act answer)
@@ -264,10 +258,8 @@ call_closes log act answer i here = absurd (both_ways false refl here)
 -- What is known of a stream stays known after a call.
 call_asks : (log : Log) (act : Act) (answer : Answer) (i code : ℕ) → WasAsked log.calls i code
     → WasAsked (with_call log act answer).calls i code
-call_asks log act answer i code (inl reset) =
-    inl (rw (call_calls log act answer) (later_in (act, answer) log.calls _ reset))
-call_asks log act answer i code (inr refused) =
-    inr (rw (call_calls log act answer) (later_in (act, answer) log.calls _ refused))
+call_asks log act answer i code (inl reset) = inl (rw (call_calls _ _ _) (later_in _ _ _ reset))
+call_asks log act answer i code (inr refused) = inr (rw (call_calls _ _ _) (later_in _ _ _ refused))
 
 call_keeps : (role : Role) (values : Values) (log : Log) (act : Act) (answer : Answer) (i : ℕ)
     → IsLog role values log → MayAnswer log act answer → IsSpoken i log
@@ -278,8 +270,7 @@ call_keeps role values log act answer i is may (goes_on alive) =
       | inr stays ↦ goes_on (active_by_call role values log act answer i is may alive stays)
     ]
 call_keeps role values log act answer i is may (has_ended ended) =
-    has_ended (ap (list_any is_end) (call_tokens i log act answer)
-    ∙ list_any-append is_end (tokens_sent i log.calls) (tokens_of_call i act answer)
+    has_ended (ap (list_any is_end) (call_tokens i log act answer) ∙ list_any-append is_end _ _
     ∙ or_left _ _ ended)
 call_keeps role values log act answer i is may (was_reset code ours here) =
     was_reset code ours (rw ((grows_call log act answer).reported) here)
@@ -308,8 +299,7 @@ call_begins role values log (SendFields id fields end) Done i is may some =
 call_begins role values log (SendData id octets end) (Count count) i is may some =
     let same = eqb-true id i (then_only (id == i) _ some) in
     call_keeps role values log (SendData id octets end) (Count count) i is may
-    (goes_on (subst (λ (j : ℕ). active log j ≡ true) same
-    (data_active log id octets end count may)))
+    (goes_on (subst (λ (j : ℕ). active log j ≡ true) same (data_active _ _ _ _ count may)))
 call_begins role values log act answer i is may some = absurd (some refl)
 
 -- At first nothing was sent.
@@ -328,8 +318,7 @@ some_before (token ∷ tokens) more some = inl (λ none. cc)
 pub spoken_by_logs : (role : Role) (values : Values) (log : Log) (i : ℕ) → IsLog role values log
     → log.failed ≡ None → tokens_sent i log.calls ≢ [] → IsSpoken i log
 unfolding used log_after
-spoken_by_logs role values _ i (begins in_range) up some =
-    absurd (some (opened_silent role values i))
+spoken_by_logs role values _ i (begins in_range) up some = absurd (some (opened_silent _ _ i))
 spoken_by_logs role values _ i (took_some {log = log} is takes octets unparsed read) up some =
     read_keeps role values log (took_part log octets unparsed) i is refl [] refl
     (λ alive goes. goes_on alive) (spoken_by_logs role values log i is up some)
@@ -353,8 +342,7 @@ spoken_by_logs role values _ i (reported_one {log = log} is running names) up so
     let calls = step_calls log steps.reports_unprocessed (λ act said wrong. cc) in
     read_keeps role values log (took_none log) i is calls
     (UnprocessedEvent (next_unprocessed log) ∷ []) adds.2.reported
-    (λ alive goes. named_keeps log adds.0 adds.1 adds.2 alive
-    (cases_Bool (reports_unprocessed i (UnprocessedEvent (next_unprocessed log)))))
+    (λ alive goes. named_keeps log adds.0 adds.1 adds.2 alive (cases_Bool _))
     (spoken_by_logs role values log i is running (rw calls at some))
   where
     named_keeps : (log : Log) (credit : List Item) → IsCredit credit
@@ -367,15 +355,12 @@ spoken_by_logs role values _ i (reported_one {log = log} is running names) up so
         was_named (rw (adds.reported) (or_left _ _ here))
     named_keeps log credit is_credit adds alive (inr other) =
         goes_on (active_added log (took_none log) [] credit
-        (UnprocessedEvent (next_unprocessed log) ∷ []) i adds
-        ∙ stays_active log.role i [] credit log.received log.sent
-        (UnprocessedEvent (next_unprocessed log) ∷ []) log.reported alive refl refl
-        (harmless_credit log.role i credit is_credit) (or_from _ _ other refl))
+        (UnprocessedEvent (next_unprocessed log) ∷ []) i adds ∙ stays_active log.role i [] credit
+        log.received log.sent (UnprocessedEvent (next_unprocessed log) ∷ []) log.reported alive refl
+        refl (harmless_credit log.role i credit is_credit) (or_from _ _ other refl))
 spoken_by_logs role values _ i (called_one {log = log} is act answer typed may) up some =
     let up_before = (grows_call log act answer).up up in
-    elim (some_before (tokens_sent i log.calls) (tokens_of_call i act answer)
-    (rw (call_tokens i log act answer) at some)) [
-      | inl was ↦ call_keeps role values log act answer i is may
-          (spoken_by_logs role values log i is up_before was)
-      | inr now ↦ call_begins role values log act answer i is may now
+    elim (some_before _ _ (rw (call_tokens _ _ act answer) at some)) [
+      | inl was ↦ call_keeps _ _ _ act answer _ is may (spoken_by_logs _ _ _ _ is up_before was)
+      | inr now ↦ call_begins _ _ _ act answer _ is may now
     ]

@@ -19,8 +19,7 @@ KeepsCalls before after =
 
 pub keeps_by_call : (log : Log) (act : Act) (answer : Answer)
     → KeepsCalls log (with_call log act answer)
-keeps_by_call log act answer one said was =
-    rw ((call_calls log act answer)) (later_in (act, answer) log.calls (one, said) was)
+keeps_by_call log act answer one said was = rw ((call_calls _ _ _)) (later_in _ _ (one, said) was)
 
 -- What is handed out is an event that is no part of a message, or a part as it was read.
 pub data HandsAsRead (end : EndLog) : Handed → Type 0 where
@@ -59,8 +58,7 @@ pub record SaysTaken (before : EndLog) (piece : List ℕ) (answer : EndAnswer) (
 
 up_after : {before log : Log} {piece : List ℕ} {count : ℕ} {event : Option Event}
     → MayTake before piece (Took count event) log → log.failed ≡ None
-up_after {before} {log} {piece} {count} {event} may =
-    (log_after_take before log piece (Took count event) may).6
+up_after {before} {log} {piece} {count} {event} may = (log_after_take _ _ _ _ may).6
 
 -- The connection has refused a stream.
 refused_says : (before : EndLog) {piece : List ℕ} {count : ℕ} {event : Option Event} {log : Log}
@@ -101,8 +99,7 @@ plain_says before took log takes same now says =
 pub taken_says : {before : EndLog} {piece : List ℕ} {answer : EndAnswer} {after : EndLog}
     → EndMayTake before piece answer after → SaysTaken before piece answer after
 taken_says {before} {piece} (fails code log takes same now) =
-    plain_says before _ log takes same now
-    ((log_after_take before.log log piece (Failed code) takes).5)
+    plain_says before _ log takes same now ((log_after_take _ log _ (Failed code) takes).5)
 taken_says {before} (hands_nothing count log takes same now) =
     plain_says before _ log takes same now (None, refl, up_after takes, tt)
 taken_says {before} (passes count event log takes none same now) =
@@ -152,8 +149,7 @@ pub taken_role : {before : EndLog} {piece : List ℕ} {answer : EndAnswer} {afte
 taken_role {before} {piece} may =
     let is = taken_says may in
     holds_called (λ (log : Log). log.role ≡ before.log.role) is
-    (take_role before.log is.log piece is.took is.takes)
-    (λ log id code said same. role_by_call log _ _ ∙ same)
+    (take_role _ is.log _ is.took is.takes) (λ log id code said same. role_by_call log _ _ ∙ same)
 
 -- The connection has failed with the code that is answered.
 pub kept_failed : {end : EndLog} {piece : List ℕ} {code : Code} {after : EndLog}

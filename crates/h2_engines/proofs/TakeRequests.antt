@@ -56,16 +56,13 @@ hands_part : (end : EndLog) (id : ℕ) (parts : List (Part × Bool)) (part : Par
     → HandsOut end (handed_as Requests parts id part)
 hands_part end id [] (FieldsPart list, last) are readable =
     rw ((as_head id list last)) (hands_head id list last are)
-hands_part end id [] (OctetsPart octets, last) are readable =
-    absurd (no_octets_first octets last readable)
+hands_part end id [] (OctetsPart octets, last) are readable = absurd (no_octets_first _ _ readable)
 hands_part end id (first ∷ parts) (FieldsPart list, last) are readable =
     rw ((as_trailers first parts id list last readable)) (hands_trailers id list
-    (some_parts first parts are)
-    (ap ends_message are ∙ goes_with (first ∷ parts) (FieldsPart list, last) readable))
+    (some_parts first parts are) (ap ends_message are ∙ goes_with _ _ readable))
 hands_part end id (first ∷ parts) (OctetsPart octets, last) are readable =
     subst (HandsOut end) (as_body Requests (first ∷ parts) id octets last) (hands_body id octets
-    last (some_parts first parts are)
-    (ap ends_message are ∙ goes_with (first ∷ parts) (OctetsPart octets, last) readable))
+    last (some_parts first parts are) (ap ends_message are ∙ goes_with _ _ readable))
 
 hands_as_read : (end : EndLog) (id : ℕ) (part : Part × Bool) {reads : Reads} → reads ≡ Requests
     → IsReadable reads (parts_on id end.handed ++ part ∷ [])
@@ -149,23 +146,20 @@ pub head_hands : {end after : EndLog} {id : ℕ} {list : List Field} {last : Boo
     → HandedOne end after (HeadHanded id list last) → Hands end after id (FieldsPart list, last)
 unfolding part_on
 head_hands {id} {list} {last} hands =
-    hands_one id (FieldsPart list, last) hands (here_is id (FieldsPart list, last))
-    (λ i other. there_is id i (FieldsPart list, last) other)
+    hands_one _ _ hands (here_is _ _) (λ i other. there_is id i (FieldsPart list, last) other)
 
 pub body_hands : {end after : EndLog} {id : ℕ} {octets : List ℕ} {last : Bool}
     → HandedOne end after (BodyHanded id octets last)
     → Hands end after id (OctetsPart octets, last)
 unfolding part_on
 body_hands {id} {octets} {last} hands =
-    hands_one id (OctetsPart octets, last) hands (here_is id (OctetsPart octets, last))
-    (λ i other. there_is id i (OctetsPart octets, last) other)
+    hands_one _ _ hands (here_is _ _) (λ i other. there_is id i (OctetsPart octets, last) other)
 
 pub trailers_hands : {end after : EndLog} {id : ℕ} {list : List Field}
     → HandedOne end after (TrailersHanded id list) → Hands end after id (FieldsPart list, true)
 unfolding part_on
 trailers_hands {id} {list} hands =
-    hands_one id (FieldsPart list, true) hands (here_is id (FieldsPart list, true))
-    (λ i other. there_is id i (FieldsPart list, true) other)
+    hands_one _ _ hands (here_is _ _) (λ i other. there_is id i (FieldsPart list, true) other)
 
 -- An event is no part of a request.
 pub event_besides : {end after : EndLog} {event : Event} (i : ℕ)

@@ -45,8 +45,7 @@ took_turn : {log after : Log} {piece : List ℕ} {count : ℕ} {event : Option E
     → MayTake log piece (Took count event) after → length log.turns < length after.turns
 took_turn (has_failed code failed answers same) = absurd (cc)
 took_turn {log} (reports_unprocessed up some answers same) =
-    rw same (turns_of_event (length log.turns) _ _
-    (turns_of_due (length log.turns) _ log (omega arith)))
+    rw same (turns_of_event (length log.turns) _ _ (turns_of_due _ _ _ (omega arith)))
 took_turn {log} {piece} (ends_no_frame takes unparsed part answers same) =
     rw same (turns_of_used log piece unparsed)
 took_turn {log} (ends_frame takes octets unused joined frame decoded framed sees same answers) =

@@ -10,7 +10,7 @@ use Rattle.std.proofs.Common.{if◌then◌else◌, length-append, min, ltb-false
 use Rattle.std.proofs.lemmas.List.{take_all, length-drop, length-take}
 use Rattle.h2_spec_log.specs.CallRules.{returns_before_put_out, update_size}
 use Rattle.std.specs.Prelude.{◌&&◌}
-use Rattle.std.proofs.lemmas.Bool.{and_cases}
+use Rattle.std.proofs.lemmas.Bool.{and_cases, both_ways}
 use Rattle.h2_frame.specs.Frames.{WindowUpdate}
 use Rattle.h2_spec_log.specs.Items.{encoding_of_items}
 use Rattle.h2_laws_log.proofs.ItemSizes.{size-update}
@@ -32,17 +32,14 @@ ready_size : (log : Log) → length (before_put_out log).written
 unfolding with_sent
 ready_size log =
     put_out_cases (λ (next : Log). length next.written ≡ length log.written
-    + (if returns_before_put_out (log_view log) then update_size else 0)) log
-    (λ returns.
+    + (if returns_before_put_out (log_view log) then update_size else 0)) log (λ returns.
     let update = alone (WindowUpdate 0 log.unreturned) ∷ [] in
-    let size : length (encoding_of_items (max_payload_sent log) update) ≡ 13 =
-    size-update (max_payload_sent log) 0 log.unreturned in
+    let size : length (encoding_of_items (max_payload_sent log) update) ≡ 13 = size-update _ 0 _ in
     rw returns (omega (
       arith,
       length-append log.written (encoding_of_items (max_payload_sent log) update),
       size,
-    )))
-    (λ keeps. rw keeps (omega arith))
+    ))) (λ keeps. rw keeps (omega arith))
 
 -- As many are put out as were asked for, or all that wait.
 record PutsCount (log after : Log) (count given : ℕ) : Type 0 where
@@ -79,10 +76,9 @@ octets_size octets before given fits =
       fits,
     )
 
-all_given : (log : Log) {given : ℕ} → log.given ≡ given → length log.written ≤ given
+pub all_given : (log : Log) {given : ℕ} → log.given ≡ given → length log.written ≤ given
     → given_out log ≡ log.written
-all_given log {given} is all = ap (λ (n : ℕ). take n log.written) is ∙ take_all given log.written
-    all
+all_given log {given} is all = ap (λ (n : ℕ). take n log.written) is ∙ take_all _ _ all
 
 -- So octets are put out, and appended to others.
 pub puts_out : {log : Log} {count given : ℕ} (old new : List ℕ) → log.given ≤ length log.written
@@ -99,6 +95,31 @@ puts_out {log} {count} {given} old new within may appended =
       within = puts.within;
       all = λ few. all_given after (call_given log count given) (puts.all few);
     }
+
+-- Where nothing is returned first, nothing is written.
+none_written : (log : Log) (count given : ℕ) → returns_before_put_out (log_view log) ≡ false
+    → (with_call log (PutOut count) (Count given)).written ≡ log.written
+unfolding with_call waiting output
+none_written log count given keeps =
+    put_out_cases (λ (next : Log). next.written ≡ log.written)
+    (called log (PutOut count) (Count given)) (λ returns. absurd (both_ways _ keeps returns))
+    (λ kept. refl)
+
+-- So where all that waits is consumed, it is what is put out.
+pub consumes_all : {log : Log} {count given : ℕ} (octets : List ℕ)
+    → log.given ≤ length log.written → octets ≡ drop log.given log.written
+    → waiting log ≤ count → returns_before_put_out (log_view log) ≡ false
+    → MayAnswer log (PutOut count) (Count given) → octets ≡ put_out_octets log count given
+unfolding waiting output
+consumes_all {log} {count} {given} octets within is enough keeps may =
+    let given_is = answered may in
+    let none : (if returns_before_put_out (log_view log) then update_size else 0) ≡ 0 =
+    rw keeps refl in
+    let all : length log.written ≤ log.given + given =
+    omega (arith, given_is, none, enough, within) in
+    is ∙ ap (λ (written : List ℕ). drop log.given written)
+    (sym (take_all _ _ all) ∙ ap (λ (written : List ℕ). take (log.given + given) written)
+    (sym (none_written log count given keeps)))
 
 -- None waited, and none waits: all of the output was given out; and while the connection is up no
 -- credit of it waits to be returned.
@@ -121,7 +142,7 @@ none_more more waits none keeps =
     ]
 
 -- So where none is returned before output is put out, none is due.
-no_credit_due : (log : Log) → log.failed ≡ None → waiting log ≡ 0
+pub no_credit_due : (log : Log) → log.failed ≡ None → waiting log ≡ 0
     → returns_before_put_out (log_view log) ≡ false → log.unreturned ≡ 0
 unfolding waiting output
 no_credit_due log up none keeps = none_more log.unreturned (waiting log) none (rw up at keeps)

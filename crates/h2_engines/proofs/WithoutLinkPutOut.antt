@@ -41,13 +41,11 @@ pub machine_put : (old middle new : MachineState) (count given : ℕ) (before no
     → GivesOut middle.end.conn count given before now
     → PutsWaiting old new count before now (Ok given)
 unfolding IsTypedAct PutOutSo
-machine_put old middle new count given before now done typed sends answers gives course end is was
-    =
+machine_put old middle new count given before now done typed sends answers gives course end is was =
     let sent = sends course.values end is in
     let call = answers course.values sent.0 sent.1 in
     let after = end_with_log sent.0 (with_call sent.0.log (PutOut count) (Count given)) in
-    let same = same_by_call sent.0 (PutOut count) (Count given)
-    (put_out_failed sent.0.log count given) in
+    let same = same_by_call _ _ (Count given) (put_out_failed sent.0.log count given) in
     record {
       after = after;
       happened = puts_at course old.kept sent.0 count (Count given)

@@ -1,12 +1,15 @@
 -- What is given back and sent before output is put out, and what that leaves.
 use Rattle.h2_engines.proofs.Names.{EndRepresents, ◌≡◌, ◌≤◌, ℕ, true, false, length, Option, Some}
-use Rattle.h2_engines.proofs.Names.{None, Result, Ok, Err, refl, sym, ◌∙◌, inl, inr, arith, Code}
+use Rattle.h2_engines.proofs.Names.{None, Result, Ok, Err, refl, sym, ap, ◌∙◌, inl, inr, arith, Code}
+use Rattle.h2_engines.proofs.Names.{error_after}
 use Rattle.h2_engines.proofs.Names.{Values, Log, given_out, End, EndRefusal, EndLog, LinkError}
 use Rattle.h2_engines.proofs.Names.{ConnRepresents, MayPump, MessageState, Course, Happens}
 use Rattle.h2_engines.proofs.Names.{IsSameOfMessages, ReleasesSome, HasSent, sends, SendsWaiting}
 use Rattle.h2_ends.specs.EndCalls.{MayReleaseAll}
 use Rattle.h2_engines.specs.ServerSteps.{EndsAfter, EndsRelease, PumpsSome}
-use Rattle.std.proofs.Common.{◌≢◌, is_some}
+use Rattle.std.proofs.Common.{◌≢◌, is_some, IfOk, IfErr}
+use Rattle.h2_ends.specs.Represents.{EndReleases}
+use Rattle.h2_engines.proofs.ResponderRefusals.{releases_err}
 use Rattle.std.specs.Prelude.{◌⊎◌}
 use Rattle.h2_conn.specs.declared.conn.Conn.{Conn}
 use Rattle.h2_engines.specs.WithoutLink.{has_failed, releases_no_more, sends_no_more}
@@ -119,8 +122,7 @@ sends_so old middle new failed done (Err error) reads none released pumped value
       second.0,
       second.2,
       sends_no_more first.0 released.0 pumped.0 error
-          (pump_ends first.0 second.0 pumped.0 error (stays.goes.failed ∙ up) second.1 pumped.2) up
-          first.1 second.1,
+          (pump_ends _ _ pumped.0 _ (stays.goes.failed ∙ up) second.1 pumped.2) up first.1 second.1,
     )
 
 -- What holds of an end, and still does after a release and a pump, holds after both.
@@ -178,3 +180,19 @@ pub sends_at : (course : Course) (kept : MessageState) {before after : EndLog}
     → HasSent before after result → Happens course kept after
 sends_at course kept was sent =
     sent_holds (Happens course kept) (releases_at course kept) (pumps_at course kept) was sent
+
+-- So it is where an answer is taken that is neither.
+pub not_released_as : (old new : End) (failed : Option Code)
+    (answer : Result (Unit {0}) EndRefusal) (result : Result (Unit {0}) LinkError)
+    → ReadsFailed old.conn failed → is_some failed ≡ false → answer ≢ Ok tt
+    → answer ≢ Err (refusals.Conn reasons.OutputFull)
+    → IfOk result (λ value. answer ≡ Ok value)
+    → IfErr result (λ error. (refused : EndRefusal) × (refusal : EndRefusal)
+    × (answer ≡ Err refused) × (refusal ≡ refused) × (error ≡ error_after refusal))
+    → EndReleases old answer new → SendsWaiting old new result
+not_released_as old new failed answer (Ok done) reads none some other ok err releases =
+    absurd (some ok)
+not_released_as old new failed answer (Err error) reads none some other ok
+    (refused, refusal, same, made, ends) releases =
+    not_released old new failed error reads none (releases_err old new refused
+    (λ is. other (same ∙ ap Err is)) (ends ∙ ap error_after made) (rw same at releases))

@@ -4,19 +4,33 @@ ghost use Rattle.std.specs.Prelude.{◌≡◌, Ok, Err, IfOk, IfErr};
 ghost use Rattle.h2_engines.specs.Failures.{IsOfCall, IsOfServer, error_after};
 ghost use Rattle.h2_engines.specs.ServerSteps.{error_with};
 
-use h2_ends::{Code, EndRefusal, Refusal};
+use h2_ends::{Code, ConnFault, EndRefusal, Refusal};
 use h2_link::LinkError;
 
 // contract: engines (own) N2 has the code with which the connection failed; memory is N3
 // rule: engines (own) N2 has the code with which the connection failed; memory is N3
 /// How it ends once the connection has failed with a code.
-pub(crate) fn error_of_code(code: Code) -> LinkError
+fn error_of_code(code: Code) -> LinkError
     ensures error { result ≡ error_with code }
     ensures kind { IsOfServer result }
 {
     match code {
         Code::InternalError => LinkError::Memory,
         code => LinkError::Stream(code.number()),
+    }
+}
+
+// rule: engines (own) N2 has the code with which the connection failed; memory is N3
+/// What `take` of an end has answered; or, where the connection has failed, how it ends.
+pub(crate) fn unless_failed<T>(answer: Result<T, ConnFault>) -> Result<T, LinkError>
+    ensures ok { IfOk result (λ value. answer ≡ Ok value) }
+    ensures err { IfErr result (λ error. (fault : ConnFault) × (answer ≡ Err fault)
+        × (error ≡ error_with fault.code)) }
+    ensures kind { IfErr result IsOfServer }
+{
+    match answer {
+        Ok(value) => Ok(value),
+        Err(fault) => Err(error_of_code(fault.code)),
     }
 }
 

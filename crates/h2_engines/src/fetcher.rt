@@ -13,7 +13,7 @@ ghost use Rattle.h2_engines.specs.Machines.{Fetching};
 ghost use Rattle.h2_engines.specs.WithoutLink.{ClientPutsOut, ClientTakesIn};
 
 use crate::copies::{copy_list, no_link};
-use crate::errors::{error_of_code, error_of_refusal};
+use crate::errors::{error_of_refusal, unless_failed};
 use crate::machine::{Heard, Machine, put_out, take_all};
 use crate::request::Next;
 use h2_conn::Conn;
@@ -249,6 +249,14 @@ impl Machine for Fetcher {
     fn give_out(&mut self, count: usize, out: &mut Vec<u8>) -> Result<usize, Refusal> {
         self.client.put_out(count, out)
     }
+
+    fn ready(&mut self) -> Result<(), Refusal> {
+        self.client.ready()
+    }
+
+    fn consume(&mut self, count: usize) -> Result<usize, Refusal> {
+        self.client.consume(count)
+    }
 }
 
 // rule: engines (own) A response that is fetched is the message handed out, whole
@@ -266,31 +274,25 @@ pub(crate) fn hear(
     ensures within { IfOk result (λ heard. heard.used ≤ length piece.now) }
     ensures err { IfErr result IsOfClient }
 {
-    match client.take(piece) {
-        Ok(taken) => {
-            let used = taken.used;
-            match taken.event {
-                None if used < piece.len() => Ok(Heard {
-                    used,
-                    next: Next::Again,
-                }),
-                None => Ok(Heard {
-                    used,
-                    next: Next::Done,
-                }),
-                Some(EndEvent::Reset { id, code, .. }) if id == stream => {
-                    Err(LinkError::Reset(code))
-                }
-                Some(EndEvent::Unprocessed { id }) if id == stream => {
-                    Err(LinkError::Reset(Code::RefusedStream.number()))
-                }
-                Some(event) => {
-                    let is_whole = coming.note(alloc, stream, event)?;
-                    let next = if is_whole { Next::Whole } else { Next::Again };
-                    Ok(Heard { used, next })
-                }
-            }
+    let taken = unless_failed(client.take(piece))?;
+    let used = taken.used;
+    match taken.event {
+        None if used < piece.len() => Ok(Heard {
+            used,
+            next: Next::Again,
+        }),
+        None => Ok(Heard {
+            used,
+            next: Next::Done,
+        }),
+        Some(EndEvent::Reset { id, code, .. }) if id == stream => Err(LinkError::Reset(code)),
+        Some(EndEvent::Unprocessed { id }) if id == stream => {
+            Err(LinkError::Reset(Code::RefusedStream.number()))
         }
-        Err(fault) => Err(error_of_code(fault.code)),
+        Some(event) => {
+            let is_whole = coming.note(alloc, stream, event)?;
+            let next = if is_whole { Next::Whole } else { Next::Again };
+            Ok(Heard { used, next })
+        }
     }
 }

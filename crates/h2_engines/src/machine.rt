@@ -1,9 +1,14 @@
 //! What drives a server or a client, over a link or over octets that it is handed.
 
-ghost use Rattle.std.specs.Prelude.{◌≡◌, ◌≤◌, ◌<◌, ◌-◌, ◌^◌, Bool, true, length};
-ghost use Rattle.std.specs.Prelude.{IfOk, IfErr, OnErr, OnOk};
-ghost use Rattle.h2_spec_log.specs.Acts.{PutOut, Count};
-ghost use Rattle.h2_conn.specs.Conn.{GivesOut, answer_by};
+ghost use Rattle.std.specs.Prelude.{◌≡◌, ◌≤◌, ◌<◌, ◌-◌, ◌^◌, ◌++◌, [], Bool, true, false, length};
+ghost use Rattle.std.specs.Prelude.{IfOk, IfErr, IsOk, OnErr, OnOk};
+ghost use Rattle.std.specs.Io.KnownBytes.{Appends};
+ghost use Rattle.h2_spec_log.specs.Acts.{PutOut, Count, Values};
+ghost use Rattle.h2_spec_log.specs.CallRules.{returns_before_put_out};
+ghost use Rattle.h2_spec_log.specs.Log.{Log};
+ghost use Rattle.h2_spec_log.specs.LogView.{log_view};
+ghost use Rattle.h2_conn.specs.Conn.{ConnRepresents, GivesOut, answer_by};
+ghost use Rattle.h2_link.specs.Links.{StallsAtNoProgress, WritesAll};
 ghost use Rattle.h2_ends.specs.Represents.{EndAnswers, EndPumps, EndReleases};
 ghost use Rattle.h2_engines.specs.Failures.{EndsWriting, IsOfCall, failures_at_end, failures_by};
 ghost use Rattle.h2_engines.specs.Linked.{traffic};
@@ -14,7 +19,7 @@ ghost use Rattle.h2_engines.specs.ServerSteps.{PumpsSome};
 ghost use Rattle.h2_engines.specs.WithoutLink.{SendsWaiting};
 
 use crate::copies::room_for_input;
-use crate::errors::{error_of_refusal, unless_refused};
+use crate::errors::unless_refused;
 use crate::request::Next;
 use h2_conn::Conn;
 use h2_ends::{EndRefusal, Refusal};
@@ -76,6 +81,24 @@ pub(crate) trait Machine {
             out.old.items out.new.items) }
         ensures err { OnErr result (out.new.items ≡ out.old.items) }
         ensures kept { (held self.new).kept ≡ (held self.old).kept };
+
+    /// Makes the output ready to be written from where it lies.
+    fn ready(&mut self) -> Result<(), Refusal>
+        ensures answers { EndAnswers (held self.old).end (PutOut 0)
+            (answer_by (λ done. Count 0) result) (held self.new).end }
+        ensures returned { OnOk result ((values : Values) (log : Log)
+            → ConnRepresents values (held self.new).end.conn log
+            → returns_before_put_out (log_view log) ≡ false) }
+        ensures kept { (held self.new).kept ≡ (held self.old).kept };
+
+    /// Takes away at most so many octets of the output, which were written.
+    fn consume(&mut self, count: usize) -> Result<usize, Refusal>
+        ensures answers { EndAnswers (held self.old).end (PutOut count)
+            (answer_by (λ given. Count given) result) (held self.new).end }
+        ensures room { (values : Values) (log : Log)
+            → ConnRepresents values (held self.old).end.conn log
+            → returns_before_put_out (log_view log) ≡ false → IsOk result }
+        ensures kept { (held self.new).kept ≡ (held self.old).kept };
 }
 
 /// Sends what waits of messages, as windows allow.
@@ -89,7 +112,7 @@ fn pump<M: Machine>(machine: &mut M) -> Result<(), LinkError>
 }
 
 // rule: engines (own) Over a link input is used in order and all output is written
-/// Writes all output that waits.
+/// Writes all output that waits, from where it lies. What was not written is lost where it fails.
 fn write_out<M: Machine, L: Link>(machine: &mut M, link: &mut L) -> Result<(), LinkError>
     requires { L.faults link.old < 2 ^ 64 - 1 }
     ensures writes { WritesWaiting
@@ -101,14 +124,29 @@ fn write_out<M: Machine, L: Link>(machine: &mut M, link: &mut L) -> Result<(), L
     ensures err { IfErr result EndsWriting }
 {
     for _ in 0..u64::MAX {
-        let mut output = Vec::new(machine.alloc());
-        let count = unless_refused(machine.give_out(usize::MAX, &mut output))?;
-        if count == 0 {
+        unless_refused(machine.ready())?;
+        if machine.conn().waiting() == 0 {
             return Ok(());
         }
-        write_all(link, &output)?;
+        let (first, second) = machine.conn().waiting_octets();
+        let written = write_both(link, first, second);
+        let consumed = machine.consume(usize::MAX);
+        written?;
+        unless_refused(consumed)?;
     }
     Err(LinkError::NoProgress)
+}
+
+/// Writes all octets of two slices, the first before the second.
+fn write_both<L: Link>(link: &mut L, first: &[u8], second: &[u8]) -> Result<(), LinkError>
+    requires { L.faults link.old < 2 ^ 64 - 1 }
+    ensures writes { WritesAll (L.taken link.old) (L.taken link.new) (L.faults link.old)
+        (L.faults link.new) result (first.now ++ second.now) }
+    ensures gives_none { Appends (L.given link.old) (L.given link.new) [] }
+    ensures stalled { StallsAtNoProgress result (L.stalled link.new) }
+{
+    write_all(link, first)?;
+    write_all(link, second)
 }
 
 /// Does what is due, once all that waits is written, where it is written to a link.
@@ -246,9 +284,10 @@ fn send_waiting<M: Machine>(machine: &mut M) -> Result<(), LinkError>
     if machine.conn().failed().is_some() {
         return Ok(());
     }
-    match machine.release_all() {
+    let released = machine.release_all();
+    match released {
         Ok(()) | Err(EndRefusal::Conn(Refusal::OutputFull)) => pump(machine),
-        Err(refusal) => Err(error_of_refusal(refusal)),
+        _ => unless_refused(released),
     }
 }
 

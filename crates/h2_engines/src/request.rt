@@ -78,7 +78,7 @@ impl Request {
         ensures { IfOk result (λ message. message_value message
             ≡ answer_with self.text.items self.to_head) }
     {
-        let mut head = Vec::new(alloc);
+        let mut head = Vec::with_capacity(alloc, 2)?;
         head.push(Field::copy_of(alloc, b":status", b"200", false)?)?;
         if self.to_head {
             return Ok(Message {

@@ -12,11 +12,11 @@ ghost use Rattle.h2_engines.specs.ServerSteps.{ServerResets, counted_answer};
 ghost use Rattle.h2_engines.specs.WithoutLink.{IsServingAlone, ServerPutsOut, ServerTakesIn};
 
 use crate::copies::no_link;
-use crate::errors::{error_of_code, error_of_refusal};
+use crate::errors::{error_of_refusal, unless_failed, unless_refused};
 use crate::machine::{Heard, Machine, put_out, take_all};
 use crate::request::{Next, Request, Requests};
 use h2_conn::Conn;
-use h2_ends::{Config, EndRefusal, Refusal, Server};
+use h2_ends::{Code, Config, EndRefusal, Refusal, Server};
 use h2_link::LinkError;
 use std::alloc::Global;
 
@@ -66,25 +66,21 @@ impl Responder {
         ensures answered { self.new.answered ≡ self.old.answered }
         ensures err { IfErr result IsOfServer }
     {
-        match self.server.take(piece) {
-            Ok(taken) => {
-                let used = taken.used;
-                match taken.event {
-                    None => {
-                        let next = if used < piece.len() {
-                            Next::Again
-                        } else {
-                            Next::Done
-                        };
-                        Ok(Heard { used, next })
-                    }
-                    Some(event) => {
-                        let next = self.requests.note(event)?;
-                        Ok(Heard { used, next })
-                    }
-                }
+        let taken = unless_failed(self.server.take(piece))?;
+        let used = taken.used;
+        match taken.event {
+            None => {
+                let next = if used < piece.len() {
+                    Next::Again
+                } else {
+                    Next::Done
+                };
+                Ok(Heard { used, next })
             }
-            Err(fault) => Err(error_of_code(fault.code)),
+            Some(event) => {
+                let next = self.requests.note(event)?;
+                Ok(Heard { used, next })
+            }
         }
     }
 
@@ -120,10 +116,11 @@ impl Responder {
         ensures requests { self.new.requests ≡ self.old.requests }
         ensures err { IfErr result IsOfServer }
     {
-        match self.server.reset(id, ENHANCE_YOUR_CALM) {
-            Ok(()) => Ok(()),
-            Err(Refusal::TooManyResets) => Err(LinkError::Stream(ENHANCE_YOUR_CALM)),
-            Err(refusal) => Err(error_of_refusal(EndRefusal::Conn(refusal))),
+        let code = Code::EnhanceYourCalm.number();
+        let answer = self.server.reset(id, code);
+        match answer {
+            Err(Refusal::TooManyResets) => Err(LinkError::Stream(code)),
+            _ => unless_refused(answer),
         }
     }
 
@@ -181,9 +178,6 @@ impl Responder {
     }
 }
 
-/// ENHANCE_YOUR_CALM (RFC 9113, section 7).
-const ENHANCE_YOUR_CALM: u32 = 11;
-
 impl Machine for Responder {
     ghost held = { λ responder. record {
       end = responder.server.end;
@@ -222,5 +216,13 @@ impl Machine for Responder {
 
     fn give_out(&mut self, count: usize, out: &mut Vec<u8>) -> Result<usize, Refusal> {
         self.server.put_out(count, out)
+    }
+
+    fn ready(&mut self) -> Result<(), Refusal> {
+        self.server.ready()
+    }
+
+    fn consume(&mut self, count: usize) -> Result<usize, Refusal> {
+        self.server.consume(count)
     }
 }

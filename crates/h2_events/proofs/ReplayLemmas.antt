@@ -16,7 +16,6 @@ use Rattle.h2_laws_end.specs.Replays.{TakesAll, is_done, goes_on, has_fault}
 use Rattle.h2_laws_end.specs.Replays.{starts, takes}
 use Rattle.h2_laws_end.specs.Replays.{octets_of_acts}
 use Rattle.h2_laws_end.proofs.TakeAnswers.{log_after_take}
-use Rattle.h2_laws_end.proofs.TurnsAdded.{Adds, is_of_take, adds_twice, adds_take}
 use Rattle.h2_flow.specs.declared.config.Config.{Config}
 use Rattle.h2_flow.specs.ConfigValues.{values_of}
 use Rattle.h2_conn.specs.declared.conn.Conn.{Conn}

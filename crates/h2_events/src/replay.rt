@@ -109,7 +109,7 @@ fn replay_octets<R: Read, W: Write + Drop>(
     ensures bad_hex { result ≢ Err Failure.BadHex }
 {
     let mut buffer = new_buffer(alloc)?;
-    let mut conn = new_end(alloc, role).map_err(|_| Failure::Memory)?;
+    let mut conn = new_end(alloc, role)?;
     let ended = replay_pieces(role, &mut conn, input, &mut buffer, lines)?;
     finish(alloc, &mut conn, ended, lines)
 }
@@ -196,7 +196,7 @@ fn replay_all<W: Write>(
     ensures reports { IfOk result (λ shown. ReplayReportsOctets role octets.now shown.status) }
     ensures bad_hex { result ≢ Err Failure.BadHex }
 {
-    let mut conn = new_end(alloc, role).map_err(|_| Failure::Memory)?;
+    let mut conn = new_end(alloc, role)?;
     let ended = match take_piece(&mut conn, octets, out) {
         Ok(()) => Ended {
             fault: None,

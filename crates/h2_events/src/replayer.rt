@@ -1,12 +1,12 @@
 //! One end, and the lines of what it reports.
 
-ghost use Rattle.std.specs.Prelude.{[], None, OnOk, IfOk, IfErr};
+ghost use Rattle.std.specs.Prelude.{◌≡◌, [], None, OnOk, IfOk, IfErr};
 ghost use Rattle.h2_events.specs.Replayer.{EndReplays, HandsPiece, ReportsCode, ReplayErrorReports};
 ghost use Rattle.h2_events.specs.Replayer.{IsFailed};
 
 use crate::lines::write_event;
 use h2_cli::Failure;
-use h2_conn::{Config, Conn, ConnFault, Refusal, Role};
+use h2_conn::{Config, Conn, ConnFault, Role};
 use h2_frame::Code;
 use std::alloc::Global;
 use std::io::{self, Write};
@@ -44,14 +44,16 @@ impl From<io::Error> for ReplayError {
 ///
 /// # Errors
 ///
-/// [`Refusal::Memory`] when out of memory.
-pub(crate) fn new_end(alloc: Global, role: Role) -> Result<Conn, Refusal>
-    ensures { IfOk result (EndReplays role []) }
+/// [`Failure::Memory`] when out of memory.
+pub(crate) fn new_end(alloc: Global, role: Role) -> Result<Conn, Failure>
+    ensures ok { IfOk result (EndReplays role []) }
+    ensures err { IfErr result (λ failure. failure ≡ Failure.Memory) }
 {
-    match role {
+    let made = match role {
         Role::Client => Conn::client(alloc, Config::default()),
         Role::Server => Conn::server(alloc, Config::default()),
-    }
+    };
+    made.map_err(|_| Failure::Memory)
 }
 
 // rule: replay (own) The status is 0 only where an end took the whole input

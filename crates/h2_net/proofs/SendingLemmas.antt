@@ -6,7 +6,7 @@ use Rattle.std.specs.Io.KnownBytes.{Appends, Keeps, append_known}
 use Rattle.std.proofs.KnownBytes.{Appends-kept, Keeps-refl, append_known-moved}
 use Rattle.std.proofs.KnownBytes.{append_known-grown}
 use Rattle.h2_link.specs.declared.link.LinkFault.{LinkFault}
-use Rattle.h2_link.specs.Links.{Takes}
+use Rattle.h2_link.specs.Links.{Takes, TakesFirst}
 use Rattle.h2_net.specs.StreamLinks.{SendsFirst}
 
 -- octets that were all sent are first ones, and none is left
@@ -56,3 +56,14 @@ takes_held before after held grown held_now octets count (Err fault) failed with
         took = held_is_taken before after held (take count octets) held_now both;
       },
     )
+
+-- octets that were sent where none are held are taken
+pub sent_directly : (before after : Option (List ℕ)) (held octets : List ℕ) (count : ℕ)
+    → held ≡ [] → count ≤ length octets → Appends before after (take count octets)
+    → TakesFirst (append_known before held) (append_known after held) octets count
+sent_directly before after held octets count none within sent =
+    rw none (record {
+      within = within;
+      took = held_is_taken before after [] (take count octets) []
+          (all_sent before after (take count octets) [] sent refl);
+    })

@@ -25,7 +25,7 @@ pub struct Location {
 }
 
 /// Why a URL can't be fetched. Its text is for the user.
-#[derive(Clone, Copy, Debug, PartialEq, Eq, Error)]
+#[derive(Clone, Copy, Debug, PartialEq, Eq, Hash, Error)]
 pub enum TargetFault {
     /// It is no URL.
     #[error("the URL can't be read")]

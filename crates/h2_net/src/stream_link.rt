@@ -17,6 +17,9 @@ use std::net::{OpenStream, Shutdown};
 /// So many octets are held before they are sent, at most.
 const MOST_HELD: usize = 65_536;
 
+/// So many octets are sent from where they lie, where none are held.
+const DIRECT: usize = 32_768;
+
 /// So many octets are read at once where they are dropped.
 const DROPPED_PIECE: usize = 4_096;
 
@@ -25,8 +28,12 @@ const MOST_DROPPED: usize = 16_777_216;
 
 /// A link over a TCP stream. It holds what it is given to write, up to 65,536 octets, and sends
 /// that at the next read, once it is so many octets, and where [`StreamLink::flush`] is called.
-/// Where sending fails the call that sends fails, and what was not sent stays held: the next call
-/// that sends goes on with it, so octets are sent in order, and none twice.
+/// 32,768 octets and more are sent at once, without a copy, where none are held.
+///
+/// Where sending fails the call that sends fails, and of what was held what was not sent stays
+/// held: the next call that sends goes on with it, so octets are sent in order, and none twice.
+/// After a failed write of 32,768 octets or more it isn't known how many of these were sent:
+/// nothing may be written after them.
 ///
 /// What is held where a link is dropped isn't sent.
 #[derive(Drop)]
@@ -146,6 +153,33 @@ impl<S: Read + Write + OpenStream> StreamLink<S> {
         Err(LinkFault)
     }
 
+    // rule: engines (own) A link over TCP sends octets in order and once
+    // rule: engines (own) A link over TCP counts the calls that have failed
+    /// Sends octets, some at least, where none are held: all of them, or it fails.
+    fn send_directly(&mut self, octets: &[u8]) -> Result<usize, LinkFault>
+        requires failures { self.old.failures < 2 ^ 64 - 1 }
+        requires none { self.old.held.items ≡ [] }
+        requires some { 0 < length octets.now }
+        ensures holds { Takes (octets_passed S.contents self.old)
+            (octets_passed S.contents self.new) result octets.now }
+        ensures takes { Takes None None result octets.now }
+        ensures held { self.new.held ≡ self.old.held }
+        ensures failures { self.new.failures ≡ failures_after self.old.failures result }
+        ensures ended { self.new.ended ≡ self.old.ended }
+        ensures stalled { self.new.stalled
+            ≡ stalled_after self.old.stalled (length octets.now) result }
+        ensures first { self.new.first ≡ self.old.first }
+        ensures last_error { OnOk result (self.new.last_error ≡ self.old.last_error) }
+    {
+        let (count, error) = send(&mut self.stream, octets);
+        if count == octets.len() {
+            return Ok(count);
+        }
+        self.last_error = error;
+        self.failures += 1;
+        Err(LinkFault)
+    }
+
     // rule: engines (own) After N2 and N3 input is dropped up to 16 MiB
     /// Ends what is written, and reads and drops what comes until the peer ends too, at most 16
     /// MiB. A stream that is closed while octets are unread resets the connection, and then the
@@ -212,8 +246,8 @@ impl<S: Read + Write + OpenStream> Link for StreamLink<S> {
         }
     }
 
-    /// Holds as many first octets as there is room for, and sends once 65,536 are held. There is no
-    /// room only after a send that failed.
+    /// Holds as many first octets as there is room for, and sends once 65,536 are held; many octets
+    /// are sent at once where none are held. There is no room only after a send that failed.
     fn write(&mut self, octets: &[u8]) -> Result<usize, LinkFault>
         requires { self.old.failures < 2 ^ 64 - 1 }
         ensures takes { Takes None None result octets.now }
@@ -232,6 +266,9 @@ impl<S: Read + Write + OpenStream> Link for StreamLink<S> {
         ensures first { self.new.first ≡ self.old.first }
         ensures last_error { OnOk result (self.new.last_error ≡ self.old.last_error) }
     {
+        if octets.len() >= DIRECT && self.held.is_empty() {
+            return self.send_directly(octets);
+        }
         let room = MOST_HELD.saturating_sub(self.held.len());
         let count = octets.len().min(room);
         if self.held.extend_from_slice(&octets[..count]).is_err() {

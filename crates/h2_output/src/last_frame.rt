@@ -38,6 +38,16 @@ impl LastFrame {
         let end = self.given + count;
         let part = &self.octets[self.given..end];
         out.extend_from_slice(part).unwrap();
-        self.given = end;
+        self.take_away(count);
+    }
+
+    // rule: 5.4.1 (own) The GOAWAY of a failed connection goes out last, once, without memory
+    /// Takes away so many of its octets.
+    pub(crate) fn take_away(&mut self, count: usize)
+        requires within { count ≤ length (drop self.old.given self.old.octets) }
+        ensures waiting { drop self.new.given self.new.octets
+            ≡ drop count (drop self.old.given self.old.octets) }
+    {
+        self.given += count;
     }
 }

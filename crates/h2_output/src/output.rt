@@ -215,6 +215,29 @@ impl Output {
         }
         Ok(given)
     }
+
+    // rule: calls (own) Output is given out in order and once
+    // contract: 5.4.1 (own) The GOAWAY of a failed connection goes out last, once, without memory
+    /// Takes away as many octets as wait, and at most `count`, which were read where they lie. It
+    /// takes no memory.
+    pub fn consume(&mut self, count: usize) -> usize
+        ensures given { result ≡ min count (length self.old.waiting) }
+        ensures waiting { self.new.waiting ≡ drop result self.old.waiting }
+        ensures ended { self.new.ended ≡ self.old.ended }
+        ensures spare { self.old.spare ≤ self.new.spare }
+
+        // Once nothing waits, all that waited is room again.
+        ensures whole { self.old.ended ≡ false → self.new.waiting ≡ []
+            → self.old.spare + length self.old.waiting ≤ self.new.spare }
+    {
+        let given = count.min(self.len());
+        let queued = given.min(self.queue.len());
+        take_away(&mut self.queue, queued);
+        if let Some(last) = &mut self.last {
+            last.take_away(given - queued);
+        }
+        given
+    }
 }
 
 // Puts the encoding of a frame in the place of the octets, whose capacity suffices.
@@ -242,6 +265,17 @@ fn put_out_queued(queue: &mut BytesMut<Global>, count: usize, out: &mut Vec<u8>)
     ensures capacity { vec_capacity out.old ≤ vec_capacity out.new }
 {
     out.extend_from_slice(&queue.as_slice()[..count]).unwrap();
+    take_away(queue, count);
+}
+
+// Takes away so many octets of a queue. Once it is empty, all that it held is room again.
+fn take_away(queue: &mut BytesMut<Global>, count: usize)
+    requires within { count ≤ length queue.old.items }
+    ensures waiting { queue.new.items ≡ drop count queue.old.items }
+    ensures spare { queue.old.spare ≤ queue.new.spare }
+    ensures whole { queue.new.items ≡ []
+        → queue.old.spare + length queue.old.items ≤ queue.new.spare }
+{
     if count == queue.len() {
         queue.clear();
     } else {

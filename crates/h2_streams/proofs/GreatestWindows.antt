@@ -129,7 +129,7 @@ above_kept : (send recv new : ℕ) (kept : Kept)
 above_kept send recv new kept = refl
 
 -- An entry that is brought above the greatest window is an active stream's.
-above_by : (send recv new : ℕ) (b : Bool) (kept : Option Kept) (x : StreamEntry)
+pub above_by : (send recv new : ℕ) (b : Bool) (kept : Option Kept) (x : StreamEntry)
     → entry_at send recv b kept ≡ Some x → above_by_shift send new x ≡ true
     → (k : Kept) × (kept ≡ Some k)
     × (is_above_by_shift send new (Some (k.send_offset +ℤ pos send)) ≡ true)
@@ -147,47 +147,42 @@ greater_above : (send new : ℕ) (low high : ℤ) → low ≤ℤ high
 greater_above send new low high order above = grind (arith, ints)
 
 -- A difference that is found is at most the greatest.
-found_low : (offset : ℤ) (x : Option Kept) (k : Kept) → x ≡ Some k
+pub found_low : (offset : ℤ) (x : Option Kept) (k : Kept) → x ≡ Some k
     → IfSome x (λ kept. kept.send_offset ≤ℤ offset) → k.send_offset ≤ℤ offset
 found_low offset x k is low = rw (is) at low
 
--- A stream that is kept and wasn't reset is an entry.
-entry_kept : (send recv : ℕ) (b : Bool) (kept : Kept) → b ≡ false
-    → entry_at send recv b (Some kept) ≡ Some (active_entry (view_of_kept send recv kept))
-entry_kept send recv true kept apart = absurd (both_ways true apart refl)
-entry_kept send recv false kept apart = refl
+module _ (send recv : ℕ) where
+  -- A stream that is kept and wasn't reset is an entry.
+  entry_kept : (b : Bool) (kept : Kept) → b ≡ false
+      → entry_at send recv b (Some kept) ≡ Some (active_entry (view_of_kept send recv kept))
+  entry_kept true kept apart = absurd (both_ways true apart refl)
+  entry_kept false kept apart = refl
 
--- Whether a window is brought above the greatest is told by the greatest difference alone.
-pub above_same : (send recv new : ℕ) (entries : List (ℕ × Kept)) (numbers : List ℕ)
-    (greatest : Option ℤ) → IsKeptWell entries numbers → IsGreatestOffset entries greatest
-    → any_above send new (map.entries (streams send recv entries numbers))
-    ≡ is_above_by_shift send new (option_map (λ (o : ℤ). o +ℤ pos send) greatest)
-above_same send recv new entries numbers None well none =
-    let m : StreamMap = streams send recv entries numbers in
-    both_same (any_above send new (map.entries m)) false
-    (λ some.
-    let f = above_found send new (map.entries m) (map.entries_sorted m) some in
-    let k = above_by send recv new (is_reset f.i numbers) (active_at f.i entries) f.x
-    (sym (get_kept send recv f.i entries numbers) ∙ map.get-entries m f.i ∙ f.found) f.above in
-    let nothing : active_at f.i entries ≡ None = ap (active_at f.i) none in
-    let two : None ≡ Some k.0 = sym nothing ∙ k.1 in
-    absurd (cc))
-    (λ some. absurd (both_ways false refl some))
-above_same send recv new entries numbers (Some offset) well is =
-    let m : StreamMap = streams send recv entries numbers in
-    both_same (any_above send new (map.entries m))
-    (is_above_by_shift send new (Some (offset +ℤ pos send)))
-    (λ some.
-    let f = above_found send new (map.entries m) (map.entries_sorted m) some in
-    let k = above_by send recv new (is_reset f.i numbers) (active_at f.i entries) f.x
-    (sym (get_kept send recv f.i entries numbers) ∙ map.get-entries m f.i ∙ f.found) f.above in
-    greater_above send new k.0.send_offset offset (found_low offset (active_at f.i entries) k.0 k.1
-    (is.most f.i)) k.2)
-    (λ high.
-    let apart = well.apart is.number (ap is_some is.found) in
-    any_found send new is.number (map.entries m)
-    (active_entry (view_of_kept send recv is.kept))
-    (sym (map.get-entries m is.number) ∙ get_kept send recv is.number entries numbers
-    ∙ ap (entry_at send recv (is_reset is.number numbers)) is.found
-    ∙ entry_kept send recv (is_reset is.number numbers) is.kept apart)
-    (rw (← is.same) at high))
+  -- Whether a window is brought above the greatest is told by the greatest difference alone.
+  pub above_same : (new : ℕ) (entries : List (ℕ × Kept)) (numbers : List ℕ) (greatest : Option ℤ)
+      → IsKeptWell entries numbers → IsGreatestOffset entries greatest
+      → any_above send new (map.entries (streams send recv entries numbers)) ≡ is_above_by_shift
+      send new (option_map (λ (o : ℤ). o +ℤ pos send) greatest)
+  above_same new entries numbers None well none =
+      let m : StreamMap = streams send recv entries numbers in
+      both_same (any_above send new (map.entries m)) false (λ some.
+      let f = above_found send new (map.entries m) (map.entries_sorted m) some in
+      let k = above_by send recv new (is_reset f.i numbers) (active_at f.i entries) f.x
+      (sym (get_kept send recv f.i entries numbers) ∙ map.get-entries m f.i ∙ f.found) f.above in
+      let nothing : active_at f.i entries ≡ None = ap (active_at f.i) none in
+      let two : None ≡ Some k.0 = sym nothing ∙ k.1 in
+      absurd (cc)) (λ some. absurd (both_ways false refl some))
+  above_same new entries numbers (Some offset) well is =
+      let m : StreamMap = streams send recv entries numbers in
+      both_same (any_above send new (map.entries m))
+      (is_above_by_shift send new (Some (offset +ℤ pos send))) (λ some.
+      let f = above_found send new (map.entries m) (map.entries_sorted m) some in
+      let k = above_by send recv new (is_reset f.i numbers) (active_at f.i entries) f.x
+      (sym (get_kept send recv f.i entries numbers) ∙ map.get-entries m f.i ∙ f.found) f.above in
+      greater_above send new k.0.send_offset offset (found_low offset (active_at f.i entries) k.0
+      k.1 (is.most f.i)) k.2) (λ high.
+      let apart = well.apart is.number (ap is_some is.found) in
+      any_found send new is.number (map.entries m) (active_entry (view_of_kept send recv is.kept))
+      (sym (map.get-entries m is.number) ∙ get_kept send recv is.number entries numbers
+      ∙ ap (entry_at send recv (is_reset is.number numbers)) is.found
+      ∙ entry_kept (is_reset is.number numbers) is.kept apart) (rw (← is.same) at high))

@@ -16,47 +16,41 @@ entry_at send recv true kept = Some reset_entry
 entry_at send recv false None = None
 entry_at send recv false (Some kept) = Some (active_entry (view_of_kept send recv kept))
 
--- an entry as it is kept
-abbrev entries_of : (send recv : ℕ) → List (ℕ × Kept) → List (ℕ × StreamEntry)
-entries_of send recv entries = each (λ entry. (
-  entry.0,
-  active_entry (view_of_kept send recv
-      entry.1),
-)) entries
+module _ (send recv : ℕ) where
+  -- an entry as it is kept
+  abbrev entries_of : List (ℕ × Kept) → List (ℕ × StreamEntry)
+  entries_of entries = each (λ entry. (
+    entry.0,
+    active_entry (view_of_kept send recv entry.1),
+  )) entries
 
--- What is found among entries, by the test whether it is the first.
-found_by : (send recv : ℕ) (b : Bool) (kept : Kept) (x : Option StreamEntry) (y : Option Kept)
-    → x ≡ entry_at send recv false y
-    → cond b (Some (active_entry (view_of_kept send recv kept))) x
-    ≡ entry_at send recv false (cond b (Some kept) y)
-found_by send recv true kept x y same = refl
-found_by send recv false kept x y same = same
+  -- What is found among entries, by the test whether it is the first.
+  found_by : (b : Bool) (kept : Kept) (x : Option StreamEntry) (y : Option Kept)
+      → x ≡ entry_at send recv false y
+      → cond b (Some (active_entry (view_of_kept send recv kept))) x ≡ entry_at send recv false
+      (cond b (Some kept) y)
+  found_by true kept x y same = refl
+  found_by false kept x y same = same
 
--- What is found among entries.
-found : (send recv q : ℕ) (entries : List (ℕ × Kept))
-    → map.find nat_cmp q (entries_of send recv entries)
-    ≡ entry_at send recv false (active_at q entries)
-found send recv q [] = refl
-found send recv q (e ∷ es) =
-    ap (λ (b : Bool). cond b (Some (active_entry (view_of_kept send recv e.1))) (map.find nat_cmp q
-    (entries_of send recv es))) (unsigned_tied q e.0)
-    ∙ found_by send recv (nat_eq q e.0) e.1
-    (map.find nat_cmp q (entries_of send recv es)) (active_at q es) (found send recv q es)
+  -- What is found among entries.
+  found : (q : ℕ) (entries : List (ℕ × Kept))
+      → map.find nat_cmp q (entries_of entries) ≡ entry_at send recv false (active_at q entries)
+  found q [] = refl
+  found q (e ∷ es) = ap (λ (b : Bool). cond b (Some (active_entry (view_of_kept send recv e.1)))
+      (map.find nat_cmp q (entries_of es))) (unsigned_tied q e.0) ∙ found_by (nat_eq q e.0) e.1
+      (map.find nat_cmp q (entries_of es)) (active_at q es) (found q es)
 
--- What is found among the active streams.
-get_active : (send recv q : ℕ) (entries : List (ℕ × Kept))
-    → map.get (active_map send recv entries) q ≡ entry_at send recv false (active_at q entries)
-unfolding active_map
-get_active send recv q entries =
-    map.get-from_entries nat_cmp_total (entries_of send recv entries) q
-    ∙ found send recv q entries
+  -- What is found among the active streams.
+  get_active : (q : ℕ) (entries : List (ℕ × Kept))
+      → map.get (active_map send recv entries) q ≡ entry_at send recv false (active_at q entries)
+  unfolding active_map
+  get_active q entries = map.get-from_entries nat_cmp_total (entries_of entries) q ∙ found q entries
 
--- A number that is reset, by the test whether it is the first of those.
-reset_by : (send recv : ℕ) (b c : Bool) (x : Option StreamEntry) (y : Option Kept)
-    → x ≡ entry_at send recv c y
-    → cond b (Some reset_entry) x ≡ entry_at send recv (b || c) y
-reset_by send recv true c x y same = refl
-reset_by send recv false c x y same = same
+  -- A number that is reset, by the test whether it is the first of those.
+  reset_by : (b c : Bool) (x : Option StreamEntry) (y : Option Kept) → x ≡ entry_at send recv c y
+      → cond b (Some reset_entry) x ≡ entry_at send recv (b || c) y
+  reset_by true c x y same = refl
+  reset_by false c x y same = same
 
 -- What the table answers of a number.
 pub get_kept : (send recv q : ℕ) (entries : List (ℕ × Kept)) (numbers : List ℕ)

@@ -5,4 +5,5 @@ pub mod Offsets
 pub mod Places
 pub mod Shifts
 pub mod TableSteps
+pub mod MostWindows
 pub mod Names

@@ -5,7 +5,7 @@ use mir.Val.{to_z, of_z}
 use Rattle.h2_streams.specs.Streams.{is_far}
 
 -- A difference that is near fits.
-offset_fits : (offset : ℤ) → is_far_offset offset ≡ false → SFits w64 offset
+pub offset_fits : (offset : ℤ) → is_far_offset offset ≡ false → SFits w64 offset
 offset_fits offset near = record { sfits = grind (arith, ints) }
 
 -- A window that is near fits.
@@ -13,7 +13,7 @@ window_fits : (window : ℤ) → is_far window ≡ false → SFits w64 window
 window_fits window near = record { sfits = grind (arith, ints) }
 
 -- An initial window fits.
-initial_fits : (initial : ℕ) → initial < 2 ^ 32 → SFits w64 (pos initial)
+pub initial_fits : (initial : ℕ) → initial < 2 ^ 32 → SFits w64 (pos initial)
 initial_fits initial small = record { sfits = grind (arith, ints) }
 
 -- A difference that is near and an initial window have a sum that fits.

@@ -5,7 +5,8 @@ use Rattle.h2_streams.proofs.Names.{IsSome, IfSome, nat_eq, refl, sym, ap, ◌�
 use Rattle.h2_streams.proofs.Names.{nat_cmp_total, unsigned_tied, nat_eq_equiv, active_entry}
 use Rattle.h2_streams.proofs.Names.{reset_entry, StreamMap, stream_in, view_of_kept, active_map}
 use Rattle.h2_streams.proofs.Names.{with_resets, active_at, is_reset, IsKeptWell, IsNearKept, Kept}
-use Rattle.std.proofs.Common.{eqb-true}
+use Rattle.std.proofs.Common.{eqb-true, ◌∷◌}
+use Rattle.std.specs.List.{list_any}
 use Rattle.std.specs.Ordering.{is_eq}
 use Rattle.h2_spec_log.specs.View.{StreamView}
 use Rattle.h2_streams.specs.Table.{TableState}
@@ -70,72 +71,84 @@ same_reset : (id q : ℕ) (numbers : List ℕ) → is_reset id numbers ≡ false
 same_reset id q numbers apart same =
     ap (λ (i : ℕ). is_reset i numbers) (sym (eqb-true id q same)) ∙ apart
 
--- Where a stream is opened, or changed, its entry is set.
-pub streams_set : (send recv id : ℕ) (kept : Kept) (stream : StreamView)
-    (old new : List (ℕ × Kept)) (numbers : List ℕ)
-    → ChangesAt id (Some kept) old new → is_reset id numbers ≡ false
-    → view_of_kept send recv kept ≡ stream
-    → streams send recv new numbers
-    ≡ map.insert (streams send recv old numbers) id (active_entry stream)
-streams_set send recv id kept stream old new numbers changes apart view =
-    same_streams (streams send recv new numbers)
-    (map.insert (streams send recv old numbers) id (active_entry stream))
-    (λ q. get_kept send recv q new numbers
-    ∙ ap (entry_at send recv (is_reset q numbers)) (changes q)
-    ∙ set_by send recv id q (nat_eq id q) (is_reset q numbers) kept (active_at q old)
-    (same_reset id q numbers apart)
-    ∙ ap (λ (s : StreamView). cond (nat_eq id q) (Some (active_entry s)) (entry_at send
-    recv (is_reset q numbers) (active_at q old))) view
-    ∙ sym (map.get-insert nat_cmp_total (streams send recv old numbers) id (active_entry stream) q
-    ∙ ap (λ (b : Bool). cond b (Some (active_entry stream)) (map.get (streams send recv old numbers)
-    q)) (turned id q)
-    ∙ ap (cond (nat_eq id q) (Some (active_entry stream))) (get_kept send recv q old
-    numbers)))
+module _ (send recv : ℕ) where
+  -- Where a stream is opened, or changed, its entry is set.
+  pub streams_set : (id : ℕ) (kept : Kept) (stream : StreamView) (old new : List (ℕ × Kept))
+      (numbers : List ℕ) → ChangesAt id (Some kept) old new → is_reset id numbers ≡ false
+      → view_of_kept send recv kept ≡ stream
+      → streams send recv new numbers ≡ map.insert (streams send recv old numbers) id
+      (active_entry stream)
+  streams_set id kept stream old new numbers changes apart view =
+      same_streams (streams send recv new numbers)
+      (map.insert (streams send recv old numbers) id (active_entry stream))
+      (λ q. get_kept send recv q new numbers
+      ∙ ap (entry_at send recv (is_reset q numbers)) (changes q) ∙ set_by send recv id q
+      (nat_eq id q) (is_reset q numbers) kept (active_at q old) (same_reset id q numbers apart)
+      ∙ ap (λ (s : StreamView). cond (nat_eq id q) (Some (active_entry s)) (entry_at send
+      recv (is_reset q numbers) (active_at q old))) view
+      ∙ sym (map.get-insert nat_cmp_total (streams send recv old numbers) id (active_entry stream) q
+      ∙ ap (λ (b : Bool). cond b (Some (active_entry stream))
+      (map.get (streams send recv old numbers) q)) (turned id q)
+      ∙ ap (cond (nat_eq id q) (Some (active_entry stream))) (get_kept send recv q old numbers)))
 
--- Entries without one at a number that wasn't reset, by whether a number is that one.
-closed_by : (send recv : ℕ) (b c : Bool) (old : Option Kept) → (b ≡ true → c ≡ false)
-    → entry_at send recv c (cond b None old) ≡ cond b None (entry_at send recv c old)
-closed_by send recv true true old apart = absurd (both_ways true (apart refl) refl)
-closed_by send recv true false old apart = refl
-closed_by send recv false c old apart = refl
+  -- Entries without one at a number that wasn't reset, by whether a number is that one.
+  closed_by : (b c : Bool) (old : Option Kept) → (b ≡ true → c ≡ false)
+      → entry_at send recv c (cond b None old) ≡ cond b None (entry_at send recv c old)
+  closed_by true true old apart = absurd (both_ways true (apart refl) refl)
+  closed_by true false old apart = refl
+  closed_by false c old apart = refl
 
--- Where a stream is closed, its entry is removed.
-pub streams_closed : (send recv id : ℕ) (old new : List (ℕ × Kept)) (numbers : List ℕ)
-    → ChangesAt id None old new → is_reset id numbers ≡ false
-    → streams send recv new numbers ≡ map.remove (streams send recv old numbers) id
-streams_closed send recv id old new numbers changes apart =
-    same_streams (streams send recv new numbers) (map.remove (streams send recv old numbers) id)
-    (λ q. get_kept send recv q new numbers
-    ∙ ap (entry_at send recv (is_reset q numbers)) (changes q)
-    ∙ closed_by send recv (nat_eq id q) (is_reset q numbers) (active_at q old)
-    (same_reset id q numbers apart)
-    ∙ sym (map.get-remove nat_cmp_total (streams send recv old numbers) id q
-    ∙ ap (λ (b : Bool). cond b None (map.get (streams send recv old numbers) q)) (turned id q)
-    ∙ ap (cond (nat_eq id q) None) (get_kept send recv q old numbers)))
+  -- Where a stream is closed, its entry is removed.
+  pub streams_closed : (id : ℕ) (old new : List (ℕ × Kept)) (numbers : List ℕ)
+      → ChangesAt id None old new → is_reset id numbers ≡ false
+      → streams send recv new numbers ≡ map.remove (streams send recv old numbers) id
+  streams_closed id old new numbers changes apart =
+      same_streams (streams send recv new numbers) (map.remove (streams send recv old numbers) id)
+      (λ q. get_kept send recv q new numbers
+      ∙ ap (entry_at send recv (is_reset q numbers)) (changes q) ∙ closed_by (nat_eq id q)
+      (is_reset q numbers) (active_at q old) (same_reset id q numbers apart)
+      ∙ sym (map.get-remove nat_cmp_total (streams send recv old numbers) id q
+      ∙ ap (λ (b : Bool). cond b None (map.get (streams send recv old numbers) q)) (turned id q)
+      ∙ ap (cond (nat_eq id q) None) (get_kept send recv q old numbers)))
 
--- Entries without one at a number that is reset, by whether a number is that one.
-reset_by : (send recv : ℕ) (b c : Bool) (old : Option Kept)
-    → entry_at send recv (cond b true c) (cond b None old)
-    ≡ cond b (Some reset_entry) (entry_at send recv c old)
-reset_by send recv true c old = refl
-reset_by send recv false c old = refl
+  -- Entries without one at a number that is reset, by whether a number is that one.
+  reset_by : (b c : Bool) (old : Option Kept)
+      → entry_at send recv (cond b true c) (cond b None old) ≡ cond b (Some reset_entry)
+      (entry_at send recv c old)
+  reset_by true c old = refl
+  reset_by false c old = refl
 
--- Where a stream is reset, that is kept of its number.
-pub streams_reset : (send recv id : ℕ) (old new : List (ℕ × Kept)) (numbers more : List ℕ)
-    → ChangesAt id None old new
-    → ((q : ℕ) → is_reset q more ≡ cond (nat_eq id q) true (is_reset q numbers))
-    → streams send recv new more ≡ map.insert (streams send recv old numbers) id reset_entry
-streams_reset send recv id old new numbers more changes resets =
-    same_streams (streams send recv new more)
-    (map.insert (streams send recv old numbers) id reset_entry)
-    (λ q. get_kept send recv q new more
-    ∙ ap (λ (b : Bool). entry_at send recv b (active_at q new)) (resets q)
-    ∙ ap (entry_at send recv (cond (nat_eq id q) true (is_reset q numbers))) (changes q)
-    ∙ reset_by send recv (nat_eq id q) (is_reset q numbers) (active_at q old)
-    ∙ sym (map.get-insert nat_cmp_total (streams send recv old numbers) id reset_entry q
-    ∙ ap (λ (b : Bool). cond b (Some reset_entry) (map.get (streams send recv old numbers) q))
-    (turned id q)
-    ∙ ap (cond (nat_eq id q) (Some reset_entry)) (get_kept send recv q old numbers)))
+  -- Where a stream is reset, that is kept of its number.
+  pub streams_reset : (id : ℕ) (old new : List (ℕ × Kept)) (numbers more : List ℕ)
+      → ChangesAt id None old new
+      → ((q : ℕ) → is_reset q more ≡ cond (nat_eq id q) true (is_reset q numbers))
+      → streams send recv new more ≡ map.insert (streams send recv old numbers) id reset_entry
+  streams_reset id old new numbers more changes resets = same_streams (streams send recv new more)
+      (map.insert (streams send recv old numbers) id reset_entry)
+      (λ q. get_kept send recv q new more
+      ∙ ap (λ (b : Bool). entry_at send recv b (active_at q new)) (resets q)
+      ∙ ap (entry_at send recv (cond (nat_eq id q) true (is_reset q numbers))) (changes q)
+      ∙ reset_by (nat_eq id q) (is_reset q numbers) (active_at q old)
+      ∙ sym (map.get-insert nat_cmp_total (streams send recv old numbers) id reset_entry q
+      ∙ ap (λ (b : Bool). cond b (Some reset_entry) (map.get (streams send recv old numbers) q))
+      (turned id q)
+      ∙ ap (cond (nat_eq id q) (Some reset_entry)) (get_kept send recv q old numbers)))
+
+-- Whether a number was reset, as the set's own test has it.
+pub reset_test : (q : ℕ) (numbers : List ℕ)
+    → list_any (λ number. is_eq (nat_cmp q number)) numbers ≡ is_reset q numbers
+reset_test q [] = refl
+reset_test q (number ∷ numbers) = rw (unsigned_tied q number, reset_test q numbers) refl
+
+-- So it is where one more was reset.
+pub resets_more : (id : ℕ) (numbers more : List ℕ)
+    → ((q : ℕ) → list_any (λ number. is_eq (nat_cmp q number)) more
+    ≡ cond (is_eq (nat_cmp id q)) true (list_any (λ number. is_eq (nat_cmp q number)) numbers))
+    → (q : ℕ) → is_reset q more ≡ cond (nat_eq id q) true (is_reset q numbers)
+resets_more id numbers more updates q =
+    sym (reset_test q more) ∙ updates q
+    ∙ ap (λ (b : Bool). cond b true (list_any (λ number. is_eq (nat_cmp q number)) numbers))
+    (unsigned_tied id q) ∙ ap (cond (nat_eq id q) true) (reset_test q numbers)
 
 -- Another one at a number is near, if what was kept is.
 near_by : (b : Bool) (kept : Kept) (old : Option Kept) → IsNearKept kept → IfSome old IsNearKept
@@ -180,6 +193,23 @@ well_closed id old new numbers well changes =
     record {
       near = λ q. rw (changes q) (left_near (nat_eq id q) (active_at q old) (well.near q));
       apart = λ q some. left_as_it_was (nat_eq id q) (is_reset q numbers) (active_at q old)
+          (well.apart q) (rw (changes q) at some);
+    }
+
+-- Where one is reset, it is none of the active ones.
+apart_more : (b c : Bool) (old : Option Kept) → (IsSome old → c ≡ false)
+    → IsSome (cond b None old) → cond b true c ≡ false
+apart_more true c old all some = absurd (both_ways false refl some)
+apart_more false c old all some = all some
+
+pub well_reset : (id : ℕ) (old new : List (ℕ × Kept)) (numbers more : List ℕ)
+    → IsKeptWell old numbers → ChangesAt id None old new
+    → ((q : ℕ) → is_reset q more ≡ cond (nat_eq id q) true (is_reset q numbers))
+    → IsKeptWell new more
+well_reset id old new numbers more well changes resets =
+    record {
+      near = (well_closed id old new numbers well changes).near;
+      apart = λ q some. resets q ∙ apart_more (nat_eq id q) (is_reset q numbers) (active_at q old)
           (well.apart q) (rw (changes q) at some);
     }
 

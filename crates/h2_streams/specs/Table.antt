@@ -62,6 +62,11 @@ pub record IsKeptWell (entries : List (ℕ × Kept)) (numbers : List ℕ) : Type
   pub near : (number : ℕ) → IfSome (active_at number entries) IsNearKept
   pub apart : (number : ℕ) → IsSome (active_at number entries) → is_reset number numbers ≡ false
 
+-- No difference of an active stream's send window is above this one, within 2^33 of zero.
+pub record IsMost (entries : List (ℕ × Kept)) (most : ℤ) : Type 0 where
+  pub near : is_far_offset most ≡ false
+  pub below : (number : ℕ) → IfSome (active_at number entries) (λ kept. kept.send_offset ≤ℤ most)
+
 -- the greater of two differences, of which there may be but one
 abbrev pub greater_of : Option ℤ → ℤ → ℤ
 greater_of None offset = offset

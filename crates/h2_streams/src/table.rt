@@ -1,6 +1,7 @@
 //! The table of streams.
 
-ghost use Rattle.std.specs.Prelude.{◌≡◌, ◌^◌, ◌<◌, ℕ, pos, ◌+ℤ◌, ◌-ℤ◌, false, None, Some, IsSome};
+ghost use Rattle.std.specs.Prelude.{◌≡◌, ◌^◌, ◌<◌, ℕ, pos, ◌+ℤ◌, ◌-ℤ◌, true, false, None, Some};
+ghost use Rattle.std.specs.Prelude.{IsSome};
 ghost use Rattle.std.specs.Prelude.{IfSome, OnOk, OnErr};
 ghost use Rattle.std.specs.Option.{option_map};
 ghost use Rattle.std.specs.FinMap as map;
@@ -14,8 +15,9 @@ ghost use Rattle.h2_streams.specs.Table.{greater_of, IsGreatestOffset, IsLeastAb
 
 use crate::entry::{Entry, Stream};
 use h2_flow::StreamState;
+use h2_frame::limits::GREATEST_WINDOW;
 use std::alloc::{AllocError, Global};
-use std::collections::{HashMap, HashSet};
+use std::collections::{BTreeSet, HashMap};
 use std::marker::Model;
 
 /// What is kept of an active stream. Windows are kept as their difference from the initial window
@@ -28,23 +30,26 @@ pub(crate) struct Kept {
     pub(crate) state: StreamState,
 }
 
-/// The streams of one end. Numbers are looked up by their hashes, so that a look-up costs about the
-/// same for a thousand streams as for one. `next_active` and `greatest_send_window` go over all
-/// active streams.
+/// The streams of one end. Active ones are looked up by the hashes of their numbers, so that a
+/// look-up costs about the same for a thousand streams as for one; `next_active` and
+/// `greatest_send_window` go over all of them. Numbers that were reset are few: a tree has them.
 #[derive(Drop)]
 pub struct StreamTable {
     /// The active streams, by number.
     active: HashMap<u32, Kept>,
     /// The numbers that this end has reset.
-    resets: HashSet<u32>,
+    resets: BTreeSet<u32>,
     /// The initial window of this end's sending side: the peer's value.
     send_initial: u32,
     /// That of the receiving side: the own value in force.
     recv_initial: u32,
+    /// The greatest difference that an active stream's send window has had, 0 at least.
+    send_most: i64,
 }
 
 impl Model for StreamTable {
     ghost use Rattle.h2_streams.specs.Table.{TableState, active_map, with_resets, IsKeptWell};
+    ghost use Rattle.h2_streams.specs.Table.{IsMost};
     ghost use Rattle.h2_streams.specs.Codes.{table_code};
 
     ghost Value = { TableState };
@@ -58,7 +63,10 @@ impl Model for StreamTable {
       recv_initial = table.recv_initial;
     } };
 
-    ghost invariant = { λ table. IsKeptWell table.active.entries table.resets.keys };
+    ghost invariant = { λ table. record {
+      well : IsKeptWell table.active.entries table.resets.keys;
+      most : IsMost table.active.entries table.send_most;
+    } };
 }
 
 impl StreamTable {
@@ -72,9 +80,10 @@ impl StreamTable {
     {
         StreamTable {
             active: HashMap::new(alloc),
-            resets: HashSet::new(alloc),
+            resets: BTreeSet::new(alloc),
             send_initial,
             recv_initial,
+            send_most: 0,
         }
     }
 
@@ -122,6 +131,7 @@ impl StreamTable {
     {
         let kept = self.kept(stream);
         self.active.insert(id, kept)?;
+        self.send_most = self.send_most.max(kept.send_offset);
         Ok(())
     }
 
@@ -137,6 +147,7 @@ impl StreamTable {
         } }
     {
         let kept = self.kept(stream);
+        self.send_most = self.send_most.max(kept.send_offset);
         if let Some(old) = self.active.get_mut(&id) {
             *old = kept;
         }
@@ -202,6 +213,19 @@ impl StreamTable {
         } }
     {
         self.recv_initial = initial;
+    }
+
+    // contract: 6.9.2 A shift of a window above 2^31-1 is FLOW_CONTROL_ERROR
+    // rule: 6.9.2 A shift of a window above 2^31-1 is FLOW_CONTROL_ERROR
+    /// Whether it is known, without a look at the streams, that an initial window of the peer's
+    /// brings no send window above 2<sup>31</sup> - 1: it is where the initial window, with the
+    /// greatest difference from the initial window in force that any stream has had, is at most
+    /// that. `false` says nothing. It takes no memory.
+    pub fn is_none_above(&self, initial: u32) -> bool
+        ensures { result ≡ true → any_above self.now.send_initial initial
+            (map.entries self.now.entries) ≡ false }
+    {
+        self.send_most + i64::from(initial) <= i64::from(GREATEST_WINDOW)
     }
 
     // contract: 6.9.2 A shift of a window above 2^31-1 is FLOW_CONTROL_ERROR

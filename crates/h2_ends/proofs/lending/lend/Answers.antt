@@ -1,5 +1,5 @@
 -- The octets that are lent are those that lie there.
-use Rattle.h2_ends.proofs.Names.{◌≡◌, ◌∙◌, ℕ, List, [], Bool, false, Some, refl, sym, ap, both_ways}
+use Rattle.h2_ends.proofs.Names.{◌≡◌, ℕ, List, [], Bool, false, Some, refl, ap, both_ways}
 use Rattle.h2_ends.proofs.Names.{Field, End, EndTook, Handed, handed_value, LocatedPart}
 use Rattle.h2_ends.specs.Loans.{BodyLiesIn, IsBodyIn, event_handed}
 use Rattle.h2_ends.specs.EndEvents.{end_event_with_parts}

@@ -1,12 +1,14 @@
 -- By the lemmas on output that is written.
-use Rattle.h2_engines.proofs.Names.{ℕ, refl, ap, ◌∙◌, subst, arith, err_from_is_err_and, PutOut}
-use Rattle.h2_engines.proofs.Names.{Count, EndAnswers, Happens, error_after}
+use Rattle.h2_engines.proofs.Names.{refl, ap, sym, ◌∙◌, arith}
+use Rattle.h2_engines.proofs.Names.{err_from_is_err_and, Happens, error_after}
 use Rattle.h2_link.specs.Links.{WritesAll}
 use Rattle.h2_engines.proofs.MachineLaws.{puts_at}
 use Rattle.h2_engines.proofs.ResponderFaults.{written_some, written_failures, written_ends}
-use Rattle.h2_engines.proofs.ResponderFaults.{written_known}
-use Rattle.h2_engines.proofs.ResponderWrites.{writes_more, writes_first, writes_all, writes_refused}
-use Rattle.h2_engines.proofs.ResponderWrites.{writes_no_more, writes_nothing}
+use Rattle.h2_engines.proofs.ResponderFaults.{call_failures, written_known}
+use Rattle.h2_engines.proofs.ResponderWrites.{writes_all, writes_lent, writes_lent_first}
+use Rattle.h2_engines.proofs.ResponderWrites.{writes_ready, writes_no_more, writes_nothing}
+use Rattle.h2_engines.proofs.ResponderWrites.{writes_refused}
+use Rattle.h2_engines.specs.Linked.{traffic}
 use Rattle.h2_engines.proofs.machine.write_out.Goals as goal
 
 pub loop-init : goal.loop-init
@@ -17,73 +19,98 @@ loop-init g c = record {
       (Happens course (g.M.Machine.held c.args.machine.now).kept) is was linked;
 }
 
-pub returns-then-count-eq0-clause-writes : goal.returns-then-count-eq0-clause-writes
-returns-then-count-eq0-clause-writes g c course end unused is was linked =
+pub returns-in_err-unless_refused-clause-writes : goal.returns-in_err-unless_refused-clause-writes
+returns-in_err-unless_refused-clause-writes g c course end unused is was linked =
     let kept = (g.M.Machine.held c.args.machine.now).kept in
-    let old = (g.M.Machine.held c.loop.machine).end in
-    let new = (g.M.Machine.held c.give_out.new.self).end in
-    let answers = rw c.in_ok-count.ensures.ok at c.give_out.ensures.answers in
-    let none = subst (λ (n : ℕ). EndAnswers old (PutOut 18446744073709551615) (Count n) new)
-    c.if-count-eq0.true answers in
-    writes_all (Happens course kept) (puts_at course kept) new 18446744073709551615 tt
-    (omega arith) (omega arith) none (c.loop.invariant.writes course end unused is was linked)
-
-pub returns-in_err-count-clause-writes : goal.returns-in_err-count-clause-writes
-returns-in_err-count-clause-writes g c course end unused is was linked =
-    let kept = (g.M.Machine.held c.args.machine.now).kept in
-    let new = (g.M.Machine.held c.give_out.new.self).end in
+    let new = (g.M.Machine.held c.ready.new.self).end in
     let answer = err_from_is_err_and c.from_residual.result c.from_residual.ensures.1 in
-    let (refused, refusal, same, made, ends) = c.in_err-count.ensures.err in
-    rw (answer.1, answer.2) (writes_refused (Happens course kept) (puts_at course kept) new
-    18446744073709551615 refused (omega arith) (rw same at c.give_out.ensures.answers)
-    (ends ∙ ap error_after made) (c.loop.invariant.writes course end unused is was linked))
-
-pub returns-in_err-write_all-clause-writes : goal.returns-in_err-write_all-clause-writes
-returns-in_err-write_all-clause-writes g c course end unused is was linked =
-    let kept = (g.M.Machine.held c.args.machine.now).kept in
-    let new = (g.M.Machine.held c.give_out.new.self).end in
-    let answer = err_from_is_err_and c.from_residual-in_err-write_all.result
-    c.from_residual-in_err-write_all.ensures.1 in
-    let written = rw c.deref.ensures.value at c.in_err-write_all.ensures.writes in
-    let some = written_some _ _ _ _ _ _ written in
-    let known = written_known _ _ _ _ _ _ written in
-    let gives = rw (c.new-output.ensures.items, c.in_ok-count.ensures.ok) at
-    c.give_out.ensures.ok in
-    rw (answer.1, answer.2) (writes_first (Happens course kept) (puts_at course kept) _ new
-    18446744073709551615 c.in_ok-count.count c.give_out.new.out.items some.0 _ (omega arith)
-    (rw c.in_ok-count.ensures.ok at c.give_out.ensures.answers) gives
-    c.in_err-write_all.ensures.gives_none some.1.took known c.in_err-write_all.ensures.stalled
+    let (refused, refusal, same, made, ends) = c.in_err-unless_refused.ensures.err in
+    rw (answer.1, answer.2) (writes_refused (Happens course kept) (puts_at course kept) new 0
+    refused (omega arith) (rw same at c.ready.ensures.answers) (ends ∙ ap error_after made)
     (c.loop.invariant.writes course end unused is was linked))
 
-pub returns-in_err-write_all-clause-failures : goal.returns-in_err-write_all-clause-failures
-returns-in_err-write_all-clause-failures g c =
-    let answer = err_from_is_err_and c.from_residual-in_err-write_all.result
-    c.from_residual-in_err-write_all.ensures.1 in
-    rw (answer.1, answer.2) (written_failures (Unit {0}) _ _ _ _ _ c.loop.invariant.failures
-    c.in_err-write_all.ensures.writes)
+pub returns-then-waiting-eq0-clause-writes : goal.returns-then-waiting-eq0-clause-writes
+returns-then-waiting-eq0-clause-writes g c course end unused is was linked =
+    let kept = (g.M.Machine.held c.args.machine.now).kept in
+    let new = (g.M.Machine.held c.ready.new.self).end in
+    let done = c.in_ok-unless_refused.ensures.ok in
+    writes_all (Happens course kept) c.loop.counter tt
+    (λ values log conn. sym c.if-waiting-eq0.true
+    ∙ (rw c.conn.ensures at c.waiting.ensures.count) values log conn)
+    (rw done at c.ready.ensures.returned)
+    (writes_ready (Happens course kept) (puts_at course kept) new
+    (rw done at c.ready.ensures.answers) (c.loop.invariant.writes course end unused is was linked))
 
-pub returns-in_err-write_all-clause-err : goal.returns-in_err-write_all-clause-err
-returns-in_err-write_all-clause-err g c =
-    let answer = err_from_is_err_and c.from_residual-in_err-write_all.result
-    c.from_residual-in_err-write_all.ensures.1 in
-    rw (answer.1, answer.2) (written_ends _ _ _ _ _ _ c.in_err-write_all.ensures.writes)
+pub returns-in_err-written-clause-writes : goal.returns-in_err-written-clause-writes
+returns-in_err-written-clause-writes g c course end unused is was linked =
+    let kept = (g.M.Machine.held c.args.machine.now).kept in
+    let link = c.write_both-written.new.link in
+    let now = traffic (g.L.Link.given link) (g.L.Link.taken link) (g.L.Link.stalled link) in
+    let answer = err_from_is_err_and c.from_residual-in_err-written.result
+    c.from_residual-in_err-written.ensures.1 in
+    let done = c.in_ok-unless_refused.ensures.ok in
+    let written = rw c.in_err-written.was at c.write_both-written.ensures.writes in
+    let some = written_some _ _ _ _ _ _ written in
+    rw (answer.1, answer.2) (writes_lent_first (Happens course kept) (puts_at course kept) now
+    (g.M.Machine.held c.ready.new.self).end (g.M.Machine.held c.consume-consumed.new.self).end
+    c.consume-consumed.result some.0 c.in_err-written.field-0.0 (rw done at c.ready.ensures.answers)
+    (record {
+      few = rw c.conn.ensures at c.waiting.ensures.bound;
+      all = rw c.conn.ensures at c.waiting.ensures.count;
+      lent = rw c.conn-in-loop.ensures at c.waiting_octets.ensures;
+      returned = rw done at c.ready.ensures.returned;
+    }) c.consume-consumed.ensures.answers c.consume-consumed.ensures.room
+    c.write_both-written.ensures.gives_none some.1.took (written_known _ _ _ _ _ _ written)
+    (rw c.in_err-written.was at c.write_both-written.ensures.stalled)
+    (c.loop.invariant.writes course end unused is was linked))
+
+pub returns-in_err-written-clause-failures : goal.returns-in_err-written-clause-failures
+returns-in_err-written-clause-failures g c =
+    let answer = err_from_is_err_and c.from_residual-in_err-written.result
+    c.from_residual-in_err-written.ensures.1 in
+    rw (answer.1, answer.2) (written_failures (Unit {0}) _ _ _ _ _ c.loop.invariant.failures
+    (rw c.in_err-written.was at c.write_both-written.ensures.writes))
+
+pub returns-in_err-written-clause-err : goal.returns-in_err-written-clause-err
+returns-in_err-written-clause-err g c =
+    let answer = err_from_is_err_and c.from_residual-in_err-written.result
+    c.from_residual-in_err-written.ensures.1 in
+    rw (answer.1, answer.2) (written_ends _ _ _ _ _ _
+    (rw c.in_err-written.was at c.write_both-written.ensures.writes))
+
+pub returns-in_err-unless_refused-2-clause-failures :
+    goal.returns-in_err-unless_refused-2-clause-failures
+unfolding WritesAll
+returns-in_err-unless_refused-2-clause-failures g c =
+    let answer = err_from_is_err_and c.from_residual-in_err-unless_refused-2.result
+    c.from_residual-in_err-unless_refused-2.ensures.1 in
+    let written = rw c.in_ok-written.was at c.write_both-written.ensures.writes in
+    rw (answer.1, answer.2) (call_failures (Unit {0}) _ _ c.in_err-unless_refused-2.ensures.kind
+    (written.1 ∙ c.loop.invariant.failures))
 
 pub loop-preserved : goal.loop-preserved
 unfolding WritesAll
 loop-preserved g c =
     let kept = (g.M.Machine.held c.args.machine.now).kept in
-    let old = (g.M.Machine.held c.loop.machine).end in
-    let new = (g.M.Machine.held c.give_out.new.self).end in
-    let written = rw c.deref.ensures.value at c.in_ok-write_all.ensures.writes in
-    let gives = rw (c.new-output.ensures.items, c.in_ok-count.ensures.ok) at
-    c.give_out.ensures.ok in
+    let link = c.write_both-written.new.link in
+    let now = traffic (g.L.Link.given link) (g.L.Link.taken link) (g.L.Link.stalled link) in
+    let done = c.in_ok-unless_refused.ensures.ok in
+    let written = rw c.in_ok-written.was at c.write_both-written.ensures.writes in
     record {
       failures = written.1 ∙ c.loop.invariant.failures;
-      kept = c.give_out.ensures.kept ∙ c.loop.invariant.kept;
-      writes = λ course end unused is was linked. writes_more (Happens course kept)
-          (puts_at course kept) _ new 18446744073709551615 c.in_ok-count.count (omega arith)
-          (rw c.in_ok-count.ensures.ok at c.give_out.ensures.answers) gives
-          c.in_ok-write_all.ensures.gives_none written.0
+      kept = c.consume-consumed.ensures.kept ∙ c.ready.ensures.kept ∙ c.loop.invariant.kept;
+      writes = λ course end unused is was linked. writes_lent (Happens course kept)
+          (puts_at course kept) now (g.M.Machine.held c.ready.new.self).end
+          (g.M.Machine.held c.consume-consumed.new.self).end c.in_ok-unless_refused-2.field-0
+          (rw done at c.ready.ensures.answers)
+          (record {
+            few = rw c.conn.ensures at c.waiting.ensures.bound;
+            all = rw c.conn.ensures at c.waiting.ensures.count;
+            lent = rw c.conn-in-loop.ensures at c.waiting_octets.ensures;
+            returned = rw done at c.ready.ensures.returned;
+          })
+          (rw c.in_ok-unless_refused-2.ensures.ok at c.consume-consumed.ensures.answers)
+          c.write_both-written.ensures.gives_none written.0
           (c.loop.invariant.writes course end unused is was linked);
     }
 

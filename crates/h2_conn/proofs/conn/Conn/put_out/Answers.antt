@@ -1,10 +1,11 @@
 -- By the lemmas on putting output out.
-use Rattle.h2_conn.proofs.Names.{◌≡◌, None, length, min, sym, ◌∙◌, rules, returns_before_put_out}
-use Rattle.h2_conn.proofs.Names.{end_view, end_of, waiting_alike}
+use Rattle.h2_conn.proofs.Names.{◌≡◌, None, length, min, sym, ◌∙◌, rules}
+use Rattle.h2_conn.proofs.Names.{returns_before_put_out, end_view, end_of, waiting_alike}
 use Rattle.h2_spec_log.specs.Acts.{IsTypedAct}
 use Rattle.h2_spec_log.specs.CallRules.{may_lack_memory}
 use Rattle.h2_conn.proofs.AskMemory.{returns_alike}
-use Rattle.h2_conn.proofs.AskOutput.{put_out_answers, lacks_by, given_out, ok_as}
+use Rattle.h2_conn.proofs.AskOutput.{put_out_answers, lacks_by, given_out, ok_as, consumed_by}
+use Rattle.h2_conn.proofs.AskOutput.{same_by}
 use Rattle.h2_conn.proofs.AskSound.{put_out_sound, still_failed}
 use Rattle.h2_conn.proofs.conn.Conn.put_out.Goals as goal
 
@@ -13,14 +14,14 @@ unfolding IsTypedAct
 invariant_of-self c =
     let e = end_of c.args.self.now.inner.end in
     let new = end_of c.put_out.new.self in
+    let ok = consumed_by c.put_out.result e new c.args.count _ _ c.put_out.ensures.ok in
+    let err = same_by c.put_out.result e new _ c.put_out.ensures.err in
     let still : new.failed ≡ e.failed =
-    still_failed c.put_out.result e new c.args.count c.args.out.now.items c.put_out.new.out.items
-    c.put_out.ensures.ok c.put_out.ensures.err in
+    still_failed c.put_out.result e new c.args.count ok err in
     record {
       sound = λ up. let before : e.failed ≡ None = sym still ∙ up in
-          put_out_sound c.put_out.result e new c.args.count c.args.out.now.items
-          c.put_out.new.out.items c.ranges.count.fits (search rules) c.put_out.ensures.ok
-          c.put_out.ensures.err;
+          put_out_sound c.put_out.result e new c.args.count c.ranges.count.fits (search rules)
+          ok err;
       cuts = λ up. let before : e.failed ≡ None = sym still ∙ up in search rules;
     }
 
@@ -28,10 +29,11 @@ pub returns-clause-answers : goal.returns-clause-answers
 unfolding IsTypedAct may_lack_memory
 returns-clause-answers c =
     let e = end_of c.args.self.now.inner.end in
-    put_out_answers c.put_out.result _ _ _ _ _ _ c.ranges.count.fits
+    put_out_answers c.put_out.result _ _ _ _ c.ranges.count.fits
     (lacks_by c.put_out.result (returns_before_put_out (end_view e))
     (min c.args.count (length e.output.waiting)) c.put_out.ensures.nothing)
-    c.put_out.ensures.ok c.put_out.ensures.err
+    (consumed_by c.put_out.result _ _ _ _ _ c.put_out.ensures.ok)
+    (same_by c.put_out.result _ _ _ c.put_out.ensures.err)
 
 pub returns-clause-ok : goal.returns-clause-ok
 returns-clause-ok c =

@@ -1,16 +1,16 @@
-use Rattle.h2_core.proofs.Names.{◌≡◌, ◌++◌, ℕ, List, [], Option, None, inl, inr, refl, sym, ap}
+use Rattle.h2_core.proofs.Names.{◌≡◌, ◌++◌, ℕ, List, [], Option, inl, inr, refl, sym, ap}
 use Rattle.h2_core.proofs.Names.{subst, ◌∙◌, Code, FrameRef, encoding_of, Frame, GoAway, frame_of}
-use Rattle.h2_core.proofs.Names.{block_fault_code, Begun, alone, block, is_standalone, grouped}
-use Rattle.h2_core.proofs.Names.{completes, End, with_begun, end_of, IsSoundEnd, TakesItem}
+use Rattle.h2_core.proofs.Names.{block_fault_code, Begun, alone, block, grouped}
+use Rattle.h2_core.proofs.Names.{completes, End, with_begun, end_of, IsSoundEnd}
 use Rattle.h2_core.proofs.Names.{TakesBlock}
-use Rattle.std.proofs.Common.{Ok, Err}
+use Rattle.std.proofs.Common.{Ok}
 use Rattle.h2_block.specs.declared.gathered.Gathered.TheVariants.{Pass, More, Block}
 use Rattle.h2_core.proofs.FrameGroups.{gathered_step, gathers, gathers_at, more_step, one_step}
 use Rattle.h2_core.proofs.FrameGroups.{alone_only, block_number, gather_fault}
 use Rattle.h2_core.proofs.FrameTaking.{begun_sound, step_grouped, step_faulty, more_taken}
-use Rattle.h2_core.proofs.FrameTaking.{alone_taken, alone_stopped, alone_small, block_frame}
+use Rattle.h2_core.proofs.FrameTaking.{block_frame}
 use Rattle.h2_core.proofs.FrameTaking.{frame_fails}
-use Rattle.h2_core.proofs.FrameFailures.{alike, memory_fails, stopped_same}
+use Rattle.h2_core.proofs.FrameFailures.{alike, memory_fails}
 use Rattle.h2_core.proofs.FrameMemory.{gathering_lacks}
 use Rattle.h2_core.proofs.endpoint.Endpoint.gather_frame.Goals as goal
 

@@ -1,9 +1,7 @@
 -- The vector has the capacity for all that is put out before anything is changed.
-use Rattle.h2_core.proofs.Names.{◌≡◌, refl, if◌then◌else◌, ◌++◌, take, returns_before_put_out}
-use Rattle.h2_core.proofs.Names.{end_view, before_put_out_at, end_of}
+use Rattle.h2_core.proofs.Names.{◌≡◌, refl, ◌++◌, take}
+use Rattle.h2_core.proofs.Names.{before_put_out_at, end_of}
 use Rattle.h2_core.proofs.OwnOutput.{without_error, waiting_ready, given_out}
-use Rattle.h2_core.proofs.endpoint.Endpoint.put_out.Goals.{then-returns_before_output}
-use Rattle.h2_core.proofs.endpoint.Endpoint.put_out.Goals.{else-returns_before_output}
 use Rattle.h2_core.proofs.endpoint.Endpoint.put_out.Goals as goal
 
 pub returns-clause-ok : goal.returns-clause-ok
@@ -26,12 +24,6 @@ unwrap-requires c =
     let ready = end_of c.return_before_output.new.self in
     let is : ready ≡ before_put_out_at e =
     rw c.reserve-else-is_err.ensures.waiting at c.return_before_output.ensures in
-    let update : c.if-returns_before_output.update
-    ≡ (if returns_before_put_out (end_view e) then 13 else 0) =
-    elim c.if-returns_before_output.branch [
-      | then-returns_before_output w ↦ rw (w.update-is, ← w.if-returns_before_output.ensures) refl
-      | else-returns_before_output w ↦ rw (w.update-is, ← w.if-returns_before_output.ensures) refl
-    ] in
     let room = without_error c.reserve.result c.if-is_err.ensures.value c.reserve.ensures.ok in
-    let wait = waiting_ready e ready c.len.result _ is c.len.ensures update in
+    let wait = waiting_ready e ready c.len.result _ is c.len.ensures c.update_room-update.ensures in
     c.put_out.ensures.room (rw wait (rw c.min-given.ensures at room))

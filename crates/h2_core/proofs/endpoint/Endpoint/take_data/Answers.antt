@@ -1,7 +1,7 @@
 -- DATA by the state of its stream, and within both windows.
 use Rattle.h2_core.proofs.Names.{◌≡◌, ◌&&◌, ℕ, Option, true, false, sym, ap, ◌∙◌, inl, inr, refl}
-use Rattle.h2_core.proofs.Names.{[], ◌∷◌, arith, pos, stream_view, rules, ProtocolError}
-use Rattle.h2_core.proofs.Names.{FlowControlError, StreamClosed, exceeds, alone, stream_at}
+use Rattle.h2_core.proofs.Names.{[], ◌∷◌, arith, stream_view, ProtocolError}
+use Rattle.h2_core.proofs.Names.{FlowControlError, StreamClosed, exceeds, alone}
 use Rattle.h2_core.proofs.Names.{frame_of_data, end_of, end_view, Reported, needs_memory}
 use Rattle.h2_core.proofs.Names.{err_from_is_err_and}
 use Rattle.h2_frame.specs.Encoding.{stream_of}

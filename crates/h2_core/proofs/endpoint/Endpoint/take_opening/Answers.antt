@@ -14,41 +14,34 @@ use Rattle.h2_core.proofs.ItemVerdicts.{with_table}
 use Rattle.std.specs.FinMap as map
 use Rattle.h2_core.proofs.endpoint.Endpoint.take_opening.Goals as goal
 
--- the rule, by what is known of the end
-left_rule : (e : End) (id : ℕ) (end : Bool) (octets : List ℕ) (decoded : Decoded) → Fresh e id
-    → is_some e.goaway.sent ≡ true → by_block e id end octets decoded ≡ NoEvent
-unfolding opening_verdict
-left_rule e id end octets decoded fresh left =
-    opening_rule e id end octets decoded fresh ∙ (rw left refl)
+module _ (e : End) (id : ℕ) (end : Bool) (octets : List ℕ) (decoded : Decoded) where
+  -- the rule, by what is known of the end
+  left_rule : Fresh e id → is_some e.goaway.sent ≡ true → by_block e id end octets decoded ≡ NoEvent
+  unfolding opening_verdict
+  left_rule fresh left = opening_rule e id end octets decoded fresh ∙ (rw left refl)
 
-full_rule : (e : End) (id : ℕ) (end : Bool) (octets : List ℕ) (decoded : Decoded) → Fresh e id
-    → is_some e.goaway.sent ≡ false → is_at_capacity (end_view e) ≡ true
-    → by_block e id end octets decoded ≡ StreamFault RefusedStream
-unfolding opening_verdict
-full_rule e id end octets decoded fresh stays full =
-    opening_rule e id end octets decoded fresh ∙ (rw (stays, full) refl)
+  full_rule : Fresh e id → is_some e.goaway.sent ≡ false → is_at_capacity (end_view e) ≡ true
+      → by_block e id end octets decoded ≡ StreamFault RefusedStream
+  unfolding opening_verdict
+  full_rule fresh stays full = opening_rule e id end octets decoded fresh ∙ (rw (stays, full) refl)
 
-large_rule : (e : End) (id : ℕ) (end : Bool) (octets : List ℕ) (decoded : Decoded) → Fresh e id
-    → is_some e.goaway.sent ≡ false → is_at_capacity (end_view e) ≡ false
-    → is_too_large decoded ≡ true
-    → by_block e id end octets decoded ≡ StreamFault EnhanceYourCalm
-unfolding opening_verdict
-large_rule e id end octets decoded fresh stays room large =
-    opening_rule e id end octets decoded fresh ∙ (rw (stays, room, large) refl)
+  large_rule : Fresh e id → is_some e.goaway.sent ≡ false → is_at_capacity (end_view e) ≡ false
+      → is_too_large decoded ≡ true → by_block e id end octets decoded ≡ StreamFault EnhanceYourCalm
+  unfolding opening_verdict
+  large_rule fresh stays room large =
+      opening_rule e id end octets decoded fresh ∙ (rw (stays, room, large) refl)
 
-open_rule : (e : End) (id : ℕ) (end : Bool) (octets : List ℕ) (decoded : Decoded) → Fresh e id
-    → is_some e.goaway.sent ≡ false → is_at_capacity (end_view e) ≡ false
-    → is_too_large decoded ≡ false → by_block e id end octets decoded ≡ Reported
-unfolding opening_verdict
-open_rule e id end octets decoded fresh stays room small =
-    opening_rule e id end octets decoded fresh ∙ (rw (stays, room, small) refl)
+  open_rule : Fresh e id → is_some e.goaway.sent ≡ false → is_at_capacity (end_view e) ≡ false
+      → is_too_large decoded ≡ false → by_block e id end octets decoded ≡ Reported
+  unfolding opening_verdict
+  open_rule fresh stays room small =
+      opening_rule e id end octets decoded fresh ∙ (rw (stays, room, small) refl)
 
--- what is opened, by the same
-opens_by : (e : End) (id : ℕ) (end : Bool) (octets : List ℕ) (decoded : Decoded) (full : Bool)
-    → Fresh e id → is_some e.goaway.sent ≡ false → is_at_capacity (end_view e) ≡ full
-    → opened_by (end_view e) (Some decoded) (block id end octets) ≡ (if not full then id else 0)
-opens_by e id end octets decoded full fresh stays is =
-    fresh_opens e id end octets decoded fresh ∙ (rw (stays, is) refl)
+  -- what is opened, by the same
+  opens_by : (full : Bool) → Fresh e id → is_some e.goaway.sent ≡ false
+      → is_at_capacity (end_view e) ≡ full
+      → opened_by (end_view e) (Some decoded) (block id end octets) ≡ (if not full then id else 0)
+  opens_by full fresh stays is = fresh_opens e id end octets decoded fresh ∙ (rw (stays, is) refl)
 
 pub returns-then-is_some : goal.returns-then-is_some
 returns-then-is_some c =

@@ -11,7 +11,7 @@ returns-then-self c =
       c.if-self.true,
       c.in_ok-push.ensures.items,
       c.new.ensures.items,
-      c.new-head.ensures.items,
+      c.in_ok-head.ensures.items,
       c.in_ok-copy_of.ensures,
     ) refl
 
@@ -24,7 +24,7 @@ returns c =
       c.if-self.false,
       c.in_ok-push-2.ensures.items,
       c.in_ok-push.ensures.items,
-      c.new-head.ensures.items,
+      c.in_ok-head.ensures.items,
       c.in_ok-copy_of.ensures,
       c.in_ok-copy_of-2.ensures,
       c.as_bytes.ensures.value,

@@ -7,11 +7,11 @@ returns-in-Some-clause-number c =
     let t = c.self.inside in
     rw (← c.self.view_is)
     (least_first t.send_initial t.recv_initial c.args.above t.active.entries t.resets.keys
-    (Some c.in-Some.number) c.self.invariant c.in-Some.ensures)
+    (Some c.in-Some.number) c.self.invariant.well c.in-Some.ensures)
 
 pub returns-in-None-clause-number : goal.returns-in-None-clause-number
 returns-in-None-clause-number c =
     let t = c.self.inside in
     rw (← c.self.view_is)
     (least_first t.send_initial t.recv_initial c.args.above t.active.entries t.resets.keys
-    c.least_above.result c.self.invariant c.least_above.ensures)
+    c.least_above.result c.self.invariant.well c.least_above.ensures)

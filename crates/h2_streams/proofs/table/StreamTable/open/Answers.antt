@@ -1,4 +1,5 @@
 use Rattle.h2_streams.proofs.Names.{ap, stream_view}
+use Rattle.h2_streams.proofs.MostWindows.{most_set}
 use Rattle.h2_streams.proofs.TableSteps.{table_with, absent, streams_set, well_set}
 use Rattle.h2_streams.proofs.table.StreamTable.open.Goals as goal
 
@@ -7,8 +8,15 @@ invariant_of-self-2 c =
     let t = c.self.inside in
     let none = absent t.send_initial t.recv_initial c.args.id t.active.entries t.resets.keys
     (rw (← c.self.view_is) at c.requires.absent) in
-    well_set c.args.id c.kept-kept.result t.active.entries c.insert.new.self.entries t.resets.keys
-    c.self.invariant c.in_ok-insert.ensures.updates.0 none.0 c.kept-kept.ensures.near
+    record {
+      well = well_set c.args.id c.kept-kept.result t.active.entries c.insert.new.self.entries
+          t.resets.keys c.self.invariant.well c.in_ok-insert.ensures.updates.0 none.0
+          c.kept-kept.ensures.near;
+      most = most_set c.args.id c.kept-kept.result t.active.entries c.insert.new.self.entries
+          t.send_most
+          c.max-self-inside.result c.max-self-inside.ensures.value c.self.invariant.most
+          c.in_ok-insert.ensures.updates.0 c.kept-kept.ensures.near;
+    }
 
 pub returns-clause-ok : goal.returns-clause-ok
 returns-clause-ok c =

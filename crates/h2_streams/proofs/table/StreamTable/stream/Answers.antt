@@ -7,17 +7,17 @@ pub returns-in_err-kept : goal.returns-in_err-kept
 returns-in_err-kept c =
     let t = c.self.inside in
     let e = stream_kept t.send_initial t.recv_initial c.args.id t.active.entries t.resets.keys
-    c.self.invariant in
+    c.self.invariant.well in
     rw (← c.self.view_is, e, c.from_residual.ensures, ← c.in_err-kept.ensures.value)
 
 pub returns : goal.returns
 returns c =
     let t = c.self.inside in
     let e = stream_kept t.send_initial t.recv_initial c.args.id t.active.entries t.resets.keys
-    c.self.invariant in
+    c.self.invariant.well in
     let kept = c.in_ok-kept.kept.now in
     let near : IsNearKept kept =
-    near_found c.args.id kept t.active.entries t.resets.keys c.self.invariant
+    near_found c.args.id kept t.active.entries t.resets.keys c.self.invariant.well
     (sym c.in_ok-kept.ensures.value) in
     let send_small : t.send_initial < 2 ^ 32 = search rules in
     let recv_small : t.recv_initial < 2 ^ 32 = search rules in
