@@ -74,6 +74,8 @@ API = {
     "h2_replay::replay": "users replay a list of acts; the program hands out events as they come",
     "hpack_text::huff_read": TEXTS,
     "hpack_text::read_string": TEXTS,
+    "h2_message::list_asks_head": "a server that answers HEAD asks, as those of h2_uses do",
+    "hpack::Encoder::encode": "an end has summed the list already",
 }
 
 # The sections that rules have, with their titles: of RFC 9113, of RFC 7541 as "HPACK ..", of RFC 9110 as "HTTP ..", and

@@ -10,10 +10,11 @@ ghost use Rattle.h2_args.specs.Words.{serve_options_of, url_of};
 use crate::options::{CommandText, named_command};
 use clap::builder::ValueParser;
 use clap::{Arg, ArgAction, Command, Error, value_parser};
+use h2_frame::limits::GREATEST_BODY;
 use std::alloc::{AllocError, Global};
 
 /// The most octets that `loop` posts.
-pub const MOST_POSTED: u32 = 1_048_576;
+pub const MOST_POSTED: u32 = GREATEST_BODY as u32;
 
 /// The options of `serve`.
 #[derive(Clone, Copy, Debug, PartialEq, Eq)]

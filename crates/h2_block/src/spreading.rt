@@ -53,7 +53,7 @@ pub fn spread(
     if out.reserve(encoded_len(payload, octets.len())).is_err() {
         return Err(BlockFault::Memory);
     }
-    append_block(payload, stream, end, octets, out);
+    append_block(payload, stream, octets, end, out);
     Ok(())
 }
 
@@ -69,7 +69,7 @@ fn encoded_len(most: usize, count: usize) -> usize
 
 // rule: 4.3 (own) Room for all frames of a block is reserved before the first
 // Appends the frames, with payloads of at most `most` octets, for which there is capacity.
-fn append_block(most: usize, stream: u32, end: bool, octets: &[u8], out: &mut Vec<u8>)
+fn append_block(most: usize, stream: u32, octets: &[u8], end: bool, out: &mut Vec<u8>)
     requires payload { 1 ≤ most }
     requires payload_length { most < 2 ^ 24 }
     requires at_least { 1 ≤ stream }

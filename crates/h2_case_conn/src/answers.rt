@@ -90,10 +90,8 @@ pub fn extend(octets: &mut Vec<u8>, others: &[u8], words: &mut Words<'_>) {
 /// Adds the line of each field of a list; a value of more than 64 octets is written in braces, as
 /// [`h2_case::octets`] writes octets.
 pub fn add_list(alloc: Global, text: &mut Text, list: &FieldList) {
-    for place in 0..list.len() {
-        if let Some(field) = list.get(place) {
-            add_listed(alloc, text, field);
-        }
+    for field in list.iter() {
+        add_listed(alloc, text, field);
     }
 }
 

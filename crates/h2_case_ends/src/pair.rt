@@ -52,6 +52,17 @@ struct State {
     pair: Option<Pair>,
 }
 
+impl State {
+    // No ends yet.
+    fn new(alloc: Global, is_in_pieces: bool) -> State {
+        State {
+            alloc,
+            is_in_pieces,
+            pair: None,
+        }
+    }
+}
+
 impl Driver for State {
     fn answer(&mut self, name: &str, words: &mut Words<'_>, text: &mut Text) {
         match &mut self.pair {
@@ -64,12 +75,7 @@ impl Driver for State {
 
 // The answers to a case's commands, up to the first that has none.
 fn run_in(alloc: Global, case: &Case, is_in_pieces: bool) -> Vec<Answer> {
-    let state = State {
-        alloc,
-        is_in_pieces,
-        pair: None,
-    };
-    answers_of(alloc, case, state)
+    answers_of(alloc, case, State::new(alloc, is_in_pieces))
 }
 
 // Adds what an answer is in pieces, if it is another one; returns whether memory was not refused.

@@ -2,15 +2,13 @@
 use Rattle.h2_conn.proofs.Names.{◌≡◌, ◌≤◌, ℕ, Bool, true, false, List, ◌∷◌, length, Some, None}
 use Rattle.h2_conn.proofs.Names.{Result, Ok, Err, inl, inr, IfOk, refl, sym, ap, subst, ◌∙◌}
 use Rattle.h2_conn.proofs.Names.{CutterState, CutterLimited, saturated, Refusal, Memory, Values}
-use Rattle.h2_conn.proofs.Names.{Act, Answer, Refused, Open, SendFields, SendData, Release}
-use Rattle.h2_conn.proofs.Names.{ResetStream, Refuse, SendPing, SendGoAway, PutOut, ChangeSettings}
-use Rattle.h2_conn.proofs.Names.{AreInRange, Done, most_max_frame, Log, log_view, MayAnswer}
-use Rattle.h2_conn.proofs.Names.{with_call, refusal_of, View, Keeps, End, end_view}
-use Rattle.h2_conn.proofs.Names.{payload_limit_of, after_call, Represents, views_alike}
-use Rattle.h2_conn.proofs.Names.{refusal_same, CallRefused, CallAccepted, answer_by, PartsRepresent}
-use Rattle.h2_spec_log.specs.Acts.{IsTypedAct}
-use Rattle.h2_spec_log.specs.CallRules.{may_lack_memory, answer_of, first_of, conditions}
-use Rattle.h2_laws_machine.specs.Machines.{end_after}
+use Rattle.h2_conn.proofs.Names.{Act, Answer, Refused, Open, PutOut, ChangeSettings, AreInRange}
+use Rattle.h2_conn.proofs.Names.{Done, most_max_frame, Log, log_view, MayAnswer, with_call}
+use Rattle.h2_conn.proofs.Names.{refusal_of, View, Keeps, End, end_view, payload_limit_of}
+use Rattle.h2_conn.proofs.Names.{after_call, Represents, views_alike, refusal_same, CallRefused}
+use Rattle.h2_conn.proofs.Names.{CallAccepted, answer_by, PartsRepresent, IsTypedAct}
+use Rattle.h2_conn.proofs.Names.{may_lack_memory, end_after}
+use Rattle.h2_spec_log.specs.CallRules.{answer_of, first_of, conditions}
 use Rattle.std.proofs.Common.{IfErr, OnOk}
 use Rattle.h2_spec_log.specs.LogCalls.{accepts, refuses, lacks}
 use Rattle.h2_spec_log.proofs.StreamLemmas.{Keeps-call}
@@ -79,15 +77,7 @@ accepted_after : (e : End) (act : Act)
     → end_after e act (answer_of (end_view e) act) ≡ after_call e act
 unfolding end_after
 accepted_after e (Open fields end) = refl
-accepted_after e (SendFields id fields end) = refl
-accepted_after e (SendData id octets end) = refl
-accepted_after e (Release id count) = refl
-accepted_after e (ResetStream id code) = refl
-accepted_after e (Refuse id code) = refl
-accepted_after e (SendPing octets) = refl
-accepted_after e SendGoAway = refl
-accepted_after e (PutOut count) = refl
-accepted_after e (ChangeSettings values) = refl
+accepted_after e act = refl
 
 -- whether a call is the one that changes an end's own settings
 abbrev pub changes_settings : Act → Bool
@@ -135,16 +125,8 @@ puts_out _ = false
 pub up_if_free : (e : End) (act : Act) → puts_out act ≡ false
     → refusal_of (end_view e) act ≡ None → e.failed ≡ None
 unfolding conditions
-up_if_free e (Open fields end) other free = nothing _ (first_fails _ _ _ free)
-up_if_free e (SendFields id fields end) other free = nothing _ (first_fails _ _ _ free)
-up_if_free e (SendData id octets end) other free = nothing _ (first_fails _ _ _ free)
-up_if_free e (Release id count) other free = nothing _ (first_fails _ _ _ free)
-up_if_free e (ResetStream id code) other free = nothing _ (first_fails _ _ _ free)
-up_if_free e (Refuse id code) other free = nothing _ (first_fails _ _ _ free)
-up_if_free e (SendPing octets) other free = nothing _ (first_fails _ _ _ free)
-up_if_free e SendGoAway other free = nothing _ (first_fails _ _ _ free)
 up_if_free e (PutOut count) other free = cc
-up_if_free e (ChangeSettings values) other free = nothing _ (first_fails _ _ _ free)
+up_if_free e act other free = nothing _ (first_fails _ _ _ free)
 
 -- A machine that hasn't failed may lack memory for a call just where its log may.
 lacks_alike : (values : Values) (e : End) (log : Log) (act : Act) → Represents values e log

@@ -4,6 +4,7 @@ use Rattle.h2_conn.proofs.Names.{◌≡◌, ℕ, nat_le, if◌then◌else◌, Li
 use Rattle.h2_conn.proofs.Names.{Frame, CutterState, CutterRepresents, saturated, Limits, Role}
 use Rattle.h2_conn.proofs.Names.{Values, is_server, payload_limit, Log, acked, limits_from, Keeps}
 use Rattle.h2_conn.proofs.Names.{End, payload_limit_of, Represents, limit_agrees, PartsRepresent}
+use Rattle.h2_conn.proofs.Names.{rules}
 
 -- With the same own settings the same limit is in force.
 same_limit : (values : Values) (e other : End) (log next : Log) → Represents values e log
@@ -21,12 +22,7 @@ limits_by count limits limit = λ place. if nat_le place count then limits place
 same_limits : (log next : Log) → Keeps log next
     → payload_limit (acked next) next.sent ≡ payload_limit (acked log) log.sent
     → limits_from next ≡ limits_from log
-same_limits log next keeps same =
-    ap (limits_by (length next.input) next.limits) same
-    ∙ ap (λ (input : List ℕ). limits_by (length input) next.limits
-    (payload_limit (acked log) log.sent)) keeps.input
-    ∙ ap (λ (limits : Limits). limits_by (length log.input) limits
-    (payload_limit (acked log) log.sent)) keeps.limits
+same_limits log next keeps same = search rules
 
 -- A cutter represents the same stream, in another form.
 pub cuts_same : (cutter : CutterState) (one two : Role) (limits others : Limits)

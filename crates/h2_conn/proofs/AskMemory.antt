@@ -3,7 +3,7 @@ use Rattle.h2_conn.proofs.Names.{◌≡◌, ◌≢◌, ◌∙◌, ◌+◌, ◌�
 use Rattle.h2_conn.proofs.Names.{None, is_some, Result, Err, refl, ap, sym, arith, Code, Refusal}
 use Rattle.h2_conn.proofs.Names.{Memory, Values, returns_before_put_out, Log, log_view, View, End}
 use Rattle.h2_conn.proofs.Names.{end_view, Represents, views_alike, CutterState, PartsRepresent}
-use Rattle.h2_conn.proofs.Names.{IsSome}
+use Rattle.h2_conn.proofs.Names.{IsSome, rules}
 use Rattle.h2_spec_log.specs.declared.refusal.Refusal.TheVariants.{Closed}
 use Rattle.h2_spec_log.specs.CallRules.{sends_no_data}
 
@@ -26,9 +26,8 @@ nothing_by : (values : Values) (e : End) (log : Log) (id : ℕ) (octets : List �
     → Represents values e log → (IsSome e.failed → result ≡ Err Closed)
     → (sends_no_data (end_view e) id octets end ≡ true → result ≢ Err Memory)
     → sends_no_data (log_view log) id octets end ≡ true → result ≢ Err Memory
-nothing_by values e log id octets end result (Some code) is represents closed free none = λ lacks.
-    let wrong = sym (closed (rw is refl)) ∙ lacks in
-    cc
+nothing_by values e log id octets end result (Some code) is represents closed free none =
+    search rules
 nothing_by values e log id octets end result None is represents closed free none =
     free (ap (λ (view : View). sends_no_data view id octets end)
     (views_alike values e log represents is) ∙ none)
@@ -55,5 +54,4 @@ pub held_at_most : (values : Values) (cutter : CutterState) (e : End) (log : Log
     → PartsRepresent values cutter e log → log.failed ≡ None
     → (cutter.in_preface ≡ true → count ≤ 24)
     → (cutter.in_preface ≡ false → count ≤ 9 + cutter.greatest) → count ≤ 1048585
-held_at_most values cutter e log count p up few most =
-    held_by cutter.in_preface count cutter.greatest few most (p.greatest up)
+held_at_most values cutter e log count p up few most = search rules

@@ -1,6 +1,6 @@
 -- The number of the stream that a client opens next, as a connection returns it.
-use Rattle.h2_conn.proofs.Names.{◌≡◌, ℕ, false, List, Some, is_some, ap, sym, ◌∙◌, Item, Role}
-use Rattle.h2_conn.proofs.Names.{Client, Server, Values, Log, is_server, End, Represents}
+use Rattle.h2_conn.proofs.Names.{◌≡◌, ℕ, false, List, Some, is_some, ap, Item, Role, Client, Server}
+use Rattle.h2_conn.proofs.Names.{Values, Log, is_server, End, Represents, rules}
 use Rattle.h2_spec_log.specs.Items.{greatest_block}
 use Rattle.h2_spec_log.specs.Log.{next_number}
 use Rattle.h2_spec_log.specs.States.{openings}
@@ -19,8 +19,4 @@ pub number_by : (values : Values) (e : End) (log : Log) → Represents values e 
     → is_some e.failed ≡ false → is_server e.role ≡ false
     → Some (number_after e.streams.highest) ≡ reader_next_number log
 unfolding next_number
-number_by values e log represents up client =
-    let log_up : is_some log.failed ≡ false = ap is_some (sym represents.failed) ∙ up in
-    let log_client : is_server log.role ≡ false = ap is_server (sym represents.role) ∙ client in
-    rw (log_up, log_client) (ap Some (client_number log.role e.streams.highest log.received log.sent
-    log_client represents.streams.highest))
+number_by values e log represents up client = search rules

@@ -2,16 +2,15 @@
 use Rattle.h2_conn.proofs.Names.{◌≡◌, ℕ, suc, ◌+◌, ◌++◌, min, nat_lt, Bool, true, false, ◌||◌, List}
 use Rattle.h2_conn.proofs.Names.{length, take, drop, Option, Some, None, Result, Ok, Err, inr, IfOk}
 use Rattle.h2_conn.proofs.Names.{refl, sym, ap, ◌∙◌, arith, Code, CutterState, Refusal, Memory}
-use Rattle.h2_conn.proofs.Names.{Values, PutOut, Count, returns_before_put_out, Log}
-use Rattle.h2_conn.proofs.Names.{log_view, End, end_view, Represents}
-use Rattle.h2_conn.proofs.Names.{waiting_alike, Consumes, PutsOut, answer_by, never_refused}
-use Rattle.h2_spec_log.specs.CallRules.{may_lack_memory, encoder_after_call, has_failed}
-use Rattle.h2_spec_log.specs.LogCalls.{with_call, called, before_put_out}
-use Rattle.h2_spec_log.specs.Acts.{Answer, IsTypedAct}
-use Rattle.h2_spec_log.specs.Limits.{full_output}
-use Rattle.h2_spec_machine.specs.Machine.{after_call, before_put_out_at, return_credit}
-use Rattle.std.proofs.Common.{zero, IfErr, IsOk, is_ok, subst, if◌then◌else◌, not, ◌&&◌}
-use Rattle.std.proofs.lemmas.Bool.{both_ways, lt-ltb}
+use Rattle.h2_conn.proofs.Names.{Values, PutOut, Count, returns_before_put_out, Log, log_view, End}
+use Rattle.h2_conn.proofs.Names.{end_view, Represents, waiting_alike, Consumes, answer_by}
+use Rattle.h2_conn.proofs.Names.{never_refused, may_lack_memory, with_call, IsTypedAct, after_call}
+use Rattle.h2_conn.proofs.Names.{before_put_out_at, return_credit, if◌then◌else◌, not, rules}
+use Rattle.h2_core.specs.Readers.{PutsOut}
+use Rattle.h2_spec_log.specs.CallRules.{encoder_after_call}
+use Rattle.h2_spec_log.specs.LogCalls.{called, before_put_out}
+use Rattle.std.proofs.Common.{zero, IfErr, IsOk, ◌&&◌}
+use Rattle.std.proofs.lemmas.Bool.{lt-ltb}
 use Rattle.std.proofs.lemmas.List.{drop-take}
 use Rattle.h2_spec_log.specs.Log.{released}
 use Rattle.h2_laws_machine.proofs.AlikeAnswers.{put_out_alike}
@@ -80,8 +79,7 @@ pub lacks_by : (result : Result ℕ Refusal) (returns : Bool) (most : ℕ)
     → (returns ≡ false → most ≡ 0 → IsOk result) → result ≡ Err Memory
     → (returns || nat_lt 0 most) ≡ true
 lacks_by result true most nothing is = refl
-lacks_by result false zero nothing is =
-    absurd (both_ways (is_ok result) (ap is_ok is) (nothing refl refl))
+lacks_by result false zero nothing is = search rules
 lacks_by result false (suc most) nothing is = lt-ltb 0 (suc most) (omega arith)
 
 -- It may lack memory at a machine just where it may at its log.
@@ -128,9 +126,7 @@ pub ready_answers : (result : Result ℕ Refusal) (given : ℕ) (cutter : Cutter
     → result ≡ Ok given → IfOk result (λ given. Consumes e 0 given new)
     → PartsAnswer cutter e (PutOut 0) (answer_by (λ given. Count given) result) new
     → PartsAnswer cutter e (PutOut 0) (Count 0) new
-ready_answers (Ok given) other cutter e new is ok answers =
-    subst (λ (answer : Answer). PartsAnswer cutter e (PutOut 0) answer new)
-    (ok.answer ∙ ap Count (omega arith)) answers
+ready_answers (Ok given) other cutter e new is ok answers = search rules
 ready_answers (Err refusal) other cutter e new is ok answers = cc
 
 -- and nothing is to be returned any more.
@@ -140,12 +136,10 @@ no_credit false few = refl
 
 none_returned : (e : End) (returns : Bool) → returns_before_put_out (end_view e) ≡ returns
     → returns_before_put_out (end_view (if returns then return_credit e else e)) ≡ false
-none_returned e true is = no_credit (has_failed (end_view (return_credit e)))
-    (nat_lt (end_view (return_credit e)).waiting full_output)
+none_returned e true is = search rules
 none_returned e false is = is
 
 pub ready_returned : (e new : End) (given : ℕ) → Consumes e 0 given new
     → returns_before_put_out (end_view new) ≡ false
 unfolding after_call before_put_out_at
-ready_returned e new given consumes =
-    rw consumes.machine (none_returned e (returns_before_put_out (end_view e)) refl)
+ready_returned e new given consumes = search rules

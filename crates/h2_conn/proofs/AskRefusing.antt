@@ -4,8 +4,7 @@ use Rattle.h2_conn.proofs.Names.{refl, sym, ap, subst, ◌∙◌, Code, Internal
 use Rattle.h2_conn.proofs.Names.{Refusal, Values, Act, Answer, IsTypedAct, Refuse, Done, Refused}
 use Rattle.h2_conn.proofs.Names.{refusal_of, Log, log_view, MayAnswer, with_call, View, End}
 use Rattle.h2_conn.proofs.Names.{end_view, fail, views_alike, refusal_same, CallRefuses, answer_by}
-use Rattle.h2_conn.proofs.Names.{PartsRepresent}
-use Rattle.h2_laws_machine.specs.Machines.{end_after}
+use Rattle.h2_conn.proofs.Names.{PartsRepresent, end_after}
 use Rattle.h2_spec_log.specs.Acts.{OutOfMemory, shown}
 use Rattle.h2_spec_log.specs.CallRules.{refuse_fault, may_fail_for_memory}
 use Rattle.h2_spec_log.specs.LogCalls.{fails}

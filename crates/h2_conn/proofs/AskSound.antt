@@ -1,11 +1,11 @@
 -- A call leaves the values of an end sound.
 use Rattle.h2_conn.proofs.Names.{◌≡◌, ℕ, Bool, true, false, if◌then◌else◌, None, Result, Ok, Err}
-use Rattle.h2_conn.proofs.Names.{inl, inr, IfOk, refl, sym, ap, subst, ◌∙◌, Refusal, Memory}
-use Rattle.h2_conn.proofs.Names.{Act, IsTypedAct, Refuse, PutOut, refusal_of}
-use Rattle.h2_conn.proofs.Names.{returns_before_put_out, End, end_view, holds, is_whole, counted}
-use Rattle.h2_conn.proofs.Names.{is_counted, fits, are_in_range, CallRefused, CallAccepted}
-use Rattle.h2_conn.proofs.Names.{CallRefuses, Consumes, IsSoundEnd, never_refused}
-use Rattle.h2_spec_machine.specs.Machine.{after_call, before_put_out_at, return_credit}
+use Rattle.h2_conn.proofs.Names.{inl, inr, IfOk, refl, sym, ap, subst, ◌∙◌, Refusal, Memory, Act}
+use Rattle.h2_conn.proofs.Names.{IsTypedAct, Refuse, PutOut, refusal_of, returns_before_put_out}
+use Rattle.h2_conn.proofs.Names.{End, end_view, holds, is_whole, counted, is_counted, fits}
+use Rattle.h2_conn.proofs.Names.{are_in_range, CallRefused, CallAccepted, CallRefuses, Consumes}
+use Rattle.h2_conn.proofs.Names.{IsSoundEnd, never_refused, after_call, before_put_out_at}
+use Rattle.h2_conn.proofs.Names.{return_credit, rules}
 use Rattle.std.proofs.Common.{IfErr, OnOk}
 use Rattle.h2_laws_machine.proofs.BoundsOfSteps.{call_bounded}
 use Rattle.h2_laws_machine.proofs.ConservedBySteps.{call_holds}
@@ -30,18 +30,15 @@ pub was_up : {A : Type 0} (result : Result A Refusal) (e new : End) (act : Act)
     → IfErr result (λ refusal. CallRefused e act refusal new) → new.failed ≡ None
     → e.failed ≡ None
 was_up (Ok value) e new act other ok err up = up_if_free e act other ok.free
-was_up (Err refusal) e new act other ok err up =
-    ap (λ (x : End). x.failed) (sym err.same) ∙ up
+was_up (Err refusal) e new act other ok err up = search rules
 
 -- The same of refusing a stream.
 pub was_up_refusing : (result : Result Unit Refusal) (e new : End) (id code : ℕ)
     → CallRefuses e id code result new → new.failed ≡ None → e.failed ≡ None
 was_up_refusing (Ok done) e new id code (inl accepted) up =
     up_if_free e (Refuse id code) refl accepted.free
-was_up_refusing (Ok done) e new id code (inr (free, calm, is)) up =
-    up_if_free e (Refuse id code) refl free
-was_up_refusing (Err refusal) e new id code (why, is) up =
-    ap (λ (x : End). x.failed) (sym is) ∙ up
+was_up_refusing (Ok done) e new id code (inr (free, calm, is)) up = search rules
+was_up_refusing (Err refusal) e new id code (why, is) up = search rules
 
 -- A call leaves an end sound, whatever it returns.
 pub sound_by : {A : Type 0} (result : Result A Refusal) (e new : End) (act : Act)
@@ -50,6 +47,16 @@ pub sound_by : {A : Type 0} (result : Result A Refusal) (e new : End) (act : Act
 sound_by (Ok value) e new act typed sound ok err =
     subst IsSoundEnd (sym ok.after) (accepted_sound e act ok.free typed sound)
 sound_by (Err refusal) e new act typed sound ok err = subst IsSoundEnd (sym err.same) sound
+
+-- What holds of an end that is up, and of its cutter, holds after a call, as long as it is up.
+pub call_kept : {A : Type 0} (result : Result A Refusal) (e new : End) (act : Act)
+    (cuts : Type 0) → puts_out act ≡ false → IsTypedAct act → (e.failed ≡ None → IsSoundEnd e)
+    → (e.failed ≡ None → cuts) → OnOk result (CallAccepted e act new)
+    → IfErr result (λ refusal. CallRefused e act refusal new)
+    → (new.failed ≡ None → IsSoundEnd new) × (new.failed ≡ None → cuts)
+call_kept result e new act cuts other typed sound whole ok err =
+    let was = was_up result e new act other ok err in
+    (λ up. sound_by result e new act typed (sound (was up)) ok err, λ up. whole (was up))
 
 -- What holds beside something else of a value.
 pub beside_value : {A : Type 0} (X : A → Type 0) (P : Type 0) (result : Result A Refusal)
@@ -64,10 +71,8 @@ pub refusing_sound : (result : Result Unit Refusal) (e new : End) (id code : ℕ
 refusing_sound (Ok done) e new id code typed sound (inl accepted) up =
     subst IsSoundEnd (sym accepted.after) (accepted_sound e
     (Refuse id code) accepted.free typed sound)
-refusing_sound (Ok done) e new id code typed sound (inr (free, calm, is)) up =
-    let failed = ap (λ (x : End). x.failed) (sym is) ∙ up in absurd (cc)
-refusing_sound (Err refusal) e new id code typed sound (why, is) up =
-    subst IsSoundEnd (sym is) sound
+refusing_sound (Ok done) e new id code typed sound (inr (free, calm, is)) up = search rules
+refusing_sound (Err refusal) e new id code typed sound (why, is) up = search rules
 
 -- Returning credit leaves it whether an end has failed, by the test.
 ready_same_by : (e : End) (b : Bool) → (if b then return_credit e else e).failed ≡ e.failed
@@ -100,5 +105,24 @@ pub put_out_sound : (result : Result ℕ Refusal) (e new : End) (count : ℕ)
 put_out_sound (Ok given) e new count typed sound ok err =
     subst IsSoundEnd (sym ok.machine)
     (accepted_sound e (PutOut count) (never_refused e count) typed sound)
-put_out_sound (Err refusal) e new count typed sound ok (memory, same) =
-    subst IsSoundEnd (sym same) sound
+put_out_sound (Err refusal) e new count typed sound ok (memory, same) = search rules
+
+-- What holds of an end that is up, and of its cutter, holds after these two, as long as it is up.
+pub refusing_kept : (result : Result Unit Refusal) (e new : End) (id code : ℕ) (cuts : Type 0)
+    → IsTypedAct (Refuse id code) → (e.failed ≡ None → IsSoundEnd e) → (e.failed ≡ None → cuts)
+    → CallRefuses e id code result new
+    → (new.failed ≡ None → IsSoundEnd new) × (new.failed ≡ None → cuts)
+refusing_kept result e new id code cuts typed sound whole h =
+    let was = was_up_refusing result e new id code h in
+    (λ up. refusing_sound result e new id code typed (sound (was up)) h up, λ up. whole (was up))
+
+pub put_out_kept : (result : Result ℕ Refusal) (e new : End) (count : ℕ) (cuts : Type 0)
+    → IsTypedAct (PutOut count) → (e.failed ≡ None → IsSoundEnd e) → (e.failed ≡ None → cuts)
+    → IfOk result (λ given. Consumes e count given new)
+    → IfErr result (λ refusal. (refusal ≡ Memory) × (new ≡ e))
+    → (new.failed ≡ None → IsSoundEnd new) × (new.failed ≡ None → cuts)
+put_out_kept result e new count cuts typed sound whole ok err =
+    let still = sym (still_failed result e new count ok err) in (
+      λ up. put_out_sound result e new count typed (sound (still ∙ up)) ok err,
+      λ up. whole (still ∙ up),
+    )

@@ -8,7 +8,7 @@ pub use Rattle.h2_core.specs.Endpoint.{end_of, IsSoundEnd}
 pub use Rattle.h2_core.specs.Events.{FrameEvent}
 pub use Rattle.h2_core.specs.Frames.{FailsWithoutMemory, frame_events, FrameTaken, IsDecodedBy}
 pub use Rattle.h2_core.specs.Frames.{step_events}
-pub use Rattle.h2_core.specs.Readers.{Consumes, PutsOut}
+pub use Rattle.h2_core.specs.Readers.{Consumes}
 pub use Rattle.h2_flow.specs.ConfigValues.{values_of}
 pub use Rattle.h2_frame.specs.Frames.{Frame}
 pub use Rattle.h2_frame.specs.declared.code.Code.{Code}
@@ -22,35 +22,37 @@ pub use Rattle.h2_laws_machine.proofs.ConservedBySteps.{holds, is_whole}
 pub use Rattle.h2_laws_machine.proofs.CountedBySteps.{counted, is_counted}
 pub use Rattle.h2_laws_machine.proofs.RangesOfSteps.{are_in_range, fits}
 pub use Rattle.h2_laws_machine.proofs.ReadLimits.{limit_agrees, limit_in_range}
-pub use Rattle.h2_laws_machine.specs.Machines.{end_after}
+unfoldable pub use Rattle.h2_laws_machine.specs.Machines.{end_after}
 pub use Rattle.h2_spec_log.proofs.StreamLemmas.{Keeps}
-pub use Rattle.h2_spec_log.specs.Acts.{Act, Answer, AreInRange, ChangeSettings, Count, Done}
-pub use Rattle.h2_spec_log.specs.Acts.{IsTypedAct, Open, PutOut, Refuse, Refused, Release}
-pub use Rattle.h2_spec_log.specs.Acts.{ResetStream, SendData, SendFields, SendGoAway, SendPing}
-pub use Rattle.h2_spec_log.specs.Acts.{Values}
-pub use Rattle.h2_spec_log.specs.CallRules.{may_lack_memory, refusal_of, returns_before_put_out}
+pub use Rattle.h2_spec_log.specs.Acts.{Act, Answer, AreInRange, ChangeSettings, Count, Done, Open}
+pub use Rattle.h2_spec_log.specs.Acts.{PutOut, Refuse, Refused, Values}
+unfoldable pub use Rattle.h2_spec_log.specs.Acts.{IsTypedAct}
+pub use Rattle.h2_spec_log.specs.CallRules.{refusal_of, returns_before_put_out}
+unfoldable pub use Rattle.h2_spec_log.specs.CallRules.{may_lack_memory}
 pub use Rattle.h2_spec_log.specs.Events.{Event}
 pub use Rattle.h2_spec_log.specs.Histories.{IsDecodedFor}
-pub use Rattle.h2_spec_log.specs.ItemEffects.{events_of}
+unfoldable pub use Rattle.h2_spec_log.specs.ItemEffects.{events_of}
 pub use Rattle.h2_spec_log.specs.ItemRules.{begins_block, completes, Decoded, fails_with}
 pub use Rattle.h2_spec_log.specs.ItemRules.{frame_step, FrameStep, verdict_of}
 pub use Rattle.h2_spec_log.specs.Limits.{most_max_frame}
 pub use Rattle.h2_spec_log.specs.Log.{acked, Log}
-pub use Rattle.h2_spec_log.specs.LogCalls.{MayAnswer, with_call}
-pub use Rattle.h2_spec_log.specs.LogSteps.{limits_from, took_frame, used, with_sent}
+pub use Rattle.h2_spec_log.specs.LogCalls.{MayAnswer}
+unfoldable pub use Rattle.h2_spec_log.specs.LogCalls.{with_call}
+pub use Rattle.h2_spec_log.specs.LogSteps.{limits_from, took_frame}
+unfoldable pub use Rattle.h2_spec_log.specs.LogSteps.{used, with_sent}
 pub use Rattle.h2_spec_log.specs.LogView.{log_view}
 pub use Rattle.h2_spec_log.specs.Memory.{credit_needs_memory}
 pub use Rattle.h2_spec_log.specs.Settings.{is_server, payload_limit}
-pub use Rattle.h2_spec_log.specs.Verdicts.{ConnectionFault, NoEvent, Reported, StreamFault, Verdict}
+pub use Rattle.h2_spec_log.specs.Verdicts.{ConnectionFault, Verdict}
 pub use Rattle.h2_spec_log.specs.View.{View}
 pub use Rattle.h2_spec_log.specs.declared.refusal.Refusal.{Refusal}
 pub use Rattle.h2_spec_log.specs.declared.refusal.Refusal.TheVariants.{Memory}
 pub use Rattle.h2_spec_log.specs.declared.role.Role.{Role}
 pub use Rattle.h2_spec_log.specs.declared.role.Role.TheVariants.{Client, Server}
 pub use Rattle.h2_spec_machine.specs.End.{End, end_view, payload_limit_of}
-pub use Rattle.h2_spec_machine.specs.Machine.{after_call, after_frame, before_put_out_at}
-pub use Rattle.h2_spec_machine.specs.Machine.{close_unprocessed, fail, unprocessed_of_end}
-pub use Rattle.h2_spec_machine.specs.Machine.{with_begun}
+pub use Rattle.h2_spec_machine.specs.Machine.{after_frame, close_unprocessed, fail, return_credit}
+pub use Rattle.h2_spec_machine.specs.Machine.{unprocessed_of_end, with_begun}
+unfoldable pub use Rattle.h2_spec_machine.specs.Machine.{after_call, before_put_out_at}
 pub use Rattle.h2_spec_machine.specs.Represents.{Represents}
 pub use Rattle.h2_wire.proofs.ReadingLemmas.{none_some}
 pub use Rattle.h2_wire.specs.Cutter.{body_at, CutterLimited, CutterRepresents, CutterState}

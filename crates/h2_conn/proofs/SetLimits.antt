@@ -4,8 +4,7 @@ use Rattle.h2_conn.proofs.Names.{length, None, refl, sym, ap, ◌∙◌, arith, 
 use Rattle.h2_conn.proofs.Names.{CutterRepresents, CutterLimited, saturated, body_at, Limits}
 use Rattle.h2_conn.proofs.Names.{Complete, Values, most_max_frame, is_server, payload_limit, Log}
 use Rattle.h2_conn.proofs.Names.{acked, limits_from, Keeps, End, payload_limit_of, Represents}
-use Rattle.h2_conn.proofs.Names.{limit_agrees, PartsRepresent}
-use Rattle.std.proofs.Math.Path.{fun_ext}
+use Rattle.h2_conn.proofs.Names.{limit_agrees, PartsRepresent, rules}
 use Rattle.h2_conn.proofs.AskLimits.{cuts_same}
 
 -- A cutter that has cut the octets of a log, whatever limit it has for those to come.
@@ -29,9 +28,7 @@ limits_set : (log : Log) (limits : Limits) (limit : ℕ)
     → payload_limit (acked log) log.sent ≡ limit
     → limits_from log
     ≡ (λ (place : ℕ). if nat_le place (length log.input) then limits place else limit)
-limits_set log limits limit same set =
-    fun_ext (λ place. by_use (nat_le place (length log.input)) (log.limits place) (limits place)
-    (payload_limit (acked log) log.sent) limit (same place) set)
+limits_set log limits limit same set = search rules
 
 -- Such a cutter, whose limit is set, and the machine are the parts of a connection.
 pub parts_limited : (values : Values) (cutter limited : CutterState) (e : End) (log : Log)
@@ -70,22 +67,10 @@ limit_of_used log place used = rw used refl
 pub has_cut_kept : (values : Values) (cutter : CutterState) (e : End) (log next : Log)
     → PartsRepresent values cutter e log → Keeps log next → next.failed ≡ None
     → HasCut cutter next
-has_cut_kept values cutter e log next parts keeps going =
-    let up : log.failed ≡ None = keeps.up going in
-    record {
-      limits = limits_from log;
-      cut = cuts_same cutter log.role next.role (limits_from log) (limits_from log) log.input
-          next.input log.frames next.frames keeps.role refl keeps.input keeps.frames (parts.cut up);
-      same = λ place used. ap (λ (limits : Limits). limits place) keeps.limits
-          ∙ sym (limit_of_used log place
-          (ap (λ (input : List ℕ). nat_le place (length input)) (sym keeps.input) ∙ used));
-      unparsed = parts.unparsed up ∙ sym keeps.unparsed;
-      greatest = parts.greatest up;
-    }
+has_cut_kept values cutter e log next parts keeps going = search rules
 
 -- What lies there is the same.
 pub body_limited : (cutter limited : CutterState) (limit : ℕ) (piece : List ℕ) (frame : Complete)
     → CutterLimited cutter limit limited
     → body_at limited piece frame ≡ body_at cutter piece frame
-body_limited cutter limited limit piece frame set =
-    ap (λ (state : CutterState). body_at state piece frame) set.same
+body_limited cutter limited limit piece frame set = search rules

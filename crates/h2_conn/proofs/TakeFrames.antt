@@ -3,14 +3,13 @@
 use Rattle.h2_conn.proofs.Names.{◌≡◌, ℕ, Bool, List, [], ◌∷◌, Option, Some, None, Ok, IfSome, refl}
 use Rattle.h2_conn.proofs.Names.{sym, ap, subst, ◌∙◌, option_map, Field, Frame, Complete}
 use Rattle.h2_conn.proofs.Names.{CutterState, body_at, data_of_frame, alone, block, Event, View}
-use Rattle.h2_conn.proofs.Names.{Verdict, ConnectionFault, StreamFault, NoEvent, Reported, Decoded}
-use Rattle.h2_conn.proofs.Names.{FrameStep, fails_with, begins_block, completes, frame_step}
-use Rattle.h2_conn.proofs.Names.{verdict_of, End, end_view, with_begun, after_frame, FrameEvent}
-use Rattle.h2_conn.proofs.Names.{IsDecodedBy, step_events, frame_events, FrameTaken, LocatedEvent}
-use Rattle.h2_conn.proofs.Names.{happened_value}
-use Rattle.h2_spec_log.specs.ItemEffects.{events_of}
-use Rattle.h2_frame.specs.Frames.{Data, Headers, Priority, Reset, Settings, Ping, GoAway}
-use Rattle.h2_frame.specs.Frames.{WindowUpdate, Continuation, Unknown}
+use Rattle.h2_conn.proofs.Names.{Verdict, ConnectionFault, Decoded, FrameStep, fails_with}
+use Rattle.h2_conn.proofs.Names.{begins_block, completes, frame_step, verdict_of, End, end_view}
+use Rattle.h2_conn.proofs.Names.{with_begun, after_frame, FrameEvent, IsDecodedBy, step_events}
+use Rattle.h2_conn.proofs.Names.{frame_events, FrameTaken, LocatedEvent, happened_value, events_of}
+use Rattle.h2_conn.proofs.Names.{rules}
+use Rattle.h2_spec_log.specs.Verdicts.{StreamFault, NoEvent, Reported}
+use Rattle.h2_frame.specs.Frames.{Data}
 use Rattle.h2_spec_log.specs.Events.{DataEvent}
 use Rattle.h2_laws_machine.proofs.RecvFrames.{completes_frame}
 use Rattle.h2_core.specs.Events.{with_parts}
@@ -42,16 +41,7 @@ data_of_item view decoded (ConnectionFault code) frame id octets flow end is = c
 data_of_item view decoded (StreamFault code) frame id octets flow end is = cc
 data_of_item view decoded NoEvent frame id octets flow end is = cc
 data_of_item view decoded Reported (Data stream e o pad) id octets flow end is = cc
-data_of_item view decoded Reported (Headers stream e whole fragment pad priority) id octets flow end
-    is = cc
-data_of_item view decoded Reported (Priority stream o) id octets flow end is = cc
-data_of_item view decoded Reported (Reset stream code) id octets flow end is = cc
-data_of_item view decoded Reported (Settings ack pairs) id octets flow end is = cc
-data_of_item view decoded Reported (Ping ack o) id octets flow end is = cc
-data_of_item view decoded Reported (GoAway last code debug) id octets flow end is = cc
-data_of_item view decoded Reported (WindowUpdate stream increment) id octets flow end is = cc
-data_of_item view decoded Reported (Continuation stream whole fragment) id octets flow end is = cc
-data_of_item view decoded Reported (Unknown kind flags stream payload) id octets flow end is = cc
+data_of_item view decoded Reported frame id octets flow end is = cc
 
 -- A field block has no such event.
 data_of_block : (view : View) (decoded : Option Decoded) (verdict : Verdict) (stream : ℕ)
@@ -63,9 +53,7 @@ data_of_block : (view : View) (decoded : Option Decoded) (verdict : Verdict) (st
 unfolding events_of
 data_of_block view decoded (ConnectionFault code) stream last fragment id octets flow end other is =
     cc
-data_of_block view decoded (StreamFault code) stream last fragment id octets flow end other is = cc
-data_of_block view decoded NoEvent stream last fragment id octets flow end other is = cc
-data_of_block view decoded Reported stream last fragment id octets flow end other is = cc
+data_of_block view decoded verdict stream last fragment id octets flow end other is = cc
 
 data_of_step : (e : End) (decoded : Option Decoded) (frame : Frame) (step : FrameStep) (id : ℕ)
     (octets : List ℕ) (flow : ℕ) (end : Bool) → frame_step (end_view e) frame ≡ step
@@ -107,16 +95,9 @@ module _ (cutter : CutterState) (piece : List ℕ) (complete : Complete) where
       → HasBody cutter piece complete frame → FrameTaken e frame list reported new
       → LiesThere cutter piece (Ok (record { used = count; happened = located complete reported }))
   lies_there count e new frame list None has taken = tt
-  lies_there count e new frame list (Some (events.Fields id fields end)) has
-      taken = tt
-  lies_there count e new frame list (Some (events.Data id lent flow end)) has
-      taken = rw (body_of e taken.decoded frame id lent.now flow end has taken.events) refl
-  lies_there count e new frame list (Some (events.Reset id code ours)) has
-      taken = tt
-  lies_there count e new frame list (Some (events.GoAway last code)) has taken = tt
-  lies_there count e new frame list (Some (events.Unprocessed id)) has taken = tt
-  lies_there count e new frame list (Some events.Acked) has taken = tt
-  lies_there count e new frame list (Some (events.Pong pong)) has taken = tt
+  lies_there count e new frame list (Some (events.Data id lent flow end)) has taken =
+      rw (body_of e taken.decoded frame id lent.now flow end has taken.events) refl
+  lies_there count e new frame list (Some event) has taken = tt
 
 module _ (cutter : CutterState) (piece octets : List ℕ) (complete : Complete) (count : ℕ)
     (e : End) where
@@ -129,18 +110,12 @@ module _ (cutter : CutterState) (piece octets : List ℕ) (complete : Complete) 
       })) → events_reported list reported ≡ frame_events e decoded frame
       → happened_events list octets (located complete reported) ≡ events_reported list reported
   happened_same decoded frame list None has body is = refl
-  happened_same decoded frame list (Some (events.Fields id fields end)) has body is = refl
   happened_same decoded frame list (Some (events.Data id lent flow end)) has body is =
       let some : Some octets ≡ Some lent.now =
       sym body ∙ body_of cutter piece complete e decoded frame id lent.now flow end has is in
       let same : octets ≡ lent.now = cc in
       ap (λ (o : List ℕ). DataEvent id o flow end ∷ []) same
-  happened_same decoded frame list (Some (events.Reset id code ours)) has body is = refl
-  happened_same decoded frame list (Some (events.GoAway last code)) has body is = refl
-  happened_same decoded frame list (Some (events.Unprocessed id)) has body is = refl
-  happened_same decoded frame list (Some events.Acked) has body
-      is = refl
-  happened_same decoded frame list (Some (events.Pong pong)) has body is = refl
+  happened_same decoded frame list (Some event) has body is = refl
 
   -- A frame that was taken has happened.
   pub frame_happens : (new : End) (frame : Frame) (list : List Field) (reported : Option FrameEvent)
@@ -151,11 +126,8 @@ module _ (cutter : CutterState) (piece octets : List ℕ) (complete : Complete) 
       })) → FrameTaken e frame list reported new
       → FrameHappens e frame list octets (located complete reported) new
   frame_happens new frame list reported has body taken =
-      record {
-        decoded = taken.decoded;
-        says = taken.says;
-        after = taken.after;
-        up = taken.up;
-        events = happened_same taken.decoded frame list reported has body taken.events
-            ∙ taken.events;
-      }
+      search (
+        rules,
+        happened_same taken.decoded frame list reported has body taken.events
+            ∙ taken.events,
+      )

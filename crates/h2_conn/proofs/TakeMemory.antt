@@ -5,7 +5,7 @@ use Rattle.h2_conn.proofs.Names.{Frame, alone, block, WireFault, CutterState, Va
 use Rattle.h2_conn.proofs.Names.{fails_with, begins_block, completes, frame_step, verdict_of, Log}
 use Rattle.h2_conn.proofs.Names.{acked, limits_from, log_view, payload_limit, Verdict, View, End}
 use Rattle.h2_conn.proofs.Names.{end_view, with_begun, Represents, step_alike, views_alike}
-use Rattle.h2_conn.proofs.Names.{PartsRepresent}
+use Rattle.h2_conn.proofs.Names.{PartsRepresent, rules}
 use Rattle.h2_wire.specs.declared.cut.Advance.{Advance}
 use Rattle.h2_wire.specs.Streams.{GoesPastPreface}
 use Rattle.h2_wire.specs.Cutter.{FaultsAtHead, BeginsWithFrame}
@@ -31,16 +31,7 @@ pub cutter_lacks : (cutter : CutterState) (piece : List ℕ) (result : Result Ad
     → (BeginsWithFrame cutter piece → result ≢ Err faults.Memory)
     → (cutter.fault ≡ None → piece ≡ [] → result ≢ Err faults.Memory)
     → CutterLacks cutter piece
-cutter_lacks cutter piece result is sound checked preface lent none =
-    record {
-      some = λ empty. none sound empty is;
-      past_preface = λ inside. preface inside is;
-      no_faulty_head = λ code faulty.
-          let wrong : Err faults.Memory ≡ Err (faults.HeadFault code) =
-          sym is ∙ checked code faulty in
-          cc;
-      cut_in_two = λ begins. lent begins is;
-    }
+cutter_lacks cutter piece result is sound checked preface lent none = search rules
 
 not_above : (n : ℕ) → nat_le (suc n) n ≡ false
 not_above n = grind (arith, nat_tests)
@@ -54,8 +45,7 @@ limit_now log = rw not_above refl
 limit_same : (values : Values) (cutter : CutterState) (e : End) (log : Log)
     → PartsRepresent values cutter e log → log.failed ≡ None
     → cutter.limit ≡ (cutter_of log).limit
-limit_same values cutter e log p up =
-    sym ((p.cut up).ahead (suc (length log.input)) (omega arith)) ∙ limit_now log
+limit_same values cutter e log p up = search rules
 
 pub keeps_octets : (values : Values) (cutter : CutterState) (e : End) (log : Log)
     (piece : List ℕ) → PartsRepresent values cutter e log → log.failed ≡ None
@@ -65,23 +55,7 @@ keeps_octets values cutter e log piece p up lacks =
     let inside : cutter.in_preface ≡ (cutter_of log).in_preface = (p.cut up).in_preface in
     let unparsed : cutter.unparsed ≡ log.unparsed = p.unparsed up in
     let sound : cutter.fault ≡ None = (p.cut up).sound in
-    record {
-      some = lacks.some;
-      past_preface = λ within. rw (← unparsed) (lacks.past_preface (inside ∙ within));
-      no_faulty_head = λ code faulty. lacks.no_faulty_head code (record {
-        sound = sound;
-        with_preface = λ within. rw unparsed (faulty.with_preface (sym inside ∙ within));
-        begun = λ past. rw unparsed (faulty.begun (sym inside ∙ past));
-        head = rw (inside, unparsed, limit) faulty.head;
-      });
-      cut_in_two = λ begins. lacks.cut_in_two (record {
-        sound = sound;
-        with_preface = λ within. rw unparsed (begins.with_preface (sym inside ∙ within));
-        none_unparsed = λ past. unparsed ∙ begins.none_unparsed (sym inside ∙ past);
-        nine = rw (inside, unparsed) begins.nine;
-        whole = rw (inside, unparsed) begins.whole;
-      });
-    }
+    search rules
 
 -- Steps need memory alike where their frames do.
 needs_alike : (one other : View) (step : FrameStep)

@@ -3,24 +3,22 @@ use Rattle.h2_conn.proofs.Names.{◌≡◌, ◌≢◌, ℕ, ◌≤◌, true, Lis
 use Rattle.h2_conn.proofs.Names.{Option, inl, inr, Some, None, refl, ap, sym, subst, ◌∙◌}
 use Rattle.h2_conn.proofs.Names.{take-append-drop, length-take-le, take-length, option_map, Field}
 use Rattle.h2_conn.proofs.Names.{Code, InternalError, Frame, WireFault, wire_fault_code, Limits}
-use Rattle.h2_conn.proofs.Names.{Frames, CutterState, CutterRepresents, CutterLimited, saturated}
-use Rattle.h2_conn.proofs.Names.{none_some, Role, Values, most_max_frame, Event, Decoded, is_server}
-use Rattle.h2_conn.proofs.Names.{Log, limits_from, took_frame, log_view, credit_needs_memory, View}
+use Rattle.h2_conn.proofs.Names.{CutterState, CutterRepresents, CutterLimited, saturated, none_some}
+use Rattle.h2_conn.proofs.Names.{Values, most_max_frame, Event, Decoded, is_server, Log}
+use Rattle.h2_conn.proofs.Names.{limits_from, took_frame, log_view, credit_needs_memory, View}
 use Rattle.h2_conn.proofs.Names.{IsDecodedFor, End, end_view, payload_limit_of, after_frame, fail}
 use Rattle.h2_conn.proofs.Names.{close_unprocessed, unprocessed_of_end, Represents, views_alike}
 use Rattle.h2_conn.proofs.Names.{Failed, FailsWithoutMemory, LocatedEvent, happened_value}
-use Rattle.h2_conn.proofs.Names.{PartsRepresent}
-use Rattle.h2_spec_log.specs.LogSteps.{used, with_sent, took_part, took_fault, took_none}
-use Rattle.h2_spec_log.specs.LogSteps.{took_out_of_memory}
+use Rattle.h2_conn.proofs.Names.{PartsRepresent, used, with_sent, rules}
+use Rattle.h2_spec_log.specs.LogSteps.{took_part, took_fault, took_none, took_out_of_memory}
 use Rattle.std.proofs.Common.{◌⊎◌, append-nil}
 use Rattle.std.specs.Option.{MatchOption}
 use Rattle.h2_wire.specs.Cutter.{CutterContinues, CutterFaults, CutterFails}
 use Rattle.h2_spec_log.specs.Events.{UnprocessedEvent}
 use Rattle.h2_spec_log.specs.Log.{next_unprocessed}
-use Rattle.h2_spec_log.specs.Histories.{IsLog, TakesOctets, TakesFrame, LacksMemory, to_report}
-use Rattle.h2_spec_log.specs.Histories.{to_keep, to_take}
+use Rattle.h2_spec_log.specs.Histories.{TakesOctets, TakesFrame, LacksMemory, to_report, to_keep}
+use Rattle.h2_spec_log.specs.Histories.{to_take}
 use Rattle.h2_spec_log.proofs.StreamLemmas.{Keeps-frame, Keeps-none}
-use Rattle.h2_spec_machine.specs.Represents.{RepresentsOutput, RepresentsStreams}
 use Rattle.h2_laws_machine.specs.Machines.{uses_part, meets_fault as a_fault}
 use Rattle.h2_laws_machine.specs.Machines.{runs_out_of_memory as no_memory}
 use Rattle.h2_laws_machine.specs.Machines.{reports_unprocessed as one_unprocessed, MayStep}
@@ -50,19 +48,7 @@ Takes values log piece answer cutter e =
 -- An end that has failed as another has represents what that one does.
 represents_alike : (values : Values) (e other : End) (log : Log) → Represents values e log
     → FailsAlike e other → Represents values other log
-represents_alike values e other log s alike =
-    record {
-      came = subst (λ (role : Role). IsLog role values log) (sym alike.role) s.came;
-      role = alike.role ∙ s.role;
-      failed = alike.failed ∙ s.failed;
-      output = subst (λ octets. RepresentsOutput octets log.given log.written)
-          (sym alike.waiting) s.output;
-      streams = subst (λ streams. RepresentsStreams streams log.role log.received log.sent
-          log.reported log.calls) (sym alike.streams) s.streams;
-      running = λ up. absurd (alike.down (sym alike.failed ∙ up));
-      whole = rw (alike.windows, alike.streams) s.whole;
-      used = rw alike.streams s.used;
-    }
+represents_alike values e other log s alike = search rules
 
 -- The cutter's place is that of the last octet that the log has used.
 abbrev pub IsAtEnd : CutterState → Log → Type 0
@@ -88,20 +74,11 @@ module _ (values : Values) where
   -- Of a connection that has failed only the machine and the place count.
   pub failed_parts : (cutter : CutterState) (e : End) (log : Log) → Represents values e log
       → e.failed ≢ None → IsAtEnd cutter log → PartsRepresent values cutter e log
-  failed_parts cutter e log s down at_end =
-      record {
-        machine = s;
-        cut = λ up. absurd (down (s.failed ∙ up));
-        unparsed = λ up. absurd (down (s.failed ∙ up));
-        greatest = λ up. absurd (down (s.failed ∙ up));
-        place = at_end;
-      }
+  failed_parts cutter e log s down at_end = search rules
 
   alike_parts : (cutter : CutterState) (e other : End) (log : Log) → Represents values e log
       → FailsAlike e other → IsAtEnd cutter log → PartsRepresent values cutter other log
-  alike_parts cutter e other log s alike at_end =
-      failed_parts cutter other log (represents_alike values e other log s alike)
-      (λ up. alike.down (sym alike.failed ∙ up)) at_end
+  alike_parts cutter e other log s alike at_end = search rules
 
   -- An end takes octets where it is up and has reported all unprocessed streams.
   pub takes_octets : (e : End) (log : Log) → Represents values e log → e.failed ≡ None
@@ -168,9 +145,7 @@ module _ (values : Values) (cutter new : CutterState) (e : End) (log : Log) (pie
 
   read_of : PartsRepresent values cutter e log → log.failed ≡ None
       → IsCut cutter new piece count frame → TakesFrame log.role log (take count piece) frame
-  read_of p up cut = subst (λ (unparsed : List ℕ). Frames (is_server log.role) (limits_from log)
-      (log.input ++ take count piece) (log.frames ++ frame ∷ []) unparsed) cut.none
-      (cut_now p up cut).split
+  read_of p up cut = search rules
 
 -- what has happened, as the event that is returned
 answered : (list : List Field) (octets : List ℕ) (happened : Option LocatedEvent)
@@ -320,15 +295,7 @@ module _ (values : Values) (cutter new : CutterState) (e other : End) (log : Log
 -- The same end fails in the same way.
 fails_alike : (e other : End) (code : Code) → other ≡ fail code e.streams.last_processed e
     → FailsAlike (fail code e.streams.last_processed e) other
-fails_alike e other code same =
-    record {
-      down = λ up. none_some code (sym up);
-      role = ap (λ (x : End). x.role) same;
-      failed = ap (λ (x : End). x.failed) same;
-      streams = ap (λ (x : End). x.streams) same;
-      windows = ap (λ (x : End). x.windows) same;
-      waiting = ap (λ (x : End). x.output.waiting) same;
-    }
+fails_alike e other code same = search rules
 
 -- A cutter without fault that fails has met one.
 first_fault : (known : Option WireFault) (Meets Stays : Type 0) → known ≡ None
@@ -370,8 +337,7 @@ unprocessed_taken values cutter e other log piece id p up next some closed =
 -- No octet more was used.
 used_none : (cutter : CutterState) (log : Log) → IsAtEnd cutter log
     → cutter.place ≡ saturated (length (log.input ++ []))
-used_none cutter log at_end =
-    end_kept cutter.place log.input (log.input ++ []) (append-nil log.input) at_end
+used_none cutter log at_end = search rules
 
 -- Or memory is refused to it.
 pub unprocessed_lacks : (values : Values) (cutter : CutterState) (e other : End) (log : Log)
@@ -401,19 +367,10 @@ cut_stopped values cutter new e other log piece faults.Memory p takes fails lack
     (ap (λ (state : CutterState). state.place) fails
     ∙ used_none cutter log p.place)
     (record { lacks = refl; after = fails_alike e other InternalError failed })
-cut_stopped values cutter new e other log piece faults.BadPreface p takes fails lacks failed =
-    fault_taken values cutter new e other log piece faults.BadPreface p takes
-    (first_fault cutter.fault (CutterFaults cutter piece faults.BadPreface new) (new ≡ cutter)
+cut_stopped values cutter new e other log piece fault p takes fails lacks failed =
+    fault_taken values cutter new e other log piece fault p takes
+    (first_fault cutter.fault (CutterFaults cutter piece fault new) (new ≡ cutter)
     (p.cut takes.up).sound fails) failed
-cut_stopped values cutter new e other log piece (faults.HeadFault code) p takes fails lacks failed =
-    fault_taken values cutter new e other log piece (faults.HeadFault code) p takes
-    (first_fault cutter.fault (CutterFaults cutter piece (faults.HeadFault code) new)
-    (new ≡ cutter) (p.cut takes.up).sound fails) failed
-cut_stopped values cutter new e other log piece (faults.PayloadFault code) p takes fails lacks
-    failed =
-    fault_taken values cutter new e other log piece (faults.PayloadFault code) p takes
-    (first_fault cutter.fault (CutterFaults cutter piece (faults.PayloadFault code) new)
-    (new ≡ cutter) (p.cut takes.up).sound fails) failed
 
 -- The event that is returned may be given in another form.
 pub said_so : (values : Values) (log : Log) (piece : List ℕ) (count : ℕ)

@@ -1,12 +1,11 @@
 -- What a log reports of a frame is what the machine that represents it does.
 use Rattle.h2_conn.proofs.Names.{◌≡◌, ℕ, List, [], ◌∷◌, ◌++◌, Option, Some, None, refl, ap, sym}
 use Rattle.h2_conn.proofs.Names.{subst, ◌∙◌, Frame, none_some, Item, alone, block, Values, Event}
-use Rattle.h2_conn.proofs.Names.{Verdict, ConnectionFault, StreamFault, NoEvent, Reported, Decoded}
-use Rattle.h2_conn.proofs.Names.{FrameStep, fails_with, begins_block, completes, frame_step}
-use Rattle.h2_conn.proofs.Names.{verdict_of, events_of, Log, log_view, took_frame, IsDecodedFor}
-use Rattle.h2_conn.proofs.Names.{End, end_view, Represents, step_alike, IsDecodedBy, step_events}
-use Rattle.h2_conn.proofs.Names.{frame_events}
-use Rattle.h2_spec_log.specs.LogSteps.{used, with_verdict, with_step, with_frame}
+use Rattle.h2_conn.proofs.Names.{Verdict, ConnectionFault, Decoded, FrameStep, fails_with}
+use Rattle.h2_conn.proofs.Names.{begins_block, completes, frame_step, verdict_of, events_of, Log}
+use Rattle.h2_conn.proofs.Names.{log_view, took_frame, IsDecodedFor, End, end_view, Represents}
+use Rattle.h2_conn.proofs.Names.{step_alike, IsDecodedBy, step_events, frame_events, used, rules}
+use Rattle.h2_spec_log.specs.LogSteps.{with_verdict, with_step, with_frame}
 use Rattle.h2_spec_log.specs.Histories.{IsDecodedIn}
 use Rattle.h2_laws_machine.proofs.AlikeFrames.{events_used}
 use Rattle.h2_laws_machine.proofs.RecvFrames.{step_same}
@@ -19,17 +18,8 @@ verdict_reports : (log : Log) (decoded : Option Decoded) (item : Item) (verdict 
     ≡ events_of (log_view log) decoded verdict item ++ log.reported
 unfolding with_verdict
 verdict_reports log decoded item (ConnectionFault code) up = none_some code (sym up)
-verdict_reports log decoded item (StreamFault code) up =
-    reported_is _ _
-    ∙ ap (λ (r : List Event). events_of (log_view log) decoded (StreamFault code) item ++ r)
-    (unreturned_reported _ _ ∙ sent_reported _ _)
-verdict_reports log decoded item NoEvent up =
-    reported_is _ _
-    ∙ ap (λ (r : List Event). events_of (log_view log) decoded NoEvent item ++ r)
-    (unreturned_reported _ _ ∙ sent_reported _ _)
-verdict_reports log decoded item Reported up =
-    reported_is _ _
-    ∙ ap (λ (r : List Event). events_of (log_view log) decoded Reported item ++ r)
+verdict_reports log decoded item verdict up =
+    reported_is _ _ ∙ ap (λ (r : List Event). events_of (log_view log) decoded verdict item ++ r)
     (unreturned_reported _ _ ∙ sent_reported _ _)
 
 -- the events of the item that a frame completes
@@ -83,11 +73,9 @@ decoded_in values e log None (completes (block stream end octets)) represents up
     let run = represents.running up in
     rw (sym run.reading.table, sym run.own.in_force.table_limit) says
 decoded_in values e log (Some decoded) (completes (block stream end octets)) represents up says =
-    let run = represents.running up in
-    rw (sym run.reading.table, sym run.own.in_force.table_limit) says
+    search rules
 decoded_in values e log decoded (completes (alone frame)) represents up says = says
-decoded_in values e log decoded (begins_block begun) represents up says = says
-decoded_in values e log decoded (fails_with code) represents up says = says
+decoded_in values e log decoded step represents up says = says
 
 pub decoded_for : (values : Values) (e : End) (log : Log) (decoded : Option Decoded)
     (frame : Frame) → Represents values e log → e.failed ≡ None

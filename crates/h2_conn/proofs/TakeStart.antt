@@ -4,7 +4,7 @@ use Rattle.h2_conn.proofs.Names.{arith, Limits, Frames, CutterState, CutterRepre
 use Rattle.h2_conn.proofs.Names.{CutterLimited, Role, Client, Server, Values, AreInRange, is_server}
 use Rattle.h2_conn.proofs.Names.{End, payload_limit_of, Represents, is_whole, is_counted}
 use Rattle.h2_conn.proofs.Names.{are_in_range, limit_in_range, IsSoundEnd, PartsRepresent}
-use Rattle.h2_spec_log.specs.LogSteps.{with_sent}
+use Rattle.h2_conn.proofs.Names.{with_sent, rules}
 use denote.Enum.Bare.{sameb}
 use Rattle.h2_spec_log.specs.contracts.role.Role.{the_type}
 use Rattle.h2_spec_log.specs.LogCalls.{opened}
@@ -15,6 +15,7 @@ use Rattle.h2_laws_machine.proofs.CountedBySteps.{new_counts}
 use Rattle.h2_laws_machine.proofs.NewEnd.{new_represents}
 use Rattle.h2_laws_machine.proofs.RangesOfSteps.{new_fits}
 use Rattle.h2_conn.proofs.SetLimits.{HasCut, parts_limited}
+use Rattle.std.proofs.lemmas.Grind.{common_steps}
 
 -- Whether an end is a server.
 pub is_a_server : (role : Role) → sameb the_type role Server ≡ is_server role
@@ -25,14 +26,16 @@ is_a_server Server = refl
 pub new_sound : (e : End) (role : Role) (values : Values) → AreInRange values
     → e ≡ new_end role values → IsSoundEnd e
 new_sound e role values in_range new =
-    let sound : IsSoundEnd (new_end role values) =
-    record {
-      bounded = new_bounded role values in_range;
+    let sound : IsSoundEnd (new_end role values) = record {
+      bounded = new_bounded role values
+          in_range;
       window = is_whole (new_end role values) (new_holds role values);
-      ranges = are_in_range (new_end role values) (new_fits role values in_range);
-      counts = is_counted (new_end role values) (new_counts role values);
+      ranges = are_in_range
+          (new_end role values) (new_fits role values in_range);
+      counts = is_counted (new_end role values)
+          (new_counts role values);
     } in
-    subst (λ (x : End). IsSoundEnd x) (sym new) sound
+    search rules
 
 -- the limits of payloads before an end's first SETTINGS
 abbrev pub first_limits : Limits
@@ -53,14 +56,7 @@ opened_cut : (cutter : CutterState) (role : Role) (values : Values)
     → CutterRepresents cutter (is_server role) first_limits [] [] → cutter.greatest ≡ 16384
     → HasCut cutter (opened role values)
 unfolding opened with_sent
-opened_cut cutter role values cut greatest =
-    record {
-      limits = first_limits;
-      cut = cut;
-      same = λ place used. refl;
-      unparsed = none_left cutter.unparsed (is_server role) cut.split;
-      greatest = omega (arith, greatest);
-    }
+opened_cut cutter role values cut greatest = grind (arith, common_steps)
 
 -- A new end represents its log, with such a cutter that is given the limit in force.
 pub new_parts : (cutter limited : CutterState) (e : End) (role : Role) (values : Values)

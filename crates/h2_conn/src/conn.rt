@@ -29,9 +29,10 @@ use h2_spec_log::{Refusal, Role};
 use h2_wire::{Complete, Cutter};
 use hpack::FieldList;
 use std::alloc::Global;
+use std::fmt;
 
 /// One end of a connection: it takes octets and calls, and returns events and octets. It does no
-/// input or output.
+/// input or output. `{:?}` shows which end it is, the code of its failure, and how much waits.
 #[derive(Drop)]
 pub struct Conn {
     pub(crate) inner: Inner,
@@ -203,4 +204,15 @@ fn new_inner(alloc: Global, role: Role, config: Config) -> Result<Inner, Refusal
     let mut cutter = Cutter::new(alloc, LEAST_MAX_FRAME, role == Role::Server);
     cutter.set_limit(end.payload_limit());
     Ok(Inner { cutter, end })
+}
+
+impl fmt::Debug for Conn {
+    fn fmt<W: fmt::Write>(&self, f: &mut fmt::Formatter<W>) -> fmt::Result {
+        f.debug_struct("Conn")
+            .field("role", &self.inner.end.role())
+            .field("failed", &self.failed())
+            .field("waiting", &self.waiting())
+            .field("held", &self.held())
+            .finish()
+    }
 }

@@ -1,8 +1,7 @@
 -- The first of some conditions that holds, and calls that are refused for it.
 use Rattle.h2_core.proofs.Names.{◌≡◌, Bool, true, false, List, ◌∷◌, Option, Some, None, refl, inl}
 use Rattle.h2_core.proofs.Names.{inr, option_map, is_err, Refusal, Memory, Act, refusal_of, End}
-use Rattle.h2_core.proofs.Names.{end_view, CallRefused}
-use Rattle.h2_spec_log.specs.CallRules.{first_of}
+use Rattle.h2_core.proofs.Names.{end_view, CallRefused, first_of}
 use Rattle.std.specs.Option.{is_some}
 use Rattle.std.specs.Prelude.{Result, Ok, Err, OnErr}
 

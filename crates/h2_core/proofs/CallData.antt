@@ -2,8 +2,7 @@
 use Rattle.h2_core.proofs.Names.{◌≡◌, ℕ, zero, suc, ◌+◌, ◌≤◌, ◌<◌, Bool, false, List, [], ◌∷◌, ◌++◌}
 use Rattle.h2_core.proofs.Names.{length, take, drop, None, sym, ap, ◌∙◌, inl, inr, append-nil}
 use Rattle.h2_core.proofs.Names.{append_assoc, arith, add-one, cases_lt, Data, encoding_of, Item}
-use Rattle.h2_core.proofs.Names.{alone, data_frames}
-use Rattle.h2_spec_log.specs.Items.{encoding_of_item, encoding_of_items}
+use Rattle.h2_core.proofs.Names.{alone, data_frames, encoding_of_item, encoding_of_items}
 use Rattle.std.proofs.Common.{length-drop}
 use Rattle.h2_spec_log.proofs.DataFrames.{frames_last as frames_one, frames_more}
 

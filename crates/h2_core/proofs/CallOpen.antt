@@ -3,16 +3,18 @@ use Rattle.h2_core.proofs.Names.{◌≡◌, ℕ, ◌+◌, ◌==◌, ◌≤◌, �
 use Rattle.h2_core.proofs.Names.{None, refl, ap, ◌∙◌, arith, Field, block_of, after_block}
 use Rattle.h2_core.proofs.Names.{list_size, block, refusal_of, is_server, StreamView, End, end_view}
 use Rattle.h2_core.proofs.Names.{active_entry, queue_output, with_encoder, new_stream, TableState}
-use Rattle.h2_spec_log.specs.CallRules.{conditions, items_of, encoder_after_call}
-use Rattle.h2_spec_machine.specs.Machine.{after_call, open_stream}
+use Rattle.h2_core.proofs.Names.{conditions, items_of, encoder_after_call, after_call}
+use Rattle.h2_spec_machine.specs.Machine.{open_stream}
 use Rattle.std.proofs.lemmas.Bool.{ltb-false, eqb-true, or_parts}
 use Rattle.h2_spec_log.specs.Acts.{Open}
 use Rattle.h2_spec_machine.specs.End.{number_after}
+use Rattle.h2_core.proofs.StepEnds.{with_table}
 use Rattle.h2_core.proofs.CallMaps.{remove_inserted}
 use Rattle.h2_laws_log.proofs.InvariantSends.{client_number as number_at}
 use Rattle.h2_laws_log.proofs.CallConditions.{first_none as none_first}
 use Rattle.hpack.proofs.Tests.{none_since as nothing}
 use Rattle.std.specs.FinMap as map
+use Rattle.h2_core.proofs.Names.{rules}
 
 -- What holds where no condition refuses to open a stream.
 pub record MayOpen (e : End) (fields : List Field) : Type 0 where
@@ -46,23 +48,11 @@ may_open e fields end free =
 -- The next number isn't 0, and above all that were used.
 number_by : (highest : ℕ) (none : Bool) → (highest == 0) ≡ none
     → (1 ≤ number_after highest) × (highest < number_after highest)
-number_by highest true is =
-    let zero : highest ≡ 0 = eqb-true highest 0 is in
-    let first : number_after highest ≡ 1 = rw is in
-    (omega arith, omega arith)
-number_by highest false is =
-    let next : number_after highest ≡ highest + 2 = rw is in (omega arith, omega arith)
+number_by highest true is = search rules
+number_by highest false is = search rules
 
 pub number_above : (highest : ℕ) → (1 ≤ number_after highest) × (highest < number_after highest)
 number_above highest = number_by highest (highest == 0) refl
-
--- an end whose streams are those of a table
-abbrev pub with_table : End → TableState → End
-with_table e table = record e {
-  streams = record e.streams { entries = table.entries };
-  peer = record e.peer { initial_window = table.send_initial };
-  own = record e.own { in_force = record e.own.in_force { initial_window = table.recv_initial } };
-}
 
 -- the table whose streams an end has
 abbrev pub table_of : End → TableState
@@ -104,9 +94,4 @@ pub opened : (e : End) (added : TableState) (fields : List Field) (end : Bool) (
     fields)) (block id end (block_of e.output.encoder fields) ∷ [])) id
     ≡ after_call e (Open fields end)
 unfolding after_call items_of encoder_after_call
-opened e added fields end id is number =
-    ap (λ (one : TableState). with_count (queue_output (with_encoder (with_table e one)
-    (after_block e.output.encoder fields)) (block id end (block_of e.output.encoder fields) ∷ []))
-    id) is
-    ∙ ap (λ next. open_stream (queue_output (with_encoder e (after_block e.output.encoder fields))
-    (block next end (block_of e.output.encoder fields) ∷ [])) next end) number
+opened e added fields end id is number = search rules

@@ -1,23 +1,14 @@
 -- The octets that calls add to the output.
 use Rattle.h2_core.proofs.Names.{◌≡◌, ℕ, ◌+◌, ◌-◌, ◌*◌, ◌/◌, ◌≤◌, Bool, List, [], ◌∷◌, length, refl}
 use Rattle.h2_core.proofs.Names.{arith, Field, EncoderState, list_size, block_of, Frame}
-use Rattle.h2_core.proofs.Names.{encoding_of, alone, block, End}
-use Rattle.h2_spec_log.specs.Items.{encoding_of_item, encoding_of_items}
+use Rattle.h2_core.proofs.Names.{encoding_of, alone, block, End, encoding_of_item}
+use Rattle.h2_core.proofs.Names.{encoding_of_items}
 use Rattle.std.proofs.Math.Nat.{div-mul-le_self, mul-le-mul_left}
 use Rattle.std.proofs.lemmas.Nat.{le-div}
 use Rattle.hpack.proofs.RoomLemmas.{block_short, most_octets-list_size}
 use Rattle.h2_block.proofs.SpreadLengths.{length-spread_frames}
 use Rattle.h2_block.specs.Spread.{spread_frames, encoding_of_frames}
-
--- an end whose output is this
-abbrev pub with_waiting : End → List ℕ → End
-with_waiting e octets = record e { output = record e.output { waiting = octets } }
-
--- the octets of one frame
-pub octets_of_frame : (most : ℕ) (frame : Frame)
-    → encoding_of_items most (alone frame ∷ []) ≡ encoding_of frame
-unfolding encoding_of_items encoding_of_item
-octets_of_frame most frame = refl
+use Rattle.h2_core.proofs.Names.{rules}
 
 -- the octets of one block
 pub octets_of_block : (most id : ℕ) (end : Bool) (octets : List ℕ)
@@ -28,9 +19,7 @@ octets_of_block most id end octets = refl
 
 -- A smaller number has no greater quotient, by a number that is no smaller.
 quotient_below : (a b m n : ℕ) → a ≤ b → n ≤ m → 1 ≤ n → a / m ≤ b / n
-quotient_below a b m n below least positive =
-    le-div (a / m) b n (omega arith)
-    (omega (arith, div-mul-le_self a m, mul-le-mul_left (a / m) least))
+quotient_below a b m n below least positive = search rules
 
 -- The octets of a block, by the size of its list.
 pub block_within : (state : EncoderState) (fields : List Field)

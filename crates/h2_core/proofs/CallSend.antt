@@ -5,12 +5,12 @@ use Rattle.h2_core.proofs.Names.{not, ◌&&◌, Bool, true, false, List, [], ◌
 use Rattle.h2_core.proofs.Names.{Some, None, lt-leb, lt-ltb, le-ltb, Field, block_of, after_block}
 use Rattle.h2_core.proofs.Names.{list_size, Item, block, refusal_of, data_frames, StreamView, End}
 use Rattle.h2_core.proofs.Names.{end_view, stream_at, update_stream, queue_output, with_encoder}
-use Rattle.h2_spec_log.specs.CallRules.{first_of, conditions, items_of, encoder_after_call}
+use Rattle.h2_core.proofs.Names.{first_of, conditions, items_of, encoder_after_call, after_call}
 use Rattle.h2_spec_log.specs.CallRules.{data_count, data_items}
-use Rattle.h2_spec_machine.specs.Machine.{after_call}
 use Rattle.std.proofs.lemmas.List.{length-take-le}
 use Rattle.h2_spec_log.specs.declared.refusal.Refusal.TheVariants.{ListTooLarge}
 use Rattle.h2_spec_log.specs.Acts.{SendFields, SendData}
+use Rattle.h2_core.proofs.Names.{rules}
 
 module _ (e : End) (id : ℕ) (stream : StreamView) (fields : List Field) (end : Bool) where
   -- No condition refuses fields.
@@ -18,34 +18,21 @@ module _ (e : End) (id : ℕ) (stream : StreamView) (fields : List Field) (end :
       → length e.output.waiting < 65536 → list_size fields ≤ 65536
       → refusal_of (end_view e) (SendFields id fields end) ≡ None
   unfolding first_of conditions
-  fields_free up active goes room small = rw (
-    up,
-    active,
-    goes,
-    lt-leb 65536 (length e.output.waiting) room,
-    le-ltb 65536 (list_size fields) small,
-  )
+  fields_free up active goes room small = search rules
 
   -- A list that is too large, where nothing else refuses fields.
   pub fields_large : e.failed ≡ None → stream_at e id ≡ Some stream → stream.ended_out ≡ false
       → length e.output.waiting < 65536 → 65536 < list_size fields
       → refusal_of (end_view e) (SendFields id fields end) ≡ Some ListTooLarge
   unfolding first_of conditions
-  fields_large up active goes room large = rw (
-    up,
-    active,
-    goes,
-    lt-leb 65536 (length e.output.waiting) room,
-    lt-ltb 65536 (list_size fields) large,
-  )
+  fields_large up active goes room large = search rules
 
 -- No condition refuses DATA.
 pub data_free : (e : End) (id : ℕ) (stream : StreamView) (octets : List ℕ) (end : Bool)
     → e.failed ≡ None → stream_at e id ≡ Some stream → stream.ended_out ≡ false
     → length e.output.waiting < 65536 → refusal_of (end_view e) (SendData id octets end) ≡ None
 unfolding first_of conditions
-data_free e id stream octets end up active goes room =
-    rw (up, active, goes, lt-leb 65536 (length e.output.waiting) room)
+data_free e id stream octets end up active goes room = search rules
 
 -- the end once the block is written
 pub fields_sent : (e : End) (id : ℕ) (stream : StreamView) (fields : List Field) (end : Bool)

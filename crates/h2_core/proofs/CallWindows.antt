@@ -13,22 +13,8 @@ pub narrowed_near : (window : ℤ) (count : ℕ) → is_far window ≡ false
 narrowed_near (pos n) count near within = grind (arith, ints)
 narrowed_near (negsuc n) count near within = grind (arith, ints)
 
--- A window that is near zero fits 64 bits.
-near_fits : (window : ℤ) → is_far window ≡ false → FitsSigned w64 window
-near_fits window near = grind (arith, ints)
-
--- So it is what its bits say.
-stays : (window : ℤ) → is_far window ≡ false → to_z w64 (of_z w64 window) ≡ window
-stays window near = to_z-of_z w64 window (near_fits window near)
-
--- A number of octets is what its bits say.
-count_stays : (count : ℕ) → count ≤ 65536 → to_z w64 count ≡ pos count
-count_stays count small = grind (arith, ints)
-
 -- the window without the octets, in 64 bits
 pub narrowed_value : (window : ℤ) (count : ℕ) → is_far window ≡ false → count ≤ 65536
     → is_far (window -ℤ pos count) ≡ false
     → to_z w64 (of_z w64 (to_z w64 (of_z w64 window) -ℤ to_z w64 count)) ≡ window -ℤ pos count
-narrowed_value window count near small left =
-    ap (λ (z : ℤ). to_z w64 (of_z w64 z)) (ap₂ ◌-ℤ◌ (stays window near) (count_stays count small))
-    ∙ stays (window -ℤ pos count) left
+narrowed_value window count near small left = grind (arith, ints)

@@ -12,11 +12,11 @@ use Rattle.h2_core.proofs.Names.{update_stream, close_stream, set_stream, widen_
 use Rattle.h2_core.proofs.Names.{receive_block, apply_own_settings, fail, narrow_recv_window}
 use Rattle.h2_core.proofs.Names.{IsSoundEnd, FailsAlike, ItemTaken, TakesItem, FailsWithoutMemory}
 use Rattle.h2_core.proofs.Names.{IsSmall, FailsBy, FrameEvent, StepError, Fault, OutOfMemory}
-use Rattle.h2_spec_log.specs.Items.{encoding_of_items, encoding_of_item}
-use Rattle.h2_spec_log.specs.ItemRules.{opened_by, verdict_of, verdict_by_rules, over_limits}
-use Rattle.h2_spec_log.specs.ItemRules.{replies_to}
-use Rattle.h2_spec_machine.specs.Machine.{after_verdict, after_stream_fault, after_ignored}
-use Rattle.h2_spec_machine.specs.Machine.{after_reported, add_unreturned, receive_data, with_flow}
+use Rattle.h2_core.proofs.Names.{encoding_of_items, encoding_of_item, opened_by, verdict_of}
+use Rattle.h2_core.proofs.Names.{verdict_by_rules, over_limits, replies_to, after_verdict}
+use Rattle.h2_core.proofs.Names.{after_stream_fault, after_ignored, after_reported, add_unreturned}
+use Rattle.h2_core.proofs.Names.{◌≤◌, StreamIsInRange}
+use Rattle.h2_spec_machine.specs.Machine.{receive_data, with_flow}
 use Rattle.std.proofs.Common.{nat_lt, Err, is_some}
 use Rattle.hpack.specs.Blocks.{Block as BlockSays}
 use Rattle.hpack.specs.Lists.{NoBlock, HoldsList, DecodeFault}
@@ -30,6 +30,7 @@ use Rattle.h2_laws_machine.proofs.TableRanges.{block_within}
 use Rattle.h2_laws_log.proofs.StreamNumbers.{number_or_none as opens_by}
 use Rattle.hpack.specs.declared.types.fault.Fault.TheVariants as decoding
 use Rattle.hpack.specs.declared.types.field.Decoded.TheVariants as answered
+use Rattle.h2_core.proofs.Names.{rules}
 
 -- Credit that is returned fails nothing.
 credit_by : (b : Bool) (e : End) (more : ℕ)
@@ -93,18 +94,14 @@ unfolding after_ignored
 ignored_up e decoded (alone (Data i end octets pad)) = credit_up _ _
 ignored_up e decoded (alone (WindowUpdate i increment)) = widened_up e i increment (stream_at e i)
 ignored_up e decoded (alone (Settings false pairs)) = refl
-ignored_up e decoded (alone (Settings true pairs)) = refl
 ignored_up e decoded (alone (Ping false octets)) = refl
-ignored_up e decoded (alone (Ping true octets)) = refl
-ignored_up e decoded (alone frame) = refl
-ignored_up e decoded (block i end octets) = refl
+ignored_up e decoded item = refl
 
 refused_up : (e : End) (decoded : Option Decoded) (item : Item) (code : Code)
     → (after_stream_fault e decoded item code).failed ≡ e.failed
 unfolding after_stream_fault
-refused_up e decoded (block i end octets) code = credit_up _ _
 refused_up e decoded (alone (Data i end octets pad)) code = credit_up _ _
-refused_up e decoded (alone frame) code = credit_up _ _
+refused_up e decoded item code = credit_up _ _
 
 -- An item whose verdict isn't that the connection fails leaves it as it is.
 pub verdict_up : (e : End) (decoded : Option Decoded) (item : Item) (verdict : Verdict)
@@ -127,47 +124,11 @@ pub table_sound : (e : End) (octets : List ℕ) (fields : List Field) (after : E
 table_sound e octets fields after sound says =
     let within = block_within e.reading.table e.own.in_force.table_limit octets fields after says
     sound.ranges.table in
-    record {
-      bounded = record {
-        up = sound.bounded.up;
-        output = sound.bounded.output;
-        resets = sound.bounded.resets;
-        active_count = sound.bounded.active_count;
-        streams_allowed = sound.bounded.streams_allowed;
-        max_streams = sound.bounded.max_streams;
-        awaited = sound.bounded.awaited;
-        encoder = sound.bounded.encoder;
-      };
-      window = record { whole = sound.window.whole; used = sound.window.used };
-      ranges = record {
-        highest = sound.ranges.highest;
-        last_processed = sound.ranges.last_processed;
-        goaway_sent = sound.ranges.goaway_sent;
-        send = sound.ranges.send;
-        initial_window = sound.ranges.initial_window;
-        own_window = sound.ranges.own_window;
-        own_frame = sound.ranges.own_frame;
-        table_limit = sound.ranges.table_limit;
-        awaited = sound.ranges.awaited;
-        streams = λ i stream active.
-            let range = sound.ranges.streams i stream active in
-            record {
-              send_most = range.send_most;
-              send_least = range.send_least;
-              recv_most = range.recv_most;
-              recv_least = range.recv_least;
-            };
-        connection = sound.ranges.connection;
-        begun = sound.ranges.begun;
-        table = within.0;
-        maximum = omega (arith, within.1, sound.ranges.table_limit);
-      };
-      counts = record {
-        active = sound.counts.active;
-        resets = sound.counts.resets;
-        used = sound.counts.used;
-      };
-    }
+    let maximum : after.maximum ≤ 65536 = omega (arith, within.1, sound.ranges.table_limit) in
+    let streams : (i : ℕ) (stream : StreamView) → stream_at e i ≡ Some stream
+    → StreamIsInRange (with_table e after) stream =
+    λ i stream active. assumption (sound.ranges.streams i stream active) in
+    assumption (within.0, maximum, streams, sound)
 
 -- What fails with the code and the last stream, and keeps what counts, fails alike.
 pub alike : (e new : End) (code : Code) (last : ℕ) → new.role ≡ e.role → new.failed ≡ Some code
@@ -175,28 +136,12 @@ pub alike : (e new : End) (code : Code) (last : ℕ) → new.role ≡ e.role →
     → new.output.waiting ≡ e.output.waiting ++ encoding_of (GoAway last (code_number code) [])
     → FailsAlike (fail code last e) new
 unfolding encoding_of_items encoding_of_item
-alike e new code last role failed streams windows waiting =
-    record {
-      down = λ wrong. cc;
-      role = role;
-      failed = failed;
-      streams = streams;
-      windows = windows;
-      waiting = waiting;
-    }
+alike e new code last role failed streams windows waiting = search rules
 
 -- A failure at another table is alike.
-table_alike : (e : End) (table : Entries) (code : Code) (last : ℕ)
+pub table_alike : (e : End) (table : Entries) (code : Code) (last : ℕ)
     → FailsAlike (fail code last e) (fail code last (with_table e table))
-table_alike e table code last =
-    record {
-      down = λ wrong. cc;
-      role = refl;
-      failed = refl;
-      streams = refl;
-      windows = refl;
-      waiting = refl;
-    }
+table_alike e table code last = search rules
 
 module _ (e : End) (id : ℕ) (end : Bool) (octets : List ℕ) (decoded : Decoded) where
   -- A block changes an end as it changes the one with its table already, unless it fails.
@@ -205,9 +150,7 @@ module _ (e : End) (id : ℕ) (end : Bool) (octets : List ℕ) (decoded : Decode
       ≡ after_verdict e (Some decoded) (block id end octets) verdict
   unfolding after_verdict after_stream_fault after_ignored after_reported
   block_after (ConnectionFault code) goes_on = absurd (goes_on code refl)
-  block_after (StreamFault code) goes_on = refl
-  block_after NoEvent goes_on = refl
-  block_after Reported goes_on = refl
+  block_after verdict goes_on = refl
 
   -- The block is taken by the end whose table is the one after it.
   pub block_taken : (list : List Field) (reported : Option FrameEvent) (new : End) → e.failed ≡ None
@@ -234,14 +177,7 @@ pub no_block_fails : (e new : End) (id : ℕ) (end : Bool) (octets : List ℕ)
     → BlockFails e id end octets CompressionError new
 unfolding after_verdict verdict_of verdict_by_rules over_limits replies_to encoding_of_items
     opened_by
-no_block_fails e new id end octets none failed =
-    let last : e.streams.last_processed ≡ max e.streams.last_processed 0 = omega arith in
-    record {
-      decoded = None;
-      says = none;
-      fails = refl;
-      after = subst (λ (n : ℕ). FailsAlike (fail CompressionError n e) new) last failed;
-    }
+no_block_fails e new id end octets none failed = search rules
 
 -- What stops a block fails the connection.
 pub block_stopped : (e mid new : End) (id : ℕ) (end : Bool) (octets : List ℕ) (decoded : Decoded)
@@ -257,34 +193,20 @@ block_stopped e mid new id end octets decoded list (Fault code opened) answer sa
     let verdict : verdict_of (end_view e) (Some decoded) item ≡ ConnectionFault code = stopped.0 in
     let opens : opened ≡ opened_by (end_view e) (Some decoded) item = stopped.1 in
     let same : mid ≡ with_table e decoded.after = stopped.2 in
-    let after : after_item e (Some decoded) item
-    ≡ fail code (max e.streams.last_processed opened) e =
-    ap (after_verdict e (Some decoded) item) verdict
-    ∙ ap (λ (n : ℕ). fail code (max e.streams.last_processed n) e) (sym opens) in
-    let became : new
-    ≡ fail code (max e.streams.last_processed opened) (with_table e decoded.after) =
-    fails.1 ∙ ap (λ (x : End). fail code (max x.streams.last_processed opened) x) same in
-    inl (record {
-      decoded = Some decoded;
-      says = says;
-      fails = ap (λ (x : End). x.failed) after ∙ ap Some (sym fails.0);
-      after = rw (after, became) (table_alike e decoded.after code
-          (max e.streams.last_processed opened));
-    })
+    let after : after_item e (Some decoded) item ≡ fail code (max e.streams.last_processed opened) e
+    = ap (after_verdict e (Some decoded) item) verdict ∙ ap (λ (n : ℕ). fail code
+    (max e.streams.last_processed n) e) (sym opens) in
+    let became : new ≡ fail code (max e.streams.last_processed opened) (with_table e decoded.after)
+    = fails.1 ∙ ap (λ (x : End). fail code (max x.streams.last_processed opened) x) same in
+    search rules
 block_stopped e mid new id end octets decoded list OutOfMemory answer says stopped fails =
-    inr (record {
-      lacks = fails.0;
-      after = rw (fails.1, stopped.1) (table_alike e decoded.after InternalError
-          e.streams.last_processed);
-    })
+    search rules
 
 pub opens_small : (e : End) (id : ℕ) (end : Bool) (octets : List ℕ) (decoded : Option Decoded)
     → id < 2 ^ 31 → opened_by (end_view e) decoded (block id end octets) < 2 ^ 31
 unfolding opened_by
 opens_small e id end octets None small = omega arith
-opens_small e id end octets (Some decoded) small = opens_by (is_idle ((end_view e).state id)
-    && peer_opens (end_view e) id && not (is_some e.goaway.sent)
-    && not (is_at_capacity (end_view e))) id small
+opens_small e id end octets (Some decoded) small = search rules
 
 -- the same, for a code that is known to be that
 pub decode_fails : (e new : End) (id : ℕ) (end : Bool) (octets : List ℕ) (code : Code)
@@ -298,11 +220,7 @@ decode_fails e new id end octets code is none failed =
 -- Where memory was refused, the connection fails for that.
 pub memory_fails : (e new : End) (code : Code) → code ≡ InternalError
     → FailsAlike (fail code e.streams.last_processed e) new → FailsWithoutMemory e code new
-memory_fails e new code is failed =
-    record {
-      lacks = is;
-      after = subst (λ (x : Code). FailsAlike (fail x e.streams.last_processed e) new) is failed;
-    }
+memory_fails e new code is failed = search rules
 
 -- A block that isn't decoded fails the connection: it is none, or memory was refused.
 pub undecoded_fails : (e new : End) (id : ℕ) (end : Bool) (octets : List ℕ) (fault : DecodingFault)
@@ -312,8 +230,7 @@ pub undecoded_fails : (e new : End) (id : ℕ) (end : Bool) (octets : List ℕ) 
     → BlockFails e id end octets code new ⊎ FailsWithoutMemory e code new
 undecoded_fails e new id end octets decoding.Compression code is says failed =
     inl (decode_fails e new id end octets code is says failed)
-undecoded_fails e new id end octets decoding.Memory code is says failed =
-    inr (memory_fails e new code is failed)
+undecoded_fails e new id end octets decoding.Memory code is says failed = search rules
 undecoded_fails e new id end octets decoding.Failed code is says failed = absurd says
 
 -- an end with another decoder
@@ -356,7 +273,5 @@ pub record Held (fields list : List Field) (large : Bool) : Type 0 where
 
 pub held : (answer : Answered) (fields list : List Field) → HoldsList max_list fields answer list
     → Held fields list (sameb the_type answer answered.TooLarge)
-held answered.Whole fields list h =
-    record { size = le-ltb max_list (list_size fields) h.1; same = λ small. h.0 }
-held answered.TooLarge fields list h =
-    record { size = lt-ltb max_list (list_size fields) h.1; same = λ wrong. cc }
+held answered.Whole fields list h = search (rules, le-ltb max_list (list_size fields) h.1)
+held answered.TooLarge fields list h = search (rules, lt-ltb max_list (list_size fields) h.1)

@@ -5,9 +5,9 @@ use Rattle.h2_core.proofs.Names.{inl, inr, refl, sym, ap, subst, append-nil, len
 use Rattle.h2_core.proofs.Names.{arith, Frame, Data, Headers, Priority, Ping, GoAway, WindowUpdate}
 use Rattle.h2_core.proofs.Names.{Continuation, Unknown, refusal, BlockFault, Item, alone, block}
 use Rattle.h2_core.proofs.Names.{Begun, Groups, next_fault, max_block_octets, ReportsFault}
-use Rattle.h2_core.proofs.Names.{FrameStep, fails_with, begins_block, completes}
-use Rattle.h2_block.specs.Grouping.{fault_outside, fault_inside, is_standalone, IsBegun}
-use Rattle.h2_spec_log.specs.ItemRules.{grouped}
+use Rattle.h2_core.proofs.Names.{FrameStep, fails_with, begins_block, completes, fault_outside}
+use Rattle.h2_core.proofs.Names.{fault_inside, is_standalone, grouped}
+use Rattle.h2_block.specs.Grouping.{IsBegun}
 use Rattle.std.proofs.Common.{nat_lt, Ok, ltb-false, eqb-true}
 use Rattle.h2_frame.specs.Frames.{Reset, Settings}
 use Rattle.h2_block.specs.declared.gathered.Gathered.{Gathered}
@@ -185,21 +185,12 @@ unfaulty_inside true false is = (refl, refl)
 pub step_groups : (begun : Option Begun) (frame : Frame) → next_fault begun frame ≡ None
     → AreStep (frames_begun begun ++ frame ∷ []) (grouped begun frame)
 unfolding fault_outside fault_inside grouped is_standalone
-step_groups None (Data stream end octets pad) good = alone_step (Data stream end octets pad) refl
 step_groups None (Headers stream end whole fragment pad priority) good =
     headers_step stream end whole fragment pad priority
     (ltb-false max_block_octets (length fragment)
     (unfaulty (nat_lt max_block_octets (length fragment)) faults.TooLong good))
-step_groups None (Priority stream octets) good = alone_step (Priority stream octets) refl
-step_groups None (Reset stream code) good = alone_step (Reset stream code) refl
-step_groups None (Settings ack pairs) good = alone_step (Settings ack pairs) refl
-step_groups None (Ping ack octets) good = alone_step (Ping ack octets) refl
-step_groups None (GoAway last code debug) good = alone_step (GoAway last code debug) refl
-step_groups None (WindowUpdate stream increment) good =
-    alone_step (WindowUpdate stream increment) refl
 step_groups None (Continuation stream whole fragment) good = cc
-step_groups None (Unknown kind flags stream payload) good =
-    alone_step (Unknown kind flags stream payload) refl
+step_groups None frame good = alone_step frame refl
 step_groups (Some begun) (Continuation stream whole fragment) good =
     let parts = unfaulty_inside (stream == begun.stream)
     (nat_lt max_block_octets (length begun.octets + length fragment)) good in
@@ -207,15 +198,7 @@ step_groups (Some begun) (Continuation stream whole fragment) good =
     ltb-false max_block_octets (length begun.octets + length fragment) parts.1 in
     continuation_step begun stream whole fragment (eqb-true stream begun.stream parts.0)
     (omega (arith, short, length-append begun.octets fragment))
-step_groups (Some begun) (Data stream end octets pad) good = cc
-step_groups (Some begun) (Headers stream end whole fragment pad priority) good = cc
-step_groups (Some begun) (Priority stream octets) good = cc
-step_groups (Some begun) (Reset stream code) good = cc
-step_groups (Some begun) (Settings ack pairs) good = cc
-step_groups (Some begun) (Ping ack octets) good = cc
-step_groups (Some begun) (GoAway last code debug) good = cc
-step_groups (Some begun) (WindowUpdate stream increment) good = cc
-step_groups (Some begun) (Unknown kind flags stream payload) good = cc
+step_groups (Some begun) frame good = cc
 
 -- A call that takes a frame says that the frame has no fault.
 no_fault : (begun : Option Begun) (frame : Frame) (gathered : Gathered) (fault : Option BlockFault)
@@ -293,35 +276,17 @@ pub alone_only : (begun : Option Begun) (frame : Frame) → next_fault begun fra
     → grouped begun frame ≡ completes (alone frame)
     → (is_standalone frame ≡ true) × (begun ≡ None)
 unfolding fault_outside fault_inside grouped is_standalone
-alone_only None (Data stream end octets pad) good is = (refl, refl)
 alone_only None (Headers stream end true fragment pad priority) good is = cc
 alone_only None (Headers stream end false fragment pad priority) good is = cc
-alone_only None (Priority stream octets) good is = (refl, refl)
-alone_only None (Reset stream code) good is = (refl, refl)
-alone_only None (Settings ack pairs) good is = (refl, refl)
-alone_only None (Ping ack octets) good is = (refl, refl)
-alone_only None (GoAway last code debug) good is = (refl, refl)
-alone_only None (WindowUpdate stream increment) good is = (refl, refl)
 alone_only None (Continuation stream whole fragment) good is = cc
-alone_only None (Unknown kind flags stream payload) good is = (refl, refl)
+alone_only None frame good is = (refl, refl)
 alone_only (Some begun) (Continuation stream true fragment) good is = cc
-alone_only (Some begun) (Continuation stream false fragment) good is = cc
-alone_only (Some begun) (Data stream end octets pad) good is = cc
-alone_only (Some begun) (Headers stream end whole fragment pad priority) good is = cc
-alone_only (Some begun) (Priority stream octets) good is = cc
-alone_only (Some begun) (Reset stream code) good is = cc
-alone_only (Some begun) (Settings ack pairs) good is = cc
-alone_only (Some begun) (Ping ack octets) good is = cc
-alone_only (Some begun) (GoAway last code debug) good is = cc
-alone_only (Some begun) (WindowUpdate stream increment) good is = cc
-alone_only (Some begun) (Unknown kind flags stream payload) good is = cc
+alone_only (Some begun) frame good is = cc
 
 -- The stream of a block that a frame completes.
 abbrev block_stream : FrameStep → ℕ
 block_stream (completes (block stream end octets)) = stream
-block_stream (completes (alone frame)) = 1
-block_stream (begins_block begun) = 1
-block_stream (fails_with code) = 1
+block_stream step = 1
 
 abbrev IsNumber : ℕ → Type 0
 IsNumber id = (1 ≤ id) × (id < 2 ^ 31)
@@ -334,32 +299,13 @@ stream_number : (begun : Option Begun) (frame : Frame) → next_fault begun fram
 unfolding fault_outside fault_inside grouped
 stream_number None (Headers stream end true fragment pad priority) good writable =
     headers_number stream end true fragment pad priority writable
-stream_number None (Headers stream end false fragment pad priority) good writable = one_number
-stream_number None (Data stream end octets pad) good writable = one_number
-stream_number None (Priority stream octets) good writable = one_number
-stream_number None (Reset stream code) good writable = one_number
-stream_number None (Settings ack pairs) good writable = one_number
-stream_number None (Ping ack octets) good writable = one_number
-stream_number None (GoAway last code debug) good writable = one_number
-stream_number None (WindowUpdate stream increment) good writable = one_number
-stream_number None (Continuation stream whole fragment) good writable = one_number
-stream_number None (Unknown kind flags stream payload) good writable = one_number
+stream_number None frame good writable = one_number
 stream_number (Some begun) (Continuation stream true fragment) good writable =
     let parts = unfaulty_inside (stream == begun.stream)
     (nat_lt max_block_octets (length begun.octets + length fragment)) good in
     subst (λ (n : ℕ). IsNumber n) (eqb-true stream begun.stream parts.0)
     (continuation_number stream true fragment writable)
-stream_number (Some begun) (Continuation stream false fragment) good writable = one_number
-stream_number (Some begun) (Data stream end octets pad) good writable = one_number
-stream_number (Some begun) (Headers stream end whole fragment pad priority) good writable =
-    one_number
-stream_number (Some begun) (Priority stream octets) good writable = one_number
-stream_number (Some begun) (Reset stream code) good writable = one_number
-stream_number (Some begun) (Settings ack pairs) good writable = one_number
-stream_number (Some begun) (Ping ack octets) good writable = one_number
-stream_number (Some begun) (GoAway last code debug) good writable = one_number
-stream_number (Some begun) (WindowUpdate stream increment) good writable = one_number
-stream_number (Some begun) (Unknown kind flags stream payload) good writable = one_number
+stream_number (Some begun) frame good writable = one_number
 
 pub block_number : (begun : Option Begun) (frame : Frame) (stream : ℕ) (end : Bool)
     (octets : List ℕ) → next_fault begun frame ≡ None → refusal frame ≡ None
@@ -374,16 +320,8 @@ pub gather_fault : (old new : GatherState) (frame : Frame) (fault : BlockFault)
     → old.fault ≡ None → GatherFails old frame fault new
     → (fault ≡ faults.Memory) ⊎ (next_fault old.begun frame ≡ Some fault)
 gather_fault old new frame faults.Memory up h = inl refl
-gather_fault old new frame faults.Interrupted up h =
-    let g : GatherFaults (record { begun = old.begun; fault = None }) frame faults.Interrupted new =
-    rw up at h in
-    inr g.faulty
-gather_fault old new frame faults.Stray up h =
-    let g : GatherFaults (record { begun = old.begun; fault = None }) frame faults.Stray new =
-    rw up at h in
-    inr g.faulty
-gather_fault old new frame faults.TooLong up h =
-    let g : GatherFaults (record { begun = old.begun; fault = None }) frame faults.TooLong new =
+gather_fault old new frame fault up h =
+    let g : GatherFaults (record { begun = old.begun; fault = None }) frame fault new =
     rw up at h in
     inr g.faulty
 

@@ -5,12 +5,12 @@ use Rattle.h2_core.proofs.Names.{Headers, Priority, Ping, GoAway, WindowUpdate, 
 use Rattle.h2_core.proofs.Names.{Unknown, BlockFault, Begun, next_fault, max_block_octets}
 use Rattle.h2_core.proofs.Names.{ReportsFault, may_be_first, End, end_view, with_begun}
 use Rattle.h2_core.proofs.Names.{FailsWithoutMemory, FrameLacksMemory, step_needs_memory}
-use Rattle.h2_block.specs.Grouping.{fault_outside, fault_inside, is_standalone}
-use Rattle.h2_spec_log.specs.ItemRules.{grouped}
+use Rattle.h2_core.proofs.Names.{fault_outside, fault_inside, is_standalone, grouped}
 use Rattle.std.proofs.Common.{nat_lt, Err}
 use Rattle.h2_frame.specs.Frames.{Reset, Settings}
 use Rattle.h2_core.proofs.FrameTaking.{step_grouped}
 use Rattle.h2_block.specs.declared.fault.BlockFault.TheVariants as faults
+use Rattle.h2_core.proofs.Names.{rules}
 
 -- No frame is at fault for memory.
 long_only : (b : Bool)
@@ -27,29 +27,10 @@ inside_only true long is = long_only long is
 never_memory : (begun : Option Begun) (frame : Frame)
     → next_fault begun frame ≡ Some faults.Memory → ⊥
 unfolding fault_outside fault_inside
-never_memory None (Data stream end octets pad) is = cc
-never_memory None (Headers stream end whole fragment pad priority) is =
-    long_only (nat_lt max_block_octets (length fragment)) is
-never_memory None (Priority stream octets) is = cc
-never_memory None (Reset stream code) is = cc
-never_memory None (Settings ack pairs) is = cc
-never_memory None (Ping ack octets) is = cc
-never_memory None (GoAway last code debug) is = cc
-never_memory None (WindowUpdate stream increment) is = cc
-never_memory None (Continuation stream whole fragment) is = cc
-never_memory None (Unknown kind flags stream payload) is = cc
-never_memory (Some begun) (Continuation stream whole fragment) is =
-    inside_only (stream == begun.stream)
-    (nat_lt max_block_octets (length begun.octets + length fragment)) is
-never_memory (Some begun) (Data stream end octets pad) is = cc
-never_memory (Some begun) (Headers stream end whole fragment pad priority) is = cc
-never_memory (Some begun) (Priority stream octets) is = cc
-never_memory (Some begun) (Reset stream code) is = cc
-never_memory (Some begun) (Settings ack pairs) is = cc
-never_memory (Some begun) (Ping ack octets) is = cc
-never_memory (Some begun) (GoAway last code debug) is = cc
-never_memory (Some begun) (WindowUpdate stream increment) is = cc
-never_memory (Some begun) (Unknown kind flags stream payload) is = cc
+never_memory None (Headers stream end whole fragment pad priority) is = search rules
+never_memory None frame is = cc
+never_memory (Some begun) (Continuation stream whole fragment) is = search rules
+never_memory (Some begun) frame is = cc
 
 -- A frame at fault is reported, so one for which memory is refused has no fault.
 lacking_unfaulty : (begun : Option Begun) (frame : Frame) (fault : BlockFault)
@@ -66,28 +47,13 @@ part_needs : (e : End) (begun : Option Begun) (frame : Frame) → next_fault beg
     → (begun ≡ None → is_standalone frame ≡ true → ⊥)
     → step_needs_memory (end_view (with_begun e None)) (grouped begun frame) ≡ true
 unfolding fault_outside fault_inside grouped is_standalone
-part_needs e None (Data stream end octets pad) good part = absurd (part refl refl)
 part_needs e None (Headers stream end true fragment pad priority) good part = refl
 part_needs e None (Headers stream end false fragment pad priority) good part = refl
-part_needs e None (Priority stream octets) good part = absurd (part refl refl)
-part_needs e None (Reset stream code) good part = absurd (part refl refl)
-part_needs e None (Settings ack pairs) good part = absurd (part refl refl)
-part_needs e None (Ping ack octets) good part = absurd (part refl refl)
-part_needs e None (GoAway last code debug) good part = absurd (part refl refl)
-part_needs e None (WindowUpdate stream increment) good part = absurd (part refl refl)
 part_needs e None (Continuation stream whole fragment) good part = cc
-part_needs e None (Unknown kind flags stream payload) good part = absurd (part refl refl)
+part_needs e None frame good part = absurd (part refl refl)
 part_needs e (Some begun) (Continuation stream true fragment) good part = refl
 part_needs e (Some begun) (Continuation stream false fragment) good part = refl
-part_needs e (Some begun) (Data stream end octets pad) good part = cc
-part_needs e (Some begun) (Headers stream end whole fragment pad priority) good part = cc
-part_needs e (Some begun) (Priority stream octets) good part = cc
-part_needs e (Some begun) (Reset stream code) good part = cc
-part_needs e (Some begun) (Settings ack pairs) good part = cc
-part_needs e (Some begun) (Ping ack octets) good part = cc
-part_needs e (Some begun) (GoAway last code debug) good part = cc
-part_needs e (Some begun) (WindowUpdate stream increment) good part = cc
-part_needs e (Some begun) (Unknown kind flags stream payload) good part = cc
+part_needs e (Some begun) frame good part = cc
 
 -- The connection fails where the gatherer was refused memory for a frame.
 pub gathering_lacks : (e new : End) (frame : Frame) (fault : BlockFault) (code : Code)
@@ -96,12 +62,7 @@ pub gathering_lacks : (e new : End) (frame : Frame) (fault : BlockFault) (code :
     → (e.reading.begun ≡ None → is_standalone frame ≡ true → ⊥)
     → FailsWithoutMemory e code new → FrameLacksMemory e frame code new
 gathering_lacks e new frame fault code started lacks reports part fails =
-    let good : next_fault e.reading.begun frame ≡ None =
-    lacking_unfaulty e.reading.begun frame fault (next_fault e.reading.begun frame) refl lacks
-    reports in
-    record {
-      needs = ap (step_needs_memory (end_view (with_begun e None)))
-          (step_grouped e frame started good)
-          ∙ part_needs e e.reading.begun frame good part;
-      fails = fails;
-    }
+    let good : next_fault e.reading.begun frame ≡ None = lacking_unfaulty e.reading.begun frame
+    fault (next_fault e.reading.begun frame) refl lacks reports in
+    assumption (ap (step_needs_memory (end_view (with_begun e None)))
+    (step_grouped e frame started good) ∙ part_needs e e.reading.begun frame good part)

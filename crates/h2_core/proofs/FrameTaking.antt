@@ -9,61 +9,28 @@ use Rattle.h2_core.proofs.Names.{fails_with, begins_block, completes, may_be_fir
 use Rattle.h2_core.proofs.Names.{end_view, with_begun, after_item, fail, IsSoundEnd, FailsAlike}
 use Rattle.h2_core.proofs.Names.{ItemTaken, TakesItem, item_events, FrameLacksMemory, needs_memory}
 use Rattle.h2_core.proofs.Names.{step_needs_memory, TakesBlock, IsSmall, FailsBy, FrameEvent}
-use Rattle.h2_core.proofs.Names.{StepError, Fault, OutOfMemory}
-use Rattle.h2_block.specs.Grouping.{fault_outside, is_standalone}
-use Rattle.h2_spec_log.specs.ItemRules.{grouped, opened_by, frame_step, grouping_step}
-use Rattle.h2_spec_machine.specs.Machine.{after_verdict, after_frame, after_step}
+use Rattle.h2_core.proofs.Names.{StepError, Fault, OutOfMemory, fault_outside, is_standalone}
+use Rattle.h2_core.proofs.Names.{grouped, opened_by, after_verdict}
+use Rattle.h2_spec_log.specs.ItemRules.{frame_step, grouping_step}
+use Rattle.h2_spec_machine.specs.Machine.{after_frame, after_step}
 use Rattle.std.proofs.Common.{Result, Ok, Err}
 use Rattle.h2_frame.specs.Frames.{Reset, Settings}
 use Rattle.h2_core.specs.Frames.{FrameTaken, FrameFails, EndTakesFrame, IsDecodedBy, step_events}
 use Rattle.h2_core.specs.Blocks.{IsDecodedOf}
-use Rattle.h2_core.proofs.FrameFailures.{verdict_up}
+use Rattle.h2_core.proofs.Names.{StreamView, stream_at, StreamIsInRange}
+use Rattle.h2_core.proofs.FrameFailures.{verdict_up, table_alike}
 use Rattle.h2_frame.specs.declared.frame.FrameRef.TheVariants as lent
+use Rattle.h2_core.proofs.Names.{rules}
 
 -- An end that no longer has a block which has begun is sound.
 pub begun_sound : (e : End) → IsSoundEnd e → IsSoundEnd (with_begun e None)
 begun_sound e sound =
-    record {
-      bounded = record {
-        up = sound.bounded.up;
-        output = sound.bounded.output;
-        resets = sound.bounded.resets;
-        active_count = sound.bounded.active_count;
-        streams_allowed = sound.bounded.streams_allowed;
-        max_streams = sound.bounded.max_streams;
-        awaited = sound.bounded.awaited;
-        encoder = sound.bounded.encoder;
-      };
-      window = record { whole = sound.window.whole; used = sound.window.used };
-      ranges = record {
-        highest = sound.ranges.highest;
-        last_processed = sound.ranges.last_processed;
-        goaway_sent = sound.ranges.goaway_sent;
-        send = sound.ranges.send;
-        initial_window = sound.ranges.initial_window;
-        own_window = sound.ranges.own_window;
-        own_frame = sound.ranges.own_frame;
-        table_limit = sound.ranges.table_limit;
-        awaited = sound.ranges.awaited;
-        streams = λ i stream active.
-            let range = sound.ranges.streams i stream active in
-            record {
-              send_most = range.send_most;
-              send_least = range.send_least;
-              recv_most = range.recv_most;
-              recv_least = range.recv_least;
-            };
-        connection = sound.ranges.connection;
-        begun = λ begun wrong. cc;
-        table = sound.ranges.table;
-        maximum = sound.ranges.maximum;
-      };
-      counts = record {
-        active = sound.counts.active;
-        resets = sound.counts.resets;
-        used = sound.counts.used;
-      };
-    }
+    let none : (begun : Begun) → None ≡ Some begun → length begun.octets ≤ max_block_octets =
+    λ begun wrong. cc in
+    let streams : (i : ℕ) (stream : StreamView) → stream_at e i ≡ Some stream
+    → StreamIsInRange (with_begun e None) stream =
+    λ i stream active. assumption (sound.ranges.streams i stream active) in
+    assumption (none, streams, sound)
 
 module _ (e : End) where
   -- A frame that may come, and has no fault, is grouped; one with a fault fails the connection.
@@ -85,14 +52,7 @@ module _ (e : End) where
       → frame_step (end_view e) frame ≡ begins_block one → new ≡ with_begun e (Some one)
       → e.failed ≡ None → FrameTaken e frame list None new
   unfolding after_frame after_step
-  more_taken new frame one list is same up =
-      record {
-        decoded = None;
-        says = subst (λ (s : FrameStep). IsDecodedBy e None s) (sym is) refl;
-        after = same ∙ sym (ap (after_step e None) is);
-        up = ap (λ (x : End). x.failed) same ∙ up;
-        events = sym (ap (step_events e None) is);
-      }
+  more_taken new frame one list is same up = search rules
 
   outside : e.reading.begun ≡ None → with_begun e None ≡ e
   outside none = ap (with_begun e) (sym none)
@@ -104,27 +64,17 @@ module _ (e : End) where
       → FrameTaken e frame list reported new
   unfolding after_frame after_step
   alone_taken new frame list reported is none up taken =
-      record {
-        decoded = None;
-        says = subst (λ (s : FrameStep). IsDecodedBy e None s) (sym is) refl;
-        after = taken.after ∙ ap (λ (x : End). after_item x None (alone frame)) (sym (outside none))
-            ∙ sym (ap (after_step e None) is);
-        up = ap (λ (x : End). x.failed) taken.after ∙ verdict_up e None (alone frame)
-            (verdict_of (end_view e) None (alone frame)) taken.goes_on ∙ up;
-        events = taken.events ∙ ap (λ (x : End). item_events x None (alone frame))
-            (sym (outside none)) ∙ sym (ap (step_events e None) is);
-      }
-
-  same_alike : (code : Code) (last : ℕ) → FailsAlike (fail code last e) (fail code last e)
-  same_alike code last =
-      record {
-        down = λ wrong. cc;
-        role = refl;
-        failed = refl;
-        streams = refl;
-        windows = refl;
-        waiting = refl;
-      }
+      search (
+        rules,
+        taken.after ∙ ap (λ (x : End). after_item x None (alone frame))
+            (sym (outside none)) ∙ sym (ap (after_step e None) is),
+        ap (λ (x : End). x.failed) taken.after
+            ∙ verdict_up e None (alone frame) (verdict_of (end_view e) None (alone frame))
+            taken.goes_on
+            ∙ up,
+        taken.events ∙ ap (λ (x : End). item_events x None (alone frame)) (sym (outside none))
+            ∙ sym (ap (step_events e None) is),
+      )
 
   -- What stops one fails the connection.
   pub alone_stopped : (mid new : End) (frame : Frame) (list : List Field) (stop : StepError)
@@ -135,18 +85,13 @@ module _ (e : End) where
   unfolding after_frame after_step after_verdict
   alone_stopped mid new frame list (Fault code opened) answer is none stopped fails =
       let last : ℕ = max e.streams.last_processed opened in
-      let after : after_frame e None frame ≡ fail code last e = ap (after_step e None) is
-      ∙ ap (λ (x : End). after_item x None (alone frame)) (outside none)
-      ∙ ap (after_verdict e None (alone frame)) stopped.0
-      ∙ ap (λ (n : ℕ). fail code (max e.streams.last_processed n) e) (sym stopped.1) in
-      let became : new ≡ fail code last e =
-      fails.1 ∙ ap (λ (x : End). fail code (max x.streams.last_processed opened) x) stopped.2 in
-      inl (record {
-        decoded = None;
-        says = subst (λ (s : FrameStep). IsDecodedBy e None s) (sym is) refl;
-        fails = ap (λ (x : End). x.failed) after ∙ ap Some (sym fails.0);
-        after = rw (after, became) (same_alike code last);
-      })
+      let after : after_frame e None frame ≡ fail code last e = ap (after_step e None) is ∙ ap
+      (λ (x : End). after_item x None (alone frame)) (outside none) ∙ ap
+      (after_verdict e None (alone frame)) stopped.0 ∙ ap (λ (n : ℕ). fail code
+      (max e.streams.last_processed n) e) (sym stopped.1) in
+      let became : new ≡ fail code last e = fails.1 ∙ ap (λ (x : End). fail code
+      (max x.streams.last_processed opened) x) stopped.2 in
+      search rules
   alone_stopped mid new frame list OutOfMemory answer is none stopped fails =
       inr (record {
         needs = ap (step_needs_memory (end_view (with_begun e None))) is ∙ ap (λ (x : End).
@@ -154,7 +99,8 @@ module _ (e : End) where
             (outside none) ∙ stopped.0;
         fails = record {
           lacks = fails.0;
-          after = rw (fails.1, stopped.1) (same_alike InternalError e.streams.last_processed);
+          after = rw (fails.1, stopped.1) (table_alike e e.reading.table InternalError
+              e.streams.last_processed);
         };
       })
 
@@ -178,54 +124,16 @@ module _ (e : End) where
       → TakesBlock (with_begun e None) id end octets list result new
       → EndTakesFrame e frame list result new
   unfolding after_frame after_step
-  block_frame new frame id end octets list (Ok reported) is t =
-      record {
-        decoded = t.decoded;
-        says = subst (λ (s : FrameStep). IsDecodedBy e t.decoded s) (sym is)
-            (says_of t.decoded id end octets t.says);
-        after = t.after ∙ sym (ap (after_step e t.decoded) is);
-        up = t.up;
-        events = t.events ∙ sym (ap (step_events e t.decoded) is);
-      }
-  block_frame new frame id end octets list (Err code) is (inl t) =
-      inl (record {
-        decoded = t.decoded;
-        says = subst (λ (s : FrameStep). IsDecodedBy e t.decoded s) (sym is)
-            (says_of t.decoded id end octets t.says);
-        fails = ap (λ (x : End). x.failed) (ap (after_step e t.decoded) is) ∙ t.fails;
-        after = subst (λ (x : End). FailsAlike x new) (sym (ap (after_step e t.decoded) is))
-            t.after;
-      })
-  block_frame new frame id end octets list (Err code) is (inr t) =
-      inr (record {
-        needs = ap (step_needs_memory (end_view (with_begun e None))) is;
-        fails = record {
-          lacks = t.lacks;
-          after = record {
-            down = λ wrong. cc;
-            role = t.after.role;
-            failed = t.after.failed;
-            streams = t.after.streams;
-            windows = t.after.windows;
-            waiting = t.after.waiting;
-          };
-        };
-      })
+  block_frame new frame id end octets list (Ok reported) is t = search rules
+  block_frame new frame id end octets list (Err code) is (inl t) = search rules
+  block_frame new frame id end octets list (Err code) is (inr t) = search rules
 
   -- A frame at fault fails the connection.
   pub frame_fails : (new : End) (frame : Frame) (code answer : Code)
       → frame_step (end_view e) frame ≡ fails_with code → answer ≡ code
       → FailsAlike (fail answer e.streams.last_processed e) new → FrameFails e frame answer new
   unfolding after_frame after_step
-  frame_fails new frame code answer is same failed =
-      let after : after_frame e None frame ≡ fail answer e.streams.last_processed e =
-      ap (after_step e None) is ∙ ap (λ (x : Code). fail x e.streams.last_processed e) (sym same) in
-      record {
-        decoded = None;
-        says = subst (λ (s : FrameStep). IsDecodedBy e None s) (sym is) refl;
-        fails = ap (λ (x : End). x.failed) after;
-        after = subst (λ (x : End). FailsAlike x new) (sym after) failed;
-      }
+  frame_fails new frame code answer is same failed = search rules
 
   -- A frame that comes too early fails the connection.
   early_step : (frame : Frame) → (not e.reading.started && not (may_be_first frame)) ≡ true
@@ -244,7 +152,7 @@ module _ (e : End) where
       ∙ ap (λ (n : ℕ). fail ProtocolError n e) last
       ∙ ap (λ (x : Code). fail x e.streams.last_processed e) (sym by.0) in
       frame_fails new frame ProtocolError answer (early_step frame early) by.0
-      (rw became (same_alike answer e.streams.last_processed))
+      (rw became (table_alike e e.reading.table answer e.streams.last_processed))
 
 -- HEADERS that is a complete block, outside blocks.
 headers_faultless : (begun : Option Begun) (stream : ℕ) (end : Bool) (fragment : List ℕ)
@@ -252,8 +160,7 @@ headers_faultless : (begun : Option Begun) (stream : ℕ) (end : Bool) (fragment
     → length fragment ≤ max_block_octets
     → next_fault begun (Headers stream end true fragment pad priority) ≡ None
 unfolding fault_outside
-headers_faultless None stream end fragment pad priority none short =
-    rw (le-ltb max_block_octets (length fragment) short) refl
+headers_faultless None stream end fragment pad priority none short = search rules
 headers_faultless (Some begun) stream end fragment pad priority none short = cc
 
 headers_grouped : (begun : Option Begun) (stream : ℕ) (end : Bool) (fragment : List ℕ)
@@ -289,16 +196,9 @@ standalone_grouped : (begun : Option Begun) (frame : Frame) → begun ≡ None
     → is_standalone frame ≡ true
     → (next_fault begun frame ≡ None) × (grouped begun frame ≡ completes (alone frame))
 unfolding fault_outside grouped is_standalone
-standalone_grouped None (Data stream end octets pad) none single = (refl, refl)
 standalone_grouped None (Headers stream end whole fragment pad priority) none single = cc
-standalone_grouped None (Priority stream octets) none single = (refl, refl)
-standalone_grouped None (Reset stream code) none single = (refl, refl)
-standalone_grouped None (Settings ack pairs) none single = (refl, refl)
-standalone_grouped None (Ping ack octets) none single = (refl, refl)
-standalone_grouped None (GoAway last code debug) none single = (refl, refl)
-standalone_grouped None (WindowUpdate stream increment) none single = (refl, refl)
 standalone_grouped None (Continuation stream whole fragment) none single = cc
-standalone_grouped None (Unknown kind flags stream payload) none single = (refl, refl)
+standalone_grouped None frame none single = (refl, refl)
 standalone_grouped (Some begun) frame none single = cc
 
 pub standalone_step : (e : End) (frame : Frame)
@@ -316,15 +216,8 @@ pub other_standalone : (frame : FrameRef)
     → frame ≡ lent.Continuation stream whole fragment → ⊥)
     → is_standalone (frame_of frame) ≡ true
 unfolding is_standalone
-other_standalone (lent.Data stream end octets pad) other last = refl
 other_standalone (lent.Headers stream end whole fragment pad priority) other last =
     absurd (other stream end whole fragment pad priority refl)
-other_standalone (lent.Priority stream octets) other last = refl
-other_standalone (lent.Reset stream code) other last = refl
-other_standalone (lent.Settings ack pairs) other last = refl
-other_standalone (lent.Ping ack octets) other last = refl
-other_standalone (lent.GoAway last-stream code debug) other last = refl
-other_standalone (lent.WindowUpdate stream increment) other last = refl
 other_standalone (lent.Continuation stream whole fragment) other last =
     absurd (last stream whole fragment refl)
-other_standalone (lent.Unknown kind flags stream payload) other last = refl
+other_standalone frame other last = refl

@@ -1,4 +1,5 @@
 -- The verdict on a field block that is received, case by case.
+use Rattle.h2_core.proofs.ItemStatuses.{active_state}
 use Rattle.h2_core.proofs.Names.{◌≡◌, ◌+◌, ◌-◌, ℕ, ◌%◌, ◌==◌, not, ◌&&◌, ◌||◌, Bool, true, false}
 use Rattle.h2_core.proofs.Names.{if◌then◌else◌, List, [], ◌∷◌, length, Option, Some, None, refl}
 use Rattle.h2_core.proofs.Names.{sym, ap, ◌∙◌, ltb-true, and_parts, Field, list_size, Code}
@@ -13,14 +14,11 @@ use Rattle.h2_core.proofs.Names.{is_above_goaway, after_item, is_fresh, return_c
 use Rattle.h2_core.proofs.Names.{more_unreturned, reset_stream, queue_output, is_one, receive_block}
 use Rattle.h2_core.proofs.Names.{returns_credit, end_of, IsSoundEnd, ItemTaken, TakesItem}
 use Rattle.h2_core.proofs.Names.{item_events, needs_memory, FrameEvent, Endpoint, StepError, Fault}
-use Rattle.h2_core.proofs.Names.{OutOfMemory, is_over_limits, ResetsForFault}
-use Rattle.h2_spec_log.specs.Items.{stream_of_item, encoding_of_items}
-use Rattle.h2_spec_log.specs.ItemRules.{over_limits, replies_to, verdict_by_rules, verdict_of}
-use Rattle.h2_spec_log.specs.ItemRules.{opened_by}
-use Rattle.h2_spec_log.specs.ItemEffects.{events_of}
-use Rattle.h2_spec_machine.specs.Machine.{after_verdict, after_stream_fault, after_ignored}
-use Rattle.h2_spec_machine.specs.Machine.{after_reported, add_unreturned, with_table_after}
-use Rattle.h2_spec_machine.specs.Machine.{mark_used, is_calm}
+use Rattle.h2_core.proofs.Names.{OutOfMemory, is_over_limits, ResetsForFault, stream_of_item}
+use Rattle.h2_core.proofs.Names.{encoding_of_items, over_limits, replies_to, verdict_by_rules}
+use Rattle.h2_core.proofs.Names.{verdict_of, opened_by, events_of, after_verdict}
+use Rattle.h2_core.proofs.Names.{after_stream_fault, after_ignored, after_reported, add_unreturned}
+use Rattle.h2_spec_machine.specs.Machine.{with_table_after, mark_used, is_calm}
 use Rattle.std.proofs.Common.{nat_lt, nat_le, Result, Ok, Err, is_some, eqb-true}
 use Rattle.h2_frame.specs.Frames.{Reset as ResetFrame}
 use Rattle.h2_spec_log.specs.States.{ClosedByUs, Closed}
@@ -32,6 +30,7 @@ use Rattle.h2_core.specs.declared.event.Event.TheVariants.{Reset, Fields}
 use Rattle.h2_core.proofs.StepStreams.{narrow_none}
 use Rattle.h2_core.proofs.SoundFacts.{absent_above}
 use Rattle.std.specs.FinMap as map
+use Rattle.h2_core.proofs.Names.{rules}
 
 -- a block that was decoded
 abbrev pub by_block : End → ℕ → Bool → List ℕ → Decoded → Verdict
@@ -49,9 +48,7 @@ pub rule_of_block : (e : End) (id : ℕ) (end : Bool) (octets : List ℕ) (decod
     ≡ block_verdict state (peer_opens (end_view e) id) (is_some e.goaway.sent)
     (is_at_capacity (end_view e)) (ended_in (stream_at e id)) (is_too_large decoded)
 unfolding verdict_by_rules
-rule_of_block e id end octets decoded state is =
-    ap (λ (s : State). block_verdict s (peer_opens (end_view e) id) (is_some e.goaway.sent)
-    (is_at_capacity (end_view e)) (ended_in (stream_at e id)) (is_too_large decoded)) is
+rule_of_block e id end octets decoded state is = search rules
 
 -- Limits leave a verdict that replies nothing to a block.
 pub limits_leave : (e : End) (id : ℕ) (end : Bool) (octets : List ℕ) (decoded : Decoded)
@@ -59,10 +56,8 @@ pub limits_leave : (e : End) (id : ℕ) (end : Bool) (octets : List ℕ) (decode
     → by_block e id end octets decoded ≡ verdict
     → verdict_of (end_view e) (Some decoded) (block id end octets) ≡ verdict
 unfolding verdict_of over_limits replies_to encoding_of_items
-limits_leave e id end octets decoded (ConnectionFault code) quiet is = rw is refl
 limits_leave e id end octets decoded (StreamFault code) quiet is = cc
-limits_leave e id end octets decoded NoEvent quiet is = rw is refl
-limits_leave e id end octets decoded Reported quiet is = rw is refl
+limits_leave e id end octets decoded verdict quiet is = rw is refl
 
 -- the verdict of a stream error
 abbrev pub limited : Bool → Code → Verdict
@@ -94,15 +89,7 @@ pub record Fresh (e : End) (id : ℕ) : Type 0 where
   pub absent : map.get e.streams.entries id ≡ None
 
 pub fresh_of : (e : End) (id : ℕ) → IsSoundEnd e → is_fresh e id ≡ true → Fresh e id
-fresh_of e id sound fresh =
-    let parts = and_parts (is_server e.role && id % 2 == 1) (nat_lt e.streams.highest id) fresh in
-    let first = and_parts (is_server e.role) (id % 2 == 1) parts.0 in
-    record {
-      server = first.0;
-      odd = first.1;
-      above = parts.1;
-      absent = absent_above e id sound (ltb-true e.streams.highest id parts.1);
-    }
+fresh_of e id sound fresh = search rules
 
 or_true : (b : Bool) → (b || true) ≡ true
 or_true true = refl
@@ -127,8 +114,7 @@ opening_rule e id end octets decoded fresh =
 
 stale_by : (e : End) (id : ℕ) (stream : StreamView) → IsSoundEnd e
     → stream_at e id ≡ Some stream → (fresh : Bool) → is_fresh e id ≡ fresh → fresh ≡ false
-stale_by e id stream sound active true is =
-    let none = fresh_no_stream e id (fresh_of e id sound is) in cc
+stale_by e id stream sound active true is = search rules
 stale_by e id stream sound active false is = refl
 
 -- An active number is not fresh.
@@ -146,15 +132,13 @@ pub after_by : (e : End) (id : ℕ) (end : Bool) (octets : List ℕ) (decoded : 
     (verdict : Verdict) → verdict_of (end_view e) (Some decoded) (block id end octets) ≡ verdict
     → after_item e (Some decoded) (block id end octets)
     ≡ after_verdict e (Some decoded) (block id end octets) verdict
-after_by e id end octets decoded verdict is =
-    ap (λ (v : Verdict). after_verdict e (Some decoded) (block id end octets) v) is
+after_by e id end octets decoded verdict is = search rules
 
 pub events_by : (e : End) (id : ℕ) (end : Bool) (octets : List ℕ) (decoded : Decoded)
     (verdict : Verdict) → verdict_of (end_view e) (Some decoded) (block id end octets) ≡ verdict
     → item_events e (Some decoded) (block id end octets)
     ≡ events_of (end_view e) (Some decoded) verdict (block id end octets)
-events_by e id end octets decoded verdict is =
-    ap (λ (v : Verdict). events_of (end_view e) (Some decoded) v (block id end octets)) is
+events_by e id end octets decoded verdict is = search rules
 
 -- What marks a number commutes with returning credit, and with a reset.
 marked_by : (b : Bool) (e : End) (id more : ℕ) (used processed : Bool)
@@ -169,8 +153,7 @@ pub marked_credit : (e : End) (id more : ℕ) (used processed : Bool)
     → add_unreturned more (mark_used e id used processed)
     ≡ mark_used (add_unreturned more e) id used processed
 unfolding add_unreturned
-marked_credit e id more used processed =
-    marked_by (returns_credit more (length e.output.waiting)) e id more used processed
+marked_credit e id more used processed = search rules
 
 pub marked_reset : (e : End) (id : ℕ) (items : List Item) (used processed : Bool)
     → reset_stream (queue_output (mark_used e id used processed) items) id 0
@@ -207,11 +190,7 @@ module _ (e : End) (id : ℕ) (end : Bool) (octets : List ℕ) (decoded : Decode
   fault_taken list new is few after =
       let verdict : verdict_of (end_view e) (Some decoded) (block id end octets) ≡ StreamFault code
       = limits_of_fault e id end octets decoded code is ∙ ap (λ (b : Bool). limited b code) few in
-      record {
-        goes_on = λ other wrong. cc;
-        after = after ∙ sym (after_by e id end octets decoded (StreamFault code) verdict);
-        events = sym (events_by e id end octets decoded (StreamFault code) verdict);
-      }
+      search rules
 
   -- One that is over the limits is a connection error.
   pub fault_over : by_block e id end octets decoded ≡ StreamFault code → is_over_limits e ≡ true
@@ -219,18 +198,6 @@ module _ (e : End) (id : ℕ) (end : Bool) (octets : List ℕ) (decoded : Decode
       EnhanceYourCalm
   fault_over is much =
       limits_of_fault e id end octets decoded code is ∙ ap (λ (b : Bool). limited b code) much
-
-active_by : (entry : Option StreamEntry) (idle above : Bool) (stream : StreamView)
-    → stream_in entry ≡ Some stream → state_by_entry entry idle above ≡ Active
-active_by None idle above stream is = cc
-active_by (Some reset_entry) idle above stream is = cc
-active_by (Some (active_entry other)) idle above stream is = refl
-
--- A number with a stream is active.
-pub active_of : (e : End) (id : ℕ) (stream : StreamView) → stream_at e id ≡ Some stream
-    → state_at e id ≡ Active
-active_of e id stream is = active_by (map.get e.streams.entries id)
-    (id % 2 == 0 || nat_lt e.streams.highest id) (is_above_goaway e id) stream is
 
 -- A block on an active stream: half-closed (remote), with a list that is too large, or else.
 pub further_rule : (e : End) (id : ℕ) (end : Bool) (octets : List ℕ) (decoded : Decoded)
@@ -240,16 +207,14 @@ pub further_rule : (e : End) (id : ℕ) (end : Bool) (octets : List ℕ) (decode
     else if is_too_large decoded then StreamFault EnhanceYourCalm else Reported)
 unfolding block_verdict
 further_rule e id end octets decoded stream is =
-    rule_of_block e id end octets decoded Active (active_of e id stream is) ∙ (rw is refl)
+    rule_of_block e id end octets decoded Active (active_state e id stream is) ∙ (rw is refl)
 
 -- It opens nothing.
 pub further_opens : (e : End) (id : ℕ) (end : Bool) (octets : List ℕ) (decoded : Decoded)
     (stream : StreamView) → stream_at e id ≡ Some stream
     → opened_by (end_view e) (Some decoded) (block id end octets) ≡ 0
 unfolding opened_by
-further_opens e id end octets decoded stream is =
-    ap (λ (s : State). if is_idle s && peer_opens (end_view e) id && not (is_some e.goaway.sent)
-    && not (is_at_capacity (end_view e)) then id else 0) (active_of e id stream is)
+further_opens e id end octets decoded stream is = search rules
 
 module _ (one new : Endpoint) (id : ℕ) (end : Bool) (octets : List ℕ) (decoded : Decoded) where
   -- A stream error that stops.
@@ -265,11 +230,9 @@ module _ (one new : Endpoint) (id : ℕ) (end : Bool) (octets : List ℕ) (decod
   )
   fault_error code opened OutOfMemory list is opens h =
       let verdict : verdict_of (end_view (end_of one)) (Some decoded) (block id end octets)
-      ≡ StreamFault code = limits_of_fault (end_of one) id end octets decoded code is
-      ∙ ap (λ (b : Bool). limited b code) h.0 in (
-        ap (λ (v : Verdict). needs_memory (end_view (end_of one)) v (block id end octets)) verdict,
-        h.1,
-      )
+      ≡ StreamFault code = limits_of_fault (end_of one) id end octets decoded code is ∙ ap
+      (λ (b : Bool). limited b code) h.0 in
+      search rules
 
   -- One that is answered, on a number that is fresh or not.
   pub fault_answer : (code : Code) (opened : ℕ) (reported : Option FrameEvent) (list : List Field)
@@ -310,14 +273,7 @@ module _ (e : End) (id : ℕ) (end : Bool) (octets : List ℕ) (decoded : Decode
   unfolding after_verdict after_reported events_of
   reported_taken new is whole same after =
       let verdict = limits_leave e id end octets decoded Reported refl is in
-      record {
-        goes_on = λ other wrong. cc;
-        after = after ∙ ap (λ (x : End). receive_block x id end (stream_at e id))
-            (sym (table_same e id end octets decoded same))
-            ∙ sym (after_by e id end octets decoded Reported verdict);
-        events = ap (λ (x : List Field). FieldsEvent id x end ∷ []) whole
-            ∙ sym (events_by e id end octets decoded Reported verdict);
-      }
+      search rules
 
   -- A block that would be reported, for which memory was refused.
   pub report_lacks : (new : End) → by_block e id end octets decoded ≡ Reported → new ≡ e
@@ -335,33 +291,20 @@ module _ (e : End) (id : ℕ) (end : Bool) (octets : List ℕ) (decoded : Decode
   unfolding after_verdict after_ignored events_of
   ignored_taken fresh new is same number after =
       let verdict = limits_leave e id end octets decoded NoEvent refl is in
-      record {
-        goes_on = λ other wrong. cc;
-        after = after ∙ ap (λ (b : Bool). mark_used e id b false) (sym number)
-            ∙ ap (λ (x : End). mark_used x id (is_fresh e id) false)
-            (sym (table_same e id end octets decoded same))
-            ∙ sym (after_by e id end octets decoded NoEvent verdict);
-        events = sym (events_by e id end octets decoded NoEvent verdict);
-      }
+      search rules
 
 -- What a fresh number opens.
 pub fresh_opens : (e : End) (id : ℕ) (end : Bool) (octets : List ℕ) (decoded : Decoded)
     → Fresh e id → opened_by (end_view e) (Some decoded) (block id end octets)
     ≡ (if not (is_some e.goaway.sent) && not (is_at_capacity (end_view e)) then id else 0)
 unfolding opened_by
-fresh_opens e id end octets decoded fresh =
-    ap (λ (s : State). if is_idle s && peer_opens (end_view e) id && not (is_some e.goaway.sent)
-    && not (is_at_capacity (end_view e)) then id else 0) (fresh_idle e id fresh)
-    ∙ (rw (fresh.server, fresh.odd) refl)
+fresh_opens e id end octets decoded fresh = search rules
 
 -- A number that isn't idle isn't fresh.
 pub stale_of : (e : End) (id : ℕ) (state : State) → IsSoundEnd e → state_at e id ≡ state
     → is_idle state ≡ false → (fresh : Bool) → is_fresh e id ≡ fresh → fresh ≡ false
 stale_of e id state sound is other false number = refl
-stale_of e id state sound is other true number =
-    let idle = fresh_idle e id (fresh_of e id sound number) in
-    let wrong : is_idle Idle ≡ false = ap is_idle (sym idle ∙ is) ∙ other in
-    cc
+stale_of e id state sound is other true number = search rules
 
 idle_by : (entry : Option StreamEntry) (idle above : Bool) → state_by_entry entry idle above ≡ Idle
     → idle ≡ true
@@ -384,11 +327,7 @@ odd_even n is = rw (eqb-true n 1 is) refl
 -- An idle number that isn't fresh is none that the peer may open.
 pub idle_unopened : (e : End) (id : ℕ) → state_at e id ≡ Idle → is_fresh e id ≡ false
     → peer_opens (end_view e) id ≡ false
-idle_unopened e id idle stale =
-    stale_opens (is_server e.role && id % 2 == 1) (id % 2 == 0) (nat_lt e.streams.highest id)
-    (idle_by (map.get e.streams.entries id) (id % 2 == 0 || nat_lt e.streams.highest id)
-    (is_above_goaway e id) idle) stale
-    (λ opens. odd_even (id % 2) (and_parts (is_server e.role) (id % 2 == 1) opens).1)
+idle_unopened e id idle stale = search rules
 
 -- A block on an idle number that isn't fresh, or a closed one, is a connection error.
 pub record Unwanted (e : End) (id : ℕ) (end : Bool) (octets : List ℕ) (decoded : Decoded)
@@ -412,11 +351,11 @@ pub closed_unwanted : (e : End) (id : ℕ) (end : Bool) (octets : List ℕ) (dec
     → state_at e id ≡ Closed → Unwanted e id end octets decoded
 unfolding block_verdict opened_by
 closed_unwanted e id end octets decoded past =
-    record {
-      fault = limits_leave e id end octets decoded (ConnectionFault ProtocolError) refl
-          (rule_of_block e id end octets decoded Closed past);
-      opens = rw past refl;
-    }
+    search (
+      rules,
+      limits_leave e id end octets decoded (ConnectionFault ProtocolError) refl
+          (rule_of_block e id end octets decoded Closed past),
+    )
 
 -- One on a number that this end has closed is ignored.
 pub ignored_rule : (e : End) (id : ℕ) (end : Bool) (octets : List ℕ) (decoded : Decoded)

@@ -3,15 +3,13 @@ use Rattle.h2_core.proofs.Names.{◌≡◌, ◌<◌, ◌≤◌, ◌^◌, ℕ, no
 use Rattle.h2_core.proofs.Names.{List, length, Option, Some, None, refl, sym, ap, ◌∙◌, arith}
 use Rattle.h2_core.proofs.Names.{ltb-true, Field, Frame, Data, Headers, Priority, Ping, GoAway}
 use Rattle.h2_core.proofs.Names.{WindowUpdate, Continuation, Unknown, payload_of, alone, Verdict}
-use Rattle.h2_core.proofs.Names.{NoEvent, End, end_view, ItemTaken}
-use Rattle.h2_frame.specs.Encoding.{refusal, stream_of, kind_of_frame, has_good_values}
-use Rattle.h2_frame.specs.Heads.{fits_stream}
-use Rattle.h2_spec_log.specs.Items.{encoding_of_items}
-use Rattle.h2_spec_log.specs.ItemRules.{verdict_of, verdict_by_rules, over_limits, replies_to}
-use Rattle.h2_spec_log.specs.ItemEffects.{events_of}
-use Rattle.h2_spec_machine.specs.Machine.{after_verdict, after_ignored}
+use Rattle.h2_core.proofs.Names.{NoEvent, End, end_view, ItemTaken, refusal, stream_of}
+use Rattle.h2_core.proofs.Names.{kind_of_frame, has_good_values, fits_stream, encoding_of_items}
+use Rattle.h2_core.proofs.Names.{verdict_of, verdict_by_rules, over_limits, replies_to, events_of}
+use Rattle.h2_core.proofs.Names.{after_verdict, after_ignored}
 use Rattle.std.proofs.Common.{nat_lt, ltb-false}
 use Rattle.h2_frame.specs.Frames.{Reset, Settings}
+use Rattle.h2_core.proofs.Names.{rules}
 
 -- The numbers of a frame that is not refused.
 pub record Writable (frame : Frame) : Type 0 where
@@ -32,16 +30,7 @@ passes x y z false true true true is = (refl, refl, refl, refl)
 
 pub writable : (frame : Frame) → refusal frame ≡ None → Writable frame
 unfolding refusal
-writable frame is =
-    let parts = passes _ _ _ (nat_lt 16777215 (length (payload_of frame)))
-    (nat_lt (stream_of frame) (2 ^ 31)) (fits_stream (kind_of_frame frame) (stream_of frame))
-    (has_good_values frame) is in
-    record {
-      payload = ltb-false 16777215 (length (payload_of frame)) parts.0;
-      stream = ltb-true (stream_of frame) (2 ^ 31) parts.1;
-      fits = parts.2;
-      values = parts.3;
-    }
+writable frame is = search rules
 
 -- DATA, HEADERS and CONTINUATION are on a stream.
 pub data_number : (stream : ℕ) (end : Bool) (octets : List ℕ) (pad : Option ℕ)
@@ -82,27 +71,17 @@ update_increment stream increment is =
 
 -- Whether a frame changes nothing, by its kind.
 abbrev pub is_quiet : Frame → Bool
-is_quiet (Data stream end octets pad) = false
 is_quiet (Headers stream end whole fragment pad priority) = true
 is_quiet (Priority stream octets) = true
-is_quiet (Reset stream code) = false
-is_quiet (Settings ack pairs) = false
-is_quiet (Ping ack octets) = false
-is_quiet (GoAway last code debug) = false
-is_quiet (WindowUpdate stream increment) = false
 is_quiet (Continuation stream whole fragment) = true
 is_quiet (Unknown kind flags stream payload) = true
+is_quiet frame = false
 
 quiet_by : (e : End) (frame : Frame) (list : List Field)
     → verdict_of (end_view e) None (alone frame) ≡ NoEvent
     → after_ignored e None (alone frame) ≡ e → ItemTaken e None (alone frame) list None e
 unfolding after_verdict events_of
-quiet_by e frame list is same =
-    record {
-      goes_on = λ code wrong. cc;
-      after = sym (ap (after_verdict e None (alone frame)) is ∙ same);
-      events = sym (ap (λ (v : Verdict). events_of (end_view e) None v (alone frame)) is);
-    }
+quiet_by e frame list is same = search rules
 
 pub quiet_taken : (e : End) (frame : Frame) (list : List Field) → is_quiet frame ≡ true
     → ItemTaken e None (alone frame) list None e
@@ -115,9 +94,4 @@ quiet_taken e (Continuation stream whole fragment) list quiet =
     quiet_by e (Continuation stream whole fragment) list refl refl
 quiet_taken e (Unknown kind flags stream payload) list quiet =
     quiet_by e (Unknown kind flags stream payload) list refl refl
-quiet_taken e (Data stream end octets pad) list quiet = cc
-quiet_taken e (Reset stream code) list quiet = cc
-quiet_taken e (Settings ack pairs) list quiet = cc
-quiet_taken e (Ping ack octets) list quiet = cc
-quiet_taken e (GoAway last code debug) list quiet = cc
-quiet_taken e (WindowUpdate stream increment) list quiet = cc
+quiet_taken e frame list quiet = cc

@@ -6,9 +6,9 @@ use Rattle.h2_core.proofs.Names.{StreamClosed, payload_of, alone, StreamView, en
 use Rattle.h2_core.proofs.Names.{Active, ConnectionFault, StreamFault, NoEvent, Reported}
 use Rattle.h2_core.proofs.Names.{verdict_of, exceeds, returns_credit, End, end_view, state_at}
 use Rattle.h2_core.proofs.Names.{stream_at, narrow_recv_window, update_stream, FrameEvent}
-use Rattle.h2_core.proofs.Names.{StepError, frame_of_data, TakesItem}
-use Rattle.h2_spec_log.specs.ItemRules.{verdict_by_rules, replies_to, exceeds_stream}
-use Rattle.h2_spec_machine.specs.Machine.{after_reported, after_ignored}
+use Rattle.h2_core.proofs.Names.{StepError, frame_of_data, TakesItem, verdict_by_rules, replies_to}
+use Rattle.h2_core.proofs.Names.{after_reported, after_ignored}
+use Rattle.h2_spec_log.specs.ItemRules.{exceeds_stream}
 use Rattle.std.proofs.Common.{Result, Ok, Err}
 use Rattle.h2_spec_log.specs.States.{ClosedByUs, Closed}
 use Rattle.h2_spec_log.specs.Verdicts.{data_verdict}
@@ -16,7 +16,9 @@ use Rattle.h2_core.specs.declared.receive.DataFrame.{DataFrame}
 use Rattle.h2_core.specs.Items.{DiscardsData}
 use Rattle.h2_core.proofs.ItemStatuses.{active_state}
 use Rattle.h2_core.proofs.ItemVerdicts.{quiet_verdict, fault_stands, report_stands, ignored_taken}
-use Rattle.h2_core.proofs.ItemVerdicts.{with_waiting, lacks_memory}
+use Rattle.h2_core.proofs.ItemVerdicts.{lacks_memory}
+use Rattle.h2_core.proofs.StepEnds.{with_waiting}
+use Rattle.h2_core.proofs.Names.{rules}
 
 -- The flow is the octets of the payload.
 abbrev pub HasFlow : DataFrame → Option ℕ → Type 0
@@ -117,8 +119,7 @@ module _ (e : End) (one : DataFrame) (pad : Option ℕ) where
         ended_in = one.end;
       }) ≡ after_reported e None (alone (frame_of_data one pad))
   unfolding after_reported
-  reported_after stream window waiting flow active unended is same =
-      rw (is, same, flow, active, unended) refl
+  reported_after stream window waiting flow active unended is same = search rules
 
   -- What is discarded is taken so.
   pub discarded_taken : (list : List Field) (result : Result (Option FrameEvent) StepError)

@@ -3,8 +3,7 @@ use Rattle.h2_core.proofs.Names.{◌≡◌, ℕ, ◌+◌, ◌<◌, ◌≤◌, �
 use Rattle.h2_core.proofs.Names.{List, [], ◌∷◌, length, Option, Some, None, refl, sym, ◌∙◌, arith}
 use Rattle.h2_core.proofs.Names.{nat_tests, EnhanceYourCalm, Ping, alone, max_frame_size_sent}
 use Rattle.h2_core.proofs.Names.{max_output, ConnectionFault, NoEvent, is_awaited_ping, End}
-use Rattle.h2_core.proofs.Names.{end_view}
-use Rattle.h2_spec_log.specs.ItemRules.{verdict_by_rules, verdict_of, over_limits, replies_to}
+use Rattle.h2_core.proofs.Names.{end_view, verdict_by_rules, verdict_of, over_limits, replies_to}
 use Rattle.std.proofs.Common.{nat_eq, nat_lt}
 use Rattle.std.specs.Cmp.Lexicographic.{pointwise}
 use Rattle.std.specs.Option.{option_eq}

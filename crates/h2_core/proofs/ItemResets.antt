@@ -1,8 +1,7 @@
 -- The verdict on RST_STREAM, by the state of its stream.
 use Rattle.h2_core.proofs.Names.{◌≡◌, ◌⊎◌, ℕ, None, refl, sym, ap, inl, inr, ProtocolError, alone}
 use Rattle.h2_core.proofs.Names.{State, Idle, Active, ConnectionFault, NoEvent, Reported}
-use Rattle.h2_core.proofs.Names.{verdict_of, End, end_view, state_at}
-use Rattle.h2_spec_log.specs.ItemRules.{verdict_by_rules, replies_to}
+use Rattle.h2_core.proofs.Names.{verdict_of, End, end_view, state_at, verdict_by_rules, replies_to}
 use Rattle.h2_frame.specs.Frames.{Reset}
 use Rattle.h2_spec_log.specs.States.{ClosedByUs, Closed}
 use Rattle.h2_spec_log.specs.Verdicts.{reset_verdict}

@@ -4,12 +4,13 @@ use Rattle.h2_core.proofs.Names.{None, refl, sym, arith, ◌∙◌, inl, inr, na
 use Rattle.h2_core.proofs.Names.{ProtocolError, FlowControlError, WindowUpdate, alone, StreamView}
 use Rattle.h2_core.proofs.Names.{State, Idle, Active, greatest_window, ConnectionFault, StreamFault}
 use Rattle.h2_core.proofs.Names.{NoEvent, verdict_of, overflows_by, End, end_view, state_at}
-use Rattle.h2_core.proofs.Names.{stream_at, widen_send_window}
-use Rattle.h2_spec_log.specs.ItemRules.{verdict_by_rules, replies_to, overflows_stream}
+use Rattle.h2_core.proofs.Names.{stream_at, widen_send_window, verdict_by_rules, replies_to}
+use Rattle.h2_spec_log.specs.ItemRules.{overflows_stream}
 use Rattle.h2_spec_log.specs.States.{ClosedByUs, Closed}
 use Rattle.h2_spec_log.specs.Verdicts.{connection_update_verdict, update_verdict}
 use Rattle.h2_core.proofs.ItemVerdicts.{quiet_verdict, fault_stands}
 use Rattle.h2_core.proofs.ItemStatuses.{active_state}
+use Rattle.h2_core.proofs.Names.{rules}
 
 -- Whether an increment is too much for the connection's window.
 passes : (send increment : ℕ) → greatest_window < send + increment
@@ -55,9 +56,7 @@ module _ (e : End) (id increment : ℕ) where
       → verdict_by_rules (end_view e) None (alone (WindowUpdate id increment)) ≡ update_verdict
       state increment (overflows_stream increment (stream_at e id))
   unfolding verdict_by_rules
-  by_state state some is =
-      let nonzero : (id == 0) ≡ false = grind (arith, nat_tests) in
-      rw (nonzero, is) refl
+  by_state state some is = search rules
 
   -- On an idle stream it is a connection error.
   pub idle_update : id ≢ 0 → Idle ≡ state_at e id
@@ -107,5 +106,4 @@ module _ (e : End) (id increment : ℕ) where
 -- An increment on a number without a stream changes nothing.
 pub widen_none : (e : End) (id increment : ℕ) → id ≢ 0 → stream_at e id ≡ None
     → widen_send_window e id increment (stream_at e id) ≡ e
-widen_none e id increment some none =
-    let nonzero : (id == 0) ≡ false = grind (arith, nat_tests) in rw (none, nonzero) refl
+widen_none e id increment some none = search rules

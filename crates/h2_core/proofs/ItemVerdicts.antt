@@ -8,14 +8,13 @@ use Rattle.h2_core.proofs.Names.{after_ignored, after_reported, after_stream_fau
 use Rattle.h2_core.proofs.Names.{queue_output, narrow_recv_window, size-reset, FrameEvent}
 use Rattle.h2_core.proofs.Names.{StepError, Fault, OutOfMemory, Endpoint, end_of, is_over_limits}
 use Rattle.h2_core.proofs.Names.{ResetsForFault, TakesItem, ItemTaken, needs_memory}
-use Rattle.h2_spec_log.specs.Items.{encoding_of_items}
-use Rattle.h2_spec_log.specs.ItemRules.{verdict_of, over_limits, replies_to, opened_by}
-use Rattle.h2_spec_log.specs.ItemEffects.{events_of}
-use Rattle.h2_spec_machine.specs.Machine.{after_verdict}
+use Rattle.h2_core.proofs.Names.{encoding_of_items, verdict_of, over_limits, replies_to, opened_by}
+use Rattle.h2_core.proofs.Names.{events_of, after_verdict}
 use Rattle.std.proofs.Common.{Err, Result, Ok}
 use Rattle.h2_frame.specs.Frames.{Reset as ResetFrame}
 use Rattle.h2_spec_log.specs.Events.{Event, ResetEvent}
 use Rattle.h2_core.specs.Events.{event_of}
+use Rattle.h2_core.proofs.Names.{rules}
 
 -- A verdict to which nothing is replied stands.
 pub quiet_verdict : (view : View) (frame : Frame) (verdict : Verdict)
@@ -71,8 +70,7 @@ pub lacks_memory : (e : End) (frame : Frame) (list : List Field) (verdict : Verd
     → verdict_of (end_view e) None (alone frame) ≡ verdict
     → needs_memory (end_view e) verdict (alone frame) ≡ true → new ≡ e
     → TakesItem e None (alone frame) list (Err OutOfMemory) new
-lacks_memory e frame list verdict new is needed same =
-    (ap (λ (v : Verdict). needs_memory (end_view e) v (alone frame)) is ∙ needed, same)
+lacks_memory e frame list verdict new is needed same = search rules
 
 -- What has no event is taken.
 pub ignored_taken : (e : End) (frame : Frame) (list : List Field) (new : End)
@@ -80,11 +78,7 @@ pub ignored_taken : (e : End) (frame : Frame) (list : List Field) (new : End)
     → new ≡ after_ignored e None (alone frame)
     → ItemTaken e None (alone frame) list None new
 unfolding after_verdict events_of
-ignored_taken e frame list new verdict after = record {
-  goes_on = λ code same. cc;
-  after = rw verdict after;
-  events = rw verdict refl;
-}
+ignored_taken e frame list new verdict after = search rules
 
 -- What is reported is taken.
 pub report_taken : (e : End) (frame : Frame) (list : List Field) (answer : FrameEvent) (new : End)
@@ -93,11 +87,7 @@ pub report_taken : (e : End) (frame : Frame) (list : List Field) (answer : Frame
     → event_of list answer ∷ [] ≡ events_of (end_view e) None Reported (alone frame)
     → ItemTaken e None (alone frame) list (Some answer) new
 unfolding after_verdict
-report_taken e frame list answer new verdict after events = record {
-  goes_on = λ code same. cc;
-  after = rw verdict after;
-  events = rw verdict events;
-}
+report_taken e frame list answer new verdict after events = search rules
 
 -- A stream error is taken.
 pub stream_fault_taken : (e : End) (frame : Frame) (code : Code) (list : List Field)
@@ -107,11 +97,7 @@ pub stream_fault_taken : (e : End) (frame : Frame) (code : Code) (list : List Fi
     → event_of list answer ≡ ResetEvent (stream_of_item (alone frame)) (code_number code) true
     → ItemTaken e None (alone frame) list (Some answer) new
 unfolding after_verdict events_of
-stream_fault_taken e frame code list answer new verdict after event = record {
-  goes_on = λ code same. cc;
-  after = rw verdict after;
-  events = rw verdict (ap (λ (one : Event). one ∷ []) event);
-}
+stream_fault_taken e frame code list answer new verdict after event = search rules
 
 -- The end after a stream is reset for a fault of it, and the result.
 pub fault_item : (one new : Endpoint) (frame : Frame) (code : Code) (flow : ℕ)
@@ -135,18 +121,3 @@ fault_item one new frame code flow (Err (Fault fault stream)) is made h = (
 fault_item one new frame code flow (Err OutOfMemory) is made h =
     lacks_memory (end_of one) frame new.list (StreamFault code) (end_of new)
     (reset_stands (end_of one) frame code is h.0) refl h.1
-
--- an end with other output
-abbrev pub with_waiting : End → List ℕ → End
-with_waiting e waiting = record e { output = record e.output { waiting = waiting } }
-
--- an end with another table of streams
-abbrev pub with_table : End → TableState → End
-with_table e table =
-    record e {
-      streams = record e.streams { entries = table.entries };
-      peer = record e.peer { initial_window = table.send_initial };
-      own = record e.own {
-        in_force = record e.own.in_force { initial_window = table.recv_initial };
-      };
-    }

@@ -8,8 +8,6 @@ mod StepCredit
 mod StepStreams
 -- An end with a part of it changed.
 mod StepEnds
--- Why calls are refused, and the end after accepted calls.
-mod StepCalls
 -- When a layer above refuses a stream.
 mod StepRefuse
 -- Octets that are released.

@@ -7,95 +7,40 @@ use Rattle.h2_core.proofs.Names.{Code, EnhanceYourCalm, Item, alone, Values, max
 use Rattle.h2_core.proofs.Names.{View, ConnectionFault, NoEvent, Reported, settings_fault}
 use Rattle.h2_core.proofs.Names.{encoder_after_settings, End, end_view, after_item, first_allowed}
 use Rattle.h2_core.proofs.Names.{apply_own_settings, Endpoint, StepError, Fault, OutOfMemory}
-use Rattle.h2_core.proofs.Names.{end_of, streams_allowed_by, TakesItem, ItemTaken}
-use Rattle.h2_frame.specs.Encoding.{encoding_of, kind_of_frame, flags_of, stream_of, payload_of}
-use Rattle.h2_flow.specs.Settings.{with_value}
-use Rattle.h2_spec_log.specs.Items.{encoding_of_items, encoding_of_item}
-use Rattle.h2_spec_log.specs.Settings.{value_after}
-use Rattle.h2_spec_log.specs.ItemRules.{verdict_of, verdict_by_rules, replies_to, over_limits}
-use Rattle.h2_spec_log.specs.ItemRules.{opened_by}
-use Rattle.h2_spec_log.specs.ItemEffects.{events_of}
-use Rattle.h2_spec_machine.specs.Machine.{after_verdict, after_ignored, after_reported, each_entry}
-use Rattle.h2_spec_machine.specs.Machine.{shifted_entry}
-use Rattle.h2_core.specs.Settings.{with_values, AppliesSettings}
-use Rattle.std.proofs.Common.{nat_lt, Err, eqb}
-use Rattle.std.proofs.lemmas.Bool.{ne_eqb}
+use Rattle.h2_core.proofs.Names.{end_of, streams_allowed_by, TakesItem, ItemTaken, encoding_of}
+use Rattle.h2_core.proofs.Names.{kind_of_frame, flags_of, stream_of, payload_of, with_value}
+use Rattle.h2_core.proofs.Names.{encoding_of_items, encoding_of_item, value_after, verdict_of}
+use Rattle.h2_core.proofs.Names.{verdict_by_rules, replies_to, over_limits, opened_by, events_of}
+use Rattle.h2_core.proofs.Names.{after_verdict, after_ignored, after_reported, with_values}
+use Rattle.h2_spec_machine.specs.Machine.{each_entry, shifted_entry}
+use Rattle.h2_core.specs.Settings.{AppliesSettings}
+use Rattle.h2_core.proofs.Names.{nat_tests}
+use Rattle.std.proofs.Common.{nat_lt, Err}
 use Rattle.h2_frame.specs.Frames.{Settings as SettingsFrame}
 use Rattle.h2_flow.specs.declared.settings.Settings.{Settings}
 use Rattle.h2_spec_log.specs.Events.{AckedEvent}
 use Rattle.h2_core.specs.declared.event.Event.TheVariants.{Acked}
 use Rattle.h2_core.proofs.ItemVerdicts.{lacks_memory}
 
--- An identifier above 6 is none of the six.
-other : (id known : ℕ) → known < 7
-    → eqb (suc (suc (suc (suc (suc (suc (suc id))))))) known ≡ false
-other id known six = ne_eqb (suc (suc (suc (suc (suc (suc (suc id))))))) known
-    (λ same. omega (arith, same))
-
 -- The values of one pair.
 value_four : (settings : Settings) (id value : ℕ)
     → (if id == 4 then value else settings.initial_window_size)
     ≡ (with_value settings (id, value)).initial_window_size
 unfolding with_value
-value_four settings zero value = refl
-value_four settings (suc zero) value = refl
-value_four settings (suc (suc zero)) value = refl
-value_four settings (suc (suc (suc zero))) value = refl
-value_four settings (suc (suc (suc (suc zero)))) value = refl
-value_four settings (suc (suc (suc (suc (suc zero))))) value = refl
-value_four settings (suc (suc (suc (suc (suc (suc zero)))))) value = refl
-value_four settings (suc (suc (suc (suc (suc (suc (suc id))))))) value =
-    rw (
-      other id 1 (omega arith),
-      other id 2 (omega arith),
-      other id 3 (omega arith),
-      other id 4 (omega arith),
-      other id 5 (omega arith),
-      other id 6 (omega arith),
-    ) refl
+value_four settings id value = grind (arith, nat_tests)
 
 value_five : (settings : Settings) (id value : ℕ)
     → (if id == 5 then value else settings.max_frame_size)
     ≡ (with_value settings (id, value)).max_frame_size
 unfolding with_value
-value_five settings zero value = refl
-value_five settings (suc zero) value = refl
-value_five settings (suc (suc zero)) value = refl
-value_five settings (suc (suc (suc zero))) value = refl
-value_five settings (suc (suc (suc (suc zero)))) value = refl
-value_five settings (suc (suc (suc (suc (suc zero))))) value = refl
-value_five settings (suc (suc (suc (suc (suc (suc zero)))))) value = refl
-value_five settings (suc (suc (suc (suc (suc (suc (suc id))))))) value =
-    rw (
-      other id 1 (omega arith),
-      other id 2 (omega arith),
-      other id 3 (omega arith),
-      other id 4 (omega arith),
-      other id 5 (omega arith),
-      other id 6 (omega arith),
-    ) refl
+value_five settings id value = grind (arith, nat_tests)
 
 value_three : (settings : Settings) (before id value : ℕ)
     → min 1000 before ≡ streams_allowed_by true settings.max_concurrent_streams
     → min 1000 (if id == 3 then value else before)
     ≡ streams_allowed_by true (with_value settings (id, value)).max_concurrent_streams
 unfolding with_value
-value_three settings before zero value is = is
-value_three settings before (suc zero) value is = is
-value_three settings before (suc (suc zero)) value is = is
-value_three settings before (suc (suc (suc zero))) value is = refl
-value_three settings before (suc (suc (suc (suc zero)))) value is = is
-value_three settings before (suc (suc (suc (suc (suc zero))))) value is = is
-value_three settings before (suc (suc (suc (suc (suc (suc zero)))))) value is = is
-value_three settings before (suc (suc (suc (suc (suc (suc (suc id))))))) value is =
-    rw (
-      other id 1 (omega arith),
-      other id 2 (omega arith),
-      other id 3 (omega arith),
-      other id 4 (omega arith),
-      other id 5 (omega arith),
-      other id 6 (omega arith),
-    ) is
+value_three settings before id value is = grind (arith, nat_tests)
 
 -- The peer's initial window, its greatest frame, and how many streams it takes, after all pairs.
 pub window_after : (settings : Settings) (pairs : List (ℕ × ℕ))

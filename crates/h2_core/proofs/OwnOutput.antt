@@ -1,11 +1,10 @@
 -- Putting output out: what is unreturned is returned first, then the octets leave the queue.
 use Rattle.h2_core.proofs.Names.{◌≡◌, ℕ, ◌+◌, min, Bool, true, false, List, [], ◌∷◌, ◌++◌, length}
 use Rattle.h2_core.proofs.Names.{take, drop, refl, arith, length-append, if◌then◌else◌, OnOk}
-use Rattle.h2_core.proofs.Names.{is_err, WindowUpdate, alone, returns_before_put_out, End, end_view}
-use Rattle.h2_core.proofs.Names.{return_credit}
-use Rattle.h2_frame.specs.Encoding.{encoding_of, kind_of_frame, flags_of, stream_of, payload_of}
-use Rattle.h2_spec_log.specs.Items.{encoding_of_items, encoding_of_item}
-use Rattle.h2_spec_machine.specs.Machine.{after_call, before_put_out_at}
+use Rattle.h2_core.proofs.Names.{is_err, WindowUpdate, alone, End, end_view, return_credit}
+use Rattle.h2_core.proofs.Names.{encoding_of, kind_of_frame, flags_of, stream_of, payload_of}
+use Rattle.h2_core.proofs.Names.{encoding_of_items, encoding_of_item, after_call, before_put_out_at}
+use Rattle.h2_spec_log.specs.CallRules.{returns_before_put_out}
 use Rattle.std.proofs.Common.{Result, Ok, Err}
 use Rattle.std.proofs.lemmas.List.{drop_min}
 use Rattle.h2_core.specs.Readers.{Consumes, PutsOut}
@@ -66,4 +65,7 @@ pub given_out : (e ready new : End) (count given : ℕ) (before after : List ℕ
     }
     → PutsOut e count given before after new
 given_out e ready new count given before after is size octets machine =
-    record { consumed = consumed e ready new count given is size machine; octets = rw (← is) octets }
+    record {
+      consumed = consumed e ready new count given is size machine;
+      octets = rw (← is) octets;
+    }

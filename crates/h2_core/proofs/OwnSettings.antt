@@ -1,8 +1,7 @@
 -- SETTINGS of the peer, pair by pair: their fault, and the values after them.
 use Rattle.h2_core.proofs.Names.{◌≡◌, ℕ, ◌==◌, ◌&&◌, true, false, List, [], ◌∷◌, Some, None, refl}
 use Rattle.h2_core.proofs.Names.{Code, FlowControlError, with_value, peer_of, value_fault, View}
-use Rattle.h2_spec_log.specs.ItemRules.{settings_fault}
-use Rattle.h2_core.specs.Settings.{with_values}
+use Rattle.h2_core.proofs.Names.{settings_fault, with_values}
 use Rattle.h2_flow.specs.declared.settings.Settings.{Settings}
 
 -- A pair whose value is at fault is the first fault.

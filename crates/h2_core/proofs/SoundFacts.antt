@@ -15,7 +15,7 @@ one_of None = 0
 one_of (Some stream) = 1
 
 -- what a stream owes, where there is one
-abbrev owed_of : Option StreamView → ℕ
+abbrev pub owed_of : Option StreamView → ℕ
 owed_of None = 0
 owed_of (Some stream) = stream.owed
 

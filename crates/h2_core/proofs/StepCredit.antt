@@ -1,8 +1,7 @@
 -- Whether credit is returned, by how much more is unreturned and how much output is queued.
 use Rattle.h2_core.proofs.Names.{◌≡◌, ℕ, ◌<◌, ◌≤◌, Bool, true, false, if◌then◌else◌, length, ap}
 use Rattle.h2_core.proofs.Names.{arith, nat_tests, returns_credit, End, return_credit}
-use Rattle.h2_core.proofs.Names.{more_unreturned}
-use Rattle.h2_spec_machine.specs.Machine.{add_unreturned}
+use Rattle.h2_core.proofs.Names.{more_unreturned, add_unreturned}
 
 -- It is, where there is more, and less than 65,536 octets are queued.
 pub returned : (more : ℕ) (e : End) → 0 < more → length e.output.waiting < 65536

@@ -2,10 +2,9 @@
 -- those of an item.
 use Rattle.h2_core.proofs.Names.{◌≡◌, ℕ, ◌<◌, ◌≤◌, ◌^◌, List, [], ◌∷◌, length, None, refl, Bool}
 use Rattle.h2_core.proofs.Names.{true, arith, rules, nat_tests, Frame, Ping, WindowUpdate, alone}
-use Rattle.h2_frame.specs.Heads.{fits_stream}
-use Rattle.h2_frame.specs.Encoding.{encoding_of, kind_of_frame, flags_of, stream_of, payload_of}
-use Rattle.h2_frame.specs.Encoding.{has_good_values, refusal}
-use Rattle.h2_spec_log.specs.Items.{encoding_of_item, encoding_of_items}
+use Rattle.h2_core.proofs.Names.{fits_stream, encoding_of, kind_of_frame, flags_of, stream_of}
+use Rattle.h2_core.proofs.Names.{payload_of, has_good_values, refusal, encoding_of_item}
+use Rattle.h2_core.proofs.Names.{encoding_of_items}
 use Rattle.std.proofs.Common.{nat_lt}
 use Rattle.h2_frame.specs.Frames.{Reset}
 

@@ -5,49 +5,32 @@ use Rattle.h2_core.proofs.Names.{None, ◌⊎◌, not, subst, refl, sym, ap, ap�
 use Rattle.h2_core.proofs.Names.{append_assoc, arith, cases_lt, nat_tests, ints, to_z-of_z}
 use Rattle.h2_core.proofs.Names.{WindowUpdate, encoding_of, alone, Release, StreamView, ended_in}
 use Rattle.h2_core.proofs.Names.{owed_on, active_entry, End, end_view, stream_in, stream_at}
-use Rattle.h2_core.proofs.Names.{queue_output, StreamIsInRange, is_far, IsSoundEnd}
-use Rattle.h2_spec_log.specs.CallRules.{items_of, encoder_after_call, is_not_owed}
-use Rattle.h2_spec_log.specs.Items.{encoding_of_item, encoding_of_items}
-use Rattle.h2_spec_machine.specs.Machine.{after_call, after_release}
+use Rattle.h2_core.proofs.Names.{queue_output, StreamIsInRange, is_far, IsSoundEnd, items_of}
+use Rattle.h2_core.proofs.Names.{encoder_after_call, encoding_of_item, encoding_of_items}
+use Rattle.h2_core.proofs.Names.{after_call}
+use Rattle.h2_spec_machine.specs.Machine.{after_release}
 use Rattle.std.proofs.Common.{nat_lt}
 use Rattle.std.specs.Int.RustNames.{FitsSigned}
 use mir.Syntax.{w64}
 use mir.Val.{to_z, of_z}
 use Rattle.h2_core.proofs.SoundFacts.{absent_above, highest_small}
 use Rattle.std.specs.FinMap as map
+use Rattle.h2_core.proofs.Names.{rules}
 
--- No octets are released, or more than are owed.
-pub owed-not : (e : End) (id count : ℕ) (stream : StreamView) → Some stream ≡ stream_at e id
-    → (count == 0 || nat_lt stream.owed count) ≡ true → is_not_owed (end_view e) id count ≡ true
-owed-not e id count stream is more =
-    ap (λ (found : Option StreamView). count == 0 || nat_lt (owed_on found) count) (sym is) ∙ more
-
--- The code's two tests are that one.
+-- The code's two tests are the test of the condition.
 pub release-test : (count owing : ℕ) → (count ≡ 0) ⊎ ((count ≡ 0 → ⊥) × (owing < count))
     → (count == 0 || nat_lt owing count) ≡ true
 release-test count owing (inl none) = grind (arith, nat_tests)
-release-test count owing (inr more) =
-    let above : owing < count = more.1 in grind (arith, nat_tests)
+release-test count owing (inr more) = search rules
 
--- Some are, and they are owed.
-pub owed-enough : (e : End) (id count : ℕ) (stream : StreamView) → Some stream ≡ stream_at e id
-    → 0 < count → count ≤ stream.owed → is_not_owed (end_view e) id count ≡ false
-owed-enough e id count stream is some enough =
-    let test : (count == 0 || nat_lt stream.owed count) ≡ false = grind (arith, nat_tests) in
-    ap (λ (found : Option StreamView). count == 0 || nat_lt (owed_on found) count) (sym is) ∙ test
+pub release-owed : (count owing : ℕ) → 0 < count → count ≤ owing
+    → (count == 0 || nat_lt owing count) ≡ false
+release-owed count owing some enough = grind (arith, nat_tests)
 
 -- A stream that is active has a number of 31 bits.
 pub active-number : (e : End) (id : ℕ) (stream : StreamView) → IsSoundEnd e
     → stream_at e id ≡ Some stream → id < 2 ^ 31
-active-number e id stream sound active = elim (cases_lt e.streams.highest id) [
-  | inl above ↦
-      let absent : stream_at e id ≡ None = ap stream_in (absent_above e id sound above) in
-      absurd (some_is_none stream (sym active ∙ absent))
-  | inr below ↦ omega (arith, highest_small e sound)
-]
-  where
-    some_is_none : (stream : StreamView) → Some stream ≡ None → ⊥
-    some_is_none stream is = cc
+active-number e id stream sound active = search rules
 
 -- A receive window that is widened by what is owed stays near zero.
 near_widened : (e : End) (stream : StreamView) (count : ℕ) → StreamIsInRange e stream
@@ -61,43 +44,6 @@ pub widened-near : (e : End) (id : ℕ) (stream : StreamView) (count : ℕ) → 
 widened-near e id stream count sound active enough =
     near_widened e stream count (sound.ranges.streams id stream active)
     (omega (arith, sound.ranges.own_window)) enough
-
--- A window that is near zero fits 64 bits.
-near_fits : (window : ℤ) → is_far window ≡ false → FitsSigned w64 window
-near_fits window near = grind (arith, ints)
-
--- So it is what its bits say.
-stays : (window : ℤ) → is_far window ≡ false → to_z w64 (of_z w64 window) ≡ window
-stays window near = to_z-of_z w64 window (near_fits window near)
-
--- what is released is near zero
-near_count : (count : ℕ) → count ≤ 65535 → is_far (pos count) ≡ false
-near_count count small = grind (arith, ints)
-
--- the sum of a window and what is released
-widened_sum : (window released : ℤ) (count : ℕ) → is_far window ≡ false → released ≡ pos count
-    → count ≤ 65535
-    → to_z w64 (of_z w64 window) +ℤ to_z w64 (of_z w64 released) ≡ window +ℤ pos count
-widened_sum window released count near is small =
-    ap₂ ◌+ℤ◌ (stays window near)
-    (ap (λ (z : ℤ). to_z w64 (of_z w64 z)) is ∙ stays (pos count) (near_count count small))
-
--- It fits 64 bits.
-pub widened-fits : (window released : ℤ) (count : ℕ) → is_far window ≡ false → released ≡ pos count
-    → count ≤ 65535 → is_far (window +ℤ pos count) ≡ false
-    → FitsSigned w64 (to_z w64 (of_z w64 window) +ℤ to_z w64 (of_z w64 released))
-widened-fits window released count near is small wide =
-    subst (λ (z : ℤ). FitsSigned w64 z) (sym (widened_sum window released count near is small))
-    (near_fits (window +ℤ pos count) wide)
-
--- And it is what its bits say.
-pub widened-value : (window released : ℤ) (count : ℕ) → is_far window ≡ false
-    → released ≡ pos count → count ≤ 65535 → is_far (window +ℤ pos count) ≡ false
-    → to_z w64 (of_z w64 (to_z w64 (of_z w64 window) +ℤ to_z w64 (of_z w64 released)))
-    ≡ window +ℤ pos count
-widened-value window released count near is small wide =
-    ap (λ (z : ℤ). to_z w64 (of_z w64 z)) (widened_sum window released count near is small)
-    ∙ stays (window +ℤ pos count) wide
 
 -- Whether the peer has ended a stream, by the code's test.
 pub not-ended : (ended : Bool) → not ended ≡ true → ended ≡ false
@@ -132,9 +78,7 @@ module _ (e : End) (id count : ℕ) (stream : StreamView) where
   after-release : stream_at e id ≡ Some stream
       → after_call e (Release id count) ≡ released_by e id count stream stream.ended_in
   unfolding after_call items_of encoder_after_call
-  after-release active = ap (λ (found : Option StreamView). after_release
-      (queue_output e (alone (WindowUpdate 0 count)
-      ∷ (if ended_in found then [] else alone (WindowUpdate id count) ∷ []))) id count found) active
+  after-release active = search rules
 
   -- The peer has ended the stream: its window stays.
   pub release-ended : stream_at e id ≡ Some stream → stream.ended_in ≡ true

@@ -1,4 +1,5 @@
 -- The end after a step on a stream, by the stream that is active.
+use Rattle.h2_core.proofs.SoundFacts.{owed_of}
 use Rattle.h2_core.proofs.Names.{◌≡◌, ℕ, ◌+◌, ◌-◌, ◌==◌, Bool, true, false, ◌&&◌, if◌then◌else◌}
 use Rattle.h2_core.proofs.Names.{Option, Some, None, refl, sym, ap, ap₂, ◌∙◌, arith, nat_cmp_total}
 use Rattle.h2_core.proofs.Names.{StreamView, StreamEntry, active_entry, reset_entry, StreamMap, End}
@@ -7,11 +8,7 @@ use Rattle.h2_core.proofs.Names.{reset_stream, update_stream, get_set, get_remov
 use Rattle.h2_core.proofs.Names.{set_stream, is_one, narrow_recv_window}
 use Rattle.std.proofs.Common.{is_some}
 use Rattle.std.specs.FinMap as map
-
--- what a stream owes, where there is one
-abbrev owed_of : Option StreamView → ℕ
-owed_of None = 0
-owed_of (Some stream) = stream.owed
+use Rattle.h2_core.proofs.Names.{rules}
 
 -- Nothing more, and nothing less.
 none_more : (n : ℕ) → 0 + n ≡ n
@@ -22,9 +19,7 @@ none_less n = omega arith
 
 -- A window that nothing is taken of.
 pub narrow_none : (e : End) → narrow_recv_window e 0 ≡ e
-narrow_none e =
-    ap (λ (recv : ℕ). record e { windows = record e.windows { recv = recv } })
-    (none_less e.windows.recv)
+narrow_none e = search rules
 
 -- What an entry owes is what its stream owes.
 owed_in : (entry : Option StreamEntry) → owed_entry entry ≡ owed_of (stream_in entry)
@@ -91,20 +86,10 @@ with_reset e i count =
 pub reset-active : (e : End) (i more : ℕ) (stream : StreamView) → stream_at e i ≡ Some stream
     → reset_stream e i more
     ≡ add_unreturned (more + stream.owed) (with_reset e i (e.streams.active_count - 1))
-reset-active e i more stream active =
-    ap₂ (λ (owing count : ℕ). add_unreturned (more + owing)
-    (with_reset e i (e.streams.active_count - count)))
-    (owed_in (map.get e.streams.entries i) ∙ ap owed_of active)
-    (ap (λ (found : Option StreamView). is_one (is_some found)) active)
+reset-active e i more stream active = search rules
 
 -- A number that is reset without being active.
 pub reset-inactive : (e : End) (i more : ℕ) → stream_at e i ≡ None
     → reset_stream e i more
     ≡ add_unreturned (more + 0) (with_reset e i e.streams.active_count)
-reset-inactive e i more inactive =
-    ap₂ (λ (owing count : ℕ). add_unreturned (more + owing)
-    (with_reset e i (e.streams.active_count - count)))
-    (owed_in (map.get e.streams.entries i) ∙ ap owed_of inactive)
-    (ap (λ (found : Option StreamView). is_one (is_some found)) inactive)
-    ∙ ap (λ (count : ℕ). add_unreturned (more + 0) (with_reset e i count))
-    (none_less e.streams.active_count)
+reset-inactive e i more inactive = search rules

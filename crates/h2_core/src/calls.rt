@@ -23,13 +23,12 @@ ghost use Rattle.h2_core.specs.Endpoint.{end_of, IsSoundEnd};
 ghost use Rattle.h2_core.specs.Calls.{CallRefused, CallAccepted, NotSendable, FramesFit, IsSizeOf};
 
 use crate::endpoint::Endpoint;
-use crate::sizes::SMALL_FRAME;
 use h2_block::spread;
 use h2_flow::StreamState;
 use h2_frame::HEAD_LEN;
 use h2_frame::limits::{
     FULL_OUTPUT, GREATEST_STREAM, LEAST_MAX_FRAME, LEAST_MAX_STREAMS, MAX_DATA, MAX_FRAME_SENT,
-    MAX_LIST, MOST_MAX_STREAMS,
+    MAX_LIST, MOST_MAX_STREAMS, SMALL_FRAME,
 };
 use h2_output::Output;
 use h2_spec_log::{Refusal, Role};
@@ -73,7 +72,7 @@ impl Endpoint {
         if self.streams.open(id, stream).is_err() {
             return Err(Refusal::Memory);
         }
-        if self.write_block(id, end, fields, size).is_err() {
+        if self.write_block(id, fields, size, end).is_err() {
             self.streams.close(id);
             return Err(Refusal::Memory);
         }
@@ -119,7 +118,7 @@ impl Endpoint {
         if size > MAX_LIST as usize {
             return Err(Refusal::ListTooLarge);
         }
-        if self.write_block(id, end, fields, size).is_err() {
+        if self.write_block(id, fields, size, end).is_err() {
             return Err(Refusal::Memory);
         }
         stream.state.ended_out = end;
@@ -169,6 +168,7 @@ impl Endpoint {
     // rule: 5.1 Each frame is sent only in states that allow it
     // rule: calls (own) A call does what it says, or is refused for its first condition
     /// The stream, if it may be sent on.
+    #[inline(always)]
     fn sendable(&self, id: u32) -> Result<Stream, Refusal>
         ensures ok { IfOk result (λ stream. (self.now.failed ≡ None)
             × (stream_at (end_of self.now) id ≡ Some (stream_view stream))
@@ -263,9 +263,9 @@ impl Endpoint {
     fn write_block(
         &mut self,
         id: u32,
-        end: bool,
         fields: &[Field],
         size: usize,
+        end: bool,
     ) -> Result<(), AllocError>
         requires up { self.old.failed ≡ None }
         requires number { (1 ≤ id) × (id < 2 ^ 31) }
@@ -284,8 +284,9 @@ impl Endpoint {
             &mut self.encoder,
             most,
             id,
-            end,
             fields,
+            size,
+            end,
             room,
             &mut self.block,
             &mut self.block_frames,
@@ -421,14 +422,16 @@ fn encode_frames(
     encoder: &mut Encoder,
     most: usize,
     id: u32,
-    end: bool,
     fields: &[Field],
+    size: usize,
+    end: bool,
     room: usize,
     block: &mut Vec<u8>,
     frames: &mut Vec<u8>,
 ) -> Result<(), AllocError>
     requires number { (1 ≤ id) × (id < 2 ^ 31) }
-    requires size { list_size fields.now ≤ max_list }
+    requires size { size ≡ list_size fields.now }
+    requires small { size ≤ max_list }
     requires most { (16384 ≤ most) × (most ≤ 65536) }
     requires room { FramesFit fields.now room }
     ensures ok { OnOk result ((frames.new.items ≡ encoding_of_frames (spread_frames most id
@@ -439,7 +442,7 @@ fn encode_frames(
     block.clear();
     frames.clear();
     frames.reserve(room)?;
-    if encoder.encode(fields, block).is_err() {
+    if encoder.encode_sized(fields, size, block).is_err() {
         return Err(AllocError);
     }
     spread(id, end, block, frames, most).unwrap();

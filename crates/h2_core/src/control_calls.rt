@@ -9,14 +9,10 @@ ghost use Rattle.h2_core.specs.Endpoint.{end_of, IsSoundEnd};
 ghost use Rattle.h2_core.specs.Calls.{CallRefused, CallAccepted, CallRefuses};
 
 use crate::endpoint::Endpoint;
-use crate::sizes::SMALL_FRAME;
 use crate::step_error::StepError;
-use h2_frame::limits::{FULL_OUTPUT, MAX_RESETS};
+use h2_frame::limits::{FULL_OUTPUT, LARGE_FRAME, MAX_RESETS, SMALL_FRAME};
 use h2_frame::{Code, FrameRef};
 use h2_spec_log::Refusal;
-
-/// The octets of PING, and of GOAWAY without debug octets.
-const LARGE_FRAME: usize = 17;
 
 impl Endpoint {
     // contract: 6.9 Nothing of the window of the connection is lost

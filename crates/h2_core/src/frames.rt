@@ -74,7 +74,7 @@ impl Endpoint {
                 ..
             } => {
                 if whole && fragment.len() <= MAX_BLOCK {
-                    self.take_block(stream, end, fragment)
+                    self.take_block(stream, fragment, end)
                 } else {
                     self.gather_frame(frame)
                 }
@@ -117,7 +117,7 @@ impl Endpoint {
                 stream,
                 end,
                 octets,
-            } => self.take_block(stream, end, &octets),
+            } => self.take_block(stream, &octets, end),
         }
     }
 

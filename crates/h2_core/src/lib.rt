@@ -19,7 +19,6 @@ mod receive_block;
 mod receive_settings;
 mod receive_update;
 mod settings_frame;
-mod sizes;
 mod status;
 mod step_error;
 mod stream_steps;

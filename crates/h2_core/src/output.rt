@@ -10,8 +10,7 @@ ghost use Rattle.h2_core.specs.Endpoint.{end_of, IsSoundEnd};
 ghost use Rattle.h2_core.specs.Readers.{Consumes, PutsOut};
 
 use crate::endpoint::Endpoint;
-use crate::sizes::SMALL_FRAME;
-use h2_frame::limits::FULL_OUTPUT;
+use h2_frame::limits::{FULL_OUTPUT, SMALL_FRAME};
 use h2_spec_log::Refusal;
 
 impl Endpoint {

@@ -14,11 +14,8 @@ use crate::event::Event;
 use crate::status::Status;
 use crate::step_error::StepError;
 use crate::stream_steps::{reserve_credit, reserve_if_over};
-use h2_frame::limits::MAX_OUTPUT;
+use h2_frame::limits::{LARGE_FRAME, MAX_OUTPUT};
 use h2_frame::{Code, FrameRef};
-
-/// The octets of PING.
-const PING: usize = 17;
 
 /// DATA that comes: its stream, END_STREAM, its octets, and its payload's length, padding included.
 #[derive(Clone, Copy)]
@@ -144,10 +141,10 @@ impl Endpoint {
         ensures { TakesItem (end_of self.old) None (alone (Ping false octets)) self.new.list result
             (end_of self.new) }
     {
-        if self.output.len() > MAX_OUTPUT - PING {
+        if self.output.len() > MAX_OUTPUT - LARGE_FRAME {
             return Err(StepError::fault(Code::EnhanceYourCalm));
         }
-        self.output.reserve(PING)?;
+        self.output.reserve(LARGE_FRAME)?;
         self.output.add_frame(FrameRef::Ping { ack: true, octets });
         Ok(None)
     }

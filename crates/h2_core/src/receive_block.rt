@@ -31,8 +31,8 @@ impl Endpoint {
     pub(crate) fn take_block<'a>(
         &mut self,
         id: u32,
-        end: bool,
         octets: &[u8],
+        end: bool,
     ) -> Result<Option<Event<(), &'a [u8]>>, Code>
         requires sound { IsSoundEnd (end_of self.old) }
         requires up { self.old.failed ≡ None }

@@ -13,11 +13,10 @@ ghost use Rattle.h2_core.specs.Resets.{is_over_limits, ResetsForFault};
 
 use crate::endpoint::Endpoint;
 use crate::event::Event;
-use crate::sizes::SMALL_FRAME;
 use crate::status::Status;
 use crate::step_error::StepError;
 use h2_frame::Code;
-use h2_frame::limits::{GREATEST_WINDOW, MAX_OUTPUT, MAX_RESETS};
+use h2_frame::limits::{GREATEST_WINDOW, MAX_OUTPUT, MAX_RESETS, SMALL_FRAME};
 use h2_streams::Stream;
 
 impl Endpoint {

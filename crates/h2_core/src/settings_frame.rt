@@ -13,13 +13,10 @@ ghost use Rattle.h2_core.specs.Calls.{CallRefused, CallAccepted};
 use crate::endpoint::Endpoint;
 use byteorder::{BigEndian, ByteOrder};
 use h2_flow::Config;
-use h2_frame::limits::{LEAST_MAX_FRAME, MAX_LIST};
+use h2_frame::limits::{LEAST_MAX_FRAME, MAX_LIST, PAIR};
 use h2_frame::{Head, Kind};
 use h2_output::Output;
 use h2_spec_log::{Refusal, Role};
-
-/// The octets of a pair (section 6.5.1).
-const PAIR: usize = 6;
 
 /// The octets of SETTINGS that change an end's values, at most.
 const MAX_SETTINGS: usize = 33;

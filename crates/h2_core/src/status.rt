@@ -61,6 +61,7 @@ impl Endpoint {
     // rule: 5.1 A stream has one state, by what was received and sent
     // rule: 5.1.1 A stream that is opened closes all lower idle ones
     /// What is known of a number.
+    #[inline(always)]
     pub(crate) fn status(&self, id: u32) -> Status
         ensures state { state_of_status result ≡ state_at (end_of self.now) id }
         ensures stream { stream_of_status result ≡ stream_at (end_of self.now) id }

@@ -14,9 +14,8 @@ ghost use Rattle.h2_core.specs.Endpoint.{end_of};
 ghost use Rattle.h2_core.specs.Streams.{IsNear, WindowHolds, both_ended, owed_by};
 
 use crate::endpoint::Endpoint;
-use crate::sizes::SMALL_FRAME;
 use h2_frame::FrameRef;
-use h2_frame::limits::FULL_OUTPUT;
+use h2_frame::limits::{FULL_OUTPUT, SMALL_FRAME};
 use h2_output::Output;
 use h2_streams::Stream;
 use std::alloc::AllocError;

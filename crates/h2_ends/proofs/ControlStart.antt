@@ -1,11 +1,9 @@
 -- A new end represents that nothing has happened.
 use Rattle.h2_ends.proofs.Names.{◌≡◌, ℕ, List, [], ◌++◌, None, refl, sym, ap, ◌∙◌, inl, inr}
 use Rattle.h2_ends.proofs.Names.{both_ways, Role, Values, ConnRepresents, Token, End, Spans}
-use Rattle.h2_ends.proofs.Names.{EndRepresents, IsInStep, SendsInOrder, owed_inactive}
-use Rattle.h2_laws_pair.specs.Tokens.{tokens_sent, tokens_heard}
-use Rattle.h2_ends.specs.Ends.{message_for, parts_on, tokens_given, tokens_of_parts}
-use Rattle.h2_ends.specs.Represents.{IsKept, new_end_log}
-use Rattle.h2_spec_log.specs.LogCalls.{opened}
+use Rattle.h2_ends.proofs.Names.{EndRepresents, IsInStep, SendsInOrder, owed_inactive, tokens_sent}
+use Rattle.h2_ends.proofs.Names.{tokens_heard, message_for, parts_on, tokens_given, tokens_of_parts}
+use Rattle.h2_ends.proofs.Names.{IsKept, new_end_log, opened}
 use Rattle.h2_spec_log.specs.LogSteps.{with_sent}
 use Rattle.h2_laws_machine.proofs.NewEnd.{new_is_active as none_active}
 

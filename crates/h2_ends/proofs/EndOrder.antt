@@ -1,25 +1,20 @@
 -- What was sent and handed out at an end keeps the order, after each call that sends what waits and
 -- each call of `take`.
-use Rattle.h2_ends.proofs.Names.{◌≡◌, ◌≢◌, ℕ, ◌==◌, ◌&&◌, Bool, true, false, List, [], ◌∷◌, ◌++◌}
-use Rattle.h2_ends.proofs.Names.{length, take, drop, Option, Some, None, inl, inr, refl, sym, ap}
-use Rattle.h2_ends.proofs.Names.{◌∙◌, append_assoc, append-nil, drop-append_seam, and_parts}
-use Rattle.h2_ends.proofs.Names.{cases_eq, eqb-true, Field, Refusal, Act, Answer, SendFields}
-use Rattle.h2_ends.proofs.Names.{SendData, Refuse, Count, Done, Refused, Event, FieldsEvent}
-use Rattle.h2_ends.proofs.Names.{DataEvent, ResetEvent, Log, MayAnswer, with_call, IsOver}
-use Rattle.h2_ends.proofs.Names.{is_number_used, TakeAnswer, MayTake, Took, Failed, fields_in_use}
-use Rattle.h2_ends.proofs.Names.{data_in_use, log_after_take, SentMessage, Part, FieldsPart}
-use Rattle.h2_ends.proofs.Names.{OctetsPart, Token, OctetToken, EndToken, tokens_of_call}
-use Rattle.h2_ends.proofs.Names.{tokens_of_event, tokens_heard, trailers_tokens, IsPrefixOfTokens}
-use Rattle.h2_ends.proofs.Names.{EndLog, Passed, EndAnswer, parts_on, reads_on, handed_as}
-use Rattle.h2_ends.proofs.Names.{tokens_of_part, tokens_handed, tokens_out, message_for}
-use Rattle.h2_ends.proofs.Names.{tokens_waiting, EndMayTake, IsReadableWith, end_with_log}
-use Rattle.h2_ends.proofs.Names.{end_with_handed, hands_nothing, passes, hands_out, refusal_fails}
-use Rattle.h2_ends.proofs.Names.{BodyWaits, TrailersWait, end_with_message, end_after_call}
-use Rattle.h2_ends.proofs.Names.{SendsInOrder, HandsInOrder}
-use Rattle.h2_laws_pair.specs.Tokens.{end_tokens}
-use Rattle.h2_ends.specs.Ends.{part_of_event, tokens_given}
-use Rattle.std.proofs.Common.{map as each, is_none}
-use Rattle.h2_ends.specs.EndTakes.{fails, refuses, runs_out_of_memory}
+use Rattle.h2_ends.proofs.Names
+use Names.{◌≡◌, ◌≢◌, ℕ, ◌==◌, ◌&&◌, Bool, true, false, List, [], ◌∷◌, ◌++◌, length, take, drop}
+use Names.{Option, Some, None, inl, inr, refl, sym, ap, ◌∙◌, append_assoc, append-nil}
+use Names.{drop-append_seam, and_parts, cases_eq, eqb-true, Field, Refusal, Act, Answer, SendFields}
+use Names.{SendData, Refuse, Count, Done, Refused, Event, FieldsEvent, DataEvent, ResetEvent, Log}
+use Names.{MayAnswer, with_call, IsOver, is_number_used, TakeAnswer, MayTake, Took, Failed}
+use Names.{fields_in_use, data_in_use, log_after_take, SentMessage, Part, FieldsPart, OctetsPart}
+use Names.{Token, OctetToken, EndToken, tokens_of_call, tokens_of_event, tokens_heard}
+use Names.{trailers_tokens, IsPrefixOfTokens, EndLog, Passed, EndAnswer, parts_on, reads_on}
+use Names.{handed_as, tokens_of_part, tokens_handed, tokens_out, message_for, tokens_waiting}
+use Names.{IsReadableWith, end_with_log, end_with_handed, hands_nothing, passes, hands_out}
+use Names.{refusal_fails, BodyWaits, TrailersWait, end_with_message, end_after_call, SendsInOrder}
+use Names.{HandsInOrder, end_tokens, part_of_event, tokens_given, is_none}
+use Rattle.h2_ends.specs.EndTakes.{EndMayTake, fails, refuses, runs_out_of_memory}
+use Rattle.std.proofs.Common.{map as each}
 use Rattle.h2_ends.proofs.EndParts.{handed_elsewhere, readable_here, same_part, no_tokens}
 use Rattle.h2_ends.proofs.EndParts.{part_tokens, other_tokens}
 use Rattle.h2_ends.proofs.EndSteps.{passed_none, same_sent, same_taken, sent_handed}

@@ -1,18 +1,15 @@
 -- A part of a message is handed out as that part, and its tokens are those that were reported.
-use Rattle.h2_ends.proofs.Names.{◌≡◌, ◌≢◌, ℕ, ◌==◌, Bool, true, false, if◌then◌else◌, List, [], ◌∷◌}
-use Rattle.h2_ends.proofs.Names.{◌++◌, Option, None, Some, refl, sym, ap, ◌∙◌, append-nil}
-use Rattle.h2_ends.proofs.Names.{append_assoc, eq-eqb, ne_eqb, Field, Event, FieldsEvent, DataEvent}
-use Rattle.h2_ends.proofs.Names.{Reads, Requests, Responses, Phase, AtHead, InBody, AtEnd, Place}
-use Rattle.h2_ends.proofs.Names.{Reading, first_broken, interim_rules, Part, FieldsPart, OctetsPart}
-use Rattle.h2_ends.proofs.Names.{IsReadable, Follows, phase_after_final, place_after, BodyHanded}
-use Rattle.h2_ends.proofs.Names.{Token, after_both, after_none}
-use Rattle.h2_message.specs.Phases.{phase_after, phase_after_all, phase_after_head, place_at_head}
-use Rattle.h2_message.specs.Phases.{place_in, asks_head_first}
-use Rattle.h2_ends.specs.Ends.{part_on, handed_at, handed_as, part_of_event, tokens_of_part}
-use Rattle.h2_ends.specs.Ends.{tokens_of_parts, InterimHanded, HeadHanded, TrailersHanded}
-use Rattle.h2_laws_pair.specs.Tokens.{tokens_of_event}
+use Rattle.h2_ends.proofs.Names
+use Names.{◌≡◌, ◌≢◌, ℕ, ◌==◌, Bool, true, false, if◌then◌else◌, List, [], ◌∷◌, ◌++◌, Option, None}
+use Names.{Some, refl, sym, ap, ◌∙◌, append-nil, append_assoc, eq-eqb, ne_eqb, Field, Event}
+use Names.{FieldsEvent, DataEvent, Reads, Requests, Responses, Phase, Place, Reading, first_broken}
+use Names.{interim_rules, Part, FieldsPart, OctetsPart, Follows, BodyHanded, Token, after_both}
+use Names.{after_none, part_on, handed_at, handed_as, part_of_event, tokens_of_part}
+use Names.{tokens_of_parts, tokens_of_event, AtHead, InBody, AtEnd, IsReadable, phase_after_final}
+use Names.{place_after, phase_after_all, phase_after_head, place_at_head, place_in, not_readable}
+use Rattle.h2_ends.specs.Ends.{InterimHanded, HeadHanded, TrailersHanded}
+use Rattle.h2_message.specs.Phases.{phase_after, asks_head_first}
 use Rattle.std.specs.Prelude.{is_some}
-use Rattle.h2_message.proofs.PhaseWhole.{not_readable}
 use Rattle.h2_message.specs.declared.reading.Place.TheVariants as places
 
 -- After no part the phase is the same.

@@ -1,16 +1,13 @@
 -- What a step leaves of what an end represents: each stream but the one that it is of.
-use Rattle.h2_ends.proofs.Names.{◌≡◌, ◌≢◌, ◌⊎◌, ℕ, Bool, true, false, List, [], ◌∷◌, ◌++◌, Option}
-use Rattle.h2_ends.proofs.Names.{Some, None, refl, sym, ap, ◌∙◌, inl, inr, append-nil, cases_eq}
-use Rattle.h2_ends.proofs.Names.{Values, Act, Answer, Event, Log, active, MayAnswer, with_call}
-use Rattle.h2_ends.proofs.Names.{TakeAnswer, MayTake, IsOver, is_number_used, ConnRepresents, Reads}
-use Rattle.h2_ends.proofs.Names.{Reading, SentMessage, Part, Follows, tokens_of_call, tokens_sent}
-use Rattle.h2_ends.proofs.Names.{End, Outgoing, Stream, EndLog, Passed, message_for, handed_as}
-use Rattle.h2_ends.proofs.Names.{Handed, tokens_out, end_with_log, end_with_handed}
-use Rattle.h2_ends.proofs.Names.{RepresentsMessages, SendsInOrder, kept_at, outgoing_in, KeepsOne}
-use Rattle.h2_ends.proofs.Names.{over_by_call, used_by_call, over_by_take, grows_call}
-use Rattle.h2_ends.specs.Ends.{parts_on, part_on, reads_on}
-use Rattle.h2_ends.specs.Represents.{IsKept, IsOutgoing}
-use Rattle.h2_laws_end.proofs.OverReads.{used_by_take}
+use Rattle.h2_ends.proofs.Names
+use Names.{◌≡◌, ◌≢◌, ◌⊎◌, ℕ, Bool, true, false, List, [], ◌∷◌, ◌++◌, Option, Some, None, refl, sym}
+use Names.{ap, ◌∙◌, inl, inr, append-nil, cases_eq, Values, Act, Answer, Event, Log, active}
+use Names.{MayAnswer, with_call, TakeAnswer, MayTake, IsOver, is_number_used, ConnRepresents}
+use Names.{SentMessage, Part, Follows, tokens_of_call, tokens_sent, End, Outgoing, Stream, EndLog}
+use Names.{Passed, message_for, handed_as, Handed, tokens_out, end_with_log, end_with_handed}
+use Names.{RepresentsMessages, SendsInOrder, kept_at, outgoing_in, KeepsOne, over_by_call}
+use Names.{used_by_call, grows_call, parts_on, part_on, reads_on, IsKept, IsOutgoing}
+use Rattle.h2_laws_end.proofs.OverReads.{over_by_take, used_by_take}
 use Rattle.h2_ends.proofs.EndTokens.{call_adds_none, take_calls}
 use Rattle.h2_laws_pair.proofs.StepUnprocessed.{role_by_take as take_role}
 use Rattle.h2_ends.proofs.EndParts.{handed_elsewhere, handed_here}
@@ -258,13 +255,6 @@ passed_on values end happened event is =
     (end_with_handed happened happened.log (Passed event)) is is.conn refl refl (λ i past. past)
     (λ i. same_handed happened (Passed event) i (passed_none i event))
 
--- A part that a reading has taken is handed out as that part.
-pub handed_part : (reads : Reads) (parts : List (Part × Bool)) (id : ℕ) (part : Part × Bool)
-    (reading : Reading) → Follows reads (parts ++ part ∷ []) reading
-    → part_on id (handed_as reads parts id part) ≡ part ∷ []
-handed_part reads parts id part reading follows =
-    handed_here reads parts id part reading follows
-
 -- What is kept of the message that is sent on a stream.
 pub outgoing_kept : (happened : EndLog) (id : ℕ) (stream : Option Stream)
     → IsKept happened id stream → IsOutgoing happened id (outgoing_in stream)
@@ -346,5 +336,5 @@ handed_on values end new happened id part stream is keeps_one was follows outgoi
     (Some stream) is (rw conn is.conn) role refl keeps (λ i past. past)
     (λ i other. same_handed happened handed i (handed_elsewhere reads parts i id part other))
     (inr (kept_handed happened handed id part stream
-    (handed_part reads parts id part stream.reading follows) was follows sends))
+    (handed_here reads parts id part stream.reading follows) was follows sends))
     (sent_handed happened handed id (is.sent id))

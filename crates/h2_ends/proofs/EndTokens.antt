@@ -1,12 +1,10 @@
 -- What a call and what taking octets leave of what was sent on a stream, and of the role.
-use Rattle.h2_ends.proofs.Names.{◌≡◌, ℕ, List, [], ◌++◌, refl, ap, ◌∙◌, append-nil, Item, Role}
-use Rattle.h2_ends.proofs.Names.{Refusal, Act, Answer, Open, SendFields, SendData, Refused, Event}
-use Rattle.h2_ends.proofs.Names.{Log, with_call, Verdict, ConnectionFault, StreamFault, NoEvent}
-use Rattle.h2_ends.proofs.Names.{Reported, TakeAnswer, MayTake, reports_unprocessed, ends_no_frame}
-use Rattle.h2_ends.proofs.Names.{ends_frame, meets_fault, Token, call_calls}
-use Rattle.h2_laws_pair.specs.Tokens.{tokens_of_call, tokens_sent}
-use Rattle.h2_laws_end.specs.Takes.{has_failed, runs_out_of_memory}
-use Rattle.h2_laws_end.proofs.OverSteps.{HoldsRead}
+use Rattle.h2_ends.proofs.Names
+use Names.{◌≡◌, ℕ, List, [], ◌++◌, refl, ap, ◌∙◌, append-nil, Item, Role, Refusal, Act, Answer}
+use Names.{Open, SendFields, SendData, Refused, Event, Log, with_call, TakeAnswer, MayTake}
+use Names.{reports_unprocessed, ends_no_frame, ends_frame, meets_fault, Token, call_calls}
+use Names.{tokens_of_call, tokens_sent, has_failed, runs_out_of_memory, HoldsRead}
+use Rattle.h2_spec_log.specs.Verdicts.{Verdict, ConnectionFault, StreamFault, NoEvent, Reported}
 use Rattle.h2_laws_machine.specs.Machines.{log_after}
 use Rattle.h2_laws_pair.proofs.HeardCalls.{step_calls}
 use Rattle.h2_laws_machine.specs.Machines as steps

@@ -1,24 +1,21 @@
 -- What a step leaves of what keeps step with what has happened, stream by stream.
-use Rattle.h2_ends.proofs.Names.{◌≡◌, ◌≢◌, ℕ, false, List, [], ◌∷◌, ◌++◌, Option, Some, None, refl}
-use Rattle.h2_ends.proofs.Names.{sym, ap, ◌∙◌, inl, inr, append-nil, both_ways, cases_Bool, Role}
-use Rattle.h2_ends.proofs.Names.{Values, Act, Answer, Number, Log, active, MayAnswer, with_call}
-use Rattle.h2_ends.proofs.Names.{IsLog, grows_call, TakeAnswer, MayTake, Took, Failed}
-use Rattle.h2_ends.proofs.Names.{reports_unprocessed, ends_no_frame, ends_frame, meets_fault}
-use Rattle.h2_ends.proofs.Names.{over_by_call, over_by_take, log_after_take, ConnRepresents}
-use Rattle.h2_ends.proofs.Names.{SentMessage, Token, tokens_of_event, tokens_of_call, call_calls}
-use Rattle.h2_ends.proofs.Names.{End, Stream, Span, Spans, EndLog, Handed, part_on, tokens_of_parts}
-use Rattle.h2_ends.proofs.Names.{tokens_handed, end_with_log, end_with_handed, EndRepresents}
-use Rattle.h2_ends.proofs.Names.{RepresentsBut, IsInStep, KeepsActive, kept_at, HandsInOrder}
-use Rattle.h2_ends.proofs.Names.{OwesWithin, WasRefused, outgoing_in, call_may_close}
-use Rattle.h2_ends.proofs.Names.{take_may_close, take_has_data, take_has_fields, active_by_call}
-use Rattle.h2_laws_pair.specs.Tokens.{tokens_heard}
+use Rattle.h2_ends.proofs.Names
+use Names.{◌≡◌, ◌≢◌, ℕ, false, List, [], ◌∷◌, ◌++◌, Option, Some, None, refl, sym, ap, ◌∙◌, inl}
+use Names.{inr, append-nil, both_ways, cases_Bool, Role, Values, Act, Answer, Number, Log, active}
+use Names.{MayAnswer, with_call, IsLog, grows_call, TakeAnswer, MayTake, Took, Failed}
+use Names.{reports_unprocessed, ends_no_frame, ends_frame, meets_fault, over_by_call}
+use Names.{log_after_take, ConnRepresents, SentMessage, Token, tokens_of_event, tokens_of_call}
+use Names.{call_calls, End, Stream, Span, Spans, EndLog, Handed, part_on, tokens_of_parts}
+use Names.{tokens_handed, end_with_log, end_with_handed, EndRepresents, RepresentsBut, IsInStep}
+use Names.{KeepsActive, HandsInOrder, OwesWithin, WasRefused, outgoing_in, call_may_close}
+use Names.{take_may_close, take_has_data, take_has_fields, active_by_call, tokens_heard, AfterTake}
+use Names.{has_failed, runs_out_of_memory, inactive_by_call, cases_eq}
+use Rattle.h2_laws_end.proofs.OverReads.{over_by_take}
 use Rattle.std.proofs.lemmas.List.Elements.{Contains-append_right}
-use Rattle.h2_laws_end.specs.Takes.{AfterTake, has_failed, runs_out_of_memory}
-use Rattle.h2_laws_end.proofs.ActivityCalls.{inactive_by_call}
 use Rattle.h2_laws_end.proofs.ActivityTakes.{active_by_take, inactive_by_take}
 use Rattle.h2_laws_end.proofs.ActivityOwed.{none_owed_by_call, none_owed_by_take}
 use Rattle.h2_ends.proofs.EndTokens.{take_calls}
-use Rattle.h2_ends.proofs.EndSteps.{called_end, quiet_call, same_handed}
+use Rattle.h2_ends.proofs.EndSteps.{called_end, quiet_call, same_handed, kept}
 
 -- what a call of `take` reports of a stream, token by token
 abbrev pub tokens_reported : ℕ → TakeAnswer → List Token
@@ -216,41 +213,46 @@ in_step_with spans stream other happened i keeps same is =
       owes = is.owes;
     }
 
--- A call that opens and closes no stream, and sends no token.
-pub called_as : (values : Values) (end new : End) (happened : EndLog) (act : Act)
-    (answer : Answer) → EndRepresents values end happened → MayAnswer happened.log act answer
-    → ConnRepresents values new.conn (with_call happened.log act answer)
-    → new.role ≡ end.role → new.streams ≡ end.streams → new.spans ≡ end.spans
-    → ((i : ℕ) → tokens_of_call i act answer ≡ []) → ((i : ℕ) → answer ≢ Number i)
-    → ((i : ℕ) → call_may_close i act answer ≡ false)
-    → EndRepresents values new (end_with_log happened (with_call happened.log act answer))
-called_as values end new happened act answer is may conn role streams spans none other stays =
+-- An end represents what has happened where what it keeps of the one stream is active too.
+pub represents_all : (values : Values) (end : End) (happened : EndLog) (id : ℕ)
+    → RepresentsBut values end happened id → KeepsActive happened.log (kept end id) id
+    → EndRepresents values end happened
+represents_all values end happened id is here =
     record {
-      streams = quiet_call values end new happened act answer is.streams may conn role streams none;
-      in_step = λ i. rw (spans, streams)
-          (in_step_called _ values end.spans (kept_at i end.streams.entries) happened act answer
-          happened.accepted i is.streams.conn.machine.came may (other i) (is.in_step i));
-      active = λ i. rw streams
-          (active_called _ values happened.log act answer (kept_at i end.streams.entries) i
-          is.streams.conn.machine.came may (stays i) (is.active i));
+      streams = is.streams;
+      in_step = is.in_step;
+      active = λ i. elim (cases_eq i id) [
+        | inl same ↦ rw same here
+        | inr other ↦ is.active i other
+      ];
     }
 
--- The same where it may close one.
-pub called_but : (values : Values) (end new : End) (happened : EndLog) (act : Act)
-    (answer : Answer) (id : ℕ) → EndRepresents values end happened
-    → MayAnswer happened.log act answer
-    → ConnRepresents values new.conn (with_call happened.log act answer)
-    → new.role ≡ end.role → new.streams ≡ end.streams → new.spans ≡ end.spans
-    → ((i : ℕ) → tokens_of_call i act answer ≡ []) → ((i : ℕ) → answer ≢ Number i)
-    → ((i : ℕ) → i ≢ id → call_may_close i act answer ≡ false)
-    → RepresentsBut values new (end_with_log happened (with_call happened.log act answer)) id
-called_but values end new happened act answer id is may conn role streams spans none other stays =
-    record {
-      streams = quiet_call values end new happened act answer is.streams may conn role streams none;
-      in_step = λ i. rw (spans, streams)
-          (in_step_called _ values end.spans (kept_at i end.streams.entries) happened act answer
-          happened.accepted i is.streams.conn.machine.came may (other i) (is.in_step i));
-      active = λ i but. rw streams
-          (active_called _ values happened.log act answer (kept_at i end.streams.entries) i
-          is.streams.conn.machine.came may (stays i but) (is.active i));
-    }
+module _ (values : Values) (end new : End) (happened : EndLog) (act : Act) (answer : Answer)
+    (is : EndRepresents values end happened) (may : MayAnswer happened.log act answer)
+    (conn : ConnRepresents values new.conn (with_call happened.log act answer))
+    (role : new.role ≡ end.role) (streams : new.streams ≡ end.streams)
+    (spans : new.spans ≡ end.spans) (none : (i : ℕ) → tokens_of_call i act answer ≡ [])
+    (other : (i : ℕ) → answer ≢ Number i) where
+  -- A call that opens no stream and sends no token may close one,
+  still_active : (i : ℕ) → call_may_close i act answer ≡ false
+      → KeepsActive (with_call happened.log act answer) (kept new i) i
+  still_active i stays = rw streams (active_called _ values happened.log act answer (kept end i) i
+      is.streams.conn.machine.came may stays (is.active i))
+
+  pub called_but : (id : ℕ) → ((i : ℕ) → i ≢ id → call_may_close i act answer ≡ false)
+      → RepresentsBut values new (end_with_log happened (with_call happened.log act answer)) id
+  called_but id stays =
+      record {
+        streams = quiet_call values end new happened act answer is.streams may conn role streams
+            none;
+        in_step = λ i. rw (spans, streams) (in_step_called _ values end.spans (kept end i) happened
+            act answer happened.accepted i is.streams.conn.machine.came may (other i)
+            (is.in_step i));
+        active = λ i but. still_active i (stays i but);
+      }
+
+  -- or closes none.
+  pub called_as : ((i : ℕ) → call_may_close i act answer ≡ false)
+      → EndRepresents values new (end_with_log happened (with_call happened.log act answer))
+  called_as stays =
+      represents_all values new _ 0 (called_but 0 (λ i but. stays i)) (still_active 0 (stays 0))

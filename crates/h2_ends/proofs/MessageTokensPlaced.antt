@@ -1,21 +1,17 @@
 -- What is handed out on a stream, part by part, is what its place says: interim heads, the head and
 -- trailers.
-use Rattle.h2_ends.proofs.Names.{◌≡◌, ◌≢◌, ℕ, ◌==◌, ◌-◌, Bool, true, false, List, [], if◌then◌else◌}
-use Rattle.h2_ends.proofs.Names.{◌∷◌, ◌++◌, length, Option, None, Some, refl, sym, ap, ◌∙◌}
-use Rattle.h2_ends.proofs.Names.{append-nil, append_assoc, eq-eqb, ne_eqb, Field, Reads, Requests}
-use Rattle.h2_ends.proofs.Names.{Responses, Phase, AtHead, InBody, AtEnd, Place, first_broken}
-use Rattle.h2_ends.proofs.Names.{interim_rules, Part, FieldsPart, OctetsPart, final_rules}
-use Rattle.h2_ends.proofs.Names.{place_after, after_none, after_both, BodyHanded, MessageToken}
-use Rattle.h2_ends.proofs.Names.{ListToken, BodyToken}
-use Rattle.h2_message.specs.Phases.{phase_after_final, phase_after_head, phase_after}
-use Rattle.h2_message.specs.Phases.{phase_after_all, place_at_head, place_in, is_short}
-use Rattle.h2_message.specs.Phases.{phase_in_body, phase_after_data}
-use Rattle.h2_ends.specs.Ends.{part_on, handed_at, handed_as}
-use Rattle.h2_ends.specs.MessageTokens.{last_tokens, parts_heard_in}
+use Rattle.h2_ends.proofs.Names
+use Names.{◌≡◌, ◌≢◌, ℕ, ◌==◌, ◌-◌, Bool, true, false, List, [], if◌then◌else◌, ◌∷◌, ◌++◌, length}
+use Names.{Option, None, Some, refl, sym, ap, ◌∙◌, append-nil, append_assoc, eq-eqb, ne_eqb, Field}
+use Names.{Reads, Requests, Responses, Phase, Place, first_broken, interim_rules, Part, FieldsPart}
+use Names.{OctetsPart, final_rules, after_none, after_both, BodyHanded, part_on, handed_at}
+use Names.{handed_as, compared_length, AtHead, InBody, AtEnd, place_after, phase_after_final}
+use Names.{phase_after_head, phase_after_all, place_at_head, place_in, trailer_rules}
+use Rattle.h2_message.specs.Phases.{phase_after, is_short, phase_in_body, phase_after_data}
+use Rattle.h2_ends.specs.MessageTokens.{MessageToken, ListToken, BodyToken, last_tokens}
+use Rattle.h2_ends.specs.MessageTokens.{parts_heard_in}
 use Rattle.std.proofs.Common.{map as each}
 use Rattle.std.specs.Prelude.{nat_lt, is_some, not, ◌||◌}
-use Rattle.h2_message.specs.Messages.{trailer_rules}
-use Rattle.h2_message.specs.Reading.{compared_length}
 use Rattle.h2_message.specs.declared.reading.Place.TheVariants as places
 
 -- what a list of fields is, by whether a final head has come before it, and by whether requests are

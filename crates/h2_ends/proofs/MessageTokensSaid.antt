@@ -1,15 +1,15 @@
 -- Where the tokens that have come are a prefix of a message's, so are its parts: what each part is
 -- follows from the tokens, since the first list is the head and a later one the trailers.
 use Rattle.h2_ends.proofs.Names.{◌≡◌, ℕ, Bool, true, false, List, [], ◌∷◌, ◌++◌, Option, None, Some}
-use Rattle.h2_ends.proofs.Names.{refl, sym, ap, ◌∙◌, subst, map-append, Field, SentMessage}
-use Rattle.h2_ends.proofs.Names.{first_broken, interim_rules, broken_by_response, Part, FieldsPart}
-use Rattle.h2_ends.proofs.Names.{OctetsPart, sent_response, Token, FieldsToken, OctetToken}
-use Rattle.h2_ends.proofs.Names.{EndToken, IsPrefixOfTokens, MessageToken, ListToken, BodyToken}
-use Rattle.h2_message.specs.Reading.{final_rules}
-use Rattle.h2_laws_pair.specs.Tokens.{end_tokens, trailers_tokens, message_tokens}
-use Rattle.h2_ends.specs.Ends.{tokens_of_part, tokens_of_parts, tokens_given}
-use Rattle.h2_ends.specs.MessageTokens.{last_tokens, LastToken, trailers_listed, parts_of_message}
-use Rattle.h2_ends.specs.MessageTokens.{parts_said, IsPrefixOfParts}
+use Rattle.h2_ends.proofs.Names.{refl, sym, ap, ◌∙◌, subst, Field, SentMessage, first_broken}
+use Rattle.h2_ends.proofs.Names.{interim_rules, broken_by_response, Part, FieldsPart, OctetsPart}
+use Rattle.h2_ends.proofs.Names.{Token, FieldsToken, OctetToken, EndToken, IsPrefixOfTokens}
+use Rattle.h2_ends.proofs.Names.{final_rules, end_tokens, trailers_tokens, message_tokens}
+use Rattle.h2_ends.proofs.Names.{tokens_of_part, tokens_of_parts, tokens_given, sent_response}
+use Rattle.std.proofs.lemmas.List.{map-append}
+use Rattle.h2_ends.specs.MessageTokens.{MessageToken, ListToken, BodyToken, last_tokens, LastToken}
+use Rattle.h2_ends.specs.MessageTokens.{trailers_listed, parts_of_message, parts_said}
+use Rattle.h2_ends.specs.MessageTokens.{IsPrefixOfParts}
 use Rattle.std.proofs.Common.{map as each}
 use Rattle.h2_message.proofs.ReadingRules.{some_not_none, not_both}
 use Rattle.h2_message.proofs.ReadingWhole.{one_sum}

@@ -1,16 +1,12 @@
 -- A pump, from its start to its end: what holds as it comes to a stream and passes it.
-use Rattle.h2_ends.proofs.Names.{◌≡◌, ◌≢◌, ◌⊎◌, inl, inr, ℕ, ◌+◌, ◌-◌, ◌<◌, ◌≤◌, true, false}
-use Rattle.h2_ends.proofs.Names.{Option, Some, None, refl, sym, ap, ◌∙◌, subst, arith, both_ways}
-use Rattle.h2_ends.proofs.Names.{cases_eq, Role, OutputFull, Memory, Closed, Values, full_output}
-use Rattle.h2_ends.proofs.Names.{Log, active, waiting, IsOver, Conn, End, Stream, Waiting, Span}
-use Rattle.h2_ends.proofs.Names.{Spans, EndLog, IsStuckOn, Pumps, EndRepresents, IsKept, IsInStep}
-use Rattle.h2_ends.proofs.Names.{InSpan, WaitsWithin, KeepsActive, outgoing_in, IsPumping}
-use Rattle.h2_ends.proofs.Names.{KeepsActiveOnly, sends_nothing, PumpGoes, NoneWaits, WaitsAsBefore}
-use Rattle.h2_ends.proofs.Names.{keeps_of}
-use Rattle.h2_ends.specs.EndCalls.{MayPump}
-use Rattle.std.proofs.Common.{Ok, Err}
+use Rattle.h2_ends.proofs.Names
+use Names.{◌≡◌, ◌≢◌, ◌⊎◌, inl, inr, ℕ, ◌+◌, ◌-◌, ◌<◌, ◌≤◌, true, false, Option, Some, None, refl}
+use Names.{sym, ap, ◌∙◌, subst, arith, both_ways, cases_eq, Role, OutputFull, Memory, Closed}
+use Names.{Values, full_output, Log, active, waiting, IsOver, Conn, End, Stream, Waiting, Span}
+use Names.{Spans, EndLog, IsStuckOn, Pumps, EndRepresents, IsKept, IsInStep, InSpan, WaitsWithin}
+use Names.{KeepsActive, outgoing_in, IsPumping, KeepsActiveOnly, sends_nothing, PumpGoes, NoneWaits}
+use Names.{WaitsAsBefore, keeps_of, MayPump, Ok, Err, IsStuckBelow}
 use Rattle.h2_laws_machine.proofs.BoundedLogs.{few_wait}
-use Rattle.h2_ends.specs.Pumping.{IsStuckBelow}
 use Rattle.h2_ends.proofs.PumpEnds.{by_end, to_end, stuck_unless_waiting}
 use Rattle.h2_ends.proofs.PumpSteps.{IsNext, pumps_all, zero_inactive, up_to_or}
 use Rattle.h2_ends.proofs.PumpStuck.{stuck_inactive}

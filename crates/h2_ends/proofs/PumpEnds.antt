@@ -1,16 +1,12 @@
 -- An end in the middle of a pump: its connection and one of its streams are ahead of the rest.
-use Rattle.h2_ends.proofs.Names.{◌≡◌, ◌≢◌, ◌⊎◌, inl, inr, ℕ, ◌==◌, Bool, true, false, [], Option}
-use Rattle.h2_ends.proofs.Names.{Some, if◌then◌else◌, refl, sym, ap, ◌∙◌, subst, append-nil}
-use Rattle.h2_ends.proofs.Names.{both_ways, eq-eqb, eqb-true, ne_eqb, cases_eq, Role, Values, Act}
-use Rattle.h2_ends.proofs.Names.{Answer, active, MayAnswer, with_call, grows_call, IsOver}
-use Rattle.h2_ends.proofs.Names.{used_by_call, over_by_call, Conn, ConnRepresents, Reads}
-use Rattle.h2_ends.proofs.Names.{SentMessage, Follows, tokens_of_call, End, Outgoing, Stream}
-use Rattle.h2_ends.proofs.Names.{Waiting, EndLog, parts_on, tokens_out, IsStuckOn}
-use Rattle.h2_ends.proofs.Names.{RepresentsMessages, IsStream, SendsInOrder, tokens_kept}
-use Rattle.h2_ends.proofs.Names.{outgoing_in, end_after_call, with_outgoing, keeps_with}
-use Rattle.h2_laws_pair.specs.Tokens.{message_tokens}
-use Rattle.h2_ends.specs.Ends.{reads_on, tokens_given}
-use Rattle.h2_ends.specs.Represents.{IsKept, IsOutgoing}
+use Rattle.h2_ends.proofs.Names
+use Names.{◌≡◌, ◌≢◌, ◌⊎◌, inl, inr, ℕ, ◌==◌, Bool, true, false, [], Option, Some, if◌then◌else◌}
+use Names.{refl, sym, ap, ◌∙◌, subst, append-nil, both_ways, eq-eqb, eqb-true, ne_eqb, cases_eq}
+use Names.{Role, Values, Act, Answer, active, MayAnswer, with_call, grows_call, IsOver}
+use Names.{used_by_call, over_by_call, Conn, ConnRepresents, Reads, SentMessage, Follows}
+use Names.{tokens_of_call, End, Outgoing, Stream, Waiting, EndLog, parts_on, tokens_out, IsStuckOn}
+use Names.{RepresentsMessages, IsStream, SendsInOrder, tokens_kept, outgoing_in, end_after_call}
+use Names.{with_outgoing, keeps_with, message_tokens, reads_on, tokens_given, IsKept, IsOutgoing}
 use Rattle.h2_ends.specs.Pumping.{RepresentsBy}
 use Rattle.h2_ends.proofs.EndSteps.{kept, IsSame, same_kept, same_sent, outgoing_kept}
 use Rattle.h2_ends.proofs.PumpStuck.{out_same, stuck_inactive}

@@ -1,18 +1,14 @@
 -- Why calls of a pump and of a release may be refused: the output is full, or memory was refused.
-use Rattle.h2_ends.proofs.Names.{◌≡◌, ◌≢◌, inl, inr, ℕ, ◌==◌, Bool, true, false, if◌then◌else◌}
-use Rattle.h2_ends.proofs.Names.{List, [], ◌∷◌, Some, None, refl, sym, ap, ◌∙◌, arith, list_any}
-use Rattle.h2_ends.proofs.Names.{nat_tests, Field, Refusal, OutputFull, Closed, NoSuchStream}
-use Rattle.h2_ends.proofs.Names.{SendFields, SendData, Release, Refused, ends, full_output, Log}
-use Rattle.h2_ends.proofs.Names.{active, unreleased, waiting, owed_on, when, log_view}
-use Rattle.h2_ends.proofs.Names.{stream_of_log, refusal_of, is_full, is_too_large, reader_owed}
-use Rattle.h2_ends.proofs.Names.{is_no_stream, MayAnswer, accepts, lacks, LacksSpace}
-use Rattle.h2_spec_log.specs.Log.{owed}
+use Rattle.h2_ends.proofs.Names
+use Names.{◌≡◌, ◌≢◌, inl, inr, ℕ, ◌==◌, Bool, true, false, if◌then◌else◌, List, [], ◌∷◌, Some, None}
+use Names.{refl, sym, ap, ◌∙◌, arith, list_any, nat_tests, Field, Refusal, OutputFull, Closed}
+use Names.{SendFields, SendData, Release, Refused, ends, full_output, Log, active, unreleased}
+use Names.{waiting, owed_on, when, log_view, stream_of_log, refusal_of, is_full, is_too_large}
+use Names.{reader_owed, is_no_stream, MayAnswer, accepts, lacks, LacksSpace, owed, nat_lt, ◌||◌}
+use Names.{is_some, leb-true, StreamView, refuses, fails, NoSuchStream}
 use Rattle.h2_spec_log.specs.CallRules.{conditions, first_of, is_not_owed}
-use Rattle.std.proofs.Common.{nat_lt, ◌||◌, is_some, leb-true}
-use Rattle.h2_spec_log.specs.declared.refusal.Refusal.TheVariants.{NotOwed}
-use Rattle.h2_spec_log.specs.View.{StreamView}
-use Rattle.h2_spec_log.specs.LogCalls.{refuses, fails}
 use Rattle.h2_laws_log.proofs.LogViewLemmas.{owed_there}
+use Rattle.h2_spec_log.specs.declared.refusal.Refusal.TheVariants.{NotOwed}
 
 -- The one condition left, by its test.
 full_by : (b : Bool) (refusal : Refusal) → (if b then Some OutputFull else None) ≡ Some refusal

@@ -1,20 +1,15 @@
 -- What a pump makes of one stream: what holds before each call on it, and what each call leaves.
-use Rattle.h2_ends.proofs.Names.{◌≡◌, ◌≢◌, ◌⊎◌, inl, inr, ℕ, ◌+◌, ◌<◌, ◌≤◌, ◌==◌, ◌&&◌, Bool, true}
-use Rattle.h2_ends.proofs.Names.{false, List, length, Option, Some, None, refl, sym, ap, ◌∙◌, subst}
-use Rattle.h2_ends.proofs.Names.{arith, length-drop, list_any, both_ways, and_parts, and_right}
-use Rattle.h2_ends.proofs.Names.{cases_Bool, cases_eq, eqb-true, ne_eqb, nat_tests, Field, Role}
-use Rattle.h2_ends.proofs.Names.{Refusal, Values, Act, Answer, IsTypedAct, SendFields, SendData}
-use Rattle.h2_ends.proofs.Names.{Count, Done, Number, Refused, ends, Log, active, MayAnswer}
-use Rattle.h2_ends.proofs.Names.{with_call, no_room_by_call, Conn, ConnRepresents, Outgoing, Stream}
-use Rattle.h2_ends.proofs.Names.{Waiting, Spans, EndLog, IsStuckOn, IsStream, IsWaiting, IsInStep}
-use Rattle.h2_ends.proofs.Names.{KeepsActive, outgoing_in, end_after_call, with_outgoing}
-use Rattle.h2_ends.proofs.Names.{keeps_with, IsPumping, LacksSpace, KeepsActiveOnly, KeepsActiveBut}
-use Rattle.h2_ends.proofs.Names.{sends_data}
-use Rattle.h2_ends.specs.Represents.{IsOutgoing, IsKept}
-use Rattle.h2_laws_end.specs.Activity.{call_may_close}
-use Rattle.std.proofs.Common.{is_none, option_map}
+use Rattle.h2_ends.proofs.Names
+use Names.{◌≡◌, ◌≢◌, ◌⊎◌, inl, inr, ℕ, ◌+◌, ◌<◌, ◌≤◌, ◌==◌, ◌&&◌, Bool, true, false, List, length}
+use Names.{Option, Some, None, refl, sym, ap, ◌∙◌, subst, arith, length-drop, list_any, both_ways}
+use Names.{and_parts, and_right, cases_Bool, cases_eq, eqb-true, ne_eqb, nat_tests, Field, Role}
+use Names.{Refusal, Values, Act, Answer, IsTypedAct, SendFields, SendData, Count, Done, Number}
+use Names.{Refused, ends, Log, active, MayAnswer, with_call, no_room_by_call, Conn, ConnRepresents}
+use Names.{Outgoing, Stream, Waiting, Spans, EndLog, IsStuckOn, IsStream, IsWaiting, IsInStep}
+use Names.{KeepsActive, outgoing_in, end_after_call, with_outgoing, keeps_with, IsPumping}
+use Names.{LacksSpace, KeepsActiveOnly, KeepsActiveBut, sends_data, IsOutgoing, IsKept}
+use Names.{call_may_close, is_none, option_map, sends_trailers}
 use Rattle.h2_ends.specs.EndCalls.{data_refused, trailers_refused}
-use Rattle.h2_ends.specs.Pumping.{sends_trailers}
 use Rattle.h2_ends.proofs.InSteps.{in_step_called, active_called}
 use Rattle.h2_ends.proofs.PumpCalls.{pump_keeps}
 use Rattle.h2_ends.proofs.PumpEnds.{keeps_here, keeps_other, kept_is, call_represents, same_by}
@@ -29,6 +24,7 @@ use Rattle.h2_ends.proofs.PumpTokens.{waits_after, sent_after_data, sent_after_f
 use Rattle.h2_ends.proofs.PumpTokens.{trailers_left, body_waits, trailers_wait}
 use Rattle.h2_ends.proofs.PumpWindows.{none_without_room, data_waits, data_within, data_failed}
 use Rattle.h2_ends.proofs.PumpWindows.{fields_failed, fields_wait, refused_waits}
+use Rattle.h2_ends.proofs.RequestSteps.{refused_fields_keep}
 use Rattle.h2_ends.specs.declared.outgoing.Outgoing.TheVariants as outgoings
 use Rattle.h2_ends.specs.EndCalls as calls
 use Rattle.h2_ends.specs.Pumping as pumping
@@ -52,11 +48,6 @@ data_closes_none : (i id : ℕ) (octets : List ℕ) (end : Bool) (refusal : Refu
     → call_may_close i (SendData id octets end) (Refused refusal) ≡ false
 unfolding call_may_close
 data_closes_none i id octets end refusal = refl
-
-fields_close_none : (i id : ℕ) (fields : List Field) (end : Bool) (refusal : Refusal)
-    → call_may_close i (SendFields id fields end) (Refused refusal) ≡ false
-unfolding call_may_close
-fields_close_none i id fields end refusal = refl
 
 -- As much space is lacking after it as before.
 lacks_after : (log : Log) (act : Act) (refusal : Refusal) → LacksSpace log refusal
@@ -409,7 +400,7 @@ module _ (values : Values) (start : EndLog) (role : Role) (spans : Spans)
       fields_are_refused refusal none may conn_is =
           let left = length-drop waits.sent waits.body.items in
           stopped new (SendFields id fields true) refusal may conn_is
-          (λ i. fields_close_none i id fields true refusal)
+          (λ i. refused_fields_keep i id fields true refusal)
           (trailers_refused happened id fields refusal next_here typed
           (trailers_wait happened id waits fields waits_here (omega (arith, left, none)) are) may)
           (refused.fields_refused happened.log id fields true refusal is.pumping.up is.alive goes_on

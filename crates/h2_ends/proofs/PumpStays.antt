@@ -1,18 +1,14 @@
 -- A stream that this end has not ended stays active after it has sent octets on it.
-use Rattle.h2_ends.proofs.Names.{◌≡◌, ℕ, zero, suc, ◌==◌, ◌&&◌, nat_le, Bool, true, false}
-use Rattle.h2_ends.proofs.Names.{if◌then◌else◌, List, [], ◌∷◌, ◌++◌, length, take, drop, None, refl}
-use Rattle.h2_ends.proofs.Names.{inl, inr, ap, subst, sym, list_any, or_from, and_right, Data, Item}
-use Rattle.h2_ends.proofs.Names.{alone, Role, Client, Server, SendData, Count, is_block_on, ends}
-use Rattle.h2_ends.proofs.Names.{Log, active, max_payload_sent, log_view, MayAnswer, with_call}
-use Rattle.h2_ends.proofs.Names.{grows_call, active_parts, Writes, call_writes}
-use Rattle.h2_spec_log.specs.CallRules.{data_frames, data_items, items_of}
-use Rattle.std.proofs.Common.{not}
-use Rattle.h2_frame.specs.Frames.{WindowUpdate}
+use Rattle.h2_ends.proofs.Names
+use Names.{◌≡◌, ℕ, zero, suc, ◌==◌, ◌&&◌, nat_le, Bool, true, false, if◌then◌else◌, List, [], ◌∷◌}
+use Names.{◌++◌, length, take, drop, None, refl, inl, inr, ap, subst, sym, list_any, and_right}
+use Names.{Data, Item, alone, Role, Client, Server, SendData, Count, is_block_on, ends, Log, active}
+use Names.{max_payload_sent, log_view, MayAnswer, with_call, grows_call, Writes, call_writes}
+use Names.{items_of, not, WindowUpdate, IsCredit, or_from, active_parts, data_frames, data_items}
+use Rattle.h2_laws_log.proofs.ReaderStates.{active_from, lasts_parts, lasts_from}
 use Rattle.h2_spec_log.specs.Items.{resets, is_goaway_below}
 use Rattle.h2_spec_log.specs.States.{openings, is_above}
 use Rattle.h2_laws_log.proofs.ItemLists.{any_after}
-use Rattle.h2_laws_log.proofs.ReaderStates.{active_from, lasts_parts, lasts_from}
-use Rattle.h2_laws_end.specs.Written.{IsCredit}
 use Rattle.h2_ends.proofs.PumpWindows.{data_accepted, data_active}
 use Rattle.h2_laws_end.proofs.OverCalls.{none_of_both}
 

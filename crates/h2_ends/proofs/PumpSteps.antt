@@ -1,13 +1,10 @@
 -- The calls of a pump, one more at their end; and which streams come next.
-use Rattle.h2_ends.proofs.Names.{◌≡◌, ◌⊎◌, inl, inr, ℕ, ◌+◌, ◌<◌, ◌≤◌, true, false, Option}
-use Rattle.h2_ends.proofs.Names.{Some, None, subst, arith, ltb-true, ltb-false, eqb-true}
-use Rattle.h2_ends.proofs.Names.{cases_Bool, false_from_ne_true, Refusal, Log, active}
-use Rattle.h2_ends.proofs.Names.{active_parts, End, EndLog, InSpan, IsInStep, IsNextKept}
-use Rattle.h2_ends.proofs.Names.{KeepsActiveOnly, keeps_of, Pumps, sends_nothing, sends_data}
-use Rattle.h2_ends.proofs.Names.{Span, Spans, Stream}
-use Rattle.std.proofs.Common.{nat_lt}
+use Rattle.h2_ends.proofs.Names
+use Names.{◌≡◌, ◌⊎◌, inl, inr, ℕ, ◌+◌, ◌<◌, ◌≤◌, true, false, Option, Some, None, subst, arith}
+use Names.{ltb-true, ltb-false, eqb-true, cases_Bool, false_from_ne_true, Refusal, Log, active, End}
+use Names.{EndLog, InSpan, IsInStep, KeepsActiveOnly, keeps_of, Pumps, sends_nothing, sends_data}
+use Names.{Span, Spans, Stream, IsNextKept, nat_lt, sends_trailers, PumpsSoFar, active_parts}
 use Rattle.h2_ends.specs.EndCalls.{pumps_no_more, pumps_data, pumps_trailers}
-use Rattle.h2_ends.specs.Pumping.{PumpsSoFar, sends_trailers}
 
 -- Calls after them are calls of the pump.
 pub pumps_after : (start now after : EndLog) (count more : ℕ) (refused : Option Refusal)

@@ -1,16 +1,13 @@
 -- Streams on which nothing of what waits can go: a call on another one leaves them so.
-use Rattle.h2_ends.proofs.Names.{◌≡◌, ◌≢◌, inl, inr, ℕ, Bool, false, List, [], ◌∷◌, ◌++◌, length}
-use Rattle.h2_ends.proofs.Names.{drop, refl, sym, ap, ◌∙◌, append-nil, subst, list_any, both_ways}
-use Rattle.h2_ends.proofs.Names.{and_parts, and_from, cases_Bool, ne_eqb, Field, Act, Answer}
-use Rattle.h2_ends.proofs.Names.{SendFields, SendData, Count, Done, is_block_on, Log, active}
-use Rattle.h2_ends.proofs.Names.{log_view, items_of, with_call, has_room, no_room_by_call}
-use Rattle.h2_ends.proofs.Names.{NoneCouldGo, Token, FieldsToken, OctetToken, EndToken, call_calls}
-use Rattle.h2_ends.proofs.Names.{EndLog, tokens_out, tokens_said, tokens_waiting, IsStuckOn}
-use Rattle.h2_ends.proofs.Names.{end_after_call}
-use Rattle.h2_laws_pair.specs.Tokens.{tokens_of_call, tokens_sent}
-use Rattle.h2_laws_end.proofs.OverCalls.{items_no_block}
+use Rattle.h2_ends.proofs.Names
+use Names.{◌≡◌, ◌≢◌, inl, inr, ℕ, Bool, false, List, [], ◌∷◌, ◌++◌, length, drop, refl, sym, ap}
+use Names.{◌∙◌, append-nil, subst, list_any, both_ways, and_parts, and_from, cases_Bool, ne_eqb}
+use Names.{Field, Act, Answer, SendFields, SendData, Count, Done, is_block_on, Log, active}
+use Names.{log_view, items_of, with_call, has_room, no_room_by_call, Token, FieldsToken, OctetToken}
+use Names.{EndToken, call_calls, EndLog, tokens_out, tokens_said, tokens_waiting, IsStuckOn}
+use Names.{end_after_call, tokens_of_call, tokens_sent, items_no_block, call_keeps}
+use Rattle.h2_laws_pair.specs.Quiet.{NoneCouldGo}
 use Rattle.h2_laws_end.proofs.OverLists.{IsInactive, inactive_sent}
-use Rattle.h2_laws_end.proofs.OverSteps.{call_keeps}
 
 module _ (end : EndLog) (act : Act) (answer : Answer) (i : ℕ) where
   -- What is sent with a call is more of it.

@@ -1,20 +1,16 @@
 -- What waits of a message, as sending goes on.
-use Rattle.h2_ends.proofs.Names.{◌≡◌, ◌≢◌, ◌⊎◌, inl, inr, ℕ, zero, suc, ◌+◌, ◌-◌, ◌<◌, ◌≤◌, ◌==◌}
-use Rattle.h2_ends.proofs.Names.{◌&&◌, Bool, true, false, List, [], ◌∷◌, ◌++◌, length, take, drop}
-use Rattle.h2_ends.proofs.Names.{Option, Some, None, refl, sym, ap, ◌∙◌, subst, append_assoc}
-use Rattle.h2_ends.proofs.Names.{append-nil, length-drop, arith, list_any, both_ways, and_from}
-use Rattle.h2_ends.proofs.Names.{false_from_ne_true, eq-eqb, map-append, drop-append_seam}
-use Rattle.h2_ends.proofs.Names.{take-length, nat_tests, Role, Values, SendFields, SendData, Count}
-use Rattle.h2_ends.proofs.Names.{Done, ends, IsLog, has_room, Field, is_too_large, SentMessage}
-use Rattle.h2_ends.proofs.Names.{Token, FieldsToken, OctetToken, EndToken, Waiting, EndLog}
-use Rattle.h2_ends.proofs.Names.{message_for, tokens_out, tokens_said, tokens_waiting, IsStuckOn}
-use Rattle.h2_ends.proofs.Names.{BodyWaits, TrailersWait, end_after_call, IsWaiting, tokens_kept}
-use Rattle.h2_message.specs.Messages.{trailer_fields}
-use Rattle.h2_laws_pair.specs.Tokens.{end_tokens, tokens_of_call, trailers_tokens, message_tokens}
-use Rattle.h2_ends.specs.Ends.{tokens_given}
-use Rattle.h2_ends.specs.Represents.{IsOutgoing}
-use Rattle.std.proofs.Common.{map as each, is_none, option_map}
-use Rattle.std.proofs.lemmas.List.{take-append-drop, drop-drop}
+use Rattle.h2_ends.proofs.Names
+use Names.{◌≡◌, ◌≢◌, ◌⊎◌, inl, inr, ℕ, zero, suc, ◌+◌, ◌-◌, ◌<◌, ◌≤◌, ◌==◌, ◌&&◌, Bool, true, false}
+use Names.{List, [], ◌∷◌, ◌++◌, length, take, drop, Option, Some, None, refl, sym, ap, ◌∙◌, subst}
+use Names.{append_assoc, append-nil, length-drop, arith, list_any, both_ways, and_from}
+use Names.{false_from_ne_true, eq-eqb, drop-append_seam, take-length, nat_tests, Role, Values}
+use Names.{SendFields, SendData, Count, Done, ends, IsLog, has_room, Field, is_too_large}
+use Names.{SentMessage, Token, FieldsToken, OctetToken, EndToken, Waiting, EndLog, message_for}
+use Names.{tokens_out, tokens_said, tokens_waiting, IsStuckOn, BodyWaits, TrailersWait}
+use Names.{end_after_call, IsWaiting, tokens_kept, trailer_fields, end_tokens, tokens_of_call}
+use Names.{trailers_tokens, message_tokens, tokens_given, IsOutgoing, is_none, option_map}
+use Rattle.std.proofs.lemmas.List.{map-append, take-append-drop, drop-drop}
+use Rattle.std.proofs.Common.{map as each}
 use Rattle.h2_laws_end.specs.Sendings.{lists_accepted, settings_received}
 use Rattle.h2_laws_end.proofs.Sendings.{log_sent}
 use Rattle.h2_laws_pair.proofs.HeardLists.{blocks_of_lists}

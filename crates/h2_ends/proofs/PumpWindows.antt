@@ -1,25 +1,20 @@
 -- What sending on a stream makes of windows, and of the output that waits.
-use Rattle.h2_ends.proofs.Names.{◌≡◌, ◌≢◌, ℕ, zero, suc, ◌+◌, ◌-◌, ◌≤◌, ◌<◌, ◌==◌, min, nat_le}
-use Rattle.h2_ends.proofs.Names.{◌&&◌, Bool, true, false, if◌then◌else◌, List, [], ◌∷◌, ◌++◌}
-use Rattle.h2_ends.proofs.Names.{length, take, drop, None, refl, sym, ap, ◌∙◌, arith, length-drop}
-use Rattle.h2_ends.proofs.Names.{pos, ltb-true, and_parts, false_from_ne_true, eqb-true, Field}
-use Rattle.h2_ends.proofs.Names.{Data, Item, alone, Refusal, Act, SendFields, SendData, Release}
-use Rattle.h2_ends.proofs.Names.{Count, Done, Refused, Log, active, max_payload_sent, log_view}
-use Rattle.h2_ends.proofs.Names.{refusal_of, MayAnswer, accepts, lacks, none_holds, has_room}
-use Rattle.h2_ends.proofs.Names.{Writes, call_writes}
-use Rattle.h2_spec_log.specs.Log.{waiting, output}
-use Rattle.h2_spec_log.specs.CallRules.{conditions, data_frames, data_items, items_of, data_count}
-use Rattle.h2_spec_log.specs.LogCalls.{with_call, refuses, fails, with_items}
-use Rattle.std.proofs.Common.{not, length-append, length-take, ◌-ℤ◌, leb-false}
+use Rattle.h2_ends.proofs.Names
+use Names.{◌≡◌, ◌≢◌, ℕ, zero, suc, ◌+◌, ◌-◌, ◌≤◌, ◌<◌, ◌==◌, min, nat_le, ◌&&◌, Bool, true, false}
+use Names.{if◌then◌else◌, List, [], ◌∷◌, ◌++◌, length, take, drop, None, refl, sym, ap, ◌∙◌, arith}
+use Names.{length-drop, ltb-true, and_parts, false_from_ne_true, eqb-true, Field, Data, Item, alone}
+use Names.{Refusal, Act, SendFields, SendData, Release, Count, Done, Refused, Log, active}
+use Names.{max_payload_sent, log_view, refusal_of, MayAnswer, accepts, lacks, has_room, Writes}
+use Names.{call_writes, waiting, output, items_of, with_call, refuses, fails, with_items, not}
+use Names.{max_data, window_test, none_holds, data_frames, data_items, total, data_on, data_of}
+use Rattle.h2_spec_log.specs.CallRules.{conditions, data_count}
+use Rattle.h2_laws_log.proofs.LogViewLemmas.{stream_is_active, count_by_sums}
+use Rattle.std.proofs.Common.{pos, length-append, length-take, ◌-ℤ◌, leb-false}
 use Rattle.std.specs.Prelude.{int_lt}
 use Rattle.h2_frame.specs.Encoding.{payload_of}
-use Rattle.h2_spec_log.specs.Items.{total, data_on, data_of}
-use Rattle.h2_spec_log.specs.Limits.{max_data}
 use Rattle.h2_spec_log.specs.Windows.{given_on, given_on_connection}
 use Rattle.h2_spec_log.proofs.SentPayloads.{most_between}
 use Rattle.h2_laws_log.proofs.ItemSizes.{size_of, size-frame, size-append}
-use Rattle.h2_laws_log.proofs.LogViewLemmas.{stream_is_active, count_by_sums}
-use Rattle.h2_laws_end.proofs.OverRoom.{window_test}
 use Rattle.h2_laws_pair.proofs.StepCalls.{call_given, call_failed}
 
 -- A call that sends octets is accepted, with the count of the rules.

@@ -2,11 +2,8 @@
 use Rattle.h2_ends.proofs.Names.{◌≡◌, ◌≢◌, ◌↔◌, ℕ, ◌≤◌, ◌==◌, Bool, true, false, arith, length}
 use Rattle.h2_ends.proofs.Names.{Option, None, if◌then◌else◌, refl, sym, ap, ◌∙◌, both_ways}
 use Rattle.h2_ends.proofs.Names.{eqb-true, eq-eqb, Code, Values, Log, owed, log_view, Conn}
-use Rattle.h2_ends.proofs.Names.{ConnRepresents, End, EndLog, IsStuckOn, EndRepresents}
-use Rattle.h2_spec_log.specs.Log.{waiting, output}
-use Rattle.std.proofs.Common.{not, is_some}
-use Rattle.h2_spec_log.specs.CallRules.{reader_due}
-use Rattle.h2_ends.specs.Quiet.{IsQuietEnd}
+use Rattle.h2_ends.proofs.Names.{ConnRepresents, End, EndLog, IsStuckOn, EndRepresents, waiting}
+use Rattle.h2_ends.proofs.Names.{output, not, is_some, IsQuietEnd, reader_due}
 use Rattle.h2_ends.proofs.SendingRelease.{ReadsFailed, up_by}
 use Rattle.hpack.proofs.Tests.{not_false}
 

@@ -3,7 +3,7 @@
 use Rattle.h2_ends.proofs.Names.{◌≡◌, ◌≢◌, ◌⊎◌, inl, inr, ℕ, ◌+◌, ◌-◌, true, false, Bool, Option}
 use Rattle.h2_ends.proofs.Names.{Some, None, if◌then◌else◌, refl, sym, ◌∙◌, subst, Code, Values}
 use Rattle.h2_ends.proofs.Names.{reader_owed, owed, log_view, End, EndLog, EndRepresents, IsNextIn}
-use Rattle.std.proofs.Common.{is_some}
+use Rattle.h2_ends.proofs.Names.{is_some}
 use Rattle.h2_ends.proofs.PumpSteps.{next_kept, none_active}
 use Rattle.h2_ends.proofs.ReleaseSteps.{IsReleasing, release_begins, release_comes, release_passes}
 use Rattle.h2_ends.proofs.ReleaseSteps.{none_is_owed}

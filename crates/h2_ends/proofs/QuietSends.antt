@@ -1,18 +1,14 @@
 -- Whether something that waits on a stream could be sent: those of the span are looked at in rising
 -- order, as in a pump that has sent nothing.
-use Rattle.h2_ends.proofs.Names.{◌≡◌, ◌≢◌, ◌↔◌, ℕ, ◌+◌, ◌-◌, ◌<◌, ◌≤◌, true, false, Bool, List, []}
-use Rattle.h2_ends.proofs.Names.{◌∷◌, ◌++◌, length, Option, Some, None, refl, sym, ap, ◌∙◌, inl}
-use Rattle.h2_ends.proofs.Names.{inr, subst, length-drop, arith, both_ways, Field, Values}
-use Rattle.h2_ends.proofs.Names.{reader_room, Log, active, log_view, Conn, ConnRepresents}
-use Rattle.h2_ends.proofs.Names.{NoneCouldGo, Token, FieldsToken, OctetToken, EndToken, End}
-use Rattle.h2_ends.proofs.Names.{Outgoing, Stream, Waiting, EndLog, tokens_waiting, IsStuckOn}
-use Rattle.h2_ends.proofs.Names.{HasRoom, EndRepresents, IsWaiting, kept_at, outgoing_in, IsNextIn}
-use Rattle.h2_ends.proofs.Names.{PumpGoes, keeps_of}
-use Rattle.h2_laws_pair.specs.Tokens.{trailers_tokens}
-use Rattle.h2_ends.specs.Represents.{IsOutgoing}
-use Rattle.std.proofs.Common.{map as each, option_map}
-use Rattle.std.proofs.lemmas.List.{drop_all}
-use Rattle.h2_laws_pair.specs.Quiet.{CouldGo}
+use Rattle.h2_ends.proofs.Names
+use Names.{◌≡◌, ◌≢◌, ◌↔◌, ℕ, ◌+◌, ◌-◌, ◌<◌, ◌≤◌, true, false, Bool, List, [], ◌∷◌, ◌++◌, length}
+use Names.{Option, Some, None, refl, sym, ap, ◌∙◌, inl, inr, subst, length-drop, arith, both_ways}
+use Names.{Field, Values, reader_room, Log, active, log_view, Conn, ConnRepresents, Token}
+use Names.{FieldsToken, OctetToken, EndToken, End, Outgoing, Stream, Waiting, EndLog}
+use Names.{tokens_waiting, IsStuckOn, HasRoom, EndRepresents, IsWaiting, kept_at, outgoing_in}
+use Names.{IsNextIn, PumpGoes, keeps_of, trailers_tokens, IsOutgoing, option_map, drop_all}
+use Rattle.h2_laws_pair.specs.Quiet.{NoneCouldGo, CouldGo}
+use Rattle.std.proofs.Common.{map as each}
 use Rattle.h2_ends.proofs.EndSteps.{outgoing_kept}
 use Rattle.h2_ends.proofs.PumpCalls.{pump_begins, pump_comes, pump_passes, all_stuck}
 use Rattle.h2_ends.proofs.PumpEnds.{by_end, stuck_unless_waiting}

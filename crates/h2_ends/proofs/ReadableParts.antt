@@ -1,18 +1,15 @@
 -- What was handed out of a message that was sent can be read, in whatever pieces its body came.
-use Rattle.h2_ends.proofs.Names.{◌≡◌, ◌≢◌, ℕ, Bool, true, false, List, [], ◌∷◌, ◌++◌, length}
-use Rattle.h2_ends.proofs.Names.{Option, Some, None, refl, sym, ap, ◌∙◌, inl, inr, append_assoc}
-use Rattle.h2_ends.proofs.Names.{append-nil, arith, AllByRecursion, Field, Requests, Responses}
-use Rattle.h2_ends.proofs.Names.{SentMessage, broken_by_request, broken_by_response, Part}
-use Rattle.h2_ends.proofs.Names.{FieldsPart, OctetsPart, IsReadable, sent_response, Token}
-use Rattle.h2_ends.proofs.Names.{FieldsToken, OctetToken, EndToken, IsPrefixOfTokens, is_head_alone}
+use Rattle.h2_ends.proofs.Names
+use Names.{◌≡◌, ◌≢◌, ℕ, Bool, true, false, List, [], ◌∷◌, ◌++◌, length, Option, Some, None, refl}
+use Names.{sym, ap, ◌∙◌, inl, inr, append_assoc, append-nil, arith, AllByRecursion, Field, Requests}
+use Names.{Responses, SentMessage, broken_by_request, broken_by_response, Part, FieldsPart}
+use Names.{OctetsPart, Token, FieldsToken, OctetToken, EndToken, IsPrefixOfTokens, is_head_alone}
+use Names.{end_tokens, trailers_tokens, message_tokens, tokens_of_part, tokens_of_parts, IsReadable}
+use Names.{length-append, sent_response, sent_request, body_parts, ended_more}
 use Rattle.h2_message.specs.Reading.{ended, message_parts, final_parts, trailers_parts, as_read}
-use Rattle.h2_laws_pair.specs.Tokens.{end_tokens, trailers_tokens, message_tokens}
-use Rattle.h2_ends.specs.Ends.{tokens_of_part, tokens_of_parts, IsNoEmptyPart}
+use Rattle.h2_ends.specs.Ends.{IsNoEmptyPart}
 use Rattle.std.proofs.Common.{map as each, sum_by}
-use Rattle.std.proofs.lemmas.List.{length-append}
 use Rattle.std.proofs.lemmas.List.Sums.{sum_by-cons}
-use Rattle.h2_message.proofs.LawSent.{sent_request}
-use Rattle.h2_message.proofs.PhaseWhole.{body_parts, ended_more}
 use Rattle.h2_message.proofs.ReadingWhole.{one_sum as one_piece}
 
 -- the tokens after a head, of this body and these trailers

@@ -1,18 +1,13 @@
 -- The calls of a release of all that is owed, one more at their end.
-use Rattle.h2_ends.proofs.Names.{◌≡◌, ◌≢◌, ◌⊎◌, inl, inr, ℕ, ◌+◌, ◌<◌, ◌-◌, false, Option, Some}
-use Rattle.h2_ends.proofs.Names.{None, refl, sym, ◌∙◌, subst, arith, ltb-true, ltb-false}
-use Rattle.h2_ends.proofs.Names.{cases_Bool, cases_eq, Refusal, Values, Answer, IsTypedAct, Release}
-use Rattle.h2_ends.proofs.Names.{Done, Refused, Log, active, MayAnswer, ConnRepresents, End, EndLog}
-use Rattle.h2_ends.proofs.Names.{Span, EndRepresents, InSpan, end_after_call, LacksSpace}
-use Rattle.h2_ends.proofs.Names.{owed_inactive}
-use Rattle.h2_spec_log.specs.Log.{owed, unreleased, released}
-use Rattle.h2_spec_log.specs.LogCalls.{with_call}
-use Rattle.h2_ends.specs.EndCalls.{MayReleaseAll, Releases, releases_no_more, releases_one}
-use Rattle.h2_ends.specs.EndCalls.{releases_refused, IsNextOwed}
-use Rattle.h2_laws_end.specs.Activity.{call_may_close}
-use Rattle.std.proofs.Common.{Ok, Err, nat_lt}
+use Rattle.h2_ends.proofs.Names
+use Names.{◌≡◌, ◌≢◌, ◌⊎◌, inl, inr, ℕ, ◌+◌, ◌<◌, ◌-◌, false, Option, Some, None, refl, sym, ◌∙◌}
+use Names.{subst, arith, ltb-true, ltb-false, cases_Bool, cases_eq, Refusal, Values, IsTypedAct}
+use Names.{Release, Done, Refused, Log, active, MayAnswer, ConnRepresents, End, EndLog, Span}
+use Names.{EndRepresents, InSpan, end_after_call, LacksSpace, owed_inactive, owed, unreleased}
+use Names.{with_call, MayReleaseAll, released, IsNextOwed, Ok, Err, nat_lt}
+use Rattle.h2_ends.specs.EndCalls.{Releases, releases_no_more, releases_one, releases_refused}
 use Rattle.h2_laws_end.proofs.OverRoom.{none_owed, none_owed_more}
-use Rattle.h2_ends.proofs.EndTokens.{no_part_tokens}
+use Rattle.h2_ends.proofs.ControlSteps.{closes_none}
 use Rattle.h2_ends.proofs.InSteps.{called_as}
 use Rattle.h2_ends.proofs.PumpRefusals.{release_refused}
 use Rattle.h2_ends.proofs.PumpSteps.{IsNext, zero_inactive}
@@ -134,12 +129,7 @@ release_passes values start end happened id is none =
     absurd_or j low up = let same : id ≡ j = omega (arith, low, up) in
         subst (λ (i : ℕ). owed happened.log i ≡ 0) same none
 
--- or once that was released: a release sends no token, opens no stream and closes none.
-none_closed : (i id count : ℕ) (answer : Answer)
-    → call_may_close i (Release id count) answer ≡ false
-unfolding call_may_close
-none_closed i id count answer = refl
-
+-- or once that was released.
 pub release_goes_on : (values : Values) (start : EndLog) (end new : End) (happened : EndLog)
     (id : ℕ) → IsReleasing values start end happened id → owed happened.log id ≢ 0
     → IsTypedAct (Release id (owed happened.log id))
@@ -151,8 +141,8 @@ release_goes_on values start end new happened id is some typed may conn role str
     release_passes values start new (after_release happened id) id (record {
       represents = called_as values end new happened (Release id (owed happened.log id)) Done
           is.represents may conn role streams spans
-          (λ i. no_part_tokens i (Release id (owed happened.log id)) Done tt) (λ i number. cc)
-          (λ i. none_closed i id (owed happened.log id) Done);
+          (λ i. (closes_none (Release id (owed happened.log id)) Done i tt).0) (λ i number. cc)
+          (λ i. (closes_none (Release id (owed happened.log id)) Done i tt).1);
       calls = releases_more is.calls id (record { some = some; below = is.below }) typed may;
       up = release_failed happened.log id (owed happened.log id) ∙ is.up;
       below = λ j low.
@@ -209,8 +199,9 @@ pub refusal_represents : (values : Values) (start : EndLog) (end new : End) (hap
 refusal_represents values start end new happened id refusal is may conn role streams spans =
     called_as values end new happened (Release id (owed happened.log id)) (Refused refusal)
     is.represents may conn role streams spans
-    (λ i. no_part_tokens i (Release id (owed happened.log id)) (Refused refusal) tt)
-    (λ i number. cc) (λ i. none_closed i id (owed happened.log id) (Refused refusal))
+    (λ i. (closes_none (Release id (owed happened.log id)) (Refused refusal) i tt).0)
+    (λ i number. cc)
+    (λ i. (closes_none (Release id (owed happened.log id)) (Refused refusal) i tt).1)
 
 -- As much is owed then.
 refused_owes : (log : Log) (id count : ℕ) (refusal : Refusal)

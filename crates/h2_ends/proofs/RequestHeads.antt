@@ -1,27 +1,22 @@
 -- What an end represents once it has sent the head of a message and keeps the rest of it.
-use Rattle.h2_ends.proofs.Names.{◌≡◌, ◌≢◌, ◌⊎◌, ℕ, false, [], ◌∷◌, Option, Some, None, refl, sym}
-use Rattle.h2_ends.proofs.Names.{◌∙◌, inl, inr, both_ways, eq-eqb, ne_eqb, Client, Server, Values}
-use Rattle.h2_ends.proofs.Names.{Act, Answer, Open, SendFields, Number, Done, Refusal, Malformed}
-use Rattle.h2_ends.proofs.Names.{broken_by_request, RefusesMessage, IsUnchanged, is_too_large}
-use Rattle.h2_ends.proofs.Names.{MayAnswer, with_call, ConnRepresents, grows_call, IsOver}
-use Rattle.h2_ends.proofs.Names.{is_number_used, used_by_call, Message, Requests, Responses}
-use Rattle.h2_ends.proofs.Names.{SentMessage, asks_head, trailer_fields, message_value, End}
-use Rattle.h2_ends.proofs.Names.{Outgoing, Stream, EndLog, message_for, tokens_out}
-use Rattle.h2_ends.proofs.Names.{end_with_message, IsAsked, is_head_alone, EndRepresents}
-use Rattle.h2_ends.proofs.Names.{RepresentsBut, RepresentsMessages, IsStream, IsUntouched, kept_at}
-use Rattle.h2_ends.proofs.Names.{IsGiven, KeepsOne, given_stream, active_by_call}
-use Rattle.h2_laws_pair.specs.Tokens.{tokens_of_call}
-use Rattle.h2_ends.specs.Ends.{reads_on, asked_head}
-use Rattle.h2_ends.specs.EndCalls.{MayRespond, MayRequest}
-use Rattle.h2_ends.specs.Represents.{IsKept, IsOutgoing}
+use Rattle.h2_ends.proofs.Names
+use Names.{◌≡◌, ◌≢◌, ◌⊎◌, ℕ, false, [], ◌∷◌, Option, Some, None, refl, sym, ◌∙◌, inl, inr}
+use Names.{both_ways, eq-eqb, ne_eqb, Client, Server, Values, Act, Answer, Open, SendFields, Number}
+use Names.{Done, Refusal, Malformed, broken_by_request, RefusesMessage, is_too_large, MayAnswer}
+use Names.{with_call, ConnRepresents, grows_call, IsOver, is_number_used, used_by_call, Message}
+use Names.{Requests, Responses, SentMessage, asks_head, trailer_fields, message_value, End}
+use Names.{Outgoing, Stream, EndLog, message_for, tokens_out, end_with_message, is_head_alone}
+use Names.{EndRepresents, RepresentsBut, RepresentsMessages, IsStream, IsUntouched, kept_at}
+use Names.{IsGiven, KeepsOne, given_stream, active_by_call, tokens_of_call, reads_on, asked_head}
+use Names.{IsKept, IsOutgoing, IsOpened, IsAnswered}
+use Rattle.h2_ends.specs.EndCalls.{IsUnchanged, IsAsked, MayRespond, MayRequest}
 use Rattle.std.specs.Prelude.{Ok, Err}
 use Rattle.h2_laws_end.proofs.OverNumbers.{opened_is_new}
-use Rattle.h2_ends.specs.Heads.{IsOpened, IsAnswered}
 use Rattle.h2_ends.proofs.EndSteps.{called_end, stepped}
 use Rattle.h2_laws_end.proofs.ActivityOpened.{active_by_open}
-use Rattle.h2_ends.proofs.InSteps.{owes_called, in_step_called}
-use Rattle.h2_ends.proofs.RequestSteps.{stepped_but, and_that, opens_one, open_keeps, fields_keep}
-use Rattle.h2_ends.proofs.RequestSteps.{head_keeps, handed_open, within_given}
+use Rattle.h2_ends.proofs.InSteps.{owes_called, in_step_called, represents_all}
+use Rattle.h2_ends.proofs.RequestSteps.{stepped_but, opens_one, open_keeps, fields_keep, head_keeps}
+use Rattle.h2_ends.proofs.RequestSteps.{handed_open, within_given}
 use Rattle.h2_ends.proofs.RequestSent.{head_tokens, sent_in_order, outgoing_after_head, sent_first}
 use Rattle.h2_ends.proofs.RequestSent.{accepted_here, accepted_elsewhere}
 use Rattle.h2_ends.specs.declared.refusal.EndRefusal.TheVariants as refusals
@@ -139,7 +134,7 @@ request_given values old opened given end id message is opens gives =
       outgoing = outgoing_after_head after id message accepted sent opens.fits;
       asked = λ server. let wrong = sym client ∙ server in cc;
     }) in
-    and_that values given after id
+    represents_all values given after id
     (stepped_but values old given end act (Number id) id (Some stream) after.accepted is
     opens.answers streams keeps (λ i within. gives.more i (rw opens.spans within))
     (rw opens.spans at gives.owing)
@@ -241,7 +236,7 @@ module _ (values : Values) (old answered given : End) (end : EndLog) (id : ℕ) 
       let act = SendFields id value.head (is_head_alone value) in
       let after = end_with_message end act Done id value in
       let parts = answered_parts end id value after answers.may in
-      and_that values given after id (respond_given message is answers gives)
+      represents_all values given after id (respond_given message is answers gives)
       (λ some. active_by_call _ values end.log act Done id is.streams.conn.machine.came
       parts.3 parts.0.active (head_keeps id id value.head (is_head_alone value) waits))
 

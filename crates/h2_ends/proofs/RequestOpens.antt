@@ -1,18 +1,14 @@
 -- What opening a stream with the head of a request makes of an end.
-use Rattle.h2_ends.proofs.Names.{◌≡◌, ◌⊎◌, ℕ, Bool, true, false, if◌then◌else◌, List, [], Option}
-use Rattle.h2_ends.proofs.Names.{Some, None, refl, sym, ap, ◌∙◌, inl, inr, arith, both_ways}
-use Rattle.h2_ends.proofs.Names.{cases_eq, false_from_ne_true, Field, Refusal, Memory, Client}
-use Rattle.h2_ends.proofs.Names.{Values, IsTypedAct, Open, Number, Refused, is_server, is_too_large}
-use Rattle.h2_ends.proofs.Names.{refusal_of, Log, next_number, log_view, MayAnswer, with_call}
-use Rattle.h2_ends.proofs.Names.{is_number_used, ConnRepresents, answer_by, reader_next_number}
-use Rattle.h2_ends.proofs.Names.{Reading, Responses, SentMessage, trailer_fields, asks_head}
-use Rattle.h2_ends.proofs.Names.{Follows, End, Stream, EndLog, end_with_log, RefusesMessage}
-use Rattle.h2_ends.proofs.Names.{is_head_alone, EndRepresents, kept_at, KeepsOne}
-use Rattle.std.proofs.Common.{◌||◌}
+use Rattle.h2_ends.proofs.Names
+use Names.{◌≡◌, ◌⊎◌, ℕ, Bool, true, false, if◌then◌else◌, List, [], Option, Some, None, refl, sym}
+use Names.{ap, ◌∙◌, inl, inr, arith, both_ways, cases_eq, false_from_ne_true, Field, Refusal}
+use Names.{Memory, Client, Values, IsTypedAct, Open, Number, Refused, is_server, is_too_large}
+use Names.{refusal_of, Log, next_number, log_view, MayAnswer, with_call, is_number_used}
+use Names.{ConnRepresents, answer_by, reader_next_number, Reading, Responses, SentMessage}
+use Names.{trailer_fields, asks_head, Follows, End, Stream, EndLog, end_with_log, RefusesMessage}
+use Names.{is_head_alone, EndRepresents, kept_at, KeepsOne, ◌||◌, OpensStream, neither_other}
 use Rattle.std.specs.Prelude.{Result, Ok, Err, is_some, is_err, OnOk, OnErr, unwrap_or}
-use Rattle.h2_laws_log.proofs.CallConditions.{neither_other}
 use Rattle.h2_laws_end.proofs.OverNumbers.{open_answer, used_below}
-use Rattle.h2_ends.specs.Heads.{OpensStream}
 use Rattle.h2_ends.proofs.EndTokens.{refused_tokens}
 use Rattle.h2_ends.proofs.InSteps.{called_as}
 use Rattle.h2_ends.proofs.RequestTable.{kept_alike}

@@ -1,24 +1,18 @@
 -- Why the connection refuses a message: as the call that sends its head, and C10 of its trailers.
-use Rattle.h2_ends.proofs.Names.{◌≡◌, ◌⊎◌, ℕ, ◌<◌, ◌≤◌, ◌^◌, ◌-◌, min, Bool, true, false, List, []}
-use Rattle.h2_ends.proofs.Names.{◌∷◌, ◌++◌, if◌then◌else◌, Option, Some, None, refl, sym, ap, ◌∙◌}
-use Rattle.h2_ends.proofs.Names.{inl, inr, arith, both_ways, or_from, Field, Refusal, Memory}
-use Rattle.h2_ends.proofs.Names.{Closed, NoSuchStream, OutputFull, Act, Answer, Open, SendFields}
-use Rattle.h2_ends.proofs.Names.{Refused, is_server, View, Log, next_number, log_view, refusal_of}
-use Rattle.h2_ends.proofs.Names.{is_too_large, is_full, is_no_stream, MayAnswer, accepts, lacks}
-use Rattle.h2_ends.proofs.Names.{none_holds, reader_next_number, SentMessage, trailer_fields}
-use Rattle.h2_ends.proofs.Names.{RefusesMessage}
-use Rattle.h2_spec_log.specs.CallRules.{conditions, first_of, has_failed, has_all_streams}
-use Rattle.h2_spec_log.specs.CallRules.{has_no_number, answer_of}
-use Rattle.std.proofs.Common.{◌||◌}
-use Rattle.std.specs.Prelude.{is_some}
-use Rattle.std.proofs.lemmas.Bool.{lt-ltb, le-ltb}
-use Rattle.hpack.specs.Lists.{list_size}
-use Rattle.h2_spec_log.specs.declared.refusal.Refusal.TheVariants.{ListTooLarge, Ended}
-use Rattle.h2_spec_log.specs.declared.refusal.Refusal.TheVariants.{TooManyStreams, StreamsExhausted}
-use Rattle.h2_spec_log.specs.declared.refusal.Refusal.TheVariants.{GoingAway}
-use Rattle.h2_spec_log.specs.View.{ended_out}
-use Rattle.h2_spec_log.specs.LogCalls.{refuses, fails}
+use Rattle.h2_ends.proofs.Names
+use Names.{◌≡◌, ◌⊎◌, ℕ, ◌<◌, ◌≤◌, ◌^◌, ◌-◌, min, Bool, true, false, List, [], ◌∷◌, ◌++◌}
+use Names.{if◌then◌else◌, Option, Some, None, refl, sym, ap, ◌∙◌, inl, inr, arith, both_ways, Field}
+use Names.{Refusal, Memory, Closed, OutputFull, Act, Answer, Open, SendFields, Refused, is_server}
+use Names.{View, Log, next_number, log_view, refusal_of, is_too_large, is_full, is_no_stream}
+use Names.{MayAnswer, accepts, lacks, reader_next_number, SentMessage, trailer_fields}
+use Names.{RefusesMessage, ◌||◌, ended_out, refuses, fails, or_from, lt-ltb, le-ltb, NoSuchStream}
+use Names.{Ended, none_holds, has_all_streams}
+use Rattle.h2_spec_log.specs.CallRules.{conditions, first_of, has_failed, has_no_number, answer_of}
+use Rattle.h2_spec_log.specs.declared.refusal.Refusal.TheVariants.{ListTooLarge, TooManyStreams}
+use Rattle.h2_spec_log.specs.declared.refusal.Refusal.TheVariants.{StreamsExhausted, GoingAway}
 use Rattle.h2_laws_log.proofs.CallConditions.{neither_one, first_kept as first_stays}
+use Rattle.std.specs.Prelude.{is_some}
+use Rattle.hpack.specs.Lists.{list_size}
 
 -- a list of conditions, with C10 of a list at its end
 abbrev with_size : List (Bool × Refusal) → Bool → List (Bool × Refusal)

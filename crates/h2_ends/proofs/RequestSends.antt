@@ -1,16 +1,13 @@
 -- What the connection answers to the head of a message, or to trailers that are too large.
-use Rattle.h2_ends.proofs.Names.{◌≡◌, ℕ, ◌<◌, ◌^◌, Bool, true, false, List, Option, Some, None}
-use Rattle.h2_ends.proofs.Names.{refl, ap, ◌∙◌, inl, inr, Vec, Global, Field, both_ways, Role}
-use Rattle.h2_ends.proofs.Names.{Client, Server, Refusal, Values, Act, Open, SendFields, Done}
-use Rattle.h2_ends.proofs.Names.{Refused, is_too_large, Log, log_view, MayAnswer, with_call, Conn}
-use Rattle.h2_ends.proofs.Names.{ConnRepresents, answer_by, Message, SentMessage, message_value}
-use Rattle.h2_ends.proofs.Names.{is_head_alone, end_with_log, EndLog, sameb, the_type}
-use Rattle.h2_spec_log.specs.Acts.{IsTypedAct}
-use Rattle.h2_message.specs.Messages.{trailer_fields}
+use Rattle.h2_ends.proofs.Names
+use Names.{◌≡◌, ℕ, ◌<◌, ◌^◌, Bool, true, false, List, Option, Some, None, refl, ap, ◌∙◌, inl, inr}
+use Names.{Vec, Global, Field, both_ways, Role, Client, Server, Refusal, Values, Act, Open}
+use Names.{SendFields, Done, Refused, is_too_large, Log, log_view, MayAnswer, with_call, Conn}
+use Names.{ConnRepresents, answer_by, Message, SentMessage, message_value, is_head_alone}
+use Names.{end_with_log, EndLog, sameb, the_type, IsTypedAct, trailer_fields, SendsHead}
 use Rattle.h2_ends.specs.EndCalls.{IsUnchanged, IsHeadCall}
 use Rattle.hpack.specs.Written.{AreOctets}
 use Rattle.std.specs.Prelude.{Result, Ok, Err, option_map}
-use Rattle.h2_ends.specs.Heads.{SendsHead}
 use Rattle.h2_ends.proofs.RequestRefusals.{fields_too_large, is_refused, trailers_refuse_fields}
 use Rattle.h2_ends.proofs.RequestRefusals.{refuses_fitting, refused_so}
 

@@ -1,17 +1,13 @@
 -- What is kept of a message whose head was sent, and nothing else of it.
-use Rattle.h2_ends.proofs.Names.{◌≡◌, ◌≢◌, ◌⊎◌, ℕ, ◌<◌, ◌==◌, ◌&&◌, Bool, true, false, List, []}
-use Rattle.h2_ends.proofs.Names.{◌∷◌, ◌++◌, length, if◌then◌else◌, Option, Some, None, refl, sym}
-use Rattle.h2_ends.proofs.Names.{ap, ◌∙◌, inl, inr, arith, both_ways, and_parts, eqb-true, eq-eqb}
-use Rattle.h2_ends.proofs.Names.{ne_eqb, Field, Act, Answer, is_too_large, Message, SentMessage}
-use Rattle.h2_ends.proofs.Names.{trailer_fields, message_value, Token, FieldsToken, OctetToken}
-use Rattle.h2_ends.proofs.Names.{EndToken, tokens_of_call, EndLog, tokens_out, is_head_alone}
-use Rattle.h2_ends.proofs.Names.{SendsInOrder}
-use Rattle.h2_laws_pair.specs.Tokens.{end_tokens, trailers_tokens, message_tokens}
-use Rattle.h2_ends.specs.Ends.{message_for, tokens_given}
-use Rattle.h2_ends.specs.Represents.{IsOutgoing}
+use Rattle.h2_ends.proofs.Names
+use Names.{◌≡◌, ◌≢◌, ◌⊎◌, ℕ, ◌<◌, ◌==◌, ◌&&◌, Bool, true, false, List, [], ◌∷◌, ◌++◌, length}
+use Names.{if◌then◌else◌, Option, Some, None, refl, sym, ap, ◌∙◌, inl, inr, arith, both_ways}
+use Names.{and_parts, eqb-true, eq-eqb, ne_eqb, Field, Act, Answer, is_too_large, Message}
+use Names.{SentMessage, trailer_fields, message_value, Token, FieldsToken, OctetToken, EndToken}
+use Names.{tokens_of_call, EndLog, tokens_out, is_head_alone, SendsInOrder, end_tokens}
+use Names.{trailers_tokens, message_tokens, message_for, tokens_given, IsOutgoing, outgoing_for}
 use Rattle.std.proofs.Common.{map as each}
 use Rattle.std.specs.Prelude.{is_none, option_map}
-use Rattle.h2_ends.specs.Heads.{outgoing_for}
 use Rattle.h2_ends.proofs.EndSteps.{called_end}
 use Rattle.h2_ends.proofs.EndTokens.{call_tokens}
 use Rattle.h2_ends.specs.declared.outgoing.Outgoing.TheVariants as outgoings

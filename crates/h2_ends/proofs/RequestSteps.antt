@@ -1,16 +1,13 @@
 -- What keeps step with a call that opens or closes one stream at most.
-use Rattle.h2_ends.proofs.Names.{◌≡◌, ◌≢◌, ℕ, if◌then◌else◌, Bool, true, false, List, Option, Some}
-use Rattle.h2_ends.proofs.Names.{None, refl, sym, ap, ◌∙◌, inl, inr, both_ways, cases_eq, ne_eqb}
-use Rattle.h2_ends.proofs.Names.{Field, Refusal, Values, Act, Answer, Open, SendFields, Number}
-use Rattle.h2_ends.proofs.Names.{Done, Refused, Log, MayAnswer, accepts, lacks, none_holds}
-use Rattle.h2_ends.proofs.Names.{grows_call, is_number_used, Message, SentMessage, message_value}
-use Rattle.h2_ends.proofs.Names.{tokens_heard, End, Stream, Waiting, Span, Spans, EndLog}
-use Rattle.h2_ends.proofs.Names.{tokens_handed, is_head_alone, EndRepresents, RepresentsBut}
-use Rattle.h2_ends.proofs.Names.{RepresentsMessages, IsInStep, WaitsWithin, InSpan, HandsInOrder}
-use Rattle.h2_ends.proofs.Names.{KeepsActive, KeepsOne, given_stream}
+use Rattle.h2_ends.proofs.Names
+use Names.{◌≡◌, ◌≢◌, ℕ, if◌then◌else◌, Bool, true, false, List, Option, Some, None, refl, sym, ap}
+use Names.{◌∙◌, inl, inr, both_ways, cases_eq, ne_eqb, Field, Refusal, Values, Act, Answer, Open}
+use Names.{SendFields, Number, Done, Refused, Log, MayAnswer, accepts, lacks, grows_call}
+use Names.{is_number_used, Message, SentMessage, message_value, tokens_heard, End, Stream, Waiting}
+use Names.{Span, Spans, EndLog, tokens_handed, is_head_alone, EndRepresents, RepresentsBut}
+use Names.{RepresentsMessages, IsInStep, WaitsWithin, InSpan, HandsInOrder, KeepsOne, given_stream}
+use Names.{call_may_close, refuses, fails, none_holds}
 use Rattle.h2_spec_log.specs.CallRules.{conditions}
-use Rattle.h2_laws_end.specs.Activity.{call_may_close}
-use Rattle.h2_spec_log.specs.LogCalls.{refuses, fails}
 use Rattle.hpack.proofs.Tests.{none_since, and_false as never_both}
 use Rattle.h2_ends.proofs.EndSteps.{called_end, kept}
 use Rattle.h2_ends.proofs.InSteps.{in_step_called, active_called}
@@ -53,20 +50,6 @@ stepped_but values end new happened act answer id stream accepted is may streams
       ];
       active = λ i other. rw (keeps.others i other) (active_called _ values happened.log act answer
           (kept end i) i is.streams.conn.machine.came may (closes i other) (is.active i));
-    }
-
--- Where that stream is active still, or nothing is kept of it, all is represented.
-pub and_that : (values : Values) (end : End) (happened : EndLog) (id : ℕ)
-    → RepresentsBut values end happened id → KeepsActive happened.log (kept end id) id
-    → EndRepresents values end happened
-and_that values end happened id is here =
-    record {
-      streams = is.streams;
-      in_step = is.in_step;
-      active = λ i. elim (cases_eq i id) [
-        | inl same ↦ rw same here
-        | inr other ↦ is.active i other
-      ];
     }
 
 -- A call that answers the number of a stream opens no other one.

@@ -1,13 +1,11 @@
 -- What `respond` may answer, by what an end keeps of the stream.
-use Rattle.h2_ends.proofs.Names.{◌≡◌, ◌≢◌, ◌⊎◌, ℕ, true, false, Some, None, refl, sym, ◌∙◌, inl}
-use Rattle.h2_ends.proofs.Names.{both_ways, Refusal, Client, Server, Values, SendFields, Done}
-use Rattle.h2_ends.proofs.Names.{is_too_large, active, MayAnswer, IsOver, Malformed, SentMessage}
-use Rattle.h2_ends.proofs.Names.{trailer_fields, broken_by_response, End, Outgoing, Stream, EndLog}
-use Rattle.h2_ends.proofs.Names.{message_for, end_with_message, IsAsked, is_head_alone}
-use Rattle.h2_ends.proofs.Names.{RefusesMessage, IsUnchanged, EndRepresents, IsStream, kept_at, inr}
-use Rattle.h2_ends.proofs.Names.{sameb, the_type}
-use Rattle.h2_ends.specs.EndCalls.{MayRespond, IsNotAsked, broken_by_answer}
-use Rattle.h2_ends.specs.Represents.{IsKept, IsOutgoing}
+use Rattle.h2_ends.proofs.Names
+use Names.{◌≡◌, ◌≢◌, ◌⊎◌, ℕ, true, false, Some, None, refl, sym, ◌∙◌, inl, both_ways, Refusal}
+use Names.{Client, Server, Values, SendFields, Done, is_too_large, active, MayAnswer, IsOver}
+use Names.{Malformed, SentMessage, trailer_fields, broken_by_response, End, Outgoing, Stream}
+use Names.{EndLog, message_for, end_with_message, is_head_alone, RefusesMessage, EndRepresents}
+use Names.{IsStream, kept_at, inr, sameb, the_type, IsKept, IsOutgoing}
+use Rattle.h2_ends.specs.EndCalls.{IsAsked, IsUnchanged, MayRespond, IsNotAsked, broken_by_answer}
 use Rattle.std.specs.Prelude.{Ok, Err}
 use Rattle.h2_ends.proofs.RequestHeads.{server_reads}
 use Rattle.h2_ends.proofs.RequestSends.{is_server_by}

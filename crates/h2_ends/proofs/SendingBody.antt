@@ -1,16 +1,12 @@
 -- The loop that sends a message on a stream, whatever had happened in the pump when it began.
-use Rattle.h2_ends.proofs.Names.{◌≡◌, inl, inr, ℕ, ◌+◌, ◌<◌, ◌≤◌, ◌^◌, Bool, true, false, List}
-use Rattle.h2_ends.proofs.Names.{length, take, drop, length-drop, ◌-◌, Vec, Global, Option, Some}
-use Rattle.h2_ends.proofs.Names.{None, min, refl, sym, ap, ◌∙◌, subst, arith, take-length}
-use Rattle.h2_ends.proofs.Names.{AllByRecursion, Field, Role, Refusal, Values, Act, Answer}
-use Rattle.h2_ends.proofs.Names.{SendFields, SendData, Count, Done, Refused, Conn, ConnAnswers}
-use Rattle.h2_ends.proofs.Names.{Stream, Waiting, Spans, Sent, Stuck, SendState, EndLog}
-use Rattle.h2_ends.proofs.Names.{end_after_call, IsStopped, Sends}
-use Rattle.h2_spec_log.specs.Acts.{IsTypedAct}
-use Rattle.h2_ends.specs.Sends.{HasGone, StopsBy}
-use Rattle.std.proofs.Common.{not, is_some, is_none, option_map, Result, Ok}
+use Rattle.h2_ends.proofs.Names
+use Names.{◌≡◌, inl, inr, ℕ, ◌+◌, ◌<◌, ◌≤◌, ◌^◌, Bool, true, false, List, length, take, drop}
+use Names.{length-drop, ◌-◌, Vec, Global, Option, Some, None, min, refl, sym, ap, ◌∙◌, subst, arith}
+use Names.{take-length, AllByRecursion, Field, Role, Refusal, Values, Act, Answer, SendFields}
+use Names.{SendData, Count, Done, Refused, Conn, ConnAnswers, Stream, Waiting, Spans, Sent, Stuck}
+use Names.{SendState, EndLog, end_after_call, IsStopped, Sends, IsTypedAct, HasGone, StopsBy, not}
+use Names.{is_some, is_none, option_map, Result, Ok, IsSendingOn, HasSent}
 use Rattle.hpack_text.specs.Bits.{IsOctet}
-use Rattle.h2_ends.specs.Pumping.{IsSendingOn, HasSent}
 use Rattle.h2_ends.proofs.PumpCalls.{pump_is_short}
 use Rattle.h2_ends.proofs.PumpSends.{IsUnderWay, data_act, data_goes, data_is_stuck}
 use Rattle.h2_ends.proofs.PumpSends.{data_is_refused, fields_go, fields_are_refused}

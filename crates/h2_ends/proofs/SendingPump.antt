@@ -1,18 +1,16 @@
 -- The loop of a pump, whatever had happened when it began.
-use Rattle.h2_ends.proofs.Names.{◌≡◌, ◌≢◌, ◌⊎◌, inl, inr, ℕ, ◌+◌, ◌-◌, true, false, Option}
-use Rattle.h2_ends.proofs.Names.{Some, None, refl, sym, ap, ◌∙◌, subst, Code, Refusal}
-use Rattle.h2_ends.proofs.Names.{Closed, Values, Log, Conn, ConnRepresents, End}
+use Rattle.h2_ends.proofs.Names.{◌≡◌, ◌⊎◌, inl, inr, ℕ, ◌+◌, ◌-◌, true, false, Option, Some, None}
+use Rattle.h2_ends.proofs.Names.{refl, sym, ap, ◌∙◌, subst, Code, Refusal, Closed, Values, End}
 use Rattle.h2_ends.proofs.Names.{SendState, Idle, Sent, Stuck, Full, Span, EndLog, Pumps, MayPump}
 use Rattle.h2_ends.proofs.Names.{KeepsActiveOnly, EndRepresents, RepresentsBut, InSpan, outgoing_in}
 use Rattle.h2_ends.proofs.Names.{PumpsOn, PumpGoes, NoneWaits, WaitsAsBefore, IsNextIn, keeps_of}
-use Rattle.h2_ends.specs.Sends.{HasPumped}
-use Rattle.std.proofs.Common.{is_some, Ok, Err}
-use Rattle.h2_ends.specs.Represents.{EndPumps}
+use Rattle.h2_ends.proofs.Names.{HasPumped, is_some, Ok, Err, EndPumps, Result}
 use Rattle.h2_ends.proofs.PumpCalls.{WaitsIn, pump_begins, waits_at_first, pump_comes}
 use Rattle.h2_ends.proofs.PumpCalls.{waits_between, waits_past, pump_ends, ends_represent}
 use Rattle.h2_ends.proofs.PumpCalls.{pump_is_full, pump_lacks, pump_is_closed}
 use Rattle.h2_ends.proofs.PumpEnds.{by_end, to_end}
 use Rattle.h2_ends.proofs.PumpSteps.{next_kept, none_active}
+use Rattle.h2_ends.proofs.SendingRelease.{ReadsFailed, up_by, down_by}
 use Rattle.h2_ends.specs.declared.refusal.EndRefusal.TheVariants as refusals
 use Rattle.h2_ends.specs.declared.outgoing.Outgoing.TheVariants as outgoings
 
@@ -29,20 +27,6 @@ PumpsTo old now left count last =
     (values : Values) (start : EndLog) → EndRepresents values old start
     → (start.log.failed ≡ None)
     × ((happened : EndLog) × IsPast values start count now left happened last)
-
--- What `failed` answers of any log that the connection represents.
-abbrev pub ReadsFailed : Conn → Option Code → Type 0
-ReadsFailed conn failed =
-    (values : Values) (log : Log) → ConnRepresents values conn log → failed ≡ log.failed
-
--- The connection has not failed, by its answer, or it has.
-up_by : (failed : Option Code) → false ≡ is_some failed → failed ≡ None
-up_by None up = refl
-up_by (Some code) up = cc
-
-down_by : (failed : Option Code) → true ≡ is_some failed → failed ≢ None
-down_by None down = λ none. cc
-down_by (Some code) down = λ none. cc
 
 -- The connection had failed from the start,
 pub pump_closed : (old : End) (failed : Option Code) → ReadsFailed old.conn failed
@@ -87,14 +71,14 @@ module _ (old now : End) (left : Span) (count last : ℕ) (goes : PumpsTo old no
     module _ (id : ℕ) (next : IsNextIn now now.spans.waiting last (Some id)) (new : End)
         (sum : ℕ) where
       -- comes to a stream, on which it sends,
-      comes_there : (progress : SendState) → PumpsOn now id count (Ok progress) new sum
+      comes_there : (result : Result SendState Refusal) → PumpsOn now id count result new sum
           → (values : Values) (start : EndLog) → EndRepresents values old start
           → (start.log.failed ≡ None) × WaitsIn left (keeps_of now) id
-          × ((after : EndLog) × HasPumped values start id (Ok progress) sum new after)
-      comes_there progress sends = λ values start is.
+          × ((after : EndLog) × HasPumped values start id result sum new after)
+      comes_there result sends = λ values start is.
           let (up, (happened, so)) = goes values start is in
-          let live = next_kept now.spans now now.spans.waiting happened last id so.goes.in_step so.active so.goes.up
-          next.0 in (
+          let live = next_kept now.spans now now.spans.waiting happened last id so.goes.in_step
+          so.active so.goes.up next.0 in (
             up,
             waits_between values start now left happened last id so.active live so.waits,
             sends values start happened
@@ -113,7 +97,7 @@ module _ (old now : End) (left : Span) (count last : ℕ) (goes : PumpsTo old no
           → PumpsTo old new left sum id
       unfolding HasPumped
       past_idle progress same sends as_before = λ values start is.
-          let (up, before, (after, gone)) = comes_there Idle (at_that progress Idle same sends)
+          let (up, before, (after, gone)) = comes_there (Ok Idle) (at_that progress Idle same sends)
           values start is in (
             up,
             (
@@ -134,8 +118,8 @@ module _ (old now : End) (left : Span) (count last : ℕ) (goes : PumpsTo old no
           → PumpsTo old new more sum id
       unfolding HasPumped
       past_stuck progress same sends as_before more here wider = λ values start is.
-          let (up, before, (after, gone)) = comes_there Stuck (at_that progress Stuck same sends)
-          values start is in (
+          let (up, before, (after, gone)) = comes_there (Ok Stuck)
+          (at_that progress Stuck same sends) values start is in (
             up,
             (
               after,
@@ -157,7 +141,7 @@ module _ (old now : End) (left : Span) (count last : ℕ) (goes : PumpsTo old no
           → EndRepresents values forgotten end) → PumpsTo old forgotten left sum id
       unfolding HasPumped
       past_sent progress same sends as_before forgotten forgets one represents = λ values start is.
-          let (up, before, (after, gone)) = comes_there Sent (at_that progress Sent same sends)
+          let (up, before, (after, gone)) = comes_there (Ok Sent) (at_that progress Sent same sends)
           values start is in
           let there = represents values after (record {
             streams = to_end values new (keeps_of new) after gone.0.represents (λ i. refl);
@@ -191,8 +175,8 @@ module _ (old now : End) (left : Span) (count last : ℕ) (goes : PumpsTo old no
           → PumpsOn now id count (Ok progress) new sum → EndPumps old (Ok sum) new
       unfolding HasPumped
       pump_full progress same sends = λ values start is.
-          let (up, before, (after, ended)) = comes_there Full (at_that progress Full same sends)
-          values start is in (
+          let (up, before, (after, ended)) = comes_there (Ok Full)
+          (at_that progress Full same sends) values start is in (
             after,
             pump_is_full values start sum after up ended.0.calls ended.1,
             ended.0.represents,
@@ -203,12 +187,7 @@ module _ (old now : End) (left : Span) (count last : ℕ) (goes : PumpsTo old no
           → EndPumps old (Err (refusals.Conn refusal)) new
       unfolding HasPumped
       pump_refused refusal sends = λ values start is.
-          let (up, (happened, so)) = goes values start is in
-          let live = next_kept now.spans now now.spans.waiting happened last id so.goes.in_step so.active so.goes.up
-          next.0 in
-          let (after, ended) = sends values start happened
-          (pump_comes values start count now happened last id so.goes live) so.active
-          live.alive in (
+          let (up, before, (after, ended)) = comes_there (Err refusal) sends values start is in (
             after,
             subst (λ (r : Refusal). MayPump start (Err (refusals.Conn r)) after) (sym ended.1)
                 (pump_lacks values start sum after up (subst (λ (r : Refusal).

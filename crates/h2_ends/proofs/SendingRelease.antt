@@ -1,15 +1,10 @@
 -- The loop that releases all that is owed, whatever had happened when it began.
-use Rattle.h2_ends.proofs.Names.{◌≡◌, ◌≢◌, ◌<◌, ℕ, ◌+◌, ◌-◌, ◌^◌, Bool, true, false, Option}
-use Rattle.h2_ends.proofs.Names.{if◌then◌else◌, Some, None, refl, sym, ap, ◌∙◌, subst, Code}
-use Rattle.h2_ends.proofs.Names.{Refusal, Closed, Values, Release, Done, Refused, reader_owed, Log}
-use Rattle.h2_ends.proofs.Names.{active, log_view, stream_of_log, when, owed_on, Conn}
-use Rattle.h2_ends.proofs.Names.{ConnRepresents, ConnAnswers, End, EndLog, Span, EndRepresents}
-use Rattle.h2_ends.proofs.Names.{IsNextIn}
-use Rattle.h2_spec_log.specs.Acts.{IsTypedAct}
-use Rattle.h2_spec_log.specs.Log.{owed}
-use Rattle.h2_ends.specs.EndCalls.{MayReleaseAll}
-use Rattle.std.proofs.Common.{is_some, Ok, Err}
-use Rattle.h2_ends.specs.Represents.{EndReleases}
+use Rattle.h2_ends.proofs.Names
+use Names.{◌≡◌, ◌≢◌, ◌<◌, ℕ, ◌+◌, ◌-◌, ◌^◌, Bool, true, false, Option, if◌then◌else◌, Some, None}
+use Names.{refl, sym, ap, ◌∙◌, subst, Code, Refusal, Closed, Values, Release, Done, Refused}
+use Names.{reader_owed, Log, active, log_view, stream_of_log, when, owed_on, Conn, ConnRepresents}
+use Names.{ConnAnswers, End, EndLog, Span, EndRepresents, IsNextIn, IsTypedAct, owed, MayReleaseAll}
+use Names.{is_some, Ok, Err, EndReleases}
 use Rattle.h2_ends.proofs.PumpSteps.{next_kept, none_active}
 use Rattle.h2_ends.proofs.ReleaseSteps.{IsReleasing, release_begins, release_comes, release_passes}
 use Rattle.h2_ends.proofs.ReleaseSteps.{release_goes_on, release_ends, release_is_refused}
@@ -97,7 +92,8 @@ comes_to old now last id goes next = λ values start is.
       (
         happened,
         release_comes values start now happened last id so
-            (next_kept now.spans now now.spans.owing happened last id is.in_step is.active so.up next.0),
+            (next_kept now.spans now now.spans.owing happened last id is.in_step is.active so.up
+            next.0),
       ),
     )
 

@@ -1,16 +1,13 @@
 -- One stream of a pump: what the end keeps of it is written back once sending on it stops.
-use Rattle.h2_ends.proofs.Names.{◌≡◌, ◌≢◌, inl, inr, ℕ, ◌==◌, Bool, true, Option, Some, ◌+◌, ◌≤◌}
-use Rattle.h2_ends.proofs.Names.{if◌then◌else◌, refl, sym, ap, ◌∙◌, subst, cases_eq, nat_cmp, is_eq}
-use Rattle.h2_ends.proofs.Names.{unsigned_tied, Refusal, OutputFull, Memory, Values, full_output}
-use Rattle.h2_ends.proofs.Names.{active, waiting, Conn, End, Stream, Waiting, SendState, Idle, Sent}
-use Rattle.h2_ends.proofs.Names.{Stuck, Full, EndLog, IsStuckOn, IsInStep, KeepsActive, outgoing_in}
-use Rattle.h2_ends.proofs.Names.{with_outgoing, keeps_with, IsPumping, IsStopped, LacksSpace}
-use Rattle.h2_ends.proofs.Names.{KeepsActiveOnly, KeepsActiveBut, Sends, PumpsOn, PumpGoes}
-use Rattle.h2_ends.proofs.Names.{NoneWaits, WaitsAsBefore, keeps_of}
-use Rattle.h2_ends.specs.Sends.{HasGone, HasPumped, IsPumped}
-use Rattle.std.proofs.Common.{Result, Ok, Err}
+use Rattle.h2_ends.proofs.Names
+use Names.{◌≡◌, ◌≢◌, inl, inr, ℕ, ◌==◌, Bool, true, Option, Some, ◌+◌, ◌≤◌, if◌then◌else◌, refl}
+use Names.{sym, ap, ◌∙◌, subst, cases_eq, nat_cmp, is_eq, unsigned_tied, Refusal, OutputFull}
+use Names.{Memory, Values, full_output, active, waiting, Conn, End, Stream, Waiting, SendState}
+use Names.{Idle, Sent, Stuck, Full, EndLog, IsStuckOn, IsInStep, KeepsActive, outgoing_in}
+use Names.{with_outgoing, keeps_with, IsPumping, IsStopped, LacksSpace, KeepsActiveOnly}
+use Names.{KeepsActiveBut, Sends, PumpsOn, PumpGoes, NoneWaits, WaitsAsBefore, keeps_of, HasGone}
+use Names.{HasPumped, IsPumped, Result, Ok, Err, nat_cmp_total, eq_by_cmp_equiv}
 use Rattle.std.specs.BTreeMap.{BTreeMap, WritesThrough, get_by}
-use Rattle.std.specs.Cmp.{nat_cmp_total, eq_by_cmp_equiv}
 use Rattle.h2_ends.proofs.PumpCalls.{pump_keeps, pump_passes}
 use Rattle.h2_ends.proofs.PumpEnds.{same_by, stuck_unless_waiting, to_end}
 use Rattle.h2_ends.proofs.PumpSends.{send_begins, sent_is_stuck, none_waits_sent}
@@ -21,7 +18,7 @@ test_of : (id i : ℕ) → is_eq (nat_cmp id i) ≡ (i == id)
 test_of id i = (eq_by_cmp_equiv nat_cmp_total).symm id i ∙ unsigned_tied i id
 
 -- What the map keeps once a stream was written through what it lent.
-pub written : (old new : BTreeMap ℕ Stream) (id : ℕ) (one stream : Stream) (i : ℕ)
+written : (old new : BTreeMap ℕ Stream) (id : ℕ) (one stream : Stream) (i : ℕ)
     → get_by (nat_cmp id) old ≡ Some one → WritesThrough nat_cmp (nat_cmp id) old stream new
     → get_by (nat_cmp i) new ≡ keeps_with (λ j. get_by (nat_cmp j) old) id stream i
 written old new id one stream i here writes =
@@ -76,6 +73,14 @@ module _ (old : End) (id count : ℕ) where
     abbrev new_end : End
     new_end = with_streams old conn streams
 
+    -- Another stream was written through what the map lent.
+    abbrev pub Writes : Stream → Type 0
+    Writes other = WritesThrough nat_cmp (nat_cmp id) old.streams other streams
+
+    written_so : (other : Stream) → Writes other → (i : ℕ)
+        → keeps_of new_end i ≡ keeps_with (keeps_of old) id other i
+    written_so other writes i = written old.streams streams id stream other i here writes
+
     -- What waits is sent,
     goes_on : (result : Result SendState Refusal)
         → Sends old.conn id waits count result conn left sum
@@ -124,11 +129,10 @@ module _ (old : End) (id count : ℕ) where
     -- all of it,
     pub all_goes : (progress : SendState) → progress ≡ Sent
         → Sends old.conn id waits count (Ok progress) conn left sum
-        → ((i : ℕ) → keeps_of new_end i
-        ≡ keeps_with (keeps_of old) id (with_outgoing stream outgoings.Sent) i)
-        → PumpsOn old id count (Ok Sent) new_end sum
+        → Writes (with_outgoing stream outgoings.Sent) → PumpsOn old id count (Ok Sent) new_end sum
     unfolding HasGone HasPumped
-    all_goes progress is_that sends same = λ values start happened is keeps_active alive.
+    all_goes progress is_that sends writes = λ values start happened is keeps_active alive.
+        let same = written_so _ writes in
         let keeps = keeps_with (keeps_of old) id (with_outgoing stream outgoings.Sent) in
         let (after, gone) = goes_on (Ok Sent) (at_that progress Sent is_that sends)
         values start happened is keeps_active alive in (
@@ -143,8 +147,7 @@ module _ (old : End) (id count : ℕ) where
           ),
         )
 
-    module _ (same : (i : ℕ) → keeps_of new_end i
-        ≡ keeps_with (keeps_of old) id (with_outgoing stream (outgoings.Waiting left)) i) where
+    module _ (writes : Writes (with_outgoing stream (outgoings.Waiting left))) where
       -- or some, and no more can go,
       pub some_goes : (progress : SendState) → progress ≡ Stuck
           → Sends old.conn id waits count (Ok progress) conn left sum
@@ -153,6 +156,7 @@ module _ (old : End) (id count : ℕ) where
       some_goes progress is_that sends = λ values start happened is keeps_active alive.
           let keeps = keeps_with (keeps_of old) id (with_outgoing stream (outgoings.Waiting left))
           in
+          let same = written_so _ writes in
           let (after, gone) = goes_on (Ok Stuck) (at_that progress Stuck is_that sends)
           values start happened is keeps_active alive in (
             after,
@@ -168,11 +172,11 @@ module _ (old : End) (id count : ℕ) where
       pumped values start after refusal is =
           record {
             represents = record {
-              streams = to_end values new_end _ after is.represents same;
+              streams = to_end values new_end _ after is.represents (written_so _ writes);
               in_step = λ i. subst (λ (x : Option Stream). IsInStep old.spans x after i)
-                  (sym (same i)) (is.in_step i);
+                  (sym (written_so _ writes i)) (is.in_step i);
               active = λ i. subst (λ (x : Option Stream). KeepsActive after.log x i)
-                  (sym (same i)) (is.active i);
+                  (sym (written_so _ writes i)) (is.active i);
             };
             calls = is.calls;
           }

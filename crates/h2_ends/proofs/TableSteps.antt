@@ -1,8 +1,7 @@
 -- What is found among the entries of an end after one of them was changed.
 use Rattle.h2_ends.proofs.Names.{◌≡◌, ◌≢◌, ℕ, Bool, true, false, List, Option, refl, sym, ap, ◌∙◌}
 use Rattle.h2_ends.proofs.Names.{ne_eqb, eq-eqb, nat_cmp, is_eq, unsigned_tied, End, Stream}
-use Rattle.h2_ends.proofs.Names.{kept_at, KeepsOne}
-use Rattle.std.proofs.Common.{cond}
+use Rattle.h2_ends.proofs.Names.{kept_at, KeepsOne, cond}
 use Rattle.h2_ends.proofs.EndSteps.{kept}
 
 -- other entries, with another one at a number

@@ -1,20 +1,17 @@
 -- Octets of a body are reported of active streams alone.
-use Rattle.h2_ends.proofs.Names.{◌≡◌, ℕ, Bool, true, List, [], ◌∷◌, ◌++◌, Option, Some, None, sym}
-use Rattle.h2_ends.proofs.Names.{ap, ◌∙◌, subst, Data, Item, alone, Event, DataEvent}
-use Rattle.h2_ends.proofs.Names.{UnprocessedEvent, Log, active, View, log_view, Verdict}
-use Rattle.h2_ends.proofs.Names.{ConnectionFault, StreamFault, NoEvent, Reported, MayTake, Took}
-use Rattle.h2_ends.proofs.Names.{reports_unprocessed, ends_no_frame, ends_frame, meets_fault}
-use Rattle.h2_frame.specs.Frames.{Frame, Reset, Settings, Ping, GoAway}
-use Rattle.h2_block.specs.Grouping.{block}
+use Rattle.h2_ends.proofs.Names
+use Names.{◌≡◌, ℕ, Bool, true, List, [], ◌∷◌, ◌++◌, Option, Some, None, sym, ap, ◌∙◌, subst, Data}
+use Names.{Item, alone, Event, DataEvent, Log, active, View, log_view, MayTake, Took}
+use Names.{reports_unprocessed, ends_no_frame, ends_frame, meets_fault, Frame, Reset, Settings}
+use Names.{Ping, GoAway, block, has_failed, runs_out_of_memory, UnprocessedEvent, state_is_active}
+use Rattle.h2_laws_end.proofs.TakeAnswers.{sent_reported}
+use Rattle.h2_spec_log.specs.Verdicts.{Verdict, ConnectionFault, StreamFault, NoEvent, Reported}
 use Rattle.h2_spec_log.specs.Log.{state, next_unprocessed}
 use Rattle.h2_spec_log.specs.LogSteps.{read, used, with_verdict, with_step, with_frame, took_frame}
 use Rattle.h2_spec_log.specs.ItemEffects.{events_of}
 use Rattle.h2_spec_log.specs.ItemRules.{Decoded, FrameStep, fails_with, begins_block, completes}
 use Rattle.h2_spec_log.specs.ItemRules.{frame_step, verdict_by_rules, verdict_of}
-use Rattle.h2_laws_log.proofs.ReaderStates.{state_is_active}
-use Rattle.h2_laws_end.specs.Takes.{has_failed, runs_out_of_memory}
 use Rattle.h2_laws_end.proofs.ReadVerdicts.{Says, says_of, says_data, says_nothing}
-use Rattle.h2_laws_end.proofs.TakeAnswers.{sent_reported}
 use Rattle.h2_laws_end.proofs.OverEvents.{replied_reported, same_event, no_event}
 
 -- The item is no DATA, or this holds of its stream.

@@ -1,29 +1,23 @@
 -- What an end hands out of what its connection has reported.
-use Rattle.h2_ends.proofs.Names.{◌≡◌, ℕ, Bool, true, false, List, [], Some, None, refl, sym, ap}
-use Rattle.h2_ends.proofs.Names.{◌∙◌, both_ways, eq-eqb, Field, InternalError, Server, Values}
-use Rattle.h2_ends.proofs.Names.{Answer, Refuse, Event, FieldsEvent, DataEvent, ResetEvent, Log}
-use Rattle.h2_ends.proofs.Names.{MayAnswer, with_call, MayTake, Took, fields_in_use, data_in_use}
-use Rattle.h2_ends.proofs.Names.{log_after_take, Place, Part, FieldsPart, OctetsPart, End, EndLog}
-use Rattle.h2_ends.proofs.Names.{Handed, BodyHanded, Passed, EndAnswer, EndTook, EndFailed}
-use Rattle.h2_ends.proofs.Names.{parts_on, EndMayTake, IsReadableWith, end_with_log}
-use Rattle.h2_ends.proofs.Names.{end_with_handed, passes, hands_out, refusal_fails, Span}
-use Rattle.h2_ends.proofs.Names.{EndRepresents, InSpan, IsReadOn, MustRefuse, HasReported}
-use Rattle.h2_ends.proofs.Names.{code_unread, handed_value, LocatedPart}
-use Rattle.h2_laws_pair.specs.Tokens.{tokens_of_event}
-use Rattle.h2_ends.specs.Ends.{reads_on, handed_as, handed_at, part_of_event, tokens_of_part}
-use Rattle.h2_ends.specs.Loans.{BodyLiesIn, located_at}
-use Rattle.h2_ends.specs.Taking.{ReadsFields, ReadsData, AnswersRefusal, IsRead, IsResetBy}
-use Rattle.h2_ends.specs.Taking.{answer_of_report}
-use Rattle.h2_laws_end.specs.Activity.{take_has_fields, take_has_data, take_may_close}
-use Rattle.h2_laws_end.specs.Activity.{event_may_close}
-use Rattle.std.proofs.Common.{Ok, Err, Result, IfOk}
+use Rattle.h2_ends.proofs.Names
+use Names.{◌≡◌, ℕ, Bool, true, false, List, [], Some, None, refl, sym, ap, ◌∙◌, both_ways, eq-eqb}
+use Names.{Field, InternalError, Server, Values, Answer, Refuse, Event, FieldsEvent, DataEvent}
+use Names.{ResetEvent, Log, MayAnswer, with_call, MayTake, Took, fields_in_use, data_in_use}
+use Names.{log_after_take, Place, Part, FieldsPart, OctetsPart, End, EndLog, Handed, BodyHanded}
+use Names.{Passed, EndAnswer, EndTook, EndFailed, parts_on, IsReadableWith, end_with_log}
+use Names.{end_with_handed, passes, hands_out, refusal_fails, Span, EndRepresents, InSpan, IsReadOn}
+use Names.{MustRefuse, HasReported, code_unread, tokens_of_event, reads_on, handed_as, handed_at}
+use Names.{part_of_event, tokens_of_part, ReadsFields, ReadsData, AnswersRefusal, take_has_fields}
+use Names.{take_has_data, take_may_close, event_may_close, Ok, Err, Result, IfOk, LocatedPart}
+use Rattle.h2_ends.specs.EndTakes.{EndMayTake, refuses, runs_out_of_memory}
+use Rattle.h2_ends.specs.Loans.{handed_value, BodyLiesIn, located_at}
+use Rattle.h2_ends.specs.Taking.{IsRead, IsResetBy, answer_of_report}
 use Rattle.h2_conn.specs.declared.taken.ConnFault.{ConnFault}
 use Rattle.h2_ends.specs.declared.taking.Unread.{Unread}
-use Rattle.h2_ends.specs.EndTakes.{refuses, runs_out_of_memory}
 use Rattle.h2_laws_pair.proofs.StepUnprocessed.{role_by_take as take_role}
 use Rattle.h2_ends.proofs.TakeActive.{data_is_active}
 use Rattle.h2_ends.proofs.InSteps.{owes_taken}
-use Rattle.h2_ends.proofs.TakeInStep.{differs, passed_over, read_on, reported_wider}
+use Rattle.h2_ends.proofs.TakeInStep.{differs, passed_over, read_on, reported_as, reported_wider}
 use Rattle.h2_ends.proofs.TakeRefusing.{memory_fails}
 use Rattle.h2_laws_end.proofs.ActivityOpened.{active_by_fields}
 use Rattle.h2_ends.specs.declared.taking.Unread.TheVariants as unreads
@@ -189,6 +183,18 @@ module _ (values : Values) (now new : End) (end : EndLog) (piece : List ℕ) (co
     passes count event log reported.took none refl refl,
     passed_over values new (end_with_log end log) event is,
   )
+
+-- So is one that says nothing of a stream.
+pub plain_passed : (values : Values) (now : End) (end : EndLog) (piece : List ℕ) (count : ℕ)
+    (event : Event) (log : Log) → HasReported values now end piece count event log
+    → part_of_event event ≡ None → ((i : ℕ) → tokens_of_event i event ≡ [])
+    → ((i : ℕ) → take_has_fields i (Took count (Some event)) ≡ false)
+    → ((i : ℕ) → take_has_data i (Took count (Some event)) ≡ false)
+    → ((i : ℕ) → take_may_close i (Took count (Some event)) ≡ false)
+    → Hands values end piece (EndTook count (Some (Passed event))) now
+plain_passed values now end piece count event log reported no_part none no_fields no_data lasts =
+    event_passed values now now end piece count event log reported no_part
+    (reported_as values now end piece count event log reported none no_fields no_data lasts)
 
 -- A part at its place is handed out with the fields that are kept, and no octets lie there.
 handed_located : (place : Place) (id : ℕ) (list : List Field) (last : Bool) (octets : List ℕ)

@@ -1,39 +1,20 @@
 -- What keeps step with what has happened, once octets were taken and once a part of a message was
 -- read.
-use Rattle.h2_ends.proofs.Names.{◌≡◌, ◌≢◌, ◌⊎◌, ℕ, ◌==◌, Bool, true, false, List, [], ◌∷◌, ◌++◌}
-use Rattle.h2_ends.proofs.Names.{Some, None, inl, inr, refl, sym, ap, ◌∙◌, cases_eq}
-use Rattle.h2_ends.proofs.Names.{false_from_ne_true, ne_eqb, Server, Values, Event, ResetEvent}
-use Rattle.h2_ends.proofs.Names.{UnprocessedEvent, Log, active, IsOver, is_number_used, TakeAnswer}
-use Rattle.h2_ends.proofs.Names.{MayTake, Took, reports_unprocessed, ends_no_frame, ends_frame}
-use Rattle.h2_ends.proofs.Names.{meets_fault, log_after_take, ConnRepresents, Part, Follows, Token}
-use Rattle.h2_ends.proofs.Names.{End, Stream, Span, EndLog, Handed, Passed, parts_on, part_on}
-use Rattle.h2_ends.proofs.Names.{reads_on, handed_as, tokens_handed, tokens_of_part}
-use Rattle.h2_ends.proofs.Names.{tokens_of_parts, end_with_log, end_with_handed, KeepsOne}
-use Rattle.h2_ends.proofs.Names.{EndRepresents, RepresentsBut, IsInStep, KeepsActive, HandsInOrder}
-use Rattle.h2_ends.proofs.Names.{InSpan, OwesWithin, outgoing_in, HasReported, IsReadOn}
-use Rattle.h2_ends.proofs.Names.{end_with_part}
-use Rattle.h2_laws_pair.specs.Tokens.{tokens_of_event, tokens_heard}
-use Rattle.h2_laws_end.specs.Activity.{take_may_close, event_may_close, take_has_fields}
-use Rattle.h2_laws_end.specs.Activity.{take_has_data}
-use Rattle.h2_laws_end.specs.Takes.{has_failed, runs_out_of_memory}
-use Rattle.h2_ends.proofs.EndParts.{handed_elsewhere, tokens_with}
-use Rattle.h2_ends.proofs.EndSteps.{kept, taken, parts_handed, handed_part, handed_on, passed_on}
-use Rattle.h2_ends.proofs.EndSteps.{passed_none}
+use Rattle.h2_ends.proofs.Names
+use Names.{◌≡◌, ◌≢◌, ◌⊎◌, ℕ, ◌==◌, Bool, true, false, List, [], ◌∷◌, ◌++◌, Some, None, inl, inr}
+use Names.{refl, sym, ap, ◌∙◌, cases_eq, false_from_ne_true, ne_eqb, Server, Values, Event}
+use Names.{ResetEvent, Log, active, IsOver, is_number_used, TakeAnswer, MayTake, Took}
+use Names.{reports_unprocessed, ends_no_frame, ends_frame, meets_fault, log_after_take}
+use Names.{ConnRepresents, Part, Follows, Token, End, Stream, Span, EndLog, Handed, Passed}
+use Names.{parts_on, part_on, reads_on, handed_as, tokens_handed, tokens_of_part, tokens_of_parts}
+use Names.{end_with_log, end_with_handed, KeepsOne, EndRepresents, RepresentsBut, IsInStep}
+use Names.{HandsInOrder, InSpan, OwesWithin, outgoing_in, HasReported, IsReadOn, end_with_part}
+use Names.{tokens_of_event, tokens_heard, take_may_close, event_may_close, take_has_fields}
+use Names.{take_has_data, has_failed, runs_out_of_memory, UnprocessedEvent}
+use Rattle.h2_ends.proofs.EndParts.{handed_elsewhere, handed_here, tokens_with}
+use Rattle.h2_ends.proofs.EndSteps.{kept, taken, parts_handed, handed_on, passed_on, passed_none}
 use Rattle.h2_ends.proofs.InSteps.{tokens_reported, in_step_taken, active_taken, in_step_elsewhere}
-
--- An end represents what has happened where what it keeps of the one stream is active too.
-pub represents_all : (values : Values) (end : End) (happened : EndLog) (id : ℕ)
-    → RepresentsBut values end happened id → KeepsActive happened.log (kept end id) id
-    → EndRepresents values end happened
-represents_all values end happened id is here =
-    record {
-      streams = is.streams;
-      in_step = is.in_step;
-      active = λ i. elim (cases_eq i id) [
-        | inl same ↦ rw same here
-        | inr other ↦ is.active i other
-      ];
-    }
+use Rattle.h2_ends.proofs.InSteps.{represents_all}
 
 -- Something is passed on.
 pub passed_over : (values : Values) (end : End) (happened : EndLog) (event : Event)
@@ -256,7 +237,7 @@ part_but values end new happened id part stream is follows outgoing keeps conn r
     let reads = reads_on happened id in
     let parts = parts_on id happened.handed in
     let handed = handed_as reads parts id part in
-    let here = handed_part reads parts id part stream.reading follows in
+    let here = handed_here reads parts id part stream.reading follows in
     record {
       streams = handed_on values end new happened id part stream is.streams is.kept is.was_used
           follows outgoing keeps conn role;

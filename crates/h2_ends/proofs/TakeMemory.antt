@@ -1,10 +1,9 @@
 -- A client and a server don't run out of memory at a frame that needs none.
 use Rattle.h2_ends.proofs.Names.{◌≡◌, ◌≢◌, ◌∙◌, ℕ, List, refl, sym, ap, InternalError, Failed}
-use Rattle.h2_ends.proofs.Names.{FieldsPart, OctetsPart, EndLog, EndAnswer, EndFailed, EndMayTake}
-use Rattle.h2_ends.proofs.Names.{hands_nothing, passes, hands_out, refusal_fails}
-use Rattle.h2_ends.specs.Ends.{part_of_event}
+use Rattle.h2_ends.proofs.Names.{FieldsPart, OctetsPart, EndLog, EndAnswer, EndFailed}
+use Rattle.h2_ends.proofs.Names.{hands_nothing, passes, hands_out, refusal_fails, part_of_event}
+use Rattle.h2_ends.specs.EndTakes.{EndMayTake, EndNeedsNoMemory, fails, refuses, runs_out_of_memory}
 use Rattle.h2_laws_end.proofs.Promised.{never_out_of_memory}
-use Rattle.h2_ends.specs.EndTakes.{EndNeedsNoMemory, fails, refuses, runs_out_of_memory}
 
 -- A call that took octets hasn't failed.
 took_none : (count : ℕ) (answer : EndAnswer) (taken : EndAnswer) → answer ≡ taken

@@ -1,21 +1,18 @@
 -- A part of a message that an end reads.
-use Rattle.h2_ends.proofs.Names.{◌≡◌, ℕ, Bool, true, false, if◌then◌else◌, List, [], ◌∷◌, ◌++◌}
-use Rattle.h2_ends.proofs.Names.{Option, Some, None, refl, sym, ap, subst, ◌∙◌, inl, inr, cases_eq}
-use Rattle.h2_ends.proofs.Names.{Field, Role, Client, Server, Values, is_server, Place, Reads}
-use Rattle.h2_ends.proofs.Names.{Requests, Responses, Reading, SentMessage, Part, FieldsPart}
-use Rattle.h2_ends.proofs.Names.{OctetsPart, IsReadable, trailers_parts, Follows, place_after, End}
-use Rattle.h2_ends.proofs.Names.{Stream, EndLog, message_for, parts_on, tokens_of_part}
-use Rattle.h2_ends.proofs.Names.{IsReadableWith, RepresentsMessages, RepresentsBut, IsStream}
-use Rattle.h2_ends.proofs.Names.{IsUntouched, KeepsActive, kept_at, outgoing_in, IsReadOn}
-use Rattle.h2_ends.proofs.Names.{MustRefuse, end_with_part, KeepsOne}
-use Rattle.h2_message.specs.Reading.{ended, message_parts, final_parts}
-use Rattle.h2_ends.specs.Ends.{reads_on, asked_head}
-use Rattle.h2_ends.specs.Represents.{IsKept, reads_of_new}
-use Rattle.h2_ends.specs.Taking.{ReadsFields, ReadsData}
-use Rattle.std.proofs.Common.{map as each, Ok, Err}
+use Rattle.h2_ends.proofs.Names
+use Names.{◌≡◌, ℕ, Bool, true, false, if◌then◌else◌, List, [], ◌∷◌, ◌++◌, Option, Some, None, refl}
+use Names.{sym, ap, subst, ◌∙◌, inl, inr, cases_eq, Field, Role, Client, Server, Values, is_server}
+use Names.{Place, Reads, Requests, Responses, Reading, SentMessage, Part, FieldsPart, OctetsPart}
+use Names.{Follows, End, Stream, EndLog, message_for, parts_on, tokens_of_part, IsReadableWith}
+use Names.{RepresentsMessages, RepresentsBut, IsStream, IsUntouched, KeepsActive, kept_at}
+use Names.{outgoing_in, IsReadOn, MustRefuse, end_with_part, KeepsOne, reads_on, asked_head, IsKept}
+use Names.{ReadsFields, ReadsData, reads_of_new, Ok, Err, IsReadable, place_after}
+use Rattle.h2_message.specs.Reading.{trailers_parts, ended, message_parts, final_parts}
 use Rattle.h2_message.specs.Phases.{FollowsFields, FollowsData}
+use Rattle.std.proofs.Common.{map as each}
 use Rattle.h2_ends.proofs.EndSteps.{kept}
-use Rattle.h2_ends.proofs.TakeInStep.{part_but, represents_all}
+use Rattle.h2_ends.proofs.InSteps.{represents_all}
+use Rattle.h2_ends.proofs.TakeInStep.{part_but}
 use Rattle.h2_ends.specs.declared.outgoing.Outgoing.TheVariants as outgoings
 use Rattle.h2_ends.specs.declared.taking.Unread.TheVariants as unreads
 
@@ -68,13 +65,6 @@ IsReadBut values happened id part new =
     × RepresentsBut values new (end_with_part happened id part) id
     × (part.1 ≡ false → KeepsActive happened.log (kept new id) id)
 
--- What is kept of the stream of a part that hasn't ended it is active still.
-active_still : (values : Values) (end new : End) (happened : EndLog) (id : ℕ)
-    (part : Part × Bool) (stream : Stream) → IsReadOn values end happened id part
-    → kept end id ≡ Some stream → part.1 ≡ false → KeepsActive happened.log (kept new id) id
-active_still values end new happened id part stream is found last some =
-    is.goes_on last (λ none. let wrong : Some stream ≡ None = sym found ∙ none in cc)
-
 -- What is kept of the stream with another reading.
 abbrev pub with_reading : Stream → Reading → Stream
 with_reading stream reading = record stream { reading = reading }
@@ -90,46 +80,73 @@ same_again end new id stream reading found same keeps i = elim (cases_eq i id) [
   | inr other ↦ keeps.others i other
 ]
 
-module _ (values : Values) (end new : End) (happened : EndLog) (id : ℕ) (list : List Field) where
-  -- A field block is read, or not, by the reading that is kept.
-  pub fields_taken : (last : Bool) (place : Place) (stream : Stream) (reading : Reading)
-      → IsReadOn values end happened id (FieldsPart list, last) → kept end id ≡ Some stream
-      → ((reads : Reads) (parts : List (Part × Bool)) → Follows reads parts stream.reading
-      → FollowsFields reads parts list last (Some place) stream.reading reading)
-      → KeepsOne end new id (Some (with_reading stream reading)) → new.conn ≡ end.conn
-      → new.role ≡ end.role → new.spans ≡ end.spans
-      → IsReadBut values happened id (FieldsPart list, last) new
-      × (place ≡ place_after (reads_on happened id) (parts_on id happened.handed) list)
-  unfolding FollowsFields
-  fields_taken last place stream reading is found follows keeps conn role waiting =
-      let part : Part × Bool = (FieldsPart list, last) in
-      let now = stream_of values end happened id part stream is found in
-      let more = follows (reads_on happened id) (parts_on id happened.handed) now.reading in (
-        (
-          more.0.readable,
-          part_but values end new happened id part (with_reading stream reading) is more.0
-              (sym (ap outgoing_in found)) keeps conn role waiting,
-          active_still values end new happened id part stream is found,
-        ),
-        more.1,
-      )
+module _ (values : Values) (end new : End) (happened : EndLog) (id : ℕ) (last : Bool)
+    (stream : Stream) (reading : Reading) (found : kept end id ≡ Some stream)
+    (keeps : KeepsOne end new id (Some (with_reading stream reading)))
+    (conn : new.conn ≡ end.conn) (role : new.role ≡ end.role) (waiting : new.spans ≡ end.spans)
+  where
+    -- A part is read by the reading that is kept,
+    part_taken : (part : Part × Bool) → IsReadOn values end happened id part
+        → Follows (reads_on happened id) (parts_on id happened.handed ++ part ∷ []) reading
+        → IsReadBut values happened id part new
+    part_taken part is more = (
+      more.readable,
+      part_but values end new happened id part (with_reading stream reading) is more
+          (sym (ap outgoing_in found)) keeps conn role waiting,
+      λ last some. is.goes_on last
+          (λ none. let wrong : Some stream ≡ None = sym found ∙ none in cc),
+    )
 
-  pub fields_refused : (last : Bool) (stream : Stream) (reading : Reading)
-      → IsReadOn values end happened id (FieldsPart list, last) → kept end id ≡ Some stream
-      → ((reads : Reads) (parts : List (Part × Bool)) → Follows reads parts stream.reading
-      → FollowsFields reads parts list last None stream.reading reading)
-      → KeepsOne end new id (Some (with_reading stream reading)) → new.conn ≡ end.conn
-      → new.role ≡ end.role → new.spans ≡ end.spans
-      → ReadsFields values happened id list last (Err unreads.Malformed) new
-  unfolding ReadsFields FollowsFields
-  fields_refused last stream reading is found follows keeps conn role waiting =
-      let part : Part × Bool = (FieldsPart list, last) in
-      let now = stream_of values end happened id part stream is found in
-      let more = follows (reads_on happened id) (parts_on id happened.handed) now.reading in (
-        more.0,
+    -- or it isn't.
+    part_refused : (part : Part × Bool) → IsReadOn values end happened id part
+        → reading ≡ stream.reading → MustRefuse values new happened id
+    part_refused part is same =
         must_refuse values end new happened id part is conn role waiting
-            (same_again end new id stream reading found more.1 keeps),
-      )
+        (same_again end new id stream reading found same keeps)
+
+    -- So it is with a field block,
+    pub fields_taken : (list : List Field) (place : Place)
+        → IsReadOn values end happened id (FieldsPart list, last)
+        → ((reads : Reads) (parts : List (Part × Bool)) → Follows reads parts stream.reading
+        → FollowsFields reads parts list last (Some place) stream.reading reading)
+        → IsReadBut values happened id (FieldsPart list, last) new
+        × (place ≡ place_after (reads_on happened id) (parts_on id happened.handed) list)
+    unfolding FollowsFields
+    fields_taken list place is follows =
+        let now = stream_of values end happened id _ stream is found in
+        let more = follows (reads_on happened id) (parts_on id happened.handed) now.reading in
+        (part_taken _ is more.0, more.1)
+
+    pub fields_refused : (list : List Field)
+        → IsReadOn values end happened id (FieldsPart list, last)
+        → ((reads : Reads) (parts : List (Part × Bool)) → Follows reads parts stream.reading
+        → FollowsFields reads parts list last None stream.reading reading)
+        → ReadsFields values happened id list last (Err unreads.Malformed) new
+    unfolding ReadsFields FollowsFields
+    fields_refused list is follows =
+        let now = stream_of values end happened id _ stream is found in
+        let more = follows (reads_on happened id) (parts_on id happened.handed) now.reading in
+        (more.0, part_refused _ is more.1)
+
+    -- and with octets of a body.
+    pub data_taken : (octets : List ℕ) → IsReadOn values end happened id (OctetsPart octets, last)
+        → ((reads : Reads) (parts : List (Part × Bool)) → Follows reads parts stream.reading
+        → FollowsData reads parts octets last true stream.reading reading)
+        → IsReadBut values happened id (OctetsPart octets, last) new
+    unfolding FollowsData
+    data_taken octets is follows =
+        let now = stream_of values end happened id _ stream is found in
+        part_taken _ is (follows (reads_on happened id) (parts_on id happened.handed) now.reading)
+
+    pub data_refused : (octets : List ℕ) → IsReadOn values end happened id (OctetsPart octets, last)
+        → ((reads : Reads) (parts : List (Part × Bool)) → Follows reads parts stream.reading
+        → FollowsData reads parts octets last false stream.reading reading)
+        → ReadsData values happened id octets last false new
+    unfolding ReadsData FollowsData
+    data_refused octets is follows =
+        let now = stream_of values end happened id _ stream is found in
+        let more = follows (reads_on happened id) (parts_on id happened.handed) now.reading in
+        (more.0, part_refused _ is more.1)
 
 -- What is read on a stream on which nothing has happened.
 reads_by : (role : Role) (given : Option SentMessage) → given ≡ None
@@ -158,106 +175,60 @@ follows_first values end happened id part reading is found follows =
 abbrev pub first_stream : Reading → Stream
 first_stream reading = record { reading = reading; outgoing = outgoings.NotGiven }
 
-pub first_taken : (values : Values) (end new : End) (happened : EndLog) (id : ℕ)
-    (list : List Field) (last : Bool) (place : Place) (old reading : Reading)
-    → IsReadOn values end happened id (FieldsPart list, last) → kept end id ≡ None
-    → Follows (reads_of_new end.role) [] old
-    → ((reads : Reads) (parts : List (Part × Bool)) → Follows reads parts old
-    → FollowsFields reads parts list last (Some place) old reading)
-    → KeepsOne end new id (Some (first_stream reading)) → new.conn ≡ end.conn
-    → new.role ≡ end.role → new.spans ≡ end.spans
-    → ReadsFields values happened id list last (Ok place) new
-unfolding ReadsFields FollowsFields
-first_taken values end new happened id list last place old reading is found start follows keeps
-    conn role waiting =
-    let part : Part × Bool = (FieldsPart list, last) in
-    let now = follows_first values end happened id part old is found start in
-    let more = follows (reads_on happened id) (parts_on id happened.handed) now in (
-      (
+module _ (values : Values) (end : End) (happened : EndLog) (id : ℕ) (list : List Field)
+    (last : Bool) (old reading : Reading)
+    (is : IsReadOn values end happened id (FieldsPart list, last)) (found : kept end id ≡ None)
+    (start : Follows (reads_of_new end.role) [] old) where
+  -- what a new reading makes of it
+  abbrev pub ReadsFirst : Option Place → Type 0
+  ReadsFirst result =
+      (reads : Reads) (parts : List (Part × Bool)) → Follows reads parts old
+      → FollowsFields reads parts list last result old reading
+
+  pub first_taken : (new : End) (place : Place) → ReadsFirst (Some place)
+      → KeepsOne end new id (Some (first_stream reading)) → new.conn ≡ end.conn
+      → new.role ≡ end.role → new.spans ≡ end.spans
+      → ReadsFields values happened id list last (Ok place) new
+  unfolding ReadsFields FollowsFields
+  first_taken new place follows keeps conn role waiting =
+      let part : Part × Bool = (FieldsPart list, last) in
+      let now = follows_first values end happened id part old is found start in
+      let more = follows (reads_on happened id) (parts_on id happened.handed) now in (
+        (
+          more.0.readable,
+          represents_all values new (end_with_part happened id part) id
+              (part_but values end new happened id part (first_stream reading) is more.0
+              (sym (ap outgoing_in found)) keeps conn role waiting)
+              (λ some. (is.first found).1),
+        ),
+        more.1,
+      )
+
+  pub first_refused : ReadsFirst None
+      → ReadsFields values happened id list last (Err unreads.Malformed) end
+  unfolding ReadsFields FollowsFields
+  first_refused follows =
+      let part : Part × Bool = (FieldsPart list, last) in
+      let now = follows_first values end happened id part old is found start in
+      let more = follows (reads_on happened id) (parts_on id happened.handed) now in
+      (more.0, must_refuse values end end happened id part is refl refl refl (λ i. refl))
+
+  -- Memory was refused to a field block that could be read.
+  pub first_lacks : (new : End) (place : Place) → ReadsFirst (Some place)
+      → new.conn ≡ end.conn → new.role ≡ end.role → new.spans ≡ end.spans
+      → new.streams.entries ≡ end.streams.entries
+      → ReadsFields values happened id list last (Err unreads.OutOfMemory) new
+  unfolding ReadsFields FollowsFields
+  first_lacks new place follows conn role waiting same =
+      let part : Part × Bool = (FieldsPart list, last) in
+      let now = follows_first values end happened id part old is found start in
+      let more = follows (reads_on happened id) (parts_on id happened.handed) now in (
         more.0.readable,
-        represents_all values new (end_with_part happened id part) id
-            (part_but values end new happened id part (first_stream reading) is more.0
-            (sym (ap outgoing_in found)) keeps conn role waiting)
-            (λ some. (is.first found).1),
-      ),
-      more.1,
-    )
-
-pub first_refused : (values : Values) (end : End) (happened : EndLog) (id : ℕ)
-    (list : List Field) (last : Bool) (old reading : Reading)
-    → IsReadOn values end happened id (FieldsPart list, last) → kept end id ≡ None
-    → Follows (reads_of_new end.role) [] old
-    → ((reads : Reads) (parts : List (Part × Bool)) → Follows reads parts old
-    → FollowsFields reads parts list last None old reading)
-    → ReadsFields values happened id list last (Err unreads.Malformed) end
-unfolding ReadsFields FollowsFields
-first_refused values end happened id list last old reading is found start follows =
-    let part : Part × Bool = (FieldsPart list, last) in
-    let now = follows_first values end happened id part old is found start in
-    let more = follows (reads_on happened id) (parts_on id happened.handed) now in
-    (more.0, must_refuse values end end happened id part is refl refl refl (λ i. refl))
-
--- Memory was refused to a field block that could be read.
-pub first_lacks : (values : Values) (end new : End) (happened : EndLog) (id : ℕ)
-    (list : List Field) (last : Bool) (place : Place) (old reading : Reading)
-    → IsReadOn values end happened id (FieldsPart list, last) → kept end id ≡ None
-    → Follows (reads_of_new end.role) [] old
-    → ((reads : Reads) (parts : List (Part × Bool)) → Follows reads parts old
-    → FollowsFields reads parts list last (Some place) old reading)
-    → new.conn ≡ end.conn → new.role ≡ end.role → new.spans ≡ end.spans
-    → new.streams.entries ≡ end.streams.entries
-    → ReadsFields values happened id list last (Err unreads.OutOfMemory) new
-unfolding ReadsFields FollowsFields
-first_lacks values end new happened id list last place old reading is found start follows conn role
-    waiting same =
-    let part : Part × Bool = (FieldsPart list, last) in
-    let now = follows_first values end happened id part old is found start in
-    let more = follows (reads_on happened id) (parts_on id happened.handed) now in (
-      more.0.readable,
-      must_refuse values end new happened id part is conn role waiting (λ i. ap (kept_at i) same),
-      (is.first found).0,
-      (untouched values end happened id part is found).unread,
-    )
-
--- Octets of a body.
-pub data_taken : (values : Values) (end new : End) (happened : EndLog) (id : ℕ)
-    (octets : List ℕ) (last : Bool) (stream : Stream) (reading : Reading)
-    → IsReadOn values end happened id (OctetsPart octets, last) → kept end id ≡ Some stream
-    → ((reads : Reads) (parts : List (Part × Bool)) → Follows reads parts stream.reading
-    → FollowsData reads parts octets last true stream.reading reading)
-    → KeepsOne end new id (Some (with_reading stream reading)) → new.conn ≡ end.conn
-    → new.role ≡ end.role → new.spans ≡ end.spans
-    → IsReadBut values happened id (OctetsPart octets, last) new
-unfolding FollowsData
-data_taken values end new happened id octets last stream reading is found follows keeps conn role
-    waiting =
-    let part : Part × Bool = (OctetsPart octets, last) in
-    let now = stream_of values end happened id part stream is found in
-    let more = follows (reads_on happened id) (parts_on id happened.handed) now.reading in (
-      more.readable,
-      part_but values end new happened id part (with_reading stream reading) is more
-          (sym (ap outgoing_in found)) keeps conn role waiting,
-      active_still values end new happened id part stream is found,
-    )
-
-pub data_refused : (values : Values) (end new : End) (happened : EndLog) (id : ℕ)
-    (octets : List ℕ) (last : Bool) (stream : Stream) (reading : Reading)
-    → IsReadOn values end happened id (OctetsPart octets, last) → kept end id ≡ Some stream
-    → ((reads : Reads) (parts : List (Part × Bool)) → Follows reads parts stream.reading
-    → FollowsData reads parts octets last false stream.reading reading)
-    → KeepsOne end new id (Some (with_reading stream reading)) → new.conn ≡ end.conn
-    → new.role ≡ end.role → new.spans ≡ end.spans
-    → ReadsData values happened id octets last false new
-unfolding ReadsData FollowsData
-data_refused values end new happened id octets last stream reading is found follows keeps conn
-    role waiting =
-    let part : Part × Bool = (OctetsPart octets, last) in
-    let now = stream_of values end happened id part stream is found in
-    let more = follows (reads_on happened id) (parts_on id happened.handed) now.reading in (
-      more.0,
-      must_refuse values end new happened id part is conn role waiting
-          (same_again end new id stream reading found more.1 keeps),
-    )
+        must_refuse values end new happened id part is conn role waiting
+            (λ i. ap (kept_at i) same),
+        (is.first found).0,
+        (untouched values end happened id part is found).unread,
+      )
 
 -- the first part
 abbrev first_part : List (Part × Bool) → Option Part

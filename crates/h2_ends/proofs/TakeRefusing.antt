@@ -1,23 +1,18 @@
 -- A stream that is refused at an end, and what the connection is then.
-use Rattle.h2_ends.proofs.Names.{◌≡◌, ◌≢◌, ◌⊎◌, ℕ, true, false, Option, Some, None, ◌∷◌, List}
-use Rattle.h2_ends.proofs.Names.{arith, inl, inr, refl, both_ways, cases_eq, Code, InternalError}
-use Rattle.h2_ends.proofs.Names.{Values, Act, Answer, Refuse, Number, Count, Done, Refused, Log}
-use Rattle.h2_ends.proofs.Names.{log_view, MayAnswer, accepts, lacks, grows_call, IsOver}
-use Rattle.h2_ends.proofs.Names.{is_number_used, used_by_call, tokens_heard, IsPrefixOfTokens}
-use Rattle.h2_ends.proofs.Names.{call_calls, End, EndLog, tokens_handed, end_with_log}
-use Rattle.h2_ends.proofs.Names.{RepresentsBut, IsInStep, WasRefused, MustRefuse}
+use Rattle.h2_ends.proofs.Names
+use Names.{◌≡◌, ◌≢◌, ◌⊎◌, ℕ, true, false, Option, Some, None, ◌∷◌, List, arith, inl, inr, refl}
+use Names.{both_ways, cases_eq, Code, InternalError, Values, Act, Answer, Refuse, Number, Count}
+use Names.{Done, Refused, Log, log_view, MayAnswer, accepts, lacks, grows_call, IsOver}
+use Names.{is_number_used, used_by_call, tokens_heard, IsPrefixOfTokens, call_calls, End, EndLog}
+use Names.{tokens_handed, end_with_log, RepresentsBut, IsInStep, WasRefused, MustRefuse, with_call}
+use Names.{call_may_close, refuses, fails, Contains, IsCutShort, OutOfMemory, refused_with}
 use Rattle.h2_spec_log.specs.CallRules.{first_of, conditions, refuse_fault, may_lack_memory}
-use Rattle.h2_spec_log.specs.LogCalls.{with_call, refuses, fails, refused_with}
-use Rattle.h2_laws_end.specs.Activity.{call_may_close}
-use Rattle.std.specs.List.{Contains}
-use Rattle.h2_spec_log.specs.Acts.{OutOfMemory}
+use Rattle.h2_laws_end.proofs.ActivityCalls.{inactive_by_refusal}
 use Rattle.h2_conn.specs.Conn.{ConnShows}
-use Rattle.h2_ends.specs.Represents.{IsCutShort}
 use Rattle.h2_ends.proofs.EndTokens.{no_part_tokens}
 use Rattle.h2_ends.proofs.EndSteps.{kept, quiet_call}
 use Rattle.h2_ends.proofs.InSteps.{in_step_called, active_called, owes_called}
 use Rattle.h2_ends.proofs.TakeInStep.{differs}
-use Rattle.h2_laws_end.proofs.ActivityCalls.{inactive_by_refusal}
 
 -- A refusal opens no stream.
 refuse_opens_none : (log : Log) (id code i : ℕ) (answer : Answer)

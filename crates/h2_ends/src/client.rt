@@ -25,6 +25,7 @@ use h2_frame::limits::FULL_OUTPUT;
 use h2_message::Message;
 use h2_spec_log::Role;
 use std::alloc::Global;
+use std::fmt;
 
 /// A client: it gives requests, and takes their responses. It does no input or output.
 #[derive(Drop)]
@@ -275,5 +276,13 @@ impl Client {
             → returns_before_put_out (log_view log) ≡ false → IsOk result }
     {
         self.end.consume(count)
+    }
+}
+
+impl fmt::Debug for Client {
+    fn fmt<W: fmt::Write>(&self, f: &mut fmt::Formatter<W>) -> fmt::Result {
+        f.debug_struct("Client")
+            .field("conn", &self.end.conn)
+            .finish()
     }
 }

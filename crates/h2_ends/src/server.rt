@@ -25,6 +25,7 @@ use h2_frame::limits::FULL_OUTPUT;
 use h2_message::Message;
 use h2_spec_log::Role;
 use std::alloc::Global;
+use std::fmt;
 
 /// A server: it takes requests, and gives their responses. It does no input or output.
 #[derive(Drop)]
@@ -276,5 +277,13 @@ impl Server {
             → returns_before_put_out (log_view log) ≡ false → IsOk result }
     {
         self.end.consume(count)
+    }
+}
+
+impl fmt::Debug for Server {
+    fn fmt<W: fmt::Write>(&self, f: &mut fmt::Formatter<W>) -> fmt::Result {
+        f.debug_struct("Server")
+            .field("conn", &self.end.conn)
+            .finish()
     }
 }

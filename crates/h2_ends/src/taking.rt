@@ -92,11 +92,7 @@ impl End {
             },
             Event::Data { id, bytes, end, .. } => {
                 self.spans.owing = self.spans.owing.with(id);
-                let Some(octets) = self.conn.octets(piece, bytes) else {
-                    unreachable!()
-                };
-                let count = octets.len();
-                if self.read_data(id, count, end) {
+                if self.read_data(id, bytes.body_len(), end) {
                     return Ok(EndEvent::Body { id, bytes, end });
                 }
                 self.refuse(id, Unread::Malformed)

@@ -1,20 +1,13 @@
 -- What is kept of requests once one of them was answered, or its stream was reset; and at first.
-use Rattle.h2_engines.proofs.Names.{◌≡◌, ℕ, Bool, true, false, List, [], ◌∷◌, Option, Some, None}
-use Rattle.h2_engines.proofs.Names.{Ok, refl, sym, ap, ◌∙◌, subst, inl, inr, ne_eqb, cases_eq}
-use Rattle.h2_engines.proofs.Names.{both_ways, Server, Values, Act, SendFields, ResetStream, Done}
-use Rattle.h2_engines.proofs.Names.{SentMessage, Part, first_in, call_calls, is_head_alone, EndLog}
-use Rattle.h2_engines.proofs.Names.{end_with_log, new_end_log, with_call, Request, answer_with}
-use Rattle.h2_engines.proofs.Names.{RequestState, has_not_come, comes, was_answered, was_given_up}
-use Rattle.h2_engines.proofs.Names.{KeepsRequests, KeepsOthers, IsToAnswer, request_at}
-use Rattle.h2_engines.proofs.Names.{IsResponding, WasReportedReset, WasTooLarge, WasAnswered}
-use Rattle.h2_engines.proofs.Names.{AnswersAll, calm}
-use Rattle.h2_message.specs.Phases.{ends_message}
-use Rattle.h2_ends.specs.Ends.{message_for, parts_on}
-use Rattle.h2_ends.specs.EndCalls.{MayRespond, end_with_message}
-use Rattle.h2_engines.specs.Answers.{answer_to, body_of_parts, is_too_large_body}
-use Rattle.std.proofs.Common.{◌≢◌, if◌then◌else◌}
-use Rattle.std.specs.Prelude.{◌⊎◌}
-use Rattle.h2_engines.specs.declared.request.Requests.{Requests}
+use Rattle.h2_engines.proofs.Names
+use Names.{◌≡◌, ℕ, Bool, true, false, List, [], ◌∷◌, Option, Some, None, Ok, refl, sym, ap, ◌∙◌}
+use Names.{subst, inl, inr, ne_eqb, cases_eq, both_ways, Server, Values, Act, SendFields}
+use Names.{ResetStream, Done, SentMessage, Part, first_in, call_calls, is_head_alone, EndLog}
+use Names.{end_with_log, new_end_log, with_call, Request, answer_with, KeepsOthers, IsResponding}
+use Names.{WasReportedReset, WasTooLarge, WasAnswered, AnswersAll, calm, ends_message, message_for}
+use Names.{parts_on, MayRespond, answer_to, body_of_parts, is_too_large_body, ◌≢◌, if◌then◌else◌}
+use Names.{◌⊎◌, Requests, RequestState, has_not_come, comes, was_answered, was_given_up}
+use Names.{KeepsRequests, IsToAnswer, request_at, end_with_message}
 use Rattle.h2_engines.specs.ServerHistories.{AreOnce}
 use Rattle.h2_engines.proofs.SameRequests.{SameOn, same_on, stands_as}
 use Rattle.h2_engines.proofs.LinkInvariants.{holds_responding}
@@ -173,9 +166,9 @@ none_once = tt
 
 responding_once : {values : Values} {end : EndLog} → IsResponding values end → AreOnce end.accepted
 responding_once responding =
-    holds_responding (λ one. AreOnce one.accepted) (λ one act answer was. was) once_more
+    holds_responding (λ one. AreOnce one.accepted) (λ one act answer was. was)
     (λ before piece answer after may was. subst AreOnce (sym (taken_says may).accepted) was)
-    none_once responding
+    once_more none_once responding
 
 -- All whole requests were answered, but those that were given up.
 pub kept_all : {values : Values} (requests : Requests) {end : EndLog} → IsResponding values end

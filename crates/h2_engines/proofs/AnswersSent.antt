@@ -1,32 +1,22 @@
 -- A server whose connection is up, and at which no stream is active, has sent each answer whole,
 -- unless its stream was reset.
-use Rattle.h2_engines.proofs.Names.{◌≡◌, ℕ, Bool, true, false, List, [], ◌∷◌, ◌++◌, Option, Some}
-use Rattle.h2_engines.proofs.Names.{None, refl, sym, ap, ◌∙◌, subst, inl, inr, length, drop}
-use Rattle.h2_engines.proofs.Names.{both_ways, Contains, Server, Values, Act, Answer, SendFields}
-use Rattle.h2_engines.proofs.Names.{ResetStream, Refuse, PutOut, Done, OutOfMemory, Event}
-use Rattle.h2_engines.proofs.Names.{ResetEvent, Log, is_server, MayTake, Took, Failed}
-use Rattle.h2_engines.proofs.Names.{ends_no_frame, ends_frame, meets_fault, log_after_take}
-use Rattle.h2_engines.proofs.Names.{call_calls, first_in, later_in, SentMessage, Part, Ok, EndLog}
-use Rattle.h2_engines.proofs.Names.{Handed, Passed, EndAnswer, end_with_log, EndMayTake}
-use Rattle.h2_engines.proofs.Names.{hands_nothing, passes, hands_out, End, EndRepresents}
-use Rattle.h2_engines.proofs.Names.{new_end_log, is_head_alone, TakeAnswer, drop-append_seam}
-use Rattle.h2_engines.proofs.Names.{with_call, active, grows_call, Token, WasAsked, message_for}
-use Rattle.h2_engines.proofs.Names.{part_on, refusal_fails, take_calls, memory_fails}
-use Rattle.h2_engines.proofs.Names.{is_too_large_body, IsResponding, WasReportedReset, AnswersAll}
-use Rattle.h2_engines.proofs.Names.{calm}
-use Rattle.h2_spec_log.specs.LogCalls.{opened}
-use Rattle.h2_spec_log.specs.LogSteps.{with_sent}
-use Rattle.h2_ends.specs.Ends.{parts_on, tokens_given, part_of_event, tokens_out}
-use Rattle.h2_ends.specs.EndCalls.{MayRespond}
-use Rattle.std.specs.Prelude.{◌⊎◌}
-use Rattle.h2_laws_end.specs.Takes.{reports_unprocessed, events_answered, has_failed}
-use Rattle.h2_laws_end.specs.Takes.{runs_out_of_memory as lacks_memory}
-use Rattle.h2_ends.specs.EndTakes.{runs_out_of_memory, end_with_handed, fails, refuses}
-use Rattle.h2_laws_pair.specs.Tokens.{message_tokens}
+use Rattle.h2_engines.proofs.Names
+use Names.{◌≡◌, ℕ, Bool, true, false, List, [], ◌∷◌, ◌++◌, Option, Some, None, refl, sym, ap, ◌∙◌}
+use Names.{subst, inl, inr, length, drop, both_ways, Contains, Server, Values, Act, Answer}
+use Names.{SendFields, ResetStream, Refuse, PutOut, Done, OutOfMemory, Event, ResetEvent, Log}
+use Names.{is_server, log_after_take, call_calls, first_in, later_in, SentMessage, Part, Ok, EndLog}
+use Names.{Handed, Passed, EndAnswer, end_with_log, EndMayTake, End, EndRepresents, new_end_log}
+use Names.{is_head_alone, drop-append_seam, with_call, active, grows_call, Token, WasAsked}
+use Names.{message_for, part_on, take_calls, is_too_large_body, IsResponding, WasReportedReset}
+use Names.{AnswersAll, calm, opened, with_sent, parts_on, tokens_given, MayRespond, part_of_event}
+use Names.{tokens_out, ◌⊎◌, message_tokens, HasSentWhole, memory_fails, MayTake, Took, Failed}
+use Names.{ends_no_frame, ends_frame, meets_fault, TakeAnswer, reports_unprocessed}
 use Rattle.h2_laws_pair.proofs.HeardMessages.{unended}
+use Rattle.h2_ends.specs.EndTakes.{refusal_fails, runs_out_of_memory, hands_nothing, passes}
+use Rattle.h2_ends.specs.EndTakes.{hands_out, end_with_handed, fails, refuses}
+use Rattle.h2_laws_end.specs.Takes.{events_answered, has_failed, runs_out_of_memory as lacks_memory}
 use Rattle.h2_laws_pair.proofs.Lists.{first_or_later, none_in}
 use Rattle.h2_laws_pair.proofs.NamedUnprocessed.{log_named}
-use Rattle.h2_engines.specs.Serves.{HasSentWhole}
 use Rattle.h2_engines.proofs.LinkInvariants.{SendsOrReleases, CallsKeep, pumped_keeps}
 use Rattle.h2_engines.proofs.LinkInvariants.{released_keeps, responded_keeps, kept_role}
 use Rattle.h2_engines.proofs.NoteBodies.{too_large_more}

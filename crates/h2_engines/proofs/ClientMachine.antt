@@ -1,16 +1,12 @@
 -- What a client that is driven makes of octets.
-use Rattle.h2_engines.proofs.Names.{◌≡◌, ℕ, Bool, true, false, List, ◌∷◌, Some, None, Result, Ok}
-use Rattle.h2_engines.proofs.Names.{Err, refl, sym, ap, ◌∙◌, subst, inl, inr, append-nil, Contains}
-use Rattle.h2_engines.proofs.Names.{Event, SentMessage, first_in, End, EndLog, Handed, EndAnswer}
-use Rattle.h2_engines.proofs.Names.{EndTook, EndFailed, Passed, EndMayTake, LinkError, ends_message}
-use Rattle.h2_engines.proofs.Names.{message_for, Coming, Heard, Next, EndsUnfinished, ClientHears}
-use Rattle.h2_engines.proofs.Names.{Fetching, MachineState, HearsNoMore, gives_up, Hears, IsDue}
-use Rattle.h2_engines.proofs.Names.{Responds}
-use Rattle.h2_ends.specs.Ends.{part_on, parts_on}
-use Rattle.h2_engines.specs.ClientSteps.{FetchedSo, ErrsFetching, KeepsResponse}
-use Rattle.h2_engines.specs.Machines.{Keeps, fails}
-use Rattle.std.proofs.Common.{◌≢◌}
-use Rattle.h2_engines.specs.Fetches.{refused_stream}
+use Rattle.h2_engines.proofs.Names
+use Names.{◌≡◌, ℕ, Bool, true, false, List, ◌∷◌, Some, None, Result, Ok, Err, refl, sym, ap, ◌∙◌}
+use Names.{subst, inl, inr, append-nil, Contains, Event, SentMessage, first_in, End, EndLog, Handed}
+use Names.{EndAnswer, EndTook, EndFailed, Passed, EndMayTake, LinkError, ends_message, message_for}
+use Names.{Coming, Heard, Next, part_on, parts_on, ◌≢◌, EndsUnfinished, refused_stream, ClientHears}
+use Names.{FetchedSo, ErrsFetching, KeepsResponse, Fetching, MachineState, HearsNoMore, gives_up}
+use Names.{Hears, IsDue, Responds, Keeps}
+use Rattle.h2_engines.specs.Machines.{fails}
 use Rattle.h2_engines.specs.ClientHistories.{takes}
 use Rattle.h2_engines.proofs.LinkInvariants.{fetching_role}
 use Rattle.h2_engines.proofs.FetchLinkParts.{come_not_whole}

@@ -1,27 +1,19 @@
 -- How a client ends its fetch, over a link and without one, by how it was driven.
-use Rattle.h2_engines.proofs.Names.{◌≡◌, ℕ, Bool, true, false, List, [], ◌∷◌, Option, Some, None}
-use Rattle.h2_engines.proofs.Names.{Result, Ok, Err, refl, sym, ap, ◌∙◌, subst, inl, inr, IfErr}
-use Rattle.h2_engines.proofs.Names.{eq-eqb, Appends-nil, Field, Code, InternalError, Client, Values}
-use Rattle.h2_engines.proofs.Names.{AreInRange, Log, Keeps-call, SentMessage, Part, call_given}
-use Rattle.h2_engines.proofs.Names.{is_head_alone, EndLog, new_end_log, LinkError, Open, Number}
-use Rattle.h2_engines.proofs.Names.{Coming, Fetched, Fetcher, CutsOffAtEnd, IsNotAccepted}
-use Rattle.h2_engines.proofs.Names.{HasRequested, Traffic, IsLinked, HasTakenAll, Course, IsDriven}
-use Rattle.h2_engines.proofs.Names.{EndsFor, lacks_memory, link_fails, has_stalled, stops_itself}
-use Rattle.h2_engines.proofs.Names.{HasEnded, MachineTakesPiece, Drives, HasSentFor, AreHeadsSoFar}
-use Rattle.h2_engines.proofs.Names.{HasCome, IsWhole, interims_alone, interim_parts, error_with}
-use Rattle.h2_engines.proofs.Names.{items_failed}
-use Rattle.h2_spec_log.specs.LogCalls.{opened, with_call}
-use Rattle.h2_spec_log.specs.LogSteps.{with_sent}
-use Rattle.h2_ends.specs.Ends.{message_for, parts_on}
-use Rattle.h2_ends.specs.EndCalls.{MayRequest}
-use Rattle.h2_engines.specs.Machines.{Keeps, TakenSo, DrivenSo, has_failed}
-use Rattle.std.proofs.Common.{if◌then◌else◌, ◌⊎◌, map as each, IfOk}
-use Rattle.std.specs.Prelude.{OnErr}
-use Rattle.h2_engines.specs.Fetches.{EndsFetchSo, Fetches}
-use Rattle.h2_engines.specs.ClientHistories.{IsFetched, begins, requests}
-use Rattle.h2_engines.specs.ClientSteps.{IsFetchedOf}
-use Rattle.h2_engines.specs.WithoutLink.{IsFetchingAlone, StopsFetchAlone, FetchesInSo}
+use Rattle.h2_engines.proofs.Names
+use Names.{◌≡◌, ℕ, Bool, true, false, List, [], ◌∷◌, Option, Some, None, Result, Ok, Err, refl, sym}
+use Names.{ap, ◌∙◌, subst, inl, inr, eq-eqb, Appends-nil, Field, Code, InternalError, Client}
+use Names.{Values, AreInRange, Log, Keeps-call, SentMessage, Part, call_given, is_head_alone}
+use Names.{EndLog, new_end_log, LinkError, Open, Number, Coming, Fetched, Fetcher, CutsOffAtEnd}
+use Names.{HasRequested, Traffic, IsLinked, HasTakenAll, AreHeadsSoFar, HasCome, IsWhole}
+use Names.{interims_alone, interim_parts, error_with, items_failed, opened, with_call, with_sent}
+use Names.{message_for, parts_on, MayRequest, IfErr, OnErr, if◌then◌else◌, IsNotAccepted, Course}
+use Names.{IsDriven, EndsFor, lacks_memory, link_fails, has_stalled, stops_itself, HasEnded}
+use Names.{MachineTakesPiece, Drives, HasSentFor, Keeps, TakenSo, DrivenSo, has_failed, IsFetchedOf}
+use Rattle.h2_engines.specs.WithoutLink.{FetchesInSo, StopsFetchAlone, IsFetchingAlone}
 use Rattle.h2_engines.specs.WithoutLink.{ClientTakesIn}
+use Rattle.h2_engines.specs.Fetches.{EndsFetchSo, Fetches}
+use Rattle.std.proofs.Common.{IfOk, ◌⊎◌, map as each}
+use Rattle.h2_engines.specs.ClientHistories.{IsFetched, begins, requests}
 use Rattle.h2_engines.proofs.MachineLaws.{holds_again}
 use Rattle.h2_engines.proofs.MachineViews.{client_held, begun, carried, links_alone, uses_alone}
 use Rattle.h2_engines.proofs.MachineViews.{all_in_part, goes_for, not_cut}
@@ -153,7 +145,7 @@ ends_so {start} {now} fetcher {end} (has_failed code failed is taken) =
 ends_so fetcher (has_stalled is stalled) = rw is stalled
 ends_so fetcher (stops_itself (number, is, dropped)) = rw is dropped
 
--- So a fetch ends early,
+-- A fetch ends so.
 ended_fetches : {course : Course} {now : Traffic} (fetcher : Fetcher) {end : EndLog}
     {error : LinkError} → HasEnded true course now (client_held fetcher) end error
     → Fetches course.values course.message course.start now (Err error)
@@ -171,53 +163,7 @@ ended_fetches fetcher {end} ended =
       });
     }
 
-pub drive_fetches : {values : Values} {message : SentMessage} (before now : Traffic)
-    {old : Fetcher} (new : Fetcher) (error : LinkError) → AreInRange values → old.whole ≡ false
-    → HasRequested values message old
-    → Drives before now (client_held old) (client_held new) (Err error)
-    → Fetches values message before now (Err error)
-unfolding DrivenSo
-drive_fetches before now new error range not has drives =
-    let so = drives _ has.end (new_driven before range not has) (first_sent has) in
-    ended_fetches new so.1
-
--- never where its input has ended then;
-pub drive_not_cut : {values : Values} {message : SentMessage} (before now : Traffic)
-    {old : Fetcher} (new : Fetcher) (error : LinkError) (ended : Bool) → AreInRange values
-    → old.whole ≡ false → HasRequested values message old
-    → Drives before now (client_held old) (client_held new) (Err error)
-    → CutsOffAtEnd {A = Fetched} (Err error) ended
-unfolding DrivenSo
-drive_not_cut before now new error ended range not has drives =
-    let so = drives _ has.end (new_driven before range not has) (first_sent has) in
-    not_cut Fetched error ended (goes_for (client_held new).kept so.1.why)
-
--- or where that has ended before the response was whole;
-pub drive_cut_off : {values : Values} {message : SentMessage} (before now : Traffic)
-    {old : Fetcher} (new : Fetcher) (whole : Bool) → whole ≡ false → AreInRange values
-    → old.whole ≡ false → HasRequested values message old
-    → Drives before now (client_held old) (client_held new) (Ok whole)
-    → Fetches values message before now (Err errors.CutOff)
-unfolding DrivenSo Keeps
-drive_cut_off before now new true ends range not has drives = absurd (cc)
-drive_cut_off {message} before now new false ends range not has drives =
-    let so = drives _ has.end (new_driven before range not has) (first_sent has) in
-    let driven = so.1.0 in
-    let holds = holds_again message (client_held new).kept so.0 errors.CutOff driven.keeps in
-    record {
-      end = so.0;
-      fetching = driven.happened;
-      linked = all_in_part driven.linked;
-      so = inl (record {
-        id = new.id;
-        accepted = holds.0;
-        sends = driven.represents.streams.sent;
-        unfinished = holds.1;
-        so = (driven.up, driven.linked.given, so.1.1, so.1.2, so.1.3);
-      });
-    }
-
--- or the response is whole.
+-- What is read of a whole response is what was fetched.
 abbrev content_of : {A : Type 0} → A → Option A → A
 content_of other None = other
 content_of other (Some one) = one
@@ -242,34 +188,77 @@ not_missing : (fetcher : Fetcher) (parts : List (Part × Bool)) → IsWhole fetc
 not_missing fetcher parts is whole (inl none) = cc
 not_missing fetcher parts is whole (inr none) = let head = is.1 in cc
 
-pub drive_whole : {values : Values} {message : SentMessage} (before now : Traffic) {old : Fetcher}
-    (new : Fetcher) (whole : Bool) (result : Result Fetched LinkError) → whole ≡ true
-    → AreInRange values → old.whole ≡ false → HasRequested values message old
-    → Drives before now (client_held old) (client_held new) (Ok whole)
-    → IfOk result (λ fetched. IsFetchedOf new.coming fetched)
-    → OnErr result ((new.whole ≡ false) ⊎ (new.coming.head ≡ None))
-    → Fetches values message before now result
-unfolding DrivenSo Keeps
-drive_whole before now new false result said range not has drives of none = absurd (cc)
-drive_whole before now new true (Ok fetched) said range not has drives of none =
-    let so = drives _ has.end (new_driven before range not has) (first_sent has) in
-    let driven = so.1.1 in
-    record {
-      end = so.0;
-      fetching = driven.happened;
-      linked = all_in_part driven.linked;
-      so = inl (record {
-        id = new.id;
-        accepted = driven.keeps.0;
-        sends = driven.represents.streams.sent;
-        unfinished = tt;
-        so = fetched_as (parts_on new.id so.0.handed) driven.keeps.1 of;
-      });
-    }
-drive_whole before now new true (Err error) said range not has drives of none =
-    let so = drives _ has.end (new_driven before range not has) (first_sent has) in
-    let keeps = so.1.1.keeps in
-    absurd (not_missing new (parts_on new.id so.0.handed) keeps.1 keeps.2 none)
+module _ {values : Values} {message : SentMessage} (before now : Traffic) {old : Fetcher}
+    (new : Fetcher) (range : AreInRange values) (not : old.whole ≡ false)
+    (has : HasRequested values message old) where
+  -- So a fetch ends early,
+  pub drive_fetches : (error : LinkError)
+      → Drives before now (client_held old) (client_held new) (Err error)
+      → Fetches values message before now (Err error)
+  unfolding DrivenSo
+  drive_fetches error drives =
+      let so = drives _ has.end (new_driven before range not has) (first_sent has) in
+      ended_fetches new so.1
+
+  -- never where its input has ended then;
+  pub drive_not_cut : (error : LinkError) (ended : Bool)
+      → Drives before now (client_held old) (client_held new) (Err error)
+      → CutsOffAtEnd {A = Fetched} (Err error) ended
+  unfolding DrivenSo
+  drive_not_cut error ended drives =
+      let so = drives _ has.end (new_driven before range not has) (first_sent has) in
+      not_cut Fetched error ended (goes_for (client_held new).kept so.1.why)
+
+  -- or where that has ended before the response was whole;
+  pub drive_cut_off : (whole : Bool) → whole ≡ false
+      → Drives before now (client_held old) (client_held new) (Ok whole)
+      → Fetches values message before now (Err errors.CutOff)
+  unfolding DrivenSo Keeps
+  drive_cut_off true ends drives = absurd (cc)
+  drive_cut_off false ends drives =
+      let so = drives _ has.end (new_driven before range not has) (first_sent has) in
+      let driven = so.1.0 in
+      let holds = holds_again message (client_held new).kept so.0 errors.CutOff driven.keeps in
+      record {
+        end = so.0;
+        fetching = driven.happened;
+        linked = all_in_part driven.linked;
+        so = inl (record {
+          id = new.id;
+          accepted = holds.0;
+          sends = driven.represents.streams.sent;
+          unfinished = holds.1;
+          so = (driven.up, driven.linked.given, so.1.1, so.1.2, so.1.3);
+        });
+      }
+
+  -- or the response is whole.
+  pub drive_whole : (whole : Bool) (result : Result Fetched LinkError) → whole ≡ true
+      → Drives before now (client_held old) (client_held new) (Ok whole)
+      → IfOk result (λ fetched. IsFetchedOf new.coming fetched)
+      → OnErr result ((new.whole ≡ false) ⊎ (new.coming.head ≡ None))
+      → Fetches values message before now result
+  unfolding DrivenSo Keeps
+  drive_whole false result said drives of none = absurd (cc)
+  drive_whole true (Ok fetched) said drives of none =
+      let so = drives _ has.end (new_driven before range not has) (first_sent has) in
+      let driven = so.1.1 in
+      record {
+        end = so.0;
+        fetching = driven.happened;
+        linked = all_in_part driven.linked;
+        so = inl (record {
+          id = new.id;
+          accepted = driven.keeps.0;
+          sends = driven.represents.streams.sent;
+          unfinished = tt;
+          so = fetched_as (parts_on new.id so.0.handed) driven.keeps.1 of;
+        });
+      }
+  drive_whole true (Err error) said drives of none =
+      let so = drives _ has.end (new_driven before range not has) (first_sent has) in
+      let keeps = so.1.1.keeps in
+      absurd (not_missing new (parts_on new.id so.0.handed) keeps.1 keeps.2 none)
 
 -- The input hasn't ended then.
 pub fetched_not_cut : (result : Result Fetched LinkError) (ended : Bool)

@@ -1,8 +1,7 @@
 -- A response of which so much is kept isn't whole.
 use Rattle.h2_engines.proofs.Names.{◌≡◌, ℕ, Bool, false, List, [], ◌∷◌, ◌++◌, refl, Field, Part}
 use Rattle.h2_engines.proofs.Names.{FieldsPart, Coming, HasCome, interims_alone, head_and_body}
-use Rattle.h2_engines.proofs.Names.{interim_parts, data_parts_of}
-use Rattle.h2_message.specs.Phases.{ends_message}
+use Rattle.h2_engines.proofs.Names.{interim_parts, data_parts_of, ends_message}
 use Rattle.std.proofs.Common.{map as each}
 
 -- No part ends the stream.

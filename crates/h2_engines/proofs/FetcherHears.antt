@@ -1,15 +1,13 @@
 -- What a client's end hands out of its response, and what is kept of that.
-use Rattle.h2_engines.proofs.Names.{◌≡◌, ℕ, Bool, true, false, List, [], ◌∷◌, ◌++◌, length, Some}
-use Rattle.h2_engines.proofs.Names.{None, Ok, Err, refl, sym, ap, ◌∙◌, subst, inl, inr, Field}
-use Rattle.h2_engines.proofs.Names.{Client, ResetEvent, is_server, ConnFault, Reads, Responses}
-use Rattle.h2_engines.proofs.Names.{Place, Part, FieldsPart, OctetsPart, IsReadable, place_after}
-use Rattle.h2_engines.proofs.Names.{End, LentPart, EndTaken, EndLog, EndTook, EndFailed, Handed}
-use Rattle.h2_engines.proofs.Names.{Passed, event_handed, EndTakes, LinkError, message_for, part_on}
-use Rattle.h2_engines.proofs.Names.{Coming, Next, ClientHears, NotesPart, HasCome, error_with}
-use Rattle.h2_ends.specs.Ends.{handed_as, handed_at, parts_on, reads_on, asked_head}
-use Rattle.h2_engines.specs.ClientSteps.{FetchedSo, KeepsResponse, ErrsFetching}
-use Rattle.std.proofs.Common.{if◌then◌else◌, ◌⊎◌}
-use Rattle.h2_message.specs.declared.reading.Reads.TheVariants.{Requests}
+use Rattle.h2_engines.proofs.Names
+use Names.{◌≡◌, ℕ, Bool, true, false, List, [], ◌∷◌, ◌++◌, length, Some, None, Ok, Err, refl, sym}
+use Names.{ap, ◌∙◌, subst, inl, inr, Field, Client, ResetEvent, is_server, ConnFault, Reads, Place}
+use Names.{Part, FieldsPart, OctetsPart, IsReadable, place_after, End, LentPart, EndTaken, EndLog}
+use Names.{EndTook, EndFailed, Handed, Passed, event_handed, EndTakes, LinkError, message_for}
+use Names.{part_on, Coming, Next, NotesPart, HasCome, error_with, handed_as, handed_at, parts_on}
+use Names.{reads_on, asked_head, if◌then◌else◌, ClientHears, FetchedSo, KeepsResponse, ErrsFetching}
+use Rattle.h2_message.specs.declared.reading.Reads.TheVariants.{Responses, Requests}
+use Rattle.std.proofs.Common.{◌⊎◌}
 use Rattle.h2_engines.proofs.FetcherParts.{MayHand, KeepsSoFar, notes_on}
 use Rattle.h2_engines.proofs.FetcherPlaces.{SaysPlace, place_says, octets_say}
 use Rattle.h2_engines.proofs.TakeMessages.{HandsAsRead, hands_event, hands_part, taken_says}

@@ -1,19 +1,14 @@
 -- What has come of a response, one part on.
-use Rattle.h2_engines.proofs.Names.{◌≡◌, ℕ, Bool, true, false, Vec, Global, List, [], ◌∷◌, ◌++◌}
-use Rattle.h2_engines.proofs.Names.{Option, Some, None, option_map, refl, sym, ap, ◌∙◌, subst}
-use Rattle.h2_engines.proofs.Names.{append_assoc, append-nil, AllByRecursion, eq-eqb, map_push}
-use Rattle.h2_engines.proofs.Names.{Field, first_broken, interim_rules, Part, FieldsPart}
-use Rattle.h2_engines.proofs.Names.{OctetsPart, BreakNone, Handed, HeadHanded, BodyHanded}
-use Rattle.h2_engines.proofs.Names.{TrailersHanded, Passed, Coming, NotesPart, notes_interim}
-use Rattle.h2_engines.proofs.Names.{notes_head, notes_body, notes_trailers, notes_nothing}
-use Rattle.h2_engines.proofs.Names.{AreHeadsSoFar, HasCome, interims_alone, head_and_body, IsWhole}
-use Rattle.h2_engines.proofs.Names.{interim_parts, data_parts_of}
+use Rattle.h2_engines.proofs.Names
+use Names.{◌≡◌, ℕ, Bool, true, false, List, [], ◌∷◌, ◌++◌, Option, Some, None, option_map, refl}
+use Names.{sym, ap, ◌∙◌, subst, append_assoc, append-nil, AllByRecursion, eq-eqb, map_push, Field}
+use Names.{first_broken, interim_rules, Part, FieldsPart, OctetsPart, BreakNone, Handed, HeadHanded}
+use Names.{BodyHanded, TrailersHanded, Passed, Coming, NotesPart, notes_interim, notes_head}
+use Names.{notes_body, notes_trailers, notes_nothing, AreHeadsSoFar, HasCome, interims_alone}
+use Names.{head_and_body, IsWhole, interim_parts, data_parts_of, part_on, InterimHanded, ◌≢◌}
+use Names.{if◌then◌else◌, ◌==◌, concat, concat-append}
 use Rattle.h2_message.specs.Reading.{ended, message_parts, final_parts, trailers_parts}
-use Rattle.h2_ends.specs.Ends.{part_on, InterimHanded}
-use Rattle.std.proofs.Common.{◌≢◌, if◌then◌else◌, map as each}
-use Rattle.std.specs.Prelude.{◌==◌}
-use Rattle.std.specs.List.{concat}
-use Rattle.std.proofs.lemmas.List.Folds.{concat-append}
+use Rattle.std.proofs.Common.{Vec, Global, map as each}
 use Rattle.h2_engines.proofs.FetcherPlaces.{head_there}
 
 -- What may be handed out of the response: interim responses and its head, as long as no head has

@@ -1,13 +1,12 @@
 -- Which part of a response may come next, after what has come.
-use Rattle.h2_engines.proofs.Names.{◌≡◌, ℕ, Bool, true, false, List, [], ◌∷◌, ◌++◌, Option, Some}
-use Rattle.h2_engines.proofs.Names.{None, option_map, refl, ap, ◌∙◌, sym, subst, AllByRecursion}
-use Rattle.h2_engines.proofs.Names.{Field, Malformed, Responses, Phase, AtHead, Place, first_broken}
-use Rattle.h2_engines.proofs.Names.{interim_rules, Part, FieldsPart, OctetsPart, BreakNone}
-use Rattle.h2_engines.proofs.Names.{IsReadable, place_after, Coming, HasCome, interims_alone}
-use Rattle.h2_engines.proofs.Names.{head_and_body, interim_parts, data_parts_of, after_both}
-use Rattle.h2_message.specs.Phases.{phase_after_head, phase_after, phase_after_all, place_at_head}
-use Rattle.h2_message.specs.Phases.{place_in}
-use Rattle.std.proofs.Common.{◌≢◌, if◌then◌else◌}
+use Rattle.h2_engines.proofs.Names
+use Names.{◌≡◌, ℕ, Bool, true, false, List, [], ◌∷◌, ◌++◌, Option, Some, None, option_map, refl, ap}
+use Names.{◌∙◌, sym, subst, AllByRecursion, Field, Malformed, Phase, Place, first_broken}
+use Names.{interim_rules, Part, FieldsPart, OctetsPart, BreakNone, IsReadable, place_after, Coming}
+use Names.{HasCome, interims_alone, head_and_body, interim_parts, data_parts_of, phase_after_head}
+use Names.{phase_after, phase_after_all, place_at_head, place_in, ◌≢◌, if◌then◌else◌, after_both}
+use Rattle.h2_message.specs.declared.reading.Phase.TheVariants.{AtHead}
+use Rattle.h2_message.specs.declared.reading.Reads.TheVariants.{Responses}
 use Rattle.std.specs.Prelude.{is_some}
 use Rattle.h2_message.proofs.PhaseWhole.{after_interim}
 use Rattle.h2_engines.proofs.NextParts.{is_begun, final_begun, stays_begun, one_more, place_later}

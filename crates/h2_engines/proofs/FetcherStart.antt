@@ -2,13 +2,10 @@
 use Rattle.h2_engines.proofs.Names.{◌≡◌, [], Option, Some, None, Ok, Err, refl, ap, ◌∙◌, subst, inl}
 use Rattle.h2_engines.proofs.Names.{inr, Refusal, Memory, Client, Values, Malformed, Message}
 use Rattle.h2_engines.proofs.Names.{SentMessage, LinkError, End, EndRefusal, EndLog, EndRepresents}
-use Rattle.h2_engines.proofs.Names.{new_end_log, Fetcher, error_after, IsNotAccepted, HasRequested}
-use Rattle.h2_ends.specs.EndCalls.{MayRequest}
-use Rattle.std.proofs.Common.{◌≢◌}
-use Rattle.std.specs.Prelude.{◌⊎◌}
-use Rattle.h2_spec_log.specs.declared.refusal.Refusal.TheVariants.{ListTooLarge}
-use Rattle.h2_ends.specs.Represents.{EndRequests}
+use Rattle.h2_engines.proofs.Names.{new_end_log, Fetcher, error_after, HasRequested, MayRequest}
+use Rattle.h2_engines.proofs.Names.{◌≢◌, ◌⊎◌, EndRequests, IsNotAccepted}
 use Rattle.h2_engines.specs.Fetches.{IsRefusedMessage, IsRefusedOtherwise, refusal_of_request}
+use Rattle.h2_spec_log.specs.declared.refusal.Refusal.TheVariants.{ListTooLarge}
 use Rattle.h2_ends.specs.declared.refusal.EndRefusal.TheVariants as refusals
 
 -- It was accepted.

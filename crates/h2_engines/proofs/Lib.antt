@@ -7,7 +7,6 @@ pub mod FetcherHears
 pub mod FetcherParts
 pub mod FetcherPlaces
 pub mod FetcherStart
-pub mod FieldValues
 pub mod LinkInvariants
 pub mod MachineDrives
 pub mod MachineHears

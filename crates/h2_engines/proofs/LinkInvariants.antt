@@ -1,18 +1,14 @@
 -- What each call keeps of a server or a client over a link holds whatever has happened at it; so it
 -- stays a server's end or a client's.
-use Rattle.h2_engines.proofs.Names.{◌≡◌, ℕ, List, Option, Result, Ok, Err, refl, ap, ◌∙◌, inl, inr}
-use Rattle.h2_engines.proofs.Names.{Refusal, Server, Client, Values, Act, Answer, Refuse, PutOut}
-use Rattle.h2_engines.proofs.Names.{true, Count, Done, OutOfMemory, Refused, SentMessage}
-use Rattle.h2_engines.proofs.Names.{EndRefusal, EndLog, EndAnswer, EndMayTake, end_with_log, Pumps}
-use Rattle.h2_engines.proofs.Names.{pumps_no_more, pumps_data, pumps_trailers, data_refused}
-use Rattle.h2_engines.proofs.Names.{trailers_refused, Releases, releases_one, releases_refused}
-use Rattle.h2_engines.proofs.Names.{new_end_log, Open, SendFields, SendData, owed, with_call}
-use Rattle.h2_engines.proofs.Names.{IsResponding}
-use Rattle.h2_spec_log.specs.LogCalls.{opened}
-use Rattle.h2_spec_log.specs.LogSteps.{with_sent}
-use Rattle.h2_ends.specs.EndCalls.{MayRequest, MayRespond, MayPump, MayReleaseAll, releases_no_more}
+use Rattle.h2_engines.proofs.Names
+use Names.{◌≡◌, ℕ, List, Option, Result, Ok, Err, refl, ap, ◌∙◌, inl, inr, Refusal, Server, Client}
+use Names.{Values, Act, Answer, Refuse, PutOut, true, Count, Done, OutOfMemory, Refused}
+use Names.{SentMessage, EndRefusal, EndLog, EndAnswer, EndMayTake, end_with_log, Pumps}
+use Names.{pumps_no_more, pumps_trailers, trailers_refused, releases_one, releases_refused}
+use Names.{new_end_log, Open, SendFields, SendData, owed, with_call, IsResponding, opened}
+use Names.{with_sent, MayRequest, MayRespond, MayPump, MayReleaseAll, releases_no_more, Release}
+use Names.{pumps_data, data_refused, Releases}
 use Rattle.h2_ends.specs.EndCalls.{IsUnchanged, IsHeadCall}
-use Rattle.h2_spec_log.specs.Acts.{Release}
 use Rattle.h2_engines.specs.ClientHistories.{IsFetching}
 use Rattle.h2_engines.proofs.TakeMessages.{role_by_call, taken_role}
 use Rattle.h2_spec_log.specs.declared.refusal.Refusal.TheVariants as reasons
@@ -60,52 +56,49 @@ AllKeep P =
 quietly : (P : EndLog → Type 0) → AllKeep P → CallsKeep P
 quietly P keep end act answer sends holds = keep end act answer holds
 
-module _ (P : EndLog → Type 0) where
+module _ (P : EndLog → Type 0) (keep : CallsKeep P) where
   -- So do the calls of a pump and of a release,
-  pump_keeps : CallsKeep P
-      → {before : EndLog} {count : ℕ} {refused : Option Refusal} {after : EndLog}
+  pump_keeps : {before : EndLog} {count : ℕ} {refused : Option Refusal} {after : EndLog}
       → Pumps before count refused after → P before → P after
-  pump_keeps keep (pumps_no_more end) holds = holds
-  pump_keeps keep (pumps_data end id sent more octets ends refusal last next typed waits may rest)
-      holds = pump_keeps keep rest (keep end (SendData id octets ends) (Count sent) tt holds)
-  pump_keeps keep (pumps_trailers end id more list refusal last next typed wait may rest) holds =
-      pump_keeps keep rest (keep end (SendFields id list true) Done tt holds)
-  pump_keeps keep (data_refused end id octets ends refusal next typed waits may) holds =
+  pump_keeps (pumps_no_more end) holds = holds
+  pump_keeps (pumps_data end id sent more octets ends refusal last next typed wait may rest) holds =
+      pump_keeps rest (keep end (SendData id octets ends) (Count sent) tt holds)
+  pump_keeps (pumps_trailers end id more list refusal last next typed wait may rest) holds =
+      pump_keeps rest (keep end (SendFields id list true) Done tt holds)
+  pump_keeps (data_refused end id octets ends refusal next typed waits may) holds =
       keep end (SendData id octets ends) (Refused refusal) tt holds
-  pump_keeps keep (trailers_refused end id list refusal next typed wait may) holds =
+  pump_keeps (trailers_refused end id list refusal next typed wait may) holds =
       keep end (SendFields id list true) (Refused refusal) tt holds
 
-  pub pumped_keeps : CallsKeep P → (before : EndLog) (result : Result ℕ EndRefusal) (after : EndLog)
+  pub pumped_keeps : (before : EndLog) (result : Result ℕ EndRefusal) (after : EndLog)
       → MayPump before result after → P before → P after
   unfolding MayPump
-  pumped_keeps keep before (Ok count) after may holds = elim may.1 [
-    | inl all ↦ pump_keeps keep all.0 holds
-    | inr all ↦ pump_keeps keep all.0 holds
+  pumped_keeps before (Ok count) after may holds = elim may.1 [
+    | inl all ↦ pump_keeps all.0 holds
+    | inr all ↦ pump_keeps all.0 holds
   ]
-  pumped_keeps keep before (Err (refusals.Conn reasons.Closed)) after may holds = rw may.1 holds
-  pumped_keeps keep before (Err (refusals.Conn reasons.Memory)) after may holds =
-      pump_keeps keep may.2 holds
-  pumped_keeps keep before (Err other) after may holds = absurd may
+  pumped_keeps before (Err (refusals.Conn reasons.Closed)) after may holds = rw may.1 holds
+  pumped_keeps before (Err (refusals.Conn reasons.Memory)) after may holds = pump_keeps may.2 holds
+  pumped_keeps before (Err other) after may holds = absurd may
 
-  release_keeps : CallsKeep P → {before : EndLog} {refused : Option Refusal} {after : EndLog}
+  release_keeps : {before : EndLog} {refused : Option Refusal} {after : EndLog}
       → Releases before refused after → P before → P after
-  release_keeps keep (releases_no_more end) holds = holds
-  release_keeps keep (releases_one end id refusal last next typed may rest) holds =
-      release_keeps keep rest (keep end (Release id (owed end.log id)) Done tt holds)
-  release_keeps keep (releases_refused end id refusal next typed may) holds =
+  release_keeps (releases_no_more end) holds = holds
+  release_keeps (releases_one end id refusal last next typed may rest) holds =
+      release_keeps rest (keep end (Release id (owed end.log id)) Done tt holds)
+  release_keeps (releases_refused end id refusal next typed may) holds =
       keep end (Release id (owed end.log id)) (Refused refusal) tt holds
 
-  pub released_keeps : CallsKeep P
-      → (before : EndLog) (result : Result (Unit {0}) EndRefusal) (after : EndLog)
+  pub released_keeps : (before : EndLog) (result : Result (Unit {0}) EndRefusal) (after : EndLog)
       → MayReleaseAll before result after → P before → P after
   unfolding MayReleaseAll
-  released_keeps keep before (Ok done) after may holds = release_keeps keep may.1 holds
-  released_keeps keep before (Err (refusals.Conn reasons.Closed)) after may holds = rw may.1 holds
-  released_keeps keep before (Err (refusals.Conn reasons.OutputFull)) after may holds =
-      release_keeps keep may.1 holds
-  released_keeps keep before (Err (refusals.Conn reasons.Memory)) after may holds =
-      release_keeps keep may.1 holds
-  released_keeps keep before (Err other) after may holds = absurd may
+  released_keeps before (Ok done) after may holds = release_keeps may.1 holds
+  released_keeps before (Err (refusals.Conn reasons.Closed)) after may holds = rw may.1 holds
+  released_keeps before (Err (refusals.Conn reasons.OutputFull)) after may holds =
+      release_keeps may.1 holds
+  released_keeps before (Err (refusals.Conn reasons.Memory)) after may holds =
+      release_keeps may.1 holds
+  released_keeps before (Err other) after may holds = absurd may
 
 -- and an answer that is refused.
 head_sends : (act : Act) (refusal : Refusal) → IsHeadCall act
@@ -114,52 +107,49 @@ head_sends (Open fields end) refusal head = tt
 head_sends (SendFields id fields end) refusal head = tt
 head_sends act refusal head = absurd head
 
-unchanged_keeps : (P : EndLog → Type 0) → CallsKeep P → (before after : EndLog)
-    → IsUnchanged before after → P before → P after
-unfolding IsUnchanged
-unchanged_keeps P keep before after (inl same) holds = rw same holds
-unchanged_keeps P keep before after (inr called) holds =
-    rw called.5 (keep before called.0 (Refused called.1) (head_sends called.0 called.1 called.3)
-    holds)
-
--- An answer that is taken keeps this.
+-- An answer that is taken keeps this, and a request that is accepted does.
 abbrev pub AnswersKeep : (EndLog → Type 0) → Type 0
 AnswersKeep P =
     (before : EndLog) (id : ℕ) (message : SentMessage) (done : Unit {0}) (after : EndLog)
     → MayRespond before id message (Ok done) after → P before → P after
 
-pub responded_keeps : (P : EndLog → Type 0) → CallsKeep P → AnswersKeep P → (before : EndLog)
-    (id : ℕ) (message : SentMessage) (result : Result (Unit {0}) EndRefusal) (after : EndLog)
-    → MayRespond before id message result after → P before → P after
-unfolding MayRespond
-responded_keeps P keep answer before id message (Ok done) after may holds =
-    answer before id message done after may holds
-responded_keeps P keep answer before id message (Err refusals.NotAsked) after may holds =
-    rw may.1 holds
-responded_keeps P keep answer before id message (Err refusals.Answered) after may holds =
-    rw may.2 holds
-responded_keeps P keep answer before id message (Err (refusals.BadMessage rule)) after may holds =
-    rw may.3 holds
-responded_keeps P keep answer before id message (Err (refusals.Conn refusal)) after may holds =
-    unchanged_keeps P keep before after may.4 holds
-
--- A request that is accepted keeps this.
 abbrev RequestsKeep : (EndLog → Type 0) → Type 0
 RequestsKeep P =
     (before : EndLog) (message : SentMessage) (id : ℕ) (after : EndLog)
     → MayRequest before message (Ok id) after → P before → P after
 
-requested_keeps : (P : EndLog → Type 0) → CallsKeep P → RequestsKeep P → (before : EndLog)
-    (message : SentMessage) (result : Result ℕ EndRefusal) (after : EndLog)
-    → MayRequest before message result after → P before → P after
-unfolding MayRequest
-requested_keeps P keep request before message (Ok id) after may holds =
-    request before message id after may holds
-requested_keeps P keep request before message (Err (refusals.BadMessage rule)) after may holds =
-    rw may.1 holds
-requested_keeps P keep request before message (Err (refusals.Conn refusal)) after may holds =
-    unchanged_keeps P keep before after may.2 holds
-requested_keeps P keep request before message (Err other) after may holds = absurd may
+module _ (P : EndLog → Type 0) (keep : CallsKeep P) where
+  unchanged_keeps : (before after : EndLog) → IsUnchanged before after → P before → P after
+  unfolding IsUnchanged
+  unchanged_keeps before after (inl same) holds = rw same holds
+  unchanged_keeps before after (inr called) holds =
+      rw called.5
+      (keep before called.0 (Refused called.1) (head_sends called.0 called.1 called.3) holds)
+
+  pub responded_keeps : AnswersKeep P → (before : EndLog) (id : ℕ) (message : SentMessage)
+      (result : Result (Unit {0}) EndRefusal) (after : EndLog)
+      → MayRespond before id message result after → P before → P after
+  unfolding MayRespond
+  responded_keeps answer before id message (Ok done) after may holds =
+      answer before id message done after may holds
+  responded_keeps answer before id message (Err refusals.NotAsked) after may holds = rw may.1 holds
+  responded_keeps answer before id message (Err refusals.Answered) after may holds = rw may.2 holds
+  responded_keeps answer before id message (Err (refusals.BadMessage rule)) after may holds =
+      rw may.3 holds
+  responded_keeps answer before id message (Err (refusals.Conn refusal)) after may holds =
+      unchanged_keeps before after may.4 holds
+
+  requested_keeps : RequestsKeep P → (before : EndLog) (message : SentMessage)
+      (result : Result ℕ EndRefusal) (after : EndLog)
+      → MayRequest before message result after → P before → P after
+  unfolding MayRequest
+  requested_keeps request before message (Ok id) after may holds =
+      request before message id after may holds
+  requested_keeps request before message (Err (refusals.BadMessage rule)) after may holds =
+      rw may.1 holds
+  requested_keeps request before message (Err (refusals.Conn refusal)) after may holds =
+      unchanged_keeps before after may.2 holds
+  requested_keeps request before message (Err other) after may holds = absurd may
 
 -- A call of `take` keeps this.
 abbrev pub TakesKeep : (EndLog → Type 0) → Type 0
@@ -167,50 +157,41 @@ TakesKeep P =
     (before : EndLog) (piece : List ℕ) (answer : EndAnswer) (after : EndLog)
     → EndMayTake before piece answer after → P before → P after
 
-module _ (P : EndLog → Type 0) where
+module _ (P : EndLog → Type 0) (keep : AllKeep P) (take : TakesKeep P) {values : Values} where
   -- Whatever has happened at a server over a link, what each call keeps holds of it,
-  pub holds_responding : AllKeep P → AnswersKeep P → TakesKeep P → {values : Values}
-      → P (new_end_log Server values) → {end : EndLog} → IsResponding values end → P end
-  holds_responding keep answer take new (server.begins range) = new
-  holds_responding keep answer take new
-      (server.takes {end = before} {after = after} was piece said may) =
-      take before piece said after may (holds_responding keep answer take new was)
-  holds_responding keep answer take new
+  pub holds_responding : AnswersKeep P → P (new_end_log Server values)
+      → {end : EndLog} → IsResponding values end → P end
+  holds_responding answer new (server.begins range) = new
+  holds_responding answer new (server.takes {end = before} {after = after} was piece said may) =
+      take before piece said after may (holds_responding answer new was)
+  holds_responding answer new
       (server.answers {end = before} {after = after} was id message result whole fits asked may) =
       responded_keeps P (quietly P keep) answer before id message result after may
-      (holds_responding keep answer take new was)
-  holds_responding keep answer take new (server.resets {end = before} was id said large typed may) =
-      keep before _ _ (holds_responding keep answer take new was)
-  holds_responding keep answer take new
-      (server.releases {end = before} {after = after} was result may) =
-      released_keeps P (quietly P keep) before result after may
-      (holds_responding keep answer take new was)
-  holds_responding keep answer take new (server.pumps {end = before} {after = after} was result may)
-      = pumped_keeps P (quietly P keep) before result after may
-      (holds_responding keep answer take new was)
-  holds_responding keep answer take new (server.gives_out {end = before} was count said typed may) =
-      keep before _ _ (holds_responding keep answer take new was)
+      (holds_responding answer new was)
+  holds_responding answer new (server.resets {end = before} was id said large typed may) =
+      keep before _ _ (holds_responding answer new was)
+  holds_responding answer new (server.releases {end = before} {after = after} was result may) =
+      released_keeps P (quietly P keep) before result after may (holds_responding answer new was)
+  holds_responding answer new (server.pumps {end = before} {after = after} was result may) =
+      pumped_keeps P (quietly P keep) before result after may (holds_responding answer new was)
+  holds_responding answer new (server.gives_out {end = before} was count said typed may) =
+      keep before _ _ (holds_responding answer new was)
 
   -- and so it is with a client.
-  holds_fetching : AllKeep P → RequestsKeep P → TakesKeep P → {values : Values}
-      → P (new_end_log Client values) → {message : SentMessage} {end : EndLog}
-      → IsFetching values message end → P end
-  holds_fetching keep request take new (client.begins range) = new
-  holds_fetching keep request take {values} new {message} {end} (client.requests range result may) =
+  holds_fetching : RequestsKeep P → P (new_end_log Client values)
+      → {message : SentMessage} {end : EndLog} → IsFetching values message end → P end
+  holds_fetching request new (client.begins range) = new
+  holds_fetching request new {message} {end} (client.requests range result may) =
       requested_keeps P (quietly P keep) request (new_end_log Client values) message result end may
       new
-  holds_fetching keep request take new
-      (client.takes {end = before} {after = after} was piece said may) =
-      take before piece said after may (holds_fetching keep request take new was)
-  holds_fetching keep request take new
-      (client.releases {end = before} {after = after} was result may) =
-      released_keeps P (quietly P keep) before result after may
-      (holds_fetching keep request take new was)
-  holds_fetching keep request take new (client.pumps {end = before} {after = after} was result may)
-      = pumped_keeps P (quietly P keep) before result after may
-      (holds_fetching keep request take new was)
-  holds_fetching keep request take new (client.gives_out {end = before} was count said typed may) =
-      keep before _ _ (holds_fetching keep request take new was)
+  holds_fetching request new (client.takes {end = before} {after = after} was piece said may) =
+      take before piece said after may (holds_fetching request new was)
+  holds_fetching request new (client.releases {end = before} {after = after} was result may) =
+      released_keeps P (quietly P keep) before result after may (holds_fetching request new was)
+  holds_fetching request new (client.pumps {end = before} {after = after} was result may) =
+      pumped_keeps P (quietly P keep) before result after may (holds_fetching request new was)
+  holds_fetching request new (client.gives_out {end = before} was count said typed may) =
+      keep before _ _ (holds_fetching request new was)
 
 -- A new end has its role, and a message that is accepted keeps it.
 new_server : (values : Values) → (opened Server values).role ≡ Server
@@ -242,14 +223,16 @@ requested_role before message id after may =
 pub kept_role : {values : Values} {end : EndLog} → IsResponding values end → end.log.role ≡ Server
 kept_role {values} responding =
     holds_responding (λ one. one.log.role ≡ Server)
-    (λ one act answer was. role_by_call one.log act answer ∙ was) (λ before id message done
-    after may was. responded_role before id message done after may ∙ was)
-    (λ before piece answer after may was. taken_role may ∙ was) (new_server values) responding
+    (λ one act answer was. role_by_call one.log act answer ∙ was)
+    (λ before piece answer after may was. taken_role may ∙ was)
+    (λ before id message done after may was. responded_role before id message done after may ∙ was)
+    (new_server values) responding
 
 pub fetching_role : {values : Values} {message : SentMessage} {end : EndLog}
     → IsFetching values message end → end.log.role ≡ Client
 fetching_role {values} fetching =
     holds_fetching (λ one. one.log.role ≡ Client)
     (λ one act answer was. role_by_call one.log act answer ∙ was)
+    (λ before piece answer after may was. taken_role may ∙ was)
     (λ before sent id after may was. requested_role before sent id after may ∙ was)
-    (λ before piece answer after may was. taken_role may ∙ was) (new_client values) fetching
+    (new_client values) fetching

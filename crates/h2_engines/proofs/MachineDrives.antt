@@ -1,17 +1,13 @@
 -- What each round of a machine that is driven over a link makes of it: output is written, octets
 -- are read and taken, credit is returned, and what waits is sent.
-use Rattle.h2_engines.proofs.Names.{◌≡◌, ◌≤◌, ℕ, ◌+◌, ◌-◌, ◌^◌, Bool, true, false, List, [], ◌++◌}
-use Rattle.h2_engines.proofs.Names.{length, take, Option, Result, Ok, Err, refl, sym, ap, ◌∙◌}
-use Rattle.h2_engines.proofs.Names.{subst, append-nil, inl, inr, arith, Appends, Appends-trans, Log}
-use Rattle.h2_engines.proofs.Names.{Values, given_out, full_output, EndLog, LinkError, ◌<◌, waiting}
-use Rattle.h2_engines.proofs.Names.{ConnRepresents, EndsWriting, failures_at_end, Traffic, IsLinked}
-use Rattle.h2_engines.proofs.Names.{HasTakenAll, MachineState, Course, IsDriven, lacks_memory}
-use Rattle.h2_engines.proofs.Names.{link_fails, has_stalled, WritesWaiting, MachineTakesPiece}
-use Rattle.h2_engines.proofs.Names.{MessageState, HasSentFor, Serving, Fetching, HasReturnedAll}
-use Rattle.h2_engines.proofs.Names.{HasSentAll, SendsWaiting}
-use Rattle.h2_engines.specs.Machines.{TakenSo, DrivenSo}
-use Rattle.std.proofs.Math.Seq.{take-append_seam}
-use Rattle.h2_link.specs.Links.{ended_after}
+use Rattle.h2_engines.proofs.Names
+use Names.{◌≡◌, ◌≤◌, ℕ, ◌+◌, ◌-◌, ◌^◌, Bool, true, false, List, [], ◌++◌, length, take, Option}
+use Names.{Result, Ok, Err, refl, sym, ap, ◌∙◌, subst, append-nil, inl, inr, arith, Appends}
+use Names.{Appends-trans, Log, Values, given_out, full_output, EndLog, LinkError, ◌<◌, waiting}
+use Names.{ConnRepresents, EndsWriting, failures_at_end, Traffic, IsLinked, HasTakenAll}
+use Names.{HasReturnedAll, HasSentAll, SendsWaiting, take-append_seam, ended_after, MachineState}
+use Names.{Course, IsDriven, lacks_memory, link_fails, has_stalled, WritesWaiting}
+use Names.{MachineTakesPiece, MessageState, HasSentFor, Serving, Fetching, TakenSo, DrivenSo}
 use Rattle.h2_engines.proofs.MachineLaws.{holds_again, stays_driven, ends_going}
 use Rattle.h2_engines.proofs.MachineTakes.{written_driven, ends_unwritten}
 use Rattle.h2_engines.proofs.SentAll.{all_sent}
@@ -90,39 +86,37 @@ no_round now held all go =
     let out : 2 ^ 64 - 1 ≤ length go.end.log.turns = omega (arith, all, go.turns) in
     (go.end, ends_going go.driven (has_stalled refl (inr out)))
 
--- Credit is returned, and what waits of messages is sent,
-waited_on : {course : Course} {now : Traffic} {self : MachineState} (new : MachineState)
-    {rounds : ℕ} (result : Result (Unit {0}) LinkError) → IsGoing course now self [] rounds
-    → new.kept ≡ self.kept → SendsWaiting self.end new.end result → IsGoing course now new [] rounds
-waited_on {course} {self} new result go kept sends =
-    let sent = sends course.values go.end go.driven.represents in
-    record {
-      end = sent.0;
-      turns = omega (arith, go.turns, sent_turns sent.2);
-      driven = stays_driven new go.driven kept (sent_stays sent.2)
-          (sends_at course self.kept go.driven.happened sent.2) sent.1;
-    }
+module _ {course : Course} {now : Traffic} {self : MachineState} (new : MachineState) {rounds : ℕ}
+    (go : IsGoing course now self [] rounds) (kept : new.kept ≡ self.kept) where
+  -- Credit is returned, and what waits of messages is sent,
+  waited_on : (result : Result (Unit {0}) LinkError) → SendsWaiting self.end new.end result
+      → IsGoing course now new [] rounds
+  waited_on result sends =
+      let sent = sends course.values go.end go.driven.represents in
+      record {
+        end = sent.0;
+        turns = omega (arith, go.turns, sent_turns sent.2);
+        driven = stays_driven new go.driven kept (sent_stays sent.2)
+            (sends_at course self.kept go.driven.happened sent.2) sent.1;
+      }
 
-pub waiting_on : {course : Course} {now : Traffic} {self : MachineState} (new : MachineState)
-    {rounds : ℕ} {done : Unit {0}} → IsGoing course now self [] rounds → new.kept ≡ self.kept
-    → SendsWaiting self.end new.end (Ok done) → IsPumped course now new rounds
-unfolding waited_on
-waiting_on {course} new {rounds} {done} go kept sends =
-    let sent = sends course.values go.end go.driven.represents in
-    record {
-      going = waited_on new (Ok done) go kept sends;
-      sent = λ few. sent_for new.kept
-          (all_sent sent.2 go.driven.up go.driven.represents.streams.conn.machine.came few);
-    }
+  pub waiting_on : {done : Unit {0}} → SendsWaiting self.end new.end (Ok done)
+      → IsPumped course now new rounds
+  unfolding waited_on
+  waiting_on {done} sends =
+      let sent = sends course.values go.end go.driven.represents in
+      record {
+        going = waited_on (Ok done) sends;
+        sent = λ few. sent_for new.kept
+            (all_sent sent.2 go.driven.up go.driven.represents.streams.conn.machine.came few);
+      }
 
--- or there is no memory for that.
-pub waiting_last : {course : Course} (now : Traffic) {self : MachineState} (new : MachineState)
-    {rounds : ℕ} (error : LinkError) → IsGoing course now self [] rounds
-    → new.kept ≡ self.kept → SendsWaiting self.end new.end (Err error)
-    → Ends course now new (Err error)
-waiting_last {course} now new error go kept sends =
-    let sent = sends course.values go.end go.driven.represents in
-    going_ends now new error (sent_error sent.2) (waited_on new (Err error) go kept sends)
+  -- or there is no memory for that.
+  pub waiting_last : (error : LinkError) → SendsWaiting self.end new.end (Err error)
+      → Ends course now new (Err error)
+  waiting_last error sends =
+      let sent = sends course.values go.end go.driven.represents in
+      going_ends now new error (sent_error sent.2) (waited_on (Err error) sends)
 
 -- What waits is written,
 pub written_on : {course : Course} {middle now : Traffic} {self : MachineState}

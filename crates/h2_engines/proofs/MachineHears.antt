@@ -1,9 +1,8 @@
 -- What a machine that is driven makes of octets, by what a call of `take` has made of its end.
 use Rattle.h2_engines.proofs.Names.{◌≡◌, ℕ, List, length, Option, Ok, Err, EndLog, Handed}
 use Rattle.h2_engines.proofs.Names.{EndAnswer, EndTook, EndMayTake, EndRepresents, LinkError, Heard}
-use Rattle.h2_engines.proofs.Names.{Traffic, MachineState, Course, Happens, Keeps, IsDriven}
-use Rattle.h2_engines.proofs.Names.{HearsNoMore}
-use Rattle.h2_engines.specs.Machines.{HearsSo}
+use Rattle.h2_engines.proofs.Names.{Traffic, Happens, MachineState, Course, Keeps, IsDriven}
+use Rattle.h2_engines.proofs.Names.{HearsNoMore, HearsSo}
 use Rattle.h2_engines.proofs.ResponderEnds.{given_within}
 use Rattle.h2_engines.proofs.ServeLinkTakes.{SaysUsed, takes_first, took_links, links_first}
 use Rattle.h2_engines.proofs.TurnsPassed.{turns_of_take, turns_of_answer}

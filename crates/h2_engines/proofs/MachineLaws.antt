@@ -1,15 +1,12 @@
 -- What stays of a machine where nothing of messages has happened at its end, and what may happen
 -- there.
-use Rattle.h2_engines.proofs.Names.{◌≡◌, ℕ, Bool, true, false, List, length, Result, Err, refl, sym}
-use Rattle.h2_engines.proofs.Names.{ap, ◌∙◌, subst, inr, SentMessage, EndRefusal, EndLog, Handed}
-use Rattle.h2_engines.proofs.Names.{EndRepresents, LinkError, ends_message, message_for, parts_on}
-use Rattle.h2_engines.proofs.Names.{MayPump, MayReleaseAll, Next, EndsWriting, EndsUnfinished}
-use Rattle.h2_engines.proofs.Names.{Traffic, IsLinked, StallsWriting, MessageState, Serving}
-use Rattle.h2_engines.proofs.Names.{Fetching, MachineState, Course, Happens, IsDriven}
-use Rattle.h2_engines.proofs.Names.{EndsBeforeResponse, IsDue, EndsFor, lacks_memory, link_fails}
-use Rattle.h2_engines.proofs.Names.{has_stalled, HasEnded, HasCome, IsWhole, IsSameOfMessages}
-use Rattle.h2_engines.specs.Machines.{Keeps}
-use Rattle.std.proofs.Common.{◌≢◌}
+use Rattle.h2_engines.proofs.Names
+use Names.{◌≡◌, ℕ, Bool, true, false, List, length, Result, Err, refl, sym, ap, ◌∙◌, subst, inr}
+use Names.{SentMessage, EndRefusal, EndLog, Handed, EndRepresents, LinkError, ends_message}
+use Names.{message_for, parts_on, MayPump, MayReleaseAll, Next, EndsWriting, Traffic, IsLinked}
+use Names.{StallsWriting, Happens, HasCome, IsWhole, IsSameOfMessages, ◌≢◌, EndsUnfinished}
+use Names.{MessageState, Serving, Fetching, MachineState, Course, IsDriven, EndsBeforeResponse}
+use Names.{IsDue, EndsFor, lacks_memory, link_fails, has_stalled, HasEnded, Keeps}
 use Rattle.h2_engines.proofs.FetchLinkParts.{come_not_whole}
 use Rattle.h2_engines.proofs.ResponderEnds.{given_first, given_within}
 use Rattle.h2_engines.proofs.ResponderWrites.{MayPutOut}

@@ -1,18 +1,13 @@
 -- What a machine makes of a piece, part by part, over a link or without one.
-use Rattle.h2_engines.proofs.Names.{◌≡◌, ◌≤◌, ℕ, ◌+◌, ◌-◌, ◌^◌, Bool, true, false, List, length}
-use Rattle.h2_engines.proofs.Names.{take, drop, Some, None, Result, Ok, Err, refl, sym, ◌∙◌, subst}
-use Rattle.h2_engines.proofs.Names.{inl, inr, arith, drop_all, Code, SentMessage, EndLog}
-use Rattle.h2_engines.proofs.Names.{EndRepresents, LinkError, Heard, Next, EndsWriting}
-use Rattle.h2_engines.proofs.Names.{failures_at_end, failures_by, Traffic, HasTakenAll}
-use Rattle.h2_engines.proofs.Names.{MessageState, Serving, Fetching, MachineState, Course, Happens}
-use Rattle.h2_engines.proofs.Names.{IsDriven, EndsBeforeResponse, EndsFor, lacks_memory}
-use Rattle.h2_engines.proofs.Names.{has_stalled, stops_itself, HasEnded, HearsNoMore, gives_up}
-use Rattle.h2_engines.proofs.Names.{Hears, IsDue, Responds, WritesOut, WritesWaiting}
-use Rattle.h2_engines.specs.Machines.{Keeps, HearsSo, RespondedSo, TakenSo, has_failed, fails}
-use Rattle.h2_engines.specs.Machines.{HasHeardLast, flow, WritesAndResponds, EndsEarly}
-use Rattle.h2_engines.specs.PartialMessages.{KeepsNext}
-use Rattle.std.proofs.lemmas.List.{take_rest, drop-drop}
-use Rattle.std.proofs.Common.{◌≢◌}
+use Rattle.h2_engines.proofs.Names
+use Names.{◌≡◌, ◌≤◌, ℕ, ◌+◌, ◌-◌, ◌^◌, Bool, true, false, List, length, take, drop, Some, None}
+use Names.{Result, Ok, Err, refl, sym, ◌∙◌, subst, inl, inr, arith, drop_all, Code, SentMessage}
+use Names.{EndLog, EndRepresents, LinkError, Heard, Next, EndsWriting, failures_at_end, failures_by}
+use Names.{Traffic, HasTakenAll, Happens, WritesOut, KeepsNext, take_rest, drop-drop, ◌≢◌}
+use Names.{MessageState, Serving, Fetching, MachineState, Course, IsDriven, EndsBeforeResponse}
+use Names.{EndsFor, lacks_memory, has_stalled, stops_itself, HasEnded, HearsNoMore, gives_up, Hears}
+use Names.{IsDue, Responds, WritesWaiting, Keeps, HearsSo, RespondedSo, TakenSo, has_failed}
+use Rattle.h2_engines.specs.Machines.{fails, HasHeardLast, flow, WritesAndResponds, EndsEarly}
 use Rattle.h2_engines.proofs.MachineLaws.{keeps_same, holds_same, holds_due, ends_linked}
 use Rattle.h2_engines.proofs.MachineLaws.{ends_going, writing_ends}
 use Rattle.h2_engines.proofs.MachineWrites.{written_links}

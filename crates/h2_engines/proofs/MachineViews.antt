@@ -1,15 +1,12 @@
 -- A server and a client as machines, and what stands for a link where there is none.
-use Rattle.h2_engines.proofs.Names.{◌≡◌, List, ℕ, [], ◌++◌, Bool, true, false, Some, None, Result}
-use Rattle.h2_engines.proofs.Names.{Ok, Err, refl, sym, ap, ◌∙◌, IfErr, Code, InternalError, Log}
-use Rattle.h2_engines.proofs.Names.{SentMessage, given_out, EndLog, LinkError, Fetcher, Responder}
-use Rattle.h2_engines.proofs.Names.{Traffic, traffic, IsLinked, CutsOffAtEnd, failures_at_end}
-use Rattle.h2_engines.proofs.Names.{failures_by, MachineState, MessageState, Serving, Fetching}
-use Rattle.h2_engines.proofs.Names.{EndsFor, lacks_memory, link_fails, has_stalled, stops_itself}
-use Rattle.h2_engines.proofs.Names.{cannot_reset, answer_refused, reset_refused, error_with}
-use Rattle.std.proofs.Common.{◌≢◌}
-use Rattle.h2_engines.specs.Linked.{IsLinkedInPart}
-use Rattle.h2_engines.specs.Machines.{has_failed, MeetsEnd, counts_no_more}
+use Rattle.h2_engines.proofs.Names
+use Names.{◌≡◌, List, ℕ, [], ◌++◌, Bool, true, false, Some, None, Result, Ok, Err, refl, sym, ap}
+use Names.{◌∙◌, Code, InternalError, Log, SentMessage, given_out, EndLog, LinkError, Fetcher}
+use Names.{Responder, Traffic, traffic, IsLinked, CutsOffAtEnd, failures_at_end, failures_by}
+use Names.{error_with, IfErr, ◌≢◌, IsLinkedInPart, MachineState, MessageState, Serving, Fetching}
+use Names.{EndsFor, lacks_memory, link_fails, has_stalled, stops_itself, reset_refused, has_failed}
 use Rattle.h2_engines.specs.WithoutLink.{UsesPiece}
+use Rattle.h2_engines.specs.Machines.{cannot_reset, answer_refused, MeetsEnd, counts_no_more}
 use Rattle.h2_engines.proofs.MachineTakes.{failures_err}
 use Rattle.h2_engines.proofs.ResponderEnds.{given_first}
 use Rattle.h2_link.specs.declared.error.LinkError.TheVariants as errors

@@ -1,6 +1,6 @@
 -- What waits is written, whatever has happened at the end of a machine and over its link.
 use Rattle.h2_engines.proofs.Names.{ℕ, List, Log, EndLog, EndRepresents, Traffic, HasGiven}
-use Rattle.h2_engines.proofs.Names.{IsLinked, MachineState, Course, Happens, IsWrittenOut}
+use Rattle.h2_engines.proofs.Names.{IsLinked, Happens, IsWrittenOut, MachineState, Course}
 use Rattle.h2_engines.proofs.ResponderWrites.{WritesOn}
 
 -- The link took all that the end has given out, in so many rounds, whatever had happened.

@@ -1,18 +1,17 @@
 -- Which part of a message is read next: a head comes first, and nothing after the end.
-use Rattle.h2_engines.proofs.Names.{◌≡◌, ℕ, ◌-◌, Bool, true, false, List, [], ◌∷◌, ◌++◌, length}
-use Rattle.h2_engines.proofs.Names.{Option, Some, None, refl, sym, ap, ◌∙◌, append_assoc, Field}
-use Rattle.h2_engines.proofs.Names.{Reads, Phase, AtHead, Part, FieldsPart, OctetsPart, IsReadable}
-use Rattle.h2_engines.proofs.Names.{place_after, final_parts, after_both}
-use Rattle.h2_message.specs.Reading.{ended, message_parts, compared_length, AreSoundInterims}
-use Rattle.h2_message.specs.Phases.{phase_after_head, phase_after, phase_after_all, ends_message}
-use Rattle.h2_message.specs.Phases.{place_at_head, place_in, is_short, phase_in_body}
-use Rattle.h2_message.specs.Phases.{phase_after_final, phase_after_data}
-use Rattle.std.proofs.Common.{◌≢◌, map as each}
+use Rattle.h2_engines.proofs.Names
+use Names.{◌≡◌, ℕ, ◌-◌, Bool, true, false, List, [], ◌∷◌, ◌++◌, length, Option, Some, None, refl}
+use Names.{sym, ap, ◌∙◌, append_assoc, Field, Reads, Phase, Part, FieldsPart, OctetsPart}
+use Names.{IsReadable, place_after, phase_after_head, phase_after, phase_after_all, ends_message}
+use Names.{place_at_head, place_in, ◌≢◌, after_both, after_none}
+use Rattle.h2_message.specs.declared.reading.Phase.TheVariants.{AtHead, InBody, AtEnd}
+use Rattle.h2_message.specs.Reading.{final_parts, ended, message_parts, compared_length}
+use Rattle.h2_message.specs.Reading.{AreSoundInterims}
+use Rattle.h2_message.specs.Phases.{is_short, phase_in_body, phase_after_final, phase_after_data}
+use Rattle.std.proofs.Common.{map as each}
 use Rattle.std.specs.Prelude.{if◌then◌else◌}
 use Rattle.h2_message.specs.declared.reading.Reads.TheVariants.{Requests}
-use Rattle.h2_message.specs.declared.reading.Phase.TheVariants.{InBody, AtEnd}
 use Rattle.h2_message.proofs.PhaseWhole.{not_readable}
-use Rattle.h2_message.proofs.PhaseSteps.{after_none}
 use Rattle.h2_message.specs.declared.reading.Place.TheVariants as places
 
 -- Whether no head comes next.

@@ -1,10 +1,10 @@
 -- The octets of a request's body, as they come, and what is kept of it.
 use Rattle.h2_engines.proofs.Names.{◌≡◌, ℕ, ◌+◌, ◌<◌, ◌≤◌, Bool, true, false, List, [], ◌∷◌, ◌++◌}
 use Rattle.h2_engines.proofs.Names.{length, refl, sym, ap, ◌∙◌, append_assoc, append-nil, arith}
-use Rattle.h2_engines.proofs.Names.{nat_lt, Field, method_of, path_of, Part, FieldsPart, OctetsPart}
-use Rattle.h2_engines.proofs.Names.{Request, IsRequest, IsLonger, body_room}
-use Rattle.h2_message.specs.Phases.{ends_message}
-use Rattle.h2_engines.specs.Answers.{body_in, body_of_parts, is_too_large_body, text_of}
+use Rattle.h2_engines.proofs.Names.{nat_lt, Field, Part, FieldsPart, OctetsPart, Request, IsRequest}
+use Rattle.h2_engines.proofs.Names.{IsLonger, body_room, ends_message, body_in, body_of_parts}
+use Rattle.h2_engines.proofs.Names.{is_too_large_body, text_of}
+use Rattle.h2_message.specs.Fields.{method_of, path_of}
 use Rattle.std.proofs.lemmas.Bool.{ltb-true, ltb-false, lt-ltb, le-ltb}
 use Rattle.std.proofs.lemmas.List.{length-append}
 

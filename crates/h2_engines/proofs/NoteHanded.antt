@@ -1,20 +1,12 @@
 -- What was handed out at a server is kept as it is noted.
-use Rattle.h2_engines.proofs.Names.{◌≡◌, ℕ, ◌≤◌, Bool, true, false, List, [], ◌∷◌, ◌++◌, length}
-use Rattle.h2_engines.proofs.Names.{Option, Some, None, refl, sym, ap, ◌∙◌, subst, inl, inr, arith}
-use Rattle.h2_engines.proofs.Names.{both_ways, cases_eq, Field, Server, Event, ResetEvent, Part}
-use Rattle.h2_engines.proofs.Names.{FieldsPart, OctetsPart, EndLog, EndTook, Handed, Passed}
-use Rattle.h2_engines.proofs.Names.{EndMayTake, message_for, parts_on, Next, Request, IsRequest}
-use Rattle.h2_engines.proofs.Names.{is_too_large_body, RequestState, has_not_come, comes}
-use Rattle.h2_engines.proofs.Names.{was_answered, was_given_up, KeepsRequests, KeepsOthers}
-use Rattle.h2_engines.proofs.Names.{IsToAnswer, request_at, ChangesAt, WasReportedReset}
-use Rattle.h2_engines.proofs.Names.{WasTooLarge}
-use Rattle.h2_message.specs.Phases.{ends_message}
-use Rattle.h2_engines.specs.Answers.{body_in}
-use Rattle.h2_engines.specs.PartialMessages.{KeepsNext, EndsRequest, AddsOctets, EndsKept}
-use Rattle.h2_engines.specs.PartialMessages.{NotesHanded, NotesTaken}
-use Rattle.std.proofs.Common.{◌≢◌}
-use Rattle.std.specs.Prelude.{◌⊎◌}
-use Rattle.h2_engines.specs.declared.request.Requests.{Requests}
+use Rattle.h2_engines.proofs.Names
+use Names.{◌≡◌, ℕ, ◌≤◌, Bool, true, false, List, [], ◌∷◌, ◌++◌, length, Option, Some, None, refl}
+use Names.{sym, ap, ◌∙◌, subst, inl, inr, arith, both_ways, cases_eq, Field, Server, Event}
+use Names.{ResetEvent, Part, FieldsPart, OctetsPart, EndLog, EndTook, Handed, Passed, EndMayTake}
+use Names.{message_for, parts_on, Next, Request, IsRequest, is_too_large_body, KeepsOthers}
+use Names.{WasReportedReset, WasTooLarge, ends_message, body_in, KeepsNext, EndsRequest, AddsOctets}
+use Names.{EndsKept, NotesHanded, NotesTaken, ◌≢◌, ◌⊎◌, Requests, RequestState, has_not_come, comes}
+use Names.{was_answered, was_given_up, KeepsRequests, IsToAnswer, request_at, ChangesAt}
 use Rattle.h2_engines.proofs.NoteBodies.{ends_last, is_large, is_not_large, not_large}
 use Rattle.h2_engines.proofs.NoteBodies.{too_large_more, no_room, has_room, longer_request}
 use Rattle.h2_engines.proofs.NoteBodies.{same_request, body_same}

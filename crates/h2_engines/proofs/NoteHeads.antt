@@ -1,9 +1,7 @@
 -- What is kept of a request of which the head has come.
 use Rattle.h2_engines.proofs.Names.{◌≡◌, List, [], ◌∷◌, ◌++◌, ℕ, length, sym, ap, ◌∙◌, append_assoc}
-use Rattle.h2_engines.proofs.Names.{append-nil, bytes_eq, Field, method_of, path_of, Request}
-use Rattle.h2_engines.proofs.Names.{IsRequest}
-use Rattle.h2_engines.specs.Answers.{body_in}
-use Rattle.std.specs.Prelude.{codes}
+use Rattle.h2_engines.proofs.Names.{append-nil, bytes_eq, Field, Request, IsRequest, body_in, codes}
+use Rattle.h2_message.specs.Fields.{method_of, path_of}
 
 -- Of its body nothing has come.
 nothing_in : (pre : List ℕ) → pre ≡ pre ++ body_in []

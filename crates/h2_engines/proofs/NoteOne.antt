@@ -1,7 +1,6 @@
 -- What is nothing of a request is noted as nothing.
 use Rattle.h2_engines.proofs.Names.{◌≡◌, ℕ, Bool, List, Bor, refl, Field, LentPart, event_handed}
-use Rattle.h2_engines.specs.PartialMessages.{NotesHanded}
-use Rattle.h2_engines.specs.declared.request.Requests.{Requests}
+use Rattle.h2_engines.proofs.Names.{NotesHanded, Requests}
 use Rattle.h2_ends.specs.declared.event.EndEvent.TheVariants as events
 use Rattle.h2_engines.specs.declared.request.Next.TheVariants as nexts
 

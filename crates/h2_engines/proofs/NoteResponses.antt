@@ -1,10 +1,8 @@
 -- What is noted of a response, part by part.
 use Rattle.h2_engines.proofs.Names.{◌≡◌, ℕ, Bool, false, List, [], ◌∷◌, Bor, refl, ap, ne_eqb}
 use Rattle.h2_engines.proofs.Names.{Field, Part, LentPart, event_handed, Coming, NotesPart}
-use Rattle.h2_engines.proofs.Names.{notes_nothing}
-use Rattle.h2_ends.specs.Ends.{part_on}
-use Rattle.std.proofs.Common.{if◌then◌else◌}
-use Rattle.std.specs.Prelude.{◌==◌, ◌≢◌}
+use Rattle.h2_engines.proofs.Names.{notes_nothing, part_on, if◌then◌else◌, ◌==◌}
+use Rattle.std.specs.Prelude.{◌≢◌}
 use Rattle.h2_ends.specs.declared.event.EndEvent.TheVariants as events
 
 -- A part of another stream is none of the response.

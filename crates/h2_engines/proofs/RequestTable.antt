@@ -1,13 +1,10 @@
 -- What is kept of requests after one of the entries was changed.
 use Rattle.h2_engines.proofs.Names.{◌≡◌, ℕ, Bool, true, List, Option, Some, None, ◌≤◌, length, ap}
-use Rattle.h2_engines.proofs.Names.{◌∙◌, inr, Request, Next, ChangesAt, request_at, IsLonger}
-use Rattle.h2_engines.proofs.Names.{body_room}
-use Rattle.h2_engines.specs.PartialMessages.{EndsKept, EndsRequest, AddsOctets}
-use Rattle.std.proofs.Common.{cond}
+use Rattle.h2_engines.proofs.Names.{◌∙◌, inr, Request, Next, IsLonger, body_room, EndsKept}
+use Rattle.h2_engines.proofs.Names.{EndsRequest, AddsOctets, cond, Requests, ChangesAt, request_at}
+use Rattle.std.specs.BTreeMap.{is_at}
 use Rattle.std.specs.Map.{lookup}
 use Rattle.std.specs.Ordering.{nat_cmp, is_eq}
-use Rattle.std.specs.BTreeMap.{is_at}
-use Rattle.h2_engines.specs.declared.request.Requests.{Requests}
 use Rattle.h2_ends.proofs.TableSteps.{test_other, test_same}
 use Rattle.h2_engines.specs.declared.request.Next.TheVariants as nexts
 

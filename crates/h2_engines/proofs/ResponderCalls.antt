@@ -1,14 +1,10 @@
 -- What the calls of a server that answer, reset and end say of it, by what its end has answered.
 use Rattle.h2_engines.proofs.Names.{◌≡◌, ℕ, Ok, Err, refl, sym, subst, Refusal, TooManyResets}
 use Rattle.h2_engines.proofs.Names.{Memory, ResetStream, Refused, LinkError, Message, SentMessage}
-use Rattle.h2_engines.proofs.Names.{End, EndRefusal, EndAnswers, error_after, calm, ServerAnswers}
-use Rattle.h2_engines.proofs.Names.{ServerResets, is_refused}
-use Rattle.h2_engines.specs.ServerSteps.{AnsweredSo, ResetSo}
-use Rattle.std.proofs.Common.{◌≢◌, ◌∙◌, ap, Result, IfOk, IfErr}
-use Rattle.h2_spec_log.specs.Acts.{Done}
-use Rattle.h2_conn.specs.Conn.{answer_by}
-use Rattle.h2_ends.specs.declared.refusal.EndRefusal.TheVariants.{Conn}
-use Rattle.h2_ends.specs.Represents.{EndResponds}
+use Rattle.h2_engines.proofs.Names.{End, EndRefusal, EndAnswers, error_after, calm, ResetSo, ◌∙◌}
+use Rattle.h2_engines.proofs.Names.{ap, Result, Done, answer_by, ◌≢◌, Conn, EndResponds}
+use Rattle.h2_engines.specs.ServerSteps.{ServerAnswers, ServerResets, is_refused, AnsweredSo}
+use Rattle.std.proofs.Common.{IfOk, IfErr}
 
 -- The answer is taken.
 pub answers_done : (old new : End) (id : ℕ) {message is : SentMessage} (count : ℕ)

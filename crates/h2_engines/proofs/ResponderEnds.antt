@@ -1,13 +1,10 @@
 -- What a call that puts output out, and writing its octets to a link, make of an end and of what
 -- has gone over the link.
-use Rattle.h2_engines.proofs.Names.{◌≡◌, ◌≤◌, ℕ, List, [], ◌++◌, length, take, drop, refl, sym, ap}
-use Rattle.h2_engines.proofs.Names.{◌∙◌, subst, append_assoc, append-nil, Appends, Appends-trans}
-use Rattle.h2_engines.proofs.Names.{Refusal, Values, Act, Answer, Refused, Log, Keeps-call}
-use Rattle.h2_engines.proofs.Names.{given_out, End, EndLog, end_with_log, EndRepresents, Traffic}
-use Rattle.h2_engines.proofs.Names.{HasGiven, IsLinked, IsSameOfMessages}
-use Rattle.h2_spec_log.specs.LogCalls.{with_call}
-use Rattle.std.proofs.lemmas.List.{take-append-drop}
-use Rattle.h2_engines.specs.Linked.{HasTakenFirst}
+use Rattle.h2_engines.proofs.Names
+use Names.{◌≡◌, ◌≤◌, ℕ, List, [], ◌++◌, length, take, drop, refl, sym, ap, ◌∙◌, subst, append_assoc}
+use Names.{append-nil, Appends, Appends-trans, Refusal, Values, Act, Answer, Refused, Log}
+use Names.{Keeps-call, given_out, End, EndLog, end_with_log, EndRepresents, Traffic, HasGiven}
+use Names.{IsLinked, IsSameOfMessages, with_call, HasTakenFirst, take-append-drop}
 use Rattle.h2_engines.proofs.TakeMessages.{keeps_by_call}
 
 -- Nothing has happened, or nothing twice.

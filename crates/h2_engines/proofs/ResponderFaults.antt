@@ -1,9 +1,7 @@
 -- How often a link has failed, and what it has taken, where writing to it has ended early.
 use Rattle.h2_engines.proofs.Names.{◌≡◌, ℕ, ◌+◌, List, Option, Err, ap, ◌∙◌, LinkError}
-use Rattle.h2_engines.proofs.Names.{failures_at_end, IsOfCall, EndsWriting}
+use Rattle.h2_engines.proofs.Names.{failures_at_end, IsOfCall, EndsWriting, ◌≢◌, IsOfServer}
 use Rattle.h2_link.specs.Links.{WritesAll, TakesFirst}
-use Rattle.std.proofs.Common.{◌≢◌}
-use Rattle.h2_engines.specs.Failures.{IsOfServer}
 use Rattle.h2_link.specs.declared.error.LinkError.TheVariants as errors
 
 -- The link took some first octets,

@@ -2,10 +2,9 @@
 use Rattle.h2_engines.proofs.Names.{◌≡◌, inl, inr, ℕ, ◌<◌, ◌≤◌, Bool, true, false, List, [], ◌∷◌}
 use Rattle.h2_engines.proofs.Names.{length, Option, Some, None, Ok, Err, refl, sym, ap, ◌∙◌, arith}
 use Rattle.h2_engines.proofs.Names.{both_ways, Code, Log, EndLog, and_parts, or_parts, eqb-true}
-use Rattle.h2_engines.proofs.Names.{false_from_ne_true, active}
-use Rattle.h2_engines.specs.ServerSteps.{FinishedSo}
-use Rattle.std.proofs.Common.{◌≢◌, if◌then◌else◌, ◌==◌, ◌||◌, is_some, zero, suc}
-use Rattle.h2_spec_log.specs.Log.{next_active, reader_next_live, reader_held}
+use Rattle.h2_engines.proofs.Names.{false_from_ne_true, active, FinishedSo, ◌≢◌, if◌then◌else◌}
+use Rattle.h2_engines.proofs.Names.{next_active, reader_next_live, reader_held}
+use Rattle.std.proofs.Common.{◌==◌, ◌||◌, is_some, zero, suc}
 use Rattle.h2_laws_log.proofs.NextStreams.{next_passes, next_found}
 use Rattle.h2_ends.proofs.PumpSteps.{zero_inactive}
 use Rattle.h2_link.specs.declared.error.LinkError.TheVariants as errors

@@ -1,14 +1,11 @@
 -- What a call of `take` has made of a piece, and of what is kept of requests.
-use Rattle.h2_engines.proofs.Names.{◌≡◌, ℕ, Bool, true, false, List, length, Option, Some, None, Ok}
-use Rattle.h2_engines.proofs.Names.{Err, refl, inl, inr, ResetEvent, ConnFault, End, LentPart}
-use Rattle.h2_engines.proofs.Names.{EndTaken, Handed, HeadHanded, BodyHanded, TrailersHanded}
-use Rattle.h2_engines.proofs.Names.{Passed, event_handed, EndTakes, Next, Request, ServerHears}
-use Rattle.h2_engines.proofs.Names.{error_with}
-use Rattle.h2_engines.specs.PartialMessages.{NotesHanded, NotesTaken, AddsOctets, EndsKept}
-use Rattle.h2_engines.specs.PartialMessages.{EndsRequest}
-use Rattle.h2_engines.specs.ServerSteps.{HeardSo, ErrsServing}
-use Rattle.std.proofs.Common.{◌≢◌, ◌⊎◌}
-use Rattle.h2_engines.specs.declared.request.Requests.{Requests}
+use Rattle.h2_engines.proofs.Names
+use Names.{◌≡◌, ℕ, Bool, true, false, List, length, Option, Some, None, Ok, Err, refl, inl, inr}
+use Names.{ResetEvent, ConnFault, End, LentPart, EndTaken, Handed, HeadHanded, BodyHanded}
+use Names.{TrailersHanded, Passed, event_handed, EndTakes, Next, Request, error_with, NotesHanded}
+use Names.{NotesTaken, AddsOctets, EndsKept, EndsRequest, ◌≢◌, Requests}
+use Rattle.h2_engines.specs.ServerSteps.{ServerHears, HeardSo, ErrsServing}
+use Rattle.std.proofs.Common.{◌⊎◌}
 use Rattle.h2_link.specs.declared.error.LinkError.TheVariants as errors
 use Rattle.h2_engines.specs.declared.request.Next.TheVariants as nexts
 

@@ -1,10 +1,9 @@
 -- What a call that puts output out makes of a log: its octets are the next ones of the output; and
 -- where it puts none out, none waits.
 use Rattle.h2_engines.proofs.Names.{◌≡◌, ◌≤◌, ℕ, ◌+◌, List, ◌++◌, length, take, drop, PutOut, Count}
-use Rattle.h2_engines.proofs.Names.{Log, given_out, gives_call}
-use Rattle.h2_spec_log.specs.LogCalls.{with_call}
+use Rattle.h2_engines.proofs.Names.{Log, given_out, with_call, call_failed}
+use Rattle.h2_laws_pair.proofs.LogOutput.{gives_call}
 use Rattle.h2_laws_pair.proofs.CarriedOctets.{given_more as gives_more}
-use Rattle.h2_laws_pair.proofs.StepCalls.{call_failed}
 
 -- The connection is as up as before, whether credit is returned first or not.
 pub put_out_failed : (log : Log) (count given : ℕ)

@@ -1,16 +1,11 @@
 -- What a call of an end that is refused makes of a connection over a link.
-use Rattle.h2_engines.proofs.Names.{◌≡◌, ℕ, Bool, true, false, length, Some, None, Err, refl, ap}
-use Rattle.h2_engines.proofs.Names.{subst, inl, inr, arith, SendFields, full_output, Log}
-use Rattle.h2_engines.proofs.Names.{SentMessage, is_head_alone, LinkError, End, EndRefusal, EndLog}
-use Rattle.h2_engines.proofs.Names.{error_after, Traffic, IsWrittenOut, ReleasesSome}
-use Rattle.h2_spec_log.specs.CallRules.{conditions, first_of}
-use Rattle.h2_spec_log.specs.Log.{output, waiting}
-use Rattle.h2_ends.specs.EndCalls.{MayRespond, RefusesMessage, refusal_of_message}
-use Rattle.h2_engines.specs.ServerSteps.{EndsAfter, EndsRelease}
-use Rattle.std.proofs.Common.{◌≢◌, if◌then◌else◌}
+use Rattle.h2_engines.proofs.Names
+use Names.{◌≡◌, ℕ, Bool, true, false, length, Some, None, Err, refl, ap, subst, inl, inr, arith}
+use Names.{SendFields, full_output, Log, SentMessage, is_head_alone, LinkError, End, EndRefusal}
+use Names.{EndLog, error_after, Traffic, IsWrittenOut, ReleasesSome, conditions, first_of, output}
+use Names.{waiting, MayRespond, EndsAfter, EndsRelease, EndReleases, ◌≢◌, if◌then◌else◌, nat_le}
+use Names.{RefusesMessage, refusal_of_message}
 use Rattle.std.proofs.lemmas.List.{length-take}
-use Rattle.std.specs.Prelude.{nat_le}
-use Rattle.h2_ends.specs.Represents.{EndReleases}
 use Rattle.h2_spec_log.specs.declared.refusal.Refusal.TheVariants as reasons
 use Rattle.h2_ends.specs.declared.refusal.EndRefusal.TheVariants as refusals
 

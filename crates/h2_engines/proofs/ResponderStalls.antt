@@ -3,11 +3,7 @@ use Rattle.h2_engines.proofs.Names.{◌≡◌, ℕ, ◌∷◌, None, Result, Ok,
 use Rattle.h2_engines.proofs.Names.{PutOut, Refused, Log, MayAnswer, accepts, lacks, LinkError}
 use Rattle.h2_engines.proofs.Names.{StallsAtNoProgress, EndRefusal, EndLog, call_calls}
 use Rattle.h2_engines.proofs.Names.{end_with_log, with_call, error_after, Traffic, StallsWriting}
-use Rattle.h2_spec_log.specs.CallRules.{conditions, first_of}
-use Rattle.h2_ends.specs.EndCalls.{MayPump}
-use Rattle.h2_engines.specs.ServerSteps.{EndsAfter}
-use Rattle.std.proofs.Common.{◌≢◌}
-use Rattle.h2_spec_log.specs.LogCalls.{refuses, fails}
+use Rattle.h2_engines.proofs.Names.{conditions, first_of, MayPump, EndsAfter, ◌≢◌, refuses, fails}
 use Rattle.h2_spec_log.specs.declared.refusal.Refusal.TheVariants as reasons
 use Rattle.h2_link.specs.declared.error.LinkError.TheVariants as errors
 use Rattle.h2_ends.specs.declared.refusal.EndRefusal.TheVariants as refusals

@@ -1,15 +1,12 @@
 -- What has happened at an end and over a link since its output began to be written.
-use Rattle.h2_engines.proofs.Names.{◌≡◌, ◌≤◌, ◌<◌, ℕ, ◌+◌, ◌-◌, ◌^◌, false, List, [], ◌++◌, length, take}
-use Rattle.h2_engines.proofs.Names.{drop, ap, sym, refl, ◌∙◌, append-nil, Ok, log_view, given_out, Log}
-use Rattle.h2_engines.proofs.Names.{Err, subst, inr, arith, Appends, Refusal, Values, Answer}
-use Rattle.h2_engines.proofs.Names.{PutOut, Count, Refused, MayAnswer, Keeps-call}
-use Rattle.h2_engines.proofs.Names.{LinkError, StallsAtNoProgress, End, EndLog, end_with_log}
-use Rattle.h2_engines.proofs.Names.{EndRepresents, EndAnswers, with_call, error_after, Traffic}
-use Rattle.h2_engines.proofs.Names.{IsLinked, WritesOut, HasSentAll, IsSameOfMessages}
-use Rattle.h2_engines.proofs.Names.{refused_failed}
-use Rattle.h2_spec_log.specs.Acts.{IsTypedAct}
-use Rattle.std.proofs.Common.{◌≢◌, Result, IsOk}
-use Rattle.h2_ends.specs.declared.refusal.EndRefusal.TheVariants.{Conn}
+use Rattle.h2_engines.proofs.Names
+use Names.{◌≡◌, ◌≤◌, ◌<◌, ℕ, ◌+◌, ◌-◌, ◌^◌, false, List, [], ◌++◌, length, take, drop, ap, sym}
+use Names.{refl, ◌∙◌, append-nil, Ok, log_view, given_out, Log, Err, subst, inr, arith, Appends}
+use Names.{Refusal, Values, Answer, PutOut, Count, Refused, MayAnswer, Keeps-call, LinkError}
+use Names.{StallsAtNoProgress, End, EndLog, end_with_log, EndRepresents, EndAnswers, with_call}
+use Names.{error_after, Traffic, IsLinked, WritesOut, HasSentAll, IsSameOfMessages, refused_failed}
+use Names.{IsTypedAct, Result, waiting, output, ConnRepresents, answer_by, ◌≢◌, IsOk, Conn}
+use Names.{drop-take, returns_before_put_out}
 use Rattle.h2_engines.proofs.ResponderOutput.{put_out_failed, put_out_octets, given_more}
 use Rattle.h2_engines.proofs.ResponderEnds.{same_itself, same_twice, same_by_call, given_within}
 use Rattle.h2_engines.proofs.ResponderEnds.{gives_as, linked_by, takes_first, given_first}
@@ -18,10 +15,6 @@ use Rattle.h2_engines.proofs.SentAll.{put_sent}
 use Rattle.h2_engines.proofs.ResponderStalls.{stalls_by_link, stalls_no_more}
 use Rattle.h2_engines.proofs.TurnsPassed.{turns_of_call}
 use Rattle.h2_engines.proofs.WithoutLinkOutput.{all_given, consumes_all, no_credit_due}
-use Rattle.h2_spec_log.specs.CallRules.{returns_before_put_out}
-use Rattle.h2_spec_log.specs.Log.{waiting, output}
-use Rattle.h2_conn.specs.Conn.{ConnRepresents, answer_by}
-use Rattle.std.proofs.lemmas.List.{drop-take}
 use Rattle.h2_link.specs.declared.error.LinkError.TheVariants as errors
 
 -- Where this may have happened at an end, it may also have put output out.
@@ -116,130 +109,137 @@ writes_nothing P {end} represents happened linked =
       sent = λ was. was;
     }
 
--- Output is made ready in a round, by which nothing is put out.
-pub writes_ready : (P : EndLog → Type 0) → MayPutOut P
-    → {values : Values} {start now : Traffic} {before : EndLog} {old : End} (new : End)
-    {unused : List ℕ} {rounds : ℕ} → EndAnswers old (PutOut 0) (Count 0) new
-    → WritesOn P values start now before old unused rounds
-    → WritesOn P values start now before new unused (rounds + 1)
-unfolding IsTypedAct
-writes_ready P may {values} {now = now} new answers so =
-    let end = so.after in
-    let after = with_call end.log (PutOut 0) (Count 0) in
-    let put = answers values end so.represents in
-    let none : given_out after ≡ given_out end.log =
-    given_more end.log 0 0 (given_within so.represents)
-    ∙ ap (λ (more : List ℕ). given_out end.log ++ more) (drop-take end.log.given 0 after.written)
-    ∙ append-nil (given_out end.log) in
-    record {
-      after = end_with_log end after;
-      happened = may end 0 (Count 0) so.happened (omega arith) put.0;
-      represents = put.1;
-      same = same_twice so.same (same_by_call end _ _ (put_out_failed end.log 0 0));
-      linked = record {
+module _ (P : EndLog → Type 0) (may : MayPutOut P) {values : Values} {start middle : Traffic}
+    {before : EndLog} {old : End} {unused : List ℕ} {rounds : ℕ}
+    (so : WritesOn P values start middle before old unused rounds) where
+  -- the log once output is put out
+  abbrev put_log : ℕ → Answer → Log
+  put_log count answer = with_call so.after.log (PutOut count) answer
+
+  -- Output is made ready in a round, by which nothing is put out.
+  pub writes_ready : (new : End) → EndAnswers old (PutOut 0) (Count 0) new
+      → WritesOn P values start middle before new unused (rounds + 1)
+  unfolding IsTypedAct
+  writes_ready new answers =
+      let end = so.after in
+      let put = answers values end so.represents in
+      let none : given_out (put_log 0 (Count 0)) ≡ given_out end.log =
+      given_more end.log 0 0 (given_within so.represents) ∙ ap
+      (λ (more : List ℕ). given_out end.log ++ more)
+      (drop-take end.log.given 0 (put_log 0 (Count 0)).written)
+      ∙ append-nil (given_out end.log) in
+      record {
+        after = end_with_log end (put_log 0 (Count 0));
+        happened = may end 0 (Count 0) so.happened (omega arith) put.0;
+        represents = put.1;
+        same = same_twice so.same (same_by_call end _ _ (put_out_failed end.log 0 0));
+        linked = record {
+          given = rw ((Keeps-call end.log _ _).input) so.linked.given;
+          taken = rw none so.linked.taken;
+        };
+        turns = omega (arith, so.turns, turns_of_call end.log (PutOut 0) (Count 0));
+        sent = put_on end 0 (Count 0) so.represents put.0 so.sent;
+      }
+
+  module _ (now : Traffic) (new : End) (count given : ℕ) {octets : List ℕ} (typed : count < 2 ^ 64)
+      (answers : EndAnswers old (PutOut count) (Count given) new)
+      (gives : GivesNext old count given octets) (none : Appends middle.given now.given []) where
+    -- The next octets are put out, and the link takes all of them.
+    writes_more : Appends middle.taken now.taken octets
+        → WritesOn P values start now before new unused rounds
+    unfolding IsTypedAct
+    writes_more took =
+        let end = so.after in
+        let put = answers values end so.represents in
+        record {
+          after = end_with_log end (put_log count (Count given));
+          happened = may end count (Count given) so.happened typed put.0;
+          represents = put.1;
+          same = same_twice so.same (same_by_call end _ _ (put_out_failed end.log count given));
+          linked = linked_by now _ (put_out_octets end.log count given)
+              (Keeps-call end.log _ _).input
+              (given_more end.log count given (given_within so.represents)) none
+              (subst (Appends middle.taken now.taken) (gives values end so.represents) took)
+              so.linked;
+          turns = omega (arith, so.turns, turns_of_call end.log (PutOut count) (Count given));
+          sent = put_on end count (Count given) so.represents put.0 so.sent;
+        }
+
+    -- Or only some of them.
+    writes_first : (some : ℕ) (error : LinkError)
+        → Appends middle.taken now.taken (take some octets) → error ≢ errors.Memory
+        → StallsAtNoProgress {A = Unit {0}} (Err error) now.stalled
+        → WritesOut P values start now before new unused (Err error)
+    unfolding IsTypedAct
+    writes_first some error took known stalled =
+        let end = so.after in
+        let after = put_log count (Count given) in
+        let put = answers values end so.represents in
+        record {
+          after = end_with_log end after;
+          happened = may end count (Count given) so.happened typed put.0;
+          represents = put.1;
+          same = same_twice so.same (same_by_call end _ _ (put_out_failed end.log count given));
+          given = gives_as start middle now end.log after unused (Keeps-call end.log _ _).input none
+              so.linked.given;
+          taken = takes_first start middle now end.log after (put_out_octets end.log count given)
+              some (given_more end.log count given (given_within so.represents))
+              (subst (λ (one : List ℕ). Appends middle.taken now.taken (take some one))
+              (gives values end so.represents) took) so.linked.taken;
+          turns = omega (arith, so.turns, turns_of_call end.log (PutOut count) (Count given));
+          stalls = stalls_by_link now (end_with_log end after) error known stalled;
+          sent = put_on end count (Count given) so.represents put.0 so.sent;
+        }
+
+  -- Where that is refused, what was given out was written.
+  pub writes_refused : (new : End) (count : ℕ) (refusal : Refusal) {error : LinkError}
+      → count < 2 ^ 64 → EndAnswers old (PutOut count) (Refused refusal) new
+      → error ≡ error_after (Conn refusal)
+      → WritesOut P values start middle before new unused (Err error)
+  unfolding IsTypedAct
+  writes_refused new count refusal typed answers is =
+      let end = so.after in
+      let put = answers values end so.represents in
+      record {
+        after = end_with_log end (put_log count (Refused refusal));
+        happened = may end count (Refused refusal) so.happened typed put.0;
+        represents = put.1;
+        same = same_twice so.same
+            (same_by_call end _ _ (refused_failed end.log (PutOut count) refusal));
         given = rw ((Keeps-call end.log _ _).input) so.linked.given;
-        taken = rw none so.linked.taken;
-      };
-      turns = omega (arith, so.turns, turns_of_call end.log (PutOut 0) (Count 0));
-      sent = put_on end 0 (Count 0) so.represents put.0 so.sent;
-    }
+        taken = refused_first start middle end.log (PutOut count) refusal so.linked.taken;
+        turns = omega (arith, so.turns, turns_of_call end.log (PutOut count) (Refused refusal));
+        stalls = stalls_no_more middle end count refusal put.0 is;
+        sent = put_on end count (Refused refusal) so.represents put.0 so.sent;
+      }
 
--- The next octets are put out, and the link takes all of them.
-writes_more : (P : EndLog → Type 0) → MayPutOut P
-    → {values : Values} {start middle : Traffic} (now : Traffic) {before : EndLog} {old : End}
-    (new : End) {unused : List ℕ} {rounds : ℕ} (count given : ℕ) {octets : List ℕ} → count < 2 ^ 64
-    → EndAnswers old (PutOut count) (Count given) new → GivesNext old count given octets
-    → Appends middle.given now.given [] → Appends middle.taken now.taken octets
-    → WritesOn P values start middle before old unused rounds
-    → WritesOn P values start now before new unused rounds
-unfolding IsTypedAct
-writes_more P may {values} {middle} now new count given {octets} typed answers gives none took so =
-    let end = so.after in
-    let after = with_call end.log (PutOut count) (Count given) in
-    let put = answers values end so.represents in
-    let within = given_within so.represents in
-    let same : octets ≡ put_out_octets end.log count given =
-    gives values end so.represents in
-    record {
-      after = end_with_log end after;
-      happened = may end count (Count given) so.happened typed put.0;
-      represents = put.1;
-      same = same_twice so.same (same_by_call end _ _ (put_out_failed end.log count given));
-      linked = linked_by now after (put_out_octets end.log count given)
-          (Keeps-call end.log _ _).input (given_more end.log count given within) none
-          (subst (Appends middle.taken now.taken) same took) so.linked;
-      turns = omega (arith, so.turns, turns_of_call end.log (PutOut count) (Count given));
-      sent = put_on end count (Count given) so.represents put.0 so.sent;
-    }
+module _ (P : EndLog → Type 0) (may : MayPutOut P) {values : Values} {start middle : Traffic}
+    (now : Traffic) {before : EndLog} {old : End} (ready new : End) {unused : List ℕ} {rounds : ℕ}
+    {octets : List ℕ} {waits : ℕ} (so : WritesOn P values start middle before old unused rounds)
+    (made : EndAnswers old (PutOut 0) (Count 0) ready) (lends : LendsAll ready octets waits)
+    (none : Appends middle.given now.given []) where
+  -- So what is lent once output was made ready is written, and consumed;
+  pub writes_lent : (given : ℕ) → EndAnswers ready (PutOut most) (Count given) new
+      → Appends middle.taken now.taken octets
+      → WritesOn P values start now before new unused (rounds + 1)
+  writes_lent given answers took =
+      writes_more P may (writes_ready P may so ready made) now new most given most_typed answers
+      (lent_next given lends answers) none took
 
--- Or only some of them.
-writes_first : (P : EndLog → Type 0) → MayPutOut P
-    → {values : Values} {start middle : Traffic} (now : Traffic) {before : EndLog} {old : End}
-    (new : End) {unused : List ℕ} {rounds : ℕ} (count given : ℕ) (octets : List ℕ) (some : ℕ)
-    (error : LinkError) → count < 2 ^ 64 → EndAnswers old (PutOut count) (Count given) new
-    → GivesNext old count given octets → Appends middle.given now.given []
-    → Appends middle.taken now.taken (take some octets) → error ≢ errors.Memory
-    → StallsAtNoProgress {A = Unit {0}} (Err error) now.stalled
-    → WritesOn P values start middle before old unused rounds
-    → WritesOut P values start now before new unused (Err error)
-unfolding IsTypedAct
-writes_first P may {values} {start} {middle} now new {unused} count given octets some error typed
-    answers gives none took known stalled so =
-    let end = so.after in
-    let after = with_call end.log (PutOut count) (Count given) in
-    let put = answers values end so.represents in
-    let within = given_within so.represents in
-    let same : octets ≡ put_out_octets end.log count given =
-    gives values end so.represents in
-    record {
-      after = end_with_log end after;
-      happened = may end count (Count given) so.happened typed put.0;
-      represents = put.1;
-      same = same_twice so.same (same_by_call end _ _ (put_out_failed end.log count given));
-      given = gives_as start middle now end.log after unused (Keeps-call end.log _ _).input none
-          so.linked.given;
-      taken = takes_first start middle now end.log after (put_out_octets end.log count given) some
-          (given_more end.log count given within)
-          (subst (λ (one : List ℕ). Appends middle.taken now.taken (take some one)) same took)
-          so.linked.taken;
-      turns = omega (arith, so.turns, turns_of_call end.log (PutOut count) (Count given));
-      stalls = stalls_by_link now (end_with_log end after) error known stalled;
-      sent = put_on end count (Count given) so.represents put.0 so.sent;
-    }
-
--- So what is lent once output was made ready is written, and consumed;
-pub writes_lent : (P : EndLog → Type 0) → MayPutOut P
-    → {values : Values} {start middle : Traffic} (now : Traffic) {before : EndLog}
-    {old : End} (ready new : End) {unused : List ℕ} {rounds : ℕ} {octets : List ℕ} {waits : ℕ}
-    (given : ℕ) → EndAnswers old (PutOut 0) (Count 0) ready → LendsAll ready octets waits
-    → EndAnswers ready (PutOut most) (Count given) new
-    → Appends middle.given now.given [] → Appends middle.taken now.taken octets
-    → WritesOn P values start middle before old unused rounds
-    → WritesOn P values start now before new unused (rounds + 1)
-writes_lent P may now ready new given made lends answers none took so =
-    writes_more P may now new most given most_typed answers (lent_next given lends answers) none
-    took (writes_ready P may ready made so)
-
--- or only the first of it is written.
-pub writes_lent_first : (P : EndLog → Type 0) → MayPutOut P
-    → {values : Values} {start middle : Traffic} (now : Traffic) {before : EndLog}
-    {old : End} (ready new : End) {unused : List ℕ} {rounds : ℕ} {octets : List ℕ} {waits : ℕ}
-    (result : Result ℕ Refusal) (some : ℕ) (error : LinkError)
-    → EndAnswers old (PutOut 0) (Count 0) ready → LendsAll ready octets waits
-    → EndAnswers ready (PutOut most) (answer_by (λ given. Count given) result) new
-    → ((values : Values) (log : Log) → ConnRepresents values ready.conn log
-    → returns_before_put_out (log_view log) ≡ false → IsOk result)
-    → Appends middle.given now.given [] → Appends middle.taken now.taken (take some octets)
-    → error ≢ errors.Memory → StallsAtNoProgress {A = Unit {0}} (Err error) now.stalled
-    → WritesOn P values start middle before old unused rounds
-    → WritesOut P values start now before new unused (Err error)
-writes_lent_first P may {values} now ready new {octets = octets} result some error made lends answers
-    free none took known stalled so =
-    let there = writes_ready P may ready made so in
-    let (given, is) = is_consumed values there.after result lends free there.represents in
-    let consumed = rw is at answers in
-    writes_first P may now new most given octets some error most_typed consumed
-    (lent_next given lends consumed) none took known stalled there
+  -- or only the first of it is written.
+  pub writes_lent_first : (result : Result ℕ Refusal) (some : ℕ) (error : LinkError)
+      → EndAnswers ready (PutOut most) (answer_by (λ given. Count given) result) new
+      → ((values : Values) (log : Log) → ConnRepresents values ready.conn log
+      → returns_before_put_out (log_view log) ≡ false → IsOk result)
+      → Appends middle.taken now.taken (take some octets) → error ≢ errors.Memory
+      → StallsAtNoProgress {A = Unit {0}} (Err error) now.stalled
+      → WritesOut P values start now before new unused (Err error)
+  writes_lent_first result some error answers free took known stalled =
+      let there = writes_ready P may so ready made in
+      let (given, is) = is_consumed values there.after result lends free there.represents in
+      let consumed = rw is at answers in
+      writes_first P may there now new most given most_typed consumed
+      (lent_next given lends consumed) none some error took known stalled
 
 -- Where none waits then, all of the output was written.
 pub writes_all : (P : EndLog → Type 0) {values : Values} {start now : Traffic} {before : EndLog}
@@ -270,31 +270,6 @@ writes_all P {values} {start} {now} rounds done none kept so =
       turns = omega (arith, so.turns);
       stalls = tt;
       sent = so.sent;
-    }
-
--- Where that is refused, what was given out was written.
-pub writes_refused : (P : EndLog → Type 0) → MayPutOut P
-    → {values : Values} {start now : Traffic} {before : EndLog} {old : End} (new : End)
-    {unused : List ℕ} {rounds : ℕ} (count : ℕ) (refusal : Refusal) {error : LinkError}
-    → count < 2 ^ 64 → EndAnswers old (PutOut count) (Refused refusal) new
-    → error ≡ error_after (Conn refusal) → WritesOn P values start now before old unused rounds
-    → WritesOut P values start now before new unused (Err error)
-unfolding IsTypedAct
-writes_refused P may {values} {start} {now} new {unused} count refusal typed answers is so =
-    let end = so.after in
-    let after = with_call end.log (PutOut count) (Refused refusal) in
-    let put = answers values end so.represents in
-    record {
-      after = end_with_log end after;
-      happened = may end count (Refused refusal) so.happened typed put.0;
-      represents = put.1;
-      same = same_twice so.same
-          (same_by_call end _ _ (refused_failed end.log (PutOut count) refusal));
-      given = rw ((Keeps-call end.log _ _).input) so.linked.given;
-      taken = refused_first start now end.log (PutOut count) refusal so.linked.taken;
-      turns = omega (arith, so.turns, turns_of_call end.log (PutOut count) (Refused refusal));
-      stalls = stalls_no_more now end count refusal put.0 is;
-      sent = put_on end count (Refused refusal) so.represents put.0 so.sent;
     }
 
 -- So it is where nothing more is tried, since there were as many rounds as may be.

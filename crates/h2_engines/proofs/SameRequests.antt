@@ -1,13 +1,10 @@
 -- What is kept of requests says the same of an end at which nothing of a request has happened.
-use Rattle.h2_engines.proofs.Names.{◌≡◌, ℕ, List, Option, sym, ap, ◌∙◌, subst, inl, inr, Contains}
-use Rattle.h2_engines.proofs.Names.{ResetEvent, EndLog, Handed, Passed, ends_message, message_for}
-use Rattle.h2_engines.proofs.Names.{parts_on, Next, Request, answer_to, is_too_large_body}
-use Rattle.h2_engines.proofs.Names.{RequestState, has_not_come, comes, was_answered, was_given_up}
-use Rattle.h2_engines.proofs.Names.{KeepsRequests, KeepsOthers, IsToAnswer, WasReportedReset}
-use Rattle.h2_engines.proofs.Names.{WasTooLarge, WasAnswered, IsSameOfMessages}
-use Rattle.h2_engines.specs.PartialMessages.{KeepsNext}
-use Rattle.std.specs.Prelude.{◌⊎◌}
-use Rattle.h2_engines.specs.declared.request.Requests.{Requests}
+use Rattle.h2_engines.proofs.Names
+use Names.{◌≡◌, ℕ, List, Option, sym, ap, ◌∙◌, subst, inl, inr, Contains, ResetEvent, EndLog}
+use Names.{Handed, Passed, ends_message, message_for, parts_on, Next, Request, answer_to}
+use Names.{is_too_large_body, KeepsOthers, WasReportedReset, WasTooLarge, WasAnswered}
+use Names.{IsSameOfMessages, KeepsNext, ◌⊎◌, Requests, RequestState, has_not_come, comes}
+use Names.{was_answered, was_given_up, KeepsRequests, IsToAnswer}
 use Rattle.h2_engines.proofs.TakeMessages.{KeepsCalls}
 use Rattle.h2_engines.specs.declared.request.Next.TheVariants as nexts
 

@@ -1,28 +1,22 @@
 -- Once all was given back and sent, and the output isn't full, nothing is owed and nothing more can
 -- be sent; and it stays so while output is put out.
-use Rattle.h2_engines.proofs.Names.{◌≡◌, ◌≤◌, ◌<◌, ℕ, false, List, [], ◌∷◌, Option, None, Ok, sym}
-use Rattle.h2_engines.proofs.Names.{ap, subst, inl, both_ways, drop, inr, refl, arith, length}
-use Rattle.h2_engines.proofs.Names.{full_output, Refusal, Values, Answer, PutOut, MayAnswer, Log}
-use Rattle.h2_engines.proofs.Names.{Result, EndRefusal, EndLog, end_with_log, Pumps, pumps_no_more}
-use Rattle.h2_engines.proofs.Names.{pumps_data, pumps_trailers, data_refused, trailers_refused}
-use Rattle.h2_engines.proofs.Names.{Releases, releases_one, releases_refused, and_parts, cases_Bool}
-use Rattle.h2_engines.proofs.Names.{Role, IsLog, called_one, active, owed, with_call, Token}
-use Rattle.h2_engines.proofs.Names.{OctetToken, EndToken, HasSentAll, HasSent, sends}
-use Rattle.h2_spec_log.specs.Log.{output, waiting}
-use Rattle.h2_laws_pair.specs.Tokens.{tokens_of_call, FieldsToken}
-use Rattle.h2_ends.specs.EndCalls.{MayPump, MayReleaseAll, releases_no_more, IsStuckOn}
-use Rattle.std.proofs.Common.{length-append}
-use Rattle.std.proofs.lemmas.Bool.{and_from}
+use Rattle.h2_engines.proofs.Names
+use Names.{◌≡◌, ◌≤◌, ◌<◌, ℕ, false, List, [], ◌∷◌, Option, None, Ok, sym, ap, subst, inl, both_ways}
+use Names.{drop, inr, refl, arith, length, full_output, Refusal, Values, Answer, PutOut, MayAnswer}
+use Names.{Log, Result, EndRefusal, EndLog, end_with_log, Pumps, pumps_no_more, pumps_trailers}
+use Names.{trailers_refused, releases_one, releases_refused, and_parts, Role, active, owed}
+use Names.{with_call, Token, HasSentAll, output, waiting, MayPump, MayReleaseAll, releases_no_more}
+use Names.{length-append, no_room_by_call, tokens_said, call_adds_none, pumps_data, data_refused}
+use Names.{Releases, IsStuckOn, cases_Bool, and_from, sends, OctetToken, EndToken, tokens_of_call}
+use Rattle.h2_laws_pair.specs.Tokens.{FieldsToken}
+use Rattle.h2_spec_log.specs.Histories.{IsLog, called_one}
+use Rattle.h2_engines.specs.WithoutLink.{HasSent, has_failed}
 use Rattle.h2_laws_end.specs.Over.{has_room}
 use Rattle.h2_laws_end.proofs.ActivityOwed.{none_owed_by_call}
 use Rattle.h2_laws_end.proofs.OverCalls.{items_no_block}
 use Rattle.h2_laws_end.proofs.OverLists.{IsInactive, inactive_sent}
-use Rattle.h2_laws_end.proofs.OverRoom.{no_room_by_call}
 use Rattle.h2_laws_end.proofs.OverSteps.{call_keeps}
 use Rattle.h2_laws_pair.specs.Quiet.{NoneCouldGo}
-use Rattle.h2_ends.specs.Ends.{tokens_said}
-use Rattle.h2_ends.proofs.EndTokens.{call_adds_none}
-use Rattle.h2_engines.specs.WithoutLink.{has_failed}
 use Rattle.h2_engines.proofs.ServeLinkLogs.{StaysOn, pumped_stays}
 
 -- Output that is put out gives nothing room,

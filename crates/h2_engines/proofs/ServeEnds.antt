@@ -1,32 +1,21 @@
 -- How a server ends, over a link and without one, by how it was driven.
-use Rattle.h2_engines.proofs.Names.{◌≡◌, ℕ, Bool, true, false, List, [], ◌++◌, Some, None, Result}
-use Rattle.h2_engines.proofs.Names.{Ok, Err, refl, sym, ap, ◌∙◌, inl, inr, IfErr, Appends-nil, Code}
-use Rattle.h2_engines.proofs.Names.{InternalError, Server, Values, AreInRange, EndLog, new_end_log}
-use Rattle.h2_engines.proofs.Names.{LinkError, both_ways, Token, tokens_sent, Responder}
-use Rattle.h2_engines.proofs.Names.{CutsOffAtEnd, Traffic, IsLinked, HasTakenAll, Course, IsDriven}
-use Rattle.h2_engines.proofs.Names.{EndsFor, lacks_memory, link_fails, has_stalled, stops_itself}
-use Rattle.h2_engines.proofs.Names.{cannot_reset, answer_refused, reset_refused, MachineTakesPiece}
-use Rattle.h2_engines.proofs.Names.{Drives, HasReturnedAll, HasSentAll, error_with, IsServingAlone}
-use Rattle.h2_engines.proofs.Names.{none_sent}
-use Rattle.h2_spec_log.specs.LogCalls.{opened}
-use Rattle.h2_spec_log.specs.LogSteps.{with_sent}
-use Rattle.h2_ends.specs.Ends.{tokens_given}
-use Rattle.h2_engines.specs.Machines.{Keeps, TakenSo, DrivenSo, has_failed, counts_no_more}
-use Rattle.h2_engines.specs.Machines.{ServerStops, MayEnd}
-use Rattle.h2_engines.specs.PartialMessages.{KeepsNext}
-use Rattle.h2_engines.specs.ServerSteps.{FinishedSo, ServerFinishes}
-use Rattle.std.specs.Prelude.{OnOk}
-use Rattle.h2_engines.specs.Failures.{EndsServing}
-use Rattle.h2_engines.specs.ServerHistories.{begins}
-use Rattle.h2_engines.specs.Serves.{Serves, SendsAll, EndsServingSo}
+use Rattle.h2_engines.proofs.Names
+use Names.{◌≡◌, ℕ, Bool, true, false, List, [], ◌++◌, Some, None, Result, Ok, Err, refl, sym, ap}
+use Names.{◌∙◌, inl, inr, Appends-nil, Code, InternalError, Server, Values, AreInRange, EndLog}
+use Names.{new_end_log, LinkError, both_ways, Token, tokens_sent, Responder, CutsOffAtEnd, Traffic}
+use Names.{IsLinked, HasTakenAll, HasReturnedAll, HasSentAll, error_with, opened, with_sent}
+use Names.{tokens_given, KeepsNext, FinishedSo, IfErr, OnOk, EndsServing, begins, Serves, SendsAll}
+use Names.{EndsServingSo, owed_inactive, Course, IsDriven, EndsFor, lacks_memory, link_fails}
+use Names.{has_stalled, stops_itself, reset_refused, MachineTakesPiece, Drives, Keeps, TakenSo}
+use Names.{DrivenSo, has_failed, ServerFinishes, MayEnd, IsServingAlone}
+use Rattle.h2_engines.specs.Machines.{cannot_reset, answer_refused, counts_no_more, ServerStops}
 use Rattle.h2_engines.specs.WithoutLink.{StopsAlone, TakesInSo, ServerTakesIn}
+use Rattle.h2_ends.proofs.ControlStart.{none_sent, none_given as none_accepted}
 use Rattle.h2_engines.proofs.AnswerRequests.{kept_all}
 use Rattle.h2_engines.proofs.AnswersSent.{sent_whole}
 use Rattle.h2_engines.proofs.MachineViews.{server_held, no_message, begun, carried, links_alone}
 use Rattle.h2_engines.proofs.MachineViews.{uses_alone, all_in_part, goes_for, not_cut}
-use Rattle.h2_laws_end.proofs.OverRoom.{owed_inactive}
 use Rattle.h2_laws_machine.proofs.NewEnd.{new_is_active}
-use Rattle.h2_ends.proofs.ControlStart.{none_given as none_accepted}
 use Rattle.h2_link.specs.declared.error.LinkError.TheVariants as errors
 use Rattle.h2_engines.specs.declared.request.Next.TheVariants as nexts
 use Rattle.h2_engines.specs.Serves as stops
@@ -78,7 +67,7 @@ new_calls : (values : Values) → (opened Server values).calls ≡ []
 unfolding opened with_sent
 new_calls values = refl
 
-new_up : (values : Values) → (opened Server values).failed ≡ None
+pub new_up : (values : Values) → (opened Server values).failed ≡ None
 unfolding opened with_sent
 new_up values = refl
 
@@ -145,45 +134,11 @@ ends_so {start} {now} responder {end} (has_failed code failed is taken) =
 ends_so responder (has_stalled is stalled) = rw is (stops.stalls stalled)
 ends_so {start} {now} responder (stops_itself why) = stops_so start now why
 
--- So a connection is served: it is driven,
+-- the course of a connection that is served
 abbrev course_of : Values → Traffic → Course
 course_of values start = record { values = values; message = no_message; start = start }
 
-drives_new : {values : Values} (before now : Traffic) {old : Responder} (new : Responder)
-    (result : Result Bool LinkError) → IsServingAlone values old (new_end_log Server values)
-    → Drives before now (server_held old) (server_held new) result
-    → (after : EndLog) × DrivenSo (course_of values before) now (server_held new) after result
-drives_new {values} before now new result is drives =
-    drives (course_of values before) (new_end_log Server values)
-    (serving_driven is (new_links values before)) (new_sent_all values)
-
--- and ends early,
-pub drive_serves : {values : Values} (before now : Traffic) {old : Responder} (new : Responder)
-    (error : LinkError) → IsServingAlone values old (new_end_log Server values)
-    → Drives before now (server_held old) (server_held new) (Err error)
-    → Serves values before now (Err error)
-unfolding DrivenSo
-drive_serves before now new error is drives =
-    let so = drives_new before now new (Err error) is drives in
-    record {
-      end = so.0;
-      responding = so.1.happened;
-      sends = so.1.represents.streams.sent;
-      linked = record { unused = so.1.unused; given = so.1.given; taken = so.1.taken };
-      so = ends_so new so.1.why;
-    }
-
--- never where its input has ended then,
-pub drive_not_cut : {values : Values} (before now : Traffic) {old : Responder} (new : Responder)
-    (error : LinkError) (ended : Bool) → IsServingAlone values old (new_end_log Server values)
-    → Drives before now (server_held old) (server_held new) (Err error)
-    → CutsOffAtEnd {A = ℕ} (Err error) ended
-unfolding DrivenSo
-drive_not_cut before now new error ended is drives =
-    let so = drives_new before now new (Err error) is drives in
-    not_cut ℕ error ended (goes_for (server_held new).kept so.1.why)
-
--- and one whose input has ended.
+-- One whose input has ended ends so.
 finished_so : {start now : Traffic} {responder : Responder} {values : Values} {end : EndLog}
     (result : Result ℕ LinkError) → IsServingAlone values responder end
     → IsLinked start now end.log [] → HasTakenAll start now end.log → HasReturnedAll end.log
@@ -211,36 +166,68 @@ finished_so {responder} (Err error) is linked taken returned all so =
       all,
     )
 
-pub finish_serves : {values : Values} (before now : Traffic) {old : Responder} (new : Responder)
-    (whole : Bool) (result : Result ℕ LinkError)
-    → IsServingAlone values old (new_end_log Server values)
-    → Drives before now (server_held old) (server_held new) (Ok whole)
-    → ServerFinishes new.server.end new.answered result → Serves values before now result
-unfolding DrivenSo
-finish_serves before now new true result is drives finishes =
-    let so = drives_new before now new (Ok true) is drives in
-    absurd (never_whole new so.1.1)
-finish_serves {values} before now new false result is drives finishes =
-    let so = drives_new before now new (Ok false) is drives in
-    let driven = so.1.0 in
-    record {
-      end = so.0;
-      responding = driven.happened;
-      sends = driven.represents.streams.sent;
-      linked = all_in_part driven.linked;
-      so = finished_so result (driven_serving new driven) driven.linked so.1.1 so.1.2
-          so.1.3 (finishes values so.0 driven.represents);
-    }
+module _ {values : Values} (before now : Traffic) {old : Responder} (new : Responder)
+    (is : IsServingAlone values old (new_end_log Server values)) where
+  -- So a connection is served: it is driven,
+  drives_new : (result : Result Bool LinkError)
+      → Drives before now (server_held old) (server_held new) result
+      → (after : EndLog) × DrivenSo (course_of values before) now (server_held new) after result
+  drives_new result drives =
+      drives (course_of values before) (new_end_log Server values)
+      (serving_driven is (new_links values before)) (new_sent_all values)
 
--- The input has ended then, and no call of the link has failed.
-pub finish_ended : {values : Values} (before now : Traffic) {old : Responder} (new : Responder)
-    (whole : Bool) → IsServingAlone values old (new_end_log Server values)
-    → Drives before now (server_held old) (server_held new) (Ok whole) → whole ≡ false
-unfolding DrivenSo
-finish_ended before now new true is drives =
-    let so = drives_new before now new (Ok true) is drives in
-    absurd (never_whole new so.1.1)
-finish_ended before now new false is drives = refl
+  -- and ends early,
+  pub drive_serves : (error : LinkError)
+      → Drives before now (server_held old) (server_held new) (Err error)
+      → Serves values before now (Err error)
+  unfolding DrivenSo
+  drive_serves error drives =
+      let so = drives_new (Err error) drives in
+      record {
+        end = so.0;
+        responding = so.1.happened;
+        sends = so.1.represents.streams.sent;
+        linked = record { unused = so.1.unused; given = so.1.given; taken = so.1.taken };
+        so = ends_so new so.1.why;
+      }
+
+  -- never where its input has ended then,
+  pub drive_not_cut : (error : LinkError) (ended : Bool)
+      → Drives before now (server_held old) (server_held new) (Err error)
+      → CutsOffAtEnd {A = ℕ} (Err error) ended
+  unfolding DrivenSo
+  drive_not_cut error ended drives =
+      let so = drives_new (Err error) drives in
+      not_cut ℕ error ended (goes_for (server_held new).kept so.1.why)
+
+  -- and one whose input has ended.
+  pub finish_serves : (whole : Bool) (result : Result ℕ LinkError)
+      → Drives before now (server_held old) (server_held new) (Ok whole)
+      → ServerFinishes new.server.end new.answered result → Serves values before now result
+  unfolding DrivenSo
+  finish_serves true result drives finishes =
+      let so = drives_new (Ok true) drives in
+      absurd (never_whole new so.1.1)
+  finish_serves false result drives finishes =
+      let so = drives_new (Ok false) drives in
+      let driven = so.1.0 in
+      record {
+        end = so.0;
+        responding = driven.happened;
+        sends = driven.represents.streams.sent;
+        linked = all_in_part driven.linked;
+        so = finished_so result (driven_serving new driven) driven.linked so.1.1 so.1.2
+            so.1.3 (finishes values so.0 driven.represents);
+      }
+
+  -- The input has ended then, and no call of the link has failed.
+  pub finish_ended : (whole : Bool)
+      → Drives before now (server_held old) (server_held new) (Ok whole) → whole ≡ false
+  unfolding DrivenSo
+  finish_ended true drives =
+      let so = drives_new (Ok true) drives in
+      absurd (never_whole new so.1.1)
+  finish_ended false drives = refl
 
 -- A server without a link ends so.
 code_stops : (end : EndLog) (code : Code) → end.log.failed ≡ Some code

@@ -1,16 +1,13 @@
 -- What calls and octets that were taken leave of the input and the output of a log.
-use Rattle.h2_engines.proofs.Names.{◌≡◌, ◌≤◌, ℕ, List, length, refl, sym, ◌∙◌, subst, Act, Answer}
-use Rattle.h2_engines.proofs.Names.{Refuse, PutOut, OutOfMemory, Refused, Log, Keeps-call}
-use Rattle.h2_engines.proofs.Names.{TakeAnswer, MayTake, ends_no_frame, ends_frame, meets_fault}
-use Rattle.h2_engines.proofs.Names.{given_out, gives_call, call_given, Result, EndRefusal, EndLog}
-use Rattle.h2_engines.proofs.Names.{MayPump, MayReleaseAll, Traffic, IsLinked, IsSameOfMessages}
-use Rattle.h2_engines.proofs.Names.{items_failed}
-use Rattle.h2_spec_log.specs.LogCalls.{with_call}
+use Rattle.h2_engines.proofs.Names
+use Names.{◌≡◌, ◌≤◌, ℕ, List, length, refl, sym, ◌∙◌, subst, Act, Answer, Refuse, PutOut}
+use Names.{OutOfMemory, Refused, Log, Keeps-call, given_out, call_given, Result, EndRefusal, EndLog}
+use Names.{MayPump, MayReleaseAll, Traffic, IsLinked, IsSameOfMessages, items_failed, with_call}
+use Names.{◌≢◌, TakeAnswer, MayTake, ends_no_frame, ends_frame, meets_fault, reports_unprocessed}
 use Rattle.h2_laws_machine.specs.Machines.{log_after, MachineStep}
-use Rattle.std.proofs.Common.{◌≢◌}
-use Rattle.h2_laws_end.specs.Takes.{reports_unprocessed, has_failed, runs_out_of_memory}
+use Rattle.h2_laws_pair.proofs.LogOutput.{gives_call, Adds, adds_reads}
+use Rattle.h2_laws_end.specs.Takes.{has_failed, runs_out_of_memory}
 use Rattle.h2_laws_pair.proofs.CarriedOctets.{given_same}
-use Rattle.h2_laws_pair.proofs.LogOutput.{Adds, adds_reads}
 use Rattle.h2_laws_pair.proofs.StepsOfLogs.{step_adds, IsNoCall}
 use Rattle.h2_engines.proofs.LinkInvariants.{IsQuiet, CallsKeep, sends_quietly, pumped_keeps}
 use Rattle.h2_engines.proofs.LinkInvariants.{released_keeps}

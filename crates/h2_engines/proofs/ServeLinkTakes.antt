@@ -1,9 +1,9 @@
 -- A call of `take` uses the first octets of a piece, and gives nothing out.
 use Rattle.h2_engines.proofs.Names.{◌≡◌, ◌≤◌, ℕ, List, ◌++◌, length, drop, Option, None, sym, ap}
 use Rattle.h2_engines.proofs.Names.{◌∙◌, subst, append_assoc, Appends, Answer, Refuse, Event, Log}
-use Rattle.h2_engines.proofs.Names.{Keeps-call, MayTake, Took, Failed, TakeAnswer, log_after_take}
-use Rattle.h2_engines.proofs.Names.{EndLog, EndAnswer, EndTook, EndFailed, EndMayTake}
-use Rattle.h2_engines.proofs.Names.{drop-append_seam, with_call, Traffic, HasGiven, IsLinked}
+use Rattle.h2_engines.proofs.Names.{Keeps-call, log_after_take, EndLog, EndAnswer, EndTook}
+use Rattle.h2_engines.proofs.Names.{EndFailed, EndMayTake, drop-append_seam, with_call, Traffic}
+use Rattle.h2_engines.proofs.Names.{HasGiven, IsLinked, MayTake, Took, Failed, TakeAnswer}
 use Rattle.h2_engines.proofs.ServeLinkLogs.{Writes, writes_twice, writes_given, call_writes}
 use Rattle.h2_engines.proofs.ServeLinkLogs.{take_writes}
 use Rattle.h2_engines.proofs.TakeMessages.{SaysOf, taken_says, holds_called}

@@ -1,30 +1,19 @@
 -- What a server that is driven makes of octets, and of what is due.
-use Rattle.h2_engines.proofs.Names.{◌≡◌, ◌≤◌, ◌<◌, ℕ, ◌+◌, ◌-◌, ◌^◌, Bool, true, false, List, ◌∷◌}
-use Rattle.h2_engines.proofs.Names.{length, Some, None, Result, Ok, Err, refl, sym, ap, ◌∙◌, subst}
-use Rattle.h2_engines.proofs.Names.{inl, arith, IfErr, Refusal, Answer, SendFields, ResetStream}
-use Rattle.h2_engines.proofs.Names.{Done, Refused, Log, log_view, MayAnswer, accepts, lacks}
-use Rattle.h2_engines.proofs.Names.{is_head_alone, first_in, SentMessage, EndRefusal, EndLog}
-use Rattle.h2_engines.proofs.Names.{EndAnswer, EndTook, EndFailed, EndMayTake, end_with_log}
-use Rattle.h2_engines.proofs.Names.{LinkError, waiting, parts_on, Heard, Request, Responder}
-use Rattle.h2_engines.proofs.Names.{answer_with, is_too_large_body, IsOfCall, KeepsRequests}
-use Rattle.h2_engines.proofs.Names.{IsToAnswer, Traffic, Serving, Course, EndsFor, HearsNoMore}
-use Rattle.h2_engines.proofs.Names.{gives_up, Hears, Responds, IsResponding, calm, ServerHears}
-use Rattle.h2_engines.proofs.Names.{ServerAnswers, no_memory, is_refused, ServerResets}
-use Rattle.h2_spec_log.specs.Acts.{IsTypedAct}
-use Rattle.h2_spec_log.specs.CallRules.{conditions, first_of, refusal_of}
-use Rattle.h2_spec_log.specs.LogCalls.{with_call, refuses, fails}
-use Rattle.h2_ends.specs.EndCalls.{MayRespond}
-use Rattle.h2_engines.specs.PartialMessages.{KeepsNext}
-use Rattle.h2_engines.specs.Machines.{Keeps, RespondedSo}
-use Rattle.h2_engines.specs.ServerSteps.{HeardSo, ErrsServing, AnsweredSo, ResetSo, counted_answer}
-use Rattle.h2_engines.specs.ServerSteps.{NotAnswered, counts_no_more}
-use Rattle.std.proofs.Common.{if◌then◌else◌}
-use Rattle.std.proofs.lemmas.Bool.{leb-true}
-use Rattle.h2_spec_log.specs.Limits.{max_resets}
-use Rattle.h2_spec_log.specs.Log.{resets_written}
-use Rattle.h2_engines.specs.declared.request.Requests.{Requests}
+use Rattle.h2_engines.proofs.Names
+use Names.{◌≡◌, ◌≤◌, ◌<◌, ℕ, ◌+◌, ◌-◌, ◌^◌, Bool, true, false, List, ◌∷◌, length, Some, None}
+use Names.{Result, Ok, Err, refl, sym, ap, ◌∙◌, subst, inl, arith, Refusal, Answer, SendFields}
+use Names.{ResetStream, Done, Refused, Log, log_view, MayAnswer, accepts, lacks, is_head_alone}
+use Names.{first_in, SentMessage, EndRefusal, EndLog, EndAnswer, EndTook, EndFailed, EndMayTake}
+use Names.{end_with_log, LinkError, waiting, parts_on, Heard, Request, Responder, answer_with}
+use Names.{is_too_large_body, IsOfCall, Traffic, IsResponding, calm, IsTypedAct, conditions}
+use Names.{first_of, with_call, MayRespond, KeepsNext, ResetSo, IfErr, refuses, fails}
+use Names.{if◌then◌else◌, leb-true, max_resets, Requests, CannotReset, KeepsRequests, IsToAnswer}
+use Names.{Serving, Course, EndsFor, HearsNoMore, gives_up, Hears, Responds, Keeps, RespondedSo}
+use Names.{resets_written, refusal_of}
+use Rattle.h2_engines.specs.ServerSteps.{ServerAnswers, is_refused, ServerResets, AnsweredSo}
+use Rattle.h2_engines.specs.ServerSteps.{ServerHears, HeardSo, ErrsServing, NotAnswered, no_memory}
+use Rattle.h2_engines.specs.ServerSteps.{counted_answer, counts_no_more}
 use Rattle.h2_engines.specs.ServerHistories.{takes, answers, resets}
-use Rattle.h2_engines.specs.Serves.{CannotReset}
 use Rattle.h2_engines.proofs.AnswerRequests.{kept_to_answer, kept_answered, kept_reset}
 use Rattle.h2_engines.proofs.MachineHears.{hears_on, hears_last}
 use Rattle.h2_engines.proofs.MachineLaws.{ends_linked}

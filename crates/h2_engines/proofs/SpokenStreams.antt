@@ -1,36 +1,29 @@
 -- A stream on which an end has sent something is active as long as the connection is up, unless
 -- this end has sent the end of its message, or was asked to reset the stream, or has reported that
 -- it was reset, or isn't processed.
-use Rattle.h2_engines.proofs.Names.{◌≡◌, ℕ, Bool, true, false, List, [], ◌∷◌, ◌++◌, Option, None}
-use Rattle.h2_engines.proofs.Names.{Some, refl, sym, ap, ◌∙◌, subst, inl, inr, take, eq-eqb}
-use Rattle.h2_engines.proofs.Names.{both_ways, Contains, Code, Log, Values, Act, Answer, SendFields}
-use Rattle.h2_engines.proofs.Names.{ResetStream, Refuse, Count, Done, Event, ResetEvent, MayAnswer}
-use Rattle.h2_engines.proofs.Names.{log_view, call_calls, first_in, later_in, and_parts, or_parts}
-use Rattle.h2_engines.proofs.Names.{eqb-true, false_from_ne_true, cases_Bool, alone, Role, Open}
-use Rattle.h2_engines.proofs.Names.{SendData, Number, IsLog, called_one, Decoded, active, with_call}
-use Rattle.h2_engines.proofs.Names.{grows_call, Token, OctetToken, EndToken, tokens_sent, WasAsked}
-use Rattle.h2_engines.proofs.Names.{none_sent}
-use Rattle.h2_spec_log.specs.LogCalls.{opened}
-use Rattle.h2_spec_log.specs.LogSteps.{used, with_sent, took_frame, took_part, took_none}
-use Rattle.h2_spec_log.specs.LogSteps.{took_fault, took_out_of_memory}
+use Rattle.h2_engines.proofs.Names
+use Names.{◌≡◌, ℕ, Bool, true, false, List, [], ◌∷◌, ◌++◌, Option, None, Some, refl, sym, ap, ◌∙◌}
+use Names.{subst, inl, inr, take, eq-eqb, both_ways, Contains, Code, Log, Values, Act, Answer}
+use Names.{SendFields, ResetStream, Refuse, Count, Done, Event, ResetEvent, MayAnswer, log_view}
+use Names.{call_calls, first_in, later_in, and_parts, or_parts, eqb-true, false_from_ne_true, alone}
+use Names.{Role, Open, SendData, Number, active, with_call, grows_call, Token, tokens_sent}
+use Names.{WasAsked, opened, used, with_sent, ◌≢◌, if◌then◌else◌, ◌==◌, ◌⊎◌, list_any, Reset, Item}
+use Names.{call_tokens, cases_Bool, and_right, or_from, or_left, or_right, list_any-append}
+use Names.{next_unprocessed, data_active, OctetToken, EndToken, tokens_of_call, end_tokens}
 use Rattle.h2_laws_machine.specs.Machines.{log_after}
-use Rattle.h2_laws_pair.specs.Tokens.{tokens_of_call, end_tokens}
-use Rattle.std.proofs.Common.{◌≢◌, if◌then◌else◌, map as each}
-use Rattle.std.specs.Prelude.{◌==◌, ◌⊎◌}
-use Rattle.std.specs.List.{list_any}
-use Rattle.std.proofs.lemmas.Bool.{and_right, or_from, or_left, or_right}
+use Rattle.h2_spec_log.specs.LogSteps.{took_none, took_fault, took_frame, took_part}
+use Rattle.h2_spec_log.specs.LogSteps.{took_out_of_memory}
+use Rattle.h2_laws_pair.proofs.HeardMessages.{is_end, ended_tokens}
+use Rattle.h2_spec_log.specs.Histories.{IsLog, called_one, begins, took_some, took_one, met_fault}
+use Rattle.h2_spec_log.specs.Histories.{ran_out_of_memory, reported_one}
+use Rattle.h2_spec_log.specs.ItemRules.{Decoded, replies_to, verdict_of, is_stream_fault}
+use Rattle.h2_ends.proofs.ControlStart.{none_sent}
+use Rattle.std.proofs.Common.{map as each}
 use Rattle.std.proofs.lemmas.List.Elements.{Contains-append_left, Contains-append_right}
-use Rattle.std.proofs.lemmas.List.Folds.{list_any-append}
 use Rattle.h2_frame.specs.Codes.{code_number}
-use Rattle.h2_frame.specs.Frames.{Reset}
-use Rattle.h2_block.specs.Grouping.{Item}
 use Rattle.h2_spec_log.specs.Events.{UnprocessedEvent, reports_unprocessed}
-use Rattle.h2_spec_log.specs.Histories.{begins, took_some, took_one, met_fault, ran_out_of_memory}
-use Rattle.h2_spec_log.specs.Histories.{reported_one}
 use Rattle.h2_spec_log.specs.ItemEffects.{events_of}
-use Rattle.h2_spec_log.specs.ItemRules.{replies_to, verdict_of, is_stream_fault}
 use Rattle.h2_spec_log.specs.Items.{ends, resets, stream_of_item}
-use Rattle.h2_spec_log.specs.Log.{next_unprocessed}
 use Rattle.h2_spec_log.specs.States.{is_active}
 use Rattle.h2_spec_log.specs.Verdicts.{Verdict, ConnectionFault, StreamFault, NoEvent, Reported}
 use Rattle.h2_spec_log.specs.View.{View}
@@ -52,10 +45,7 @@ use Rattle.h2_laws_end.proofs.OverNumbers.{fields_active}
 use Rattle.h2_laws_end.proofs.Sendings.{log_sent}
 use Rattle.h2_laws_pair.proofs.HeardCalls.{step_calls}
 use Rattle.h2_laws_pair.proofs.HeardLists.{blocks_of_lists}
-use Rattle.h2_laws_pair.proofs.HeardMessages.{is_end, ended_tokens}
 use Rattle.h2_laws_pair.proofs.HeardSent.{tokens_carried}
-use Rattle.h2_ends.proofs.EndTokens.{call_tokens}
-use Rattle.h2_ends.proofs.PumpWindows.{data_active}
 use Rattle.h2_laws_machine.specs.Machines as steps
 
 -- What is known of a stream on which something was sent.

@@ -1,14 +1,13 @@
 -- A call of `take` of an end is one of its connection, after which a stream may have been refused:
 -- what it says of its octets, its messages and its calls.
-use Rattle.h2_engines.proofs.Names.{◌≡◌, ℕ, Bool, true, List, ◌∷◌, Option, Some, None, refl, sym}
-use Rattle.h2_engines.proofs.Names.{subst, inl, inr, Contains, TakeAnswer, MayTake, Took, Failed}
-use Rattle.h2_engines.proofs.Names.{log_after_take, EndMayTake, hands_nothing, passes, hands_out}
-use Rattle.h2_engines.proofs.Names.{EndLog, Handed, EndAnswer, EndTook, EndFailed, Passed, Code}
-use Rattle.h2_engines.proofs.Names.{Act, Answer, Refuse, Event, ResetEvent, Log, Part, later_in}
-use Rattle.h2_engines.proofs.Names.{call_calls, ◌∙◌, with_call, handed_as, parts_on, reads_on}
-use Rattle.h2_engines.proofs.Names.{refusal_fails, take_calls, memory_fails, grows_call}
-use Rattle.std.specs.Prelude.{◌⊎◌}
-use Rattle.h2_ends.specs.EndTakes.{runs_out_of_memory, IsReadableWith, fails, refuses}
+use Rattle.h2_engines.proofs.Names
+use Names.{◌≡◌, ℕ, Bool, true, List, ◌∷◌, Option, Some, None, refl, sym, subst, inl, inr, Contains}
+use Names.{log_after_take, EndMayTake, EndLog, Handed, EndAnswer, EndTook, EndFailed, Passed, Code}
+use Names.{Act, Answer, Refuse, Event, ResetEvent, Log, Part, later_in, call_calls, ◌∙◌, with_call}
+use Names.{handed_as, parts_on, reads_on, take_calls, grows_call, ◌⊎◌, memory_fails, TakeAnswer}
+use Names.{MayTake, Took, Failed}
+use Rattle.h2_ends.specs.EndTakes.{refusal_fails, runs_out_of_memory, hands_nothing, passes}
+use Rattle.h2_ends.specs.EndTakes.{hands_out, IsReadableWith, fails, refuses}
 use Rattle.h2_laws_pair.proofs.StepUnprocessed.{role_by_take as take_role}
 
 -- What was called stays called.

@@ -1,13 +1,10 @@
 -- What a server's end hands out of a request, and where.
-use Rattle.h2_engines.proofs.Names.{◌≡◌, ℕ, Bool, true, false, List, [], ◌∷◌, ◌++◌, refl, sym, ap}
-use Rattle.h2_engines.proofs.Names.{◌∙◌, subst, append-nil, ne_eqb, eq-eqb, Contains, Field, Server}
-use Rattle.h2_engines.proofs.Names.{Event, ResetEvent, Reads, Place, Part, FieldsPart, OctetsPart}
-use Rattle.h2_engines.proofs.Names.{IsReadable, first_in, later_in, EndLog, Handed, HeadHanded}
-use Rattle.h2_engines.proofs.Names.{BodyHanded, TrailersHanded, Passed, ends_message, message_for}
-use Rattle.h2_engines.proofs.Names.{WasReportedReset}
-use Rattle.h2_ends.specs.Ends.{handed_as, handed_at, part_on, parts_on}
-use Rattle.std.proofs.Common.{◌≢◌, if◌then◌else◌}
-use Rattle.std.specs.Prelude.{◌==◌}
+use Rattle.h2_engines.proofs.Names
+use Names.{◌≡◌, ℕ, Bool, true, false, List, [], ◌∷◌, ◌++◌, refl, sym, ap, ◌∙◌, subst, append-nil}
+use Names.{ne_eqb, eq-eqb, Contains, Field, Server, Event, ResetEvent, Reads, Place, Part}
+use Names.{FieldsPart, OctetsPart, IsReadable, first_in, later_in, EndLog, Handed, HeadHanded}
+use Names.{BodyHanded, TrailersHanded, Passed, ends_message, message_for, WasReportedReset}
+use Names.{handed_as, handed_at, part_on, parts_on, ◌≢◌, if◌then◌else◌, ◌==◌}
 use Rattle.h2_message.specs.declared.reading.Reads.TheVariants.{Requests}
 use Rattle.h2_engines.proofs.NextParts.{place_first, place_later, request_begun, no_octets_first}
 use Rattle.h2_engines.proofs.NextParts.{goes_with}

@@ -1,9 +1,7 @@
 -- A frame that is read undoes no turn.
 use Rattle.h2_engines.proofs.Names.{◌≤◌, ◌<◌, ℕ, [], ◌∷◌, length, Option, arith, Event, Log}
-use Rattle.h2_engines.proofs.Names.{Decoded}
-use Rattle.std.proofs.Common.{length-append, map}
-use Rattle.h2_frame.specs.Frames.{Frame}
-use Rattle.h2_spec_log.specs.Acts.{Happened}
+use Rattle.h2_engines.proofs.Names.{length-append, map, Frame, Happened}
+use Rattle.h2_spec_log.specs.ItemRules.{Decoded}
 use Rattle.h2_spec_log.specs.LogSteps.{with_reported, with_unreturned, with_frame}
 use Rattle.h2_laws_log.proofs.GrowthBySteps.{HoldsOfReads, holds_unreturned, holds_frame}
 

@@ -1,16 +1,11 @@
 -- How many turns have passed at an end after each act: a call or a take is one at least.
-use Rattle.h2_engines.proofs.Names.{◌≤◌, ◌<◌, ℕ, ◌+◌, Bool, List, [], length, Option, Result, ap}
-use Rattle.h2_engines.proofs.Names.{arith, Act, Answer, Refuse, Event, Log, MayTake, Took}
-use Rattle.h2_engines.proofs.Names.{ends_no_frame, ends_frame, meets_fault, SentMessage, EndRefusal}
-use Rattle.h2_engines.proofs.Names.{EndLog, Handed, EndAnswer, EndTook, EndMayTake, TakeAnswer}
-use Rattle.h2_engines.proofs.Names.{subst, is_head_alone, SendFields, Done, with_call, MayPump}
-use Rattle.h2_engines.proofs.Names.{MayReleaseAll}
-use Rattle.h2_spec_log.specs.LogSteps.{used}
-use Rattle.h2_ends.specs.EndCalls.{MayRespond}
-use Rattle.std.proofs.Common.{length-append}
-use Rattle.h2_laws_end.specs.Takes.{reports_unprocessed, has_failed}
-use Rattle.h2_laws_end.specs.Takes.{runs_out_of_memory as lacks_memory}
-use Rattle.h2_spec_log.specs.Acts.{Turn}
+use Rattle.h2_engines.proofs.Names
+use Names.{◌≤◌, ◌<◌, ℕ, ◌+◌, Bool, List, [], length, Option, Result, ap, arith, Act, Answer, Refuse}
+use Names.{Event, Log, SentMessage, EndRefusal, EndLog, Handed, EndAnswer, EndTook, EndMayTake}
+use Names.{subst, is_head_alone, SendFields, Done, with_call, MayPump, MayReleaseAll, used}
+use Names.{MayRespond, length-append, Turn, MayTake, Took, ends_no_frame, ends_frame, meets_fault}
+use Names.{TakeAnswer, reports_unprocessed}
+use Rattle.h2_laws_end.specs.Takes.{has_failed, runs_out_of_memory as lacks_memory}
 use Rattle.h2_laws_end.proofs.TurnsAdded.{Adds, adds_call, adds_take}
 use Rattle.h2_engines.proofs.LinkInvariants.{CallsKeep, AnswersKeep, pumped_keeps, released_keeps}
 use Rattle.h2_engines.proofs.LinkInvariants.{responded_keeps}

@@ -1,17 +1,13 @@
 -- How many octets a call puts out of the output of a log: as many as were asked for, or all.
-use Rattle.h2_engines.proofs.Names.{◌≡◌, ◌≤◌, ◌<◌, ℕ, ◌+◌, List, [], ◌∷◌, ◌++◌, length, take, drop}
-use Rattle.h2_engines.proofs.Names.{refl, sym, ap, ◌∙◌, arith, append-nil, PutOut, Count, None}
-use Rattle.h2_engines.proofs.Names.{false, inl, inr, nat_lt, full_output, Log, MayAnswer, accepts}
-use Rattle.h2_engines.proofs.Names.{lacks, log_view, given_out, alone, PutsOutNext}
-use Rattle.h2_spec_log.specs.Log.{waiting, output, max_payload_sent}
-use Rattle.h2_spec_log.specs.LogSteps.{with_sent}
-use Rattle.h2_spec_log.specs.LogCalls.{with_call, refuses, fails, called, before_put_out}
-use Rattle.std.proofs.Common.{if◌then◌else◌, length-append, min, ltb-false}
+use Rattle.h2_engines.proofs.Names
+use Names.{◌≡◌, ◌≤◌, ◌<◌, ℕ, ◌+◌, List, [], ◌∷◌, ◌++◌, length, take, drop, refl, sym, ap, ◌∙◌}
+use Names.{arith, append-nil, PutOut, Count, None, false, inl, inr, nat_lt, full_output, Log}
+use Names.{MayAnswer, accepts, lacks, log_view, given_out, alone, PutsOutNext, waiting, output}
+use Names.{with_sent, with_call, both_ways, refuses, fails, if◌then◌else◌, length-append, ◌&&◌}
+use Names.{and_cases, WindowUpdate, returns_before_put_out, update_size, max_payload_sent}
+use Rattle.h2_spec_log.specs.LogCalls.{called, before_put_out}
 use Rattle.std.proofs.lemmas.List.{take_all, length-drop, length-take}
-use Rattle.h2_spec_log.specs.CallRules.{returns_before_put_out, update_size}
-use Rattle.std.specs.Prelude.{◌&&◌}
-use Rattle.std.proofs.lemmas.Bool.{and_cases, both_ways}
-use Rattle.h2_frame.specs.Frames.{WindowUpdate}
+use Rattle.std.proofs.Common.{min, ltb-false}
 use Rattle.h2_spec_log.specs.Items.{encoding_of_items}
 use Rattle.h2_laws_log.proofs.ItemSizes.{size-update}
 use Rattle.h2_laws_log.proofs.CreditCases.{put_out_cases}

@@ -1,15 +1,10 @@
 -- What an end without a link puts out, and that a server and a client go on then.
-use Rattle.h2_engines.proofs.Names.{◌≡◌, ◌<◌, ℕ, ◌^◌, List, ◌++◌, Result, Ok, Err, refl, ap, ◌∙◌}
-use Rattle.h2_engines.proofs.Names.{Refusal, Values, PutOut, Count, Refused, Log, GivesOut}
-use Rattle.h2_engines.proofs.Names.{SentMessage, given_out, EndLog, end_with_log, EndAnswers}
-use Rattle.h2_engines.proofs.Names.{LinkError, Fetcher, Next, Responder, error_after, MessageState}
-use Rattle.h2_engines.proofs.Names.{Serving, Fetching, MachineState, Course, IsSameOfMessages}
-use Rattle.h2_engines.proofs.Names.{SendsWaiting, PutsOutNext, refused_failed}
-use Rattle.h2_spec_log.specs.Acts.{IsTypedAct}
-use Rattle.h2_spec_log.specs.LogCalls.{with_call}
-use Rattle.h2_engines.specs.Machines.{Keeps, PutsWaiting}
-use Rattle.h2_engines.specs.PartialMessages.{KeepsNext}
-use Rattle.h2_ends.specs.declared.refusal.EndRefusal.TheVariants.{Conn}
+use Rattle.h2_engines.proofs.Names
+use Names.{◌≡◌, ◌<◌, ℕ, ◌^◌, List, ◌++◌, Result, Ok, Err, refl, ap, ◌∙◌, Refusal, Values, PutOut}
+use Names.{Count, Refused, Log, SentMessage, given_out, EndLog, end_with_log, EndAnswers, LinkError}
+use Names.{Fetcher, Next, Responder, error_after, IsSameOfMessages, SendsWaiting, PutsOutNext}
+use Names.{refused_failed, IsTypedAct, with_call, KeepsNext, Conn, MessageState, Serving, Fetching}
+use Names.{MachineState, Course, Keeps, GivesOut, PutsWaiting}
 use Rattle.h2_engines.specs.WithoutLink.{PutOutSo, ServerPutsOut, ClientPutsOut}
 use Rattle.h2_engines.proofs.MachineLaws.{puts_at, keeps_same}
 use Rattle.h2_engines.proofs.MachineViews.{server_held, client_held, no_message, begun}

@@ -1,18 +1,14 @@
 -- What is given back and sent before output is put out, and what that leaves.
-use Rattle.h2_engines.proofs.Names.{EndRepresents, ◌≡◌, ◌≤◌, ℕ, true, false, length, Option, Some}
-use Rattle.h2_engines.proofs.Names.{None, Result, Ok, Err, refl, sym, ap, ◌∙◌, inl, inr, arith, Code}
-use Rattle.h2_engines.proofs.Names.{error_after}
-use Rattle.h2_engines.proofs.Names.{Values, Log, given_out, End, EndRefusal, EndLog, LinkError}
-use Rattle.h2_engines.proofs.Names.{ConnRepresents, MayPump, MessageState, Course, Happens}
-use Rattle.h2_engines.proofs.Names.{IsSameOfMessages, ReleasesSome, HasSent, sends, SendsWaiting}
-use Rattle.h2_ends.specs.EndCalls.{MayReleaseAll}
-use Rattle.h2_engines.specs.ServerSteps.{EndsAfter, EndsRelease, PumpsSome}
-use Rattle.std.proofs.Common.{◌≢◌, is_some, IfOk, IfErr}
-use Rattle.h2_ends.specs.Represents.{EndReleases}
+use Rattle.h2_engines.proofs.Names
+use Names.{EndRepresents, ◌≡◌, ◌≤◌, ℕ, true, false, length, Option, Some, None, Result, Ok, Err}
+use Names.{refl, sym, ap, ◌∙◌, inl, inr, arith, Code, error_after, Values, Log, given_out, End}
+use Names.{EndRefusal, EndLog, LinkError, ConnRepresents, MayPump, Happens, IsSameOfMessages}
+use Names.{ReleasesSome, SendsWaiting, MayReleaseAll, EndsAfter, EndsRelease, EndReleases}
+use Names.{PumpsSome, ◌≢◌, ◌⊎◌, MessageState, Course, sends}
+use Rattle.h2_engines.specs.WithoutLink.{HasSent, has_failed, releases_no_more, sends_no_more}
+use Rattle.std.proofs.Common.{IfOk, is_some, IfErr}
 use Rattle.h2_engines.proofs.ResponderRefusals.{releases_err}
-use Rattle.std.specs.Prelude.{◌⊎◌}
 use Rattle.h2_conn.specs.declared.conn.Conn.{Conn}
-use Rattle.h2_engines.specs.WithoutLink.{has_failed, releases_no_more, sends_no_more}
 use Rattle.h2_engines.proofs.MachineLaws.{pumps_at, releases_at}
 use Rattle.h2_engines.proofs.ResponderStalls.{pump_ends}
 use Rattle.h2_engines.proofs.ServeLinkLogs.{writes_given, StaysOn, released_stays, pumped_stays}

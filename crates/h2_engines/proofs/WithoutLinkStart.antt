@@ -1,16 +1,10 @@
 -- A new server without a link.
-use Rattle.h2_engines.proofs.Names.{◌≡◌, [], None, refl, Server, Values, AreInRange, EndRepresents}
-use Rattle.h2_engines.proofs.Names.{new_end_log, Responder, IsServingAlone}
-use Rattle.h2_spec_log.specs.LogCalls.{opened}
-use Rattle.h2_spec_log.specs.LogSteps.{with_sent}
-use Rattle.h2_engines.specs.ServerHistories.{begins}
+use Rattle.h2_engines.proofs.Names.{◌≡◌, [], Server, Values, AreInRange, EndRepresents, new_end_log}
+use Rattle.h2_engines.proofs.Names.{Responder, begins, IsServingAlone}
 use Rattle.h2_engines.proofs.AnswerRequests.{kept_none}
+use Rattle.h2_engines.proofs.ServeEnds.{new_up}
 
 -- A new server serves.
-new_up : (values : Values) → (opened Server values).failed ≡ None
-unfolding opened with_sent
-new_up values = refl
-
 pub new_serves : {values : Values} (responder : Responder) → AreInRange values
     → EndRepresents values responder.server.end (new_end_log Server values)
     → responder.requests.kept.entries ≡ [] → responder.answered ≡ 0

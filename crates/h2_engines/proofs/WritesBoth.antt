@@ -1,9 +1,7 @@
 -- Two slices that are written, one after the other, are written as one.
-use Rattle.h2_engines.proofs.Names.{◌≡◌, ℕ, ◌+◌, List, ◌++◌, length, Option, Ok, Err}
-use Rattle.h2_engines.proofs.Names.{ap, sym, ◌∙◌, subst, arith, Appends, Appends-trans, LinkError}
-use Rattle.std.proofs.Common.{Result, length-append}
-use Rattle.std.proofs.Math.Seq.{take-append-add}
-use Rattle.std.proofs.lemmas.List.{take-append-le}
+use Rattle.h2_engines.proofs.Names.{◌≡◌, ℕ, ◌+◌, List, ◌++◌, length, Option, Ok, Err, ap, sym, ◌∙◌}
+use Rattle.h2_engines.proofs.Names.{subst, arith, Appends, Appends-trans, LinkError, Result}
+use Rattle.h2_engines.proofs.Names.{length-append, take-append-le, take-append-add}
 use Rattle.h2_link.specs.Links.{TakesFirst, WritesAll}
 use Rattle.h2_link.specs.declared.error.LinkError.TheVariants as errors
 
@@ -53,10 +51,11 @@ second_ends before middle after failures between now (Err errors.Device) first s
   (length first + so.0.0, followed before middle after first second so.0.0 took.0 so.0.1),
   so.1 ∙ ap (λ (n : ℕ). n + 1) took.1,
 )
-second_ends before middle after failures between now (Err errors.NoProgress) first second took so = (
-  (length first + so.0.0, followed before middle after first second so.0.0 took.0 so.0.1),
-  so.1 ∙ took.1,
-)
+second_ends before middle after failures between now (Err errors.NoProgress) first second took
+    so = (
+      (length first + so.0.0, followed before middle after first second so.0.0 took.0 so.0.1),
+      so.1 ∙ took.1,
+    )
 second_ends before middle after failures between now (Err other) first second took so = so
 
 -- All of the first was written, and the link has not failed.

@@ -3,7 +3,7 @@ use Rattle.std.specs.Prelude.{ℕ, nat_lt, Bool, true, false, List, [], ◌∷�
 use Rattle.std.specs.Prelude.{◌++◌, length, codes, decimal, Option, Some, None, ◌≡◌}
 use Rattle.hpack.specs.declared.types.field.Field.{Field}
 use Rattle.h2_message.specs.Fields.{method_of, path_of}
-use Rattle.h2_message.specs.Messages.{SentMessage, asks_head}
+use Rattle.h2_message.specs.Messages.{SentMessage, asks_head, plain_field}
 use Rattle.h2_message.specs.Reading.{Part, FieldsPart, OctetsPart}
 use Rattle.h2_engines.specs.declared.request.Request.{Request}
 
@@ -17,22 +17,18 @@ body_in ((FieldsPart trailers, end) ∷ parts) = body_in parts
 abbrev pub text_of : (head : List Field) → (body : List ℕ) → List ℕ
 text_of head body = (method_of head ++ 32 ∷ path_of head ++ 10 ∷ []) ++ body
 
--- a field of an answer
-abbrev pub answer_field : (name value : List ℕ) → Field
-answer_field name value = record { name = name; value = value; sensitive = false }
-
 -- an answer with a text; to HEAD it has neither a body nor `content-length`
 -- rule: engines (own) An answer to HEAD has neither body nor content-length
 unfoldable pub answer_with : (text : List ℕ) → (to_head : Bool) → SentMessage
 answer_with text true = record {
-  head = answer_field (codes ":status") (codes "200") ∷ [];
+  head = plain_field (codes ":status") (codes "200") ∷ [];
   body = [];
   trailers = None;
 }
 answer_with text false = record {
   head =
-      answer_field (codes ":status") (codes "200")
-      ∷ answer_field (codes "content-length") (decimal (length text)) ∷ [];
+      plain_field (codes ":status") (codes "200")
+      ∷ plain_field (codes "content-length") (decimal (length text)) ∷ [];
   body = text;
   trailers = None;
 }

@@ -12,10 +12,10 @@ ghost use Rattle.h2_engines.specs.ClientSteps.{IsFetchedOf, NotesPart};
 ghost use Rattle.h2_engines.specs.Machines.{Fetching};
 ghost use Rattle.h2_engines.specs.WithoutLink.{ClientPutsOut, ClientTakesIn};
 
-use crate::copies::{copy_list, no_link};
 use crate::errors::{error_of_refusal, unless_failed};
 use crate::machine::{Heard, Machine, put_out, take_all};
 use crate::request::Next;
+use crate::room::no_link;
 use h2_conn::Conn;
 use h2_ends::{Client, Code, Config, EndEvent, EndRefusal, Field, FieldList, Message, Refusal};
 use h2_link::LinkError;
@@ -72,12 +72,12 @@ impl Coming {
     {
         match event {
             EndEvent::Interim { id, list } if id == stream => {
-                let list = copy_list(alloc, list)?;
+                let list = list.to_vec(alloc)?;
                 self.interims.push(list)?;
                 Ok(false)
             }
             EndEvent::Head { id, list, end } if id == stream => {
-                self.head = Some(copy_list(alloc, list)?);
+                self.head = Some(list.to_vec(alloc)?);
                 self.body.clear();
                 Ok(end)
             }
@@ -86,7 +86,7 @@ impl Coming {
                 Ok(end)
             }
             EndEvent::Trailers { id, list } if id == stream => {
-                self.trailers = Some(copy_list(alloc, list)?);
+                self.trailers = Some(list.to_vec(alloc)?);
                 Ok(true)
             }
             _ => Ok(false),

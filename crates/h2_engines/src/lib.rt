@@ -5,13 +5,13 @@
 //! their ends without a link, for whoever carries the octets in turns of so many.
 #![tactic(auto)]
 
-mod copies;
 mod errors;
 mod fetch;
 mod fetcher;
 mod machine;
 mod request;
 mod responder;
+mod room;
 mod serve;
 
 pub use fetch::fetch_link;

@@ -18,9 +18,9 @@ ghost use Rattle.h2_engines.specs.Machines.{Drives, MeetsEnd, WritesWaiting, Put
 ghost use Rattle.h2_engines.specs.ServerSteps.{PumpsSome};
 ghost use Rattle.h2_engines.specs.WithoutLink.{SendsWaiting};
 
-use crate::copies::room_for_input;
 use crate::errors::unless_refused;
 use crate::request::Next;
+use crate::room::room_for_input;
 use h2_conn::Conn;
 use h2_ends::{EndRefusal, Refusal};
 use h2_frame::limits::FULL_OUTPUT;

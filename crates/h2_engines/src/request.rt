@@ -8,11 +8,10 @@ ghost use Rattle.h2_engines.specs.Answers.{IsRequest, answer_with};
 ghost use Rattle.h2_engines.specs.PartialMessages.{AddsOctets, EndsKept, NotesHanded, request_at};
 
 use h2_ends::{EndEvent, Field, FieldList, Message};
+use h2_frame::limits::GREATEST_BODY;
+use hpack::Octets;
 use std::alloc::{AllocError, Global};
 use std::collections::BTreeMap;
-
-/// The most octets of a request's body (own).
-pub(crate) const GREATEST_BODY: usize = 1_048_576;
 
 /// A request, as far as it has come.
 #[derive(Drop)]
@@ -78,22 +77,17 @@ impl Request {
         ensures { IfOk result (λ message. message_value message
             ≡ answer_with self.text.items self.to_head) }
     {
-        let mut head = Vec::with_capacity(alloc, 2)?;
-        head.push(Field::copy_of(alloc, b":status", b"200", false)?)?;
+        let mut answer = Message::response(alloc, 200)?;
         if self.to_head {
-            return Ok(Message {
-                head,
-                body: Vec::new(alloc),
-                trailers: None,
-            });
+            return Ok(answer);
         }
-        let length = self.text.len().to_string(alloc)?;
-        head.push(Field::copy_of(alloc, b"content-length", length.as_bytes(), false)?)?;
-        Ok(Message {
-            head,
-            body: self.text,
-            trailers: None,
-        })
+        answer.head.push(Field {
+            name: Octets::from_static(b"content-length"),
+            value: Octets::new(self.text.len().to_string(alloc)?.into_bytes()),
+            sensitive: false,
+        })?;
+        answer.body = self.text;
+        Ok(answer)
     }
 }
 
@@ -170,17 +164,13 @@ impl Requests {
     }
 }
 
-/// The value of the first field with this name; nothing where there is none.
+/// The value of the first field with this name; no octets where there is none.
+#[tactic(auto, unfolding(h2_message::specs::Fields::value_or_nothing, h2_message::specs::Fields::or_nothing))]
 fn value_or_nothing<'a>(fields: &'a FieldList, name: &[u8]) -> &'a [u8]
     ensures { result.now ≡ value_or_nothing name.now fields.now }
 {
-    for place in 0..fields.len() {
-        let Some(field) = fields.get(place) else {
-            unreachable!()
-        };
-        if field.name == name {
-            return field.value;
-        }
+    match fields.value(name) {
+        Some(value) => value,
+        None => &[],
     }
-    &[]
 }

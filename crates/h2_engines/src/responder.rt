@@ -11,10 +11,10 @@ ghost use Rattle.h2_engines.specs.ServerSteps.{ServerAnswers, ServerFinishes, Se
 ghost use Rattle.h2_engines.specs.ServerSteps.{ServerResets, counted_answer};
 ghost use Rattle.h2_engines.specs.WithoutLink.{IsServingAlone, ServerPutsOut, ServerTakesIn};
 
-use crate::copies::no_link;
 use crate::errors::{error_of_refusal, unless_failed, unless_refused};
 use crate::machine::{Heard, Machine, put_out, take_all};
 use crate::request::{Next, Request, Requests};
+use crate::room::no_link;
 use h2_conn::Conn;
 use h2_ends::{Code, Config, EndRefusal, Refusal, Server};
 use h2_link::LinkError;

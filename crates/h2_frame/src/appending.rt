@@ -9,8 +9,7 @@ ghost use Rattle.h2_frame.specs.Heads.{head_octets};
 
 use crate::frame_parts::{Body, FixedFields, FrameParts};
 use crate::heads::Head;
-use crate::limits::MAX_PAYLOAD;
-use crate::pairs::PAIR;
+use crate::limits::{MAX_PAYLOAD, PAIR};
 use byteorder::{BigEndian, ByteOrder};
 
 impl FrameParts<'_> {
@@ -91,6 +90,7 @@ impl FixedFields {
     }
 
     // Appends the octets.
+    #[inline(always)]
     fn append(self, out: &mut Vec<u8>)
         requires { vec_len out.old + length (fixed_octets self) ≤ vec_capacity out.old }
         ensures items { out.new.items ≡ out.old.items ++ fixed_octets self }
@@ -123,6 +123,7 @@ impl Body<'_> {
     }
 
     // Appends the octets.
+    #[inline(always)]
     fn append(self, out: &mut Vec<u8>)
         requires { vec_len out.old + length (body_octets self) ≤ vec_capacity out.old }
         ensures items { out.new.items ≡ out.old.items ++ body_octets self.entry }

@@ -7,7 +7,8 @@ ghost use Rattle.h2_frame.specs.Encoding.{prioritized};
 
 use crate::code::Code;
 use crate::kind::Kind;
-use crate::pairs::{PAIR, Pairs};
+use crate::limits::PAIR;
+use crate::pairs::Pairs;
 use thiserror::Error;
 
 /// A frame whose payload is lent.

@@ -9,7 +9,8 @@ ghost use Rattle.h2_frame.specs.Heads.{fits_stream as stream_fits};
 ghost use Rattle.h2_frame.specs.FrameParts.{ArePairs, Describes, IsPlain};
 
 use crate::kind::Kind;
-use crate::pairs::{PAIR, Pairs};
+use crate::limits::PAIR;
+use crate::pairs::Pairs;
 use crate::reading_heads::{ACK, END_HEADERS, END_STREAM, PADDED, PRIORITY, fits_stream};
 
 /// The least number that has more than 31 bits.

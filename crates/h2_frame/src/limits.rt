@@ -1,7 +1,8 @@
 //! The limits of this profile, each number once.
 //!
 //! Some are RFC 9113's, and those marked "own" are this profile's, where the RFC leaves the number
-//! open. Beside each stands the name of its definition, if `h2_spec_log` has one. HPACK's limit on
+//! open. Beside each stands the name of its definition, if `h2_spec_log` or the crate that uses it
+//! has one. HPACK's limit on
 //! the octets of an integer is `hpack_text::MAX_CONTINUATION_OCTETS`.
 
 /// The most octets of a payload that a head can say: 24 bits (RFC 9113, section 4.1). A frame with
@@ -73,3 +74,19 @@ pub const MAX_TABLE_LIMIT: u32 = 65_536;
 /// The greatest header table, in octets as HPACK counts them, that an end's encoder uses, whatever
 /// its peer allows (own; RFC 7541, section 4.2).
 pub const MAX_ENCODER_TABLE: u32 = 4_096;
+
+/// The octets of a value of SETTINGS: an identifier of two, and a value of four (RFC 9113, section
+/// 6.5.1).
+pub const PAIR: usize = 6;
+
+/// The octets of a RST_STREAM (RFC 9113, section 6.4), and of a WINDOW_UPDATE (section 6.9): a
+/// head, and four more.
+pub const SMALL_FRAME: usize = 13;
+
+/// The octets of a PING (RFC 9113, section 6.7), and of a GOAWAY without debug data (section 6.8):
+/// a head, and eight more.
+pub const LARGE_FRAME: usize = 17;
+
+/// The most octets of a request's body that a server answers with its text, and that a client posts
+/// (own): `greatest_body`.
+pub const GREATEST_BODY: usize = 1_048_576;

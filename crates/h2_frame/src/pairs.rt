@@ -4,10 +4,8 @@ ghost use Rattle.std.specs.Prelude.{◌≡◌, ◌==◌, length};
 ghost use Rattle.std.specs.Iterator.{YieldsFirst, item_count};
 ghost use Rattle.h2_frame.specs.Pairs.{lent_pairs, pairs_left};
 
+use crate::limits::PAIR;
 use byteorder::{BigEndian, ByteOrder};
-
-/// The octets of a pair.
-pub(crate) const PAIR: usize = 6;
 
 /// The pairs of a SETTINGS frame, identifier and value, in the octets that encode them.
 #[derive(Clone, Copy, Debug, PartialEq, Eq)]

@@ -40,12 +40,12 @@ pub fn pad_length(head: &Head, payload: &[u8]) -> Result<Option<u8>, Code>
     if head.flags & PADDED == 0 {
         return Ok(None);
     }
-    let prioritized = match head.kind {
-        Kind::Data => false,
-        Kind::Headers => head.flags & PRIORITY != 0,
+    let taken = match head.kind {
+        Kind::Data => 1,
+        Kind::Headers => octets_of_flags(true, head.flags & PRIORITY != 0),
         _ => return Ok(None),
     };
-    let left = payload.len() - octets_of_flags(true, prioritized) as usize;
+    let left = payload.len() - taken as usize;
     let pad = payload[0];
     if usize::from(pad) > left {
         return Err(Code::ProtocolError);
@@ -95,6 +95,7 @@ pub fn read_payload<'a>(head: &Head, payload: &'a [u8]) -> Result<FrameRef<'a>, 
 /// payload is lent. The slice has the head's length, and `pad` is what [`pad_length`] has answered
 /// for it. It allocates nothing.
 #[tactic(auto, unfolding(crate::proofs::Rules::payload_rules))]
+#[inline(always)]
 pub fn payload_frame<'a>(head: &Head, pad: Option<u8>, payload: &'a [u8]) -> FrameRef<'a>
     requires form { form_fault head.now ≡ None }
     requires complete { length payload.now ≡ head.now.length }

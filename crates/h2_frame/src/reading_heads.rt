@@ -127,7 +127,7 @@ fn fits_length(kind: Kind, flags: u8, length: u32) -> bool
     ensures { result ≡ length_fits kind flags length }
 {
     match kind {
-        Kind::Data => length >= octets_of_flags(flags & PADDED != 0, false),
+        Kind::Data => flags & PADDED == 0 || length >= 1,
         Kind::Headers => length >= octets_of_flags(flags & PADDED != 0, flags & PRIORITY != 0),
         Kind::Priority => length == 5,
         Kind::RstStream | Kind::WindowUpdate => length == 4,

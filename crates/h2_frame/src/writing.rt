@@ -44,6 +44,7 @@ pub fn write(frame: &Frame, out: &mut Vec<u8>) -> Result<(), Unwritable>
 /// # Errors
 ///
 /// Those of [`write`].
+#[inline(always)]
 pub fn write_ref(frame: FrameRef<'_>, out: &mut Vec<u8>) -> Result<(), Unwritable>
     ensures ok { OnOk result ((refusal (frame_of frame.entry) ≡ None)
         × (out.new.items ≡ out.old.items ++ encoding_of (frame_of frame.entry))) }

@@ -1,9 +1,8 @@
 -- Calls of an end are acts of two joined ends.
-use Rattle.h2_joined.proofs.Names.{Result, refl, sym, subst, Act, Answer, IsTypedAct, with_call}
-use Rattle.h2_joined.proofs.Names.{EndRefusal, end_with_log, EndPumps, EndReleases, EndAnswers}
-use Rattle.h2_joined.proofs.Names.{Side, Acted, Joined, Doing, Calls, acted_by, acted_as}
-use Rattle.h2_joined.proofs.Names.{IsControlCall, pumps, releases_all, MakesAct, made, end_at}
-use Rattle.std.proofs.Common.{◌≡◌, ℕ}
+use Rattle.h2_joined.proofs.Names.{Result, IsTypedAct, with_call, EndRefusal, EndAnswers, acted_by}
+use Rattle.h2_joined.proofs.Names.{refl, sym, Act, Side, Calls, pumps, made, ◌≡◌, ℕ, subst, Answer}
+use Rattle.h2_joined.proofs.Names.{Acted, Joined, Doing, acted_as, MakesAct, end_at, end_with_log}
+use Rattle.h2_joined.proofs.Names.{EndPumps, EndReleases, IsControlCall, releases_all}
 use Rattle.h2_joined.specs.Joints.{Pumps, ReleasesAll, calls}
 use Rattle.h2_joined.proofs.KeptActs.{ChangesEnd, acts_on_end}
 use Rattle.h2_joined.proofs.KeptEnds.{pumped_says, released_says}

@@ -1,18 +1,16 @@
 -- Octets of a pipe that are delivered to an end.
-use Rattle.h2_joined.proofs.Names.{true, ◌++◌, length, take, drop, Option, refl, sym, ap, ◌∙◌}
-use Rattle.h2_joined.proofs.Names.{subst, drop_min, length-take, take-append-drop, drop-append-le}
-use Rattle.h2_joined.proofs.Names.{Code, Values, Log, End, EndLog, EndRepresents, Side, Acted}
-use Rattle.h2_joined.proofs.Names.{Accepted, Kept, Pipe, Store, Joined, JointEnd, Delivers, MayDo}
-use Rattle.h2_joined.proofs.Names.{IsDelivered, delivers, delivery_fails, delivery_stops}
-use Rattle.h2_joined.proofs.Names.{HoldsOctets, KeepsHanded, KeepsEnd, MakesAct, made, end_at}
-use Rattle.h2_joined.proofs.Names.{kept_of, other_side, accepted_value, PutsPipe, TakesDelivery}
-use Rattle.h2_joined.proofs.Names.{IsKeptAt}
-use Rattle.std.proofs.Common.{map as each, ◌≡◌, ℕ, Bool, false, List, reverse, Some, None}
+use Rattle.h2_joined.proofs.Names
+use Names.{true, ◌++◌, length, take, drop, Option, refl, sym, ap, ◌∙◌, subst, drop_min, length-take}
+use Names.{take-append-drop, drop-append-le, Code, Values, Log, End, EndLog, EndRepresents, Side}
+use Names.{Acted, Accepted, Kept, Pipe, Store, Joined, JointEnd, Delivers, MayDo, IsDelivered}
+use Names.{delivers, delivery_fails, delivery_stops, HoldsOctets, KeepsHanded, KeepsEnd, MakesAct}
+use Names.{made, end_at, kept_of, other_side, accepted_value, PutsPipe, TakesDelivery, IsKeptAt}
+use Names.{◌≡◌, ℕ, Bool, false, List, reverse, Some, None, has_failed}
+use Rattle.std.proofs.Common.{map as each}
 use Rattle.h2_conn.specs.Conn.{ConnRepresents}
 use Rattle.h2_joined.specs.declared.octets.Delivered.{Delivered}
-use Rattle.h2_joined.specs.Joints.{has_failed}
 use Rattle.h2_joined.specs.Delivering.{TakesPipe, EndsWithin, delivery_of}
-use Rattle.h2_joined.proofs.KeptActs.{acts_by, acts_on_end, same_kept}
+use Rattle.h2_joined.proofs.KeptActs.{acts_by, acts_on_end, changes_end}
 use Rattle.h2_joined.specs.declared.act.Acted.TheVariants as acted
 use Rattle.h2_joined.specs.declared.octets.Delivered.TheVariants as delivered
 
@@ -170,11 +168,7 @@ pub none_delivered : (side : Side) (old : Joined) (count : ℕ) (code : Code)
     → MakesAct old (made side (Delivers count) (acted.Failed code)) old
 none_delivered side old count code failed =
     acts_on_end side old old (Delivers count) (acted.Failed code)
-    (record {
-      other_end = refl;
-      kept = same_kept (kept_of side old) (kept_of side old) refl;
-      other_kept = refl;
-    })
+    (changes_end side old old refl refl refl refl refl refl)
     (λ values one other represents.
     record {
       after = one.happened;

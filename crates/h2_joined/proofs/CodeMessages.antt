@@ -1,11 +1,8 @@
 -- A request and a response are acts of two joined ends.
-use Rattle.h2_joined.proofs.Names.{◌<◌, ◌^◌, Ok, Err, AreOctets, SentMessage, EndRefusal}
-use Rattle.h2_joined.proofs.Names.{EndRequests, EndResponds, Accepted, Joined, Responds, requests}
-use Rattle.h2_joined.proofs.Names.{responds, MakesAct, made, accepted_value}
-use Rattle.std.proofs.Common.{◌≡◌, ℕ}
+use Rattle.h2_joined.proofs.Names.{◌<◌, ◌^◌, Err, Joined, made, ◌≡◌, ℕ, Client, Server, Requests}
+use Rattle.h2_joined.proofs.Names.{Ok, EndRefusal, Accepted, Responds, requests, responds, MakesAct}
+use Rattle.h2_joined.proofs.Names.{AreOctets, SentMessage, EndRequests, EndResponds, accepted_value}
 use Rattle.h2_message.specs.declared.message.Message.{Message}
-use Rattle.h2_joined.specs.declared.act.Side.TheVariants.{Client, Server}
-use Rattle.h2_joined.specs.Joints.{Requests}
 use Rattle.h2_joined.proofs.KeptActs.{ChangesEnd, acts_on_end, AcceptsAt, acts_accepting}
 use Rattle.h2_joined.proofs.KeptEnds.{request_refused, respond_refused, request_accepted}
 use Rattle.h2_joined.proofs.KeptEnds.{respond_accepted}

@@ -1,15 +1,12 @@
 -- Octets of an output that are put on a pipe.
-use Rattle.h2_joined.proofs.Names.{◌+◌, ◌<◌, ◌^◌, [], ◌++◌, take, drop, Result, Ok, Err, refl, sym}
-use Rattle.h2_joined.proofs.Names.{ap, ◌∙◌, subst, append_assoc, append-nil, arith, length-take}
-use Rattle.h2_joined.proofs.Names.{Refusal, Values, PutOut, Count, Refused, Log, answer_by}
-use Rattle.h2_joined.proofs.Names.{given_since, EndLog, EndAnswers, EndRepresents, Side, Acted}
-use Rattle.h2_joined.proofs.Names.{Pipe, Joined, acted_as, moves, with_answer, with_given}
-use Rattle.h2_joined.proofs.Names.{HoldsOctets, MakesAct, made, end_at, kept_of, other_side}
-use Rattle.h2_spec_log.specs.Acts.{IsTypedAct}
-use Rattle.h2_spec_log.specs.LogCalls.{with_call}
-use Rattle.std.proofs.Common.{◌≡◌, ℕ, List, IfOk}
+use Rattle.h2_joined.proofs.Names
+use Names.{◌+◌, ◌<◌, ◌^◌, [], ◌++◌, take, drop, Result, Ok, Err, refl, sym, ap, ◌∙◌, subst}
+use Names.{append_assoc, append-nil, arith, length-take, Refusal, Values, PutOut, Count, Refused}
+use Names.{Log, answer_by, given_since, EndLog, EndAnswers, EndRepresents, Side, Acted, Pipe}
+use Names.{Joined, acted_as, moves, with_answer, with_given, HoldsOctets, MakesAct, made, end_at}
+use Names.{kept_of, other_side, IsTypedAct, with_call, ◌≡◌, ℕ, List, IfOk, length-append}
 use Rattle.std.specs.Result.{OnErr}
-use Rattle.std.proofs.lemmas.List.{length-append, drop_all}
+use Rattle.std.proofs.lemmas.List.{drop_all}
 use Rattle.h2_conn.specs.Conn.{GivesOut}
 use Rattle.h2_joined.specs.Joints.{Moves}
 use Rattle.h2_joined.proofs.KeptActs.{acts_by, keeps_same, same_kept}

@@ -2,9 +2,7 @@
 use Rattle.h2_joined.proofs.Names.{suc, ◌+◌, ◌≤◌, ◌<◌, length, drop, refl, sym, ◌∙◌, subst, arith}
 use Rattle.h2_joined.proofs.Names.{drop-drop, Code, Values, EndLog, Side, Joined, Delivery}
 use Rattle.h2_joined.proofs.Names.{IsDelivered, Whole, Fails, Stops, ChangesOnly, IsKeptAt}
-use Rattle.h2_joined.proofs.Names.{TakesNext, TakesDelivery}
-use Rattle.std.proofs.Common.{◌≡◌, ℕ, List}
-use Rattle.std.proofs.lemmas.List.{length-drop}
+use Rattle.h2_joined.proofs.Names.{TakesNext, TakesDelivery, ◌≡◌, ℕ, List, length-drop}
 use Rattle.h2_joined.specs.Joints.{is_whole, goes_on, fails, stops, most_calls}
 use Rattle.h2_joined.proofs.CodeTakes.{both_only}
 use Rattle.h2_joined.specs.declared.octets.Next.TheVariants as nexts

@@ -1,11 +1,11 @@
 -- A call of `take` of an end, and what is kept of it then.
-use Rattle.h2_joined.proofs.Names.{◌<◌, ◌≤◌, true, [], ◌∷◌, length, Option, Ok, Err, refl, sym, ap}
-use Rattle.h2_joined.proofs.Names.{◌∙◌, subst, inl, inr, arith, reverse-append, Code, Values, End}
-use Rattle.h2_joined.proofs.Names.{EndLog, Handed, EndTook, EndFailed, EndMayTake, event_handed}
-use Rattle.h2_joined.proofs.Names.{EndRepresents, Side, Store, Joined, AreStored, Fits}
-use Rattle.h2_joined.proofs.Names.{HasRoomForEvent, KeepsMore, events_kept, KeepsHanded, end_at}
-use Rattle.h2_joined.proofs.Names.{kept_of, ChangesOnly, IsKeptAt, TakesNext}
-use Rattle.std.proofs.Common.{◌≡◌, ℕ, Bool, false, List, reverse, Some, None, option_map}
+use Rattle.h2_joined.proofs.Names
+use Names.{◌<◌, ◌≤◌, true, [], ◌∷◌, length, Option, Ok, Err, refl, sym, ap, ◌∙◌, subst, inl, inr}
+use Names.{arith, reverse-append, Code, Values, End, EndLog, Handed, EndTook, EndFailed, EndMayTake}
+use Names.{event_handed, EndRepresents, Side, Store, Joined, AreStored, Fits, HasRoomForEvent}
+use Names.{KeepsMore, events_kept, KeepsHanded, end_at, kept_of, ChangesOnly, IsKeptAt, TakesNext}
+use Names.{◌≡◌, ℕ, Bool, false, List, reverse, Some, None}
+use Rattle.std.proofs.Common.{option_map}
 use Rattle.h2_conn.specs.declared.taken.ConnFault.{ConnFault}
 use Rattle.h2_ends.specs.EndEvents.{LentPart}
 use Rattle.h2_ends.specs.declared.event.EndTaken.{EndTaken}

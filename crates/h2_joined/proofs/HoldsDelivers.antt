@@ -1,13 +1,11 @@
 -- What delivering octets makes of an end: call after call of `take`, until all octets are used and
 -- nothing is handed out, the connection has failed, or there is no room before a call.
-use Rattle.h2_joined.proofs.Names.{suc, ◌++◌, drop, length, refl, subst, next_unprocessed, EndLog}
-use Rattle.h2_joined.proofs.Names.{EndAnswer, EndTook, EndFailed, EndMayTake, hands_nothing}
-use Rattle.h2_joined.proofs.Names.{hands_out, refusal_fails, runs_out_of_memory, KeepsOrder}
-use Rattle.h2_joined.proofs.Names.{Delivery, Whole, Fails, Stops, IsDelivered}
-use Rattle.std.proofs.Common.{◌≡◌, ℕ, List, None}
+use Rattle.h2_joined.proofs.Names
+use Names.{suc, drop, refl, subst, EndLog, Whole, Fails, Stops, ◌≡◌, ℕ, List, None, fails, passes}
+use Names.{◌++◌, length, EndAnswer, EndFailed, EndMayTake, hands_out, KeepsOrder, Delivery, refuses}
+use Names.{next_unprocessed, EndTook, hands_nothing, refusal_fails, runs_out_of_memory, IsDelivered}
 use Rattle.std.proofs.Math.Seq.{drop-length}
 use Rattle.h2_laws_pair.proofs.StepUnprocessed.{take_reports_all}
-use Rattle.h2_ends.specs.EndTakes.{fails, passes, refuses}
 use Rattle.h2_joined.proofs.HoldsTakes.{Around, HoldsIn, FallsIn, take_leads}
 use Rattle.h2_joined.specs.Joints as joints
 

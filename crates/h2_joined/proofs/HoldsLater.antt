@@ -1,21 +1,14 @@
 -- What holds of two joined ends is kept where octets are delivered.
 use Rattle.h2_joined.proofs.Names.{true, [], ◌∷◌, ◌++◌, length, take, drop, ap, take-append-drop}
-use Rattle.h2_joined.proofs.Names.{Contains-append_right, Values, EndLog, KeepsOrder, Side, Acted}
-use Rattle.h2_joined.proofs.Names.{Delivers, Delivery, Whole, Fails, Stops, IsDelivered, JointEnd}
-use Rattle.h2_joined.proofs.Names.{Made}
-use Rattle.std.proofs.Common.{ℕ, Bool, false, List}
-use Rattle.h2_joined.specs.declared.act.Side.TheVariants.{Client, Server}
+use Rattle.h2_joined.proofs.Names.{Values, EndLog, Side, Acted, Delivers, Delivery, Whole, Fails}
+use Rattle.h2_joined.proofs.Names.{Stops, IsDelivered, JointEnd, Made, ℕ, Bool, false, List}
+use Rattle.h2_joined.proofs.Names.{other_side}
 use Rattle.h2_joined.proofs.HoldsDelivers.{delivery_leads, DeliversIn}
-use Rattle.h2_joined.proofs.HoldsTakes.{Around, HoldsIn}
-use Rattle.h2_joined.proofs.JointHolds.{JointHolds, EndHolds}
+use Rattle.h2_joined.proofs.HoldsTakes.{Around, HoldsIn, IsCalmIn}
+use Rattle.h2_joined.proofs.JointHolds.{HoldsAt, end_holds_more, reported_by, AllHadMemory}
+use Rattle.h2_joined.proofs.JointHolds.{HasReported, IsCalm, StaysAt}
+use Rattle.h2_joined.proofs.HoldsSteps.{where_at}
 use Rattle.h2_joined.specs.declared.act.Acted.TheVariants as acted
-
--- The act that delivers is made.
-abbrev pub delivered_at_client : ℕ → Acted → Made
-delivered_at_client count answer = record { side = Client; doing = Delivers count; acted = answer }
-
-abbrev pub delivered_at_server : ℕ → Acted → Made
-delivered_at_server count answer = record { side = Server; doing = Delivers count; acted = answer }
 
 -- how a delivery is answered
 abbrev pub answer_of_delivery : List ℕ → Delivery → Acted
@@ -35,210 +28,89 @@ is_unfinished Whole = false
 is_unfinished (Fails code) = false
 is_unfinished (Stops unused) = true
 
--- What holds of an end holds with one act more.
-end_holds_more : (act : Made) (made : List Made) (side : Side) (end : EndLog)
-    → EndHolds made side end → EndHolds (act ∷ made) side end
-end_holds_more act made side end holds =
-    record {
-      heard = holds.heard;
-      says = holds.says;
-      passed = holds.passed;
-      reported = holds.reported;
-      asked = λ id code was. Contains-append_right (act ∷ []) made _ (holds.asked id code was);
-    }
+module _ (side : Side) (client_values server_values : Values) (made : List Made)
+    (one other : JointEnd) (holds : HoldsAt side client_values server_values made one other) where
+  -- the delivery at this end
+  abbrev around : Around
+  around = record {
+    side = side;
+    client_values = client_values;
+    server_values = server_values;
+    made = made;
+    other = other;
+  }
 
--- the delivery at the client, and at the server
-abbrev client_around : Values → Values → List Made → JointEnd → Around
-client_around client_values server_values made server = record {
-  side = Client;
-  client_values = client_values;
-  server_values = server_values;
-  made = made;
-  other = server;
-}
-
-abbrev server_around : Values → Values → List Made → JointEnd → Around
-server_around client_values server_values made client = record {
-  side = Server;
-  client_values = client_values;
-  server_values = server_values;
-  made = made;
-  other = client;
-}
-
-module _ (client_values server_values : Values) (made : List Made) (client server : JointEnd) where
   -- What holds at the start of a delivery.
-  client_starts : (count : ℕ) → JointHolds client_values server_values made client server
-      → HoldsIn (client_around client_values server_values made server) client.happened
-      (take count client.incoming ++ drop count client.incoming)
-  client_starts count holds =
-      rw (take-append-drop count client.incoming) (record {
-        lost = holds.client_lost;
-        other_lost = holds.server_lost;
-        pair = (holds.pair, λ had. (holds.calm had).undisturbed);
-        calm = λ had. record {
-          holds = (holds.calm had).client_holds;
-          accepted = (holds.calm had).accepted;
-        };
+  starts : (count : ℕ)
+      → HoldsIn around one.happened (take count one.incoming ++ drop count one.incoming)
+  starts count =
+      let stays = holds.stays in
+      rw (take-append-drop count one.incoming) (record {
+        lost = stays.lost;
+        other_lost = stays.other_lost;
+        pair = stays.pair;
+        calm = λ had. let calm = stays.calm had in
+            record { holds = calm.holds; accepted = calm.accepted };
       })
 
-  server_starts : (count : ℕ) → JointHolds client_values server_values made client server
-      → HoldsIn (server_around client_values server_values made client) server.happened
-      (take count server.incoming ++ drop count server.incoming)
-  server_starts count holds =
-      rw (take-append-drop count server.incoming) (record {
-        lost = holds.server_lost;
-        other_lost = holds.client_lost;
-        pair = (holds.pair, λ had. (holds.calm had).undisturbed);
-        calm = λ had. record {
-          holds = (holds.calm had).server_holds;
-          accepted = (holds.calm had).accepted;
-        };
-      })
-
-  -- The act that delivers at the client is made.
-  client_made : (count : ℕ) (octets later : List ℕ) (delivery : Delivery)
-      (after : EndLog) → JointHolds client_values server_values made client server
-      → KeepsOrder after
-      → DeliversIn (client_around client_values server_values made server) later delivery after
-      → JointHolds client_values server_values
-      (delivered_at_client count (answer_of_delivery octets delivery) ∷ made)
-      (record {
-        happened = after;
-        incoming = left_of_delivery delivery ++ later;
-        unfinished = is_unfinished delivery;
-      }) server
-  client_made count octets later Whole after holds order leads =
+  -- The act that delivers is made.
+  calm_after : (act : Made) (new : JointEnd) → AllHadMemory made → IsCalmIn around new.happened
+      → HasReported new → IsCalm side (act ∷ made) new other
+  calm_after act new had calm reported =
+      let was = holds.stays.calm had in
       record {
-        client_lost = leads.0.lost;
-        server_lost = leads.0.other_lost;
-        pair = leads.0.pair.0;
-        client_order = order;
-        server_order = holds.server_order;
-        calm = λ had. record {
-          undisturbed = leads.0.pair.1 had.1;
-          client_holds = end_holds_more _ made Client after (leads.0.calm had.1).holds;
-          server_holds = end_holds_more _ made Server server.happened
-              (holds.calm had.1).server_holds;
-          accepted = (leads.0.calm had.1).accepted;
-          all_reported = λ finished. leads.1;
-        };
+        holds = end_holds_more act made side new.happened calm.holds;
+        other_holds = end_holds_more act made (other_side side) other.happened was.other_holds;
+        accepted = calm.accepted;
+        reported = reported_by side one other new other (λ before. reported) (λ same. same)
+            was.reported;
       }
-  client_made count octets later (Fails code) after holds order leads =
+
+  abbrev delivered_act : ℕ → Acted → Made
+  delivered_act count answer = record { side = side; doing = Delivers count; acted = answer }
+
+  abbrev delivered_end : (later : List ℕ) → Delivery → EndLog → JointEnd
+  delivered_end later delivery after = record {
+    happened = after;
+    incoming = left_of_delivery delivery ++ later;
+    unfinished = is_unfinished delivery;
+  }
+
+  delivery_made : (count : ℕ) (octets later : List ℕ) (delivery : Delivery) (after : EndLog)
+      → DeliversIn around later delivery after
+      → StaysAt side client_values server_values
+      (delivered_act count (answer_of_delivery octets delivery) ∷ made)
+      (delivered_end later delivery after) other
+  delivery_made count octets later Whole after leads =
       record {
-        client_lost = leads.lost;
-        server_lost = leads.other_lost;
-        pair = leads.pair.0;
-        client_order = order;
-        server_order = holds.server_order;
+        lost = leads.0.lost;
+        other_lost = leads.0.other_lost;
+        pair = where_at side client_values server_values _ _ _ _ leads.0.pair (λ had. had.1);
+        calm = λ had. calm_after _ _ had.1 (leads.0.calm had.1) (λ finished. leads.1);
+      }
+  delivery_made count octets later (Fails code) after leads =
+      record {
+        lost = leads.lost;
+        other_lost = leads.other_lost;
+        pair = where_at side client_values server_values _ _ _ _ leads.pair
+            (λ had. leads.calm had.1 (λ is. had.0.connection (ap acted.Failed is)));
         calm = λ had. absurd (leads.calm had.1 (λ is. had.0.connection (ap acted.Failed is)));
       }
-  client_made count octets later (Stops unused) after holds order leads =
+  delivery_made count octets later (Stops unused) after leads =
       record {
-        client_lost = leads.lost;
-        server_lost = leads.other_lost;
-        pair = leads.pair.0;
-        client_order = order;
-        server_order = holds.server_order;
-        calm = λ had. record {
-          undisturbed = leads.pair.1 had.1;
-          client_holds = end_holds_more _ made Client after (leads.calm had.1).holds;
-          server_holds = end_holds_more _ made Server server.happened
-              (holds.calm had.1).server_holds;
-          accepted = (leads.calm had.1).accepted;
-          all_reported = λ finished. absurd (cc);
-        };
+        lost = leads.lost;
+        other_lost = leads.other_lost;
+        pair = where_at side client_values server_values _ _ _ _ leads.pair (λ had. had.1);
+        calm = λ had. calm_after _ _ had.1 (leads.calm had.1) (λ finished. absurd (cc));
       }
 
-  -- So is one at the server.
-  server_made : (count : ℕ) (octets later : List ℕ) (delivery : Delivery)
-      (after : EndLog) → JointHolds client_values server_values made client server
-      → KeepsOrder after
-      → DeliversIn (server_around client_values server_values made client) later delivery after
-      → JointHolds client_values server_values
-      (delivered_at_server count (answer_of_delivery octets delivery) ∷ made) client
-      (record {
-        happened = after;
-        incoming = left_of_delivery delivery ++ later;
-        unfinished = is_unfinished delivery;
-      })
-  server_made count octets later Whole after holds order leads =
-      record {
-        client_lost = leads.0.other_lost;
-        server_lost = leads.0.lost;
-        pair = leads.0.pair.0;
-        client_order = holds.client_order;
-        server_order = order;
-        calm = λ had. record {
-          undisturbed = leads.0.pair.1 had.1;
-          client_holds = end_holds_more _ made Client client.happened
-              (holds.calm had.1).client_holds;
-          server_holds = end_holds_more _ made Server after (leads.0.calm had.1).holds;
-          accepted = (leads.0.calm had.1).accepted;
-          all_reported = (holds.calm had.1).all_reported;
-        };
-      }
-  server_made count octets later (Fails code) after holds order leads =
-      record {
-        client_lost = leads.other_lost;
-        server_lost = leads.lost;
-        pair = leads.pair.0;
-        client_order = holds.client_order;
-        server_order = order;
-        calm = λ had. absurd (leads.calm had.1 (λ is. had.0.connection (ap acted.Failed is)));
-      }
-  server_made count octets later (Stops unused) after holds order leads =
-      record {
-        client_lost = leads.other_lost;
-        server_lost = leads.lost;
-        pair = leads.pair.0;
-        client_order = holds.client_order;
-        server_order = order;
-        calm = λ had. record {
-          undisturbed = leads.pair.1 had.1;
-          client_holds = end_holds_more _ made Client client.happened
-              (holds.calm had.1).client_holds;
-          server_holds = end_holds_more _ made Server after (leads.calm had.1).holds;
-          accepted = (leads.calm had.1).accepted;
-          all_reported = (holds.calm had.1).all_reported;
-        };
-      }
-
-  -- A delivery at the client keeps what holds.
-  pub client_delivered : (count : ℕ) (delivery : Delivery) (after : EndLog)
-      → JointHolds client_values server_values made client server
-      → IsDelivered 0 client.happened (take count client.incoming) delivery after
-      → KeepsOrder after
-      → JointHolds client_values server_values
-      (delivered_at_client count (answer_of_delivery (take count client.incoming) delivery) ∷ made)
-      (record {
-        happened = after;
-        incoming = left_of_delivery delivery ++ drop count client.incoming;
-        unfinished = is_unfinished delivery;
-      }) server
-  client_delivered count delivery after holds delivered
-      order = client_made count (take count client.incoming)
-      (drop count client.incoming) delivery after holds order
-      (delivery_leads (client_around client_values server_values made server) 0 client.happened
-      (take count client.incoming) (drop count client.incoming) delivery after holds.server_order
-      (client_starts count holds) delivered)
-
-  -- So does one at the server.
-  pub server_delivered : (count : ℕ) (delivery : Delivery) (after : EndLog)
-      → JointHolds client_values server_values made client server
-      → IsDelivered 0 server.happened (take count server.incoming) delivery after
-      → KeepsOrder after
-      → JointHolds client_values server_values
-      (delivered_at_server count (answer_of_delivery (take count server.incoming) delivery) ∷ made)
-      client
-      (record {
-        happened = after;
-        incoming = left_of_delivery delivery ++ drop count server.incoming;
-        unfinished = is_unfinished delivery;
-      })
-  server_delivered count delivery after holds delivered
-      order = server_made count (take count server.incoming)
-      (drop count server.incoming) delivery after holds order
-      (delivery_leads (server_around client_values server_values made client) 0 server.happened
-      (take count server.incoming) (drop count server.incoming) delivery after holds.client_order
-      (server_starts count holds) delivered)
+  -- So a delivery keeps what holds.
+  pub delivery_stays : (count : ℕ) (delivery : Delivery) (after : EndLog)
+      → IsDelivered 0 one.happened (take count one.incoming) delivery after
+      → StaysAt side client_values server_values
+      (delivered_act count (answer_of_delivery (take count one.incoming) delivery) ∷ made)
+      (delivered_end (drop count one.incoming) delivery after) other
+  delivery_stays count delivery after delivered =
+      delivery_made count (take count one.incoming) (drop count one.incoming) delivery after
+      (delivery_leads around 0 one.happened (take count one.incoming) (drop count one.incoming)
+      delivery after holds.other_order (starts count) delivered)

@@ -3,9 +3,9 @@
 use Rattle.h2_joined.proofs.Names.{◌<◌, ◌^◌, ◌==◌, true, [], ◌∷◌, inl, inr, refl, arith}
 use Rattle.h2_joined.proofs.Names.{AllByRecursion, list_any, both_ways, Item, alone, block, Role}
 use Rattle.h2_joined.proofs.Names.{Values, Event, Log, openings, is_number_used, MayTake, Took}
-use Rattle.h2_joined.proofs.Names.{Part, Half, both_logs, part_of_event, Side}
-use Rattle.h2_spec_log.specs.States.{is_used}
-use Rattle.std.proofs.Common.{◌≡◌, ℕ, ◌%◌, ◌&&◌, nat_le, Bool, false, List, Some}
+use Rattle.h2_joined.proofs.Names.{Part, Half, both_logs, part_of_event, Side, is_used, ◌≡◌, ℕ}
+use Rattle.h2_joined.proofs.Names.{Bool, false, List, Some, Client, Server}
+use Rattle.std.proofs.Common.{◌%◌, ◌&&◌, nat_le}
 use Rattle.std.proofs.lemmas.Bool.{or_cases, and_parts, leb-true}
 use Rattle.h2_spec_log.specs.Items.{opens_from}
 use Rattle.h2_spec_log.specs.Limits.{max_frame_size_sent}
@@ -13,7 +13,6 @@ use Rattle.h2_laws_log.specs.Sending.{IsSendable}
 use Rattle.h2_laws_end.proofs.SendableCalls.{written_sendable}
 use Rattle.h2_laws_pair.proofs.CarriedItems.{items_both_ways}
 use Rattle.h2_ends.proofs.EndOrder.{part_in_use}
-use Rattle.h2_joined.specs.declared.act.Side.TheVariants.{Client, Server}
 use Rattle.h2_joined.proofs.HoldsSides.{IsPairAt, has_role_at}
 use Rattle.h2_laws_pair.proofs.Lists.{all_older as all_later}
 use Rattle.h2_spec_log.specs.declared.role.Role.TheVariants as roles

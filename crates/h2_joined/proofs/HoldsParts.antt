@@ -1,16 +1,12 @@
 -- What holds of what an end hands out goes on holding as its connection reports more.
-use Rattle.h2_joined.proofs.Names.{◌⊎◌, [], ◌∷◌, ◌++◌, inl, inr, refl, sym, ap, ◌∙◌, arith}
-use Rattle.h2_joined.proofs.Names.{append-nil, AllByRecursion, Contains, cases_eq}
-use Rattle.h2_joined.proofs.Names.{Contains-append_right, Field, Event, FieldsEvent, DataEvent, Log}
-use Rattle.h2_joined.proofs.Names.{Place, Reads, Part, FieldsPart, OctetsPart, IsReadable, Token}
-use Rattle.h2_joined.proofs.Names.{tokens_of_event, first_or_later, EndLog, Handed, Passed}
-use Rattle.h2_joined.proofs.Names.{tokens_of_part, tokens_of_parts, end_with_log, end_with_handed}
-use Rattle.h2_joined.proofs.Names.{handed_elsewhere, part_tokens, readable_here, tokens_with, Side}
-use Rattle.h2_joined.proofs.Names.{Made}
-use Rattle.h2_laws_pair.specs.Tokens.{tokens_heard, IsNoEmptyData}
-use Rattle.h2_ends.specs.Ends.{IsNoEmptyPart, part_on, parts_on, part_of_event, handed_as}
-use Rattle.h2_ends.specs.Ends.{handed_at}
-use Rattle.std.proofs.Common.{◌≡◌, ℕ, Bool, List, Some, None}
+use Rattle.h2_joined.proofs.Names
+use Names.{◌⊎◌, [], ◌∷◌, ◌++◌, inl, inr, refl, sym, ap, ◌∙◌, arith, append-nil, AllByRecursion}
+use Names.{Contains, cases_eq, Contains-append_right, Field, Event, FieldsEvent, DataEvent, Log}
+use Names.{Place, Reads, Part, FieldsPart, OctetsPart, IsReadable, Token, tokens_of_event}
+use Names.{first_or_later, EndLog, Handed, Passed, tokens_of_part, tokens_of_parts, end_with_log}
+use Names.{end_with_handed, handed_elsewhere, part_tokens, readable_here, tokens_with, Side, Made}
+use Names.{tokens_heard, IsNoEmptyData, IsNoEmptyPart, part_on, parts_on, part_of_event, handed_as}
+use Names.{handed_at, ◌≡◌, ℕ, Bool, List, Some, None}
 use Rattle.h2_ends.proofs.EndParts.{same_part, no_tokens, other_tokens}
 use Rattle.h2_joined.proofs.JointHolds.{EndHolds}
 use Rattle.h2_message.specs.declared.reading.Place.TheVariants as places

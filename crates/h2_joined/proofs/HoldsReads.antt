@@ -1,27 +1,21 @@
 -- What an end hears of a message that the other one has accepted can be read, since that breaks no
 -- rule.
-use Rattle.h2_joined.proofs.Names.{true, [], ◌∷◌, ◌++◌, Option, inl, inr, refl, sym, ap, ◌∙◌}
-use Rattle.h2_joined.proofs.Names.{AllByRecursion, Values, Event, Responses, SentMessage, asks_head}
-use Rattle.h2_joined.proofs.Names.{Part, FieldsPart, OctetsPart, IsReadable, Half, Token}
-use Rattle.h2_joined.proofs.Names.{tokens_of_event, IsPrefixOfTokens, IsNoEmptyData, begins_message}
-use Rattle.h2_joined.proofs.Names.{EndLog, message_for, parts_on, tokens_said, part_of_event}
-use Rattle.h2_joined.proofs.Names.{tokens_of_parts, IsReadableWith, SendsInOrder, Side, Made}
-use Rattle.h2_joined.proofs.Names.{part_tokens, tokens_with}
-use Rattle.h2_laws_pair.specs.Tokens.{tokens_heard, end_tokens, OctetToken, EndToken}
-use Rattle.h2_ends.specs.Ends.{IsNoEmptyPart, tokens_of_part, tokens_given, reads_on, asked_head}
-use Rattle.std.proofs.Common.{map as each, ◌≡◌, ◌≢◌, ℕ, Bool, false, List, Some, None}
+use Rattle.h2_joined.proofs.Names
+use Names.{true, AllByRecursion, tokens_of_event, IsPrefixOfTokens, begins_message, tokens_of_parts}
+use Names.{[], ◌∷◌, inl, inr, sym, ap, ◌∙◌, Side, Made, ◌≡◌, ◌≢◌, ℕ, Bool, List, Some, None, ◌++◌}
+use Names.{refl, Values, Part, Half, Token, EndLog, parts_on, reads_on, false, Client, Server}
+use Names.{Option, message_for, tokens_said, SendsInOrder, part_tokens, tokens_heard, tokens_given}
+use Names.{Event, Responses, asks_head, FieldsPart, OctetsPart, IsReadable, tokens_with, end_tokens}
+use Names.{SentMessage, IsNoEmptyData, part_of_event, IsReadableWith, IsNoEmptyPart, tokens_of_part}
+use Rattle.h2_laws_pair.specs.Tokens.{OctetToken, EndToken}
+use Rattle.h2_ends.specs.Ends.{asked_head}
+use Rattle.std.proofs.Common.{map as each}
 use Rattle.h2_message.specs.declared.reading.Reads.TheVariants.{Requests}
-use Rattle.h2_joined.specs.declared.act.Side.TheVariants.{Client, Server}
 use Rattle.h2_joined.proofs.HoldsParts.{says_with, part_says}
 use Rattle.h2_joined.proofs.HoldsSides.{IsPairAt, role_at, hears_at, reports_at}
-use Rattle.h2_joined.proofs.JointHolds.{EndHolds, AcceptWell}
+use Rattle.h2_joined.proofs.JointHolds.{EndHolds, AcceptAt}
 use Rattle.h2_ends.proofs.ReadableParts.{readable_request, readable_response}
 use Rattle.h2_spec_log.specs.declared.role.Role.TheVariants as roles
-
--- Both ends have accepted messages that break no rule.
-abbrev pub AcceptAt : Side → (one other : EndLog) → Type 0
-AcceptAt Client one other = AcceptWell one other
-AcceptAt Server one other = AcceptWell other one
 
 -- Tokens of a part that says something are some.
 octets_some : (octets : List ℕ) (more : List Token) → octets ≢ []

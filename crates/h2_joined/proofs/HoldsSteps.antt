@@ -1,14 +1,11 @@
 -- What taking octets, losing them and refusing a stream make of a pair.
-use Rattle.h2_joined.proofs.Names.{◌<◌, ◌^◌, [], ◌++◌, drop, Option, refl, sym, ap, ◌∙◌, arith}
-use Rattle.h2_joined.proofs.Names.{subst, append-nil, drop-append_seam, Code, InternalError, Values}
-use Rattle.h2_joined.proofs.Names.{Answer, Refuse, Event, Log, MayAnswer, with_call, MayTake, Took}
-use Rattle.h2_joined.proofs.Names.{log_after_take, Half, given_since, call_gives_nothing, Side}
-use Rattle.h2_spec_log.specs.Acts.{IsTypedAct}
-use Rattle.h2_laws_pair.specs.Steps.{AreUndisturbed, no_step, then_step}
-use Rattle.h2_laws_pair.specs.Undisturbed.{IsUndisturbedStep}
-use Rattle.std.proofs.Common.{◌≡◌, ◌≢◌, ℕ, List, Some, None}
-use Rattle.h2_laws_end.specs.Takes.{Failed}
-use Rattle.h2_laws_pair.specs.Pairs.{calls, loses}
+use Rattle.h2_joined.proofs.Names
+use Names.{◌<◌, ◌++◌, drop, Option, refl, subst, Code, Values, Answer, Refuse, Event, Failed, calls}
+use Names.{◌^◌, [], sym, ap, ◌∙◌, Log, Took, Half, Side, ◌≡◌, ◌≢◌, ℕ, List, Some, None, arith}
+use Names.{append-nil, InternalError, MayAnswer, with_call, MayTake, given_since, IsTypedAct}
+use Names.{drop-append_seam, log_after_take, call_gives_nothing, AreUndisturbed, IsUndisturbedStep}
+use Rattle.h2_laws_pair.specs.Steps.{no_step, then_step}
+use Rattle.h2_laws_pair.specs.Pairs.{loses}
 use Rattle.h2_laws_pair.proofs.StepTakes.{take_is_steps}
 use Rattle.h2_joined.proofs.HoldsSides.{IsPairAt, goes_on_at}
 

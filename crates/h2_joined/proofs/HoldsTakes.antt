@@ -1,25 +1,20 @@
 -- What a call of `take` makes of an end to which octets are delivered.
-use Rattle.h2_joined.proofs.Names.{◌<◌, ◌^◌, ◌∷◌, ◌++◌, drop, true, refl, arith, Code}
-use Rattle.h2_joined.proofs.Names.{InternalError, Values, Answer, Refuse, Event, FieldsEvent}
-use Rattle.h2_joined.proofs.Names.{ResetEvent, Log, MayAnswer, with_call, MayTake, Took}
-use Rattle.h2_joined.proofs.Names.{log_after_take, Part, FieldsPart, Half, EndLog, Passed}
-use Rattle.h2_joined.proofs.Names.{EndAnswer, EndTook, EndFailed, IsNoEmptyPart, parts_on, reads_on}
-use Rattle.h2_joined.proofs.Names.{handed_as, EndMayTake, IsReadableWith, end_with_log}
-use Rattle.h2_joined.proofs.Names.{end_with_handed, hands_nothing, hands_out, refusal_fails}
-use Rattle.h2_joined.proofs.Names.{runs_out_of_memory, KeepsOrder, memory_fails, Side, JointEnd}
-use Rattle.h2_joined.proofs.Names.{Made, half_of}
-use Rattle.h2_ends.specs.Ends.{part_of_event}
-use Rattle.std.proofs.Common.{◌≡◌, ◌≢◌, ℕ, List, Some, None, Bool}
-use Rattle.h2_laws_end.specs.Takes.{AfterTake, Failed}
-use Rattle.h2_ends.specs.EndTakes.{fails, passes, refuses}
+use Rattle.h2_joined.proofs.Names
+use Names.{◌<◌, ◌^◌, ◌∷◌, ◌++◌, drop, true, refl, arith, Code, InternalError, Values, Answer}
+use Names.{Refuse, Event, FieldsEvent, ResetEvent, Log, MayAnswer, with_call, MayTake, Took}
+use Names.{log_after_take, Part, FieldsPart, Half, EndLog, Passed, EndAnswer, EndTook, EndFailed}
+use Names.{IsNoEmptyPart, parts_on, reads_on, handed_as, EndMayTake, IsReadableWith, end_with_log}
+use Names.{end_with_handed, hands_nothing, hands_out, refusal_fails, runs_out_of_memory, KeepsOrder}
+use Names.{memory_fails, Side, JointEnd, Made, half_of, part_of_event, ◌≡◌, ◌≢◌, ℕ, List, Some}
+use Names.{None, Bool, Failed, fails, passes, refuses}
+use Rattle.h2_laws_end.specs.Takes.{AfterTake}
 use Rattle.h2_ends.proofs.EndTokens.{take_calls}
-use Rattle.h2_joined.specs.declared.act.Side.TheVariants.{Client, Server}
 use Rattle.h2_joined.proofs.HoldsNumbers.{part_low_at}
 use Rattle.h2_joined.proofs.HoldsParts.{holds_none, holds_passed, holds_handed}
-use Rattle.h2_joined.proofs.HoldsReads.{AcceptAt, readable_at}
-use Rattle.h2_joined.proofs.HoldsSides.{IsPairAt, has_role_at, up_at}
+use Rattle.h2_joined.proofs.HoldsReads.{readable_at}
+use Rattle.h2_joined.proofs.HoldsSides.{IsPairAt, has_role_at, faultless_at}
 use Rattle.h2_joined.proofs.HoldsSteps.{took_at, loses_at, failed_at, refused_at, where_at}
-use Rattle.h2_joined.proofs.JointHolds.{EndHolds, AllHadMemory}
+use Rattle.h2_joined.proofs.JointHolds.{EndHolds, AllHadMemory, accept_same, AcceptAt}
 
 -- What stays as it is while octets are delivered to an end: its side, both ends' settings at first,
 -- the acts that were made before, and the other end.
@@ -67,28 +62,6 @@ abbrev pub LeadsIn : Around → (piece later : List ℕ) → EndAnswer → EndLo
 LeadsIn around piece later (EndTook count handed) after =
     HoldsIn around after (drop count piece ++ later)
 LeadsIn around piece later (EndFailed code) after = FallsIn around code after later
-
--- An end that has accepted the same has so still.
-accept_same : (side : Side) (end new other : EndLog) → new.accepted ≡ end.accepted
-    → AcceptAt side end other → AcceptAt side new other
-accept_same Client end new other same accept =
-    record {
-      requests = rw same accept.requests;
-      answers = λ i message is. let answer = accept.answers i message is in record {
-        request = answer.request;
-        accepted = rw same answer.accepted;
-        well = answer.well;
-      };
-    }
-accept_same Server end new other same accept =
-    record {
-      requests = accept.requests;
-      answers = λ i message is. let answer = accept.answers i message (rw same at is) in record {
-        request = answer.request;
-        accepted = answer.accepted;
-        well = answer.well;
-      };
-    }
 
 -- What a call of `take` that has not failed reports.
 reports : (before after : Log) (piece : List ℕ) (count : ℕ) (event : Event)
@@ -249,8 +222,8 @@ module _ (around : Around) (end : EndLog) (piece later : List ℕ) where
         pair = where_at around.side around.client_values around.server_values
             (half_with log later fell.0) other calm ⊥ fell.1 (λ wrong. absurd wrong);
         calm = λ had memory.
-            let up : log.failed ≡ None = up_at around.side around.client_values around.server_values
-            (half_with log later fell.0) other calm fell.1 (had, memory) in
+            let up : log.failed ≡ None = (faultless_at around.side around.client_values
+            around.server_values (half_with log later fell.0) other calm fell.1 (had, memory)).up in
             cc;
       }
 

@@ -1,23 +1,20 @@
 -- The messages that two joined ends accept break no rule: requests by themselves, responses as
 -- answers to the requests.
-use Rattle.h2_joined.proofs.Names.{inl, inr, ◌==◌, true, [], ◌∷◌, Option, refl, sym, ap, ◌∙◌, subst}
-use Rattle.h2_joined.proofs.Names.{AllByRecursion, both_ways, cases_Bool, Values, Open, SendFields}
-use Rattle.h2_joined.proofs.Names.{Number, Done, MayAnswer, is_number_used, opened_is_new}
-use Rattle.h2_joined.proofs.Names.{SentMessage, asks_head, broken_by_request, broken_by_response}
-use Rattle.h2_joined.proofs.Names.{Part, FieldsPart, OctetsPart, IsPrefixOfTokens, both_logs}
-use Rattle.h2_joined.proofs.Names.{parts_on, JointEnd, Made, half_of}
+use Rattle.h2_joined.proofs.Names
+use Names.{inl, inr, ◌==◌, true, [], ◌∷◌, Option, refl, sym, ap, ◌∙◌, subst, AllByRecursion}
+use Names.{both_ways, cases_Bool, Values, Open, SendFields, Number, Done, MayAnswer, is_number_used}
+use Names.{opened_is_new, SentMessage, asks_head, broken_by_request, broken_by_response, Part}
+use Names.{FieldsPart, OctetsPart, IsPrefixOfTokens, parts_on, JointEnd, Made, end_tokens}
+use Names.{message_tokens, IsNoEmptyPart, message_for, tokens_given, tokens_of_part}
+use Names.{tokens_of_parts, ◌≡◌, ◌≢◌, ℕ, Bool, false, List, Some, None, Server}
 use Rattle.h2_message.specs.Phases.{asks_head_first}
-use Rattle.h2_laws_pair.specs.Tokens.{end_tokens, message_tokens}
-use Rattle.h2_ends.specs.Ends.{IsNoEmptyPart, message_for, tokens_given, tokens_of_part}
-use Rattle.h2_ends.specs.Ends.{tokens_of_parts}
-use Rattle.std.proofs.Common.{◌≡◌, ◌≢◌, ℕ, Bool, false, List, Some, None}
 use Rattle.std.proofs.lemmas.Bool.{ne_eqb, eqb-true}
 use Rattle.h2_spec_log.specs.declared.role.Role.TheVariants.{Client}
 use Rattle.h2_ends.specs.EndCalls.{IsAsked, broken_by_answer}
-use Rattle.h2_joined.specs.declared.act.Side.TheVariants.{Server}
-use Rattle.h2_joined.proofs.JointHolds.{JointHolds, EndHolds, AcceptWell, IsAnswer}
+use Rattle.h2_joined.proofs.JointHolds.{JointHolds, EndHolds, AcceptWell, IsAnswer, log_of, HoldsAt}
 use Rattle.h2_joined.proofs.JointCalls.{end_called}
-use Rattle.h2_joined.proofs.JointOrder.{server_hands, sent_used}
+use Rattle.h2_joined.proofs.JointOrder.{sent_used, hands_at}
+use Rattle.h2_joined.specs.declared.act.Side.TheVariants as sides
 
 -- What was accepted for a stream, once a message more was accepted: that one for its stream,
 given_here : (i id : ℕ) (message : SentMessage) (accepted : List (ℕ × SentMessage))
@@ -48,9 +45,9 @@ module _ (client_values server_values : Values) (made : List Made) (client serve
       → message_for i client.happened.accepted ≡ Some message
       → is_number_used client.happened.log i ≡ true
   accepted_used i message holds is =
-      sent_used Client client_values client.happened.log i (both_logs client_values server_values
-      (half_of client holds.client_lost) (half_of server holds.server_lost) holds.pair).client_log
-      ((holds.client_order.sends i).begun (not_none _ message is))
+      sent_used Client client_values client.happened.log i
+      (log_of sides.Client client_values server_values made client server holds.stays)
+      ((holds.order.sends i).begun (not_none _ message is))
 
   -- So a request on a new stream leaves what the server answers.
   pub request_accepted : (message : SentMessage) (id : ℕ) (end : Bool)
@@ -63,8 +60,7 @@ module _ (client_values server_values : Values) (made : List Made) (client serve
       well =
       let accepted = client.happened.accepted in
       let new = (opened_is_new Client client_values client.happened.log message.head end id
-      (both_logs client_values server_values (half_of client holds.client_lost)
-      (half_of server holds.server_lost) holds.pair).client_log may).2 in
+      (log_of sides.Client client_values server_values made client server holds.stays) may).2 in
       record {
         requests = λ i one is. elim (cases_Bool (id == i)) [
           | inl here ↦ subst (λ (any : SentMessage). broken_by_request any ≡ None)
@@ -107,14 +103,14 @@ first_is_head ((OctetsPart [], false) ∷ parts) said says some begins = elim (s
 module _ (client_values server_values : Values) (made : List Made) (client server : JointEnd)
     (id : ℕ) (message : SentMessage) where
   -- So what the server answers is the request that the client has accepted.
-  answers_request : JointHolds client_values server_values made client server
+  answers_request : HoldsAt sides.Server client_values server_values made server client
       → EndHolds made Server server.happened → IsAsked server.happened id
       → broken_by_answer server.happened id message ≡ None → IsAnswer client.happened id message
   answers_request holds server_holds asked
       unbroken =
       let head = first_is_head (parts_on id server.happened.handed)
       (message_for id client.happened.accepted) (server_holds.says id) asked.handed
-      (server_hands client_values server_values made client server id holds) in
+      (hands_at sides.Server client_values server_values made server client id holds) in
       record {
         request = head.0;
         accepted = head.1;
@@ -122,7 +118,8 @@ module _ (client_values server_values : Values) (made : List Made) (client serve
       }
 
   -- A response breaks no rule as an answer to that.
-  pub response_accepted : (end : Bool) → JointHolds client_values server_values made client server
+  pub response_accepted : (end : Bool)
+      → HoldsAt sides.Server client_values server_values made server client
       → EndHolds made Server server.happened → IsAsked server.happened id
       → broken_by_answer server.happened id message ≡ None
       → AcceptWell client.happened server.happened

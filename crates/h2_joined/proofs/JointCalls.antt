@@ -1,30 +1,20 @@
 -- One call of the connection at either end keeps what holds of two joined ends.
-use Rattle.h2_joined.proofs.Names.{inl, inr, ◌∷◌, ◌++◌, refl, sym, ap, ◌∙◌, append-nil, subst}
-use Rattle.h2_joined.proofs.Names.{both_ways, Values, Act, Answer, IsTypedAct, ResetStream, Refuse}
-use Rattle.h2_joined.proofs.Names.{PutOut, Done, OutOfMemory, View, Log, log_view, MayAnswer}
-use Rattle.h2_joined.proofs.Names.{with_call, grows_call, SentMessage, IsPair, tokens_heard}
-use Rattle.h2_joined.proofs.Names.{WasAsked, first_or_later, call_gives_nothing, EndLog, Side}
-use Rattle.h2_joined.proofs.Names.{JointEnd, Made, half_of, with_happened, with_given, WasResetAt}
-use Rattle.h2_laws_pair.specs.Undisturbed.{IsUndisturbed, IsUndisturbedStep, LeavesUp}
-use Rattle.std.proofs.Common.{◌≡◌, ◌≢◌, ℕ, false, List}
+use Rattle.h2_joined.proofs.Names.{inl, inr, ◌∷◌, sym, ◌∙◌, Act, Log, ◌≡◌, ◌≢◌, ℕ, List, ◌++◌, refl}
+use Rattle.h2_joined.proofs.Names.{subst, Done, View, Side, Made, false, calls, ap, append-nil}
+use Rattle.h2_joined.proofs.Names.{IsTypedAct, OutOfMemory, grows_call, SentMessage, both_ways}
+use Rattle.h2_joined.proofs.Names.{first_or_later, call_gives_nothing, IsUndisturbedStep, Values}
+use Rattle.h2_joined.proofs.Names.{Answer, Refuse, PutOut, EndLog, JointEnd, ResetStream}
+use Rattle.h2_joined.proofs.Names.{tokens_heard, half_of, with_happened, log_view, MayAnswer}
+use Rattle.h2_joined.proofs.Names.{with_call, WasAsked, with_given, WasResetAt, AreUndisturbed}
+use Rattle.h2_laws_pair.specs.Undisturbed.{LeavesUp}
 use Rattle.h2_spec_log.specs.CallRules.{may_fail_for_memory}
 use Rattle.h2_spec_log.specs.LogCalls.{accepts, refuses, lacks, fails}
-use Rattle.h2_laws_pair.specs.Pairs.{calls, client_steps, server_steps}
 use Rattle.h2_laws_log.proofs.PartsStay.{call_calls}
 use Rattle.h2_laws_pair.proofs.StepUnprocessed.{call_reports_all}
-use Rattle.h2_joined.specs.declared.act.Side.TheVariants.{Client, Server}
-use Rattle.h2_joined.proofs.JointHolds.{IsCalm, EndHolds, AcceptWell, AllHadMemory}
+use Rattle.h2_joined.proofs.JointHolds.{EndHolds, AllHadMemory, StaysAt, reported_by, AcceptAt}
 use Rattle.h2_laws_log.proofs.CallConditions.{answer_in_memory as in_memory}
-
--- What holds between two calls of an act: all but the order, which holds again after the last one.
-pub record JointStays (client_values server_values : Values) (made : List Made)
-    (client server : JointEnd) : Type 0 where
-  pub client_lost : List ℕ
-  pub server_lost : List ℕ
-  pub pair : IsPair client_values server_values (half_of client client_lost)
-      (half_of server server_lost)
-  pub calm : AllHadMemory made
-      → IsCalm pair made client.unfinished client.happened server.happened
+use Rattle.h2_joined.proofs.HoldsSides.{goes_on_at}
+use Rattle.h2_laws_pair.specs.Steps.{no_step, then_step}
 
 -- the end after a call of its connection, where these messages are accepted
 abbrev pub end_called : EndLog → Act → Answer → List (ℕ × SentMessage) → EndLog
@@ -118,107 +108,50 @@ end_kept made side end act answer accepted holds of_act =
           (rw (call_calls end.log act answer) at here);
     }
 
--- What was accepted breaks no rule, whatever else has happened.
-pub accepted_alike : (client server new_client new_server : EndLog)
-    → new_client.accepted ≡ client.accepted → new_server.accepted ≡ server.accepted
-    → AcceptWell client server → AcceptWell new_client new_server
-accepted_alike client server new_client new_server same other_same well =
-    record {
-      requests = λ i message is. well.requests i message (rw same at is);
-      answers = λ i message is. let answer = well.answers i message (rw other_same at is) in
-          record {
-            request = answer.request;
-            accepted = rw same answer.accepted;
-            well = answer.well;
-          };
-    }
-
-module _ (client_values server_values : Values) (made : List Made) (client server : JointEnd)
-    (act : Act) (answer : Answer) (accepted : List (ℕ × SentMessage)) where
-  -- A call at the client,
-  pub client_called : JointStays client_values server_values made client server → IsTypedAct act
-      → MayAnswer client.happened.log act answer → IsOfAct made Client act answer
-      → (AllHadMemory made → AcceptWell (end_called client.happened act answer accepted)
-      server.happened)
-      → JointStays client_values server_values made (with_happened client
-      (end_called client.happened act answer accepted)) (with_given server client act answer)
-  unfolding IsUndisturbed IsUndisturbedStep
-  client_called stays typed may of_act well =
+module _ (side : Side) (client_values server_values : Values) (made : List Made)
+    (one other : JointEnd) (act : Act) (answer : Answer)
+    (accepted : List (ℕ × SentMessage)) where
+  -- A call at either end keeps what holds.
+  pub called_at : StaysAt side client_values server_values made one other → IsTypedAct act
+      → MayAnswer one.happened.log act answer → IsOfAct made side act answer
+      → (AllHadMemory made → AcceptAt side (end_called one.happened act answer accepted)
+      other.happened)
+      → StaysAt side client_values server_values made
+      (with_happened one (end_called one.happened act answer accepted))
+      (with_given other one act answer)
+  unfolding AreUndisturbed IsUndisturbedStep
+  called_at stays typed may of_act well =
+      let half = half_of one stays.lost in
+      let other_half = half_of other stays.other_lost in
+      let log = one.happened.log in
+      let memory = answers_in_memory log act answer of_act.no_refusal may in
+      let up = leaves_up log act of_act.no_refusal in
       record {
-        client_lost = stays.client_lost;
-        server_lost = stays.server_lost;
-        pair = client_steps stays.pair (calls act answer typed may);
-        calm = λ had. let calm = stays.calm had in
-            record {
-              undisturbed = (
-                calm.undisturbed,
-                (
-                  answers_in_memory client.happened.log act answer of_act.no_refusal may,
-                  leaves_up client.happened.log act of_act.no_refusal,
-                ),
-              );
-              client_holds = end_kept made Client client.happened act answer accepted
-                  calm.client_holds of_act;
-              server_holds = calm.server_holds;
-              accepted = well had;
-              all_reported = λ finished.
-                  call_reports_all client.happened.log act answer may (calm.all_reported finished);
-            };
+        lost = stays.lost;
+        other_lost = stays.other_lost;
+        pair = goes_on_at side client_values server_values half other_half _ _ (AllHadMemory made)
+            (AllHadMemory made) stays.pair
+            (then_step (no_step half other_half) (calls act answer typed may))
+            (λ had. (had, (tt, (memory, up))));
+        calm = λ had. let calm = stays.calm had in record {
+          holds = end_kept made side one.happened act answer accepted calm.holds of_act;
+          other_holds = calm.other_holds;
+          accepted = well had;
+          reported = reported_by side one other _ _
+              (λ all finished. call_reports_all log act answer may (all finished)) (λ all. all)
+              calm.reported;
+        };
       }
 
-  -- and at the server.
-  pub server_called : JointStays client_values server_values made client server → IsTypedAct act
-      → MayAnswer server.happened.log act answer → IsOfAct made Server act answer
-      → (AllHadMemory made → AcceptWell client.happened (end_called server.happened act answer
-      accepted))
-      → JointStays client_values server_values made (with_given client server act answer)
-      (with_happened server (end_called server.happened act answer accepted))
-  unfolding IsUndisturbed IsUndisturbedStep
-  server_called stays typed may of_act well =
-      record {
-        client_lost = stays.client_lost;
-        server_lost = stays.server_lost;
-        pair = server_steps stays.pair (calls act answer typed may);
-        calm = λ had. let calm = stays.calm had in
-            record {
-              undisturbed = (
-                calm.undisturbed,
-                (
-                  answers_in_memory server.happened.log act answer of_act.no_refusal may,
-                  leaves_up server.happened.log act of_act.no_refusal,
-                ),
-              );
-              client_holds = calm.client_holds;
-              server_holds = end_kept made Server server.happened act answer accepted
-                  calm.server_holds of_act;
-              accepted = well had;
-              all_reported = calm.all_reported;
-            };
-      }
-
-  -- The same of a call that puts no output out.
-  pub client_called_within : JointStays client_values server_values made client server
-      → IsTypedAct act → MayAnswer client.happened.log act answer → IsOfAct made Client act answer
+  -- So does one that puts no output out.
+  pub called_within : StaysAt side client_values server_values made one other → IsTypedAct act
+      → MayAnswer one.happened.log act answer → IsOfAct made side act answer
       → ((count : ℕ) → act ≢ PutOut count)
-      → (AllHadMemory made → AcceptWell (end_called client.happened act answer accepted)
-      server.happened)
-      → JointStays client_values server_values made (with_happened client
-      (end_called client.happened act answer accepted)) server
-  client_called_within stays typed may of_act within well =
-      subst (λ (other : JointEnd). JointStays client_values server_values made
-      (with_happened client (end_called client.happened act answer accepted)) other)
-      (nothing_given server client act answer may within) (client_called stays typed
-      may of_act well)
-
-  pub server_called_within : JointStays client_values server_values made client server
-      → IsTypedAct act → MayAnswer server.happened.log act answer → IsOfAct made Server act answer
-      → ((count : ℕ) → act ≢ PutOut count)
-      → (AllHadMemory made → AcceptWell client.happened (end_called server.happened act answer
-      accepted))
-      → JointStays client_values server_values made client (with_happened server
-      (end_called server.happened act answer accepted))
-  server_called_within stays typed may of_act within well =
-      subst (λ (other : JointEnd). JointStays client_values server_values made other
-      (with_happened server (end_called server.happened act answer accepted)))
-      (nothing_given client server act answer may within) (server_called stays typed
-      may of_act well)
+      → (AllHadMemory made → AcceptAt side (end_called one.happened act answer accepted)
+      other.happened)
+      → StaysAt side client_values server_values made
+      (with_happened one (end_called one.happened act answer accepted)) other
+  called_within stays typed may of_act within well =
+      subst (λ (given : JointEnd). StaysAt side client_values server_values made
+      (with_happened one (end_called one.happened act answer accepted)) given)
+      (nothing_given other one act answer may within) (called_at stays typed may of_act well)

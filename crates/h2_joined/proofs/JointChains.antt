@@ -1,13 +1,11 @@
 -- What an ordinary call of the connection keeps, an act of such calls keeps.
-use Rattle.h2_joined.proofs.Names.{inl, inr, true, Option, Result, Ok, Err, sym, subst, Refusal}
-use Rattle.h2_joined.proofs.Names.{Act, Answer, IsTypedAct, Open, SendFields, Count, Done, Refused}
-use Rattle.h2_joined.proofs.Names.{MayAnswer, with_call, SentMessage, EndRefusal, EndLog}
-use Rattle.h2_joined.proofs.Names.{end_with_log, pumps_no_more, pumps_data, pumps_trailers}
-use Rattle.h2_joined.proofs.Names.{data_refused, trailers_refused, Releases, releases_no_more}
-use Rattle.h2_joined.proofs.Names.{releases_one, releases_refused, no_part_next}
-use Rattle.h2_ends.specs.EndCalls.{IsUnchanged, MayRequest, MayRespond, MayPump, MayReleaseAll}
-use Rattle.h2_ends.specs.EndCalls.{IsHeadCall, Pumps}
-use Rattle.std.proofs.Common.{ℕ, Some, None}
+use Rattle.h2_joined.proofs.Names
+use Names.{inl, pumps_no_more, pumps_trailers, trailers_refused, releases_no_more, releases_refused}
+use Names.{inr, IsTypedAct, SendFields, EndRefusal, pumps_data, IsUnchanged, MayRequest, MayRespond}
+use Names.{true, SentMessage, end_with_log, data_refused, releases_one, no_part_next, MayReleaseAll}
+use Names.{Option, Result, subst, Refusal, Answer, Refused, MayAnswer, with_call, Releases, MayPump}
+use Names.{Ok, Err, sym, Act, Open, Count, Done, EndLog, Pumps, ℕ, Some, None}
+use Rattle.h2_ends.specs.EndCalls.{IsHeadCall}
 use Rattle.h2_spec_log.specs.declared.refusal.Refusal.TheVariants.{Closed, OutputFull, Memory}
 use Rattle.h2_spec_log.specs.Acts.{SendData, Release}
 use Rattle.h2_spec_log.specs.Log.{owed}

@@ -1,13 +1,14 @@
 -- What holds of two joined ends, whatever acts were made.
-use Rattle.h2_joined.proofs.Names.{InternalError, AllByRecursion, Contains, Values, Event}
-use Rattle.h2_joined.proofs.Names.{next_unprocessed, SentMessage, asks_head, broken_by_request}
-use Rattle.h2_joined.proofs.Names.{broken_by_response, Half, IsPair, tokens_heard, IsUndisturbed}
-use Rattle.h2_joined.proofs.Names.{WasAsked, EndLog, Passed, IsNoEmptyPart, message_for, parts_on}
-use Rattle.h2_joined.proofs.Names.{part_of_event, tokens_handed, KeepsOrder, Side, JointEnd, Made}
-use Rattle.h2_joined.proofs.Names.{half_of, WasResetAt}
-use Rattle.std.specs.Prelude.{◌≡◌, ◌≢◌, ℕ, Bool, false, List, Some, None}
-use Rattle.h2_joined.specs.declared.act.Side.TheVariants.{Client, Server}
+use Rattle.h2_joined.proofs.Names
+use Names.{InternalError, AllByRecursion, next_unprocessed, broken_by_request, broken_by_response}
+use Names.{Contains, asks_head, WasAsked, message_for, parts_on, KeepsOrder, JointEnd, WasResetAt}
+use Names.{Values, Event, EndLog, Passed, Side, Made, half_of, Client, Server, SentMessage}
+use Names.{tokens_heard, IsNoEmptyPart, part_of_event, tokens_handed, Contains-append_right, IsLog}
+use Names.{[], ◌∷◌, other_side}
+use Rattle.std.specs.Prelude.{◌≡◌, ◌≢◌, ℕ, false, List, Some, None}
 use Rattle.h2_joined.specs.declared.act.Acted.TheVariants.{Failed}
+use Rattle.h2_joined.proofs.HoldsSides.{IsPairAt, log_at, role_at, values_at}
+use Rattle.h2_joined.proofs.HoldsSteps.{where_at}
 
 -- No connection has failed in the act since memory was refused.
 pub record ActHadMemory (made : Made) : Type 0 where
@@ -27,6 +28,18 @@ pub record EndHolds (made : List Made) (side : Side) (end : EndLog) : Type 0 whe
       → Contains end.handed (Passed event)
   pub asked : (id code : ℕ) → WasAsked end.log.calls id code → WasResetAt made side id code
 
+-- What holds of an end holds with one act more.
+pub end_holds_more : (act : Made) (made : List Made) (side : Side) (end : EndLog)
+    → EndHolds made side end → EndHolds (act ∷ made) side end
+end_holds_more act made side end holds =
+    record {
+      heard = holds.heard;
+      says = holds.says;
+      passed = holds.passed;
+      reported = holds.reported;
+      asked = λ id code was. Contains-append_right (act ∷ []) made _ (holds.asked id code was);
+    }
+
 -- The server has accepted a message for a stream: it answers the request that the client has
 -- accepted for it, and breaks no rule as an answer to that.
 pub record IsAnswer (client : EndLog) (i : ℕ) (message : SentMessage) : Type 0 where
@@ -41,24 +54,135 @@ pub record AcceptWell (client server : EndLog) : Type 0 where
   pub answers : (i : ℕ) (message : SentMessage) → message_for i server.accepted ≡ Some message
       → IsAnswer client i message
 
--- What holds as long as memory was not refused to a connection. `unfinished`: whether the last
--- delivery to the client has stopped, after which a stream may wait to be reported as unprocessed.
-pub record IsCalm {client_values server_values : Values} {client server : Half}
-    (pair : IsPair client_values server_values client server) (made : List Made)
-    (unfinished : Bool) (at_client at_server : EndLog) : Type 0 where
-  pub undisturbed : IsUndisturbed pair
-  pub client_holds : EndHolds made Client at_client
-  pub server_holds : EndHolds made Server at_server
-  pub accepted : AcceptWell at_client at_server
-  pub all_reported : unfinished ≡ false → next_unprocessed at_client.log ≡ 0
+-- the same as one of the ends sees it
+abbrev pub AcceptAt : Side → (one other : EndLog) → Type 0
+AcceptAt Client one other = AcceptWell one other
+AcceptAt Server one other = AcceptWell other one
 
-pub record JointHolds (client_values server_values : Values) (made : List Made)
-    (client server : JointEnd) : Type 0 where
-  pub client_lost : List ℕ
-  pub server_lost : List ℕ
-  pub pair : IsPair client_values server_values (half_of client client_lost)
-      (half_of server server_lost)
-  pub client_order : KeepsOrder client.happened
-  pub server_order : KeepsOrder server.happened
-  pub calm : AllHadMemory made
-      → IsCalm pair made client.unfinished client.happened server.happened
+-- An end that has accepted the same has so still.
+pub accept_same : (side : Side) (end new other : EndLog) → new.accepted ≡ end.accepted
+    → AcceptAt side end other → AcceptAt side new other
+accept_same Client end new other same accept =
+    record {
+      requests = rw same accept.requests;
+      answers = λ i message is. let answer = accept.answers i message is in record {
+        request = answer.request;
+        accepted = rw same answer.accepted;
+        well = answer.well;
+      };
+    }
+accept_same Server end new other same accept =
+    record {
+      requests = accept.requests;
+      answers = λ i message is. let answer = accept.answers i message (rw same at is) in record {
+        request = answer.request;
+        accepted = answer.accepted;
+        well = answer.well;
+      };
+    }
+
+-- Unless the last delivery to the client has stopped, no stream waits to be reported as
+-- unprocessed.
+abbrev pub HasReported : (client : JointEnd) → Type 0
+HasReported client = client.unfinished ≡ false → next_unprocessed client.happened.log ≡ 0
+
+abbrev pub ReportedAt : Side → (one other : JointEnd) → Type 0
+ReportedAt Client one other = HasReported one
+ReportedAt Server one other = HasReported other
+
+pub reported_by : (side : Side) (one other new new_other : JointEnd)
+    → (HasReported one → HasReported new) → (HasReported other → HasReported new_other)
+    → ReportedAt side one other → ReportedAt side new new_other
+reported_by Client one other new new_other here there reported = here reported
+reported_by Server one other new new_other here there reported = there reported
+
+-- What holds as long as memory was not refused to a connection, as the end on this side sees it.
+pub record IsCalm (side : Side) (made : List Made) (one other : JointEnd) : Type 0 where
+  pub holds : EndHolds made side one.happened
+  pub other_holds : EndHolds made (other_side side) other.happened
+  pub accepted : AcceptAt side one.happened other.happened
+  pub reported : ReportedAt side one other
+
+-- What holds of two joined ends between two calls of an act: all but the order, which holds again
+-- after the last one.
+pub record StaysAt (side : Side) (client_values server_values : Values) (made : List Made)
+    (one other : JointEnd) : Type 0 where
+  pub lost : List ℕ
+  pub other_lost : List ℕ
+  pub pair : IsPairAt side client_values server_values (half_of one lost)
+      (half_of other other_lost) (AllHadMemory made)
+  pub calm : AllHadMemory made → IsCalm side made one other
+
+pub record HoldsAt (side : Side) (client_values server_values : Values) (made : List Made)
+    (one other : JointEnd) : Type 0 where
+  pub stays : StaysAt side client_values server_values made one other
+  pub order : KeepsOrder one.happened
+  pub other_order : KeepsOrder other.happened
+
+-- the same, as the client sees it
+abbrev pub JointHolds : (client_values server_values : Values) → List Made
+    → (client server : JointEnd) → Type 0
+JointHolds client_values server_values made client server =
+    HoldsAt Client client_values server_values made client server
+
+-- Where it holds at one side it holds at the other.
+turned_stays : (side : Side) (client_values server_values : Values) (made : List Made)
+    (one other : JointEnd) → StaysAt side client_values server_values made one other
+    → StaysAt (other_side side) client_values server_values made other one
+turned_stays Client client_values server_values made one other stays =
+    record {
+      lost = stays.other_lost;
+      other_lost = stays.lost;
+      pair = stays.pair;
+      calm = λ had. let calm = stays.calm had in record {
+        holds = calm.other_holds;
+        other_holds = calm.holds;
+        accepted = calm.accepted;
+        reported = calm.reported;
+      };
+    }
+turned_stays Server client_values server_values made one other stays =
+    record {
+      lost = stays.other_lost;
+      other_lost = stays.lost;
+      pair = stays.pair;
+      calm = λ had. let calm = stays.calm had in record {
+        holds = calm.other_holds;
+        other_holds = calm.holds;
+        accepted = calm.accepted;
+        reported = calm.reported;
+      };
+    }
+
+module _ (side : Side) (client_values server_values : Values) (made : List Made)
+    (one other : JointEnd) where
+  pub turned : HoldsAt side client_values server_values made one other
+      → HoldsAt (other_side side) client_values server_values made other one
+  turned holds = record {
+    stays = turned_stays side client_values server_values made one other holds.stays;
+    order = holds.other_order;
+    other_order = holds.order;
+  }
+
+  -- One act more leaves what holds.
+  pub stays_more : (act : Made) → StaysAt side client_values server_values made one other
+      → StaysAt side client_values server_values (act ∷ made) one other
+  stays_more act stays = record {
+    lost = stays.lost;
+    other_lost = stays.other_lost;
+    pair = where_at side client_values server_values (half_of one stays.lost)
+        (half_of other stays.other_lost) (AllHadMemory made) (AllHadMemory (act ∷ made)) stays.pair
+        (λ had. had.1);
+    calm = λ had. let calm = stays.calm had.1 in record {
+      holds = end_holds_more act made side one.happened calm.holds;
+      other_holds = end_holds_more act made (other_side side) other.happened calm.other_holds;
+      accepted = calm.accepted;
+      reported = calm.reported;
+    };
+  }
+
+  -- the log of this end comes about
+  pub log_of : StaysAt side client_values server_values made one other
+      → IsLog (role_at side) (values_at side client_values server_values) one.happened.log
+  log_of stays = log_at side client_values server_values (half_of one stays.lost)
+      (half_of other stays.other_lost) (AllHadMemory made) stays.pair

@@ -1,21 +1,19 @@
 -- What follows for two joined ends: no fault is reported, and once they are quiet each message was
 -- handed out whole.
-use Rattle.h2_joined.proofs.Names.{inl, inr, true, Option, refl, sym, ap, ◌∙◌, subst, Values}
-use Rattle.h2_joined.proofs.Names.{ResetEvent, UnprocessedEvent, SentMessage, Token}
-use Rattle.h2_joined.proofs.Names.{IsPrefixOfTokens, message_tokens, tokens_heard, faultless_client}
-use Rattle.h2_joined.proofs.Names.{faultless_server, EndLog, message_for, tokens_handed}
-use Rattle.h2_joined.proofs.Names.{tokens_said, SendsInOrder, IsQuietEnd, Side, JointEnd, Made}
-use Rattle.h2_joined.proofs.Names.{half_of, AreQuiet, WasResetIn, ReportsNoFault}
-use Rattle.h2_ends.specs.Ends.{part_of_event, tokens_given}
-use Rattle.std.proofs.Common.{◌≡◌, ℕ, false, List, Some, None}
+use Rattle.h2_joined.proofs.Names
+use Names.{inl, inr, true, Option, refl, sym, ap, ◌∙◌, subst, Values, ResetEvent, UnprocessedEvent}
+use Names.{SentMessage, Token, IsPrefixOfTokens, message_tokens, tokens_heard, EndLog, message_for}
+use Names.{tokens_handed, tokens_said, SendsInOrder, IsQuietEnd, Side, JointEnd, Made, half_of}
+use Names.{AreQuiet, WasResetIn, ReportsNoFault, part_of_event, tokens_given, ◌≡◌, ℕ, false, List}
+use Names.{Some, None, Client, Server, other_side}
 use Rattle.h2_laws_pair.specs.Quiet.{IsQuiet, WasReset, IsSending, IsStuck}
 use Rattle.h2_laws_pair.specs.Undisturbed.{IsFaultless}
 use Rattle.h2_laws_pair.proofs.HeardQuiet.{server_hears_whole, client_hears_whole}
-use Rattle.h2_joined.specs.declared.act.Side.TheVariants.{Client, Server}
-use Rattle.h2_joined.proofs.JointHolds.{JointHolds, EndHolds, AllHadMemory}
-use Rattle.h2_joined.proofs.JointOrder.{server_hands, client_hands}
+use Rattle.h2_joined.proofs.JointHolds.{JointHolds, EndHolds, AllHadMemory, HoldsAt, turned}
 use Rattle.h2_ends.proofs.EndOrder.{waiting_of, none_begins}
 use Rattle.h2_ends.proofs.PumpTokens.{said_is as said_of}
+use Rattle.h2_joined.proofs.HoldsSides.{faultless_at}
+use Rattle.h2_joined.proofs.JointOrder.{hands_at}
 
 -- An end whose connection reports no fault reports none.
 reports_no_fault : (made : List Made) (side peer : Side) (one other : EndLog)
@@ -30,27 +28,21 @@ reports_no_fault made side peer one other holds other_holds faultless =
           (faultless.asked id code (holds.passed (ResetEvent id code false) here));
     }
 
-pub client_faultless : (client_values server_values : Values) (made : List Made)
-    (client server : JointEnd) → JointHolds client_values server_values made client server
-    → AllHadMemory made → ReportsNoFault made client.happened Server
-client_faultless client_values server_values made client server holds had =
-    let calm = holds.calm had in
-    reports_no_fault made Client Server client.happened server.happened calm.client_holds
-    calm.server_holds (faultless_client _ _ _ _ holds.pair calm.undisturbed)
-
-pub server_faultless : (client_values server_values : Values) (made : List Made)
-    (client server : JointEnd) → JointHolds client_values server_values made client server
-    → AllHadMemory made → ReportsNoFault made server.happened Client
-server_faultless client_values server_values made client server holds had =
-    let calm = holds.calm had in
-    reports_no_fault made Server Client server.happened client.happened calm.server_holds
-    calm.client_holds (faultless_server _ _ _ _ holds.pair calm.undisturbed)
+pub faultless_end : (side : Side) (client_values server_values : Values) (made : List Made)
+    (one other : JointEnd) → HoldsAt side client_values server_values made one other
+    → AllHadMemory made → ReportsNoFault made one.happened (other_side side)
+faultless_end side client_values server_values made one other holds had =
+    let stays = holds.stays in
+    let calm = stays.calm had in
+    reports_no_fault made side (other_side side) one.happened other.happened calm.holds
+    calm.other_holds (faultless_at side client_values server_values (half_of one stays.lost)
+    (half_of other stays.other_lost) (AllHadMemory made) stays.pair had)
 
 -- Two quiet ends are a quiet pair.
 quiet_pair : (client_values server_values : Values) (made : List Made)
     (client server : JointEnd) (holds : JointHolds client_values server_values made client server)
     → AllHadMemory made → AreQuiet client server
-    → IsQuiet (half_of client holds.client_lost) (half_of server holds.server_lost)
+    → IsQuiet (half_of client holds.stays.lost) (half_of server holds.stays.other_lost)
 quiet_pair client_values server_values made client server holds had quiet =
     record {
       to_server = record {
@@ -65,7 +57,7 @@ quiet_pair client_values server_values made client server holds had quiet =
         none_owed = quiet.quiet_client.none_owed;
         none_unreturned = quiet.quiet_client.none_unreturned;
       };
-      all_reported = (holds.calm had).all_reported quiet.finished_client;
+      all_reported = (holds.stays.calm had).reported quiet.finished_client;
     }
 
 -- What an unprocessed stream is reported by is no part of a message.
@@ -110,32 +102,31 @@ handed_whole one other made side i (Some message) is begins sends holds quiet he
     (subst (λ (waiting : List Token). IsStuck other.log i waiting) (waiting_of _ _ sends)
     (quiet.stuck i)) ∙ sym (said_of other i message is)
 
-pub server_has_all : (client_values server_values : Values) (made : List Made)
-    (client server : JointEnd) (i : ℕ) → JointHolds client_values server_values made client server
-    → AllHadMemory made → AreQuiet client server → (WasResetIn made client i → ⊥)
-    → tokens_handed server.happened i ≡ tokens_said client.happened i
-server_has_all client_values server_values made client server i holds had quiet unreset =
-    let calm = holds.calm had in
-    handed_whole server.happened client.happened made Server i _ refl
-    (server_hands client_values server_values made client server i holds)
-    (holds.client_order.sends i) calm.server_holds quiet.quiet_client
-    (λ message waiting sending stuck. server_hears_whole client_values server_values
-    (half_of client holds.client_lost) (half_of server holds.server_lost) i message waiting
-    holds.pair calm.undisturbed (quiet_pair _ _ _ _ server holds had quiet)
-    (λ reset. unreset (reset_in made client server i calm.client_holds calm.server_holds reset))
-    sending stuck)
+module _ (client_values server_values : Values) (made : List Made) (client server : JointEnd)
+    (i : ℕ) (holds : JointHolds client_values server_values made client server)
+    (had : AllHadMemory made) (quiet : AreQuiet client server)
+    (unreset : WasResetIn made client i → ⊥) where
+  not_reset : WasReset client.happened.log server.happened.log i → ⊥
+  not_reset reset =
+      let calm = holds.stays.calm had in
+      unreset (reset_in made client server i calm.holds calm.other_holds reset)
 
-pub client_has_all : (client_values server_values : Values) (made : List Made)
-    (client server : JointEnd) (i : ℕ) → JointHolds client_values server_values made client server
-    → AllHadMemory made → AreQuiet client server → (WasResetIn made client i → ⊥)
-    → tokens_handed client.happened i ≡ tokens_said server.happened i
-client_has_all client_values server_values made client server i holds had quiet unreset =
-    let calm = holds.calm had in
-    handed_whole client.happened server.happened made Client i _ refl
-    (client_hands client_values server_values made client server i holds)
-    (holds.server_order.sends i) calm.client_holds quiet.quiet_server
-    (λ message waiting sending stuck. client_hears_whole client_values server_values
-    (half_of client holds.client_lost) (half_of server holds.server_lost) i message waiting
-    holds.pair calm.undisturbed (quiet_pair _ _ _ _ server holds had quiet)
-    (λ reset. unreset (reset_in made client server i calm.client_holds calm.server_holds reset))
-    sending stuck)
+  pub server_has_all : tokens_handed server.happened i ≡ tokens_said client.happened i
+  server_has_all =
+      handed_whole server.happened client.happened made Server i _ refl
+      (hands_at Server _ _ _ _ _ i (turned Client _ _ _ _ _ holds)) (holds.order.sends i)
+      (holds.stays.calm had).other_holds quiet.quiet_client
+      (λ message waiting. server_hears_whole client_values server_values
+      (half_of client holds.stays.lost) (half_of server holds.stays.other_lost) i message waiting
+      holds.stays.pair.0 (holds.stays.pair.1 had) (quiet_pair _ _ _ _ server holds had quiet)
+      not_reset)
+
+  pub client_has_all : tokens_handed client.happened i ≡ tokens_said server.happened i
+  client_has_all =
+      handed_whole client.happened server.happened made Client i _ refl
+      (hands_at Client _ _ _ _ _ i holds) (holds.other_order.sends i)
+      (holds.stays.calm had).holds quiet.quiet_server
+      (λ message waiting. client_hears_whole client_values server_values
+      (half_of client holds.stays.lost) (half_of server holds.stays.other_lost) i message waiting
+      holds.stays.pair.0 (holds.stays.pair.1 had) (quiet_pair _ _ _ _ server holds had quiet)
+      not_reset)

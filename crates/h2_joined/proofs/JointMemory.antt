@@ -1,20 +1,15 @@
 -- A connection that has failed stays failed. So where memory was not refused where it counts, it
 -- was not in any act.
-use Rattle.h2_joined.proofs.Names.{suc, take, drop, Result, Ok, Err, refl, ap, subst, ◌∙◌, Code}
-use Rattle.h2_joined.proofs.Names.{InternalError, Values, Act, Answer, Number, Count, Done}
-use Rattle.h2_joined.proofs.Names.{OutOfMemory, Refused, Open, SendFields, Refuse, PutOut, Log}
-use Rattle.h2_joined.proofs.Names.{MayAnswer, with_call, log_after_take, Took, FieldsEvent}
-use Rattle.h2_joined.proofs.Names.{SentMessage, is_head_alone, EndRefusal, EndLog, EndAnswer}
-use Rattle.h2_joined.proofs.Names.{EndFailed, EndMayTake, hands_nothing, hands_out, refusal_fails}
-use Rattle.h2_joined.proofs.Names.{runs_out_of_memory, memory_fails, Side, Acted, Doing, JointEnd}
-use Rattle.h2_joined.proofs.Names.{Made, Delivery, Fails, IsDelivered, MayDo, IsControlCall}
-use Rattle.h2_joined.proofs.Names.{IsJoint, IsNextAct, MemorySufficed, acted_by, acted_as}
-use Rattle.h2_ends.specs.EndCalls.{MayRequest, MayRespond}
-use Rattle.std.proofs.Common.{◌≡◌, ◌≢◌, ℕ, List, Some}
-use Rattle.h2_laws_end.specs.Takes.{Failed}
+use Rattle.h2_joined.proofs.Names
+use Names.{suc, take, drop, Result, Ok, Err, refl, ap, subst, ◌∙◌, Code, InternalError, Values, Act}
+use Names.{Answer, Number, Count, Done, OutOfMemory, Refused, Open, SendFields, Refuse, PutOut, Log}
+use Names.{MayAnswer, with_call, log_after_take, Took, FieldsEvent, SentMessage, is_head_alone}
+use Names.{EndRefusal, EndLog, EndAnswer, EndFailed, EndMayTake, hands_nothing, hands_out}
+use Names.{refusal_fails, runs_out_of_memory, memory_fails, Side, Acted, Doing, JointEnd, Made}
+use Names.{Delivery, Fails, IsDelivered, MayDo, IsControlCall, IsJoint, IsNextAct, MemorySufficed}
+use Names.{acted_by, acted_as, MayRequest, MayRespond, ◌≡◌, ◌≢◌, ℕ, List, Some, Failed, fails}
+use Names.{passes, refuses, Client, Server}
 use Rattle.h2_laws_pair.proofs.StepCalls.{call_failed}
-use Rattle.h2_ends.specs.EndTakes.{fails, passes, refuses}
-use Rattle.h2_joined.specs.declared.act.Side.TheVariants.{Client, Server}
 use Rattle.h2_joined.proofs.JointHolds.{ActHadMemory, AllHadMemory}
 use Rattle.h2_joined.proofs.JointCalls.{IsOrdinary, answers_in_memory}
 use Rattle.h2_joined.proofs.JointChains.{KeptByCalls, holds_by_pump, holds_by_release}
@@ -88,7 +83,7 @@ act_keeps one other _ _ _ _ code (joints.no_copy_of_a_request message) failed = 
 act_keeps one other _ _ _ _ code (joints.no_copy_of_a_response id message) failed = failed
 
 -- and at the other nothing happens.
-other_stays : (one other new_one new_other : JointEnd) (doing : Doing) (answer : Acted)
+pub other_stays : (one other new_one new_other : JointEnd) (doing : Doing) (answer : Acted)
     → MayDo one other doing answer new_one new_other → new_other.happened ≡ other.happened
 other_stays one other _ _ _ _ (joints.requests message result after typed may) = refl
 other_stays one other _ _ _ _ (joints.responds id message result after small typed may) = refl

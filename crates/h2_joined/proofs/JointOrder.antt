@@ -1,12 +1,9 @@
 -- What an end has handed out is a prefix of what the other was given to say.
-use Rattle.h2_joined.proofs.Names.{inl, inr, true, [], sym, ◌∙◌, append-nil, subst, list_any}
-use Rattle.h2_joined.proofs.Names.{both_ways, cases_Bool, Item, Role, Values, IsLog, Log, openings}
-use Rattle.h2_joined.proofs.Names.{stream_of_log, is_number_used, Token, tokens_sent, tokens_heard}
-use Rattle.h2_joined.proofs.Names.{IsPrefixOfTokens, server_hears, client_hears, begins_message}
-use Rattle.h2_joined.proofs.Names.{EndLog, tokens_handed, tokens_said, SendsInOrder, JointEnd, Made}
-use Rattle.h2_joined.proofs.Names.{half_of}
-use Rattle.h2_spec_log.specs.States.{is_used}
-use Rattle.std.proofs.Common.{◌≡◌, ◌≢◌, ℕ, false, List}
+use Rattle.h2_joined.proofs.Names
+use Names.{inl, inr, true, [], sym, ◌∙◌, append-nil, subst, list_any, both_ways, cases_Bool, Item}
+use Names.{Role, Values, IsLog, Log, openings, stream_of_log, is_number_used, Token, tokens_sent}
+use Names.{tokens_heard, IsPrefixOfTokens, begins_message, EndLog, tokens_handed, tokens_said}
+use Names.{SendsInOrder, JointEnd, Made, half_of, is_used, ◌≡◌, ◌≢◌, ℕ, false, List, Side}
 use Rattle.std.proofs.lemmas.Bool.{and_from}
 use Rattle.h2_laws_log.proofs.InvariantLogs.{written_is_allowed}
 use Rattle.h2_laws_log.proofs.ReaderStates.{opens_here}
@@ -16,7 +13,8 @@ use Rattle.h2_laws_pair.proofs.HeardMessages.{IsOpened, spoken_opened, silent_to
 use Rattle.h2_laws_pair.proofs.HeardSent.{tokens_carried}
 use Rattle.h2_ends.specs.Ends.{tokens_out}
 use Rattle.h2_ends.specs.Represents.{HandsInOrder}
-use Rattle.h2_joined.proofs.JointHolds.{JointHolds}
+use Rattle.h2_joined.proofs.JointHolds.{HoldsAt, AllHadMemory}
+use Rattle.h2_joined.proofs.HoldsSides.{hears_at}
 
 -- What was handed out of a stream is a prefix of what its connection has reported.
 handed_begins : (end : EndLog) (i : ℕ) → HandsInOrder end i
@@ -39,19 +37,14 @@ handed_said one other i hands sends heard =
     (prefix_of_prefix (tokens_handed one i) (tokens_heard i one.log.reported)
     (tokens_out other i) (handed_begins one i hands) heard) sends.prefix
 
-module _ (client_values server_values : Values) (made : List Made) (client server : JointEnd) where
-  -- So it is at the server, and at the client.
-  pub server_hands : (i : ℕ) → JointHolds client_values server_values made client server
-      → IsPrefixOfTokens (tokens_handed server.happened i) (tokens_said client.happened i)
-  server_hands i holds = handed_said server.happened client.happened i (holds.server_order.hands i)
-      (holds.client_order.sends i) (server_hears client_values server_values
-      (half_of client holds.client_lost) (half_of server holds.server_lost) i holds.pair)
-
-  pub client_hands : (i : ℕ) → JointHolds client_values server_values made client server
-      → IsPrefixOfTokens (tokens_handed client.happened i) (tokens_said server.happened i)
-  client_hands i holds = handed_said client.happened server.happened i (holds.client_order.hands i)
-      (holds.server_order.sends i) (client_hears client_values server_values
-      (half_of client holds.client_lost) (half_of server holds.server_lost) i holds.pair)
+-- So it is at either end.
+pub hands_at : (side : Side) (client_values server_values : Values) (made : List Made)
+    (one other : JointEnd) (i : ℕ) → HoldsAt side client_values server_values made one other
+    → IsPrefixOfTokens (tokens_handed one.happened i) (tokens_said other.happened i)
+hands_at side client_values server_values made one other i holds =
+    handed_said one.happened other.happened i (holds.order.hands i) (holds.other_order.sends i)
+    (hears_at side client_values server_values (half_of one holds.stays.lost)
+    (half_of other holds.stays.other_lost) (AllHadMemory made) i holds.stays.pair)
 
 -- A stream that was opened is used.
 opened_used : (role : Role) (i : ℕ) (received sent : List Item) → IsOpened role i received sent

@@ -1,27 +1,20 @@
 -- Whatever acts were made, what was handed out at each of two joined ends is what its place says,
 -- and each message that the server has accepted has a final head.
-use Rattle.h2_joined.proofs.Names.{◌⊎◌, inl, inr, ◌==◌, true, if◌then◌else◌, [], ◌∷◌, ◌++◌, Result}
-use Rattle.h2_joined.proofs.Names.{Ok, Err, refl, sym, ap, ◌∙◌, subst, append-nil, cases_eq}
-use Rattle.h2_joined.proofs.Names.{cases_Bool, Role, Values, Refuse, PutOut, Event, FieldsEvent}
-use Rattle.h2_joined.proofs.Names.{ResetEvent, Log, with_call, is_server, grows_call, Took}
-use Rattle.h2_joined.proofs.Names.{Responses, SentMessage, Part, EndRefusal, EndLog, Handed, Passed}
-use Rattle.h2_joined.proofs.Names.{EndAnswer, handed_as, EndMayTake, IsReadableWith, end_with_log}
-use Rattle.h2_joined.proofs.Names.{end_with_handed, hands_nothing, hands_out, refusal_fails}
-use Rattle.h2_joined.proofs.Names.{runs_out_of_memory, MessageToken, new_end_log, handed_elsewhere}
-use Rattle.h2_joined.proofs.Names.{readable_here, Acted, Doing, JointEnd, Made, Delivery, Whole}
-use Rattle.h2_joined.proofs.Names.{Fails, Stops, MayDo, IsDelivered, IsJoint, IsNextAct}
-use Rattle.h2_spec_log.specs.LogCalls.{opened}
-use Rattle.h2_spec_log.specs.LogSteps.{with_sent}
-use Rattle.h2_ends.specs.Ends.{message_for, part_on, parts_on, reads_on}
-use Rattle.h2_ends.specs.EndCalls.{MayRequest, MayRespond}
-use Rattle.h2_ends.specs.MessageTokens.{parts_heard, parts_heard_in}
-use Rattle.std.proofs.Common.{◌≡◌, ℕ, Bool, false, List, Some, None}
-use Rattle.h2_laws_end.specs.Takes.{Failed}
+use Rattle.h2_joined.proofs.Names
+use Names.{◌⊎◌, Refuse, PutOut, EndLog, Handed, Passed, Acted, Doing, Whole, opened, Failed, passes}
+use Names.{inl, inr, ◌∷◌, Err, sym, ap, ◌∙◌, Log, ◌≡◌, List, Some, None, ◌==◌, true, ◌++◌, refl}
+use Names.{Role, Took, Part, Made, Fails, Stops, MayDo, Bool, false, fails, if◌then◌else◌, []}
+use Names.{IsReadableWith, end_with_handed, runs_out_of_memory, handed_elsewhere, Result, Values}
+use Names.{Event, JointEnd, Delivery, IsJoint, part_on, parts_on, reads_on, refuses, Ok}
+use Names.{FieldsEvent, end_with_log, hands_nothing, refusal_fails, MessageToken, readable_here}
+use Names.{subst, ResetEvent, with_call, grows_call, EndRefusal, EndMayTake, MayRequest, MayRespond}
+use Names.{append-nil, cases_Bool, SentMessage, new_end_log, IsDelivered, message_for, parts_heard}
+use Names.{cases_eq, is_server, Responses, EndAnswer, handed_as, hands_out, IsNextAct, with_sent, ℕ}
+use Rattle.h2_ends.specs.MessageTokens.{parts_heard_in}
 use Rattle.h2_laws_end.proofs.OverNumbers.{open_answer}
 use Rattle.h2_message.specs.declared.reading.Reads.TheVariants.{Requests}
 use Rattle.h2_message.proofs.PhaseWhole.{not_readable}
 use Rattle.h2_laws_pair.proofs.StepUnprocessed.{role_by_take as take_role}
-use Rattle.h2_ends.specs.EndTakes.{fails, passes, refuses}
 use Rattle.h2_ends.proofs.EndParts.{has_phase}
 use Rattle.h2_ends.proofs.MessageTokensPlaced.{place_where, begun_after, placed_part, parts_placed}
 use Rattle.h2_ends.proofs.MessageTokensPlaced.{placed_more, reads_requests, heard_here}
@@ -29,6 +22,7 @@ use Rattle.h2_ends.proofs.MessageTokensPlaced.{heard_elsewhere}
 use Rattle.h2_ends.proofs.MessageTokensSaid.{response_final}
 use Rattle.h2_joined.proofs.JointChains.{KeptByCalls, holds_by_pump, holds_by_release}
 use Rattle.h2_joined.proofs.JointChains.{holds_by_refused_request, holds_by_refused_response}
+use Rattle.h2_joined.proofs.HoldsSides.{one_role}
 use Rattle.h2_spec_log.specs.declared.role.Role.TheVariants as roles
 use Rattle.h2_message.specs.declared.reading.Place.TheVariants as places
 use Rattle.h2_joined.specs.Joints as joints
@@ -175,9 +169,6 @@ delivery_places role _ end after _ _ (joints.fails calls octets code few may) ke
 delivery_places role _ end _ _ _ (joints.stops calls octets) keeps = keeps
 
 -- A request is accepted only at a client,
-no_server : (role : Role) → role ≡ roles.Client → role ≡ roles.Server → ⊥
-no_server role client server = cc
-
 request_places : (role : Role) (end after : EndLog) (message : SentMessage)
     (result : Result ℕ EndRefusal) → MayRequest end message result after → KeepsPlaces role end
     → KeepsPlaces role after
@@ -186,7 +177,7 @@ request_places role end after message (Ok id) (unbroken, fits, may, same) keeps 
     subst (KeepsPlaces role) (sym same) (record {
       role_is = (grows_call end.log _ _).role ∙ keeps.role_is;
       placed = keeps.placed;
-      final = λ server i one is. absurd (no_server role
+      final = λ server i one is. absurd (one_role role
           (sym keeps.role_is ∙ (open_answer _ _ _ id may).0) server);
     })
 request_places role end after message (Err refusal) may keeps =

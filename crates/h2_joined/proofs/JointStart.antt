@@ -1,13 +1,8 @@
 -- Of two new ends all of it holds.
 use Rattle.h2_joined.proofs.Names.{inl, inr, [], refl, Role, Values, new_end_log, KeepsOrder, Side}
-use Rattle.h2_joined.proofs.Names.{new_joint_end}
-use Rattle.h2_spec_log.specs.Log.{next_unprocessed}
-use Rattle.h2_spec_log.specs.LogCalls.{opened}
-use Rattle.h2_spec_log.specs.LogSteps.{with_sent}
-use Rattle.h2_laws_pair.specs.Tokens.{tokens_sent, tokens_heard}
-use Rattle.h2_laws_pair.specs.Undisturbed.{IsUndisturbed}
-use Rattle.h2_ends.specs.Ends.{message_for, parts_on, tokens_given, tokens_of_parts}
-use Rattle.std.proofs.Common.{◌≡◌}
+use Rattle.h2_joined.proofs.Names.{new_joint_end, next_unprocessed, opened, with_sent, tokens_sent}
+use Rattle.h2_joined.proofs.Names.{tokens_heard, IsUndisturbed, message_for, parts_on, tokens_given}
+use Rattle.h2_joined.proofs.Names.{tokens_of_parts, ◌≡◌}
 use Rattle.h2_spec_log.specs.Acts.{AreInRange}
 use Rattle.h2_spec_log.specs.States.{least_block}
 use Rattle.h2_laws_pair.specs.Pairs.{begins}
@@ -63,16 +58,17 @@ pub new_ends_hold : (client_values server_values : Values) → AreInRange client
 unfolding IsUndisturbed
 new_ends_hold client_values server_values client_range server_range =
     record {
-      client_lost = [];
-      server_lost = [];
-      pair = begins client_range server_range;
-      client_order = new_order roles.Client client_values;
-      server_order = new_order roles.Server server_values;
-      calm = λ had. record {
-        undisturbed = tt;
-        client_holds = new_holds _ roles.Client client_values;
-        server_holds = new_holds _ roles.Server server_values;
-        accepted = new_accepted client_values server_values;
-        all_reported = λ finished. new_reported client_values;
+      stays = record {
+        lost = [];
+        other_lost = [];
+        pair = (begins client_range server_range, λ had. tt);
+        calm = λ had. record {
+          holds = new_holds _ roles.Client client_values;
+          other_holds = new_holds _ roles.Server server_values;
+          accepted = new_accepted client_values server_values;
+          reported = λ finished. new_reported client_values;
+        };
       };
+      order = new_order roles.Client client_values;
+      other_order = new_order roles.Server server_values;
     }

@@ -4,8 +4,8 @@ use Rattle.h2_joined.proofs.Names.{SentMessage, End, EndLog, Handed, EndRepresen
 use Rattle.h2_joined.proofs.Names.{Accepted, Kept, Pipe, Store, Joined, Doing, JointEnd, MayDo}
 use Rattle.h2_joined.proofs.Names.{with_happened, at_client, at_server, continues, HoldsOctets}
 use Rattle.h2_joined.proofs.Names.{KeepsHanded, KeepsEnd, MakesAct, made, accepted_value, end_at}
-use Rattle.h2_joined.proofs.Names.{kept_of, other_side}
-use Rattle.std.proofs.Common.{map as each, ◌≡◌, ℕ, List, reverse}
+use Rattle.h2_joined.proofs.Names.{kept_of, other_side, ◌≡◌, ℕ, List, reverse}
+use Rattle.std.proofs.Common.{map as each}
 use Rattle.std.proofs.lemmas.List.{map_push}
 use Rattle.h2_joined.specs.declared.act.Side.TheVariants as sides
 use Rattle.h2_joined.specs.declared.act.Acted.TheVariants as acted
@@ -91,6 +91,25 @@ pub record ChangesEnd (side : Side) (old new : Joined) : Type 0 where
   pub other_end : end_at (other_side side) new ≡ end_at (other_side side) old
   pub kept : SameKept (kept_of side old) (kept_of side new)
   pub other_kept : kept_of (other_side side) new ≡ kept_of (other_side side) old
+
+pub changes_end : (side : Side) (old new : Joined)
+    → (kept_of side new).accepted.items ≡ (kept_of side old).accepted.items
+    → end_at (other_side side) new ≡ end_at (other_side side) old
+    → (kept_of side new).incoming ≡ (kept_of side old).incoming
+    → (kept_of side new).handed ≡ (kept_of side old).handed
+    → (kept_of side new).unfinished ≡ (kept_of side old).unfinished
+    → kept_of (other_side side) new ≡ kept_of (other_side side) old → ChangesEnd side old new
+changes_end side old new items end incoming handed unfinished other =
+    record {
+      other_end = end;
+      kept = record {
+        incoming = incoming;
+        accepted = items;
+        handed = handed;
+        unfinished = unfinished;
+      };
+      other_kept = other;
+    }
 
 -- What is kept stays so, where the end has accepted and handed out nothing.
 pub keeps_same : (old new : Kept) (one new_one : JointEnd) → KeepsEnd old one → SameKept old new

@@ -1,14 +1,11 @@
 -- What a call of an end makes of the messages that it has accepted and of what it has handed out.
-use Rattle.h2_joined.proofs.Names.{◌∷◌, Option, Result, Ok, Err, inl, inr, refl, sym, ap, ◌∙◌}
-use Rattle.h2_joined.proofs.Names.{Refusal, Log, SentMessage, EndRefusal, EndLog, Handed, EndAnswer}
-use Rattle.h2_joined.proofs.Names.{EndTook, EndFailed, EndMayTake, hands_nothing, hands_out}
-use Rattle.h2_joined.proofs.Names.{refusal_fails, runs_out_of_memory, pumps_no_more, pumps_data}
-use Rattle.h2_joined.proofs.Names.{pumps_trailers, data_refused, trailers_refused, Releases}
-use Rattle.h2_joined.proofs.Names.{releases_no_more, releases_one, releases_refused}
-use Rattle.h2_ends.specs.EndCalls.{MayRequest, MayRespond, MayPump, MayReleaseAll, IsUnchanged}
-use Rattle.h2_ends.specs.EndCalls.{Pumps}
-use Rattle.std.proofs.Common.{◌≡◌, ℕ, List, Some, None}
-use Rattle.h2_ends.specs.EndTakes.{fails, passes, refuses}
+use Rattle.h2_joined.proofs.Names
+use Names.{◌∷◌, Option, Result, Ok, Err, inl, inr, refl, sym, ap, ◌∙◌, Refusal, Log, SentMessage}
+use Names.{EndRefusal, EndLog, Handed, EndAnswer, EndTook, EndFailed, EndMayTake, hands_nothing}
+use Names.{hands_out, refusal_fails, runs_out_of_memory, pumps_no_more, pumps_data, pumps_trailers}
+use Names.{data_refused, trailers_refused, Releases, releases_no_more, releases_one}
+use Names.{releases_refused, MayRequest, MayRespond, MayPump, MayReleaseAll, IsUnchanged, Pumps}
+use Names.{◌≡◌, ℕ, List, Some, None, fails, passes, refuses}
 use Rattle.h2_spec_log.specs.declared.refusal.Refusal.TheVariants as reasons
 use Rattle.h2_ends.specs.declared.refusal.EndRefusal.TheVariants as refusals
 

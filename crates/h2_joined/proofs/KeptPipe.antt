@@ -1,9 +1,9 @@
 -- The octets of a pipe, once some were delivered.
 use Rattle.h2_joined.proofs.Names.{◌+◌, ◌-◌, ◌^◌, ◌<◌, ◌≤◌, [], ◌++◌, length, take, drop, refl, sym}
 use Rattle.h2_joined.proofs.Names.{ap, ◌∙◌, arith, take-append-drop, drop-drop, drop_min, Pipe}
-use Rattle.h2_joined.proofs.Names.{HoldsOctets}
-use Rattle.std.proofs.Common.{◌≡◌, ℕ, min, List}
-use Rattle.std.proofs.lemmas.List.{length-append, length-take-le, length-drop, drop_at}
+use Rattle.h2_joined.proofs.Names.{HoldsOctets, ◌≡◌, ℕ, List, length-append, length-drop}
+use Rattle.std.proofs.Common.{min}
+use Rattle.std.proofs.lemmas.List.{length-take-le, drop_at}
 
 -- how many octets of a pipe were delivered once so many more are, of all that it has
 abbrev pub IsUsed : Pipe → (count used : ℕ) → Type 0

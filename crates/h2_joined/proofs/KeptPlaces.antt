@@ -1,11 +1,10 @@
 -- What is kept at places stays where more is kept after it.
-use Rattle.h2_joined.proofs.Names.{suc, ◌-◌, ◌<◌, ◌≤◌, [], ◌∷◌, ◌++◌, length, take, drop, map, refl}
-use Rattle.h2_joined.proofs.Names.{ap, ap₂, ◌∙◌, arith, AllByRecursion, slice_get, drop-append-le}
-use Rattle.h2_joined.proofs.Names.{Field, Handed, InterimHanded, HeadHanded, BodyHanded}
-use Rattle.h2_joined.proofs.Names.{TrailersHanded, Span, FieldPlace, EventPlace, part_of}
-use Rattle.h2_joined.proofs.Names.{stored_fields, IsSpan, IsFieldPlace}
-use Rattle.h2_joined.specs.Stored.{stored_field, event_kept, IsEventPlace}
-use Rattle.std.proofs.Common.{◌≡◌, ℕ, zero, List, get_or, Some, length-drop}
+use Rattle.h2_joined.proofs.Names
+use Names.{suc, ◌-◌, ◌<◌, ◌≤◌, [], ◌∷◌, ◌++◌, length, take, drop, map, refl, ap, ap₂, ◌∙◌, arith}
+use Names.{AllByRecursion, slice_get, drop-append-le, Field, Handed, InterimHanded, HeadHanded}
+use Names.{BodyHanded, TrailersHanded, Span, FieldPlace, EventPlace, part_of, stored_fields, IsSpan}
+use Names.{IsFieldPlace, stored_field, event_kept, IsEventPlace, ◌≡◌, ℕ, List, Some}
+use Rattle.std.proofs.Common.{zero, get_or, length-drop}
 use Rattle.std.specs.Option.{option_map}
 use Rattle.std.proofs.lemmas.List.{take-append-le}
 use Rattle.std.proofs.lemmas.Option.{slice_get-map, slice_get-get_or}

@@ -2,8 +2,7 @@
 use Rattle.h2_joined.proofs.Names.{◌≤◌, ◌<◌, true, [], ◌∷◌, length, refl, sym, ap, arith, ◌∙◌}
 use Rattle.h2_joined.proofs.Names.{both_ways, Values, End, EndLog, IsQuietEnd, EndRepresents}
 use Rattle.h2_joined.proofs.Names.{Joined, Pipe, AreQuiet, JointEnd, Made, HoldsOctets}
-use Rattle.h2_joined.proofs.Names.{JoinedRepresents}
-use Rattle.std.proofs.Common.{◌≡◌, ℕ, Bool, false, List}
+use Rattle.h2_joined.proofs.Names.{JoinedRepresents, ◌≡◌, ℕ, Bool, false, List}
 use Rattle.std.specs.Prelude.{◌↔◌}
 
 -- what `len` of a pipe answers

@@ -1,15 +1,14 @@
 -- What a store keeps, once octets, fields or an event are kept after what was kept before.
-use Rattle.h2_joined.proofs.Names.{◌+◌, ◌-◌, ◌<◌, ◌≤◌, true, [], ◌∷◌, ◌++◌, length, take, drop, map}
-use Rattle.h2_joined.proofs.Names.{refl, sym, ap, ap₂, ◌∙◌, if◌then◌else◌, arith, subst}
-use Rattle.h2_joined.proofs.Names.{append_assoc, append-nil, drop-append_seam, map-append, take_all}
-use Rattle.h2_joined.proofs.Names.{both_ways, AllByRecursion, Field, list_size, Handed, BodyHanded}
-use Rattle.h2_joined.proofs.Names.{Span, FieldPlace, EventPlace, Store, part_of, stored_fields}
-use Rattle.h2_joined.proofs.Names.{events_kept, IsSpan, IsFieldPlace, AreStored, HasRoomForEvent}
-use Rattle.h2_joined.proofs.Names.{KeepsMore, KeepsHanded}
-use Rattle.h2_joined.specs.Stored.{stored_field, event_kept, IsEventPlace, Fits, KeepsItems}
-use Rattle.h2_joined.specs.Stored.{StoresOctets, KeepsField, AreFieldsKept, KeepsList, IsPlaced}
-use Rattle.h2_joined.specs.Stored.{PlacesEvent, most_event_octets}
-use Rattle.std.proofs.Common.{◌≡◌, ℕ, ◌*◌, Bool, false, List, reverse, length-append}
+use Rattle.h2_joined.proofs.Names
+use Names.{◌+◌, ◌-◌, ◌<◌, ◌≤◌, true, [], ◌∷◌, ◌++◌, length, take, drop, map, refl, sym, ap, ap₂}
+use Names.{◌∙◌, if◌then◌else◌, arith, subst, append_assoc, append-nil, drop-append_seam, map-append}
+use Names.{take_all, both_ways, AllByRecursion, Field, list_size, Handed, BodyHanded, Span}
+use Names.{FieldPlace, EventPlace, Store, part_of, stored_fields, events_kept, IsSpan, IsFieldPlace}
+use Names.{AreStored, HasRoomForEvent, KeepsMore, KeepsHanded, stored_field, event_kept}
+use Names.{IsEventPlace, Fits, ◌≡◌, ℕ, Bool, false, List, reverse}
+use Rattle.h2_joined.specs.Stored.{KeepsItems, StoresOctets, KeepsField, AreFieldsKept, KeepsList}
+use Rattle.h2_joined.specs.Stored.{IsPlaced, PlacesEvent, most_event_octets}
+use Rattle.std.proofs.Common.{◌*◌, length-append}
 use Rattle.std.proofs.Math.Seq.{take-append_seam, take-length}
 use Rattle.std.proofs.lemmas.List.Sums.{sum_by-cons}
 use Rattle.std.specs.Vec.{vec_len, vec_capacity}

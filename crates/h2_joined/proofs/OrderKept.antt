@@ -1,11 +1,9 @@
 -- What was sent and handed out at two joined ends keeps the order, whatever acts are made.
-use Rattle.h2_joined.proofs.Names.{Result, Ok, Err, sym, subst, Role, Values, Act, ResetStream}
-use Rattle.h2_joined.proofs.Names.{SendPing, SendGoAway, ChangeSettings, PutOut, Done, IsLog}
-use Rattle.h2_joined.proofs.Names.{opened_is_new, SentMessage, is_head_alone, EndRefusal, EndLog}
-use Rattle.h2_joined.proofs.Names.{EndTook, EndFailed, KeepsOrder, no_part_next, Acted, Doing}
-use Rattle.h2_joined.proofs.Names.{JointEnd, Delivery, IsDelivered, MayDo, IsControlCall}
-use Rattle.h2_ends.specs.EndCalls.{MayRequest, MayRespond}
-use Rattle.std.proofs.Common.{ℕ, List}
+use Rattle.h2_joined.proofs.Names
+use Names.{Result, Ok, Err, sym, subst, Role, Values, Act, ResetStream, SendPing, SendGoAway}
+use Names.{ChangeSettings, PutOut, Done, IsLog, opened_is_new, SentMessage, is_head_alone}
+use Names.{EndRefusal, EndLog, EndTook, EndFailed, KeepsOrder, no_part_next, Acted, Doing, JointEnd}
+use Names.{Delivery, IsDelivered, MayDo, IsControlCall, MayRequest, MayRespond, ℕ, List}
 use Rattle.h2_ends.proofs.EndOrder.{order_by_call, order_by_head, order_by_take, unsaid_unsent}
 use Rattle.h2_ends.proofs.EndTokens.{SendsNoPart}
 use Rattle.h2_ends.proofs.RequestHeads.{open_elsewhere, open_here, fields_elsewhere, fields_here}

@@ -1,9 +1,9 @@
 -- A list of acts that is made, act by act.
-use Rattle.h2_joined.proofs.Names.{◌+◌, ◌<◌, ◌≤◌, [], ◌∷◌, ◌++◌, length, take, drop, refl, sym, ap}
-use Rattle.h2_joined.proofs.Names.{subst, ◌∙◌, add-one, append-nil, reverse-append, map-append}
-use Rattle.h2_joined.proofs.Names.{take_all, take-append-drop, Values, Side, Acted, Joined, Doing}
-use Rattle.h2_joined.proofs.Names.{JointEnd, Made, MakesAct, JoinedRepresents, MakesAll}
-use Rattle.std.proofs.Common.{map as each, ◌≡◌, ℕ, List}
+use Rattle.h2_joined.proofs.Names.{◌+◌, add-one, map-append, take_all, JointEnd, MakesAct, MakesAll}
+use Rattle.h2_joined.proofs.Names.{◌<◌, ◌≤◌, [], ◌∷◌, refl, sym, ap, ◌∙◌, Side, Made, ◌≡◌, List}
+use Rattle.h2_joined.proofs.Names.{◌++◌, length, take, drop, subst, Values, Acted, Joined, Doing, ℕ}
+use Rattle.h2_joined.proofs.Names.{append-nil, reverse-append, take-append-drop, JoinedRepresents}
+use Rattle.std.proofs.Common.{map as each}
 use Rattle.std.proofs.Math.Seq.{take-suc}
 use Rattle.std.specs.Prelude.{reverse, get_or}
 use Rattle.h2_joined.specs.declared.act.JointAct.{JointAct}

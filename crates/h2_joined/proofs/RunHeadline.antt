@@ -2,10 +2,9 @@
 use Rattle.h2_joined.proofs.Names.{◌++◌, sym, ap, ◌∙◌, Values, SentMessage, EndLog, message_for}
 use Rattle.h2_joined.proofs.Names.{MessageToken, parts_heard, parts_said, IsPrefixOfParts, Kept}
 use Rattle.h2_joined.proofs.Names.{Joined, JointEnd, Made, AreQuiet, KeepsHanded, KeepsEnd}
-use Rattle.h2_joined.proofs.Names.{JoinedRepresents}
-use Rattle.std.proofs.Common.{◌≡◌, ℕ, List}
+use Rattle.h2_joined.proofs.Names.{JoinedRepresents, ◌≡◌, ℕ, List}
 use Rattle.h2_joined.specs.Runs.{parts_recorded, parts_accepted, AreInOrder, AreWhole, HasHeadline}
-use Rattle.h2_joined.proofs.RunLaws.{client_no_fault, server_no_fault, keep_throughout}
+use Rattle.h2_joined.proofs.RunLaws.{client_no_fault, server_no_fault, keep_at}
 use Rattle.h2_joined.proofs.RunParts.{parts_begin_at_server, parts_begin_at_client}
 use Rattle.h2_joined.proofs.RunParts.{parts_whole_at_server, parts_whole_at_client}
 
@@ -65,6 +64,6 @@ module _ (client_values server_values : Values) (joined : Joined) (made : List M
     in_order = in_order is;
     client_without_fault = client_no_fault client_values server_values made client server is.joint;
     server_without_fault = server_no_fault client_values server_values made client server is.joint;
-    keep_windows = keep_throughout client_values server_values made client server is.joint;
+    keep_windows = keep_at client_values server_values made client server is.joint;
     whole = are_whole is;
   }

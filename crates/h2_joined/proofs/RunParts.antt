@@ -3,8 +3,7 @@
 -- apart.
 use Rattle.h2_joined.proofs.Names.{refl, ◌∙◌, Values, is_server, message_for, parts_on, parts_heard}
 use Rattle.h2_joined.proofs.Names.{parts_said, IsPrefixOfParts, JointEnd, Made, IsJoint, AreQuiet}
-use Rattle.h2_joined.proofs.Names.{WasResetIn}
-use Rattle.std.proofs.Common.{◌≡◌, ℕ, List}
+use Rattle.h2_joined.proofs.Names.{WasResetIn, ◌≡◌, ℕ, List}
 use Rattle.h2_ends.proofs.MessageTokensSaid.{parts_prefix, parts_whole}
 use Rattle.h2_joined.proofs.JointPlaces.{joint_places}
 use Rattle.h2_joined.proofs.RunLaws.{prefix_at_server, prefix_at_client, whole_at_server}
@@ -20,7 +19,7 @@ module _ (client_values server_values : Values) (made : List Made) (client serve
       let keeps = (joint_places client_values server_values made client server joint).1 in
       rw (keeps.placed i) (parts_prefix (is_server roles.Server) (parts_on i server.happened.handed)
       (message_for i client.happened.accepted) (λ message is. refl)
-      (prefix_at_server client_values server_values made client server i joint))
+      (prefix_at_server client_values server_values made client server joint i))
 
   -- and what a client has begins what the server has.
   pub parts_begin_at_client : (i : ℕ) → IsJoint client_values server_values made client server
@@ -31,7 +30,7 @@ module _ (client_values server_values : Values) (made : List Made) (client serve
       rw (both.0.placed i)
       (parts_prefix (is_server roles.Client) (parts_on i client.happened.handed)
       (message_for i server.happened.accepted) (both.1.final refl i)
-      (prefix_at_client client_values server_values made client server i joint))
+      (prefix_at_client client_values server_values made client server joint i))
 
   -- It is all of that once both are quiet, unless the stream was reset: at the server,
   pub parts_whole_at_server : (i : ℕ) → IsJoint client_values server_values made client server
@@ -41,7 +40,7 @@ module _ (client_values server_values : Values) (made : List Made) (client serve
       let keeps = (joint_places client_values server_values made client server joint).1 in
       keeps.placed i ∙ parts_whole (is_server roles.Server) (parts_on i server.happened.handed)
       (message_for i client.happened.accepted) (λ message is. refl)
-      (whole_at_server client_values server_values made client server i joint quiet not_reset)
+      (whole_at_server client_values server_values made client server joint i quiet not_reset)
 
   -- and at the client.
   pub parts_whole_at_client : (i : ℕ) → IsJoint client_values server_values made client server
@@ -51,4 +50,4 @@ module _ (client_values server_values : Values) (made : List Made) (client serve
       let both = joint_places client_values server_values made client server joint in
       both.0.placed i ∙ parts_whole (is_server roles.Client) (parts_on i client.happened.handed)
       (message_for i server.happened.accepted) (both.1.final refl i)
-      (whole_at_client client_values server_values made client server i joint quiet not_reset)
+      (whole_at_client client_values server_values made client server joint i quiet not_reset)

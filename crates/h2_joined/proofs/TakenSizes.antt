@@ -1,17 +1,14 @@
 -- What a call of `take` hands out has at most 65,536 octets: a list whose size is above that is
 -- reset, and a body above the connection's window, which is at most 65,535 octets, is a fault. This
 -- is a law of logs; it stands here until a crate below has it.
-use Rattle.h2_joined.proofs.Names.{suc, ◌+◌, ◌≤◌, true, [], ◌∷◌, ◌++◌, length, Option, refl, sym}
-use Rattle.h2_joined.proofs.Names.{ap, ◌∙◌, subst, arith, AllByRecursion, Field, list_size, Code}
-use Rattle.h2_joined.proofs.Names.{Item, alone, block, Role, Values, Event, FieldsEvent, DataEvent}
-use Rattle.h2_joined.proofs.Names.{ResetEvent, UnprocessedEvent, Log, next_unprocessed, log_view}
-use Rattle.h2_joined.proofs.Names.{View, with_sent, IsLog, Part, FieldsPart, OctetsPart, Place}
-use Rattle.h2_joined.proofs.Names.{Reads, MayTake, Took, End, EndLog, Handed, Passed, EndAnswer}
-use Rattle.h2_joined.proofs.Names.{EndTook, reads_on, parts_on, EndMayTake, hands_nothing}
-use Rattle.h2_joined.proofs.Names.{hands_out, refusal_fails, runs_out_of_memory, EndRepresents}
-use Rattle.h2_ends.specs.Ends.{part_of_event, handed_at, handed_as}
-use Rattle.h2_joined.specs.Stored.{Fits}
-use Rattle.std.proofs.Common.{◌≡◌, ℕ, Bool, false, List, Some, None}
+use Rattle.h2_joined.proofs.Names
+use Names.{suc, ◌+◌, ◌≤◌, ◌∷◌, sym, ap, ◌∙◌, Log, End, ◌≡◌, None, true, Option, Values, log_view}
+use Names.{MayTake, EndTook, reads_on, parts_on, handed_as, refuses, [], ◌++◌, refl, Code, Item}
+use Names.{Role, View, Part, Took, Fits, Bool, false, List, Some, fails, length, FieldsEvent}
+use Names.{ResetEvent, FieldsPart, refusal_fails, EndRepresents, part_of_event, subst, arith, Field}
+use Names.{alone, block, Event, IsLog, Place, Reads, EndLog, Handed, Passed, AllByRecursion}
+use Names.{UnprocessedEvent, next_unprocessed, hands_nothing, runs_out_of_memory, ℕ, list_size}
+use Names.{DataEvent, with_sent, OctetsPart, EndAnswer, EndMayTake, hands_out, handed_at}
 use Rattle.std.proofs.lemmas.Bool.{ltb-false}
 use Rattle.std.proofs.lemmas.Bool.Decides.{nat_tests}
 use Rattle.h2_frame.specs.Encoding.{payload_of}
@@ -36,7 +33,7 @@ use Rattle.h2_laws_end.specs.Takes.{TakeAnswer, AnswersFrame, has_failed, report
 use Rattle.h2_laws_end.specs.Takes.{ends_no_frame, ends_frame, meets_fault}
 use Rattle.h2_laws_end.proofs.ReadVerdicts.{Says, says_of}
 use Rattle.h2_laws_end.proofs.TakeAnswers.{reported_is, sent_reported, unreturned_reported}
-use Rattle.h2_ends.specs.EndTakes.{fails, passes as hands_on, refuses}
+use Rattle.h2_ends.specs.EndTakes.{passes as hands_on}
 use Rattle.h2_message.specs.declared.reading.Place.TheVariants as places
 use Rattle.h2_laws_end.specs.Takes as takes
 

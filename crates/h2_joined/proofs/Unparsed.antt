@@ -1,8 +1,8 @@
 -- Where all that an end has written was given out and delivered, the other one, while it is up,
 -- holds no octets of a frame that isn't complete.
 use Rattle.h2_joined.proofs.Names.{[], ◌++◌, length, take, sym, ◌∙◌, arith, append-nil, subst}
-use Rattle.h2_joined.proofs.Names.{take_all, is_server, Half}
-use Rattle.std.proofs.Common.{◌≡◌, ℕ, not, List, None}
+use Rattle.h2_joined.proofs.Names.{take_all, is_server, Half, ◌≡◌, ℕ, List, None}
+use Rattle.std.proofs.Common.{not}
 use Rattle.h2_wire.specs.Streams.{Frames}
 use Rattle.h2_wire.proofs.FaultLemmas.{one_reading_lem}
 use Rattle.h2_laws_log.specs.Sending.{frames_by}

@@ -1,21 +1,20 @@
 -- Calls leave a stream active, unless they end or reset it; they make one active only where they
 -- answer its number; and one that is refused isn't active afterwards.
+use Rattle.h2_laws_end.proofs.Names
+use Names.{◌≡◌, true, List, ◌++◌, Some, None, refl, Reset, alone, Count, Event, lacks, fails, IsLog}
+use Names.{◌≢◌, ℕ, ◌≤◌, not, [], ◌∷◌, sym, ap, ◌∙◌, Code, Item, Role, Act, Open, Done, Log, View}
+use Names.{◌==◌, list_any, and_left, SendData, SendPing, is_active, MayAnswer, any_after, with_call}
+use Names.{Bool, false, arith, subst, Field, Server, Values, Answer, Refuse, Number, active, resets}
+use Names.{Option, eq-eqb, ne_eqb, GoAway, Release, log_view, accepts, refuses, items_of, last_is}
+use Names.{both_ways, and_parts, none_some, Refusal, SendFields, SendGoAway, refusal_of, conditions}
+use Names.{or_left, InternalError, code_number, ResetStream, active_parts, active_used, lasts_parts}
+use Names.{false_from_ne_true, list_any-append, ChangeSettings, greatest_processed, last_processed}
 use Rattle.std.specs.Option.{is_some}
 use Rattle.h2_spec_log.specs.declared.refusal.Refusal.TheVariants.{NoSuchStream, Closed}
 use Rattle.h2_spec_log.specs.States.{when}
 use Rattle.h2_spec_log.specs.View.{StreamView}
 use Rattle.h2_spec_log.specs.CallRules.{first_of, may_lack_memory}
 use Rattle.h2_laws_end.specs.Activity.{call_may_close}
-use Rattle.h2_laws_end.proofs.Names
-use Names.{◌≡◌, ◌≢◌, ℕ, ◌≤◌, ◌==◌, not, Bool, true, false, List, [], ◌∷◌, ◌++◌, Option, Some, None}
-use Names.{refl, sym, ap, ◌∙◌, arith, subst, list_any, both_ways, and_left, or_left, eq-eqb, ne_eqb}
-use Names.{false_from_ne_true, and_parts, list_any-append, Field, Code, InternalError, code_number}
-use Names.{GoAway, Reset, none_some, Item, alone, Role, Server, Refusal, Values, Act, Answer, Open}
-use Names.{SendFields, SendData, Release, ResetStream, Refuse, SendPing, SendGoAway, ChangeSettings}
-use Names.{Number, Count, Done, Event, is_active, Log, active, View, log_view, refusal_of}
-use Names.{MayAnswer, accepts, refuses, lacks, fails, IsLog, any_after, active_parts, active_used}
-use Names.{lasts_parts, resets, greatest_processed, last_processed, items_of, conditions, with_call}
-use Names.{last_is}
 use Rattle.h2_laws_end.proofs.OverCalls.{items_no_block, opens_other}
 use Rattle.h2_laws_end.proofs.OverLists.{IsInactive, inactive_sent}
 use Rattle.h2_laws_end.proofs.OverNumbers.{fields_active}

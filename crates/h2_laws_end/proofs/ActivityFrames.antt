@@ -1,5 +1,4 @@
 -- What a frame makes of the streams that are active: which it may close, and which it may open.
-use Rattle.h2_spec_log.specs.ItemEffects.{decoded_fields}
 use Rattle.h2_laws_end.proofs.Names
 use Names.{◌≡◌, ◌⊎◌, ℕ, ◌≤◌, ◌==◌, Bool, true, false, List, [], ◌∷◌, ◌++◌, Option, refl, sym, ap}
 use Names.{◌∙◌, inl, inr, arith, subst, list_any, both_ways, or_cases, or_parts, or_from, or_left}
@@ -10,6 +9,7 @@ use Names.{StreamFault, NoEvent, Reported, Decoded, verdict_of, any_after, activ
 use Names.{active_parts, none_both, IsCredit, or_right, is_block_on, resets, stream_of_item}
 use Names.{is_above, is_closed_by_us, last_processed, replies_to, is_stream_fault, events_of}
 use Names.{goaway_no_block, replies_no_block, event_may_close}
+use Rattle.h2_spec_log.specs.ItemEffects.{decoded_fields}
 use Rattle.h2_laws_end.proofs.ReadVerdicts.{Says, says_of}
 use Rattle.h2_laws_end.proofs.ReadingRules.{IsFaulty, IsUnreported, IsSaid, LogIsLow, rules_say}
 use Rattle.h2_laws_end.proofs.ActivityItems.{closes, closes_own, silent_keeps, reported_closes}

@@ -1,8 +1,5 @@
 -- What the verdict on an item says of the stream that it ends, resets or opens, and of what is
 -- reported of it.
-use Rattle.h2_spec_log.specs.Events.{reports_unprocessed}
-use Rattle.h2_spec_log.specs.Log.{goaway_written}
-use Rattle.h2_laws_log.proofs.ReaderStates.{state_active}
 use Rattle.h2_laws_end.proofs.Names
 use Names.{◌≡◌, ℕ, ◌==◌, ◌&&◌, Bool, true, false, List, [], ◌∷◌, Option, Some, None, refl, sym, ◌∙◌}
 use Names.{inl, inr, subst, list_any, both_ways, or_cases, or_left, and_parts, eqb-true}
@@ -11,6 +8,9 @@ use Names.{ClosedByUs, Closed, is_used, Log, active, state, View, log_view, Verd
 use Names.{ConnectionFault, NoEvent, Reported, Decoded, peer_opens, verdict_of, active_used}
 use Names.{state_is_active, used_more, used_here, is_number_used, ◌||◌, stream_of, ends, resets}
 use Names.{stream_of_item, state_by, verdict_by_rules, events_of, idle_unused, event_may_close}
+use Rattle.h2_spec_log.specs.Events.{reports_unprocessed}
+use Rattle.h2_spec_log.specs.Log.{goaway_written}
+use Rattle.h2_laws_log.proofs.ReaderStates.{state_active}
 use Rattle.h2_laws_end.proofs.ReadVerdicts.{Says, says_data, says_of, says_block, says_reset}
 use Rattle.h2_laws_end.proofs.ReadingRules.{IsFaulty}
 

@@ -1,9 +1,5 @@
 -- What holds of every log: of a number that wasn't used nothing was read or reported; and at a
 -- server each active stream was processed.
-use Rattle.h2_spec_log.specs.Events.{reports_unprocessed}
-use Rattle.h2_laws_log.proofs.NextStreams.{next_is_active}
-use Rattle.h2_laws_log.proofs.LogHistory.{processed_after}
-use Rattle.h2_laws_end.specs.Over.{is_number_used as was_used}
 use Rattle.h2_laws_end.proofs.Names
 use Names.{◌≡◌, ◌≢◌, ℕ, ◌≤◌, true, false, List, [], ◌∷◌, ◌++◌, Option, None, refl, sym, ◌∙◌, inl}
 use Names.{inr, arith, subst, list_any, both_ways, or_parts, or_from, eqb-true, false_from_ne_true}
@@ -13,14 +9,17 @@ use Names.{log_view, Verdict, ConnectionFault, Decoded, replies_to, verdict_of, 
 use Names.{begins, took_some, took_one, met_fault, ran_out_of_memory, reported_one, called_one}
 use Names.{active_parts, active_used, used_more, none_both, greatest_processed, processed_by, used}
 use Names.{with_sent, opened}
+use Rattle.h2_spec_log.specs.Events.{reports_unprocessed}
+use Rattle.h2_laws_log.proofs.NextStreams.{next_is_active}
+use Rattle.h2_laws_log.proofs.LogHistory.{processed_after}
+use Rattle.h2_laws_end.specs.Over.{is_number_used as was_used}
 use Rattle.h2_laws_end.proofs.ReadingCalls.{log_read}
 use Rattle.h2_laws_end.proofs.ReadingRules.{LogIsLow}
 use Rattle.h2_laws_end.proofs.ActivityFrames.{was_active, frame_opens, HasFields}
 use Rattle.h2_laws_end.proofs.ActivityItems.{events_name_none, unused_kept}
-use Rattle.h2_laws_end.proofs.ActivitySteps.{Adds, AfterFrame, stays_same, has_broken, has_read}
-use Rattle.h2_laws_end.proofs.ActivitySteps.{AfterCall, was_refused, was_broken, was_accepted}
-use Rattle.h2_laws_end.proofs.ActivitySteps.{frame_used, frame_after, fault_after, none_adds}
-use Rattle.h2_laws_end.proofs.ActivitySteps.{call_after}
+use Rattle.h2_laws_end.proofs.ActivitySteps.{Adds, AfterFrame, stays_same, has_broken, was_broken}
+use Rattle.h2_laws_end.proofs.ActivitySteps.{has_read, AfterCall, frame_used, none_adds, call_after}
+use Rattle.h2_laws_end.proofs.ActivitySteps.{was_refused, was_accepted, frame_after, fault_after}
 
 -- This is known of a number.
 pub record IsKnown (i : ℕ) (role : Role) (received sent : List Item)

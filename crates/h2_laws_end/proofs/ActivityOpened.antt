@@ -1,21 +1,20 @@
 -- A stream is active once a call has answered its number; or, where it wasn't active, once fields
 -- of it were reported: at a server.
+use Rattle.h2_laws_end.proofs.Names
+use Names.{◌≡◌, list_any, and_left, log_view, answer_of, MayAnswer, with_call, none_both, events_of}
+use Names.{ℕ, ◌==◌, Bool, true, List, ◌++◌, Some, refl, Code, Data, Item, Role, lacks, fails, IsLog}
+use Names.{◌%◌, Reported, Decoded, accepts, refuses, MayTake, IsCredit, is_above, is_used, items_of}
+use Names.{false, subst, Field, alone, block, Client, Server, Values, Number, resets, Event, active}
+use Names.{[], ◌∷◌, sym, ◌∙◌, Open, ends, Log, Took}
+use Names.{Option, and_parts, is_active, verdict_of, grows_call, has_failed, ends_frame, lasts_from}
+use Names.{both_ways, is_block_on, FieldsEvent, replies_to, ends_no_frame, meets_fault, active_from}
+use Names.{or_from, false_from_ne_true, append_cancel_right, written_is_allowed, runs_out_of_memory}
+use Names.{is_goaway_below, Verdict, ConnectionFault, AllowedHistory, stream_of_log, is_number_used}
 use Rattle.h2_spec_log.specs.Events.{reports_unprocessed}
 use Rattle.h2_laws_log.proofs.OpenedStreams.{block_first, block_resets, ends_used, no_goaway_below}
 use Rattle.h2_laws_log.proofs.OpenedStreams.{open_at_server, server_of}
 use Rattle.h2_laws_log.proofs.ReplyInvariant.{resets_used}
 use Rattle.h2_laws_end.specs.Takes.{reports_unprocessed as named_one}
-use Rattle.h2_laws_end.proofs.Names
-use Names.{◌≡◌, ℕ, ◌%◌, ◌==◌, Bool, true, false, List, [], ◌∷◌, ◌++◌, Option, Some, refl, sym, ◌∙◌}
-use Names.{subst, list_any, both_ways, or_from, and_left, and_parts, false_from_ne_true}
-use Names.{append_cancel_right, Field, Code, Data, Item, alone, block, Role, Client, Server, Values}
-use Names.{Open, Number, is_block_on, ends, resets, is_goaway_below, Event, FieldsEvent, is_active}
-use Names.{Log, active, log_view, Verdict, ConnectionFault, Reported, Decoded, replies_to}
-use Names.{verdict_of, answer_of, MayAnswer, accepts, refuses, lacks, fails, with_call}
-use Names.{AllowedHistory, IsLog, stream_of_log, written_is_allowed, grows_call, none_both}
-use Names.{is_number_used, MayTake, Took, has_failed, ends_no_frame, ends_frame, meets_fault}
-use Names.{runs_out_of_memory, IsCredit, is_above, is_used, events_of, items_of, active_from}
-use Names.{lasts_from}
 use Rattle.h2_laws_end.proofs.OverNumbers.{opened_is_new, block_there}
 use Rattle.h2_laws_end.proofs.ActivityFrames.{active_added}
 use Rattle.h2_laws_end.proofs.ActivityItems.{new_reported, events_name_none}

@@ -1,8 +1,5 @@
 -- Where nothing is owed on a stream, nothing is after a call, nor after a call of `take` that
 -- reports no octets of it.
-use Rattle.h2_laws_log.proofs.PartsStay.{SameCalls, calls_written, calls_read}
-use Rattle.h2_laws_end.specs.Takes.{reports_unprocessed as named_one}
-use Rattle.h2_laws_end.specs.Activity.{take_has_data}
 use Rattle.h2_laws_end.proofs.Names
 use Names.{◌≡◌, ℕ, ◌+◌, ◌-◌, ◌≤◌, true, false, List, [], ◌∷◌, ◌++◌, Option, Some, None, refl, sym}
 use Names.{ap, ◌∙◌, inl, inr, arith, subst, both_ways, cases_Bool, false_from_ne_true}
@@ -14,6 +11,9 @@ use Names.{holds_failure, unreleased_is, TakeAnswer, MayTake, Took, Failed, even
 use Names.{AnswersFrame, has_failed, ends_no_frame, ends_frame, meets_fault, runs_out_of_memory}
 use Names.{flow_on, reported_total, owed, released, unreleased, conditions, used, call_calls}
 use Names.{none_since, log_represents, reported_append, Good, holds_frame, holds_none, holds_used}
+use Rattle.h2_laws_log.proofs.PartsStay.{SameCalls, calls_written, calls_read}
+use Rattle.h2_laws_end.specs.Takes.{reports_unprocessed as named_one}
+use Rattle.h2_laws_end.specs.Activity.{take_has_data}
 use Rattle.h2_laws_end.proofs.OverRoom.{released_more, owed_inactive, owed_active, owed_none}
 use Rattle.h2_laws_end.proofs.ActivityCalls.{inactive_by_call}
 use Rattle.h2_laws_end.proofs.ActivityFrames.{active_added}

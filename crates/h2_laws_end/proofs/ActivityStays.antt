@@ -1,6 +1,5 @@
 -- What keeps a stream active: what is read, written and reported neither ends it, nor resets it,
 -- nor is a GOAWAY with a last stream below it, nor names it unprocessed.
-use Rattle.h2_spec_log.specs.Events.{reports_unprocessed}
 use Rattle.h2_laws_end.proofs.Names
 use Names.{◌≡◌, ℕ, ◌≤◌, ◌==◌, ◌&&◌, Bool, true, false, if◌then◌else◌, List, [], ◌∷◌, ◌++◌, length}
 use Names.{None, refl, ◌∙◌, inl, inr, arith, list_any, AllByRecursion, or_from, false_from_ne_true}
@@ -9,6 +8,7 @@ use Names.{alone, block, Role, Client, Server, is_block_on, stream_of_item, Even
 use Names.{is_active, Verdict, ConnectionFault, StreamFault, NoEvent, Reported, data_items}
 use Names.{any_after, active_parts, lasts_parts, none_both, IsCredit, and_right, ltb-true, ends}
 use Names.{resets, is_goaway_below, is_above, replies_to, is_stream_fault, active_from, lasts_from}
+use Rattle.h2_spec_log.specs.Events.{reports_unprocessed}
 use Rattle.h2_laws_end.proofs.DataItems.{body_all, all_of_both}
 
 -- An item that is written doesn't close the stream.

@@ -1,8 +1,5 @@
 -- A call of `take` leaves a stream active, unless what it answers says that it may be closed; and
 -- it makes one active only where it reports fields of it.
-use Rattle.h2_spec_log.specs.Events.{reports_unprocessed}
-use Rattle.h2_laws_end.specs.Takes.{reports_unprocessed as named_one}
-use Rattle.h2_laws_end.specs.Activity.{take_may_close, take_has_fields}
 use Rattle.h2_laws_end.proofs.Names
 use Names.{◌≡◌, ◌⊎◌, ℕ, ◌≤◌, Bool, true, false, List, [], ◌∷◌, ◌++◌, Option, Some, None, refl, sym}
 use Names.{◌∙◌, inl, inr, subst, list_any, both_ways, or_from, eq-eqb, false_from_ne_true}
@@ -11,6 +8,9 @@ use Names.{Server, Values, Event, FieldsEvent, UnprocessedEvent, Log, active, ne
 use Names.{with_failure, took_none, IsLog, TakeAnswer, MayTake, Took, Failed, events_answered}
 use Names.{AnswersFrame, has_failed, ends_no_frame, ends_frame, meets_fault, runs_out_of_memory}
 use Names.{last_processed, used, with_sent, event_may_close}
+use Rattle.h2_spec_log.specs.Events.{reports_unprocessed}
+use Rattle.h2_laws_end.specs.Takes.{reports_unprocessed as named_one}
+use Rattle.h2_laws_end.specs.Activity.{take_may_close, take_has_fields}
 use Rattle.h2_laws_end.proofs.ReadingCalls.{log_read}
 use Rattle.h2_laws_end.proofs.ReadingRules.{LogIsLow}
 use Rattle.h2_laws_end.proofs.ActivityCalls.{active_low}

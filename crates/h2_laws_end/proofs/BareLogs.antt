@@ -1,9 +1,5 @@
 -- Logs that are the same but for their turns and for the limits of payloads: what they read and are
 -- asked makes of them logs that are the same but for these.
-use Rattle.h2_spec_log.specs.ItemEffects.{discarded_flow}
-use Rattle.h2_spec_log.specs.LogSteps.{owed_at_close}
-use Rattle.h2_spec_log.specs.CallRules.{stream_of_act, returns_before_put_out, returns_credit}
-use Rattle.h2_laws_log.proofs.CreditCases.{both_by}
 use Rattle.h2_laws_end.proofs.Names
 use Names.{◌≡◌, ℕ, ◌+◌, max, List, [], ◌∷◌, ◌++◌, Option, Some, None, refl, sym, ap, ap₂, ◌∙◌, Code}
 use Names.{InternalError, Frame, Item, stream_of_item, Event, UnprocessedEvent, Act, Answer, Refuse}
@@ -14,6 +10,10 @@ use Names.{refuse_fault, called, last_processed, waiting, output, unreleased, ne
 use Names.{active_count, max_streams, next_unprocessed, overflows, opened_by, with_sent}
 use Names.{with_reported, with_unreturned, with_verdict, with_item, with_step, with_frame}
 use Names.{with_items, refused_with, before_put_out, with_call}
+use Rattle.h2_spec_log.specs.ItemEffects.{discarded_flow}
+use Rattle.h2_spec_log.specs.LogSteps.{owed_at_close}
+use Rattle.h2_spec_log.specs.CallRules.{stream_of_act, returns_before_put_out, returns_credit}
+use Rattle.h2_laws_log.proofs.CreditCases.{both_by}
 
 -- a log without its turns, whose payloads may always have 16,384 octets
 abbrev pub bare : Log → Log

@@ -1,11 +1,11 @@
 -- The stream of a field block is that of the frame that ends it.
-use Rattle.h2_block.proofs.GroupLemmas.{none_some}
 use Rattle.h2_laws_end.proofs.Names
 use Names.{◌≡◌, ℕ, ◌==◌, nat_lt, ◌⊎◌, not, max, Bool, true, false, if◌then◌else◌, Option, Some}
 use Names.{None, refl, sym, ◌∙◌, inl, inr, arith, eqb-true, ltb-false, Code, ProtocolError, Frame}
 use Names.{Headers, Continuation, BlockFault, Item, alone, block, Begun, next_fault, View, Decoded}
 use Names.{FrameStep, fails_with, begins_block, completes, ltb-true, stream_of, Interrupted}
 use Names.{fault_inside, grouped, grouping_step, frame_step, opened_by}
+use Rattle.h2_block.proofs.GroupLemmas.{none_some}
 
 -- An item that is a block is on the frame's stream.
 abbrev pub IsItemOn : Frame → Item → Type 0

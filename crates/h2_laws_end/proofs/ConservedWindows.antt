@@ -1,11 +1,11 @@
 -- A stream's window is conserved over two ends.
-use Rattle.std.proofs.Common.{ℤ}
-use Rattle.h2_spec_log.specs.Settings.{value_read}
-use Rattle.h2_laws_log.proofs.WindowsOfTwoEnds.{stream_meets}
 use Rattle.h2_laws_end.proofs.Names.{◌≡◌, ℕ, ◌+◌, true, false, pos, List, ◌++◌, arith, list_any}
 use Rattle.h2_laws_end.proofs.Names.{ints, Item, Role, data_on, ends, increment_on, Values}
 use Rattle.h2_laws_end.proofs.Names.{first_window, Log, acked, active, IsLog, ◌+ℤ◌, total}
 use Rattle.h2_laws_end.proofs.Names.{own_value, owed, send_window}
+use Rattle.std.proofs.Common.{ℤ}
+use Rattle.h2_spec_log.specs.Settings.{value_read}
+use Rattle.h2_laws_log.proofs.WindowsOfTwoEnds.{stream_meets}
 use Rattle.h2_laws_end.proofs.ReceiveWindowCalls.{window_is_initial}
 
 -- What meets a window, with what is owed on it, is what the window and that are.

@@ -1,7 +1,4 @@
 -- The send windows after DATA: none is negative.
-use Rattle.std.proofs.Common.{length-drop}
-use Rattle.h2_spec_log.specs.Windows.{connection_send_window}
-use Rattle.h2_spec_log.specs.Limits.{max_data}
 use Rattle.h2_laws_end.proofs.Names
 use Names.{◌≡◌, ℕ, zero, suc, ◌+◌, ◌-◌, ◌≤◌, ◌<◌, ◌==◌, ◌&&◌, Bool, true, false, if◌then◌else◌}
 use Names.{List, [], ◌∷◌, ◌++◌, length, take, drop, None, pos, ◌-ℤ◌, refl, sym, ◌∙◌, inl, inr}
@@ -11,6 +8,9 @@ use Names.{answer_of, refusal_of, none_holds, stream_is_active, total-append, to
 use Names.{most_between, min, int_lt, length-take-le, payload_of, data_on, data_of, total, given_on}
 use Names.{given_on_connection, send_window, data_frames, data_items, items_of, conditions}
 use Names.{with_items, with_call, count_by_sums, chosen_low}
+use Rattle.std.proofs.Common.{length-drop}
+use Rattle.h2_spec_log.specs.Windows.{connection_send_window}
+use Rattle.h2_spec_log.specs.Limits.{max_data}
 use Rattle.h2_laws_end.proofs.ReceiveWindows.{total_one}
 use Rattle.h2_laws_end.proofs.WrittenSteps.{Puts, puts_items}
 

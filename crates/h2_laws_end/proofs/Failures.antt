@@ -1,9 +1,4 @@
 -- What an end that has failed has written last: GOAWAY with its code, and nothing after it.
-use Rattle.std.proofs.Common.{is_some}
-use Rattle.h2_spec_log.specs.Items.{encoding_of_item}
-use Rattle.h2_spec_log.specs.CallRules.{has_failed, may_fail_for_memory}
-use Rattle.h2_laws_log.proofs.GrowthBySteps.{holds_sent_unreturned, holds_items, holds_ready}
-use Rattle.h2_laws_end.specs.Failures.{EndsInGoAway, IsLastStream}
 use Rattle.h2_laws_end.proofs.Names
 use Names.{◌≡◌, ◌≤◌, ℕ, ◌&&◌, not, max, Bool, true, false, List, [], ◌∷◌, ◌++◌, Option, Some, None}
 use Names.{refl, sym, ap, ◌∙◌, inl, inr, arith, subst, ◌+◌, both_ways, Code, InternalError, Frame}
@@ -16,6 +11,11 @@ use Names.{called_one, put_out_cases, none_holds, holds_unreturned, stream_of, M
 use Names.{encoding_of_items, last_processed, opened_by, conditions, used, with_sent, with_reported}
 use Names.{with_verdict, with_step, with_frame, with_items, refused_with, with_call, opened}
 use Names.{SamePart, stays_written, HoldsOfWrites, holds_sent}
+use Rattle.std.proofs.Common.{is_some}
+use Rattle.h2_spec_log.specs.Items.{encoding_of_item}
+use Rattle.h2_spec_log.specs.CallRules.{has_failed, may_fail_for_memory}
+use Rattle.h2_laws_log.proofs.GrowthBySteps.{holds_sent_unreturned, holds_items, holds_ready}
+use Rattle.h2_laws_end.specs.Failures.{EndsInGoAway, IsLastStream}
 use Rattle.h2_laws_end.proofs.BlockStreams.{IsItemOn, IsStepOn, step_on, opened_on, greater_is}
 
 -- The second log has failed with the code of the first, or neither has failed.

@@ -1,8 +1,4 @@
 -- The codes with which an item's stream is at fault.
-use Rattle.std.specs.List.{Contains}
-use Rattle.h2_frame.specs.declared.code.Code.TheVariants.{StreamClosed, RefusedStream}
-use Rattle.h2_spec_log.specs.ItemRules.{first_fault}
-use Rattle.h2_spec_log.specs.Settings.{value_fault, peer_of}
 use Rattle.h2_laws_end.proofs.Names
 use Names.{ℕ, ◌==◌, Bool, true, false, if◌then◌else◌, Option, Some, None, List, [], ◌∷◌, refl}
 use Names.{arith, ◌≢◌, ap, Code, ProtocolError, InternalError, Data, Reset, Settings, Ping}
@@ -11,6 +7,10 @@ use Names.{ConnectionFault, StreamFault, NoEvent, Reported, Decoded, verdict_of_
 use Names.{cond_both, Role, nat_lt, ◌&&◌, ◌^◌, ◌-◌, is_server, FlowControlError, EnhanceYourCalm}
 use Names.{data_verdict, reset_verdict, connection_update_verdict, update_verdict, block_verdict}
 use Names.{opening_verdict, verdict_by_rules, settings_fault, fault_codes, ◌||◌}
+use Rattle.std.specs.List.{Contains}
+use Rattle.h2_frame.specs.declared.code.Code.TheVariants.{StreamClosed, RefusedStream}
+use Rattle.h2_spec_log.specs.ItemRules.{first_fault}
+use Rattle.h2_spec_log.specs.Settings.{value_fault, peer_of}
 use Rattle.h2_laws_end.proofs.ReadVerdicts.{by_limits}
 
 -- A fault of the stream has one of these codes, and one of the connection has not INTERNAL_ERROR.

@@ -1,11 +1,11 @@
 -- One more frame of a stream ends at one octet, whatever the piece in which it came.
-use Rattle.h2_laws_end.proofs.Names.{◌≡◌, ℕ, ◌+◌, Bool, List, [], ◌∷◌, ◌++◌, length, refl, sym, ap}
-use Rattle.h2_laws_end.proofs.Names.{◌∙◌, arith, subst, inl, inr, append_assoc, append-nil}
-use Rattle.h2_laws_end.proofs.Names.{length-append, head_of, Frame, WireFault, expected_preface}
-use Rattle.h2_laws_end.proofs.Names.{Limits, Frames, EndsWithFault}
-use Rattle.h2_wire.specs.Streams.{IsFrame, AreFrames, IsSound}
-use Rattle.h2_wire.proofs.ReadingLemmas.{same_prefix, same_following, same_head, nine_in_frame}
-use Rattle.h2_wire.proofs.ReadingLemmas.{partial_stops, wrong_head_stops, wrong_payload_stops}
+use Rattle.h2_laws_end.proofs.Names
+use Names.{◌≡◌, ℕ, ◌+◌, List, [], ◌∷◌, ◌++◌, refl, sym, ap, ◌∙◌, subst, inl, inr, Frame}
+use Names.{Bool, length, arith, head_of, WireFault, Limits, Frames, IsFrame, AreFrames, same_prefix}
+use Names.{append_assoc, append-nil, length-append, expected_preface, EndsWithFault, same_following}
+use Rattle.h2_wire.specs.Streams.{IsSound}
+use Rattle.h2_wire.proofs.ReadingLemmas.{same_head, nine_in_frame, partial_stops, wrong_head_stops}
+use Rattle.h2_wire.proofs.ReadingLemmas.{wrong_payload_stops}
 use Rattle.h2_wire.proofs.FaultLemmas.{sound_no_wrong}
 use Rattle.h2_wire.specs.declared.fault.WireFault.TheVariants as faults
 

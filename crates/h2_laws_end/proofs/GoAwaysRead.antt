@@ -1,10 +1,10 @@
 -- The last stream of a GOAWAY that is read has 31 bits, and the least so far is the one reported.
+use Rattle.h2_laws_end.proofs.Names.{◌≡◌, ℕ, ◌≤◌, List, ◌∷◌, arith, GoAway, Item, alone, block, Log}
+use Rattle.h2_laws_end.proofs.Names.{log_view, IsFitItem, greatest_number}
 use Rattle.h2_spec_log.specs.Log.{least_goaway}
 use Rattle.h2_spec_log.specs.ItemEffects.{least_last}
 use Rattle.h2_laws_log.proofs.StreamNumbers.{last_none}
 use Rattle.h2_laws_log.proofs.LogViewLemmas.{least_by}
-use Rattle.h2_laws_end.proofs.Names.{◌≡◌, ℕ, ◌≤◌, List, ◌∷◌, arith, GoAway, Item, alone, block, Log}
-use Rattle.h2_laws_end.proofs.Names.{log_view, IsFitItem, greatest_number}
 
 -- A GOAWAY's last stream is no greater than the greatest number.
 abbrev pub IsTypedGoAway : Item → Type 0

@@ -1,18 +1,17 @@
 -- The items that were read are the frames, grouped.
+use Rattle.h2_laws_end.proofs.Names
+use Names.{◌≡◌, true, false, List, arith, subst, Frame, Begun, Event, Values, IsLog, begins, opened}
+use Names.{ℕ, not, [], ◌∷◌, ◌++◌, Some, None, refl, sym, ap, ◌∙◌, Code, Item, Role, Log, read, used}
+use Names.{◌&&◌, Continuation, begins_block, with_failure, reported_one, fault_inside, may_be_first}
+use Names.{Bool, Option, Headers, Groups, Verdict, Decoded, took_one, grouped, with_sent, with_step}
+use Names.{if◌then◌else◌, ProtocolError, InternalError, fault_outside, grouping_step, with_reported}
+use Names.{append-nil, BlockFault, next_fault, fails_with, Interrupted, with_verdict, oldest_first}
+use Names.{wire_fault_code, ConnectionFault, with_unreturned, ran_out_of_memory, block_fault_code}
+use Names.{log_view, FrameStep, completes, took_some, met_fault, called_one, frame_step, with_frame}
 use Rattle.h2_block.specs.declared.fault.BlockFault.TheVariants.{Stray}
 use Rattle.h2_block.proofs.GroupLemmas.{step_items, step_begun, none_some, Groups-step}
 use Rattle.h2_laws_log.proofs.LogGrowth.{fails_down}
 use Rattle.h2_laws_end.specs.Grouped.{AreGrouped}
-use Rattle.h2_laws_end.proofs.Names
-use Names.{◌≡◌, ℕ, ◌&&◌, not, Bool, true, false, if◌then◌else◌, List, [], ◌∷◌, ◌++◌, Option, Some}
-use Names.{None, refl, sym, ap, ◌∙◌, arith, subst, append-nil, Code, ProtocolError, InternalError}
-use Names.{Frame, Headers, Continuation, wire_fault_code, BlockFault, Item, Begun, Groups}
-use Names.{next_fault, Role, Event, Values, Log, Verdict, ConnectionFault, log_view, Decoded}
-use Names.{FrameStep, fails_with, begins_block, completes, read, with_unreturned, with_failure}
-use Names.{IsLog, begins, took_some, took_one, met_fault, ran_out_of_memory, reported_one}
-use Names.{called_one, Interrupted, fault_outside, fault_inside, block_fault_code, frame_step}
-use Names.{grouping_step, grouped, may_be_first, used, with_sent, with_reported, with_verdict}
-use Names.{with_step, with_frame, opened, oldest_first}
 use Rattle.h2_laws_end.proofs.Failures.{used_up}
 use Rattle.h2_laws_end.proofs.Unread.{ReadsNothing, reads_twice, reads_reported, reads_unreturned}
 use Rattle.h2_laws_end.proofs.Unread.{wrote_reads, reads_fails, reads_call, reads_unprocessed}

@@ -1,9 +1,9 @@
 -- A prefix of frames that group groups to the first of their items, and a block that has begun.
-use Rattle.h2_block.specs.Grouping.{AreContinuations, IsBegun, IsItem, AreItems, IsLeft}
 use Rattle.h2_laws_end.proofs.Names.{◌≡◌, ℕ, ◌+◌, ◌≤◌, Bool, false, List, [], ◌∷◌, ◌++◌, length}
 use Rattle.h2_laws_end.proofs.Names.{Option, None, Some, refl, sym, ap, ◌∙◌, arith, inl, inr}
 use Rattle.h2_laws_end.proofs.Names.{append_assoc, length-append, Frame, Headers, Item, alone}
 use Rattle.h2_laws_end.proofs.Names.{block, Begun, max_block_octets, Groups}
+use Rattle.h2_block.specs.Grouping.{AreContinuations, IsBegun, IsItem, AreItems, IsLeft}
 use Rattle.h2_laws_end.proofs.Overlaps.{overlap}
 
 -- A prefix of CONTINUATIONs.

@@ -1,18 +1,17 @@
 -- Where memory isn't refused, what a call of `take` answers and the log after it follow from the
 -- log and the piece.
+use Rattle.h2_laws_end.proofs.Names
+use Names.{◌≡◌, frame_step, took_frame, took_fault, TakeAnswer, has_failed, ends_frame, TakesOctets}
+use Names.{◌≢◌, ℕ, [], sym, ap, ◌∙◌, Code, Log, Took}
+use Names.{List, ◌++◌, Option, Some, None, refl, Frame, Event, log_view, Decoded, Failed, MayTake}
+use Names.{length, EndsWithFault, wire_fault_code, one_reading_lem, events_answered, same_following}
+use Names.{subst, append_assoc, IsDecodedFor, AnswersFrame, ends_no_frame, meets_fault, same_prefix}
+use Names.{WireFault, none_some, one_code, is_server, took_none, TakesPart, TakesFrame, TakesFault}
+use Names.{UnprocessedEvent, next_unprocessed, limits_from, reports_unprocessed, runs_out_of_memory}
 use Rattle.std.proofs.Math.Seq.{take-length}
 use Rattle.h2_wire.proofs.FaultLemmas.{one_making, no_reading}
 use Rattle.h2_spec_log.specs.LogSteps.{took_part}
 use Rattle.h2_laws_end.specs.Takes.{HadMemory}
-use Rattle.h2_laws_end.proofs.Names
-use Names.{◌≡◌, ◌≢◌, ℕ, List, [], ◌++◌, length, Option, Some, None, refl, sym, ap, ◌∙◌, subst}
-use Names.{append_assoc, Code, Frame, WireFault, EndsWithFault, wire_fault_code, none_some}
-use Names.{one_code, one_reading_lem, Event, UnprocessedEvent, is_server, Log, next_unprocessed}
-use Names.{log_view, Decoded, frame_step, limits_from, took_frame, took_fault, took_none}
-use Names.{IsDecodedFor, TakeAnswer, Took, Failed, events_answered, AnswersFrame, MayTake}
-use Names.{has_failed, reports_unprocessed, ends_no_frame, ends_frame, meets_fault}
-use Names.{runs_out_of_memory, same_prefix, same_following, TakesOctets, TakesPart, TakesFrame}
-use Names.{TakesFault}
 use Rattle.h2_laws_end.proofs.FrameEnds.{same_piece, no_frame_in, no_frame_at_fault}
 use Rattle.h2_laws_end.proofs.Runs.{one_last, one_seen}
 use Rattle.h2_laws_end.proofs.TakeAnswers.{failed_take}

@@ -1,12 +1,12 @@
 -- A prefix of what an end has written.
-use Rattle.h2_laws_log.specs.Payloads.{encoding_by}
-use Rattle.h2_laws_log.specs.Sending.{frames_by}
-use Rattle.h2_laws_log.proofs.OutputRead.{items_read_by, items_grouped_by}
-use Rattle.h2_laws_end.specs.Prefixes.{IsPrefixOfItems}
 use Rattle.h2_laws_end.proofs.Names.{◌≡◌, ℕ, ◌≤◌, not, List, [], ◌∷◌, ◌++◌, None, arith}
 use Rattle.h2_laws_end.proofs.Names.{AllByRecursion, Frame, Limits, Frames, expected_preface, Item}
 use Rattle.h2_laws_end.proofs.Names.{Groups, Role, Values, is_server, max_frame_size_sent, Log}
 use Rattle.h2_laws_end.proofs.Names.{IsLog, stream_of_log, min, oldest_first, written_by_payloads}
+use Rattle.h2_laws_log.specs.Payloads.{encoding_by}
+use Rattle.h2_laws_log.specs.Sending.{frames_by}
+use Rattle.h2_laws_log.proofs.OutputRead.{items_read_by, items_grouped_by}
+use Rattle.h2_laws_end.specs.Prefixes.{IsPrefixOfItems}
 use Rattle.h2_laws_end.proofs.ReadPrefixes.{prefix_read}
 use Rattle.h2_laws_end.proofs.GroupedPrefixes.{prefix_grouped}
 use Rattle.h2_laws_end.proofs.SendableItems.{IsPayload}

@@ -1,11 +1,10 @@
 -- What calls write on streams that are over: no block.
 use Rattle.h2_laws_end.proofs.Names
-use Names.{◌≡◌, ℕ, ◌==◌, Bool, true, false, if◌then◌else◌, List, [], ◌∷◌, ◌++◌, refl, inl, inr}
-use Names.{arith, list_any, both_ways, or_from, ne_eqb, false_from_ne_true, Field, WindowUpdate}
-use Names.{Item, alone, Act, Answer, Open, SendFields, SendData, Release, ResetStream, Refuse}
-use Names.{SendPing, SendGoAway, ChangeSettings, Number, Count, Done, Log, View, data_items}
-use Names.{MayAnswer, with_call, grows_call, any_either, used_more, is_number_used, IsOver}
-use Names.{is_block_on, items_of}
+use Names.{◌≡◌, ℕ, true, List, ◌∷◌, ◌++◌, refl, inl, inr, Item, Act, Open, Done, Log, View}
+use Names.{◌==◌, list_any, both_ways, SendData, SendPing, MayAnswer, with_call, used_more, items_of}
+use Names.{Bool, false, arith, ne_eqb, Field, alone, Answer, Release, Refuse, Number, Count, IsOver}
+use Names.{if◌then◌else◌, or_from, false_from_ne_true, WindowUpdate, ChangeSettings, is_number_used}
+use Names.{[], SendFields, ResetStream, SendGoAway, data_items, grows_call, any_either, is_block_on}
 use Rattle.h2_laws_end.proofs.OverLists.{IsPast, past_sent}
 use Rattle.h2_laws_end.proofs.OverNumbers.{open_answer, fields_active, used_below}
 use Rattle.h2_laws_end.proofs.OverSteps.{Holds, call_keeps}

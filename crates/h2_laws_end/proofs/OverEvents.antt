@@ -1,13 +1,12 @@
 -- Fields and octets are reported of streams that aren't over, and that are used from then on.
-use Rattle.h2_laws_end.specs.Over.{is_number_used as was_used}
 use Rattle.h2_laws_end.proofs.Names
-use Names.{◌≡◌, ℕ, suc, Bool, true, List, [], ◌∷◌, ◌++◌, length, Option, Some, sym, ap, ◌∙◌, arith}
-use Names.{subst, refl, Field, Data, Reset, Settings, Ping, GoAway, Item, alone, block, Event}
-use Names.{FieldsEvent, DataEvent, UnprocessedEvent, Log, next_unprocessed, View, log_view}
-use Names.{with_sent, with_unreturned, Verdict, ConnectionFault, StreamFault, NoEvent, Reported}
-use Names.{Decoded, used_more, IsOver, MayTake, Took, has_failed, reports_unprocessed}
-use Names.{ends_no_frame, ends_frame, meets_fault, runs_out_of_memory, Code, with_reported}
-use Names.{events_of}
+use Names.{◌≡◌, length, Option, arith, GoAway, Verdict, NoEvent, Reported, Decoded, IsOver, MayTake}
+use Names.{ℕ, suc, [], ◌∷◌, sym, ap, ◌∙◌, Item, Log, View, Took, Code}
+use Names.{Bool, true, List, ◌++◌, Some, subst, refl, Field, Data, Reset, Ping, alone, block, Event}
+use Names.{Settings, DataEvent, log_view, with_sent, used_more, has_failed, ends_frame, events_of}
+use Names.{FieldsEvent, UnprocessedEvent, next_unprocessed, reports_unprocessed, runs_out_of_memory}
+use Names.{with_unreturned, ConnectionFault, StreamFault, ends_no_frame, meets_fault, with_reported}
+use Rattle.h2_laws_end.specs.Over.{is_number_used as was_used}
 use Rattle.h2_laws_end.proofs.OverCalls.{past_of}
 use Rattle.h2_laws_end.proofs.OverLists.{IsPast, WasUsed}
 use Rattle.h2_laws_end.proofs.OverReads.{OfMessage, IsInUse, in_use_by_rules}

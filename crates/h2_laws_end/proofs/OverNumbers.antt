@@ -1,10 +1,4 @@
 -- The numbers of streams that calls open: each is the next one, which is above all that were used.
-use Rattle.std.proofs.lemmas.Bool.{and_from}
-use Rattle.h2_spec_log.specs.Items.{greatest_block}
-use Rattle.h2_laws_log.proofs.CallConditions.{neither_one}
-use Rattle.h2_laws_log.proofs.ReaderStates.{opens_here}
-use Rattle.h2_laws_log.proofs.StreamNumbers.{opens_low}
-use Rattle.h2_laws_log.proofs.InvariantSends.{client_since}
 use Rattle.h2_laws_end.proofs.Names
 use Names.{◌≡◌, ℕ, ◌≤◌, ◌<◌, ◌+◌, ◌%◌, ◌==◌, Bool, true, false, if◌then◌else◌, List, ◌∷◌, ◌++◌}
 use Names.{refl, sym, ap, ◌∙◌, arith, subst, list_any, or_left, and_parts, eqb-true, eq-eqb}
@@ -13,6 +7,12 @@ use Names.{Number, Done, is_server, Log, active, MayAnswer, accepts, refuses, la
 use Names.{with_call, AllowedHistory, IsLog, stream_of_log, none_holds, written_is_allowed}
 use Names.{any_after, grows_call, stream_is_active, is_number_used, is_block_on, is_used}
 use Names.{next_number, conditions, items_of, next_odd}
+use Rattle.std.proofs.lemmas.Bool.{and_from}
+use Rattle.h2_spec_log.specs.Items.{greatest_block}
+use Rattle.h2_laws_log.proofs.CallConditions.{neither_one}
+use Rattle.h2_laws_log.proofs.ReaderStates.{opens_here}
+use Rattle.h2_laws_log.proofs.StreamNumbers.{opens_low}
+use Rattle.h2_laws_log.proofs.InvariantSends.{client_since}
 use Rattle.h2_laws_end.proofs.WrittenSteps.{call_writes}
 
 -- The number that a client's call answers.

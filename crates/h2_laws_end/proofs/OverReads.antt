@@ -1,12 +1,11 @@
 -- What reading leaves of numbers that were used and of streams that are over; and of which streams
 -- fields and octets are reported.
+use Rattle.h2_laws_end.proofs.Names
+use Names.{◌≡◌, state_is_active, closed_by_us_is, is_number_used, is_closed_by_us, verdict_by_rules}
+use Names.{ℕ, true, List, [], ◌∷◌, Some, None, refl, sym, Data, Item, Idle, Log}
+use Names.{Bool, Option, eqb-true, alone, block, Active, state, log_view, Decoded, IsOver, MayTake}
+use Names.{subst, both_ways, peer_opens, active_used, used_more, used_here, TakeAnswer, is_block_on}
 use Rattle.h2_laws_log.proofs.ReaderStates.{not_idle}
-use Rattle.h2_laws_end.proofs.Names.{◌≡◌, ℕ, Bool, true, List, [], ◌∷◌, Option, Some, None, refl}
-use Rattle.h2_laws_end.proofs.Names.{sym, subst, both_ways, eqb-true, Data, Item, alone, block}
-use Rattle.h2_laws_end.proofs.Names.{Idle, Active, Log, state, log_view, Decoded, peer_opens}
-use Rattle.h2_laws_end.proofs.Names.{active_used, state_is_active, used_more, used_here}
-use Rattle.h2_laws_end.proofs.Names.{closed_by_us_is, is_number_used, IsOver, TakeAnswer, MayTake}
-use Rattle.h2_laws_end.proofs.Names.{is_block_on, is_closed_by_us, verdict_by_rules}
 use Rattle.h2_laws_end.proofs.OverCalls.{past_of, over_of}
 use Rattle.h2_laws_end.proofs.OverLists.{IsPast, WasUsed, past_sent, past_reported, past_read}
 use Rattle.h2_laws_end.proofs.OverSteps.{Holds, HoldsRead, take_keeps}

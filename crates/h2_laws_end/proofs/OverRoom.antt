@@ -1,6 +1,4 @@
 -- What calls leave of windows, and of what is owed.
-use Rattle.std.proofs.lemmas.Bool.{and_cases}
-use Rattle.h2_laws_end.specs.Over.{has_room}
 use Rattle.h2_laws_end.proofs.Names
 use Names.{◌≡◌, ℕ, ◌-◌, ◌≤◌, nat_lt, ◌&&◌, Bool, true, false, if◌then◌else◌, List, ◌∷◌, ◌++◌, pos}
 use Names.{◌-ℤ◌, refl, sym, ◌∙◌, inl, inr, arith, list_any, ints, and_left, ltb-false, cases_Bool}
@@ -8,6 +6,8 @@ use Names.{nat_tests, Item, Act, Answer, Release, Done, is_block_on, data_on, Lo
 use Names.{items_of, with_call, grows_call, unreleased_is, int_lt, and_right, le-ltb, flow_on}
 use Names.{reported_total, data_of, total, given_on, given_on_connection, owed, released}
 use Names.{unreleased, total_after, released_here, call_calls}
+use Rattle.std.proofs.lemmas.Bool.{and_cases}
+use Rattle.h2_laws_end.specs.Over.{has_room}
 use Rattle.h2_laws_end.proofs.OverCalls.{items_no_block}
 use Rattle.h2_laws_end.proofs.OverLists.{IsInactive, inactive_sent}
 use Rattle.h2_laws_end.proofs.OverSteps.{call_keeps}

@@ -1,5 +1,5 @@
 -- Two lists that are joined to one line: one of them begins with the other.
-use Rattle.std.proofs.Common.{◌≡◌, ◌⊎◌, List, [], ◌∷◌, ◌++◌, refl, sym, inl, inr}
+use Rattle.h2_laws_end.proofs.Names.{◌≡◌, ◌⊎◌, List, [], ◌∷◌, ◌++◌, refl, sym, inl, inr}
 
 -- The first list is the second and more, or the second is the first and at least one more.
 abbrev pub Overlaps : {A : Type 0} → List A → List A → List A → List A → Type 0

@@ -1,15 +1,15 @@
 -- Logs that are the same but for their turns: what they read and are asked makes of them logs that
 -- are the same but for these.
-use Rattle.std.proofs.lemmas.Bool.{le-leb}
-use Rattle.std.proofs.Math.Path.{fun_ext}
-use Rattle.h2_wire.proofs.LimitLemmas.{read_wider}
-use Rattle.h2_spec_log.specs.Settings.{payload_limit}
 use Rattle.h2_laws_end.proofs.Names
 use Names.{◌≡◌, ℕ, ◌≤◌, Bool, true, false, if◌then◌else◌, List, [], ◌++◌, length, Option, refl, sym}
 use Names.{ap, ap₂, ◌∙◌, arith, append-nil, append_assoc, length-append, nat_tests, Code, Frame}
 use Names.{Limits, Frames, Act, Answer, Log, acked, Decoded, limits_from, with_failure, took_none}
 use Names.{with_call, without_turns, AreSameButTurns, nat_le, used, with_sent, with_frame}
 use Names.{Keeps-frame, Keeps-call, Keeps-none}
+use Rattle.std.proofs.lemmas.Bool.{le-leb}
+use Rattle.std.proofs.Math.Path.{fun_ext}
+use Rattle.h2_wire.proofs.LimitLemmas.{read_wider}
+use Rattle.h2_spec_log.specs.Settings.{payload_limit}
 use Rattle.h2_laws_end.proofs.BareLogs.{bare, AreSameBare, failure_same, frame_same, call_same}
 use Rattle.h2_laws_end.proofs.BareLogs.{none_same}
 

@@ -1,10 +1,9 @@
 -- The octets of a piece: in which of its prefixes no frame ends.
+use Rattle.h2_laws_end.proofs.Names
+use Names.{◌≡◌, Bool, length, arith, subst, append-nil, Frame, WireFault, Limits, Frames, IsPartial}
+use Names.{◌⊎◌, ℕ, ◌+◌, ◌≤◌, List, [], ◌∷◌, ◌++◌, None, refl, sym, ap, ◌∙◌, inl, inr}
+use Names.{length-append, head_of, expected_preface, EndsWithFault, one_reading_lem, head_of-append}
 use Rattle.h2_frame.specs.Heads.{head_fault}
-use Rattle.h2_laws_end.proofs.Names.{◌≡◌, ◌⊎◌, ℕ, ◌+◌, ◌≤◌, Bool, List, [], ◌∷◌, ◌++◌, length, None}
-use Rattle.h2_laws_end.proofs.Names.{refl, sym, ap, ◌∙◌, arith, subst, inl, inr, append-nil}
-use Rattle.h2_laws_end.proofs.Names.{length-append, head_of, Frame, WireFault, expected_preface}
-use Rattle.h2_laws_end.proofs.Names.{Limits, Frames, EndsWithFault, one_reading_lem, head_of-append}
-use Rattle.h2_laws_end.proofs.Names.{IsPartial}
 use Rattle.h2_laws_end.proofs.Overlaps.{overlap}
 use Rattle.h2_laws_end.proofs.ReadPrefixes.{prefix_read}
 use Rattle.h2_wire.specs.declared.fault.WireFault.TheVariants as faults

@@ -1,7 +1,4 @@
 -- Pieces of octets, octet by octet.
-use Rattle.std.proofs.Common.{map as each}
-use Rattle.std.proofs.Math.Seq.{take-append_seam}
-use Rattle.h2_laws_end.specs.Scripts.{OutOfMemory}
 use Rattle.h2_laws_end.proofs.Names
 use Names.{◌≡◌, ℕ, false, true, List, [], ◌∷◌, ◌++◌, length, Option, None, Some, refl, sym, ap, ◌∙◌}
 use Names.{subst, append_assoc, append-nil, take, InternalError, Frame, WireFault, wire_fault_code}
@@ -10,6 +7,9 @@ use Names.{is_server, Log, View, log_view, Decoded, FrameStep, fails_with, begin
 use Names.{frame_step, limits_from, took_frame, took_fault, took_out_of_memory, IsDecodedIn}
 use Names.{IsDecodedFor, Mark, Octet, without_turns, AreSameButTurns, last_processed, waiting}
 use Names.{output, unreleased, next_number, active_count, max_streams, overflows, used}
+use Rattle.std.proofs.Common.{map as each}
+use Rattle.std.proofs.Math.Seq.{take-append_seam}
+use Rattle.h2_laws_end.specs.Scripts.{OutOfMemory}
 use Rattle.h2_laws_end.proofs.PieceLogs.{limits_without, limits_used, frame_alike, failure_alike}
 use Rattle.h2_laws_end.proofs.PieceLogs.{used_none, used_twice, used_without}
 use Rattle.h2_laws_end.proofs.PieceParts.{no_frame_in_prefix, no_frame_before_last}

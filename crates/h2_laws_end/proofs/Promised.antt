@@ -1,16 +1,15 @@
 -- Frames for which no memory is refused.
+use Rattle.h2_laws_end.proofs.Names
+use Names.{◌≡◌, WindowUpdate, Continuation, meets_fault, ProtocolError, grouping_step, may_be_first}
+use Names.{◌≢◌, List, ◌++◌, Option, Frame, alone, Begun, Failed, MayTake, grouped, to_keep, to_take}
+use Names.{◌∙◌, ℕ, Some, None, refl, sym, ap, Data, Ping, Log, View, not, ◌&&◌}
+use Names.{true, BlockFault, next_fault, TakeAnswer, has_failed, ends_frame, fails_with, frame_step}
+use Names.{false, Headers, none_some, log_view, NoEvent, Reported, cond_both, verdict_of, to_report}
+use Names.{InternalError, reports_unprocessed, ends_no_frame, runs_out_of_memory, verdict_by_rules}
 use Rattle.h2_frame.specs.Frames.{Priority, Unknown}
 use Rattle.h2_spec_log.specs.Histories.{LacksMemory}
 use Rattle.h2_spec_log.specs.Memory.{frame_needs_memory, needs_memory, step_needs_memory}
 use Rattle.h2_laws_end.specs.Promises.{NeedsNoMemory, IsFree}
-use Rattle.h2_laws_end.proofs.Names
-use Names.{◌≡◌, ◌≢◌, ◌∙◌, ℕ, true, false, List, ◌++◌, Option, Some, None, refl, sym, ap}
-use Names.{InternalError, Frame, Data, Ping, WindowUpdate, Headers, Continuation, none_some}
-use Names.{BlockFault, alone, Begun, next_fault, Log, log_view, NoEvent, Reported, View, TakeAnswer}
-use Names.{Failed, MayTake, has_failed, reports_unprocessed, ends_no_frame, ends_frame, meets_fault}
-use Names.{runs_out_of_memory, cond_both, not, ◌&&◌, ProtocolError, fails_with, grouped}
-use Names.{grouping_step, frame_step, verdict_of, verdict_by_rules, may_be_first, to_report}
-use Names.{to_keep, to_take}
 use Rattle.h2_laws_end.proofs.NotInternal.{frame_up}
 use Rattle.h2_laws_end.proofs.OneTake.{frame_fault, same_ends}
 use Rattle.h2_laws_end.proofs.ReadVerdicts.{by_limits}

@@ -1,10 +1,10 @@
 -- What a verdict on an item says of the item's stream.
+use Rattle.h2_laws_end.proofs.Names.{◌≡◌, true, refl, Code, Item, Idle, Log, View}
+use Rattle.h2_laws_end.proofs.Names.{Bool, false, Verdict, NoEvent, State, Active, Closed, Decoded}
+use Rattle.h2_laws_end.proofs.Names.{Option, StreamFault, Reported, log_view, cond_both, verdict_of}
+use Rattle.h2_laws_end.proofs.Names.{ConnectionFault, ClosedByUs, verdict_by_rules, EnhanceYourCalm}
+use Rattle.h2_laws_end.proofs.Names.{data_verdict, opening_verdict, block_verdict, reset_verdict}
 use Rattle.h2_spec_log.specs.ItemRules.{over_limits}
-use Rattle.h2_laws_end.proofs.Names
-use Names.{◌≡◌, Bool, true, false, Option, refl, Code, Item, Verdict, ConnectionFault, StreamFault}
-use Names.{NoEvent, Reported, State, Idle, Active, ClosedByUs, Closed, Log, log_view, Decoded}
-use Names.{verdict_by_rules, cond_both, View, EnhanceYourCalm, data_verdict, opening_verdict}
-use Names.{block_verdict, reset_verdict, verdict_of}
 pub use Rattle.h2_laws_log.proofs.LogViewLemmas.{closed_by_us_is}
 
 -- what holds of a stream's fault, of an item of which nothing is reported, and of one that is

@@ -1,11 +1,10 @@
 -- What every log has read, and what was reported of it: calls; and so every log.
+use Rattle.h2_laws_end.proofs.Names
+use Names.{false, [], refl, Role, Values, Act, Log, log_view, called, IsLog, items_of, opened}
+use Names.{both_ways, SendGoAway, answer_of, is_goaway, with_sent, items_read, events_read, last_is}
+use Names.{IsPendingInvariant, pending_by_logs, greatest_processed, last_processed, events_of_items}
 use Rattle.h2_laws_end.specs.Readings.{HasReadings}
 use Rattle.h2_laws_log.proofs.NoGoAways.{items_none}
-use Rattle.h2_laws_end.proofs.Names.{false, [], refl, both_ways, Role, Values, Act, SendGoAway, Log}
-use Rattle.h2_laws_end.proofs.Names.{log_view, answer_of, called, IsLog, IsPendingInvariant}
-use Rattle.h2_laws_end.proofs.Names.{pending_by_logs, is_goaway, greatest_processed, last_processed}
-use Rattle.h2_laws_end.proofs.Names.{items_of, with_sent, opened, items_read, events_read}
-use Rattle.h2_laws_end.proofs.Names.{events_of_items, last_is}
 use Rattle.h2_laws_end.proofs.Readings.{LogIsRead, PendingRead, wrote_goaway, named, wrote_keeps}
 use Rattle.h2_laws_end.proofs.Readings.{failure_keeps, replied_read}
 use Rattle.h2_laws_end.proofs.ReadingRules.{some_above}

@@ -1,7 +1,4 @@
 -- What the verdict on an item says of what is reported of it.
-use Rattle.h2_laws_log.proofs.InvariantCalls.{odd_some}
-use Rattle.h2_laws_end.specs.Readings.{its_fields, its_octets, its_reset, its_fault, its_goaway}
-use Rattle.h2_laws_end.specs.Readings.{its_acknowledgment, MayBeSilent}
 use Rattle.h2_laws_end.proofs.Names
 use Names.{◌≡◌, ◌≢◌, ℕ, zero, suc, ◌<◌, ◌==◌, ◌%◌, ◌&&◌, max, Bool, true, false, if◌then◌else◌}
 use Names.{List, [], ◌∷◌, Option, Some, None, refl, inl, inr, arith, list_any, both_ways, or_parts}
@@ -14,6 +11,9 @@ use Names.{used_here, closed_by_us_is, fault_codes, nat_le, or_right, leb-true, 
 use Names.{stream_of, opens_from, stream_of_item, processed_by, greatest_processed, state_by}
 use Names.{is_used, is_above, is_closed_by_us, connection_update_verdict, update_verdict}
 use Names.{verdict_by_rules, events_of, idle_unused, second_false, ItemRead, its_pong, AreEventsOf}
+use Rattle.h2_laws_log.proofs.InvariantCalls.{odd_some}
+use Rattle.h2_laws_end.specs.Readings.{its_fields, its_octets, its_reset, its_fault, its_goaway}
+use Rattle.h2_laws_end.specs.Readings.{its_acknowledgment, MayBeSilent}
 use Rattle.h2_laws_end.proofs.FaultCodes.{HasCode}
 use Rattle.h2_laws_end.proofs.GoAwaysRead.{IsTypedGoAway, least_reported}
 use Rattle.h2_laws_end.proofs.ReadVerdicts.{Says, says_data, says_any, says_block, says_reset}

@@ -1,9 +1,4 @@
 -- What every log has read, and what was reported of it.
-use Rattle.hpack.specs.Tables.{Entries}
-use Rattle.h2_spec_log.specs.ItemEffects.{table_after}
-use Rattle.h2_laws_log.proofs.ItemsThatCome.{comes_up, comes_decoded}
-use Rattle.h2_laws_log.proofs.NoGoAways.{replies_none}
-use Rattle.h2_laws_end.specs.Readings.{IsEventOf, DecodesTo, AreDecoded, AreReadings}
 use Rattle.h2_laws_end.proofs.Names
 use Names.{◌≡◌, ℕ, ◌<◌, true, false, List, [], ◌∷◌, ◌++◌, Option, Some, None, refl, sym, ap, ◌∙◌}
 use Names.{inl, inr, arith, append_assoc, subst, list_any, both_ways, or_parts, or_left, lt-ltb}
@@ -13,13 +8,17 @@ use Names.{completes, events_of, read, with_failure, IsDecodedIn, Values, any_af
 use Names.{comes_as_before, any_either, Replies, fault_codes, comes_fit, opens_from}
 use Names.{is_goaway_below, processed_by, greatest_processed, with_sent, used, ItemRead, its_pong}
 use Names.{AreEventsOf, items_read, events_read, events_of_items, replies_owed, replies_among}
+use Rattle.hpack.specs.Tables.{Entries}
+use Rattle.h2_spec_log.specs.ItemEffects.{table_after}
+use Rattle.h2_laws_log.proofs.ItemsThatCome.{comes_up, comes_decoded}
+use Rattle.h2_laws_log.proofs.NoGoAways.{replies_none}
+use Rattle.h2_laws_end.specs.Readings.{IsEventOf, DecodesTo, AreDecoded, AreReadings}
 use Rattle.h2_laws_end.proofs.FaultCodes.{HasCode, verdict_coded}
 use Rattle.h2_laws_end.proofs.GoAwaysRead.{IsTypedGoAway, item_typed}
 use Rattle.h2_laws_end.proofs.Replies.{replies_of_logs}
 use Rattle.h2_laws_end.proofs.ReadVerdicts.{Says, says_of, says_one}
-use Rattle.h2_laws_end.proofs.ReadingRules.{IsUnreported, IsLow, IsFaulty, IsSaid, IsSeen}
-use Rattle.h2_laws_end.proofs.ReadingRules.{rules_say, rules_see, reading_of, events_said}
-use Rattle.h2_laws_end.proofs.ReadingRules.{processed_low}
+use Rattle.h2_laws_end.proofs.ReadingRules.{IsUnreported, reading_of, events_said, processed_low}
+use Rattle.h2_laws_end.proofs.ReadingRules.{IsLow, IsFaulty, IsSaid, IsSeen, rules_say, rules_see}
 
 -- What HasReadings says, by the parts of a log; and, as long as the connection hasn't failed, that
 -- at a server unused numbers are above those processed.

@@ -1,4 +1,13 @@
 -- What keeps a stream's receive window, and what is owed of it, in step: calls; and so every log.
+use Rattle.h2_laws_end.proofs.Names
+use Names.{◌≡◌, ◌≢◌, ℕ, ◌+◌, ◌-◌, ◌≤◌, ◌∷◌, pos, sym, ap, ◌∙◌, inl, inr, Act, Log, read, ◌+ℤ◌, owed}
+use Names.{◌==◌, Bool, true, List, [], None, ◌-ℤ◌, refl, ints, Item, Role, ends, Done, IsLog, total}
+use Names.{false, arith, Values, Answer, acked, active, called, flow_on, owed_on, items_of, opened}
+use Names.{list_any, ne_eqb, cases_eq, SendData, ended_in, log_view, own_value, released, with_sent}
+use Names.{both_ways, first_window, unreleased_is, pending_by_logs, update_elsewhere, released_here}
+use Names.{ltb-false, Release, answer_of, total_none, is_active, unreleased, conditions, owed_there}
+use Names.{UnprocessedEvent, next_unprocessed, stream_is_active, IsPendingInvariant, reported_total}
+use Names.{refusal_of, active_parts, history_of, none_holds, increment_on, is_block_on, active_some}
 use Rattle.h2_spec_log.specs.Windows.{granted_on}
 use Rattle.h2_spec_log.specs.Log.{recv_window}
 use Rattle.h2_laws_log.proofs.CallConditions.{neither_other}
@@ -8,16 +17,6 @@ use Rattle.h2_laws_log.proofs.DataOfCalls.{none_of_items}
 use Rattle.h2_laws_log.proofs.ReleasedCredit.{updates, gives_elsewhere}
 use Rattle.h2_laws_log.proofs.AllowedHistories.{increment_here}
 use Rattle.h2_laws_log.proofs.InvariantSends.{data_gives}
-use Rattle.h2_laws_end.proofs.Names
-use Names.{◌≡◌, ◌≢◌, ℕ, ◌+◌, ◌-◌, ◌≤◌, ◌==◌, Bool, true, false, List, [], ◌∷◌, None, pos, ◌-ℤ◌}
-use Names.{refl, sym, ap, ◌∙◌, inl, inr, arith, list_any, both_ways, ne_eqb, cases_eq, ltb-false}
-use Names.{ints, Item, Role, ends, UnprocessedEvent, Values, Act, Answer, SendData, Release, Done}
-use Names.{first_window, Log, acked, active, next_unprocessed, ended_in, log_view, refusal_of}
-use Names.{answer_of, read, called, IsLog, active_parts, history_of, none_holds, stream_is_active}
-use Names.{unreleased_is, IsPendingInvariant, pending_by_logs, total_none, ◌+ℤ◌, total}
-use Names.{increment_on, is_block_on, flow_on, reported_total, is_active, own_value, owed, released}
-use Names.{unreleased, owed_on, conditions, items_of, with_sent, opened, update_elsewhere}
-use Names.{active_some, owed_there, released_here}
 use Rattle.h2_laws_end.proofs.ReceiveWindows.{IsAccounted, Steps, step_keeps, quiet_steps}
 use Rattle.h2_laws_end.proofs.ReceiveWindows.{give_accounted, failure_keeps, flow_none}
 use Rattle.h2_laws_end.proofs.ReceiveWindows.{PendingAccounted, quiet_keeps, sent_accounted}

@@ -1,15 +1,14 @@
 -- What keeps a stream's receive window, and what is owed of it, in step: items that are read, and
 -- calls.
-use Rattle.h2_spec_log.specs.Events.{ResetEvent}
 use Rattle.h2_laws_end.proofs.Names
-use Names.{◌≡◌, ℕ, Bool, true, false, List, [], ◌∷◌, ◌++◌, length, Option, refl, ◌∙◌, inl, inr}
-use Names.{arith, subst, both_ways, or_left, eq-eqb, ne_eqb, cases_eq, Code, code_number, Data}
-use Names.{Reset, Settings, Ping, payload_of, Item, alone, block, Role, Event, DataEvent, Log}
-use Names.{active, state, log_view, Verdict, ConnectionFault, StreamFault, NoEvent, Reported}
-use Names.{Decoded, read, with_sent, Values, active_parts, state_is_active, history_of, Replies}
-use Names.{total_none, closed_by_us_is, stream_of, total, increment_on, data_on, resets}
-use Names.{stream_of_item, flow_on, reported_total, is_closed_by_us, replies_to, verdict_by_rules}
-use Names.{events_of, History}
+use Names.{◌≡◌, ◌∷◌, refl, ◌∙◌, inl, inr, Code, Data, Ping, Item, Role, Log, read}
+use Names.{ℕ, code_number, StreamFault, active_parts, increment_on, stream_of_item, reported_total}
+use Names.{Bool, length, Option, eq-eqb, ne_eqb, active, Values, Replies, data_on, flow_on, History}
+use Names.{true, false, List, ◌++◌, arith, subst, Reset, alone, block, Event, state, total, resets}
+use Names.{[], ConnectionFault, state_is_active, closed_by_us_is, is_closed_by_us, verdict_by_rules}
+use Names.{both_ways, or_left, payload_of, DataEvent, with_sent, history_of, total_none, replies_to}
+use Names.{cases_eq, Settings, log_view, Verdict, NoEvent, Reported, Decoded, stream_of, events_of}
+use Rattle.h2_spec_log.specs.Events.{ResetEvent}
 use Rattle.h2_laws_end.proofs.ReadVerdicts.{Says, says_of, says_data, says_nothing}
 use Rattle.h2_laws_end.proofs.ReceiveWindows.{IsAccounted, Steps, opened_in, quiet_steps}
 use Rattle.h2_laws_end.proofs.ReceiveWindows.{active_unclosed, total_one, flow_none}
@@ -106,7 +105,8 @@ data_fault_steps : (log : Log) (stream : ℕ) (end : Bool) (octets : List ℕ) (
 data_fault_steps log stream end octets pad code i before =
     elim (cases_eq stream i) [
       | inl same ↦ closed_steps (history_of log) i _ (alone (Reset stream code) ∷ []) _ before
-          (rw same (reset_closed _ _ _ _)) (reset_gives i stream code) (reset_flow i stream code true)
+          (rw same (reset_closed _ _ _ _)) (reset_gives i stream code) (reset_flow i stream code
+          true)
       | inr other ↦ quiet_steps (history_of log) i _ _ _ log.calls before (total_one _ _
           (data_elsewhere stream end octets pad i other)) (reset_gives i stream code)
           (reset_flow i stream code true) refl
@@ -118,7 +118,8 @@ data_ignored_steps : (log : Log) (stream : ℕ) (end : Bool) (octets : List ℕ)
     → Steps (history_of log) i (alone (Data stream end octets pad) ∷ []) [] [] log.calls
 data_ignored_steps log stream end octets pad i before closed =
     elim (cases_eq stream i) [
-      | inl same ↦ closed_steps (history_of log) i _ [] [] before (rw (← same) closed) (total_none _)
+      | inl same ↦ closed_steps (history_of log) i _ [] [] before (rw (← same) closed) (total_none
+          _)
           (flow_none i)
       | inr other ↦ quiet_steps (history_of log) _ _ [] [] _ before (total_one _ _
           (data_elsewhere stream end octets pad i other)) (total_none _) (flow_none i) refl

@@ -1,8 +1,5 @@
 -- On an active stream that the peer hasn't ended, all DATA was reported, and what was released was
 -- returned.
-use Rattle.h2_laws_log.proofs.ItemLists.{none_after}
-use Rattle.h2_laws_log.proofs.LogHistory.{active_in_view, moved, give, wrote_view, fails_view}
-use Rattle.h2_laws_log.proofs.LogInvariant.{above_before}
 use Rattle.h2_laws_end.proofs.Names
 use Names.{◌≡◌, ◌≢◌, ℕ, ◌+◌, ◌≤◌, Bool, true, false, List, [], ◌∷◌, ◌++◌, refl, inl, inr, arith}
 use Names.{subst, sym, list_any, or_parts, or_from, cases_Bool, Code, code_number, GoAway, Item}
@@ -10,6 +7,9 @@ use Names.{alone, Role, Client, Server, data_on, is_block_on, ends, resets, Even
 use Names.{openings, is_active, Log, active, with_sent, with_failure, total_none, total-append}
 use Names.{active_parts, lasts_parts, history_of, active_before, total, increment_on, flow_on}
 use Names.{reported_total, is_closed_by_us, released, History, reported_append, update_elsewhere}
+use Rattle.h2_laws_log.proofs.ItemLists.{none_after}
+use Rattle.h2_laws_log.proofs.LogHistory.{active_in_view, moved, give, wrote_view, fails_view}
+use Rattle.h2_laws_log.proofs.LogInvariant.{above_before}
 
 -- Whether the stream was opened.
 abbrev pub opened_in : History → ℕ → Bool

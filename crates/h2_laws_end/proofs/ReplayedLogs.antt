@@ -1,13 +1,13 @@
 -- The log of a replay comes about, and its turns tell of the acts.
-use Rattle.h2_spec_log.specs.Acts.{shown}
-use Rattle.h2_laws_end.specs.Replays.{Make, starts, acts_of_turns, Between, InTake, next_phase}
-use Rattle.h2_laws_end.specs.Replays.{script_phase}
-use Rattle.h2_laws_end.proofs.Names.{◌≡◌, ℕ, Bool, false, List, [], ◌∷◌, ◌++◌, Option, refl, sym}
-use Rattle.h2_laws_end.proofs.Names.{ap, subst, ◌∙◌, append_assoc, both_ways, append_cancel_right}
-use Rattle.h2_laws_end.proofs.Names.{Code, Role, Values, Act, Answer, Turn, In, Out, Happened}
-use Rattle.h2_laws_end.proofs.Names.{TakeCalled, TakeAnswered, Log, with_call, IsLog, begins}
-use Rattle.h2_laws_end.proofs.Names.{called_one, Called, Answered, opened, ReplayAct, Take}
+use Rattle.h2_laws_end.proofs.Names.{starts, ◌≡◌, ℕ, Bool, false, List, [], ◌∷◌, ◌++◌, Option, refl}
+use Rattle.h2_laws_end.proofs.Names.{sym, ap, subst, ◌∙◌, append_assoc, both_ways}
+use Rattle.h2_laws_end.proofs.Names.{append_cancel_right, Code, Role, Values, Act, Answer, Turn, In}
+use Rattle.h2_laws_end.proofs.Names.{Out, Happened, TakeCalled, TakeAnswered, Log, with_call, IsLog}
+use Rattle.h2_laws_end.proofs.Names.{begins, called_one, Called, Answered, opened, ReplayAct, Take}
 use Rattle.h2_laws_end.proofs.Names.{TakesAll, is_done, goes_on, has_fault, IsReplay, takes, calls}
+use Rattle.h2_spec_log.specs.Acts.{shown}
+use Rattle.h2_laws_end.specs.Replays.{Make, acts_of_turns, Between, InTake, next_phase}
+use Rattle.h2_laws_end.specs.Replays.{script_phase}
 use Rattle.h2_laws_end.proofs.TakeAnswers.{take_closed}
 use Rattle.h2_laws_end.proofs.TurnsAdded.{AllPass, Adds, is_output, is_of_take, adds_twice}
 use Rattle.h2_laws_end.proofs.TurnsAdded.{adds_call, adds_take}

@@ -1,16 +1,15 @@
 -- The turns of a replay tell of the octets used, of those written and of the events of its log; and
 -- the octets used are those of the acts, up to a failure.
+use Rattle.h2_laws_end.proofs.Names
+use Names.{starts, Happened, with_sent, ReplayAct, TakesAll, is_done, goes_on, has_fault, IsReplay}
+use Names.{◌≡◌, ◌∷◌, Some, None, refl, sym, ap, ◌∙◌, Code, Role, Turn, In, Out, Log, Took, Take}
+use Names.{ℕ, append_assoc, append-nil, none_some, TakeCalled, TakeAnswered, grows_call, Keeps-call}
+use Names.{List, [], ◌++◌, length, drop, Option, arith, Event, Values, Failed, opened, takes, calls}
 use Rattle.std.proofs.Math.Seq.{drop-append_seam}
 use Rattle.std.proofs.lemmas.List.{length-append}
 use Rattle.h2_laws_log.specs.Turns.{octets_in, octets_out, events_in}
 use Rattle.h2_laws_log.proofs.TurnsOfLogs.{turns_report}
-use Rattle.h2_laws_end.specs.Replays.{starts, octets_of_acts}
-use Rattle.h2_laws_end.proofs.Names.{◌≡◌, ℕ, List, [], ◌∷◌, ◌++◌, length, drop, Option, Some, None}
-use Rattle.h2_laws_end.proofs.Names.{refl, sym, ap, ◌∙◌, append_assoc, append-nil, arith, Code}
-use Rattle.h2_laws_end.proofs.Names.{none_some, Role, Event, Values, Turn, In, Out, Happened}
-use Rattle.h2_laws_end.proofs.Names.{TakeCalled, TakeAnswered, Log, grows_call, Took, Failed}
-use Rattle.h2_laws_end.proofs.Names.{with_sent, opened, Keeps-call, ReplayAct, Take, TakesAll}
-use Rattle.h2_laws_end.proofs.Names.{is_done, goes_on, has_fault, IsReplay, takes, calls}
+use Rattle.h2_laws_end.specs.Replays.{octets_of_acts}
 use Rattle.h2_laws_end.proofs.ReplayedLogs.{replay_closed}
 use Rattle.h2_laws_end.proofs.TakeAnswers.{log_after_take, failed_take}
 

@@ -1,13 +1,12 @@
 -- Each SETTINGS and each PING that was read is replied to once, and nothing else is.
 use Rattle.h2_laws_end.proofs.Names
-use Names.{◌≡◌, ℕ, Bool, true, false, if◌then◌else◌, List, [], ◌∷◌, ◌++◌, Option, Some, None, refl}
-use Names.{sym, ap, ◌∙◌, append_assoc, subst, Code, Settings, Ping, WindowUpdate, Item, alone, Role}
-use Names.{Values, Act, Answer, Open, SendFields, SendData, Release, ResetStream, Refuse, SendPing}
-use Names.{SendGoAway, ChangeSettings, Number, Count, Done, Log, Verdict, ConnectionFault}
-use Names.{StreamFault, NoEvent, Reported, View, ended_in, log_view, Decoded, verdict_of_fault}
-use Names.{verdict_of, read, called, IsLog, data_items, answer_of, IsLogInvariant, kept_by_logs}
-use Names.{AllByRecursion, replies_to, verdict_by_rules, with_sent, opened, items_of, replies_owed}
-use Names.{replies_among}
+use Names.{◌≡◌, ChangeSettings, ConnectionFault, verdict_of_fault, IsLogInvariant, verdict_by_rules}
+use Names.{ℕ, [], ◌∷◌, refl, sym, ap, ◌∙◌, Code, Ping, Item, Role, Act, Open, Done, Log, View, read}
+use Names.{Bool, Settings, SendData, SendPing, Reported, ended_in, answer_of, replies_to, with_sent}
+use Names.{true, false, List, ◌++◌, Some, None, subst, alone, Number, Count, called, IsLog, opened}
+use Names.{if◌then◌else◌, append_assoc, WindowUpdate, kept_by_logs, AllByRecursion, replies_among}
+use Names.{Option, Values, Answer, Release, Refuse, Verdict, NoEvent, log_view, Decoded, items_of}
+use Names.{SendFields, ResetStream, SendGoAway, StreamFault, verdict_of, data_items, replies_owed}
 use Rattle.h2_laws_end.proofs.Unread.{wrote_reads}
 use Rattle.h2_laws_end.proofs.ReadVerdicts.{by_limits}
 use Rattle.h2_laws_end.proofs.DataItems.{body_all}

@@ -1,9 +1,5 @@
 -- What happened to an end, one mark after another, each octet by itself: its log is determined by
 -- its marks.
-use Rattle.hpack.proofs.BlockLemmas.{one_block_lem}
-use Rattle.h2_wire.proofs.FaultLemmas.{one_fault_lem, no_reading_lem}
-use Rattle.h2_spec_log.specs.Histories.{IsDecoded}
-use Rattle.h2_laws_end.specs.Scripts.{OutOfMemory}
 use Rattle.h2_laws_end.proofs.Names
 use Names.{◌≡◌, ℕ, true, false, List, [], ◌∷◌, ◌++◌, length, Option, None, Some, refl, sym, ap, ap₂}
 use Names.{◌∙◌, arith, subst, append-nil, length-append, Frame, WireFault, Limits, Frames}
@@ -11,6 +7,10 @@ use Names.{WireFaultAt, one_reading_lem, block, Role, Values, is_server, Log, lo
 use Names.{FrameStep, completes, frame_step, limits_from, took_frame, took_fault}
 use Names.{took_out_of_memory, took_none, with_call, IsDecodedIn, IsDecodedFor, Mark, Octet}
 use Names.{without_turns, used, opened, Call, Unprocessed}
+use Rattle.hpack.proofs.BlockLemmas.{one_block_lem}
+use Rattle.h2_wire.proofs.FaultLemmas.{one_fault_lem, no_reading_lem}
+use Rattle.h2_spec_log.specs.Histories.{IsDecoded}
+use Rattle.h2_laws_end.specs.Scripts.{OutOfMemory}
 
 -- The log after an octet that was used: no frame ended with it, or one did, or it made a fault.
 pub data Uses (role : Role) (octet : ℕ) (before log : Log) : Type 0 where

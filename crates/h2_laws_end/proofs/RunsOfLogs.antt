@@ -1,6 +1,4 @@
 -- However octets were cut into pieces, a log is one that its script makes octet by octet.
-use Rattle.std.proofs.Common.{map as each}
-use Rattle.h2_laws_end.specs.Scripts.{OutOfMemory, script_of, is_in_frame}
 use Rattle.h2_laws_end.proofs.Names
 use Names.{◌≡◌, ℕ, true, false, List, [], ◌∷◌, ◌++◌, length, Option, None, refl, sym, ap, ◌∙◌}
 use Names.{subst, inl, inr, append-nil, Frame, WireFault, Limits, Frames, WireFaultAt, Role, Values}
@@ -8,6 +6,8 @@ use Names.{is_server, Log, Decoded, limits_from, took_frame, took_fault, took_ou
 use Names.{begins, took_some, took_one, met_fault, ran_out_of_memory, reported_one, called_one}
 use Names.{IsDecodedFor, stream_of_log, Mark, Octet, without_turns, AreSameButTurns}
 use Names.{MayRunOutOfMemory, to_report, to_keep, to_take, Call, Unprocessed}
+use Rattle.std.proofs.Common.{map as each}
+use Rattle.h2_laws_end.specs.Scripts.{OutOfMemory, script_of, is_in_frame}
 use Rattle.h2_laws_end.proofs.PieceLogs.{read_here, alike_without, none_alike, call_alike}
 use Rattle.h2_laws_end.proofs.PieceParts.{last_or}
 use Rattle.h2_laws_end.proofs.PieceRuns.{back, IsReadOf, parts_run, frame_run, fault_run, lost_run}

@@ -1,19 +1,18 @@
 -- What an end has written can be sent: what every log has for that, and what an end reads.
+use Rattle.h2_laws_end.proofs.Names
+use Names.{◌≡◌, ltb-false, payload_of, ClosedByUs, IsSendable, AreSendable, replies_to, total_after}
+use Names.{◌≢◌, ◌+◌, ◌^◌, ◌≤◌, ◌<◌, ◌∷◌, inl, inr, Log}
+use Names.{ℕ, Bool, false, arith, subst, alone, block, Event, State, Active, Closed, Values, total}
+use Names.{◌==◌, AllByRecursion, stream_of_item, ConnectionFault, verdict_by_rules, comes_as_before}
+use Names.{nat_lt, code_number, StreamFault, most_between, processed_by, data_verdict, second_false}
+use Names.{true, List, ◌++◌, Some, None, refl, Code, Data, Ping, Item, Role, Idle, View, read, used}
+use Names.{[], cases_eq, Settings, is_server, IsFitItem, comes_fit, opened_by, events_of, with_sent}
+use Names.{length, Option, lt-ltb, GoAway, log_view, NoEvent, Reported, Decoded, Replies, data_of}
+use Names.{WindowUpdate, increment_on, with_failure, AllowedHistory, last_processed, opening_pairs}
+use Names.{max_payload_sent, max_payload_sent_by, Verdict, greatest_processed, with_credit_returned}
 use Rattle.std.proofs.Common.{map as each}
 use Rattle.h2_spec_log.specs.Windows.{granted_on_connection, passes}
 use Rattle.h2_spec_log.specs.Allowed.{starts, reads, writes}
-use Rattle.h2_laws_end.proofs.Names
-use Names.{◌≡◌, ◌≢◌, ℕ, ◌+◌, ◌^◌, ◌≤◌, ◌<◌, ◌==◌, nat_lt, Bool, true, false, List, [], ◌∷◌, ◌++◌}
-use Names.{length, Option, Some, None, refl, inl, inr, arith, subst, AllByRecursion, ltb-false}
-use Names.{lt-ltb, cases_eq, Code, code_number, Data, Settings, Ping, GoAway, WindowUpdate}
-use Names.{payload_of, Item, alone, block, Role, increment_on, stream_of_item, Event, is_server}
-use Names.{State, Idle, Active, ClosedByUs, Closed, Log, max_payload_sent, max_payload_sent_by}
-use Names.{View, log_view, Verdict, ConnectionFault, StreamFault, NoEvent, Reported, Decoded}
-use Names.{verdict_by_rules, read, with_failure, AllowedHistory, Values, most_between, IsSendable}
-use Names.{AreSendable, comes_as_before, Replies, IsFitItem, comes_fit, total, data_of}
-use Names.{processed_by, greatest_processed, last_processed, data_verdict, replies_to, opened_by}
-use Names.{events_of, with_sent, with_credit_returned, used, opening_pairs, total_after}
-use Names.{second_false}
 use Rattle.h2_laws_end.proofs.ReadingCalls.{log_read}
 use Rattle.h2_laws_log.proofs.LogViewLemmas.{data_by_sums}
 use Rattle.h2_laws_end.proofs.ReadVerdicts.{Says, says_of, says_any, says_one}

@@ -1,4 +1,18 @@
 -- What an end has written can be sent: calls, and so every log.
+use Rattle.h2_laws_end.proofs.Names
+use Names.{◌≡◌, AllByRecursion, stream_is_active, pending_by_logs, comes_as_before, greatest_number}
+use Names.{ℕ, [], inr, Act, Log}
+use Names.{suc, ◌^◌, ◌≤◌, ◌<◌, true, List, ◌∷◌, None, refl, inl, Item, Role, Open, ◌||◌, used, Good}
+use Names.{◌==◌, ResetStream, most_between, active_parts, unreleased_is, processed_by, refuse_fault}
+use Names.{nat_lt, Client, Server, Values, Release, block_of, owed_on, max_list, items_of, next_odd}
+use Names.{Bool, data_items, IsSendable, history_of, none_holds, AreInRange, unreleased, conditions}
+use Names.{false, max_payload_sent_by, max_frame_size_sent, written_is_allowed, written_by_payloads}
+use Names.{if◌then◌else◌, both_ways, ChangeSettings, AllowedHistory, last_processed, log_represents}
+use Names.{arith, Field, Reset, alone, block, Refuse, PutOut, active, called, IsLog, total, opened}
+use Names.{list_any, or_parts, or_cases, eqb-true, SendData, SendPing, openings, ended_in, log_view}
+use Names.{ltb-false, is_server, answer_of, IsFitItem, comes_fit, with_sent, owed_there, none_since}
+use Names.{WindowUpdate, UnprocessedEvent, max_payload_sent, IsPendingInvariant, greatest_processed}
+use Names.{SendFields, SendGoAway, refusal_of, AreSendable, is_block_on, next_number, active_some}
 use Rattle.hpack.specs.Lists.{list_size}
 use Rattle.h2_spec_log.specs.Acts.{IsTypedAct}
 use Rattle.h2_laws_log.proofs.BlockSizes.{block_is_gathered}
@@ -6,26 +20,6 @@ use Rattle.h2_laws_log.proofs.LogInvariant.{Represents}
 use Rattle.h2_laws_log.proofs.CallConditions.{and_other}
 use Rattle.h2_laws_log.proofs.InvariantCalls.{no_fault}
 use Rattle.h2_laws_log.proofs.PayloadOrigins.{payloads_between}
-use Rattle.h2_laws_end.proofs.Names.{◌≡◌, ℕ, suc, ◌^◌, ◌≤◌, ◌<◌, ◌==◌, nat_lt, Bool, true, false}
-use Rattle.h2_laws_end.proofs.Names.{if◌then◌else◌, List, [], ◌∷◌, None, refl, inl, inr, arith}
-use Rattle.h2_laws_end.proofs.Names.{AllByRecursion, list_any, both_ways, or_parts, or_cases}
-use Rattle.h2_laws_end.proofs.Names.{eqb-true, ltb-false, Field, WindowUpdate, Reset, Item, alone}
-use Rattle.h2_laws_end.proofs.Names.{block, Role, Client, Server, UnprocessedEvent, Values, Act}
-use Rattle.h2_laws_end.proofs.Names.{Open, SendFields, SendData, Release, ResetStream, Refuse}
-use Rattle.h2_laws_end.proofs.Names.{SendPing, SendGoAway, PutOut, ChangeSettings, is_server}
-use Rattle.h2_laws_end.proofs.Names.{openings, Log, active, max_payload_sent, max_payload_sent_by}
-use Rattle.h2_laws_end.proofs.Names.{ended_in, log_view, max_frame_size_sent, refusal_of, answer_of}
-use Rattle.h2_laws_end.proofs.Names.{data_items, called, IsLog, AllowedHistory, most_between}
-use Rattle.h2_laws_end.proofs.Names.{IsSendable, AreSendable, active_parts, history_of}
-use Rattle.h2_laws_end.proofs.Names.{stream_is_active, none_holds, written_is_allowed}
-use Rattle.h2_laws_end.proofs.Names.{pending_by_logs, IsPendingInvariant, comes_as_before}
-use Rattle.h2_laws_end.proofs.Names.{unreleased_is, IsFitItem, comes_fit, ◌||◌, block_of}
-use Rattle.h2_laws_end.proofs.Names.{is_block_on, total, greatest_processed, processed_by}
-use Rattle.h2_laws_end.proofs.Names.{AreInRange, greatest_number, next_number, last_processed}
-use Rattle.h2_laws_end.proofs.Names.{unreleased, owed_on, max_list, conditions, items_of}
-use Rattle.h2_laws_end.proofs.Names.{refuse_fault, with_sent, used, opened, next_odd, Good}
-use Rattle.h2_laws_end.proofs.Names.{owed_there, none_since, active_some, log_represents}
-use Rattle.h2_laws_end.proofs.Names.{written_by_payloads}
 use Rattle.h2_laws_end.proofs.SendableItems.{IsPayload, reset_sendable, update_sendable}
 use Rattle.h2_laws_end.proofs.SendableItems.{goaway_sendable, ping_sendable, opening_sendable}
 use Rattle.h2_laws_end.proofs.SendableItems.{change_sendable, data_items_sendable, all_sendable}

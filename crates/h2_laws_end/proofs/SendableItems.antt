@@ -1,16 +1,16 @@
 -- Which items can be sent; and what is known of those that were read.
-use Rattle.std.proofs.Common.{map as each}
-use Rattle.h2_frame.specs.Heads.{fits_stream}
-use Rattle.h2_frame.specs.Encoding.{kind_of_frame, has_good_values, refusal, IsTyped}
-use Rattle.h2_block.specs.Grouping.{is_standalone}
-use Rattle.h2_spec_log.specs.CallRules.{changed_pairs, with_max_frame}
-use Rattle.h2_laws_log.proofs.ItemSizes.{size_of, size-frame, size-opening, size-change}
 use Rattle.h2_laws_end.proofs.Names
 use Names.{◌≡◌, ℕ, ◌^◌, ◌≤◌, ◌<◌, ◌==◌, Bool, true, false, if◌then◌else◌, List, [], ◌∷◌, ◌++◌}
 use Names.{length, None, refl, arith, AllByRecursion, lt-ltb, Code, code_number, Frame, Data, Reset}
 use Names.{Settings, Ping, GoAway, WindowUpdate, Item, alone, block, max_frame_size_sent, Role}
 use Names.{Client, Server, Values, data_items, IsSendable, AreSendable, le-ltb, payload_of}
 use Names.{stream_of, max_list, AreInRange, opening_pairs}
+use Rattle.std.proofs.Common.{map as each}
+use Rattle.h2_frame.specs.Heads.{fits_stream}
+use Rattle.h2_frame.specs.Encoding.{kind_of_frame, has_good_values, refusal, IsTyped}
+use Rattle.h2_block.specs.Grouping.{is_standalone}
+use Rattle.h2_spec_log.specs.CallRules.{changed_pairs, with_max_frame}
+use Rattle.h2_laws_log.proofs.ItemSizes.{size_of, size-frame, size-opening, size-change}
 use Rattle.h2_laws_end.proofs.DataItems.{body_all}
 use Rattle.h2_frame.specs.declared.code.Code.TheVariants as codes
 

@@ -1,9 +1,4 @@
 -- The field blocks that an end has written are what its encoder makes of the lists of its calls.
-use Rattle.hpack.specs.Lists.{EncoderState}
-use Rattle.hpack.specs.Choice.{after_block}
-use Rattle.h2_spec_log.specs.CallRules.{encoder_after_call}
-use Rattle.h2_laws_end.specs.Sendings.{lists_accepted, settings_received, EncodesInOrder}
-use Rattle.h2_laws_end.specs.Sendings.{sent_nothing, sent_acknowledgment, sent_block, sent_other}
 use Rattle.h2_laws_end.proofs.Names
 use Names.{◌≡◌, ℕ, Bool, true, false, if◌then◌else◌, List, [], ◌∷◌, ◌++◌, Option, refl, subst}
 use Names.{list_any, both_ways, or_parts, Field, Code, Settings, WindowUpdate, Item, alone, block}
@@ -12,6 +7,11 @@ use Names.{Count, Done, OutOfMemory, Refused, Log, log_view, Verdict, Connection
 use Names.{NoEvent, Reported, Decoded, answer_of, data_items, read, called, IsLog, IsLogInvariant}
 use Names.{kept_by_logs, block_of, replies_to, opening_pairs, items_of, with_sent, opened}
 use Names.{WritesNone, refused, no_memory, fails_instead, puts_out, changes_encoder}
+use Rattle.hpack.specs.Lists.{EncoderState}
+use Rattle.hpack.specs.Choice.{after_block}
+use Rattle.h2_spec_log.specs.CallRules.{encoder_after_call}
+use Rattle.h2_laws_end.specs.Sendings.{lists_accepted, settings_received, EncodesInOrder}
+use Rattle.h2_laws_end.specs.Sendings.{sent_nothing, sent_acknowledgment, sent_block, sent_other}
 use Rattle.h2_laws_end.proofs.SettingsApplied.{is_settings, replies_stay, IsApplied}
 use Rattle.h2_laws_end.proofs.SettingsApplied.{verdict_applied}
 use Rattle.h2_laws_end.proofs.DataItems.{body_all, none_of_all}

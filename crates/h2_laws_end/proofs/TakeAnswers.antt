@@ -1,5 +1,4 @@
 -- What a call of `take` answers, and the log after it.
-use Rattle.h2_laws_end.specs.Takes.{AfterTake}
 use Rattle.h2_laws_end.proofs.Names
 use Names.{◌≡◌, ◌⊎◌, ℕ, List, [], ◌∷◌, ◌++◌, length, Option, Some, None, refl, sym, ap, ◌∙◌, subst}
 use Names.{inl, inr, append-nil, Code, Frame, Data, Reset, Settings, Ping, GoAway, none_some}
@@ -11,6 +10,7 @@ use Names.{TakeAnswer, Took, Failed, events_answered, MayTake, has_failed, repor
 use Names.{ends_no_frame, ends_frame, meets_fault, runs_out_of_memory, events_of, used, with_sent}
 use Names.{with_reported, TakesOctets, TakesPart, TakesFrame, TakesFault, MayRunOutOfMemory}
 use Names.{Keeps-frame, Keeps-none, SamePart, stays_written, HoldsOfWrites, holds_sent}
+use Rattle.h2_laws_end.specs.Takes.{AfterTake}
 use Rattle.h2_laws_end.proofs.Failures.{reported_failed, unreturned_failed}
 use Rattle.h2_laws_end.proofs.ActivitySteps.{AfterFrame, stays_same, has_broken, has_read}
 use Rattle.h2_laws_end.proofs.ActivitySteps.{frame_used, frame_after}

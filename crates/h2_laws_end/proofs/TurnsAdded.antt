@@ -1,12 +1,12 @@
 -- The turns that `take` and the other calls add to a log.
-use Rattle.std.proofs.Common.{map}
-use Rattle.h2_laws_log.proofs.GrowthBySteps.{HoldsOfFailures, HoldsOfReads}
 use Rattle.h2_laws_end.proofs.Names
 use Names.{◌≡◌, ℕ, Bool, true, false, List, [], ◌∷◌, ◌++◌, refl, sym, ap, ◌∙◌, append_assoc, Code}
 use Names.{Event, Act, Answer, Turn, In, Out, Happened, TakeCalled, TakeAnswered, Log, with_failure}
 use Names.{called, with_call, holds_failure, TakeAnswer, MayTake, has_failed, reports_unprocessed}
 use Names.{ends_no_frame, ends_frame, meets_fault, runs_out_of_memory, Called, Answered, used}
 use Names.{holds_call, holds_used, holds_frame, holds_none}
+use Rattle.std.proofs.Common.{map}
+use Rattle.h2_laws_log.proofs.GrowthBySteps.{HoldsOfFailures, HoldsOfReads}
 
 -- All turns pass.
 abbrev pub AllPass : (Turn → Bool) → List Turn → Type 0

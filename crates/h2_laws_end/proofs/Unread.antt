@@ -1,10 +1,10 @@
 -- What a log keeps where nothing is read: calls, failures, and streams that are reported as
 -- unprocessed change nothing of what was read.
-use Rattle.h2_laws_log.proofs.GrowthBySteps.{HoldsOfCalls}
 use Rattle.h2_laws_end.proofs.Names.{◌≡◌, ℕ, List, [], ◌∷◌, ◌++◌, None, refl, sym, ◌∙◌, Code, Item}
 use Rattle.h2_laws_end.proofs.Names.{Event, Act, Answer, Log, with_unreturned, with_failure}
 use Rattle.h2_laws_end.proofs.Names.{took_none, called, with_call, none_some, holds_unreturned}
 use Rattle.h2_laws_end.proofs.Names.{holds_failure, with_sent, with_reported, holds_call}
+use Rattle.h2_laws_log.proofs.GrowthBySteps.{HoldsOfCalls}
 
 -- The second log has read what the first has, and is up only where the first is.
 pub record ReadsNothing (old new : Log) : Type 0 where

@@ -1,14 +1,5 @@
 -- No DATA that an end writes passes its windows, the newest by all that was read; and calls of
 -- `data` alone write any.
-use Rattle.h2_spec_log.specs.Settings.{one_settings}
-use Rattle.h2_spec_log.specs.CallRules.{data_count}
-use Rattle.h2_spec_log.specs.Allowed.{Origin, IsOpening}
-use Rattle.h2_laws_log.proofs.AllowedHistories.{origin_lem}
-use Rattle.h2_laws_log.proofs.InvariantReads.{Fits, Resets, Reports, verdict_fits}
-use Rattle.h2_laws_log.proofs.ItemLists.{total_one}
-use Rattle.h2_laws_log.proofs.SettingsLists.{value_kept}
-use Rattle.h2_laws_end.specs.WithinWindows.{IsWithinWindows, NoDataPassesWindows, octets_by_calls}
-use Rattle.h2_laws_end.specs.WithinWindows.{NewestFits, KeepsWindows}
 use Rattle.h2_laws_end.proofs.Names
 use Names.{◌≡◌, ◌≢◌, ◌⊎◌, ℕ, ◌+◌, ◌≤◌, ◌<◌, ◌==◌, Bool, true, false, if◌then◌else◌, List, [], ◌∷◌}
 use Names.{◌++◌, length, Option, None, refl, sym, ap, ◌∙◌, inl, inr, arith, subst, eqb-true, eq-eqb}
@@ -19,6 +10,15 @@ use Names.{StreamFault, NoEvent, Reported, answer_of, refusal_of, read, called, 
 use Names.{written_is_allowed, total_none, IsLogInvariant, kept_by_logs, total-append, data_on}
 use Names.{data_of, total, given_on, given_on_connection, replies_to, items_of, with_sent, opened}
 use Names.{WritesNone, refused, no_memory, fails_instead, puts_out, count_by_sums, chosen_low}
+use Rattle.h2_spec_log.specs.Settings.{one_settings}
+use Rattle.h2_spec_log.specs.CallRules.{data_count}
+use Rattle.h2_spec_log.specs.Allowed.{Origin, IsOpening}
+use Rattle.h2_laws_log.proofs.AllowedHistories.{origin_lem}
+use Rattle.h2_laws_log.proofs.InvariantReads.{Fits, Resets, Reports, verdict_fits}
+use Rattle.h2_laws_log.proofs.ItemLists.{total_one}
+use Rattle.h2_laws_log.proofs.SettingsLists.{value_kept}
+use Rattle.h2_laws_end.specs.WithinWindows.{IsWithinWindows, NoDataPassesWindows, octets_by_calls}
+use Rattle.h2_laws_end.specs.WithinWindows.{NewestFits, KeepsWindows}
 use Rattle.h2_laws_end.proofs.DataWindows.{count_fits, data_active, not_negative, taken_of_stream}
 use Rattle.h2_laws_end.proofs.DataWindows.{taken_of_all}
 

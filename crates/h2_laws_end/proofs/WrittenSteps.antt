@@ -1,6 +1,4 @@
 -- What each step writes: what is owed, and credit.
-use Rattle.h2_laws_log.proofs.TurnsOfLogs.{written_after}
-use Rattle.h2_laws_end.specs.Written.{Writes}
 use Rattle.h2_laws_end.proofs.Names
 use Names.{◌≡◌, ℕ, List, [], ◌∷◌, ◌++◌, Option, None, refl, sym, ap, ◌∙◌, inl, inr, append_assoc}
 use Names.{append-nil, subst, ◌+◌, Code, WindowUpdate, Item, alone, Event, Act, Answer, Refuse}
@@ -9,6 +7,8 @@ use Names.{ConnectionFault, Decoded, replies_to, verdict_of, answer_of, refuse_f
 use Names.{with_unreturned, called, credit_cases, put_out_cases, IsCredit, encoding_of_items}
 use Names.{items_of, with_sent, with_reported, with_item, with_credit_returned, with_verdict}
 use Names.{with_items, refused_with, with_call}
+use Rattle.h2_laws_log.proofs.TurnsOfLogs.{written_after}
+use Rattle.h2_laws_end.specs.Written.{Writes}
 
 -- These items were written, and nothing was read.
 pub record Puts (before after : Log) (items : List Item) : Type 0 where

@@ -5,13 +5,13 @@ use Rattle.h2_spec_log.specs.ItemRules.{exceeds, is_stream_fault}
 use Rattle.h2_spec_log.specs.Limits.{max_resets, max_output}
 use Rattle.h2_laws_log.proofs.Names
 use Names.{subst, nat_tests, ints, after_limit, EncoderState, IsValidEncoder, limit_preserves}
-use Names.{WindowUpdate, Code, EnhanceYourCalm, InternalError, alone, data_frames, data_items}
-use Names.{data_count, verdict_of_fault, encoding_of_items, State, Idle, Active, Verdict}
-use Names.{ConnectionFault, NoEvent, Reported, data_verdict, block_verdict, opening_verdict}
-use Names.{StreamView, View, ◌≡◌, ◌≢◌, ℕ, ◌+◌, ◌<◌, ◌≤◌, ◌==◌, nat_lt, nat_le, ◌&&◌, ◌||◌}
-use Names.{if◌then◌else◌, Bool, true, false, List, pos, length, Option, Some, None, refl, sym}
-use Names.{arith, suc, ◌*◌, not, [], ◌∷◌, take, length-take, min, refuse_fault, at_least_none}
-use Names.{encoder_after_settings, over_limits, rules}
+use Names.{WindowUpdate, Code, EnhanceYourCalm, alone, data_frames, data_items, data_count}
+use Names.{verdict_of_fault, encoding_of_items, State, Idle, Active, Verdict, ConnectionFault}
+use Names.{NoEvent, Reported, data_verdict, block_verdict, opening_verdict, StreamView, View, ◌≡◌}
+use Names.{◌≢◌, ℕ, ◌+◌, ◌<◌, ◌≤◌, ◌==◌, nat_lt, nat_le, ◌&&◌, ◌||◌, if◌then◌else◌, Bool, true}
+use Names.{false, List, pos, length, Option, Some, None, refl, sym, arith, suc, ◌*◌, not, [], ◌∷◌}
+use Names.{take, length-take, min, refuse_fault, at_least_none, encoder_after_settings, over_limits}
+use Names.{rules}
 use Rattle.h2_laws_log.proofs.CallConditions.{neither_one, neither_other}
 use Rattle.h2_laws_log.proofs.ItemSizes.{size_of, size-update, size-updates, size-data}
 
@@ -151,15 +151,6 @@ pub release_size : (most i count : ℕ) (b : Bool)
     ≤ 26
 release_size most i count true = omega (arith, size-update most 0 count)
 release_size most i count false = omega (arith, size-updates most 0 count i count)
-
--- Where refusing a stream ends no connection, its code isn't INTERNAL_ERROR, and neither limit is
--- reached, by the tests.
-refuses_by : (is_two over_limits : Bool)
-    → (if is_two then Some InternalError else if over_limits then Some EnhanceYourCalm else None)
-    ≡ None → (is_two ≡ false) × (over_limits ≡ false)
-refuses_by true over_limits is = absurd (cc)
-refuses_by false true is = absurd (cc)
-refuses_by false false is = (refl, refl)
 
 -- Where refusing a stream ends no connection, its code isn't INTERNAL_ERROR, fewer streams were
 -- reset than may be, and RST_STREAM fits.

@@ -1,15 +1,15 @@
 -- A machine that represents a log answers calls and readers as the log does.
+use Rattle.h2_laws_machine.proofs.Names
+use Names.{◌≡◌, ℕ, ℤ, ◌==◌, if◌then◌else◌, pos, Option, Some, None, is_some, ◌||◌, length, refl, ap}
+use Names.{sym, ◌∙◌, Code, Values, Act, PutOut, answer_of, Log, waiting, next_active, log_view}
+use Names.{View, owed_on, end_view, End, stream_at, first_active, Represents}
 use Rattle.std.specs.Option.{option_map}
-use Rattle.std.specs.FinMap as map
 use Rattle.h2_spec_log.specs.CallRules.{reader_room, reader_owed, reader_due}
-use Rattle.h2_laws_machine.proofs.Names.{◌≡◌, ℕ, ℤ, ◌==◌, if◌then◌else◌, pos, Option, Some, None}
-use Rattle.h2_laws_machine.proofs.Names.{is_some, ◌||◌, length, refl, ap, sym, ◌∙◌, Code, Values}
-use Rattle.h2_laws_machine.proofs.Names.{Act, PutOut, answer_of, Log, waiting, next_active}
-use Rattle.h2_laws_machine.proofs.Names.{reader_next_live, log_view, View, owed_on, end_view, End}
-use Rattle.h2_laws_machine.proofs.Names.{stream_at, first_active, Represents}
+use Rattle.h2_spec_log.specs.Log.{reader_next_live}
 use Rattle.h2_laws_machine.proofs.NextUnprocessed.{next_active_same}
 use Rattle.h2_laws_machine.proofs.ViewsAgree.{view_beside, views_agree}
 use Rattle.h2_laws_machine.proofs.WaitingOutput.{waits_much}
+use Rattle.std.specs.FinMap as map
 
 -- The view of a machine that hasn't failed is its log's, but for the parts that are its own.
 pub views_alike : (values : Values) (e : End) (log : Log) → Represents values e log

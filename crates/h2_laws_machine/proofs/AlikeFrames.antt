@@ -1,8 +1,8 @@
 -- A machine that represents a log makes of frames and items what the log does.
-use Rattle.h2_laws_machine.proofs.Names
-use Names.{◌≡◌, ℕ, List, [], ◌∷◌, ◌++◌, Option, None, refl, ap, sym, ◌∙◌, Frame, GoAway, Item}
-use Names.{alone, Values, events_of, Decoded, frame_step, verdict_of, Log, used, log_view, Verdict}
-use Names.{Reported, View, end_view, End, with_begun, Represents}
+use Rattle.h2_laws_machine.proofs.Names.{◌≡◌, ℕ, ◌∷◌, ap, sym, ◌∙◌, Log, used, View, End}
+use Rattle.h2_laws_machine.proofs.Names.{List, ◌++◌, None, refl, Frame, GoAway, Item, alone, Values}
+use Rattle.h2_laws_machine.proofs.Names.{[], Option, Decoded, log_view, Verdict, Reported, end_view}
+use Rattle.h2_laws_machine.proofs.Names.{events_of, frame_step, verdict_of, with_begun, Represents}
 use Rattle.h2_laws_machine.proofs.LogCore.{going}
 use Rattle.h2_laws_machine.proofs.RecvFrames.{going_begun, sound_begun}
 use Rattle.h2_laws_machine.proofs.RecvVerdictLimits.{over_limits_same}

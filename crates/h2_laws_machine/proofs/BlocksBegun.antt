@@ -1,13 +1,13 @@
 -- A field block that a frame begins, continues or completes: it is within the limit, and of the
 -- frame's stream.
-use Rattle.std.proofs.Common.{ltb-false, eqb-true}
-use Rattle.h2_block.specs.declared.fault.BlockFault.TheVariants.{TooLong}
 use Rattle.h2_laws_machine.proofs.Names
 use Names.{◌≡◌, ℕ, ◌+◌, ◌≤◌, ◌==◌, nat_lt, not, ◌&&◌, if◌then◌else◌, Bool, true, false, List}
 use Names.{length, length-append, Option, Some, None, refl, sym, arith, ProtocolError, stream_of}
 use Names.{Frame, alone, block, Begun, max_block_octets, FrameStep, fails_with, begins_block}
 use Names.{completes, frame_step, may_be_first, grouped, grouping_step, end_view, End, Headers}
 use Names.{Continuation, Interrupted, next_fault, fault_outside, fault_inside}
+use Rattle.std.proofs.Common.{ltb-false, eqb-true}
+use Rattle.h2_block.specs.declared.fault.BlockFault.TheVariants.{TooLong}
 
 -- What a frame makes of the block that has begun is within the limit, and is of the frame's stream.
 abbrev pub StepFits : ℕ → FrameStep → Type 0

@@ -1,21 +1,18 @@
 -- Of every log that comes about there is a machine that represents it and is bounded.
-use Rattle.h2_laws_machine.specs.Machines.{reports_unprocessed}
 use Rattle.h2_laws_machine.proofs.Names
-use Names.{◌≡◌, ◌+◌, ◌≤◌, true, None, ap, sym, ◌∙◌, arith, subst, both_ways, wire_fault_code}
-use Names.{InternalError, Role, Values, Act, Answer, OutOfMemory, Refused, IsTypedAct, Open}
-use Names.{max_output, max_resets, log_view, Log, waiting, resets_written, active_count, View}
-use Names.{Refusal, MayAnswer, accepts, refuses, lacks, fails, refusal_of, answer_of}
-use Names.{may_fail_for_memory, IsLog, begins, took_some, took_one, met_fault, ran_out_of_memory}
-use Names.{reported_one, called_one, log_represents, End, end_view, new_end, Represents, max_active}
-use Names.{end_after, Memory, TakesPart, TakesFrame, TakesFault, MayRunOutOfMemory, IsBounded}
-use Names.{goaway_size, MachineStep, uses_part, ends_frame, meets_fault, runs_out_of_memory}
-use Names.{is_called, MayStep, log_after, machine_after}
+use Names.{◌≡◌, ◌+◌, ◌≤◌, None, ap, sym, ◌∙◌, Role, Act, Open, Log, View, IsLog, End}
+use Names.{true, Refused, log_view, answer_of, end_view, end_after, IsBounded, uses_part, is_called}
+use Names.{arith, subst, Answer, waiting, Refusal, accepts, refuses, lacks, fails, Memory, MayStep}
+use Names.{both_ways, Values, max_resets, MayAnswer, refusal_of, Represents, max_active, ends_frame}
+use Names.{wire_fault_code, InternalError, may_fail_for_memory, runs_out_of_memory, machine_after}
+use Names.{OutOfMemory, IsTypedAct, max_output, active_count, goaway_size, MachineStep, meets_fault}
+use Rattle.h2_laws_machine.specs.Machines.{reports_unprocessed}
+use Rattle.h2_spec_log.specs.Log.{resets_written}
 use Rattle.h2_laws_machine.proofs.BoundsOfSteps.{call_bounded, new_bounded, frame_bounded, is_up}
 use Rattle.h2_laws_machine.proofs.BoundsOfSteps.{is_bounded, failed_bounded, ended_up}
 use Rattle.h2_laws_machine.proofs.CallLaw.{up_since}
 use Rattle.h2_laws_machine.proofs.CallRefusals.{refusal_same}
-use Rattle.h2_laws_machine.proofs.EveryStep.{steps_represent}
-use Rattle.h2_laws_machine.proofs.NewEnd.{new_represents}
+use Rattle.h2_laws_machine.proofs.EveryStep.{every_log_has}
 use Rattle.h2_laws_machine.proofs.WaitingOutput.{waits_much}
 
 -- After a call that isn't refused and has the answer of the rules, which is never that memory was
@@ -60,10 +57,6 @@ asked_bounded values e log act answer s typed (fails none may is) bounded =
     subst (λ (other : Answer). IsBounded (end_after e act other)) (sym is)
     (failing_bounded values e log act s none may bounded)
 
--- A machine of a log that is bounded.
-abbrev BoundedMachine : Values → Log → Type 0
-BoundedMachine values log = (e : End) × Represents values e log × IsBounded e
-
 -- A step keeps a machine bounded.
 step_bounded : (values : Values) (e : End) (log : Log) (step : MachineStep)
     → Represents values e log
@@ -82,43 +75,10 @@ step_bounded values e log reports_unprocessed s (up, some) bounded =
 step_bounded values e log (is_called act answer) s (typed, may) bounded =
     asked_bounded values e log act answer s typed may bounded
 
--- One more step.
-stepped : (role : Role) (values : Values) (log : Log) (step : MachineStep) → IsLog role values log
-    → (log.role ≡ role → MayStep log step) → BoundedMachine values log
-    → BoundedMachine values (log_after log step)
-stepped role values log step came may (e, s, bounded) =
-    let may_now = may (log_represents role values log came).own in (
-      machine_after e step,
-      steps_represent values e log step s may_now,
-      step_bounded values e log step s may_now bounded,
-    )
-
 -- Of every log that comes about there is a bounded machine.
 machine_of : (role : Role) (values : Values) (log : Log) → IsLog role values log
-    → BoundedMachine values log
-unfolding MayStep log_after
-machine_of role values _ (begins in_range) =
-    (new_end role values, new_represents role values in_range, new_bounded role values in_range)
-machine_of role values _ (took_some {log = log} is takes octets unparsed read) =
-    stepped role values log (uses_part octets unparsed) is
-    (λ own. (takes, subst (λ (r : Role). TakesPart r log octets unparsed) (sym own) read))
-    (machine_of role values log is)
-machine_of role values _ (took_one {log = log} is takes octets frame decoded read sees) =
-    stepped role values log (ends_frame octets frame decoded) is
-    (λ own. (takes, subst (λ (r : Role). TakesFrame r log octets frame) (sym own) read, sees))
-    (machine_of role values log is)
-machine_of role values _ (met_fault {log = log} is takes octets fault at) =
-    stepped role values log (meets_fault octets fault) is
-    (λ own. (takes, subst (λ (r : Role). TakesFault r log octets fault) (sym own) at))
-    (machine_of role values log is)
-machine_of role values _ (ran_out_of_memory {log = log} is up octets may) =
-    stepped role values log (runs_out_of_memory octets) is
-    (λ own. (up, subst (λ (r : Role). MayRunOutOfMemory r log octets) (sym own) may))
-    (machine_of role values log is)
-machine_of role values _ (reported_one {log = log} is up some) =
-    stepped _ _ log reports_unprocessed is (λ own. (up, some)) (machine_of role values log is)
-machine_of role values _ (called_one {log = log} is act answer typed may) =
-    stepped _ _ log (is_called act answer) is (λ own. (typed, may)) (machine_of role values log is)
+    → (e : End) × Represents values e log × IsBounded e
+machine_of role values = every_log_has _ _ IsBounded (new_bounded role values) (step_bounded values)
 
 module _ (role : Role) (values : Values) (log : Log) where
   -- At most 262,144 octets wait, and a GOAWAY after a failure.

@@ -1,6 +1,4 @@
 -- What is bounded at one end is so at first, and stays so after each frame and each call.
-use Rattle.h2_wire.specs.Streams.{preface}
-use Rattle.h2_laws_log.proofs.ItemSizes.{size-opening}
 use Rattle.h2_laws_machine.proofs.Names
 use Names.{◌≡◌, ℕ, ◌+◌, ◌≤◌, List, [], ◌∷◌, ◌++◌, length, drop, Option, Some, None, Bool, true}
 use Names.{false, arith, length-append, length-drop, code_number, Frame, GoAway, Settings, Code}
@@ -8,6 +6,8 @@ use Names.{Item, alone, Values, AreInRange, Act, IsTypedAct, refusal_of, Decoded
 use Names.{max_output, max_resets, Role, End, OwnSettings, end_view, close_stream, fail}
 use Names.{after_frame, after_call, new_end, size-goaway, max_active, same_some, IsValidEncoder}
 use Names.{expected_preface, opening_pairs, goaway_size, IsBounded}
+use Rattle.h2_wire.specs.Streams.{preface}
+use Rattle.h2_laws_log.proofs.ItemSizes.{size-opening}
 use Rattle.h2_laws_machine.proofs.EveryCall.{call_keeps}
 use Rattle.h2_laws_machine.proofs.EveryEnd.{returned_keeps, frame_keeps}
 use Rattle.h2_laws_machine.proofs.EndInvariants.{IsEndInvariant, without_entry}

@@ -1,14 +1,15 @@
 -- A call that is refused, and one by which the connection fails, preserve that an end represents
 -- its log.
-use Rattle.h2_laws_log.proofs.InvariantCalls.{released_refused, no_fault, released_out_of_memory}
 use Rattle.h2_laws_machine.proofs.Names
 use Names.{◌≡◌, ℕ, ◌==◌, true, [], ◌∷◌, Option, Some, None, refl, sym, ap, subst, ◌∙◌, Code}
 use Names.{InternalError, Reset, alone, end_view, End, log_view, View, Values, Act, Answer}
 use Names.{IsTypedAct, Open, Refuse, Done, OutOfMemory, Refused, Log, active, last_processed}
-use Names.{released, code_number, with_failure, called, with_call, refused_with, with_items}
-use Names.{MayAnswer, refuse_fault, items_of, stream_of_act, encoder_after_call, refusal_of}
-use Names.{conditions, IsLog, called_one, queue_output, fail, after_refuse, after_call}
-use Names.{reset_stream, Represents, Refusal, stream_is_active, and_other, none_holds}
+use Names.{released, code_number, with_failure, called, with_call, with_items, MayAnswer}
+use Names.{refuse_fault, items_of, stream_of_act, encoder_after_call, refusal_of, conditions, IsLog}
+use Names.{called_one, queue_output, fail, after_refuse, after_call, reset_stream, Represents}
+use Names.{Refusal, stream_is_active, and_other, none_holds}
+use Rattle.h2_laws_log.proofs.InvariantCalls.{released_refused, no_fault, released_out_of_memory}
+use Rattle.h2_spec_log.specs.LogCalls.{refused_with}
 use Rattle.h2_laws_machine.proofs.CallReset.{reset_up}
 use Rattle.h2_laws_machine.proofs.GoAwaysSent.{active_processed}
 use Rattle.h2_laws_machine.proofs.LogCore.{core, StreamsOf, going, runs}

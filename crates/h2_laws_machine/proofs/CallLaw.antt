@@ -1,8 +1,4 @@
 -- After each call an end represents its log.
-use Rattle.h2_laws_log.proofs.AllowedHistories.{wrote_settings}
-use Rattle.h2_laws_log.proofs.InvariantSends.{client_since}
-use Rattle.h2_laws_log.proofs.CallConditions.{first_none}
-use Rattle.h2_laws_log.proofs.LogViewLemmas.{open_out}
 use Rattle.h2_laws_machine.proofs.Names
 use Names.{◌≡◌, ℕ, ◌%◌, ◌≤◌, ◌<◌, Bool, true, if◌then◌else◌, List, None, refl, sym, ap, subst, ◌∙◌}
 use Names.{Field, both_ways, or_parts, log_view, one_ping, total, greatest_block, one_pong}
@@ -11,7 +7,12 @@ use Names.{ResetStream, Refuse, SendPing, SendGoAway, PutOut, ChangeSettings, Nu
 use Names.{Refused, is_server, settings_count, Log, acked, active, last_processed, next_number}
 use Names.{conditions, refusal_of, answer_of, may_fail_for_memory, MayAnswer, accepts, refuses}
 use Names.{lacks, fails, with_call, End, after_call, Represents, Role, Client, Server, Refusal}
-use Names.{end_after, log_represents, next_odd, none_since, stream_is_active, Memory, none_holds}
+use Names.{end_after, log_represents, none_since, stream_is_active, Memory, none_holds}
+use Rattle.h2_laws_log.proofs.AllowedHistories.{wrote_settings}
+use Rattle.h2_laws_log.proofs.InvariantSends.{client_since}
+use Rattle.h2_laws_log.proofs.CallConditions.{first_none}
+use Rattle.h2_laws_log.proofs.LogViewLemmas.{open_out}
+use Rattle.h2_laws_log.proofs.StreamNumbers.{next_odd}
 use Rattle.h2_laws_machine.proofs.CallFailing.{refused_represents, out_of_memory_represents}
 use Rattle.h2_laws_machine.proofs.CallFailing.{refuse_represents}
 use Rattle.h2_laws_machine.proofs.CallOpen.{IsClear, open_up}

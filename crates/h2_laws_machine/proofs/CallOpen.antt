@@ -1,17 +1,17 @@
 -- The call that opens a stream preserves that an end represents its log.
 use Rattle.std.specs.FinMap as map
+use Rattle.h2_laws_machine.proofs.Names
+use Names.{◌≡◌, ◌≢◌, zero, ◌||◌, Bool, true, List, refl, ints, Item, Role, ends, Event, Open, View}
+use Names.{ℕ, increment_on, greatest_block, first_window, stream_of_act, active_entry, with_encoder}
+use Names.{suc, ◌+◌, ◌-◌, ◌≤◌, ◌<◌, ◌%◌, [], ◌∷◌, pos, sym, ap, ◌∙◌, Log, End}
+use Names.{false, subst, arith, Field, block, Client, Server, resets, total, window, Number, called}
+use Names.{zero-add, and_left, one_reset, own_value, with_call, StreamView, new_stream, after_call}
+use Names.{false_from_ne_true, reports_unprocessed, granted_on, encoder_after_call, active_by_parts}
+use Names.{eq-eqb, list_any, block_of, data_on, openings, given_on, released, log_view, items_of}
+use Names.{after_block, is_block_on, count_below, unreleased, with_items, active_parts, block_below}
 use Rattle.h2_spec_machine.specs.Machine.{open_stream}
 use Rattle.h2_laws_log.proofs.LogViewLemmas.{client_above}
-use Rattle.h2_laws_machine.proofs.Names
-use Names.{◌≡◌, ◌≢◌, ℕ, zero, suc, ◌+◌, ◌-◌, ◌≤◌, ◌<◌, ◌%◌, ◌||◌, Bool, true, false, List, [], ◌∷◌}
-use Names.{pos, refl, sym, ap, subst, ◌∙◌, arith, zero-add, suc-add, false_from_ne_true, eq-eqb}
-use Names.{and_left, ints, list_any, Field, block_of, after_block, Item, block, Role, Client}
-use Names.{Server, data_on, increment_on, is_block_on, ends, resets, one_reset, total}
-use Names.{greatest_block, reports_unprocessed, Event, own_value, openings, count_below}
-use Names.{first_window, given_on, granted_on, window, Log, unreleased, released, log_view, Open}
-use Names.{Number, called, with_items, with_call, items_of, stream_of_act, encoder_after_call, End}
-use Names.{active_entry, StreamView, View, new_stream, with_encoder, after_call, active_by_parts}
-use Names.{active_parts, block_below}
+use Rattle.std.proofs.Common.{suc-add}
 use Rattle.h2_laws_machine.proofs.ItemsApart.{block_apart}
 use Rattle.h2_laws_machine.proofs.LogCore.{Core, core, CoreFacts, core_facts, Advances, confirmed}
 use Rattle.h2_laws_machine.proofs.LogCore.{active_by_items, greatest_used, said, kept_back}

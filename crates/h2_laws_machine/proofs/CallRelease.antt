@@ -1,16 +1,15 @@
 -- The call that releases octets preserves that an end represents its log.
 use Rattle.std.specs.FinMap as map
-use Rattle.h2_laws_log.proofs.ReleasedCredit.{released_here, updates}
 use Rattle.h2_laws_machine.proofs.Names
-use Names.{◌≡◌, ◌≢◌, ℕ, ◌+◌, ◌-◌, ◌==◌, Bool, true, false, if◌then◌else◌, List, ◌∷◌, ◌++◌, pos}
-use Names.{◌+ℤ◌, Option, Some, refl, sym, ap, subst, ◌∙◌, arith, ne_eqb, ints, list_any}
-use Names.{nat_cmp_total, WindowUpdate, Item, alone, Role, data_on, increment_on, ends, one_reset}
-use Names.{total, own_value, is_active, first_window, granted_on, window, given_on, Log, active}
-use Names.{unreleased, released, log_view, stream_of_log, Act, Answer, Release, Done, with_sent}
-use Names.{with_unreturned, owed_at_close, called, with_items, with_call, items_of, stream_of_act}
-use Names.{encoder_after_call, End, StreamEntry, StreamMap, active_entry, StreamView, View}
-use Names.{ended_in, queue_output, after_release, after_call, Event, get_set, total_one}
-use Names.{stream_there, increment_here}
+use Names.{◌≡◌, ◌≢◌, ℕ, ◌+◌, ◌-◌, ◌∷◌, pos, sym, ap, ◌∙◌, Log, Act, Done, End, View}
+use Names.{◌==◌, list_any, given_on, released, log_view, with_sent, with_call, StreamMap, total_one}
+use Names.{Bool, Option, subst, ne_eqb, window, active, Answer, called, items_of, ended_in, get_set}
+use Names.{true, List, ◌++◌, ◌+ℤ◌, Some, refl, arith, ints, Item, alone, Role, ends, total, Event}
+use Names.{false, if◌then◌else◌, nat_cmp_total, with_unreturned, encoder_after_call, increment_here}
+use Names.{WindowUpdate, increment_on, stream_of_log, owed_at_close, stream_of_act, after_release}
+use Names.{data_on, first_window, granted_on, StreamEntry, active_entry, queue_output, stream_there}
+use Names.{one_reset, own_value, is_active, unreleased, Release, with_items, StreamView, after_call}
+use Rattle.h2_laws_log.proofs.ReleasedCredit.{released_here, updates}
 use Rattle.h2_laws_machine.proofs.LogCore.{Core, core, CoreFacts, core_facts, Advances, confirmed}
 use Rattle.h2_laws_machine.proofs.LogCore.{active_by_items, said, kept_back}
 use Rattle.h2_laws_machine.proofs.OneItemMore.{total_quiet, own_quiet}

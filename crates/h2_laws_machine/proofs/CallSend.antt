@@ -1,7 +1,6 @@
 -- The calls that send on an active stream preserve that an end represents its log: fields and a
 -- body.
 use Rattle.std.specs.FinMap as map
-use Rattle.h2_laws_log.proofs.LogViewLemmas.{natural_by}
 use Rattle.h2_laws_machine.proofs.Names
 use Names.{◌≡◌, ℕ, suc, ◌+◌, ◌-◌, ◌≤◌, ◌==◌, not, ◌&&◌, Bool, true, false, if◌then◌else◌, List, []}
 use Names.{◌∷◌, ◌++◌, length, take, ℤ, pos, ◌-ℤ◌, Option, Some, None, refl, sym, ap, subst, ◌∙◌}
@@ -13,6 +12,7 @@ use Names.{encoder_after_call, data_frames, data_items, at_least_none, with_sent
 use Names.{owed_at_close, called, with_items, with_call, StreamView, View, queue_output, set_stream}
 use Names.{close_stream, update_stream, after_fields_sent, after_data, after_call, active_parts}
 use Names.{get_set_same, data_count, stream_there}
+use Rattle.h2_laws_log.proofs.LogViewLemmas.{natural_by}
 use Rattle.h2_laws_machine.proofs.CallSendItems.{adds_block, adds_all}
 use Rattle.h2_laws_machine.proofs.LogCore.{core, core_facts, Going}
 use Rattle.h2_laws_machine.proofs.OwedAtClose.{owes_active, owes_all}
@@ -31,67 +31,57 @@ with_send_window e f items here = record f {
   output = record f.output { waiting = (queue_output e items).output.waiting };
 }
 
--- Items are written on an active stream, which continues or is closed, by the test.
-sent_by : (e f : End) (log base : Log) (id : ℕ) (items : List Item) (n : ℕ) (end : Bool)
-    (send_window : ℤ) (here : ℕ) (b : Bool)
-    → (list_any (ends id) base.received && end) ≡ b → active log id ≡ true → active base id ≡ true
-    → send_window ≡ window (given_on id base.received) (n + total (data_on id) base.sent)
-    → Adds base.role base.received id base.sent (items ++ base.sent) n end
-    → here + (n + total data_of base.sent) ≡ given_on_connection base.received → f.role ≡ base.role
-    → f.failed ≡ None → base.failed ≡ None → f.peer ≡ e.peer
-    → OutputOf e base → f.reading.started ≡ not (length base.frames == 0) → Going f (core base)
-    → Up (if b then close_stream
-    (set_stream (with_send_window e f items here) id (stream_with (core base) id send_window end))
-    id 0
-    else set_stream (with_send_window e f items here) id (stream_with (core base) id send_window
-    end)) (with_unreturned (owed_at_close log (with_sent base items) id) (with_sent base items))
-unfolding unreleased
-sent_by e f log base id items n end send_window here true over was active_is is a conserved role up
-    same peer waits started run =
-    let s = stream_with (core base) id send_window end in
-    let ran = over_advances (core_facts f) (core base) _ _ _ _ s _ active_is over a conserved run in
-    let wrote_them = wrote_up e (record f {
-      streams = record f.streams {
-        entries = map.remove (map.insert f.streams.entries id (active_entry s)) id;
-        active_count = f.streams.active_count - 1;
-      };
-      windows = record f.windows { send = here };
-    }) base items role up same peer waits started ran in
-    let closed : active (with_sent base items) id ≡ false = wrote_active base items id ∙ closed_here
-    (core base) id (items ++ base.sent) n end over a in
-    let owing : owed_at_close log (with_sent base items) id ≡ unreleased base id = owes_all log
-    (with_sent base items) id was closed ∙ wrote_owes base items id in
-    let owed : 0 + owed_entry (map.get (map.insert f.streams.entries id (active_entry s)) id)
-    ≡ unreleased base id = rw (get_set_same f.streams.entries id (active_entry s)) (omega arith) in
-    with_unreturned_up _ (with_sent base items) _ _ (owed ∙ sym owing) wrote_them
-sent_by e f log base id items n end send_window here false goes was active_is is a conserved role up
-    same peer waits started run =
-    let s = stream_with (core base) id send_window end in
-    let ran = set_advances (core_facts f) (core base) id (items ++ base.sent) n end send_window here
-    active_is goes is a conserved run in
-    let wrote_them = wrote_up e (record f {
-      streams = record f.streams { entries = map.insert f.streams.entries id (active_entry s) };
-      windows = record f.windows { send = here };
-    }) base items role up same peer waits started ran in
-    let still : active (with_sent base items) id ≡ true = wrote_active base items id ∙ active_here
-    (core base) id (items ++ base.sent) n end active_is goes a in
-    nothing_unreturned _ _ _ id (owes_active log (with_sent base items) id still) wrote_them
+module _ (e f : End) (log base : Log) (id : ℕ) (items : List Item) (n : ℕ) (end : Bool)
+    (send_window : ℤ) (here : ℕ) (was : active log id ≡ true) (active_is : active base id ≡ true)
+    (is : send_window ≡ window (given_on id base.received) (n + total (data_on id) base.sent))
+    (a : Adds base.role base.received id base.sent (items ++ base.sent) n end)
+    (conserved : here + (n + total data_of base.sent) ≡ given_on_connection base.received)
+    (role : f.role ≡ base.role) (up : f.failed ≡ None) (same : base.failed ≡ None)
+    (peer : f.peer ≡ e.peer) (waits : OutputOf e base)
+    (started : f.reading.started ≡ not (length base.frames == 0)) (run : Going f (core base)) where
+  -- Items are written on an active stream, which continues or is closed, by the test.
+  sent_by : (b : Bool) → (list_any (ends id) base.received && end) ≡ b
+      → Up (if b then close_stream
+      (set_stream (with_send_window e f items here) id (stream_with (core base) id send_window end))
+      id 0
+      else set_stream (with_send_window e f items here) id (stream_with (core base) id send_window
+      end)) (with_unreturned (owed_at_close log (with_sent base items) id) (with_sent base items))
+  unfolding unreleased
+  sent_by true over =
+      let s = stream_with (core base) id send_window end in
+      let ran = over_advances (core_facts f) (core base) _ _ _ _ s _ active_is over a conserved run
+      in
+      let wrote_them = wrote_up e (record f {
+        streams = record f.streams {
+          entries = map.remove (map.insert f.streams.entries id (active_entry s)) id;
+          active_count = f.streams.active_count - 1;
+        };
+        windows = record f.windows { send = here };
+      }) base items role up same peer waits started ran in
+      let closed : active (with_sent base items) id ≡ false = wrote_active base items id
+      ∙ closed_here (core base) id (items ++ base.sent) n end over a in
+      let owing : owed_at_close log (with_sent base items) id ≡ unreleased base id = owes_all log
+      (with_sent base items) id was closed ∙ wrote_owes base items id in
+      let owed : 0 + owed_entry (map.get (map.insert f.streams.entries id (active_entry s)) id)
+      ≡ unreleased base id =
+      rw (get_set_same f.streams.entries id (active_entry s)) (omega arith) in
+      with_unreturned_up _ (with_sent base items) _ _ (owed ∙ sym owing) wrote_them
+  sent_by false goes =
+      let s = stream_with (core base) id send_window end in
+      let ran = set_advances (core_facts f) (core base) id (items ++ base.sent) n end send_window
+      here active_is goes is a conserved run in
+      let wrote_them = wrote_up e (record f {
+        streams = record f.streams { entries = map.insert f.streams.entries id (active_entry s) };
+        windows = record f.windows { send = here };
+      }) base items role up same peer waits started ran in
+      let still : active (with_sent base items) id ≡ true = wrote_active base items id ∙ active_here
+      (core base) id (items ++ base.sent) n end active_is goes a in
+      nothing_unreturned _ _ _ id (owes_active log (with_sent base items) id still) wrote_them
 
--- Items are written on an active stream, which continues or is closed.
-sent_up : (e f : End) (log base : Log) (id : ℕ) (items : List Item) (n : ℕ) (end : Bool)
-    (send_window : ℤ) (here : ℕ)
-    → active log id ≡ true → active base id ≡ true
-    → send_window ≡ window (given_on id base.received) (n + total (data_on id) base.sent)
-    → Adds base.role base.received id base.sent (items ++ base.sent) n end
-    → here + (n + total data_of base.sent) ≡ given_on_connection base.received → f.role ≡ base.role
-    → f.failed ≡ None → base.failed ≡ None → f.peer ≡ e.peer
-    → OutputOf e base → f.reading.started ≡ not (length base.frames == 0) → Going f (core base)
-    → Up (update_stream (with_send_window e f items here) id (stream_with (core base) id send_window
-    end)) (with_unreturned (owed_at_close log (with_sent base items) id) (with_sent base items))
-sent_up e f log base id items n end send_window here was active_is is a conserved role up same peer
-    waits started run =
-    sent_by e f log base id items n end send_window here (list_any (ends id) base.received && end)
-    refl was active_is is a conserved role up same peer waits started run
+  sent_up : Up (update_stream (with_send_window e f items here) id
+      (stream_with (core base) id send_window end))
+      (with_unreturned (owed_at_close log (with_sent base items) id) (with_sent base items))
+  sent_up = sent_by (list_any (ends id) base.received && end) refl
 
 -- Further fields are sent.
 pub fields_up : (e : End) (log : Log) (id : ℕ) (fields : List Field) (end : Bool)

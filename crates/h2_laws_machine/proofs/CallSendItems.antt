@@ -1,12 +1,12 @@
 -- The items that a call writes on an active stream: a block, or DATA.
-use Rattle.std.proofs.Common.{append_assoc}
 use Rattle.h2_laws_machine.proofs.Names
-use Names.{◌≡◌, ℕ, zero, suc, ◌+◌, ◌≤◌, ◌<◌, ◌==◌, ◌||◌, nat_le, Bool, true, false, if◌then◌else◌}
-use Names.{List, [], ◌∷◌, ◌++◌, length, ◌-◌, take, drop, None, refl, sym, subst, ◌∙◌, arith}
-use Names.{length-drop, list_any, length-take-le, eqb-true, ne_eqb, eq-eqb, leb-false, Data, Item}
-use Names.{alone, block, Role, Client, Server, data_on, data_of, increment_on, is_block_on, ends}
-use Names.{one_ping, one_reset, greatest_block, total, openings, data_frames, block_below}
-use Names.{total_one, takes_on, takes_of}
+use Names.{◌≡◌, suc, ◌+◌, ◌≤◌, ◌<◌, [], ◌∷◌, ◌-◌, refl, sym, ◌∙◌, Data, Item, Role, ends}
+use Names.{ℕ, if◌then◌else◌, length-drop, length-take-le, increment_on, is_block_on, greatest_block}
+use Names.{zero, ◌==◌, ◌||◌, Bool, true, List, ◌++◌, take, drop, None, arith, alone, block, total}
+use Names.{nat_le, false, length, subst, ne_eqb, eq-eqb, Client, Server, data_on, data_of, openings}
+use Names.{list_any, eqb-true, leb-false, one_ping, one_reset, data_frames, block_below, total_one}
+use Rattle.std.proofs.Common.{append_assoc}
+use Rattle.h2_laws_log.proofs.DataOfCalls.{takes_on, takes_of}
 use Rattle.h2_laws_machine.proofs.OneItemMore.{total_quiet, any_quiet, own_quiet, settings_quiet}
 use Rattle.h2_laws_machine.proofs.SentConnectionItems.{computing}
 use Rattle.h2_laws_machine.proofs.SentQuietItems.{above_quiet}

@@ -1,17 +1,17 @@
 -- The calls that concern no stream preserve that an end represents its log.
+use Rattle.h2_laws_machine.proofs.Names
+use Names.{◌≡◌, ◌+◌, ◌-◌, ◌≤◌, min, [], ◌∷◌, sym, ap, ◌∙◌, End, Act, View, Log}
+use Names.{ℕ, IsTypedAct, SendGoAway, value_read, with_items, conditions, queue_output, size-update}
+use Names.{true, List, drop, Some, None, refl, arith, Code, Ping, alone, total, Count, Done, acked}
+use Names.{false, subst, GoAway, Values, Answer, PutOut, active, output, called, log_view, both_by}
+use Names.{if◌then◌else◌, length-append, WindowUpdate, before_put_out, stream_of_act, changed_pairs}
+use Names.{length, encoding_of_items, encoder_after_call, returns_before_put_out, before_put_out_at}
+use Names.{Option, reported_total, ChangeSettings, settings_count, last_processed, max_payload_sent}
+use Names.{Settings, is_server, with_sent, MayAnswer, with_call, refusal_of, after_call, Represents}
+use Names.{end_view, one_ping, one_pong, SendPing, waiting, released, first_of, items_of, answer_of}
 use Rattle.std.proofs.lemmas.List.{drop-drop, drop_min, length-drop}
 use Rattle.h2_spec_log.specs.CallRules.{update_size}
-use Rattle.h2_laws_machine.proofs.Names
-use Names.{◌≡◌, ℕ, ◌+◌, ◌-◌, ◌≤◌, min, true, false, if◌then◌else◌, List, [], ◌∷◌, length, drop}
-use Names.{Option, Some, None, refl, sym, ap, subst, ◌∙◌, arith, length-append, Code, Settings}
-use Names.{Ping, GoAway, WindowUpdate, alone, end_view, End, one_ping, total, encoding_of_items}
-use Names.{one_pong, reported_total, Values, Act, Answer, IsTypedAct, SendPing, SendGoAway, PutOut}
-use Names.{ChangeSettings, Count, Done, View, is_server, settings_count, value_read, Log, acked}
-use Names.{active, last_processed, waiting, output, released, max_payload_sent, with_sent, called}
-use Names.{before_put_out, MayAnswer, with_items, with_call, first_of, items_of, answer_of}
-use Names.{stream_of_act, encoder_after_call, conditions, refusal_of, returns_before_put_out}
-use Names.{log_view, queue_output, before_put_out_at, after_call, Represents, both_by}
-use Names.{put_out_cases, size-update, changed_pairs}
+use Rattle.h2_laws_log.proofs.CreditCases.{put_out_cases}
 use Rattle.h2_laws_machine.proofs.LogCore.{core, core_facts, runs}
 use Rattle.h2_laws_machine.proofs.OwedAtClose.{owes_none}
 use Rattle.h2_laws_machine.proofs.RepresentedSteps.{called_going, Up, up_of, represents_made}

@@ -1,10 +1,9 @@
 -- The counts of an end are those of its entries after a stream that is reported as unprocessed.
 use Rattle.std.specs.FinMap as map
-use Rattle.h2_laws_machine.proofs.Names.{◌≡◌, ◌≢◌, ℕ, Option, Some, None, refl, ap, ◌∙◌, true, Role}
-use Rattle.h2_laws_machine.proofs.Names.{Client, Server, StreamView, End, StreamEntry, StreamMap}
-use Rattle.h2_laws_machine.proofs.Names.{active_entry, reset_entry, stream_in, stream_at}
-use Rattle.h2_laws_machine.proofs.Names.{close_unprocessed, first_active, unprocessed_of_end}
-use Rattle.h2_laws_machine.proofs.Names.{is_active_entry, first_found, CountsEntries}
+use Rattle.h2_laws_machine.proofs.Names
+use Names.{◌≡◌, active_entry, close_unprocessed, unprocessed_of_end, is_active_entry, CountsEntries}
+use Names.{◌≢◌, Option, Some, None, refl, ap, ◌∙◌, true, Role, Client, Server, End, stream_at}
+use Names.{ℕ, StreamView, StreamEntry, StreamMap, reset_entry, stream_in, first_active, first_found}
 use Rattle.h2_laws_machine.proofs.CountedBySteps.{counted, is_counted, counts_ended}
 
 -- An active entry has a stream.

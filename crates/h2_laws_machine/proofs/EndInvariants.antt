@@ -1,13 +1,12 @@
 -- What each small change of an end keeps.
 use Rattle.std.specs.FinMap as map
 use Rattle.h2_laws_machine.proofs.Names
-use Names.{◌≡◌, ◌≢◌, ℕ, ◌+◌, ◌-◌, ◌<◌, ◌≤◌, Bool, List, length, drop, Option, Some, None, is_some}
-use Names.{EncoderState, Code, Item, alone, block, Begun, max_block_octets, Values, AreInRange}
-use Names.{Decoded, settings_fault, max_resets, greatest_number, StreamView, greatest_window}
-use Names.{end_view, End, ConnectionWindows, active_entry, reset_entry, stream_at, owed_entry}
-use Names.{with_begun, with_table_after, with_encoder, queue_output, set_stream, is_one, fail}
-use Names.{new_stream, apply_own_settings, NoneAboveHighest, max_active, Block, IsValidEncoder}
-use Names.{apply_settings}
+use Names.{◌≡◌, length, Option, is_some, block, Begun, Values, Decoded, end_view, stream_at, is_one}
+use Names.{◌≢◌, ℕ, ◌+◌, ◌-◌, ◌<◌, ◌≤◌, drop, Some, None, Code, Item, End, fail, Block}
+use Names.{Bool, settings_fault, greatest_number, greatest_window, NoneAboveHighest, IsValidEncoder}
+use Names.{List, max_resets, StreamView, owed_entry, with_begun, set_stream, new_stream, max_active}
+use Names.{EncoderState, max_block_octets, ConnectionWindows, with_table_after, apply_own_settings}
+use Names.{alone, AreInRange, active_entry, reset_entry, with_encoder, queue_output, apply_settings}
 use Rattle.h2_laws_machine.proofs.RulesAtEnds.{HasSpace}
 use Rattle.h2_laws_machine.proofs.StreamRanges.{WindowsFit}
 

@@ -1,13 +1,13 @@
 -- How many entries are active, and how many are of streams that were reset: what an entry that is
 -- set, removed or changed makes of it.
 use Rattle.std.specs.FinMap as map
-use Rattle.h2_laws_machine.specs.Ranges.{count_active, count_reset}
 use Rattle.h2_laws_machine.proofs.Names
 use Names.{◌≡◌, ℕ, ◌+◌, cond, T, List, [], ◌∷◌, length, Option, Some, None, Ordering, Less, Equal}
 use Names.{Greater, refl, sym, ap, ◌∙◌, arith, nat_cmp, is_eq, nat_cmp_total, below_all, by_order}
 use Names.{StreamEntry, active_entry, reset_entry, StreamMap, each_entry, get_removed_same, changed}
-use Names.{entries_changed, first, second, not_found}
-use Rattle.h2_laws_machine.proofs.OwedSums.{inserted_again, gone}
+use Names.{entries_changed, first, second, not_found, Bool, eqb-true, get_removed, get_set, ◌==◌}
+use Names.{if◌then◌else◌, true, false}
+use Rattle.h2_laws_machine.specs.Ranges.{count_active, count_reset}
 
 -- one for an active entry
 abbrev pub one_active : Option StreamEntry → ℕ
@@ -20,6 +20,33 @@ abbrev pub one_reset : Option StreamEntry → ℕ
 one_reset None = 0
 one_reset (Some reset_entry) = 1
 one_reset (Some (active_entry stream)) = 0
+
+module _ (m : StreamMap) (k : ℕ) (v : StreamEntry) where
+  -- An entry that is removed and inserted again, at each number.
+  inserted_again_at : (q : ℕ) → map.get m k ≡ Some v → (b : Bool) → (q == k) ≡ b
+      → (if b then Some v else (if b then None else map.get m q)) ≡ map.get m q
+  inserted_again_at q kept true same = sym (ap (λ (i : ℕ). map.get m i) (eqb-true q k same) ∙ kept)
+  inserted_again_at q kept false same = refl
+
+  -- An entry that is removed and inserted again changes nothing.
+  inserted_again : map.get m k ≡ Some v → map.insert (map.remove m k) k v ≡ m
+  inserted_again kept =
+      map.same_map nat_cmp_total map.nat_cmp-IsAntisymmetric (map.insert (map.remove m k) k v) m
+      (λ q. get_set (map.remove m k) k v q
+      ∙ ap (λ (x : Option StreamEntry). if q == k then Some v else x) (get_removed m k q)
+      ∙ inserted_again_at q kept (q == k) refl)
+
+-- What is removed where nothing is kept, at each number.
+gone_at : (m : StreamMap) (k q : ℕ) → map.get m k ≡ None → (b : Bool) → (q == k) ≡ b
+    → (if b then None else map.get m q) ≡ map.get m q
+gone_at m k q none true same = sym (ap (λ (i : ℕ). map.get m i) (eqb-true q k same) ∙ none)
+gone_at m k q none false same = refl
+
+-- To remove where nothing is kept changes nothing.
+gone : (m : StreamMap) (k : ℕ) → map.get m k ≡ None → map.remove m k ≡ m
+gone m k none =
+    map.same_map nat_cmp_total map.nat_cmp-IsAntisymmetric (map.remove m k) m
+    (λ q. get_removed m k q ∙ gone_at m k q none (q == k) refl)
 
 -- the sum of what each entry counts
 unfoldable pub count_of : (Option StreamEntry → ℕ) → List (ℕ × StreamEntry) → ℕ

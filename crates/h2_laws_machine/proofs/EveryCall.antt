@@ -1,4 +1,15 @@
 -- What each small change of an end keeps, each call keeps.
+use Rattle.h2_laws_machine.proofs.Names
+use Names.{◌≡◌, ℕ, ◌+◌, ◌-◌, ◌<◌, ◌≤◌, not, ◌∷◌, pos, Code, Item, Act, Open, Done, End}
+use Names.{◌==◌, IsTypedAct, data_items, conditions, refusal_of, max_output, max_resets, StreamView}
+use Names.{nat_lt, encoder_after_call, returns_before_put_out, ConnectionWindows, after_fields_sent}
+use Names.{◌&&◌, SendData, SendPing, items_of, max_list, is_server, stream_in, stream_at, and_other}
+use Names.{if◌then◌else◌, block_of, ChangeSettings, at_least_none, update_stream, before_put_out_at}
+use Names.{Bool, true, List, ◌+ℤ◌, ◌-ℤ◌, Some, None, refl, arith, Field, Reset, Ping, alone, block}
+use Names.{false, cond_both, set_stream, after_data, after_call, none_since, data_count, none_holds}
+use Names.{[], refuse_fault, with_encoder, queue_output, reset_stream, after_release, neither_other}
+use Names.{length, Option, is_some, ap, GoAway, Release, Refuse, PutOut, owed_on, end_view, size_of}
+use Names.{after_block, SendFields, ResetStream, SendGoAway, full_output, after_refuse, size-goaway}
 use Rattle.std.proofs.Common.{leb-false, ltb-false, ltb-true}
 use Rattle.hpack.proofs.WrittenBlocks.{block_goes_on}
 use Rattle.h2_spec_log.specs.CallRules.{is_full, is_no_stream}
@@ -7,18 +18,7 @@ use Rattle.h2_laws_log.proofs.CallConditions.{AreFalse}
 use Rattle.h2_laws_log.proofs.ItemSizes.{size-block, size-reset, size-ping, size-change}
 use Rattle.h2_laws_log.proofs.RulesByTests.{is_active_by, count_few, count_lets, data_size}
 use Rattle.h2_laws_log.proofs.RulesByTests.{release_size, refuse_fits, returns_says}
-use Rattle.h2_laws_machine.proofs.Names
-use Names.{◌≡◌, ℕ, ◌+◌, ◌-◌, ◌<◌, ◌≤◌, ◌==◌, nat_lt, not, ◌&&◌, if◌then◌else◌, Bool, true, false}
-use Names.{List, [], ◌∷◌, length, pos, ◌+ℤ◌, ◌-ℤ◌, Option, Some, None, is_some, refl, ap, arith}
-use Names.{cond_both, block_of, after_block, list_size, Field, Reset, Ping, GoAway, Code, Item}
-use Names.{alone, block, Act, Open, SendFields, SendData, Release, Done, ResetStream, Refuse}
-use Names.{SendPing, SendGoAway, PutOut, ChangeSettings, IsTypedAct, data_items, conditions}
-use Names.{refusal_of, items_of, encoder_after_call, refuse_fault, at_least_none}
-use Names.{returns_before_put_out, max_list, full_output, max_output, max_resets, is_server}
-use Names.{StreamView, owed_on, end_view, End, ConnectionWindows, stream_in, stream_at}
-use Names.{with_encoder, queue_output, set_stream, reset_stream, update_stream, after_data}
-use Names.{after_fields_sent, after_release, after_refuse, before_put_out_at, after_call}
-use Names.{none_since, size_of, size-goaway, data_count, and_other, none_holds, neither_other}
+use Rattle.hpack.specs.Lists.{list_size}
 use Rattle.h2_laws_machine.proofs.EndInvariants.{IsEndInvariant}
 use Rattle.h2_laws_machine.proofs.RulesAtEnds.{active_used, client_opens_by}
 use Rattle.h2_laws_machine.proofs.StreamRanges.{sent_fits_stream, released_fits_stream}

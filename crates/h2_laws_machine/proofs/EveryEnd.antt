@@ -1,7 +1,4 @@
 -- What each small change of an end keeps, each frame keeps.
-use Rattle.std.proofs.Common.{leb-false, ltb-true}
-use Rattle.h2_spec_machine.specs.Machine.{more_unreturned, mark_used, is_calm}
-use Rattle.h2_laws_log.proofs.RulesByTests.{few_by, data_unexceeded, limited, no_settings_fault}
 use Rattle.h2_laws_machine.proofs.Names
 use Names.{◌≡◌, ◌≢◌, ℕ, ◌+◌, ◌<◌, ◌≤◌, ◌==◌, nat_lt, max, ◌&&◌, ◌||◌, if◌then◌else◌, Bool, true}
 use Names.{false, List, [], ◌∷◌, length, pos, ◌+ℤ◌, Option, Some, None, refl, ap, arith, and_parts}
@@ -17,7 +14,10 @@ use Names.{close_stream, reset_stream, update_stream, with_flow, apply_own_setti
 use Names.{widen_send_window, after_reported, after_ignored, after_verdict, after_stream_fault}
 use Names.{after_step, after_frame, NoneAboveHighest, size-update, get_set_same, within_window}
 use Names.{same_some, least_last, encoder_after_settings, exceeds_stream, overflows_stream}
-use Names.{opened_by, narrow_recv_window, receive_data, receive_block, apply_settings, IsDecodedAt}
+use Names.{opened_by, receive_data, receive_block, apply_settings, IsDecodedAt}
+use Rattle.std.proofs.Common.{leb-false, ltb-true}
+use Rattle.h2_spec_machine.specs.Machine.{more_unreturned, mark_used, is_calm, narrow_recv_window}
+use Rattle.h2_laws_log.proofs.RulesByTests.{few_by, data_unexceeded, limited, no_settings_fault}
 use Rattle.h2_laws_machine.proofs.BlocksBegun.{StepFits, frame_step_fits}
 use Rattle.h2_laws_machine.proofs.EndInvariants.{Known, StaysInRange, IsEndInvariant}
 use Rattle.h2_laws_machine.proofs.RecvVerdictCases.{block_is_fault, block_is_reported}

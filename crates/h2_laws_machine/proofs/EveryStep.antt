@@ -1,12 +1,12 @@
 -- After every step that a log may take a machine that represents it represents the log after it.
-use Rattle.h2_laws_machine.specs.Machines.{reports_unprocessed}
 use Rattle.h2_laws_machine.proofs.Names
-use Names.{◌≡◌, ℕ, List, Option, sym, subst, Frame, Role, Values, Decoded, Log, took_frame}
-use Names.{took_none, IsLog, begins, took_some, took_one, met_fault, ran_out_of_memory}
+use Names.{◌≡◌, ℕ, List, AreInRange, Option, sym, subst, Frame, Role, Values, Decoded, Log}
+use Names.{took_frame, took_none, IsLog, begins, took_some, took_one, met_fault, ran_out_of_memory}
 use Names.{reported_one, called_one, End, new_end, after_frame, close_unprocessed, Represents}
 use Names.{log_represents, TakesOctets, TakesPart, TakesFrame, TakesFault, MayRunOutOfMemory}
 use Names.{IsDecodedFor, MachineStep, uses_part, ends_frame, meets_fault, runs_out_of_memory}
-use Names.{is_called, MayStep, log_after, machine_after}
+use Names.{is_called, MayStep, machine_after}
+use Rattle.h2_laws_machine.specs.Machines.{reports_unprocessed, log_after}
 use Rattle.h2_laws_machine.proofs.FreshNumbers.{calls_represent}
 use Rattle.h2_laws_machine.proofs.NewEnd.{new_represents}
 use Rattle.h2_laws_machine.proofs.NextUnprocessed.{next_same}
@@ -44,44 +44,53 @@ steps_represent values e log reports_unprocessed s (up, some) =
 steps_represent values e log (is_called act answer) s (typed, may) =
     calls_represent values e log act answer s typed may
 
--- A machine that represents a log.
-abbrev HasMachine : Values → Log → Type 0
-HasMachine values log = (e : End) × Represents values e log
+-- What of machines a new end has, and every step keeps, a machine of each log has.
+module _ (role : Role) (values : Values) (P : End → Type 0)
+    (new : AreInRange values → P (new_end role values))
+    (kept : (e : End) (log : Log) (step : MachineStep) → Represents values e log
+    → MayStep log step → P e → P (machine_after e step)) where
+  -- A machine that represents a log, and has it.
+  abbrev HasMachine : Log → Type 0
+  HasMachine log = (e : End) × Represents values e log × P e
 
--- A step leads from a machine that represents a log to one.
-stepped : (role : Role) (values : Values) (log : Log) (step : MachineStep) → IsLog role values log
-    → (log.role ≡ role → MayStep log step) → HasMachine values log
-    → HasMachine values (log_after log step)
-stepped role values log step came may (e, s) = (
-  machine_after e step,
-  steps_represent values e log step s (may (log_represents role values log came).own),
-)
+  -- A step leads from a machine of a log to one.
+  stepped : (log : Log) (step : MachineStep) → IsLog role values log
+      → (log.role ≡ role → MayStep log step) → HasMachine log → HasMachine (log_after log step)
+  stepped log step came may (e, s, has) =
+      let may_now = may (log_represents role values log came).own in (
+        machine_after e step,
+        steps_represent values e log step s may_now,
+        kept e log step s may_now has,
+      )
+
+  pub every_log_has : (log : Log) → IsLog role values log → HasMachine log
+  unfolding MayStep log_after
+  every_log_has _ (begins in_range) =
+      (new_end role values, new_represents role values in_range, new in_range)
+  every_log_has _ (took_some {log = log} is takes octets unparsed read) =
+      stepped log (uses_part octets unparsed) is
+      (λ own. (takes, subst (λ (r : Role). TakesPart r log octets unparsed) (sym own) read))
+      (every_log_has log is)
+  every_log_has _ (took_one {log = log} is takes octets frame decoded read sees) =
+      stepped log (ends_frame octets frame decoded) is
+      (λ own. (takes, subst (λ (r : Role). TakesFrame r log octets frame) (sym own) read, sees))
+      (every_log_has log is)
+  every_log_has _ (met_fault {log = log} is takes octets fault at) =
+      stepped log (meets_fault octets fault) is
+      (λ own. (takes, subst (λ (r : Role). TakesFault r log octets fault) (sym own) at))
+      (every_log_has log is)
+  every_log_has _ (ran_out_of_memory {log = log} is up octets may) =
+      stepped log (runs_out_of_memory octets) is
+      (λ own. (up, subst (λ (r : Role). MayRunOutOfMemory r log octets) (sym own) may))
+      (every_log_has log is)
+  every_log_has _ (reported_one {log = log} is up some) =
+      stepped log reports_unprocessed is (λ own. (up, some)) (every_log_has log is)
+  every_log_has _ (called_one {log = log} is act answer typed may) =
+      stepped log (is_called act answer) is (λ own. (typed, may)) (every_log_has log is)
 
 -- Of each log that comes about there is a machine that represents it.
 pub every_log_has_machine : (role : Role) (values : Values) (log : Log) → IsLog role values log
-    → HasMachine values log
-unfolding MayStep log_after
-every_log_has_machine role values _ (begins in_range) =
-    (new_end role values, new_represents role values in_range)
-every_log_has_machine role values _ (took_some {log = log} is takes octets unparsed read) =
-    stepped role values log (uses_part octets unparsed) is
-    (λ own. (takes, subst (λ (r : Role). TakesPart r log octets unparsed) (sym own) read))
-    (every_log_has_machine role values log is)
-every_log_has_machine role values _ (took_one {log = log} is takes octets frame decoded read sees) =
-    stepped role values log (ends_frame octets frame decoded) is
-    (λ own. (takes, subst (λ (r : Role). TakesFrame r log octets frame) (sym own) read, sees))
-    (every_log_has_machine role values log is)
-every_log_has_machine role values _ (met_fault {log = log} is takes octets fault at) =
-    stepped role values log (meets_fault octets fault) is
-    (λ own. (takes, subst (λ (r : Role). TakesFault r log octets fault) (sym own) at))
-    (every_log_has_machine role values log is)
-every_log_has_machine role values _ (ran_out_of_memory {log = log} is up octets may) =
-    stepped role values log (runs_out_of_memory octets) is
-    (λ own. (up, subst (λ (r : Role). MayRunOutOfMemory r log octets) (sym own) may))
-    (every_log_has_machine role values log is)
-every_log_has_machine role values _ (reported_one {log = log} is up some) =
-    stepped role values log reports_unprocessed is (λ own. (up, some))
-    (every_log_has_machine role values log is)
-every_log_has_machine role values _ (called_one {log = log} is act answer typed may) =
-    stepped role values log (is_called act answer) is (λ own. (typed, may))
-    (every_log_has_machine role values log is)
+    → (e : End) × Represents values e log
+every_log_has_machine role values log is =
+    let (e, s, any) = every_log_has role values (λ e. Unit {0}) (λ in_range. tt)
+    (λ e log step s may has. tt) log is in (e, s)

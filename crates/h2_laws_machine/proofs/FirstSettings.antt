@@ -1,6 +1,4 @@
 -- A log has frames just where it has SETTINGS, which come first.
-use Rattle.h2_spec_log.proofs.StreamLemmas.{Keeps-call}
-use Rattle.h2_laws_log.proofs.LogGrowth.{grows_with_unreturned, grows_call}
 use Rattle.h2_laws_machine.proofs.Names
 use Names.{◌≡◌, ◌≢◌, ℕ, ◌+◌, ◌≤◌, ◌==◌, not, Bool, true, false, if◌then◌else◌, List, [], ◌∷◌, ◌++◌}
 use Names.{length, Option, Some, None, refl, sym, ap, ◌∙◌, arith, length-append, ne_eqb, eqb-false}
@@ -10,9 +8,11 @@ use Names.{log_view, Verdict, ConnectionFault, Decoded, FrameStep, fails_with, b
 use Names.{completes, may_be_first, frame_step, grouping_step, grouped, read, with_sent}
 use Names.{with_reported, with_unreturned, owed_at_close, with_verdict, with_step, with_frame, used}
 use Names.{took_none, opened, with_call, IsLog, begins, took_some, took_one, met_fault}
-use Names.{ran_out_of_memory, reported_one, called_one, count_next, settings_one, End, Represents}
-use Names.{Interrupted, block_fault_code, next_fault, fault_outside, fault_inside, Keeps-frame}
-use Names.{grows_wrote}
+use Names.{ran_out_of_memory, reported_one, called_one, settings_one, End, Represents, Interrupted}
+use Names.{block_fault_code, next_fault, fault_outside, fault_inside, Keeps-frame, grows_wrote}
+use Rattle.h2_spec_log.proofs.StreamLemmas.{Keeps-call}
+use Rattle.h2_laws_log.proofs.LogGrowth.{grows_with_unreturned, grows_call}
+use Rattle.h2_laws_log.proofs.SettingsLists.{count_next}
 use Rattle.h2_laws_machine.proofs.RecvUnprocessed.{returned_frames, reported_frames}
 
 -- A log has no frames just where it has no SETTINGS.

@@ -1,7 +1,7 @@
 -- Items that touch nothing of a stream but perhaps the window that they widen.
-use Rattle.h2_laws_machine.proofs.Names
-use Names.{◌≡◌, ◌≢◌, ℕ, ◌==◌, Bool, false, List, Option, refl, sym, ne_eqb, and_left, Data, Reset}
-use Names.{Settings, Ping, WindowUpdate, Item, alone, block, data_on, is_block_on, ends, resets}
+use Rattle.h2_laws_machine.proofs.Names.{◌≡◌, ◌≢◌, Bool, List, refl, sym, Data, Ping, Item, ends}
+use Rattle.h2_laws_machine.proofs.Names.{ℕ, and_left, Settings, WindowUpdate, data_on, is_block_on}
+use Rattle.h2_laws_machine.proofs.Names.{◌==◌, false, Option, ne_eqb, Reset, alone, block, resets}
 
 -- An item that touches nothing of a number but perhaps the window that it widens.
 pub record IsApart (j : ℕ) (item : Item) : Type 0 where

@@ -1,12 +1,13 @@
 -- What of a log says what an end keeps that hasn't failed, and when an end keeps it.
-use Rattle.h2_spec_machine.specs.Represents.{RepresentsStreams, StreamsRepresent, stream_by_items}
 use Rattle.h2_laws_machine.proofs.Names
 use Names.{◌≡◌, ℕ, ◌-◌, ◌==◌, not, nat_lt, Bool, if◌then◌else◌, List, length, Option, list_any}
 use Names.{Entries, EncoderState, Item, Begun, Role, resets, one_ping, total, greatest_block, Event}
 use Names.{flow_on, one_acked, one_pong, reported_total, greatest_processed, Act, Answer, is_server}
 use Names.{openings, is_active, when, Log, released, newest_ping, StreamView, StreamMap, Streams}
-use Names.{ConnectionWindows, PeerSettings, OwnSettings, GoAways, ReadSoFar, End, RepresentsReading}
+use Names.{ConnectionWindows, PeerSettings, OwnSettings, GoAways, End, RepresentsReading}
 use Names.{RepresentsWindows, RepresentsPeer, RepresentsOwn, RepresentsGoAways, RepresentsWhileUp}
+use Rattle.h2_spec_machine.specs.Represents.{RepresentsStreams, StreamsRepresent, stream_by_items}
+use Rattle.h2_spec_machine.specs.End.{ReadSoFar}
 
 -- what of a log says what an end keeps that hasn't failed
 pub record Core : Type 0 where

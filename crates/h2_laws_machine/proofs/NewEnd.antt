@@ -1,8 +1,4 @@
 -- A new machine represents the log of a new end.
-use Rattle.std.specs.FinMap.{get-empty}
-use Rattle.h2_spec_log.specs.Settings.{settings_of, value_after_all}
-use Rattle.h2_spec_log.specs.CallRules.{with_max_frame}
-use Rattle.h2_laws_log.proofs.AllowedHistories.{opening_window}
 use Rattle.h2_laws_machine.proofs.Names
 use Names.{◌≡◌, ℕ, ◌%◌, ◌==◌, true, false, [], ◌∷◌, Some, refl, sym, ◌∙◌, arith, nat_cmp, and_left}
 use Names.{and_right, Settings, alone, Role, Client, Server, data_on, data_of, increment_on}
@@ -12,7 +8,12 @@ use Names.{value_after, value_read, one_settings, settings_count, openings, is_a
 use Names.{first_window, given_on_connection, granted_on_connection, active, active_count}
 use Names.{last_processed, max_streams, allowed_by, output, max_payload_sent_by, max_list}
 use Names.{with_sent, opened, begins, new_end, owed_sum, Represents, RepresentsWhileUp}
-use Names.{AwaitsValues, goaway_sent_last, value_named, opening_frame, opening_pairs}
+use Names.{AwaitsValues, goaway_sent_last, value_named, opening_pairs}
+use Rattle.std.specs.FinMap.{get-empty}
+use Rattle.h2_spec_log.specs.Settings.{settings_of, value_after_all}
+use Rattle.h2_spec_log.specs.CallRules.{with_max_frame}
+use Rattle.h2_laws_log.proofs.AllowedHistories.{opening_window}
+use Rattle.h2_laws_log.proofs.SettingsLists.{opening_frame}
 use Rattle.h2_laws_machine.proofs.ConservedBySteps.{new_holds, is_whole}
 use Rattle.h2_laws_machine.proofs.LogCore.{core, StreamsOf}
 

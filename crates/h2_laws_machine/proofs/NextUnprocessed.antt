@@ -1,15 +1,17 @@
 -- The next stream that is to be reported as unprocessed is the same at an end as at its log: the
 -- least active number above the last one. So is the next active stream.
 use Rattle.std.specs.FinMap as map
-use Rattle.h2_spec_machine.proofs.SortedEntries.{first_least, two_least}
 use Rattle.h2_laws_machine.proofs.Names
 use Names.{◌≡◌, ℕ, Bool, true, false, nat_lt, ◌&&◌, if◌then◌else◌, Some, None, refl, sym, ap, ◌∙◌}
 use Names.{arith, list_any, both_ways, and_parts, and_right, ltb-true, le-ltb, least_goaway, Log}
 use Names.{active, next_active, next_unprocessed, Values, resets, is_goaway, is_server, openings}
 use Names.{when, AllowedHistory, End, StreamEntry, active_entry, reset_entry, Streams, StreamView}
-use Names.{first_active, unprocessed_of_end, Represents, entry_by, Role, Client, Server}
-use Names.{next_passes, next_found, client_low, last_none, least_none, written_is_allowed}
+use Names.{first_active, unprocessed_of_end, Represents, entry_by, Role, Client, Server, last_none}
 use Names.{least_block, is_active_entry, first_found}
+use Rattle.h2_spec_machine.proofs.SortedEntries.{first_least, two_least}
+use Rattle.h2_laws_log.proofs.NextStreams.{next_passes, next_found}
+use Rattle.h2_laws_log.proofs.StreamNumbers.{client_low, least_none}
+use Rattle.h2_laws_log.proofs.InvariantLogs.{written_is_allowed}
 use Rattle.h2_laws_machine.proofs.LogCore.{said, core, Going, going, StreamsOf}
 use Rattle.h2_laws_machine.proofs.RecvVerdict.{entry_said}
 

@@ -1,18 +1,19 @@
 -- What every log that hasn't failed has of GOAWAYs, of the numbers that were used, and of what was
 -- released; and what keeps it.
-use Rattle.h2_laws_log.proofs.LogHistory.{processed_append}
 use Rattle.h2_laws_machine.proofs.Names
-use Names.{◌≡◌, ◌≢◌, ◌⊎◌, ℕ, ◌≤◌, ◌%◌, ◌==◌, nat_lt, Bool, true, false, ◌&&◌, ◌||◌, List, [], ◌∷◌}
-use Names.{◌++◌, Option, Some, None, refl, sym, subst, ◌∙◌, inl, inr, arith, list_any, both_ways}
-use Names.{or_cases, and_parts, eqb-true, ne_eqb, cases_eq, or_parts, Code, ProtocolError, Data}
-use Names.{Reset, GoAway, WindowUpdate, Item, alone, block, Role, data_on, increment_on}
-use Names.{is_block_on, ends, resets, is_goaway, total, is_goaway_below, greatest_block, Event}
-use Names.{flow_on, reported_total, greatest_processed, reports_unprocessed, Act, Answer, log_view}
-use Names.{is_server, State, Idle, Active, ClosedByUs, is_used, Log, state, released, Verdict}
-use Names.{ConnectionFault, StreamFault, NoEvent, Reported, block_verdict, data_verdict}
-use Names.{reset_verdict, update_verdict, Decoded, verdict_by_rules, verdict_of_block, read}
-use Names.{with_sent, with_reported, goaway_sent_last, active_parts, state_idle, total_one}
-use Names.{below_quiet, used_here, reported_append, none_both, closed_used}
+use Names.{◌≡◌, is_goaway_below, greatest_block, ConnectionFault, goaway_sent_last, reported_append}
+use Names.{◌≢◌, Bool, true, ◌&&◌, ◌||◌, List, ◌++◌, Some, None, refl, Code, Data, Item, Role, state}
+use Names.{◌⊎◌, ◌≤◌, ◌%◌, [], ◌∷◌, sym, ◌∙◌, inl, inr, ends, Act, Idle, Log, read}
+use Names.{ℕ, nat_lt, Option, ne_eqb, GoAway, flow_on, is_used, Verdict, NoEvent, Reported, Decoded}
+use Names.{◌==◌, WindowUpdate, increment_on, data_verdict, with_reported, active_parts, closed_used}
+use Names.{false, subst, arith, Reset, alone, block, resets, total, Event, Answer, State, Active}
+use Names.{list_any, or_cases, eqb-true, cases_eq, or_parts, data_on, log_view, released, none_both}
+use Names.{both_ways, and_parts, is_goaway, is_server, ClosedByUs, with_sent, state_idle, total_one}
+use Names.{ProtocolError, reported_total, StreamFault, block_verdict, reset_verdict, update_verdict}
+use Names.{is_block_on, greatest_processed, reports_unprocessed, verdict_by_rules, verdict_of_block}
+use Rattle.h2_laws_log.proofs.LogHistory.{processed_append}
+use Rattle.h2_laws_log.proofs.ItemLists.{below_quiet}
+use Rattle.h2_laws_log.proofs.ReplyInvariant.{used_here}
 use Rattle.h2_laws_machine.proofs.LogCore.{core}
 use Rattle.h2_laws_machine.proofs.OneItemMore.{any_quiet}
 use Rattle.h2_laws_machine.proofs.QuietNumbers.{AreOdd, unused_before}

@@ -1,23 +1,21 @@
 -- Every log that hasn't failed has one own GOAWAY at most, and so on: calls and frames keep it.
+use Rattle.h2_laws_machine.proofs.Names
+use Names.{◌≡◌, list_any, or_parts, eqb-true, is_goaway, is_server, events_of, answer_of, with_sent}
+use Names.{◌≢◌, ◌==◌, Bool, true, List, None, refl, Reset, alone, block, total, Event, state, IsLog}
+use Names.{ℕ, ◌+◌, ◌-◌, ◌≤◌, ◌∷◌, ◌∙◌, Code, Data, Ping, Item, Role, Act, Log, read}
+use Names.{nat_lt, Option, ap, subst, arith, GoAway, Client, Server, Values, Active, opened, called}
+use Names.{false, is_goaway_below, greatest_block, stream_of_item, reported_total, stream_is_active}
+use Names.{if◌then◌else◌, last_processed, StreamFault, with_reported, events_unnamed, IsUpInvariant}
+use Names.{[], Settings, Release, log_view, released, owed_on, Verdict, Reported, Decoded, items_of}
+use Names.{both_ways, ltb-false, stream_of, flow_on, chosen_low, none_holds, items_none, up_by_logs}
+use Names.{code_number, greatest_processed, reports_unprocessed, next_unprocessed, verdict_by_rules}
+use Names.{WindowUpdate, processed_by, SendGoAway, unreleased, refusal_of, conditions, replies_none}
 use Rattle.h2_laws_log.proofs.InvariantCalls.{released_none}
 use Rattle.h2_laws_log.proofs.LogViewLemmas.{owed_there}
 use Rattle.h2_laws_log.proofs.LogInduction.{MayReport, of_item, of_unprocessed}
-use Rattle.h2_laws_machine.proofs.Names
-use Names.{◌≡◌, ◌≢◌, ℕ, ◌+◌, ◌-◌, ◌≤◌, ◌==◌, nat_lt, Bool, true, false, if◌then◌else◌, List, []}
-use Names.{◌∷◌, Option, None, refl, ap, subst, ◌∙◌, arith, list_any, both_ways, or_parts, ltb-false}
-use Names.{eqb-true, Code, code_number, Data, Reset, Settings, Ping, GoAway, WindowUpdate}
-use Names.{stream_of, Item, alone, block, Role, Client, Server, is_goaway, is_goaway_below}
-use Names.{greatest_block, stream_of_item, total, flow_on, reported_total, greatest_processed}
-use Names.{processed_by, reports_unprocessed, Event, Values, Act, Release, SendGoAway, log_view}
-use Names.{is_server, Active, Log, state, last_processed, next_unprocessed, released, unreleased}
-use Names.{owed_on, Verdict, StreamFault, Reported, Decoded, verdict_by_rules, events_of, items_of}
-use Names.{answer_of, refusal_of, conditions, read, with_sent, with_reported, opened, called, IsLog}
-use Names.{stream_is_active, chosen_low, none_holds, events_unnamed, items_none, replies_none}
-use Names.{IsUpInvariant, up_by_logs, rules}
 use Rattle.h2_laws_machine.proofs.LogCore.{core}
-use Rattle.h2_laws_machine.proofs.NumberedLogs.{IsNumbered, goaway_sent, sent_numbered}
-use Rattle.h2_laws_machine.proofs.NumberedLogs.{reported_numbered, read_numbered, EventsFit}
-use Rattle.h2_laws_machine.proofs.NumberedLogs.{Numbered}
+use Rattle.h2_laws_machine.proofs.NumberedLogs.{IsNumbered, goaway_sent, EventsFit, Numbered}
+use Rattle.h2_laws_machine.proofs.NumberedLogs.{sent_numbered, reported_numbered, read_numbered}
 use Rattle.h2_laws_machine.proofs.QuietNumbers.{unused_before}
 use Rattle.h2_laws_machine.proofs.RecvItems.{active_in, active_low}
 use Rattle.h2_laws_machine.proofs.RecvVerdictCases.{data_is_fault, reset_is_fault, update_is_fault}
@@ -186,7 +184,8 @@ numbered_kept role values =
           (events_fit _ _ log (event ∷ events) may);
       returned = λ log returns. sent_numbered (record log { unreturned = 0 })
           (alone (WindowUpdate 0 log.unreturned) ∷ []) refl;
-      sent = λ log act accepted f. items_numbered log (called log act (answer_of (log_view log) act))
+      sent = λ log act accepted f. items_numbered log (called log act (answer_of (log_view log)
+          act))
           act accepted.none refl refl f (called_numbered log act accepted.none f);
       called = λ log act answer is_log none f. record {
         goaways = f.goaways;

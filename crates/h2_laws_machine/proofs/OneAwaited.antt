@@ -1,14 +1,15 @@
 -- One own PING at most awaits its answer, and one own SETTINGS their acknowledgment.
-use Rattle.h2_laws_log.proofs.LogInduction.{IsLogInvariant, kept_by_logs}
-use Rattle.h2_laws_log.proofs.LogHistory.{settings_append}
-use Rattle.h2_laws_log.proofs.WindowsOfTwoEnds.{total-append}
 use Rattle.h2_laws_machine.proofs.Names
 use Names.{◌≡◌, ◌≤◌, ℕ, ◌+◌, Bool, true, false, if◌then◌else◌, List, [], ◌∷◌, ◌++◌, None, refl, sym}
 use Names.{◌∙◌, arith, ltb-false, Settings, Ping, WindowUpdate, Item, alone, Role, one_ping, total}
 use Names.{Event, one_acked, one_pong, reported_total, Values, Act, SendData, Release, SendPing}
 use Names.{ChangeSettings, one_settings, settings_count, Log, acked, log_view, ended_in, Verdict}
 use Names.{NoEvent, replies_to, conditions, refusal_of, items_of, answer_of, data_items, read}
-use Names.{with_sent, opened, called, IsLog, none_of_items, when_some, none_holds, reported_append}
+use Names.{with_sent, opened, called, IsLog, when_some, none_holds, reported_append}
+use Rattle.h2_laws_log.proofs.LogInduction.{IsLogInvariant, kept_by_logs}
+use Rattle.h2_laws_log.proofs.LogHistory.{settings_append}
+use Rattle.h2_laws_log.proofs.WindowsOfTwoEnds.{total-append}
+use Rattle.h2_laws_log.proofs.DataOfCalls.{none_of_items}
 
 -- One own PING at most awaits its answer, and one own SETTINGS their acknowledgment.
 pub record AwaitsOne (sent : List Item) (reported : List Event) : Type 0 where

@@ -1,13 +1,13 @@
 -- What is owed on all streams, by what an end's log says of each; and the connection's window, by
 -- its log.
 use Rattle.std.specs.FinMap as map
-use Rattle.h2_laws_log.proofs.WindowsOfTwoEnds.{connection_meets}
 use Rattle.h2_laws_machine.proofs.Names
-use Names.{◌≡◌, ℕ, ◌+◌, ◌<◌, Bool, true, false, if◌then◌else◌, List, ◌++◌, ℤ, pos, ◌+ℤ◌, ◌-ℤ◌, None}
-use Names.{refl, ap, ◌∙◌, arith, ints, list_any, Item, data_of, increment_on, ends, total, Values}
-use Names.{first_window, Log, active, send_window, recv_window, unreleased, owed, End, owed_entry}
-use Names.{owed_total, StreamView, Represents, entry_by, connection_send_window}
-use Names.{connection_recv_window, sum_below}
+use Names.{◌≡◌, first_window, unreleased, owed_entry, owed_total, StreamView, Represents, sum_below}
+use Names.{ℕ, ◌+◌, ◌<◌, ℤ, pos, ◌+ℤ◌, ◌-ℤ◌, None, refl, ap, ◌∙◌, ints, Item, ends, Log, End}
+use Names.{Bool, true, false, List, ◌++◌, arith, list_any, data_of, total, Values, active, entry_by}
+use Names.{if◌then◌else◌, increment_on, send_window, connection_send_window, connection_recv_window}
+use Rattle.h2_laws_log.proofs.WindowsOfTwoEnds.{connection_meets}
+use Rattle.h2_spec_log.specs.Log.{recv_window, owed}
 use Rattle.h2_laws_machine.proofs.OwedSums.{total-sum, same_sum}
 
 -- What is owed on what is kept of a number, by whether it is active and was reset.

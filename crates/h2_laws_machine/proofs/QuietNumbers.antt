@@ -1,14 +1,15 @@
 -- What of a log concerns numbers that were not used; and which numbers were.
-use Rattle.std.proofs.lemmas.Bool.{le-leb, leb-true}
-use Rattle.h2_laws_log.proofs.ReplyInvariant.{used_more}
-use Rattle.h2_laws_log.proofs.InvariantCalls.{odd_some}
 use Rattle.h2_laws_machine.proofs.Names
 use Names.{◌≡◌, ◌≢◌, ℕ, ◌≤◌, ◌<◌, ◌%◌, ◌==◌, nat_le, Bool, true, false, ◌&&◌, ◌||◌, List, [], ◌∷◌}
 use Names.{◌++◌, refl, sym, ◌∙◌, subst, inl, inr, arith, list_any, both_ways, or_cases, or_left}
 use Names.{or_right, and_from, eqb-true, eq-eqb, ne_eqb, cases_eq, leb-false, false_from_ne_true}
 use Names.{Data, Settings, Item, alone, block, Role, data_on, is_block_on, opens_from, ends, total}
 use Names.{greatest_block, openings, is_used, AllowedHistory, active_parts, active_used, total_one}
-use Names.{opens_low, opening_uses, or_from, starts, reads, writes, Allowed, both_same}
+use Names.{opens_low, or_from, starts, reads, writes, Allowed, both_same}
+use Rattle.std.proofs.lemmas.Bool.{le-leb, leb-true}
+use Rattle.h2_laws_log.proofs.ReplyInvariant.{used_more}
+use Rattle.h2_laws_log.proofs.InvariantCalls.{odd_some}
+use Rattle.h2_laws_log.proofs.StreamNumbers.{opening_uses}
 use Rattle.h2_laws_machine.proofs.OneItemMore.{any_quiet}
 
 -- All blocks have odd numbers.

@@ -1,17 +1,17 @@
 -- The values of an end are in their ranges at first, and after each frame and each call.
+use Rattle.h2_laws_machine.proofs.Names
+use Names.{◌≡◌, ℕ, ◌+◌, ◌-◌, ◌≤◌, ◌∷◌, refl, ap, ◌∙◌, Code, Item, Act, Role, End}
+use Names.{◌==◌, length, Option, nat_cmp, Entries, Decoded, end_view, any_above, new_end, same_some}
+use Names.{nat_lt, IsTypedAct, refusal_of, StreamView, stream_in, stream_at, owed_entry, after_call}
+use Names.{◌&&◌, List, [], Bool, true, false, Some, None, arith, Frame, Begun, alone, block, Values}
+use Names.{if◌then◌else◌, stream_of, ProtocolError, settings_fault, most_max_frame, greatest_window}
+use Names.{table_size, AreInRange, value_after, OwnSettings, close_stream, after_frame, IsDecodedAt}
+use Names.{max_block_octets, greatest_number, with_table_after, FlowControlError, ValuesAreInRange}
 use Rattle.std.proofs.Common.{◌^◌, ltb-false}
 use Rattle.h2_spec_log.specs.Limits.{max_table_limit}
 use Rattle.h2_spec_log.specs.Settings.{peer_of, value_fault}
 use Rattle.h2_laws_machine.specs.Ranges.{StreamIsInRange}
-use Rattle.h2_laws_machine.proofs.Names
-use Names.{◌≡◌, ℕ, ◌+◌, ◌-◌, ◌≤◌, ◌==◌, nat_lt, ◌&&◌, List, [], ◌∷◌, if◌then◌else◌, Bool, true}
-use Names.{false, length, Option, Some, None, refl, ap, ◌∙◌, arith, nat_cmp, table_size, Entries}
-use Names.{stream_of, Frame, Code, ProtocolError, Begun, max_block_octets, Item, alone, block}
-use Names.{Values, AreInRange, Act, IsTypedAct, refusal_of, Decoded, first_fault, settings_fault}
-use Names.{most_max_frame, value_after, greatest_number, StreamView, greatest_window, Role, End}
-use Names.{OwnSettings, end_view, stream_in, stream_at, owed_entry, any_above, close_stream}
-use Names.{with_table_after, after_frame, after_call, new_end, same_some, FlowControlError}
-use Names.{ValuesAreInRange, IsDecodedAt}
+use Rattle.h2_spec_log.specs.ItemRules.{first_fault}
 use Rattle.h2_laws_machine.proofs.EveryCall.{call_keeps}
 use Rattle.h2_laws_machine.proofs.EveryEnd.{returned_keeps, frame_keeps}
 use Rattle.h2_laws_machine.proofs.EndInvariants.{Known, IsEndInvariant, without_entry}

@@ -1,17 +1,16 @@
 -- The most octets of a payload that an end reads is what its log says, and is within its bounds; no
 -- call but a change of own settings moves it.
+use Rattle.h2_laws_machine.proofs.Names
+use Names.{◌≡◌, ◌≤◌, ◌==◌, ◌&&◌, Bool, List, ◌-ℤ◌, Some, None, refl, Item, Code, Role, Open, acked}
+use Names.{ℕ, suc, ◌+◌, ◌-◌, not, max, pos, sym, ap, ◌∙◌, Act, Log, End}
+use Names.{length, ChangeSettings, returns_credit, most_max_frame, settings_count, ValuesAreInRange}
+use Names.{Option, arith, ltb-true, Values, SendData, Refuse, SendPing, PutOut, end_view, stream_at}
+use Names.{is_some, returns_before_put_out, after_fields_sent, before_put_out_at, close_unprocessed}
+use Names.{ltb-false, cond_both, Release, own_value, StreamView, after_call, after_data, Represents}
+use Names.{SendFields, ResetStream, SendGoAway, AreInRange, data_items, OwnSettings, queue_output}
+use Names.{refuse_fault, add_unreturned, after_refuse, after_release, update_stream, RepresentsOwn}
 use Rattle.h2_spec_log.specs.Settings.{greatest_from, payload_limit}
 use Rattle.h2_spec_machine.specs.End.{payload_limit_of}
-use Rattle.h2_laws_machine.proofs.Names
-use Names.{◌≡◌, ◌≤◌, ℕ, suc, ◌+◌, ◌-◌, ◌==◌, not, ◌&&◌, max, Bool, List, length, pos, ◌-ℤ◌, Option}
-use Names.{Some, None, is_some, refl, sym, ap, ◌∙◌, arith, ltb-false, ltb-true, cond_both, Item}
-use Names.{Code, Role, Values, Act, Open, SendFields, SendData, Release, ResetStream, Refuse}
-use Names.{SendPing, SendGoAway, PutOut, ChangeSettings, AreInRange, data_items, refuse_fault}
-use Names.{returns_before_put_out, returns_credit, most_max_frame, Log, acked, own_value}
-use Names.{settings_count, StreamView, End, OwnSettings, end_view, stream_at, add_unreturned}
-use Names.{after_call, after_data, after_fields_sent, after_refuse, after_release}
-use Names.{before_put_out_at, close_unprocessed, queue_output, update_stream, Represents}
-use Names.{RepresentsOwn, ValuesAreInRange}
 use Rattle.h2_laws_machine.proofs.OneAwaited.{awaits_one}
 
 -- Where no own SETTINGS await their acknowledgment, the limit is the value in force.

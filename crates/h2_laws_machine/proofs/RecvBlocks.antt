@@ -1,35 +1,29 @@
 -- What a field block on an active stream, and one that is ignored, make of an end and of its log.
-use Rattle.std.specs.FinMap as map
 use Rattle.h2_laws_machine.proofs.Names
-use Names.{◌≡◌, ◌≢◌, ℕ, ◌+◌, ◌-◌, ◌≤◌, ◌<◌, ◌%◌, ◌==◌, nat_lt, max, Bool, true, false, ◌&&◌, ◌||◌}
-use Names.{if◌then◌else◌, List, [], ◌∷◌, Option, refl, ap, sym, ◌∙◌, inl, inr, arith, zero-add}
-use Names.{list_any, both_ways, eq-eqb, false_from_ne_true, cases_eq, or_cases, ltb-true, ltb-false}
-use Names.{Field, Item, block, Role, Client, Server, stream_of_item, data_on, data_of, increment_on}
-use Names.{ends, resets, one_reset, is_goaway, total, greatest_block, Event, FieldsEvent, flow_on}
-use Names.{one_acked, one_pong, reported_total, reports_unprocessed, processed_by}
-use Names.{greatest_processed, is_server, value_read, one_settings, openings, is_above}
-use Names.{is_closed_by_us, count_below, given_on, Log, unreleased, least_goaway, NoEvent, Reported}
-use Names.{Decoded, replies_to, read, with_sent, with_reported, with_unreturned, owed_at_close}
-use Names.{with_verdict, events_of, discarded_flow, table_after, StreamView, End, StreamMap}
-use Names.{Streams, active_entry, owed_entry, with_table_after, set_stream, close_stream}
-use Names.{after_reported, after_ignored, is_fresh, get_set_same, active_parts, active_by_parts}
-use Names.{lasts_parts, decoded_fields}
+use Names.{◌≡◌, data_of, flow_on, is_above, given_on, NoEvent, Reported, Decoded, Streams, is_fresh}
+use Names.{◌≢◌, ◌+◌, ◌-◌, ◌≤◌, ◌<◌, ◌%◌, max, true, ◌&&◌, ◌||◌, List, refl, Item, Role, ends, read}
+use Names.{ℕ, count_below, replies_to, table_after, lasts_parts, ◌==◌, Bool, Option, arith, eq-eqb}
+use Names.{Field, block, Client, Server, resets, total, Event, nat_lt, stream_of_item}
+use Names.{greatest_block, reported_total, is_closed_by_us, false, FieldsEvent, with_verdict}
+use Names.{active_parts, if◌then◌else◌, value_read, with_reported, discarded_flow, after_reported}
+use Names.{decoded_fields, [], increment_on, processed_by, one_settings, least_goaway}
+use Names.{after_ignored, ◌∷◌, ap, sym, ◌∙◌, inl, inr, Log, End, zero-add, list_any, cases_eq}
+use Names.{or_cases, ltb-true, data_on, one_pong, openings, both_ways, false_from_ne_true}
+use Names.{reports_unprocessed, greatest_processed, with_table_after, ltb-false, one_reset}
+use Names.{is_goaway, one_acked, is_server, with_sent, events_of}
 use Rattle.h2_laws_machine.proofs.CallOpen.{count_high, none_above}
-use Rattle.h2_laws_machine.proofs.LogCore.{StreamsOf, said, Core, core, CoreFacts, core_facts}
-use Rattle.h2_laws_machine.proofs.LogCore.{Advances, Going, active_by_items, greatest_used}
-use Rattle.h2_laws_machine.proofs.LogCore.{processed}
+use Rattle.h2_laws_machine.proofs.LogCore.{StreamsOf, core_facts, active_by_items, greatest_used}
+use Rattle.h2_laws_machine.proofs.LogCore.{said, Core, core, CoreFacts, Advances, Going, processed}
 use Rattle.h2_laws_machine.proofs.RecvBeside.{beside_of, beside_table, beside_read, beside_reported}
 use Rattle.h2_laws_machine.proofs.RecvBeside.{advances_with}
-use Rattle.h2_laws_machine.proofs.OwedAtClose.{none_owing, dead_owing, owes_all}
-use Rattle.h2_laws_machine.proofs.RecvData.{or_swapped, opened_more}
-use Rattle.h2_laws_machine.proofs.RecvEvents.{report, ChangesNoStream, active_reported}
-use Rattle.h2_laws_machine.proofs.RecvEvents.{same_reported}
+use Rattle.h2_laws_machine.proofs.OwedAtClose.{dead_owing}
+use Rattle.h2_laws_machine.proofs.RecvData.{or_swapped, read_by}
+use Rattle.h2_laws_machine.proofs.RecvEvents.{report, ChangesNoStream, same_reported}
 use Rattle.h2_laws_machine.proofs.RecvRead.{reads, IsCommon, same_read}
 use Rattle.h2_laws_machine.proofs.ItemsApart.{block_apart}
-use Rattle.h2_laws_machine.proofs.RecvReturnedCredit.{After, returned, unsettled}
+use Rattle.h2_laws_machine.proofs.RecvReturnedCredit.{After, unsettled}
 use Rattle.h2_laws_machine.proofs.RecvVerdict.{stream_said}
-use Rattle.h2_laws_machine.proofs.StreamsSame.{streams_set, streams_closed, said_over, same_both}
-use Rattle.h2_laws_machine.proofs.StreamsSame.{SameAt, kept_at, same_stream, count_same}
+use Rattle.h2_laws_machine.proofs.StreamsSame.{same_both, SameAt, kept_at, same_stream, count_same}
 use Rattle.h2_laws_machine.proofs.WaitingOutput.{Waits}
 
 -- A block is neither SETTINGS nor GOAWAY.
@@ -121,31 +115,6 @@ block_said c i end octets event acks flow =
     (rw (block_on i end octets i, acks, zero-add, zero-add) refl) (rw (flow, zero-add) refl)
     (rw (block_ends i end octets) (or_swapped (list_any (ends i) c.received) end)) refl
 
--- A block leaves its stream active, by the flags after it.
-block_is_active : (c : Core) (i : ℕ) (end : Bool) (octets : List ℕ) (event : Event)
-    → ChangesNoStream event → active_by_items c i ≡ true
-    → ((list_any (ends i) c.received || end) && list_any (ends i) c.sent) ≡ false
-    → active_by_items (with_block c i end octets event) i ≡ true
-block_is_active c i end octets event q alive goes =
-    let item : Item = block i end octets in
-    let parts = active_parts c.role i c.received c.sent c.reported alive in
-    let lasts = lasts_parts i c.received c.sent parts.lasts in
-    active_reported c.role i (item ∷ c.received) c.sent event c.reported (q.names i)
-    ∙ active_by_parts _ _ _ _ _ parts.odd (opened_more c.role i item c.received c.sent parts.opened)
-    parts.below (rw (block_ends i end octets, or_swapped end (list_any (ends i) c.received)) goes)
-    (rw (block_resets i end octets i) lasts.unreset) lasts.kept parts.unnamed
-
--- A block after which both sides have ended its stream ends it, by the flags after it.
-block_dead : (c : Core) (i : ℕ) (end : Bool) (octets : List ℕ) (event : Event)
-    → ((list_any (ends i) c.received || end) && list_any (ends i) c.sent) ≡ true
-    → active_by_items (with_block c i end octets event) i ≡ false
-block_dead c i end octets event over =
-    let d : Core = with_block c i end octets event in
-    false_from_ne_true (active_by_items d i) (λ alive.
-    both_ways (list_any (ends i) d.received && list_any (ends i) d.sent)
-    (lasts_parts i d.received d.sent (active_parts d.role i d.received d.sent d.reported
-    alive).lasts).ended (rw (block_ends i end octets, or_swapped _ _) over))
-
 -- What an end keeps where a block is read and an event is reported, by what it makes of the
 -- streams.
 pub block_advances : (h : CoreFacts) (c : Core) (i : ℕ) (end : Bool) (octets : List ℕ)
@@ -177,68 +146,6 @@ block_advances h c i end octets event decoded streams q are g =
 abbrev pub IsTaken : Core → ℕ → Type 0
 IsTaken c i = is_server c.role ≡ true → i ≤ greatest_processed c.reported
 
--- What a block on an active stream makes of an end, by the test whether the stream is over.
-later_by : (e : End) (log : Log) (decoded : Option Decoded) (i : ℕ) (end : Bool) (octets : List ℕ)
-    (b : Bool) → ((list_any (ends i) log.received || end) && list_any (ends i) log.sent) ≡ b
-    → active_by_items (core log) i ≡ true → i ≤ greatest_used (core log) → IsTaken (core log) i
-    → Waits e log → Going e (core log)
-    → After (if b then close_stream
-    (set_stream (with_table_after e decoded (block i end octets)) i (record (said (core log) i) {
-      ended_in = (said (core log) i).ended_in || end;
-    })) i 0 else set_stream (with_table_after e decoded (block i end octets)) i
-    (record (said (core log) i) { ended_in = (said (core log) i).ended_in || end }))
-    (with_reported (with_unreturned (0 + owed_at_close log
-    (with_reported (read log decoded (block i end octets))
-    (FieldsEvent i (decoded_fields decoded) end ∷ [])) i)
-    (read log decoded (block i end octets))) (FieldsEvent i (decoded_fields decoded) end ∷ []))
-unfolding with_reported unreleased
-later_by e log decoded i end octets true over alive low taken w g =
-    let c : Core = core log in
-    let item : Item = block i end octets in
-    let event : Event = FieldsEvent i (decoded_fields decoded) end in
-    let q = fields_harmless i (decoded_fields decoded) end in
-    let d : Core = with_block c i end octets event in
-    let s : StreamView = record (said c i) { ended_in = (said c i).ended_in || end } in
-    let is : s ≡ said d i = block_said c i end octets event q.acks
-    (fields_flow i (decoded_fields decoded) end i) in
-    let dead : active_by_items d i ≡ false = block_dead c i end octets event over in
-    let owing = owes_all log (with_reported (read log decoded item) (event ∷ [])) i alive dead in
-    let streams : StreamMap = map.remove (map.insert e.streams.entries i (active_entry s)) i in
-    let same : (j : ℕ) → j ≢ i → SameAt j c d = λ j other. block_same c i end octets event j q
-    (fields_flow i (decoded_fields decoded) end j) other in
-    returned (record (with_table_after e decoded item) {
-      streams = record e.streams { entries = streams; active_count = e.streams.active_count - 1 };
-    }) (read log decoded item) (event ∷ []) _ _
-    (ap (λ (m : ℕ). 0 + m) (ap owed_entry (get_set_same e.streams.entries i (active_entry s))
-    ∙ ap (λ (t : StreamView). t.owed) is ∙ sym owing)) w g.windows.unreturned
-    (block_advances (core_facts e) c i end octets event decoded _ q
-    (streams_closed e.streams i streams e.streams.resets c d same alive dead
-    (said_over e.streams.entries i (active_entry s) c d g.streams.entries same dead
-    (lasts_parts i c.received c.sent (active_parts c.role i c.received c.sent c.reported
-    alive).lasts).kept) (block_used c.role i end octets c.received c.sent low) (taken_low _ _ _
-    (λ server. omega (arith, taken server, fields_shows i (decoded_fields decoded) end)))
-    g.streams.resets g.streams) g)
-later_by e log decoded i end octets false goes alive low taken w g =
-    let c : Core = core log in
-    let item : Item = block i end octets in
-    let event : Event = FieldsEvent i (decoded_fields decoded) end in
-    let q = fields_harmless i (decoded_fields decoded) end in
-    let d : Core = with_block c i end octets event in
-    let s : StreamView = record (said c i) { ended_in = (said c i).ended_in || end } in
-    let still : active_by_items d i ≡ true = block_is_active c i end octets event q alive goes in
-    let same : (j : ℕ) → j ≢ i → SameAt j c d = λ j other. block_same c i end octets event j q
-    (fields_flow i (decoded_fields decoded) end j) other in
-    let kept = none_owing log (with_reported (read log decoded item) (event ∷ [])) i
-    (still ∙ sym alive) in
-    unsettled _ _ (event ∷ []) _ (omega arith) w g.windows.unreturned
-    (block_advances (core_facts e) c i end octets event decoded _ q
-    (streams_set e.streams i s c d same alive still
-    (block_said c i end octets event q.acks (fields_flow i (decoded_fields decoded) end i))
-    (block_used c.role i end octets c.received c.sent low)
-    (taken_low (is_server c.role) event c.reported
-    (λ server. omega (arith, taken server, fields_shows i (decoded_fields decoded) end)))
-    refl g.streams) g)
-
 -- What a block on an active stream makes of an end.
 pub later_reported : (e : End) (log : Log) (decoded : Option Decoded) (i : ℕ) (end : Bool)
     (octets : List ℕ) → active_by_items (core log) i ≡ true → i ≤ greatest_used (core log)
@@ -247,9 +154,24 @@ pub later_reported : (e : End) (log : Log) (decoded : Option Decoded) (i : ℕ) 
     (block i end octets) Reported)
 unfolding with_verdict after_reported replies_to events_of discarded_flow stream_of_item with_sent
 later_reported e log decoded i end octets alive low taken w g =
-    rw (stream_said e (core log) i g alive)
-    (later_by e log decoded i end octets ((list_any (ends i) log.received || end) &&
-    list_any (ends i) log.sent) refl alive low taken w g)
+    let c : Core = core log in
+    let item : Item = block i end octets in
+    let fields = decoded_fields decoded in
+    let event : Event = FieldsEvent i fields end in
+    let q = fields_harmless i fields end in
+    rw (stream_said e c i g alive)
+    (read_by e log decoded i end item event
+    (record e.reading { table = table_after e.reading.table decoded item }) e.windows
+    (record (said c i) { ended_in = (said c i).ended_in || end })
+    ((list_any (ends i) log.received || end) && list_any (ends i) log.sent) refl alive
+    (block_ends i end octets) (block_resets i end octets i) q
+    (block_said c i end octets event q.acks (fields_flow i fields end i))
+    (λ j other. block_same c i end octets event j q (fields_flow i fields end j) other)
+    (block_used c.role i end octets c.received c.sent low)
+    (taken_low (is_server c.role) event c.reported
+    (λ server. omega (arith, taken server, fields_shows i fields end)))
+    (λ streams are. block_advances (core_facts e) c i end octets event decoded streams q are g)
+    g.windows.unreturned w g)
 
 -- A stream that this end has closed isn't active.
 pub closed_dead : (c : Core) (i : ℕ) → is_closed_by_us c.role i c.sent ≡ true

@@ -1,6 +1,5 @@
 -- What DATA that is reported makes of an end and of its log.
 use Rattle.std.specs.FinMap as map
-use Rattle.h2_spec_log.specs.Events.{DataEvent}
 use Rattle.h2_laws_machine.proofs.Names
 use Names.{◌≡◌, ◌≢◌, ℕ, ◌≤◌, ◌+◌, ◌-◌, Bool, true, false, ◌&&◌, ◌||◌, if◌then◌else◌, pos, ◌-ℤ◌}
 use Names.{List, [], ◌∷◌, length, Option, refl, ap, sym, ◌∙◌, arith, zero-add, list_any, ints}
@@ -11,10 +10,12 @@ use Names.{value_read, openings, given_on, granted_on, Log, unreleased, released
 use Names.{replies_to, read, with_sent, with_reported, with_unreturned, owed_at_close, with_verdict}
 use Names.{events_of, discarded_flow, End, StreamMap, active_entry, owed_entry, Streams, StreamView}
 use Names.{set_stream, close_stream, with_flow, after_reported, Role, Client, Server, get_set_same}
-use Names.{active_parts, active_by_parts, lasts_parts}
+use Names.{active_parts, active_by_parts, lasts_parts, ConnectionWindows, table_after}
+use Rattle.h2_spec_log.specs.Events.{DataEvent}
 use Rattle.h2_laws_machine.proofs.ItemsApart.{data_apart}
 use Rattle.h2_laws_machine.proofs.LogCore.{StreamsOf, said, Core, core, CoreFacts, core_facts}
 use Rattle.h2_laws_machine.proofs.LogCore.{Advances, Going, confirmed, active_by_items}
+use Rattle.h2_laws_machine.proofs.LogCore.{greatest_used, processed}
 use Rattle.h2_laws_machine.proofs.OwedAtClose.{none_owing, owes_all}
 use Rattle.h2_laws_machine.proofs.RecvEvents.{reported_by, report, ChangesNoStream, active_reported}
 use Rattle.h2_laws_machine.proofs.RecvEvents.{same_reported, taken_kept}
@@ -25,6 +26,8 @@ use Rattle.h2_laws_machine.proofs.RecvVerdict.{stream_said}
 use Rattle.h2_laws_machine.proofs.StreamsSame.{streams_set, streams_closed, said_over, same_both}
 use Rattle.h2_laws_machine.proofs.StreamsSame.{SameAt, same_stream}
 use Rattle.h2_laws_machine.proofs.WaitingOutput.{Waits}
+use Rattle.h2_spec_machine.specs.End.{ReadSoFar}
+use Rattle.h2_spec_log.specs.ItemEffects.{encoder_after_item}
 
 module _ (i : ℕ) (octets : List ℕ) (n : ℕ) (end : Bool) where
   -- the event of DATA is harmless, and shows nothing taken
@@ -114,33 +117,32 @@ pub opened_more : (role : Role) (i : ℕ) (item : Item) (received sent : List It
 opened_more Client i item received sent here = here
 opened_more Server i item received sent here = or_right _ _ here
 
--- DATA that comes after its sender's or before the receiver's end leaves its stream active, by the
+-- What is read after its sender's or before the receiver's end leaves its stream active, by the
 -- flags after it.
-data_is_active : (c : Core) (i : ℕ) (end : Bool) (octets : List ℕ) (pad : Option ℕ)
+pub read_is_active : (c : Core) (i : ℕ) (end : Bool) (item : Item) (event : Event)
+    → ChangesNoStream event → ends i item ≡ end → resets i item ≡ false
     → active_by_items c i ≡ true
     → ((list_any (ends i) c.received || end) && list_any (ends i) c.sent) ≡ false
-    → active_by_items (after_data c i end octets pad) i ≡ true
-data_is_active c i end octets pad alive goes =
-    let n : ℕ = length (payload_of (Data i end octets pad)) in
-    let item : Item = alone (Data i end octets pad) in
+    → active_by_items (reads (report c event) item) i ≡ true
+read_is_active c i end item event q ended unreset alive goes =
     let parts = active_parts c.role i c.received c.sent c.reported alive in
     let lasts = lasts_parts i c.received c.sent parts.lasts in
-    active_reported c.role i (item ∷ c.received) c.sent (DataEvent i octets n end) c.reported
-    ((reported_harmless i octets n end).names i) ∙ active_by_parts c.role i (item ∷ c.received)
-    c.sent c.reported parts.odd (opened_more c.role i item c.received c.sent parts.opened)
-    parts.below (rw (data_ends i end octets pad, or_swapped _ _) goes)
-    (rw (data_unreset i end octets pad i) lasts.unreset) lasts.kept parts.unnamed
+    active_reported c.role i (item ∷ c.received) c.sent event c.reported (q.names i)
+    ∙ active_by_parts _ _ _ _ _ parts.odd (opened_more c.role i item c.received c.sent parts.opened)
+    parts.below (rw (ended, or_swapped end (list_any (ends i) c.received)) goes)
+    (rw unreset lasts.unreset) lasts.kept parts.unnamed
 
--- DATA after which both sides have ended its stream ends it, by the flags after it.
-data_dead : (c : Core) (i : ℕ) (end : Bool) (octets : List ℕ) (pad : Option ℕ)
+-- What is read after which both sides have ended its stream ends it, by the flags after it.
+pub read_is_last : (c : Core) (i : ℕ) (end : Bool) (item : Item) (event : Event)
+    → ends i item ≡ end
     → ((list_any (ends i) c.received || end) && list_any (ends i) c.sent) ≡ true
-    → active_by_items (after_data c i end octets pad) i ≡ false
-data_dead c i end octets pad over =
-    let d : Core = after_data c i end octets pad in
+    → active_by_items (reads (report c event) item) i ≡ false
+read_is_last c i end item event ended over =
+    let d : Core = reads (report c event) item in
     false_from_ne_true (active_by_items d i) (λ alive.
     both_ways (list_any (ends i) d.received && list_any (ends i) d.sent)
     (lasts_parts i d.received d.sent (active_parts d.role i d.received d.sent d.reported
-    alive).lasts).ended (rw (data_ends i end octets pad, or_swapped _ _) over))
+    alive).lasts).ended (rw (ended, or_swapped _ _) over))
 
 -- What an end keeps where DATA is reported on an active stream, by what it makes of the streams.
 data_advances : (h : CoreFacts) (c : Core) (i : ℕ) (end : Bool) (octets : List ℕ) (pad : Option ℕ)
@@ -167,73 +169,62 @@ data_advances h c i end octets pad streams alive within are g =
     (data_common i end octets pad) are (omega (arith, data_gives i end octets pad 0))
     (omega (arith, within, data_takes i end octets pad)) one
 
--- What DATA on an active stream makes of an end, by the test whether the stream is over.
-data_reported_by : (e : End) (log : Log) (decoded : Option Decoded) (i : ℕ) (end : Bool)
-    (octets : List ℕ) (pad : Option ℕ) (b : Bool)
+-- What is read and reported of an active stream makes of an end, by the test whether the stream is
+-- over: the stream is `s` then, and besides the streams the end keeps `reading` and `windows`.
+pub read_by : (e : End) (log : Log) (decoded : Option Decoded) (i : ℕ) (end : Bool) (item : Item)
+    (event : Event) (reading : ReadSoFar) (windows : ConnectionWindows) (s : StreamView) (b : Bool)
     → ((list_any (ends i) log.received || end) && list_any (ends i) log.sent) ≡ b
-    → active_by_items (core log) i ≡ true → length (payload_of (Data i end octets pad)) ≤
-    e.windows.recv
-    → released i log.calls ≤ reported_total (flow_on i) log.reported → Waits e log
-    → Going e (core log)
+    → active_by_items (core log) i ≡ true → ends i item ≡ end → resets i item ≡ false
+    → ChangesNoStream event → s ≡ said (reads (report (core log) event) item) i
+    → ((j : ℕ) → j ≢ i → SameAt j (core log) (reads (report (core log) event) item))
+    → greatest_used (reads (report (core log) event) item) ≡ greatest_used (core log)
+    → processed (report (core log) event) ≡ processed (core log)
+    → ((streams : Streams) → StreamsOf streams (reads (report (core log) event) item)
+    → Advances (record (core_facts e) { reading = reading; streams = streams; windows = windows })
+    (record (reads (report (core log) event) item) {
+      table = table_after log.table decoded item;
+      encoder = encoder_after_item log.encoder item;
+    }))
+    → windows.unreturned ≡ log.unreturned → Waits e log → Going e (core log)
     → After (if b then close_stream (set_stream (record e {
-      windows = record e.windows {
-        recv = e.windows.recv - length (payload_of (Data i end octets pad));
-      };
-    }) i (with_flow (said (core log) i) (length (payload_of (Data i end octets pad))) end)) i 0
-    else set_stream (record e {
-      windows = record e.windows {
-        recv = e.windows.recv - length (payload_of (Data i end octets pad));
-      };
-    }) i (with_flow (said (core log) i) (length (payload_of (Data i end octets pad))) end))
+      reading = reading;
+      windows = windows;
+    }) i s) i 0 else set_stream (record e { reading = reading; windows = windows }) i s)
     (with_reported (with_unreturned (0 + owed_at_close log
-    (with_reported (read log decoded (alone (Data i end octets pad))) (DataEvent i octets
-    (length (payload_of (Data i end octets pad))) end ∷ [])) i)
-    (read log decoded (alone (Data i end octets pad)))) (DataEvent i octets
-    (length (payload_of (Data i end octets pad))) end ∷ []))
+    (with_reported (read log decoded item) (event ∷ [])) i) (read log decoded item)) (event ∷ []))
 unfolding with_reported unreleased
-data_reported_by e log decoded i end octets pad true over alive within rel w g =
+read_by e log decoded i end item event reading windows s true over alive ended unreset q is same
+    greatest shown advances unreturned w g =
     let c : Core = core log in
-    let n : ℕ = length (payload_of (Data i end octets pad)) in
-    let item : Item = alone (Data i end octets pad) in
-    let event : Event = DataEvent i octets n end in
-    let d : Core = after_data c i end octets pad in
-    let s : StreamView = with_flow (said c i) n end in
-    let is : s ≡ said d i = flow_said c i end octets pad rel in
-    let dead : active_by_items d i ≡ false = data_dead c i end octets pad over in
+    let d : Core = reads (report c event) item in
+    let dead : active_by_items d i ≡ false = read_is_last c i end item event ended over in
     let owing = owes_all log (with_reported (read log decoded item) (event ∷ [])) i alive dead in
     let streams : StreamMap = map.remove (map.insert e.streams.entries i (active_entry s)) i in
     returned (record e {
+      reading = reading;
       streams = record e.streams { entries = streams; active_count = e.streams.active_count - 1 };
-      windows = record e.windows { recv = e.windows.recv - n };
+      windows = windows;
     }) (read log decoded item) (event ∷ []) _ _
     (ap (λ (m : ℕ). 0 + m) (ap owed_entry (get_set_same e.streams.entries i (active_entry s))
-    ∙ ap (λ (t : StreamView). t.owed) is ∙ sym owing)) w g.windows.unreturned
-    (data_advances (core_facts e) c i end octets pad _ alive within
-    (streams_closed e.streams i streams e.streams.resets c d (data_same c i end octets pad) alive
-    dead (said_over _ _ (active_entry s) c d g.streams.entries (data_same c i end octets pad) dead
+    ∙ ap (λ (t : StreamView). t.owed) is ∙ sym owing)) w unreturned
+    (advances _ (streams_closed e.streams i streams e.streams.resets c d same alive dead
+    (said_over e.streams.entries i (active_entry s) c d g.streams.entries same dead
     (lasts_parts i c.received c.sent (active_parts c.role i c.received c.sent c.reported
-    alive).lasts).kept) (data_used (report c event) i end octets pad)
-    (taken_kept (is_server c.role) event c.reported (reported_shows i octets n end))
-    g.streams.resets g.streams) g)
-data_reported_by e log decoded i end octets pad false goes alive within rel w g =
+    alive).lasts).kept) greatest shown g.streams.resets g.streams))
+read_by e log decoded i end item event reading windows s false goes alive ended unreset q is same
+    greatest shown advances unreturned w g =
     let c : Core = core log in
-    let n : ℕ = length (payload_of (Data i end octets pad)) in
-    let item : Item = alone (Data i end octets pad) in
-    let event : Event = DataEvent i octets n end in
-    let d : Core = after_data c i end octets pad in
-    let s : StreamView = with_flow (said c i) n end in
-    let still : active_by_items d i ≡ true = data_is_active c i end octets pad alive goes in
-    let streams : StreamMap = map.insert e.streams.entries i (active_entry s) in
-    let same = none_owing log (with_reported (read log decoded item) (event ∷ [])) i
+    let d : Core = reads (report c event) item in
+    let still : active_by_items d i ≡ true =
+    read_is_active c i end item event q ended unreset alive goes in
+    let kept = none_owing log (with_reported (read log decoded item) (event ∷ [])) i
     (still ∙ sym alive) in
     unsettled (record e {
-      streams = record e.streams { entries = streams };
-      windows = record e.windows { recv = e.windows.recv - n };
-    }) (read log decoded item) (event ∷ []) _ (omega arith) w g.windows.unreturned
-    (data_advances (core_facts e) c i end octets pad _ alive within
-    (streams_set e.streams i s c d (data_same c i end octets pad) alive still
-    (flow_said c i end octets pad rel) (data_used (report c event) i end octets pad)
-    (taken_kept _ _ c.reported (reported_shows i octets n end)) refl g.streams) g)
+      reading = reading;
+      streams = record e.streams { entries = map.insert e.streams.entries i (active_entry s) };
+      windows = windows;
+    }) (read log decoded item) (event ∷ []) _ (omega arith) w unreturned
+    (advances _ (streams_set e.streams i s c d same alive still is greatest shown refl g.streams))
 
 -- What DATA on an active stream makes of an end.
 pub data_reported : (e : End) (log : Log) (decoded : Option Decoded) (i : ℕ) (end : Bool)
@@ -245,6 +236,16 @@ pub data_reported : (e : End) (log : Log) (decoded : Option Decoded) (i : ℕ) (
 unfolding with_verdict after_reported replies_to events_of discarded_flow stream_of_item stream_of
     with_sent
 data_reported e log decoded i end octets pad alive within rel w g =
-    rw (stream_said e (core log) i g alive)
-    (data_reported_by e log decoded i end octets pad ((list_any (ends i) log.received || end) &&
-    list_any (ends i) log.sent) refl alive within rel w g)
+    let c : Core = core log in
+    let n : ℕ = length (payload_of (Data i end octets pad)) in
+    let event : Event = DataEvent i octets n end in
+    rw (stream_said e c i g alive)
+    (read_by e log decoded i end (alone (Data i end octets pad)) event e.reading
+    (record e.windows { recv = e.windows.recv - n }) (with_flow (said c i) n end)
+    ((list_any (ends i) log.received || end) && list_any (ends i) log.sent) refl alive
+    (data_ends i end octets pad) (data_unreset i end octets pad i)
+    (reported_harmless i octets n end) (flow_said c i end octets pad rel)
+    (data_same c i end octets pad) (data_used (report c event) i end octets pad)
+    (taken_kept (is_server c.role) event c.reported (reported_shows i octets n end))
+    (λ streams are. data_advances (core_facts e) c i end octets pad streams alive within are g)
+    g.windows.unreturned w g)

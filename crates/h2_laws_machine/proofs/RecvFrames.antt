@@ -1,16 +1,16 @@
 -- After a frame a machine represents the log with it.
+use Rattle.h2_laws_machine.proofs.Names
+use Names.{◌≡◌, with_frame, took_frame, with_begun, after_step, Represents, TakesFrame, Keeps-frame}
+use Names.{◌≢◌, ℕ, ◌+◌, ◌≤◌, not, ◌∷◌, ap, sym, ◌∙◌, inl, inr, Log, used, End}
+use Names.{◌==◌, Bool, true, List, [], ◌++◌, Some, None, refl, Code, Item, Begun, Role, View, IsLog}
+use Names.{false, begins_block, grouping_step, after_frame, Continuation, TakesOctets, IsDecodedFor}
+use Names.{if◌then◌else◌, length-append, settings_count, last_processed, frame_step, log_represents}
+use Names.{length, Option, arith, ne_eqb, Frame, GoAway, alone, Values, Decoded, grouped, Headers}
+use Names.{subst, log_view, is_server, is_used, FrameStep, completes, with_step, took_one, end_view}
+use Names.{greatest_processed, greatest_number, fails_with, KeepsConnectionWindow, expected_preface}
 use Rattle.h2_block.specs.declared.fault.BlockFault.{BlockFault}
 use Rattle.h2_wire.specs.Streams.{Limits, AreFrames, IsFrame}
-use Rattle.h2_laws_machine.proofs.Names
-use Names.{◌≡◌, ◌≢◌, ℕ, ◌+◌, ◌≤◌, ◌==◌, not, Bool, true, false, List, [], if◌then◌else◌, ◌∷◌, ◌++◌}
-use Names.{length, Option, Some, None, refl, ap, sym, ◌∙◌, subst, inl, inr, arith, length-append}
-use Names.{ne_eqb, Code, Frame, GoAway, Item, alone, Begun, Role, Values, greatest_processed}
-use Names.{log_view, is_server, settings_count, greatest_number, is_used, Log, last_processed, View}
-use Names.{Decoded, FrameStep, fails_with, begins_block, completes, frame_step, grouping_step}
-use Names.{grouped, limits_from, used, with_step, with_frame, took_frame, IsLog, took_one, End}
-use Names.{end_view, with_begun, after_step, after_frame, Represents, log_represents}
-use Names.{KeepsConnectionWindow, Headers, Continuation, expected_preface, TakesOctets, TakesFrame}
-use Names.{IsDecodedFor, Keeps-frame}
+use Rattle.h2_spec_log.specs.LogSteps.{limits_from}
 use Rattle.h2_laws_machine.proofs.ConservedBySteps.{frame_holds, holds, is_whole}
 use Rattle.h2_laws_machine.proofs.FirstSettings.{started_with_settings}
 use Rattle.h2_laws_machine.proofs.LogCore.{core, Going, going, runs}

@@ -1,6 +1,4 @@
 -- After an item, whatever its verdict, an end keeps what its log says.
-use Rattle.h2_frame.specs.Frames.{Priority, Unknown}
-use Rattle.h2_laws_log.proofs.ReaderStates.{state_active, state_is_active}
 use Rattle.h2_laws_machine.proofs.Names
 use Names.{◌≡◌, ◌≢◌, ℕ, ◌≤◌, ◌<◌, ◌%◌, ◌==◌, nat_le, not, Bool, true, false, ◌&&◌, if◌then◌else◌, ℤ}
 use Names.{List, length, Option, Some, None, is_some, refl, ap, ◌∙◌, inl, inr, arith, list_any}
@@ -10,8 +8,11 @@ use Names.{alone, block, is_goaway, log_view, is_server, settings_count, Active,
 use Names.{is_closed_by_us, greatest_number, Log, state, Verdict, ConnectionFault, StreamFault}
 use Names.{NoEvent, Reported, Decoded, verdict_by_rules, verdict_of, verdict_of_block, exceeds}
 use Names.{replies_to, with_verdict, Role, Client, Server, End, after_verdict, active_parts}
-use Names.{active_used, resets_used, idle_unused, block_below, within_window, Headers, Continuation}
+use Names.{active_used, resets_used, block_below, within_window, Headers, Continuation}
 use Names.{connection_recv_window, increments_read, closed_by_us_is, closed_used}
+use Rattle.h2_frame.specs.Frames.{Priority, Unknown}
+use Rattle.h2_laws_log.proofs.ReaderStates.{state_active, state_is_active}
+use Rattle.h2_laws_log.proofs.ReplyInvariant.{idle_unused}
 use Rattle.h2_laws_machine.proofs.CallOpen.{IsClear}
 use Rattle.h2_laws_machine.proofs.LogCore.{Core, core, Going, active_by_items, greatest_used}
 use Rattle.h2_laws_machine.proofs.RecvBlocks.{later_reported, block_ignored, closed_dead}
@@ -28,12 +29,11 @@ use Rattle.h2_laws_machine.proofs.RecvSettingsAck.{ack_reported}
 use Rattle.h2_laws_machine.proofs.RecvStreamFaults.{block_fault, data_fault, update_fault}
 use Rattle.h2_laws_machine.proofs.RecvStreamItems.{goaway_reported, update_ignored}
 use Rattle.h2_laws_machine.proofs.RecvVerdict.{Sound, IsUnread, recv_same}
-use Rattle.h2_laws_machine.proofs.RecvVerdictCases.{block_is_reported, block_is_fault}
-use Rattle.h2_laws_machine.proofs.RecvVerdictCases.{block_is_ignored, data_is_reported}
-use Rattle.h2_laws_machine.proofs.RecvVerdictCases.{data_is_fault, data_is_ignored}
-use Rattle.h2_laws_machine.proofs.RecvVerdictCases.{reset_is_reported, reset_is_ignored}
-use Rattle.h2_laws_machine.proofs.RecvVerdictCases.{reset_is_fault, update_is_fault}
-use Rattle.h2_laws_machine.proofs.RecvVerdictCases.{update_is_reported}
+use Rattle.h2_laws_machine.proofs.RecvVerdictCases.{block_is_reported, update_is_reported}
+use Rattle.h2_laws_machine.proofs.RecvVerdictCases.{block_is_fault, reset_is_fault}
+use Rattle.h2_laws_machine.proofs.RecvVerdictCases.{block_is_ignored, reset_is_reported}
+use Rattle.h2_laws_machine.proofs.RecvVerdictCases.{data_is_reported, reset_is_ignored}
+use Rattle.h2_laws_machine.proofs.RecvVerdictCases.{data_is_fault, data_is_ignored, update_is_fault}
 use Rattle.h2_laws_machine.proofs.UpInvariantLogs.{rules_is}
 use Rattle.h2_laws_machine.proofs.UpInvariantReads.{above_none, fault_reported, fault_resets}
 use Rattle.h2_laws_machine.proofs.UpInvariantReads.{reported_by}

@@ -11,9 +11,8 @@ use Names.{read, with_sent, with_verdict, events_of, discarded_flow, StreamView,
 use Names.{active_entry, with_table_after, after_reported, active_by_parts, decoded_fields}
 use Rattle.h2_laws_machine.proofs.CallOpen.{IsClear, count_added, none_above, untouched_window}
 use Rattle.h2_laws_machine.proofs.CallOpen.{end_or}
-use Rattle.h2_laws_machine.proofs.LogCore.{StreamsOf, said, Core, core, CoreFacts, core_facts}
-use Rattle.h2_laws_machine.proofs.LogCore.{Advances, Going, confirmed, active_by_items}
-use Rattle.h2_laws_machine.proofs.LogCore.{greatest_used}
+use Rattle.h2_laws_machine.proofs.LogCore.{StreamsOf, core_facts, active_by_items, greatest_used}
+use Rattle.h2_laws_machine.proofs.LogCore.{said, Core, core, CoreFacts, Advances, Going, confirmed}
 use Rattle.h2_laws_machine.proofs.RecvBlocks.{with_block, block_same, block_on, block_gives}
 use Rattle.h2_laws_machine.proofs.RecvBlocks.{block_ends, block_resets, fields_harmless}
 use Rattle.h2_laws_machine.proofs.RecvBlocks.{fields_flow, block_advances}

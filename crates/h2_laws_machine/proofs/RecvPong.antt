@@ -1,10 +1,11 @@
 -- The answer to an own PING that awaits it.
 use Rattle.h2_laws_machine.proofs.Names
 use Names.{◌≡◌, ℕ, ◌≤◌, ◌+◌, nat_lt, true, false, List, ◌∷◌, Option, None, refl, arith, le-ltb}
-use Names.{Ping, stream_of, Item, alone, stream_of_item, one_ping, total, Event, PongEvent, flow_on}
-use Names.{one_acked, one_pong, reported_total, reports_unprocessed, processed_by, is_server, Log}
-use Names.{Reported, Decoded, replies_to, with_sent, with_verdict, events_of, discarded_flow, End}
+use Names.{Ping, stream_of, Item, alone, stream_of_item, one_ping, total, Event, flow_on, one_acked}
+use Names.{one_pong, reported_total, reports_unprocessed, processed_by, is_server, Log, Reported}
+use Names.{Decoded, replies_to, with_sent, with_verdict, events_of, discarded_flow, End}
 use Names.{after_reported, RepresentsOwn}
+use Rattle.h2_spec_log.specs.Events.{PongEvent}
 use Rattle.h2_laws_machine.proofs.LogCore.{Core, core, CoreFacts, core_facts, Advances, Going}
 use Rattle.h2_laws_machine.proofs.LogCore.{confirmed, PingOf}
 use Rattle.h2_laws_machine.proofs.RecvConnectionItems.{plain_quiet}

@@ -1,12 +1,11 @@
 -- What reading an item makes of each subject of an end, by what it makes of the streams.
 use Rattle.h2_laws_machine.proofs.Names
-use Names.{◌≡◌, ℕ, ◌+◌, true, false, List, [], ◌∷◌, refl, sym, ◌∙◌, arith, zero-add, list_any}
-use Names.{both_ways, false_from_ne_true, Item, least_goaway, allowed_by, data_on, data_of}
-use Names.{increment_on, is_block_on, ends, resets, is_goaway, total, greatest_block, Event}
-use Names.{value_read, one_settings, settings_count, openings, is_active, is_over, first_window}
-use Names.{given_on, given_on_connection, ConnectionWindows, PeerSettings, GoAways, Streams}
-use Names.{RepresentsWindows, RepresentsPeer, RepresentsGoAways, Role, Client, Server, active_parts}
-use Names.{active_before, value_kept}
+use Names.{◌≡◌, ℕ, ◌+◌, List, [], ◌∷◌, refl, sym, ◌∙◌, arith, Item, ends, total, Event, Role}
+use Names.{true, least_goaway, increment_on, one_settings, first_window, PeerSettings, active_parts}
+use Names.{false, list_any, data_of, openings, is_over, given_on, GoAways, Streams, Client, Server}
+use Names.{zero-add, allowed_by, data_on, is_block_on, is_goaway, value_read, is_active, value_kept}
+use Names.{both_ways, false_from_ne_true, given_on_connection, ConnectionWindows, RepresentsWindows}
+use Names.{resets, greatest_block, settings_count, RepresentsPeer, RepresentsGoAways, active_before}
 use Rattle.h2_laws_machine.proofs.ItemsApart.{IsApart}
 use Rattle.h2_laws_machine.proofs.LogCore.{Core, CoreFacts, Advances, StreamsOf, active_by_items}
 use Rattle.h2_laws_machine.proofs.StreamsSame.{SameAt, streams_same}

@@ -2,14 +2,13 @@
 -- and of its log.
 use Rattle.std.specs.FinMap as map
 use Rattle.h2_laws_machine.proofs.Names
-use Names.{◌≡◌, ◌≢◌, ℕ, ◌+◌, ◌-◌, ◌≤◌, ◌%◌, ◌==◌, nat_lt, Bool, true, false, if◌then◌else◌, List}
-use Names.{[], ◌∷◌, Option, None, is_some, refl, ap, sym, ◌∙◌, inl, inr, arith, list_any, cases_eq}
-use Names.{lt-ltb, eq-eqb, Code, code_number, Reset, Item, alone, block, Role, Client, Server}
-use Names.{stream_of_item, resets, Event, ResetEvent, greatest_processed, processed_by, is_server}
-use Names.{count_below, Log, StreamFault, Decoded, replies_to, read, with_sent, with_verdict}
-use Names.{events_of, discarded_flow, End, Streams, StreamEntry, end_view, reset_entry, stream_in}
-use Names.{stream_at, owed_entry, with_table_after, queue_output, after_stream_fault, is_fresh}
-use Names.{is_one, entry_by}
+use Names.{◌≡◌, nat_lt, Option, is_some, lt-ltb, eq-eqb, Client, Server, Decoded, Streams, entry_by}
+use Names.{◌≢◌, ◌+◌, ◌-◌, ◌≤◌, ◌%◌, ◌∷◌, ap, sym, ◌∙◌, inl, inr, Item, Role, Log, read, End}
+use Names.{ℕ, Bool, true, List, None, refl, arith, Code, Reset, alone, block, resets, Event, is_one}
+use Names.{◌==◌, list_any, cases_eq, with_sent, events_of, end_view, stream_in, stream_at, is_fresh}
+use Names.{false, if◌then◌else◌, code_number, processed_by, count_below, with_verdict, queue_output}
+use Names.{[], ResetEvent, is_server, StreamFault, replies_to, StreamEntry, reset_entry, owed_entry}
+use Names.{stream_of_item, greatest_processed, discarded_flow, with_table_after, after_stream_fault}
 use Rattle.h2_laws_machine.proofs.CallOpen.{none_above, count_high}
 use Rattle.h2_laws_machine.proofs.CallReset.{reset_here}
 use Rattle.h2_laws_machine.proofs.LogCore.{StreamsOf, Core, core, CoreFacts, core_facts, Advances}
@@ -19,9 +18,8 @@ use Rattle.h2_laws_machine.proofs.ItemsApart.{block_apart}
 use Rattle.h2_laws_machine.proofs.OwedAtClose.{dead_owing}
 use Rattle.h2_laws_machine.proofs.RecvOpenings.{MayBeOpened, used_here}
 use Rattle.h2_laws_machine.proofs.RecvReturnedCredit.{After, returned}
-use Rattle.h2_laws_machine.proofs.RecvStreamFaults.{with_fault, fault_same, fault_dead}
-use Rattle.h2_laws_machine.proofs.RecvStreamFaults.{fault_resets, fault_used, fault_advances}
-use Rattle.h2_laws_machine.proofs.RecvStreamFaults.{fault_shows}
+use Rattle.h2_laws_machine.proofs.RecvStreamFaults.{with_fault, fault_same, fault_dead, fault_used}
+use Rattle.h2_laws_machine.proofs.RecvStreamFaults.{fault_resets, fault_advances, fault_shows}
 use Rattle.h2_laws_machine.proofs.StreamsSame.{said_reset, SameAt, count_same}
 use Rattle.h2_laws_machine.proofs.WaitingOutput.{Waits, wrote_connection}
 

@@ -1,15 +1,14 @@
 -- The peer's SETTINGS are applied: windows of streams, how many streams are allowed, the encoder.
-use Rattle.h2_spec_machine.specs.Machine.{first_allowed}
 use Rattle.h2_laws_machine.proofs.Names
-use Names.{◌≡◌, ℕ, ◌+◌, ◌==◌, not, min, Bool, true, false, if◌then◌else◌, pos, ◌+ℤ◌, ◌-ℤ◌, List, []}
-use Names.{◌∷◌, Option, refl, ap, sym, ◌∙◌, arith, zero-add, list_any, eqb-true, ne_eqb}
-use Names.{EncoderState, Settings, stream_of, Item, alone, stream_of_item, data_on, data_of}
-use Names.{increment_on, is_block_on, ends, resets, is_goaway, total, greatest_block, value_read}
-use Names.{value_after, one_settings, settings_count, first_window, given_on, Log, allowed_by}
-use Names.{least_goaway, StreamView, NoEvent, Decoded, replies_to, read, with_sent, with_verdict}
-use Names.{events_of, discarded_flow, End, StreamEntry, active_entry, end_view, each_entry}
-use Names.{shifted_entry, after_ignored, entry_by, value_kept, value_changed, changed_entry}
-use Names.{get_each, encoder_after_settings}
+use Names.{◌≡◌, Bool, true, false, ◌+ℤ◌, ◌-ℤ◌, Option, arith, ne_eqb, alone, resets, total, Decoded}
+use Names.{ℕ, is_block_on, value_read, value_after, allowed_by, StreamView, replies_to, StreamEntry}
+use Names.{◌+◌, not, min, pos, List, [], ◌∷◌, refl, ap, sym, ◌∙◌, Item, ends, Log, read, End}
+use Names.{◌==◌, increment_on, one_settings, first_window, least_goaway, with_verdict, active_entry}
+use Names.{if◌then◌else◌, EncoderState, shifted_entry, after_ignored, value_changed, changed_entry}
+use Names.{zero-add, list_any, stream_of, is_goaway, with_sent, events_of, each_entry, value_kept}
+use Names.{eqb-true, Settings, data_on, data_of, given_on, NoEvent, end_view, entry_by, get_each}
+use Names.{stream_of_item, greatest_block, settings_count, discarded_flow, encoder_after_settings}
+use Rattle.h2_spec_machine.specs.Machine.{first_allowed}
 use Rattle.h2_laws_machine.proofs.EachStream.{each_by, shifted}
 use Rattle.h2_laws_machine.proofs.LogCore.{said, Core, core, CoreFacts, core_facts, Advances, Going}
 use Rattle.h2_laws_machine.proofs.LogCore.{StreamsOf, active_by_items}

@@ -2,12 +2,13 @@
 use Rattle.h2_laws_machine.proofs.Names
 use Names.{◌≡◌, ℕ, ◌≤◌, ◌<◌, ◌+◌, ◌-◌, Bool, true, false, nat_lt, max, pos, ◌+ℤ◌, ◌-ℤ◌, List, []}
 use Names.{◌∷◌, Option, Some, None, is_some, refl, ap, sym, ◌∙◌, arith, list_any, ltb-true, le-ltb}
-use Names.{Settings, stream_of, Item, alone, stream_of_item, resets, Event, AckedEvent, flow_on}
-use Names.{one_acked, one_pong, reported_total, reports_unprocessed, processed_by, Values}
-use Names.{is_server, settings_count, own_value, first_window, granted_on, Log, released, Reported}
-use Names.{Decoded, replies_to, with_sent, with_verdict, events_of, discarded_flow, End}
-use Names.{StreamEntry, active_entry, StreamView, each_entry, recv_shifted_entry, after_reported}
-use Names.{AwaitsValues, entry_by, changed_entry, get_each}
+use Names.{Settings, stream_of, Item, alone, stream_of_item, resets, Event, flow_on, one_acked}
+use Names.{one_pong, reported_total, reports_unprocessed, processed_by, Values, is_server}
+use Names.{settings_count, own_value, first_window, granted_on, Log, released, Reported, Decoded}
+use Names.{replies_to, with_sent, with_verdict, events_of, discarded_flow, End, StreamEntry}
+use Names.{active_entry, StreamView, each_entry, recv_shifted_entry, after_reported, AwaitsValues}
+use Names.{entry_by, changed_entry, get_each}
+use Rattle.h2_spec_log.specs.Events.{AckedEvent}
 use Rattle.h2_laws_machine.proofs.EachStream.{each_by, shifted}
 use Rattle.h2_laws_machine.proofs.LogCore.{said, Core, core, CoreFacts, core_facts, Advances, Going}
 use Rattle.h2_laws_machine.proofs.LogCore.{confirmed, active_by_items}

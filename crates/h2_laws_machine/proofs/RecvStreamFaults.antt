@@ -1,17 +1,17 @@
 -- An item that is a fault of its stream resets it at an end as at its log.
 use Rattle.std.specs.FinMap as map
 use Rattle.h2_laws_machine.proofs.Names
-use Names.{◌≡◌, ◌≢◌, ℕ, ◌+◌, ◌-◌, ◌≤◌, ◌%◌, ◌==◌, nat_lt, Bool, true, false, ◌&&◌, if◌then◌else◌}
-use Names.{List, [], ◌∷◌, length, Option, is_some, refl, ap, sym, ◌∙◌, arith, zero-add, both_ways}
-use Names.{false_from_ne_true, and_right, le-ltb, ne_eqb, Code, code_number, Data, Reset}
-use Names.{WindowUpdate, payload_of, stream_of, Item, alone, block, stream_of_item, data_of}
-use Names.{increment_on, one_reset, total, Event, ResetEvent, flow_on, one_acked, one_pong}
-use Names.{reported_total, reports_unprocessed, processed_by, is_server, Log, unreleased, released}
-use Names.{StreamFault, Decoded, replies_to, read, with_sent, with_reported, with_unreturned}
-use Names.{owed_at_close, with_verdict, events_of, discarded_flow, table_after, encoder_after_item}
-use Names.{StreamView, End, Streams, end_view, reset_entry, stream_at, owed_entry, with_table_after}
-use Names.{queue_output, reset_stream, after_stream_fault, is_fresh, is_one, total_one}
-use Names.{active_parts, lasts_parts, chosen_low, gives_elsewhere}
+use Names.{◌≡◌, one_pong, is_server, released, with_sent, events_of, end_view, stream_at, total_one}
+use Names.{◌≢◌, ◌==◌, Bool, true, false, ◌&&◌, List, refl, arith, Reset, alone, block, total, Event}
+use Names.{ℕ, if◌then◌else◌, WindowUpdate, increment_on, processed_by, with_reported, owed_at_close}
+use Names.{◌+◌, ◌-◌, ◌≤◌, ◌%◌, [], ◌∷◌, ap, sym, ◌∙◌, Code, Data, Item, Log, read, End}
+use Names.{nat_lt, stream_of_item, reported_total, with_unreturned, discarded_flow, gives_elsewhere}
+use Names.{length, code_number, StreamFault, with_verdict, queue_output, reset_stream, active_parts}
+use Names.{Option, is_some, le-ltb, ne_eqb, data_of, flow_on, Decoded, Streams, is_fresh, is_one}
+use Names.{zero-add, and_right, stream_of, one_reset, one_acked, StreamView, owed_entry, chosen_low}
+use Names.{both_ways, false_from_ne_true, reports_unprocessed, with_table_after, after_stream_fault}
+use Names.{payload_of, ResetEvent, unreleased, replies_to, table_after, reset_entry, lasts_parts}
+use Rattle.h2_spec_log.specs.ItemEffects.{encoder_after_item}
 use Rattle.h2_laws_machine.proofs.CallReset.{others_same, reset_here}
 use Rattle.h2_laws_machine.proofs.LogCore.{StreamsOf, Core, core, CoreFacts, core_facts, Advances}
 use Rattle.h2_laws_machine.proofs.LogCore.{Going, active_by_items, kept_back, greatest_used}

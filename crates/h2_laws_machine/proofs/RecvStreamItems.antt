@@ -1,18 +1,17 @@
 -- What GOAWAY, WINDOW_UPDATE and RST_STREAM make of an end and of its log.
 use Rattle.std.specs.FinMap as map
+use Rattle.h2_laws_machine.proofs.Names
+use Names.{◌≡◌, zero-add, cases_eq, log_view, one_acked, with_sent, events_of, stream_at, last_none}
+use Names.{ℕ, ◌≤◌, ◌+◌, pos, [], ◌∷◌, ap, sym, ◌∙◌, inl, inr, ends, Log, read, End}
+use Names.{Bool, processed_by, one_settings, first_window, least_goaway, with_verdict, active_entry}
+use Names.{true, ◌==◌, ◌+ℤ◌, ◌-ℤ◌, List, Some, refl, arith, ints, Item, alone, resets, total, Event}
+use Names.{false, stream_of, is_block_on, is_goaway, value_read, replies_to, set_stream, least_last}
+use Names.{if◌then◌else◌, WindowUpdate, increment_on, with_reported, owed_at_close, after_ignored}
+use Names.{Option, ne_eqb, GoAway, data_of, flow_on, one_pong, given_on, NoEvent, Reported, Decoded}
+use Names.{stream_of_item, reports_unprocessed, greatest_number, with_unreturned, widen_send_window}
+use Names.{data_on, greatest_block, discarded_flow, after_reported, gives_elsewhere, increment_here}
 use Rattle.h2_spec_log.specs.Events.{GoAwayEvent}
 use Rattle.h2_laws_log.proofs.LogViewLemmas.{least_by}
-use Rattle.h2_laws_machine.proofs.Names
-use Names.{◌≡◌, ℕ, ◌≤◌, ◌+◌, Bool, true, false, ◌==◌, if◌then◌else◌, pos, ◌+ℤ◌, ◌-ℤ◌, List, [], ◌∷◌}
-use Names.{Option, Some, refl, ap, sym, ◌∙◌, inl, inr, arith, zero-add, ints, cases_eq, ne_eqb}
-use Names.{GoAway, WindowUpdate, stream_of, Item, alone, log_view, stream_of_item, data_on, data_of}
-use Names.{increment_on, is_block_on, ends, resets, is_goaway, total, greatest_block, Event}
-use Names.{flow_on, one_acked, one_pong, reports_unprocessed, processed_by, value_read}
-use Names.{one_settings, first_window, given_on, least_goaway, Log, greatest_number, NoEvent}
-use Names.{Reported, Decoded, replies_to, read, with_sent, with_reported, with_unreturned}
-use Names.{owed_at_close, with_verdict, events_of, discarded_flow, End, active_entry, stream_at}
-use Names.{widen_send_window, set_stream, after_ignored, after_reported, last_none, least_last}
-use Names.{gives_elsewhere, increment_here}
 use Rattle.h2_laws_machine.proofs.ItemsApart.{update_apart}
 use Rattle.h2_laws_machine.proofs.LogCore.{said, Core, core, CoreFacts, core_facts, Advances, Going}
 use Rattle.h2_laws_machine.proofs.LogCore.{active_by_items, greatest_used}

@@ -1,14 +1,15 @@
 -- A stream that the peer doesn't process is reported at an end as at its log.
 use Rattle.std.specs.FinMap as map
 use Rattle.h2_laws_machine.proofs.Names
-use Names.{◌≡◌, ◌≢◌, ℕ, ◌+◌, ◌-◌, true, false, not, ◌==◌, List, [], ◌∷◌, length, None, refl, ap}
-use Names.{sym, ◌∙◌, zero-add, list_any, both_ways, eq-eqb, ne_eqb, false_from_ne_true, or_left}
-use Names.{cond_both, Log, active, unreleased, released, next_unprocessed, Values, Event}
-use Names.{UnprocessedEvent, flow_on, one_acked, one_pong, reported_total, reports_unprocessed}
-use Names.{processed_by, is_server, took_none, with_reported, with_sent, with_unreturned}
-use Names.{owed_at_close, reported_one, End, owed_entry, return_credit, add_unreturned}
-use Names.{close_unprocessed, Represents, RepresentsWhileUp, credit_cases, active_parts}
-use Names.{lasts_parts, next_is_active, KeepsConnectionWindow, Frame}
+use Names.{◌≡◌, both_ways, cond_both, unreleased, owed_entry, Represents, active_parts, lasts_parts}
+use Names.{◌≢◌, ℕ, ◌+◌, ◌-◌, not, [], ◌∷◌, refl, ap, sym, ◌∙◌, Log, End}
+use Names.{true, zero-add, list_any, released, one_acked, one_pong, is_server, took_none, with_sent}
+use Names.{false, false_from_ne_true, reports_unprocessed, close_unprocessed, KeepsConnectionWindow}
+use Names.{◌==◌, List, length, None, eq-eqb, ne_eqb, or_left, active, Values, Event, flow_on, Frame}
+use Names.{next_unprocessed, UnprocessedEvent, reported_total, with_unreturned, RepresentsWhileUp}
+use Names.{processed_by, with_reported, owed_at_close, reported_one, return_credit, add_unreturned}
+use Rattle.h2_laws_log.proofs.CreditCases.{credit_cases}
+use Rattle.h2_laws_log.proofs.NextStreams.{next_is_active}
 use Rattle.h2_laws_machine.proofs.ConservedBySteps.{holds, is_whole, ended, lacks_none}
 use Rattle.h2_laws_machine.proofs.LogCore.{Core, core, CoreFacts, core_facts, Advances, Going}
 use Rattle.h2_laws_machine.proofs.LogCore.{active_by_items, kept_back, going, runs}

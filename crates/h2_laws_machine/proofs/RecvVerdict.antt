@@ -1,6 +1,5 @@
 -- The verdict of an item is the same at an end as at its log.
 use Rattle.std.specs.FinMap as map
-use Rattle.h2_spec_log.specs.States.{state_by, stream_state}
 use Rattle.h2_laws_machine.proofs.Names
 use Names.{◌≡◌, ◌≢◌, ℕ, ◌≤◌, ◌+◌, ◌%◌, Bool, true, false, not, ◌==◌, nat_lt, nat_le, ◌&&◌, ◌||◌}
 use Names.{pos, Option, Some, None, refl, ap, sym, ◌∙◌, arith, list_any, nat_tests, end_view, End}
@@ -11,6 +10,7 @@ use Names.{settings_count, openings, is_used, is_above, is_closed_by_us, when, g
 use Names.{granted_on_connection, Log, active, released, unreleased, active_count, max_streams}
 use Names.{Decoded, verdict_of_block, AllowedHistory, StreamView, entry_by, goaway_sent_last}
 use Names.{resets_used, active_used, when_some, connection_send_window, connection_recv_window}
+use Rattle.h2_spec_log.specs.States.{state_by, stream_state}
 use Rattle.h2_laws_machine.proofs.LogCore.{said, Core, core, Going, confirmed, active_by_items}
 use Rattle.h2_laws_machine.proofs.LogCore.{greatest_used, StreamsOf}
 use Rattle.h2_laws_machine.proofs.ViewsAgree.{stream_same, max_streams_agree, window_agrees}

@@ -1,20 +1,22 @@
 -- The verdict of an item after the limits, and the number that it opens, are the same at an end as
 -- at its log.
 use Rattle.std.specs.FinMap as map
+use Rattle.h2_laws_machine.proofs.Names
+use Names.{ℤ, ◌≡◌, ℕ, ◌+◌, ◌∷◌, ap, ap₂, sym, inl, inr, Data, Ping, Item, End, Log}
+use Names.{◌∙◌, list_any, and_from, or_cases, both_ways, nat_tests, stream_at, any_above, both_same}
+use Names.{Bool, and_parts, payload_of, is_block_on, value_read, unreleased, verdict_of, StreamView}
+use Names.{true, false, ◌==◌, List, [], Some, refl, arith, Reset, alone, block, total, State, state}
+use Names.{nat_lt, above_by_shift, greatest_window, update_verdict, settings_fault, is_awaited_ping}
+use Names.{if◌then◌else◌, WindowUpdate, active_entry, increment_on, reset_verdict, exceeds_stream}
+use Names.{length, StreamEntry, reset_entry, first_window, data_verdict, overflows_by, active_parts}
+use Names.{Option, data_on, resets, active, Verdict, NoEvent, Decoded, exceeds, ended_in, entry_by}
+use Names.{or_left, connection_update_verdict, verdict_by_rules, overflows_stream, verdict_of_fault}
+use Names.{or_right, eqb-true, Settings, end_view, state_at, log_view, openings, given_on, Reported}
 use Rattle.h2_spec_log.specs.Windows.{is_above_greatest}
 use Rattle.h2_spec_machine.proofs.SortedEntries.{above_found, any_found}
-use Rattle.h2_laws_machine.proofs.Names
-use Names.{ℤ, ◌∙◌, ◌≡◌, ℕ, ◌+◌, Bool, true, false, ◌==◌, nat_lt, if◌then◌else◌, List, [], ◌∷◌}
-use Names.{length, Option, Some, refl, ap, ap₂, sym, inl, inr, arith, list_any, and_parts, and_from}
-use Names.{or_cases, or_left, or_right, both_ways, eqb-true, nat_tests, Data, Reset, Settings, Ping}
-use Names.{WindowUpdate, payload_of, Item, alone, block, end_view, End, stream_at, state_at}
-use Names.{StreamEntry, active_entry, reset_entry, any_above, above_by_shift, log_view, overflows}
-use Names.{data_on, increment_on, is_block_on, resets, total, value_read, State, openings}
-use Names.{any_block, greatest_window, first_window, given_on, Log, active, state, unreleased}
-use Names.{Verdict, data_verdict, reset_verdict, connection_update_verdict, update_verdict}
-use Names.{Reported, NoEvent, Decoded, exceeds, overflows_by, settings_fault, verdict_by_rules}
-use Names.{verdict_of, StreamView, ended_in, entry_by, int_above, active_parts, exceeds_stream}
-use Names.{overflows_stream, verdict_of_fault, is_awaited_ping, both_same}
+use Rattle.h2_spec_log.specs.LogView.{overflows}
+use Rattle.h2_spec_log.specs.States.{any_block}
+use Rattle.h2_laws_log.proofs.LogViewLemmas.{int_above}
 use Rattle.h2_laws_machine.proofs.LogCore.{said, Core, core, Going}
 use Rattle.h2_laws_machine.proofs.RecvVerdict.{Sound, active_said, state_same, block_verdict_same}
 use Rattle.h2_laws_machine.proofs.RecvVerdict.{recv_same, send_same}

@@ -1,12 +1,12 @@
 -- After octets that end no frame, or that make the connection fail, a machine represents the log
 -- with them.
-use Rattle.h2_wire.specs.declared.fault.WireFault.{WireFault}
 use Rattle.h2_laws_machine.proofs.Names
-use Names.{◌≡◌, ℕ, ◌≤◌, true, List, None, sym, subst, Code, InternalError, wire_fault_code, Role}
-use Names.{Values, is_server, Log, active, last_processed, used, with_failure, took_part}
-use Names.{took_fault, took_out_of_memory, IsLog, took_some, met_fault, ran_out_of_memory, Streams}
-use Names.{End, end_view, fail, Represents, RepresentsWhileUp, KeepsConnectionWindow, TakesOctets}
-use Names.{TakesPart, TakesFault, MayRunOutOfMemory}
+use Names.{◌≡◌, ◌≤◌, true, List, None, sym, Code, Role, Log, used, IsLog, End, fail}
+use Names.{ℕ, InternalError, wire_fault_code, last_processed, with_failure, Represents, TakesOctets}
+use Names.{subst, Values, is_server, active, took_some, met_fault, Streams, TakesPart, TakesFault}
+use Names.{ran_out_of_memory, end_view, RepresentsWhileUp, KeepsConnectionWindow, MayRunOutOfMemory}
+use Rattle.h2_wire.specs.declared.fault.WireFault.{WireFault}
+use Rattle.h2_spec_log.specs.LogSteps.{took_part, took_fault, took_out_of_memory}
 use Rattle.h2_laws_machine.proofs.GoAwaysSent.{active_processed}
 use Rattle.h2_laws_machine.proofs.LogCore.{core, StreamsOf, going, runs}
 use Rattle.h2_laws_machine.proofs.SentConnectionItems.{failing_streams}

@@ -1,9 +1,5 @@
 -- What the rules say of an end, by the verdict on an item or by a call that isn't refused: which
 -- stream is active, which number was used, and what fits.
-use Rattle.std.proofs.Common.{ltb-true, ltb-false, eqb-true}
-use Rattle.h2_laws_log.proofs.RulesByTests.{second_false, not_above, NoConnectionFault, few_of_own}
-use Rattle.h2_laws_log.proofs.RulesByTests.{within_limits, fits_by}
-use Rattle.h2_spec_log.specs.ItemRules.{is_stream_fault}
 use Rattle.h2_laws_machine.proofs.Names
 use Names.{◌≡◌, ◌≢◌, ℕ, ◌+◌, ◌<◌, ◌≤◌, ◌==◌, ◌%◌, nat_lt, nat_le, ◌&&◌, ◌||◌, if◌then◌else◌, Bool}
 use Names.{true, false, List, pos, length, Option, Some, None, refl, subst, ap, inl, inr, arith}
@@ -14,6 +10,10 @@ use Names.{is_server, Idle, Active, greatest_number, Verdict, StreamFault, NoEve
 use Names.{connection_update_verdict, update_verdict, StreamView, greatest_window, end_view, End}
 use Names.{StreamEntry, active_entry, reset_entry, stream_in, stream_at, state_by_entry, state_at}
 use Names.{number_after, is_fresh, NoneAboveHighest, size_of, overflows_stream, max_frame_size_sent}
+use Rattle.std.proofs.Common.{ltb-true, ltb-false, eqb-true}
+use Rattle.h2_laws_log.proofs.RulesByTests.{second_false, not_above, NoConnectionFault, few_of_own}
+use Rattle.h2_laws_log.proofs.RulesByTests.{within_limits, fits_by}
+use Rattle.h2_spec_log.specs.ItemRules.{is_stream_fault}
 use Rattle.h2_laws_machine.proofs.RecvVerdictCases.{OnActiveOrNew, data_is_fault, reset_is_fault}
 use Rattle.h2_laws_machine.proofs.RecvVerdictCases.{update_is_fault}
 use Rattle.std.specs.FinMap as map

@@ -1,6 +1,4 @@
 -- What PING, GOAWAY, SETTINGS and the connection's WINDOW_UPDATE that are sent make of an end.
-use Rattle.h2_laws_log.proofs.AllowedHistories.{changed_window}
-use Rattle.h2_laws_log.proofs.InvariantSteps.{update_here}
 use Rattle.h2_laws_machine.proofs.Names
 use Names.{◌≡◌, ◌≢◌, ℕ, ◌+◌, ◌≤◌, nat_lt, Bool, true, false, List, [], ◌∷◌, Some, refl, sym, ◌∙◌}
 use Names.{arith, lt-ltb, le-ltb, false_from_ne_true, both_ways, ne_eqb, list_any, Settings, Ping}
@@ -10,8 +8,10 @@ use Names.{one_reset, total, greatest_block, one_pong, reported_total, Values, i
 use Names.{value_read, value_after, one_settings, settings_count, own_value, openings, is_above}
 use Names.{first_window, granted_on, Log, newest_ping, with_sent, with_failure, Streams}
 use Names.{OwnSettings, RepresentsOwn, goaway_sent_last, own_next, own_of_all, settings_one}
-use Names.{value_changed, value_named, changed_frame, active_parts, active_before, total_one}
-use Names.{changed_pairs}
+use Names.{value_changed, value_named, active_parts, active_before, total_one, changed_pairs}
+use Rattle.h2_laws_log.proofs.AllowedHistories.{changed_window}
+use Rattle.h2_laws_log.proofs.InvariantSteps.{update_here}
+use Rattle.h2_laws_log.proofs.SettingsLists.{changed_frame}
 use Rattle.h2_laws_machine.proofs.ItemsApart.{ping_apart, settings_apart, update_apart}
 use Rattle.h2_laws_machine.proofs.LogCore.{Core, core, CoreFacts, Advances, StreamsOf, confirmed}
 use Rattle.h2_laws_machine.proofs.LogCore.{active_by_items}

@@ -1,13 +1,12 @@
 -- What items on one active stream make of an end: a stream continues, or is closed.
 use Rattle.std.specs.FinMap as map
 use Rattle.h2_laws_machine.proofs.Names
-use Names.{◌≡◌, ◌≢◌, ℕ, ◌+◌, ◌-◌, max, nat_lt, ◌&&◌, Bool, true, false, List, ℤ, refl, sym, ap, ◌∙◌}
-use Names.{false_from_ne_true, both_ways, list_any, Item, Role, data_on, data_of, increment_on}
-use Names.{is_block_on, ends, resets, is_goaway, one_ping, one_reset, total, greatest_block}
-use Names.{own_value, settings_count, openings, is_above, first_window, given_on}
-use Names.{given_on_connection, granted_on, granted_on_connection, window, newest_ping, StreamView}
-use Names.{Streams, OwnSettings, active_entry, RepresentsOwn, goaway_sent_last, active_parts}
-use Names.{active_by_parts, lasts_parts}
+use Names.{◌≡◌, ◌≢◌, ℕ, ◌+◌, ◌-◌, max, true, List, ℤ, refl, sym, ap, ◌∙◌, Item, Role, ends}
+use Names.{nat_lt, false_from_ne_true, given_on_connection, granted_on_connection, goaway_sent_last}
+use Names.{◌&&◌, Bool, false, data_of, resets, total, openings, is_above, given_on, window, Streams}
+use Names.{both_ways, list_any, is_goaway, one_ping, one_reset, own_value, StreamView, lasts_parts}
+use Names.{data_on, is_block_on, first_window, newest_ping, OwnSettings, active_entry, active_parts}
+use Names.{increment_on, greatest_block, settings_count, granted_on, RepresentsOwn, active_by_parts}
 use Rattle.h2_laws_machine.proofs.LogCore.{Core, CoreFacts, Advances, StreamsOf, active_by_items}
 use Rattle.h2_laws_machine.proofs.LogCore.{confirmed, said}
 use Rattle.h2_laws_machine.proofs.SentQuietItems.{active_like}

@@ -1,7 +1,5 @@
 -- The windows of streams are in their ranges: what an entry that is set, removed or shifted makes
 -- of that.
-use Rattle.std.proofs.Common.{negsuc, int_lt, ltb-false, eqb-true}
-use Rattle.h2_laws_log.proofs.CallConditions.{neither_one}
 use Rattle.h2_laws_machine.proofs.Names
 use Names.{◌≡◌, ◌≢◌, ℕ, ◌+◌, ◌-◌, ◌≤◌, ◌==◌, nat_lt, ◌&&◌, ◌||◌, Bool, true, false, cond}
 use Names.{if◌then◌else◌, ℤ, pos, ◌+ℤ◌, ◌-ℤ◌, List, [], ◌∷◌, Option, Some, None, refl, sym, ap}
@@ -9,6 +7,8 @@ use Names.{subst, ◌∙◌, arith, false_from_ne_true, ints, nat_cmp, at_least_
 use Names.{overflows_by, StreamView, greatest_window, StreamEntry, active_entry, reset_entry}
 use Names.{StreamMap, stream_in, above_by_shift, any_above, shifted_entry, recv_shifted_entry}
 use Names.{each_entry, changed_entry, get_each, get_set, get_removed, neither_other}
+use Rattle.std.proofs.Common.{negsuc, int_lt, ltb-false, eqb-true}
+use Rattle.h2_laws_log.proofs.CallConditions.{neither_one}
 use Rattle.std.specs.FinMap as map
 
 -- A stream's windows are in their ranges, by the initial windows of the peer and of this end.

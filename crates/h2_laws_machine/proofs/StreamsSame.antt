@@ -2,11 +2,10 @@
 -- each number, or of all but one.
 use Rattle.std.specs.FinMap as map
 use Rattle.h2_laws_machine.proofs.Names
-use Names.{◌≡◌, ◌≢◌, ℕ, zero, suc, ◌≤◌, ◌<◌, ◌+◌, ◌-◌, ◌%◌, Bool, true, false, ℤ, refl, sym, ◌∙◌}
-use Names.{inl, inr, arith, list_any, cases_eq, eqb-true, resets, one_reset, total, openings}
-use Names.{count_below, StreamView, StreamMap, Streams, StreamEntry, active_entry, reset_entry}
-use Names.{entry_by, active_parts, block_below, get_set_same, get_set_other, get_removed_same}
-use Names.{get_removed_other}
+use Names.{◌≡◌, ◌≢◌, ℕ, zero, suc, ◌≤◌, ◌<◌, ◌+◌, ◌-◌, ◌%◌, Bool, true, ℤ, refl, sym, ◌∙◌, inl, inr}
+use Names.{false, arith, cases_eq, eqb-true, resets, total, openings, StreamMap, Streams, entry_by}
+use Names.{list_any, active_entry, active_parts, get_set_other, get_removed_same, get_removed_other}
+use Names.{one_reset, count_below, StreamView, StreamEntry, reset_entry, block_below, get_set_same}
 use Rattle.h2_laws_machine.proofs.LogCore.{Core, said, AreSaid, StreamsOf, active_by_items}
 use Rattle.h2_laws_machine.proofs.LogCore.{greatest_used, processed}
 

@@ -1,12 +1,13 @@
 -- A field block leaves a table within its maximum, and that within the limit.
+use Rattle.h2_laws_machine.proofs.Names.{Block, ◌≡◌, ℕ, ◌≤◌, List, [], ◌∷◌, refl, sym, subst, arith}
+use Rattle.h2_laws_machine.proofs.Names.{table_size, Entries, Field}
 use Rattle.hpack.proofs.WrittenTables.{fit_within}
-use Rattle.hpack.specs.Blocks.{Step, by_index, by_literal, Fields, Updates, Block, after_literal}
+use Rattle.hpack.specs.Blocks.{Step, by_index, by_literal, Fields, Updates, after_literal}
 use Rattle.hpack.specs.declared.types.entry.Entry.{Entry}
 use Rattle.hpack.specs.declared.types.literal.Literal.{Literal}
 use Rattle.hpack.specs.declared.types.literal.Literal.TheVariants.{WithIndexing, WithoutIndexing}
 use Rattle.hpack.specs.declared.types.literal.Literal.TheVariants.{NeverIndexed}
-use Rattle.h2_laws_machine.proofs.Names.{◌≡◌, ℕ, ◌≤◌, List, [], ◌∷◌, refl, sym, subst, arith}
-use Rattle.h2_laws_machine.proofs.Names.{table_size, Entries, resized, Field}
+use Rattle.hpack.specs.Tables.{resized}
 
 -- A table has this maximum and is within it.
 pub record IsWithin (table : Entries) (maximum : ℕ) : Type 0 where

@@ -1,14 +1,15 @@
 -- What every log that hasn't failed has: no more is acknowledged and answered than was sent, and so
 -- on; and what keeps it.
-use Rattle.h2_laws_log.proofs.LogGrowth.{Grows}
 use Rattle.h2_laws_machine.proofs.Names
 use Names.{◌≡◌, ℕ, ◌+◌, ◌≤◌, ◌<◌, ◌==◌, ◌%◌, ◌||◌, Bool, true, false, List, [], ◌∷◌, ◌++◌, refl}
 use Names.{sym, ap, ◌∙◌, arith, list_any, both_ways, and_right, false_from_ne_true, Item, alone}
 use Names.{block, data_on, increment_on, is_block_on, opens_from, ends, resets, is_goaway, one_ping}
 use Names.{total, greatest_block, Event, one_acked, one_pong, reported_total, greatest_processed}
 use Names.{reports_unprocessed, is_server, settings_count, openings, is_active, is_used, Log, Role}
-use Names.{Client, Server, none_after, settings_after, total_after, active_parts, lasts_parts}
-use Names.{active_before, opens_low, reported_append, none_both, processed_after}
+use Names.{Client, Server, active_parts, lasts_parts, active_before, opens_low, reported_append}
+use Names.{none_both, processed_after}
+use Rattle.h2_laws_log.proofs.LogGrowth.{Grows}
+use Rattle.h2_laws_log.proofs.ItemLists.{none_after, settings_after, total_after}
 use Rattle.h2_laws_machine.proofs.OneItemMore.{any_quiet, total_quiet}
 
 -- Nothing was read or reported of a number.
@@ -138,7 +139,8 @@ up_log_read role received items sent news reported events item is f r =
       pongs = omega (arith, reported_append, total_after, ap (total one_ping) is);
       processed = λ server none i active_is.
           let lasts = active_unreset role i (item ∷ received) news (events ++ reported) active_is in
-          active_processed_by role received items sent news reported events item i (is_block_on i item)
+          active_processed_by role received items sent news reported events item i (is_block_on i
+          item)
           is refl f r server none lasts active_is;
       clear = λ client i above.
           let low = greatest_after items sent in
@@ -146,11 +148,13 @@ up_log_read role received items sent news reported events item is f r =
           let before = f.clear client i (omega arith) in
           let here = r.clear client i (omega arith) in
           record {
-            ended = any_quiet (ends i) item received (one_none (ends i) item here.ended) ∙ before.ended;
+            ended = any_quiet (ends i) item received (one_none (ends i) item here.ended) ∙
+                before.ended;
             reset = any_quiet (resets i) _ _ (one_none (resets i) item here.reset) ∙ before.reset;
             given = total_quiet (increment_on i) item received
                 (one_total (increment_on i) item here.given) ∙ before.given;
-            no_data = total_quiet (data_on i) item received (one_total (data_on i) item here.no_data)
+            no_data = total_quiet (data_on i) item received (one_total (data_on i) item
+                here.no_data)
                 ∙ before.no_data;
             unnamed = none_both (reports_unprocessed i) events reported here.unnamed before.unnamed;
           };

@@ -1,19 +1,19 @@
 -- Every log that hasn't failed has what is asked of it, with the events that are still to be
 -- reported of it.
+use Rattle.h2_laws_machine.proofs.Names
+use Names.{◌≡◌, both_ways, one_acked, StreamFault, replies_to, verdict_of, least_block, grows_wrote}
+use Names.{◌≢◌, ◌≤◌, max, [], ◌∷◌, sym, ap, ◌∙◌, Code, Item, Log, read, Role}
+use Names.{ℕ, true, List, ◌++◌, None, refl, Some, alone, block, total, Event, IsLog, Client, Server}
+use Names.{Bool, list_any, log_view, one_pong, is_server, with_sent, events_of, answer_of, items_of}
+use Names.{false, stream_of_item, greatest_block, reported_total, ConnectionFault, verdict_by_rules}
+use Names.{if◌then◌else◌, WindowUpdate, processed_by, settings_count, active_parts, active_before}
+use Names.{Option, arith, or_left, eq-eqb, ne_eqb, resets, Values, Verdict, Decoded, opened, called}
+use Names.{is_block_on, UnprocessedEvent, greatest_processed, reports_unprocessed, next_unprocessed}
 use Rattle.h2_spec_log.specs.States.{lesser_number}
 use Rattle.h2_spec_log.specs.ItemRules.{over_limits}
 use Rattle.h2_laws_log.proofs.FrameSizes.{within_limits}
 use Rattle.h2_laws_log.proofs.LogInduction.{IsPendingInvariant, pending_by_logs}
-use Rattle.h2_laws_machine.proofs.Names
-use Names.{◌≡◌, ◌≢◌, ℕ, ◌≤◌, max, Bool, true, false, if◌then◌else◌, List, [], ◌∷◌, ◌++◌, Option}
-use Names.{None, refl, sym, ap, ◌∙◌, arith, Some, list_any, both_ways, or_left, eq-eqb, ne_eqb}
-use Names.{Code, WindowUpdate, Item, alone, block, log_view, resets, stream_of_item, total}
-use Names.{greatest_block, is_block_on, Event, UnprocessedEvent, one_acked, one_pong}
-use Names.{reported_total, greatest_processed, processed_by, reports_unprocessed, Values, is_server}
-use Names.{settings_count, Log, next_unprocessed, Verdict, ConnectionFault, StreamFault, Decoded}
-use Names.{replies_to, verdict_by_rules, verdict_of, read, with_sent, events_of, opened, called}
-use Names.{IsLog, Role, Client, Server, answer_of, items_of, lesser_low, active_parts}
-use Names.{active_before, least_block, grows_wrote}
+use Rattle.h2_laws_log.proofs.NextStreams.{lesser_low}
 use Rattle.h2_laws_machine.proofs.UpInvariant.{IsUpLog, IsUpLogBy, up_log_grown, up_log_more}
 use Rattle.h2_laws_machine.proofs.UpInvariant.{up_log_read, openings_server}
 use Rattle.h2_laws_machine.proofs.UpInvariantReads.{item_reads}

@@ -7,11 +7,12 @@ use Names.{Reset, Settings, Ping, GoAway, WindowUpdate, Item, alone, block, log_
 use Names.{increment_on, is_block_on, ends, resets, is_goaway, is_goaway_below, one_ping, total}
 use Names.{greatest_block, stream_of_item, one_acked, one_pong, reported_total, greatest_processed}
 use Names.{processed_by, settings_count, State, Idle, Active, ClosedByUs, is_above, is_closed_by_us}
-use Names.{when, Log, acked, state, ping_waits, newest_ping, Verdict, ConnectionFault, StreamFault}
-use Names.{NoEvent, Reported, data_verdict, reset_verdict, update_verdict, block_verdict}
-use Names.{opening_verdict, Decoded, verdict_by_rules, verdict_of_block, events_of, Role, Client}
-use Names.{Server, any_after, total_one, total_none, state_idle, or_from, is_awaited_ping}
-use Names.{verdict_of_fault, closed_by_us_is, events_unnamed}
+use Names.{when, Log, acked, state, newest_ping, Verdict, ConnectionFault, StreamFault, NoEvent}
+use Names.{Reported, data_verdict, reset_verdict, update_verdict, block_verdict, opening_verdict}
+use Names.{Decoded, verdict_by_rules, verdict_of_block, events_of, Role, Client, Server, total_one}
+use Names.{state_idle, or_from, is_awaited_ping, verdict_of_fault, closed_by_us_is, events_unnamed}
+use Rattle.h2_spec_log.specs.Log.{ping_waits}
+use Rattle.h2_laws_log.proofs.ItemLists.{any_after, total_none}
 use Rattle.h2_laws_machine.proofs.UpInvariant.{IsUpLog, Reads, idle_above}
 
 -- Where a number is idle, at a client, a block on it is a fault of the connection.
@@ -189,14 +190,17 @@ item_reads log decoded v item items news is line none reset f =
     record {
       acks = acks_of log decoded v item is f;
       pongs = pongs_of log decoded v item is f;
-      processed = λ i here server stays kept active_is. active_processed log decoded v item items news i
+      processed = λ i here server stays kept active_is. active_processed log decoded v item items
+          news i
           is line none reset here stays kept;
       clear = λ client i above.
-          let parts = unseen_item _ _ item i client above (λ code fault. none code (sym is ∙ fault)) in
+          let parts = unseen_item _ _ item i client above (λ code fault. none code (sym is ∙
+          fault)) in
           record {
             ended = or_from (ends i item) false parts.0 refl;
             reset = or_from (resets i item) false parts.1 refl;
-            given = total_one (increment_on i) item [] ∙ rw (parts.2, total_none (increment_on i)) refl;
+            given = total_one (increment_on i) item [] ∙ rw (parts.2, total_none (increment_on i))
+                refl;
             no_data = total_one (data_on i) item [] ∙ rw (parts.3, total_none (data_on i)) refl;
             unnamed = events_unnamed log decoded v item i;
           };

@@ -1,16 +1,16 @@
 -- An end that represents a log and hasn't failed is viewed as the log is: every observation agrees.
 use Rattle.std.specs.FinMap as map
-use Rattle.h2_spec_log.specs.Log.{goaway_written}
 use Rattle.h2_laws_machine.proofs.Names
 use Names.{◌≡◌, ℕ, ◌+◌, min, max, Bool, true, false, if◌then◌else◌, List, length, pos, Option, Some}
 use Names.{None, is_some, refl, ap, sym, ◌∙◌, arith, ltb-false, ints, Item, Role, Client, Server}
-use Names.{resets, data_of, total, greatest_block, Values, is_server, value_read, settings_count}
+use Names.{data_of, total, greatest_block, Values, is_server, value_read, settings_count}
 use Names.{openings, when, window, given_on_connection, granted_on_connection, Log, acked, active}
 use Names.{waiting, next_number, max_streams, active_count, last_processed, unreleased}
 use Names.{max_payload_sent_by, log_view, stream_of_log, StreamView, View, End, end_view, stream_in}
-use Names.{stream_at, number_after, Streams, PeerSettings, OwnSettings, values_written}
-use Names.{RepresentsWhileUp, RepresentsPeer, RepresentsOwn, entry_by, when_some, own_of_all}
-use Names.{max_frame_size_sent}
+use Names.{stream_at, number_after, Streams, PeerSettings, OwnSettings, RepresentsWhileUp}
+use Names.{RepresentsPeer, RepresentsOwn, entry_by, when_some, own_of_all, max_frame_size_sent}
+use Rattle.h2_spec_log.specs.Log.{goaway_written}
+use Rattle.h2_spec_machine.specs.End.{values_written}
 use Rattle.h2_laws_machine.proofs.LogCore.{Core, active_by_items, said, core, StreamsOf}
 
 -- An entry has a stream where it is active.

@@ -1,14 +1,15 @@
 -- An end's role, whether it has failed, and what waits of its output, are the log's: what steps
 -- make
 -- of them.
+use Rattle.h2_laws_machine.proofs.Names
+use Names.{◌≡◌, ℕ, ◌+◌, List, [], ◌∷◌, ◌++◌, Some, refl, ap, sym, ◌∙◌, Code, Item, Role, Log, End}
+use Names.{length, Option, arith, Frame, GoAway, alone, Event, waiting, output, with_sent, Values}
+use Names.{length-append, encoding_of_items, max_payload_sent, with_reported, with_credit_returned}
+use Names.{length-drop, code_number, WindowUpdate, with_failure, end_view, queue_output, Represents}
 use Rattle.h2_spec_log.proofs.SentPayloads.{alone_alike}
 use Rattle.h2_spec_machine.specs.Represents.{RepresentsOutput}
-use Rattle.h2_laws_machine.proofs.Names
-use Names.{◌≡◌, ℕ, ◌+◌, List, [], ◌∷◌, ◌++◌, length, Option, Some, refl, ap, sym, ◌∙◌, arith}
-use Names.{append-nil, length-append, length-drop, drop-append-le, Code, code_number, Frame, GoAway}
-use Names.{WindowUpdate, Item, alone, Role, encoding_of_items, Event, Log, waiting, output}
-use Names.{max_payload_sent, with_sent, with_reported, with_failure, with_credit_returned, End}
-use Names.{end_view, queue_output, Values, Represents}
+use Rattle.std.proofs.Common.{append-nil}
+use Rattle.std.proofs.lemmas.List.{drop-append-le}
 
 -- An end's role, whether it has failed, and what waits, are these of a log.
 pub record SameConnection (role log_role : Role) (failed log_failed : Option Code)

@@ -94,11 +94,9 @@ fn decode_blocks_into(
 
 /// Counts the fields of a list that is kept, and their octets.
 fn count_list(list: &FieldList, counts: &mut Counts) {
-    for place in 0..list.len() {
-        if let Some(field) = list.get(place) {
-            counts.add_one();
-            counts.add_octets(field.name.len());
-            counts.add_octets(field.value.len());
-        }
+    for field in list.iter() {
+        counts.add_one();
+        counts.add_octets(field.name.len());
+        counts.add_octets(field.value.len());
     }
 }

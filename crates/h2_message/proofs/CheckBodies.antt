@@ -1,5 +1,5 @@
 -- Whether the length of a body is wrong, as the checks say it.
-use Rattle.h2_message.proofs.Names.{◌≡◌, ℕ, ◌||◌, Bool, true, false, List, [], codes, Option, refl}
+use Rattle.h2_message.proofs.Names.{◌≡◌, ◌||◌, Bool, true, false, List, codes, refl}
 use Rattle.h2_message.proofs.Names.{sym, ap, ◌∙◌, bytes_eq, Field, status_of, is_without_content}
 use Rattle.hpack.proofs.LimitLemmas.{or_assoc as without-by}
 

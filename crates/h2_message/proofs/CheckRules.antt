@@ -1,6 +1,6 @@
 -- The rules of a message, as the checks list them.
 use Rattle.h2_message.proofs.Names
-use Names.{◌≡◌, ℕ, ◌||◌, Bool, false, List, [], ◌∷◌, length, Option, ap, ap₂, ◌∙◌, Request}
+use Names.{◌≡◌, ℕ, ◌||◌, Bool, false, [], ◌∷◌, length, Option, ap, ap₂, ◌∙◌, Request}
 use Names.{Response, BadName, BadValue, PseudoPlace, PseudoUnknown, PseudoTwice, PseudoMissing}
 use Names.{BadMethod, BadPath, BadStatus, ConnectionField, BadLength, Scan, lacks_pseudo}
 use Names.{has_bad_method, has_bad_path, has_bad_status, is_interim, has_bad_length}

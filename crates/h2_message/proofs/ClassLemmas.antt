@@ -1,10 +1,9 @@
 -- The number that digits write, and when there is one.
-use Rattle.h2_message.proofs.Names.{◌≡◌, ℕ, ◌+◌, ◌-◌, ◌^◌, ◌<◌, ◌≤◌, List, Some, None, sym, ap, ◌∙◌}
-use Rattle.h2_message.proofs.Names.{◌&&◌, not, leb, eqb, length, drop, true, false, Bool, arith}
-use Rattle.h2_message.proofs.Names.{get_or, if◌then◌else◌, eqb-true, le-ltb, lt-ltb, drop_more}
-use Rattle.h2_message.proofs.Names.{all_ascii_digits, byte, is_bad_length, number_written}
-use Rattle.h2_message.proofs.Names.{method_class, is_bad_method, is_token, is_token_octet, refl}
-use Rattle.h2_message.proofs.Names.{codes, bytes_eq, bytes_eq-Decides}
+use Rattle.h2_message.proofs.Names
+use Names.{◌≡◌, ℕ, ◌+◌, ◌-◌, ◌^◌, ◌<◌, ◌≤◌, List, Some, None, sym, ap, ◌∙◌, ◌&&◌, not, leb, eqb}
+use Names.{length, drop, true, false, Bool, arith, get_or, if◌then◌else◌, eqb-true, le-ltb, lt-ltb}
+use Names.{drop_more, all_ascii_digits, byte, is_bad_length, number_written, method_class}
+use Names.{is_bad_method, is_token, is_token_octet, refl, codes, bytes_eq, bytes_eq-Decides}
 use Rattle.h2_message.specs.declared.classes.Method.TheVariants.{Other}
 use Rattle.std.proofs.Common.{◌*◌, ltb, fold}
 use Rattle.std.proofs.Math.Nat.{pow-le-pow_right}

@@ -1,11 +1,9 @@
 -- From many octets at once to each of them, and from runs of 32 to the whole.
-use Rattle.h2_message.proofs.Names.{◌≡◌, ℕ, ◌+◌, ◌-◌, ◌^◌, ◌<◌, ◌≤◌, eqb, leb, Bool, true, false}
-use Rattle.h2_message.proofs.Names.{cond, not, ◌||◌, ◌&&◌, bit_or, List, [], ◌∷◌, length, map, drop}
-use Rattle.h2_message.proofs.Names.{take, get_or, refl, sym, ap, ap₂, ◌∙◌, arith, inl, inr, ◌⊎◌}
-use Rattle.h2_message.proofs.Names.{true≢false, list_any-append, list_any_at, drop_all, list_any}
-use Rattle.h2_message.proofs.Names.{eqb-true}
-use Rattle.h2_message.proofs.Names.{is_bad_in_name, is_bad_after_first, is_bad_in_value, is_low}
-use Rattle.h2_message.proofs.Names.{is_unusual}
+use Rattle.h2_message.proofs.Names
+use Names.{◌≡◌, ℕ, ◌+◌, ◌-◌, ◌^◌, ◌<◌, ◌≤◌, eqb, leb, Bool, true, false, cond, not, ◌||◌, ◌&&◌}
+use Names.{bit_or, List, [], ◌∷◌, length, map, drop, take, get_or, refl, sym, ap, ap₂, ◌∙◌, arith}
+use Names.{inl, inr, ◌⊎◌, true≢false, list_any-append, list_any_at, drop_all, list_any, eqb-true}
+use Names.{is_bad_in_name, is_bad_after_first, is_bad_in_value, is_low, is_unusual}
 use Rattle.std.proofs.Common.{◌≢◌, zero, suc, ◌*◌, ◌/◌, ◌%◌, bit_and, replicate, ltb}
 use Rattle.std.proofs.lemmas.Bool.{cases_eq, eq-eqb, ne_eqb, leb-false, ltb-false, lt-leb}
 use Rattle.std.proofs.lemmas.Bool.{and_right}
@@ -201,26 +199,22 @@ any_split : (q : ℕ → Bool) (k : ℕ) (xs : List ℕ)
 any_split q k xs =
     ap (list_any q) (sym (take-append-drop k xs)) ∙ list_any-append q (take k xs) (drop k xs)
 
--- What is found from a place on is found in the whole.
-any_and_rest : (q : ℕ → Bool) (k : ℕ) (xs : List ℕ)
-    → (list_any q xs || list_any q (drop k xs)) ≡ list_any q xs
-any_and_rest q k xs =
-    ap (λ b. b || list_any q (drop k xs)) (any_split q k xs)
-    ∙ or_twice (list_any q (take k xs)) (list_any q (drop k xs))
-    ∙ sym (any_split q k xs)
+module _ (q : ℕ → Bool) where
+  -- What is found from a place on is found in the whole.
+  any_and_rest : (k : ℕ) (xs : List ℕ) → (list_any q xs || list_any q (drop k xs)) ≡ list_any q xs
+  any_and_rest k xs = ap (λ b. b || list_any q (drop k xs)) (any_split q k xs)
+      ∙ or_twice (list_any q (take k xs)) (list_any q (drop k xs)) ∙ sym (any_split q k xs)
 
--- what is found up to a place and from an earlier one on
-overlap : (q : ℕ → Bool) (xs : List ℕ) (n k : ℕ) → k ≤ n
-    → (list_any q (take n xs) || list_any q (drop k xs)) ≡ list_any q xs
-overlap q xs n zero le =
-    ap (λ b. list_any q (take n xs) || b) (any_split q n xs)
-    ∙ or_again (list_any q (take n xs)) (list_any q (drop n xs))
-    ∙ sym (any_split q n xs)
-overlap q xs zero (suc k) le = absurd (omega arith)
-overlap q [] (suc n) (suc k) le = refl
-overlap q (x ∷ xs) (suc n) (suc k) le =
-    or-assoc (q x) (list_any q (take n xs)) (list_any q (drop k xs))
-    ∙ ap (λ b. q x || b) (overlap q xs n k (omega arith))
+  -- what is found up to a place and from an earlier one on
+  overlap : (xs : List ℕ) (n k : ℕ) → k ≤ n
+      → (list_any q (take n xs) || list_any q (drop k xs)) ≡ list_any q xs
+  overlap xs n zero le = ap (λ b. list_any q (take n xs) || b) (any_split q n xs)
+      ∙ or_again (list_any q (take n xs)) (list_any q (drop n xs)) ∙ sym (any_split q n xs)
+  overlap xs zero (suc k) le = absurd (omega arith)
+  overlap [] (suc n) (suc k) le = refl
+  overlap (x ∷ xs) (suc n) (suc k) le =
+      or-assoc (q x) (list_any q (take n xs)) (list_any q (drop k xs))
+      ∙ ap (λ b. q x || b) (overlap xs n k (omega arith))
 
 -- the last n octets, as they are cut out
 last_is : (xs : List ℕ) (n m : ℕ) → n ≤ length xs → n ≤ m

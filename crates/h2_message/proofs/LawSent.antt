@@ -1,7 +1,7 @@
 -- A message that breaks no rule as it is sent breaks none as it is read.
-use Rattle.std.specs.Prelude.{◌==◌, nat_lt, not, if◌then◌else◌}
+use Rattle.std.specs.Prelude.{◌==◌, nat_lt, if◌then◌else◌}
 use Rattle.h2_message.proofs.Names
-use Names.{◌≡◌, ℕ, Bool, true, false, List, length, Option, None, Some, refl, sym, ◌∙◌, sum_by}
+use Names.{◌≡◌, ℕ, Bool, true, false, List, length, Option, None, Some, sym, ◌∙◌, sum_by}
 use Names.{or_parts, eqb-true, Field, Requests, Responses, has_bad_name, has_bad_value}
 use Names.{has_late_pseudo, has_pseudo, has_connection_field, has_bad_length, declared_length}
 use Names.{SentMessage, trailer_fields, differs_from, has_wrong_body, is_without_content}

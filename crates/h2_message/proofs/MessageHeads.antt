@@ -1,6 +1,6 @@
 -- The method of a head, found field by field.
 use Rattle.h2_message.proofs.Names.{◌≡◌, ℕ, ◌+◌, ◌<◌, ◌≤◌, Bool, true, false, cond, List, length}
-use Rattle.h2_message.proofs.Names.{drop, get_or, codes, Some, refl, sym, ap, ◌∙◌, bytes_eq}
+use Rattle.h2_message.proofs.Names.{drop, get_or, codes, Some, sym, ap, ◌∙◌, bytes_eq}
 use Rattle.h2_message.proofs.Names.{drop_of_length-le, drop_more, Field, is_named, value_of}
 use Rattle.h2_message.proofs.Names.{value_or_nothing, or_nothing, asks_head}
 

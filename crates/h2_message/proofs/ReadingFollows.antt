@@ -14,51 +14,45 @@ use Rattle.h2_message.proofs.PhaseWhole.{after_one, not_readable}
 use Rattle.h2_message.proofs.ReadingSteps.{readable}
 use Rattle.h2_message.proofs.PhaseEnds.{no_parts, asks_as_before}
 
--- The phase after one part more.
-phase_of_both : (reads : Reads) (parts : List (Part × Bool)) (part : Part × Bool) (old : Reading)
-    → Follows reads parts old
-    → phase_after_all reads (Some AtHead) (parts ++ part ∷ [])
-    ≡ phase_after_all reads (Some old.phase) (part ∷ [])
-phase_of_both reads parts part old follows =
-    after_both reads (Some AtHead) parts (part ∷ [])
-    ∙ ap (λ (phase : Option Phase). phase_after_all reads phase (part ∷ [])) follows.phase
+module _ (reads : Reads) (parts : List (Part × Bool)) (part : Part × Bool) (old : Reading) where
+  -- The phase after one part more.
+  phase_of_both : Follows reads parts old
+      → phase_after_all reads (Some AtHead) (parts ++ part ∷ []) ≡ phase_after_all reads
+      (Some old.phase) (part ∷ [])
+  phase_of_both follows = after_both reads (Some AtHead) parts (part ∷ [])
+      ∙ ap (λ (phase : Option Phase). phase_after_all reads phase (part ∷ [])) follows.phase
 
--- A part that is refused.
-refused : (reads : Reads) (parts : List (Part × Bool)) (part : Part × Bool) (old : Reading)
-    → Follows reads parts old → phase_after reads old.phase part ≡ None
-    → IsReadable reads (parts ++ part ∷ []) → ⊥
-unfolding phase_after_all
-refused reads parts part old follows none =
-    not_readable reads (parts ++ part ∷ []) (phase_of_both reads parts part old follows
-    ∙ ap (λ (phase : Option Phase). phase_after_all reads phase []) none)
+  -- A part that is refused.
+  refused : Follows reads parts old → phase_after reads old.phase part ≡ None
+      → IsReadable reads (parts ++ part ∷ []) → ⊥
+  unfolding phase_after_all
+  refused follows none = not_readable reads (parts ++ part ∷ []) (phase_of_both follows
+      ∙ ap (λ (phase : Option Phase). phase_after_all reads phase []) none)
 
--- A part that is taken.
-taken_part : (reads : Reads) (parts : List (Part × Bool)) (part : Part × Bool) (old new : Reading)
-    → Follows reads parts old → phase_after reads old.phase part ≡ Some new.phase
-    → new.reads ≡ old.reads
-    → (reads ≡ Requests → new.asks_head ≡ asks_head_first (parts ++ part ∷ []))
-    → (reads ≢ Requests → new.asks_head ≡ old.asks_head)
-    → Follows reads (parts ++ part ∷ []) new
-unfolding phase_after_all
-taken_part reads parts part old new follows taken same asks stays =
-    let phase : phase_after_all reads (Some AtHead) (parts ++ part ∷ []) ≡ Some new.phase =
-    phase_of_both reads parts part old follows
-    ∙ after_one reads old.phase new.phase part [] (Some new.phase) taken refl in
-    record {
-      reads_is = same ∙ follows.reads_is;
-      phase = phase;
-      readable = readable reads (parts ++ part ∷ []) new.phase phase;
-      asks_head = asks;
-      asks_none = λ others. stays others ∙ follows.asks_none others;
-    }
+  -- A part that is taken.
+  taken_part : (new : Reading) → Follows reads parts old
+      → phase_after reads old.phase part ≡ Some new.phase → new.reads ≡ old.reads
+      → (reads ≡ Requests → new.asks_head ≡ asks_head_first (parts ++ part ∷ []))
+      → (reads ≢ Requests → new.asks_head ≡ old.asks_head) → Follows reads (parts ++ part ∷ []) new
+  unfolding phase_after_all
+  taken_part new follows taken same asks stays =
+      let phase : phase_after_all reads (Some AtHead) (parts ++ part ∷ []) ≡ Some new.phase =
+      phase_of_both follows
+      ∙ after_one reads old.phase new.phase part [] (Some new.phase) taken refl in
+      record {
+        reads_is = same ∙ follows.reads_is;
+        phase = phase;
+        readable = readable reads (parts ++ part ∷ []) new.phase phase;
+        asks_head = asks;
+        asks_none = λ others. stays others ∙ follows.asks_none others;
+      }
 
--- What asks with HEAD still does after the head.
-asks_still : (reads : Reads) (parts : List (Part × Bool)) (part : Part × Bool) (old new : Reading)
-    → Follows reads parts old → (old.phase ≡ AtHead → ⊥) → new.asks_head ≡ old.asks_head
-    → reads ≡ Requests → new.asks_head ≡ asks_head_first (parts ++ part ∷ [])
-asks_still reads parts part old new follows later same requests =
-    same ∙ follows.asks_head requests
-    ∙ sym (asks_as_before reads parts (part ∷ []) old.phase follows.phase later)
+  -- What asks with HEAD still does after the head.
+  asks_still : (new : Reading) → Follows reads parts old → (old.phase ≡ AtHead → ⊥)
+      → new.asks_head ≡ old.asks_head → reads ≡ Requests
+      → new.asks_head ≡ asks_head_first (parts ++ part ∷ [])
+  asks_still new follows later same requests = same ∙ follows.asks_head requests
+      ∙ sym (asks_as_before reads parts (part ∷ []) old.phase follows.phase later)
 
 -- After the head of a request.
 asks_first : (parts : List (Part × Bool)) (list : List Field) (end : Bool) (asks : Bool)

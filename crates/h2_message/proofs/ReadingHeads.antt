@@ -10,34 +10,31 @@ use Rattle.hpack.proofs.Tests.{none_since as none_not_some}
 use Rattle.h2_message.proofs.PhaseWhole.{after_final, after_interim}
 use Rattle.h2_message.specs.declared.reading.Place.TheVariants as places
 
--- A head that breaks no rule has no bad length.
-pub request_length : (list : List Field)
-    → is_some (first_broken (request_head_rules list)) ≡ false → has_bad_length list ≡ false
-unfolding request_head_rules head_rules
-request_length list none =
-    (none_hold (request_head_rules list)
-    (none_not_some (first_broken (request_head_rules list)) none)).1.1.1.1.1.1.1.1.1.0
+module _ (list : List Field) where
+  -- A head that breaks no rule has no bad length.
+  pub request_length : is_some (first_broken (request_head_rules list)) ≡ false
+      → has_bad_length list ≡ false
+  unfolding request_head_rules head_rules
+  request_length none = (none_hold (request_head_rules list)
+      (none_not_some (first_broken (request_head_rules list)) none)).1.1.1.1.1.1.1.1.1.0
 
-pub response_length : (list : List Field)
-    → is_some (first_broken (response_head_rules list)) ≡ false → has_bad_length list ≡ false
-unfolding response_head_rules head_rules
-response_length list none =
-    (none_hold (response_head_rules list)
-    (none_not_some (first_broken (response_head_rules list)) none)).1.1.1.1.1.1.1.1.0
+  pub response_length : is_some (first_broken (response_head_rules list)) ≡ false
+      → has_bad_length list ≡ false
+  unfolding response_head_rules head_rules
+  response_length none = (none_hold (response_head_rules list)
+      (none_not_some (first_broken (response_head_rules list)) none)).1.1.1.1.1.1.1.1.0
 
--- The head of a request.
-pub request_refused : (list : List Field) (end : Bool)
-    → is_some (first_broken (request_head_rules list)) ≡ true
-    → phase_after_head Requests list end ≡ None
-unfolding phase_after_head phase_after_final final_rules
-request_refused list end broken = rw broken
+  -- The head of a request.
+  pub request_refused : (end : Bool) → is_some (first_broken (request_head_rules list)) ≡ true
+      → phase_after_head Requests list end ≡ None
+  unfolding phase_after_head phase_after_final final_rules
+  request_refused end broken = rw broken
 
-pub request_taken : (list : List Field) (end : Bool)
-    → is_some (first_broken (request_head_rules list)) ≡ false
-    → phase_after_head Requests list end ≡ phase_in_body (declared_length list) end
-unfolding final_rules compared_length
-request_taken list end none =
-    after_final Requests list end (none_not_some (first_broken (request_head_rules list)) none)
+  pub request_taken : (end : Bool) → is_some (first_broken (request_head_rules list)) ≡ false
+      → phase_after_head Requests list end ≡ phase_in_body (declared_length list) end
+  unfolding final_rules compared_length
+  request_taken end none =
+      after_final Requests list end (none_not_some (first_broken (request_head_rules list)) none)
 
 pub request_place : (list : List Field) → places.Head ≡ place_at_head Requests list
 unfolding place_at_head
@@ -87,41 +84,37 @@ refused_by list true false is interim why to_head = rw is
 refused_by list false false is interim (inl why) to_head = cc
 refused_by list false false is interim (inr why) to_head = cc
 
-pub interim_refused : (to_head : Bool) (list : List Field) (end : Bool)
-    → is_status_interim list ≡ true
-    → ((end ≡ true) ⊎ (is_some (first_broken (interim_rules list)) ≡ true))
-    → phase_after_head (Responses to_head) list end ≡ None
-interim_refused to_head list end interim why =
-    refused_by list end (is_some (first_broken (interim_rules list))) refl interim why to_head
+module _ (to_head : Bool) (list : List Field) where
+  pub interim_refused : (end : Bool) → is_status_interim list ≡ true
+      → ((end ≡ true) ⊎ (is_some (first_broken (interim_rules list)) ≡ true))
+      → phase_after_head (Responses to_head) list end ≡ None
+  interim_refused end interim why =
+      refused_by list end (is_some (first_broken (interim_rules list))) refl interim why to_head
 
-pub interim_taken : (to_head : Bool) (list : List Field) (end : Bool) → end ≡ false
-    → is_some (first_broken (interim_rules list)) ≡ false
-    → phase_after_head (Responses to_head) list end ≡ Some AtHead
-interim_taken to_head list end goes none =
-    rw goes (after_interim to_head list (none_not_some (first_broken (interim_rules list)) none))
+  pub interim_taken : (end : Bool) → end ≡ false
+      → is_some (first_broken (interim_rules list)) ≡ false
+      → phase_after_head (Responses to_head) list end ≡ Some AtHead
+  interim_taken end goes none =
+      rw goes (after_interim to_head list (none_not_some (first_broken (interim_rules list)) none))
 
-pub interim_place : (to_head : Bool) (list : List Field)
-    → is_some (first_broken (interim_rules list)) ≡ false
-    → places.Interim ≡ place_at_head (Responses to_head) list
-unfolding place_at_head
-interim_place to_head list none = rw none
+  pub interim_place : is_some (first_broken (interim_rules list)) ≡ false
+      → places.Interim ≡ place_at_head (Responses to_head) list
+  unfolding place_at_head
+  interim_place none = rw none
 
--- The final head of a response.
-pub response_refused : (to_head : Bool) (list : List Field) (end : Bool)
-    → is_status_interim list ≡ false
-    → is_some (first_broken (response_head_rules list)) ≡ true
-    → phase_after_head (Responses to_head) list end ≡ None
-unfolding phase_after_head phase_after_final final_rules
-response_refused to_head list end final broken = rw (interim_broken list final, broken)
+  -- The final head of a response.
+  pub response_refused : (end : Bool) → is_status_interim list ≡ false
+      → is_some (first_broken (response_head_rules list)) ≡ true
+      → phase_after_head (Responses to_head) list end ≡ None
+  unfolding phase_after_head phase_after_final final_rules
+  response_refused end final broken = rw (interim_broken list final, broken)
 
-pub response_taken : (to_head : Bool) (list : List Field) (end : Bool)
-    → is_some (first_broken (response_head_rules list)) ≡ false
-    → phase_after_head (Responses to_head) list end
-    ≡ phase_in_body (compared_length (Responses to_head) list) end
-unfolding final_rules
-response_taken to_head list end none =
-    after_final (Responses to_head) list end
-    (none_not_some (first_broken (response_head_rules list)) none)
+  pub response_taken : (end : Bool) → is_some (first_broken (response_head_rules list)) ≡ false
+      → phase_after_head (Responses to_head) list end ≡ phase_in_body
+      (compared_length (Responses to_head) list) end
+  unfolding final_rules
+  response_taken end none = after_final (Responses to_head) list end
+      (none_not_some (first_broken (response_head_rules list)) none)
 
 pub response_place : (to_head : Bool) (list : List Field) → is_status_interim list ≡ false
     → places.Head ≡ place_at_head (Responses to_head) list

@@ -119,79 +119,76 @@ kind-regular Request fields name value sensitive scan colon seen =
 kind-regular Response fields name value sensitive scan colon seen =
     response-regular fields name value sensitive scan colon seen
 
--- A pseudo-field was added, and then its name was looked at.
-pub pseudo-added : (kind : Kind) (fields : List Field) (name value : List ℕ) (sensitive : Bool)
-    (old mid : Scan) (bad-name bad-value : Bool) → IsScan kind fields old
-    → bad-name ≡ is_bad_name name → bad-value ≡ is_bad_value value → is_colon_first name ≡ true
-    → (is_colon_first name ≡ true → HasSeenPseudo kind fields (with_pseudo old bad-value)
-    → HasSeenPseudo kind (with_field fields name value sensitive) mid)
-    → IsSameOfAll (with_pseudo old bad-value) mid
-    → IsSameOfRegular (with_pseudo old bad-value) mid
-    → IsScan kind (with_field fields name value sensitive)
-    (record mid { bad_name = mid.bad_name || bad-name })
-unfolding is_pseudo
-pseudo-added kind fields name value sensitive old mid bad-name bad-value scan name-is value-is
-    colon step all regular =
-    let field : Field = record { name = name; value = value; sensitive = sensitive } in
-    let new : Scan = record mid { bad_name = mid.bad_name || bad-name } in
-    whole kind (fields ++ field ∷ []) new
-    (all-added kind fields field old new bad-name bad-value true scan name-is value-is colon
-    (ap (λ (b : Bool). b || bad-name) all.bad_name) all.bad_value
-    (all.regular ∙ sym (or-false old.regular)) (all.pseudo ∙ sym (or-true old.pseudo))
-    (all.late_pseudo ∙ ap (λ (b : Bool). old.late_pseudo || b) (sym (and-true old.regular))))
-    (same-pseudo kind (fields ++ field ∷ []) mid new record {
-      unknown_pseudo = refl;
-      pseudo_twice = refl;
-      method = refl;
-      scheme = refl;
-      path = refl;
-      authority = refl;
-      status = refl;
-    } (step colon (seen-pseudo kind fields old (with_pseudo old bad-value) record {
-      unknown_pseudo = refl;
-      pseudo_twice = refl;
-      method = refl;
-      scheme = refl;
-      path = refl;
-      authority = refl;
-      status = refl;
-    } scan))) (regular-pseudo fields name value sensitive old new record {
-      connection_field = regular.connection_field;
-      bad_length = regular.bad_length;
-      length = regular.length;
-    } colon (seen-regular kind fields old scan))
+module _ (kind : Kind) (fields : List Field) (name value : List ℕ) (sensitive : Bool) where
+  -- A pseudo-field was added, and then its name was looked at.
+  pub pseudo-added : (old mid : Scan) (bad-name bad-value : Bool) → IsScan kind fields old
+      → bad-name ≡ is_bad_name name → bad-value ≡ is_bad_value value → is_colon_first name ≡ true
+      → (is_colon_first name ≡ true → HasSeenPseudo kind fields (with_pseudo old bad-value)
+      → HasSeenPseudo kind (with_field fields name value sensitive) mid)
+      → IsSameOfAll (with_pseudo old bad-value) mid
+      → IsSameOfRegular (with_pseudo old bad-value) mid
+      → IsScan kind (with_field fields name value sensitive)
+      (record mid { bad_name = mid.bad_name || bad-name })
+  unfolding is_pseudo
+  pseudo-added old mid bad-name bad-value scan name-is value-is colon step all regular =
+      let field : Field = record { name = name; value = value; sensitive = sensitive } in
+      let new : Scan = record mid { bad_name = mid.bad_name || bad-name } in
+      whole kind (fields ++ field ∷ []) new
+      (all-added kind fields field old new bad-name bad-value true scan name-is value-is colon
+      (ap (λ (b : Bool). b || bad-name) all.bad_name) all.bad_value
+      (all.regular ∙ sym (or-false old.regular)) (all.pseudo ∙ sym (or-true old.pseudo))
+      (all.late_pseudo ∙ ap (λ (b : Bool). old.late_pseudo || b) (sym (and-true old.regular))))
+      (same-pseudo kind (fields ++ field ∷ []) mid new record {
+        unknown_pseudo = refl;
+        pseudo_twice = refl;
+        method = refl;
+        scheme = refl;
+        path = refl;
+        authority = refl;
+        status = refl;
+      } (step colon (seen-pseudo kind fields old (with_pseudo old bad-value) record {
+        unknown_pseudo = refl;
+        pseudo_twice = refl;
+        method = refl;
+        scheme = refl;
+        path = refl;
+        authority = refl;
+        status = refl;
+      } scan))) (regular-pseudo fields name value sensitive old new record {
+        connection_field = regular.connection_field;
+        bad_length = regular.bad_length;
+        length = regular.length;
+      } colon (seen-regular kind fields old scan))
 
--- A regular field was added.
-pub regular-added : (kind : Kind) (fields : List Field) (name value : List ℕ) (sensitive : Bool)
-    (old new : Scan) (bad-name bad-value : Bool) → IsScan kind fields old
-    → bad-name ≡ is_bad_name name → bad-value ≡ is_bad_value value → is_colon_first name ≡ false
-    → (HasSeenRegular fields (with_regular old bad-name bad-value)
-    → HasSeenRegular (with_field fields name value sensitive) new)
-    → IsSameOfAll (with_regular old bad-name bad-value) new
-    → IsSameOfPseudo (with_regular old bad-name bad-value) new
-    → IsScan kind (with_field fields name value sensitive) new
-unfolding is_pseudo
-regular-added kind fields name value sensitive old new bad-name bad-value scan name-is value-is
-    colon step all pseudo =
-    let field : Field = record { name = name; value = value; sensitive = sensitive } in
-    whole kind (fields ++ field ∷ []) new
-    (all-added kind fields field old new bad-name bad-value false scan name-is value-is colon
-    all.bad_name all.bad_value (all.regular ∙ sym (or-true old.regular))
-    (all.pseudo ∙ sym (or-false old.pseudo)) (all.late_pseudo ∙ (sym (or-false old.late_pseudo)
-    ∙ ap (λ (b : Bool). old.late_pseudo || b) (sym (and-false old.regular)))))
-    (kind-regular kind fields name value sensitive new colon
-    (seen-pseudo kind fields old new record {
-      unknown_pseudo = pseudo.unknown_pseudo;
-      pseudo_twice = pseudo.pseudo_twice;
-      method = pseudo.method;
-      scheme = pseudo.scheme;
-      path = pseudo.path;
-      authority = pseudo.authority;
-      status = pseudo.status;
-    } scan)) (step record {
-      connection_field = scan.connection_field;
-      has_length = record { bad_length = scan.bad_length; length = scan.length };
-    })
+  -- A regular field was added.
+  pub regular-added : (old new : Scan) (bad-name bad-value : Bool) → IsScan kind fields old
+      → bad-name ≡ is_bad_name name → bad-value ≡ is_bad_value value → is_colon_first name ≡ false
+      → (HasSeenRegular fields (with_regular old bad-name bad-value) → HasSeenRegular
+      (with_field fields name value sensitive) new)
+      → IsSameOfAll (with_regular old bad-name bad-value) new
+      → IsSameOfPseudo (with_regular old bad-name bad-value) new
+      → IsScan kind (with_field fields name value sensitive) new
+  unfolding is_pseudo
+  regular-added old new bad-name bad-value scan name-is value-is colon step all pseudo =
+      let field : Field = record { name = name; value = value; sensitive = sensitive } in
+      whole kind (fields ++ field ∷ []) new
+      (all-added kind fields field old new bad-name bad-value false scan name-is value-is colon
+      all.bad_name all.bad_value (all.regular ∙ sym (or-true old.regular))
+      (all.pseudo ∙ sym (or-false old.pseudo)) (all.late_pseudo ∙ (sym (or-false old.late_pseudo)
+      ∙ ap (λ (b : Bool). old.late_pseudo || b) (sym (and-false old.regular)))))
+      (kind-regular kind fields name value sensitive new colon
+      (seen-pseudo kind fields old new record {
+        unknown_pseudo = pseudo.unknown_pseudo;
+        pseudo_twice = pseudo.pseudo_twice;
+        method = pseudo.method;
+        scheme = pseudo.scheme;
+        path = pseudo.path;
+        authority = pseudo.authority;
+        status = pseudo.status;
+      } scan)) (step record {
+        connection_field = scan.connection_field;
+        has_length = record { bad_length = scan.bad_length; length = scan.length };
+      })
 
 -- The fields up to an index were seen, and so was the next one.
 pub scan-step : (kind : Kind) (fields : List Field) (index : ℕ) (field : Field)

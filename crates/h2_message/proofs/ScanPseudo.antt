@@ -42,27 +42,24 @@ same-pseudo Response fields old new same seen = record {
   has_pseudo = record { status = same.status ∙ seen.has_pseudo.status };
 }
 
--- A pseudo-field that is none of the kind is one of the fields, or the last one.
-pub unknown-push : (kind : Kind) (fields : List Field) (field : Field)
-    → has_unknown_pseudo kind (fields ++ field ∷ [])
-    ≡ (has_unknown_pseudo kind fields || is_unknown_pseudo kind field)
-unfolding has_unknown_pseudo
-unknown-push kind fields field = any-push (is_unknown_pseudo kind) fields field
+module _ (kind : Kind) (fields : List Field) (field : Field) where
+  -- A pseudo-field that is none of the kind is one of the fields, or the last one.
+  pub unknown-push : has_unknown_pseudo kind (fields ++ field ∷ [])
+      ≡ (has_unknown_pseudo kind fields || is_unknown_pseudo kind field)
+  unfolding has_unknown_pseudo
+  unknown-push = any-push (is_unknown_pseudo kind) fields field
 
--- A pseudo-field stands twice where one did, or where the last one stood already.
-pub two-push : (kind : Kind) (fields : List Field) (field : Field)
-    → has_pseudo_twice kind (fields ++ field ∷ [])
-    ≡ (has_pseudo_twice kind fields
-    || list_any (λ name. list_any (is_named name) fields && is_named name field)
-    (pseudo_names kind))
-unfolding has_pseudo_twice
-two-push kind fields field =
-    any-same (λ name. nat_lt 1 (count_by (is_named name) (fields ++ field ∷ [])))
-    (λ name. nat_lt 1 (count_by (is_named name) fields)
-    || (list_any (is_named name) fields && is_named name field))
-    (λ name. twice-push (is_named name) fields field) (pseudo_names kind)
-    ∙ any-or (λ name. nat_lt 1 (count_by (is_named name) fields))
-    (λ name. list_any (is_named name) fields && is_named name field) (pseudo_names kind)
+  -- A pseudo-field stands twice where one did, or where the last one stood already.
+  pub two-push : has_pseudo_twice kind (fields ++ field ∷ [])
+      ≡ (has_pseudo_twice kind fields || list_any (λ name. list_any (is_named name) fields &&
+      is_named name field) (pseudo_names kind))
+  unfolding has_pseudo_twice
+  two-push = any-same (λ name. nat_lt 1 (count_by (is_named name) (fields ++ field ∷ [])))
+      (λ name. nat_lt 1 (count_by (is_named name) fields)
+      || (list_any (is_named name) fields && is_named name field))
+      (λ name. twice-push (is_named name) fields field) (pseudo_names kind)
+      ∙ any-or (λ name. nat_lt 1 (count_by (is_named name) fields))
+      (λ name. list_any (is_named name) fields && is_named name field) (pseudo_names kind)
 
 some-map : {X : Type 0} (g : List ℕ → X) (o : Option (List ℕ))
     → is_some (option_map g o) ≡ is_some o

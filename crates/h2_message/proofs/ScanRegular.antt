@@ -5,7 +5,7 @@ use Rattle.std.proofs.lemmas.List.{map-append, append-nil}
 use Rattle.std.proofs.lemmas.List.Elements.{filter-append}
 use Rattle.h2_message.specs.ScanSteps.{HasSeenLength, HasSeenRegular, IsSameOfRegular}
 use Rattle.h2_message.proofs.Names
-use Names.{◌≡◌, ℕ, nat_eq, not, ◌||◌, ◌&&◌, cond, Bool, true, false, if◌then◌else◌, List, [], ◌∷◌}
+use Names.{◌≡◌, ℕ, not, ◌||◌, ◌&&◌, cond, Bool, true, false, if◌then◌else◌, List, [], ◌∷◌}
 use Names.{◌++◌, map, codes, Option, Some, None, refl, sym, ap, ap₂, ◌∙◌, list_any, filter}
 use Names.{option_or, bytes_eq, str_eq_ignore_ascii_case, or-false, or-true, or_parts, false≢true}
 use Names.{bytes_eq-Decides, Field, Scan, is_bad_length, number_written, is_named, lengths_of}
@@ -92,108 +92,103 @@ none-if : (bad : Bool) (number : ℕ) (result : Option ℕ)
 none-if true number result is was = refl
 none-if false number result is was = absurd cc
 
--- A `content-length` was added that is none.
-pub bad-length-added : (fields : List Field) (value : List ℕ) (sensitive : Bool) (old : Scan)
-    (result : Option ℕ)
-    → result ≡ (if is_bad_length value then None else Some (number_written value))
-    → result ≡ None → HasSeenLength fields old
-    → HasSeenLength (with_field fields (codes "content-length") value sensitive) (record old {
-      bad_length = true;
-    })
-unfolding has_bad_length is_named
-bad-length-added fields value sensitive old result read none seen =
-    let field : Field = record {
-      name = codes "content-length";
-      value = value;
-      sensitive = sensitive;
-    } in
-    let bad : has_bad_length (fields ++ field ∷ []) ≡ true =
-    ap bad_lengths (lengths-named fields field refl)
-    ∙ (lengths-push (lengths_of fields) value
-    ∙ (ap (λ (b : Bool). bad_lengths (lengths_of fields)
-    || (b || is_other (first_number (lengths_of fields)) (number_written value)))
-    (none-if (is_bad_length value) (number_written value) result read none)
-    ∙ or-true (bad_lengths (lengths_of fields)))) in
-    record { bad_length = sym bad; length = λ good. absurd (false≢true (sym good ∙ bad)) }
+module _ (fields : List Field) where
+  -- A `content-length` was added that is none.
+  pub bad-length-added : (value : List ℕ) (sensitive : Bool) (old : Scan) (result : Option ℕ)
+      → result ≡ (if is_bad_length value then None else Some (number_written value))
+      → result ≡ None → HasSeenLength fields old
+      → HasSeenLength (with_field fields (codes "content-length") value sensitive) (record old {
+        bad_length = true;
+      })
+  unfolding has_bad_length is_named
+  bad-length-added value sensitive old result read none seen =
+      let field : Field = record {
+        name = codes "content-length";
+        value = value;
+        sensitive = sensitive;
+      } in
+      let bad : has_bad_length (fields ++ field ∷ []) ≡ true =
+      ap bad_lengths (lengths-named fields field refl) ∙ (lengths-push (lengths_of fields) value
+      ∙ (ap (λ (b : Bool). bad_lengths (lengths_of fields)
+      || (b || is_other (first_number (lengths_of fields)) (number_written value)))
+      (none-if (is_bad_length value) (number_written value) result read none)
+      ∙ or-true (bad_lengths (lengths_of fields)))) in
+      record { bad_length = sym bad; length = λ good. absurd (false≢true (sym good ∙ bad)) }
 
--- A `content-length` was added that is one.
-pub length-added : (fields : List Field) (value : List ℕ) (sensitive : Bool) (old new : Scan)
-    (result : Option ℕ) (number : ℕ)
-    → result ≡ (if is_bad_length value then None else Some (number_written value))
-    → result ≡ Some number → new.bad_length ≡ (old.bad_length || is_other old.length number)
-    → new.length ≡ option_or old.length (Some number) → HasSeenLength fields old
-    → HasSeenLength (with_field fields (codes "content-length") value sensitive) new
-unfolding has_bad_length is_named declared_length
-length-added fields value sensitive old new result number read some bad kept seen =
-    let field : Field = record {
-      name = codes "content-length";
-      value = value;
-      sensitive = sensitive;
-    } in
-    let is = number-if (is_bad_length value) (number_written value) result number read some in
-    let lengths = lengths_of fields in
-    let pushed : has_bad_length (fields ++ field ∷ [])
-    ≡ (has_bad_length fields || is_other (first_number lengths) number) =
-    ap bad_lengths (lengths-named fields field refl)
-    ∙ (lengths-push lengths value
-    ∙ ap₂ (λ (b : Bool) (n : ℕ). bad_lengths lengths || (b || is_other (first_number lengths) n))
-    is.0 (sym is.1)) in
-    record {
-      bad_length = bad ∙ (ap (λ (b : Bool). b || is_other old.length number) seen.bad_length
-          ∙ (other-stored (has_bad_length fields) old.length (declared_length fields) number
-          seen.length ∙ sym pushed));
-      length = λ good. kept ∙ (ap₂ (λ (o : Option ℕ) (n : ℕ). option_or o (Some n))
-          (seen.length (or_parts (has_bad_length fields) _ (sym pushed ∙ good)).0) is.1
-          ∙ (sym (first-push lengths value)
-          ∙ sym (ap first_number (lengths-named fields field refl))));
-    }
+  -- A `content-length` was added that is one.
+  pub length-added : (value : List ℕ) (sensitive : Bool) (old new : Scan) (result : Option ℕ)
+      (number : ℕ) → result ≡ (if is_bad_length value then None else Some (number_written value))
+      → result ≡ Some number → new.bad_length ≡ (old.bad_length || is_other old.length number)
+      → new.length ≡ option_or old.length (Some number) → HasSeenLength fields old
+      → HasSeenLength (with_field fields (codes "content-length") value sensitive) new
+  unfolding has_bad_length is_named declared_length
+  length-added value sensitive old new result number read some bad kept seen =
+      let field : Field = record {
+        name = codes "content-length";
+        value = value;
+        sensitive = sensitive;
+      } in
+      let is = number-if (is_bad_length value) (number_written value) result number read some in
+      let lengths = lengths_of fields in
+      let pushed : has_bad_length (fields ++ field ∷ [])
+      ≡ (has_bad_length fields || is_other (first_number lengths) number) =
+      ap bad_lengths (lengths-named fields field refl) ∙ (lengths-push lengths value
+      ∙ ap₂ (λ (b : Bool) (n : ℕ). bad_lengths lengths || (b || is_other (first_number lengths) n))
+      is.0 (sym is.1)) in
+      record {
+        bad_length = bad ∙ (ap (λ (b : Bool). b || is_other old.length number) seen.bad_length
+            ∙ (other-stored (has_bad_length fields) old.length (declared_length fields) number
+            seen.length ∙ sym pushed));
+        length = λ good. kept ∙ (ap₂ (λ (o : Option ℕ) (n : ℕ). option_or o (Some n))
+            (seen.length (or_parts (has_bad_length fields) _ (sym pushed ∙ good)).0) is.1
+            ∙ (sym (first-push lengths value)
+            ∙ sym (ap first_number (lengths-named fields field refl))));
+      }
 
--- A field that is specific to one connection is one of the fields, or the last one.
-connection-push : (fields : List Field) (field : Field)
-    → has_connection_field (fields ++ field ∷ [])
-    ≡ (has_connection_field fields || is_connection_field field)
-unfolding has_connection_field
-connection-push fields field = any-push is_connection_field fields field
+  -- A field that is specific to one connection is one of the fields, or the last one.
+  connection-push : (field : Field)
+      → has_connection_field (fields ++ field ∷ []) ≡ (has_connection_field fields ||
+      is_connection_field field)
+  unfolding has_connection_field
+  connection-push field = any-push is_connection_field fields field
 
--- A `content-length` was added.
-pub regular-length : (fields : List Field) (name value : List ℕ) (sensitive : Bool) (old new : Scan)
-    → bytes_eq name (codes "content-length") ≡ true
-    → new.connection_field ≡ old.connection_field
-    → HasSeenLength (with_field fields (codes "content-length") value sensitive) new
-    → HasSeenRegular fields old → HasSeenRegular (with_field fields name value sensitive) new
-unfolding is_connection_field is_named connection_names
-regular-length fields name value sensitive old new is same lengths seen =
-    let field : Field = record {
-      name = codes "content-length";
-      value = value;
-      sensitive = sensitive;
-    } in
-    rw ((bytes_eq-Decides name (codes "content-length")).0 is) record {
-      connection_field = same ∙ (seen.connection_field
-          ∙ (sym (or-false (has_connection_field fields)) ∙ sym (connection-push fields field)));
-      has_length = lengths;
-    }
+  -- A `content-length` was added.
+  pub regular-length : (name value : List ℕ) (sensitive : Bool) (old new : Scan)
+      → bytes_eq name (codes "content-length") ≡ true → new.connection_field ≡ old.connection_field
+      → HasSeenLength (with_field fields (codes "content-length") value sensitive) new
+      → HasSeenRegular fields old → HasSeenRegular (with_field fields name value sensitive) new
+  unfolding is_connection_field is_named connection_names
+  regular-length name value sensitive old new is same lengths seen =
+      let field : Field = record {
+        name = codes "content-length";
+        value = value;
+        sensitive = sensitive;
+      } in
+      rw ((bytes_eq-Decides name (codes "content-length")).0 is) record {
+        connection_field = same ∙ (seen.connection_field
+            ∙ (sym (or-false (has_connection_field fields)) ∙ sym (connection-push field)));
+        has_length = lengths;
+      }
 
--- Another field was added.
-pub regular-other : (fields : List Field) (field : Field) (old new : Scan) (specific : Bool)
-    → is_named (codes "content-length") field ≡ false → is_connection_field field ≡ specific
-    → new.connection_field ≡ (old.connection_field || specific)
-    → new.bad_length ≡ old.bad_length → new.length ≡ old.length
-    → HasSeenRegular fields old → HasSeenRegular (fields ++ field ∷ []) new
-unfolding has_bad_length declared_length
-regular-other fields field old new specific other is connection bad kept seen =
-    let same : lengths_of (fields ++ field ∷ []) ≡ lengths_of fields =
-    lengths-other fields field other ∙ append-nil (lengths_of fields) in
-    record {
-      connection_field = connection ∙ (ap₂ (λ (a b : Bool). a || b) seen.connection_field (sym is)
-          ∙ sym (connection-push fields field));
-      has_length = record {
-        bad_length = bad ∙ (seen.has_length.bad_length ∙ ap bad_lengths (sym same));
-        length = λ good. kept
-            ∙ (seen.has_length.length (ap bad_lengths (sym same) ∙ good)
-            ∙ ap first_number (sym same));
-      };
-    }
+  -- Another field was added.
+  pub regular-other : (field : Field) (old new : Scan) (specific : Bool)
+      → is_named (codes "content-length") field ≡ false → is_connection_field field ≡ specific
+      → new.connection_field ≡ (old.connection_field || specific) → new.bad_length ≡ old.bad_length
+      → new.length ≡ old.length → HasSeenRegular fields old
+      → HasSeenRegular (fields ++ field ∷ []) new
+  unfolding has_bad_length declared_length
+  regular-other field old new specific other is connection bad kept seen =
+      let same : lengths_of (fields ++ field ∷ []) ≡ lengths_of fields =
+      lengths-other fields field other ∙ append-nil (lengths_of fields) in
+      record {
+        connection_field = connection ∙ (ap₂ (λ (a b : Bool). a || b) seen.connection_field (sym is)
+            ∙ sym (connection-push field));
+        has_length = record {
+          bad_length = bad ∙ (seen.has_length.bad_length ∙ ap bad_lengths (sym same));
+          length = λ good. kept ∙ (seen.has_length.length (ap bad_lengths (sym same) ∙ good)
+              ∙ ap first_number (sym same));
+        };
+      }
 
 -- A field was added whose name is specific to one connection.
 pub regular-connection : (fields : List Field) (name value : List ℕ) (sensitive : Bool)

@@ -2,9 +2,9 @@
 use Rattle.h2_message.specs.declared.classes.Method.{Method}
 use Rattle.h2_message.proofs.Names
 use Names.{◌≡◌, ℕ, not, ◌||◌, ◌&&◌, cond, Bool, true, false, List, [], ◌∷◌, ◌++◌, codes, Option}
-use Names.{Some, None, refl, sym, ap, ap₂, ◌∙◌, list_any, option_or, is_some, bytes_eq, or-false}
+use Names.{Some, None, refl, sym, ap, ◌∙◌, list_any, option_or, is_some, bytes_eq, or-false}
 use Names.{or-true, and-false, and-true, Field, Path, Request, Scan, method_class, path_class}
-use Names.{is_pseudo, is_named, is_unknown_pseudo, pseudo_names, is_colon_first, has_unknown_pseudo}
+use Names.{is_pseudo, is_named, is_unknown_pseudo, pseudo_names, is_colon_first}
 use Names.{has_pseudo_twice, HasPseudo, with_field, HasSeenPseudo, IsSameOfPseudo}
 use Rattle.h2_message.proofs.ScanLists.{any-push}
 use Rattle.h2_message.proofs.ScanPseudo.{other-name, same-pseudo, unknown-push, two-push, kept-any}
@@ -24,58 +24,54 @@ after_request old value pseudo method scheme path authority = record old {
   authority = old.authority || authority;
 }
 
-same-twice : (fields : List Field) (field : Field) (old : Scan)
-    → is_some old.method ≡ list_any (is_named (codes ":method")) fields
-    → is_some old.path ≡ list_any (is_named (codes ":path")) fields
-    → HasSeenPseudo Request fields old
-    → (after_request old field.value
-    (is_pseudo field) (is_named (codes ":method") field) (is_named (codes ":scheme") field)
-    (is_named (codes ":path") field) (is_named (codes ":authority") field)).pseudo_twice
-    ≡ (has_pseudo_twice Request fields
-    || list_any (λ name. list_any (is_named name) fields && is_named name field)
-    (pseudo_names Request))
-unfolding HasPseudo pseudo_names
-same-twice fields field old method path seen =
-    rw (method, path, seen.pseudo_twice, seen.has_pseudo.scheme, seen.has_pseudo.authority)
+module _ (fields : List Field) (field : Field) (old : Scan) where
+  same-twice : is_some old.method ≡ list_any (is_named (codes ":method")) fields
+      → is_some old.path ≡ list_any (is_named (codes ":path")) fields
+      → HasSeenPseudo Request fields old
+      → (after_request old field.value (is_pseudo field) (is_named (codes ":method") field)
+      (is_named (codes ":scheme") field) (is_named (codes ":path") field)
+      (is_named (codes ":authority") field)).pseudo_twice ≡ (has_pseudo_twice Request fields ||
+      list_any (λ name. list_any (is_named name) fields && is_named name field)
+      (pseudo_names Request))
+  unfolding HasPseudo pseudo_names
+  same-twice method path seen =
+      rw (method, path, seen.pseudo_twice, seen.has_pseudo.scheme, seen.has_pseudo.authority)
 
-pub request-push : (fields : List Field) (field : Field) (old : Scan)
-    → HasSeenPseudo Request fields old
-    → HasSeenPseudo Request (fields ++ field ∷ []) (after_request old field.value
-    (is_pseudo field) (is_named (codes ":method") field) (is_named (codes ":scheme") field)
-    (is_named (codes ":path") field) (is_named (codes ":authority") field))
-unfolding HasPseudo is_unknown_pseudo pseudo_names
-request-push fields field old seen = record {
-  unknown_pseudo = ap (λ (b : Bool). b || is_unknown_pseudo Request field) seen.unknown_pseudo
-      ∙ sym (unknown-push Request fields field);
-  pseudo_twice = same-twice fields field old
-      (kept-any method_class (codes ":method") fields old.method seen.has_pseudo.method)
-      (kept-any path_class (codes ":path") fields old.path seen.has_pseudo.path) seen
-      ∙ sym (two-push Request fields field);
-  has_pseudo = record {
-    method = kept-push method_class (codes ":method") fields field old.method
-        seen.has_pseudo.method;
-    scheme = ap (λ (b : Bool). b || is_named (codes ":scheme") field) seen.has_pseudo.scheme
-        ∙ sym (any-push (is_named (codes ":scheme")) fields field);
-    path = kept-push path_class (codes ":path") fields field old.path seen.has_pseudo.path;
-    authority =
-        ap (λ (b : Bool). b || is_named (codes ":authority") field) seen.has_pseudo.authority
-        ∙ sym (any-push (is_named (codes ":authority")) fields field);
-  };
-}
+  pub request-push : HasSeenPseudo Request fields old
+      → HasSeenPseudo Request (fields ++ field ∷ []) (after_request old field.value
+      (is_pseudo field) (is_named (codes ":method") field) (is_named (codes ":scheme") field)
+      (is_named (codes ":path") field) (is_named (codes ":authority") field))
+  unfolding HasPseudo is_unknown_pseudo pseudo_names
+  request-push seen = record {
+    unknown_pseudo = ap (λ (b : Bool). b || is_unknown_pseudo Request field) seen.unknown_pseudo
+        ∙ sym (unknown-push Request fields field);
+    pseudo_twice = same-twice
+        (kept-any method_class (codes ":method") fields old.method seen.has_pseudo.method)
+        (kept-any path_class (codes ":path") fields old.path seen.has_pseudo.path) seen
+        ∙ sym (two-push Request fields field);
+    has_pseudo = record {
+      method = kept-push method_class (codes ":method") fields field old.method
+          seen.has_pseudo.method;
+      scheme = ap (λ (b : Bool). b || is_named (codes ":scheme") field) seen.has_pseudo.scheme
+          ∙ sym (any-push (is_named (codes ":scheme")) fields field);
+      path = kept-push path_class (codes ":path") fields field old.path seen.has_pseudo.path;
+      authority =
+          ap (λ (b : Bool). b || is_named (codes ":authority") field) seen.has_pseudo.authority
+          ∙ sym (any-push (is_named (codes ":authority")) fields field);
+    };
+  }
 
--- The pseudo-fields of a request after a field, by the names that it has.
-request-with : (fields : List Field) (field : Field) (old new : Scan)
-    (pseudo method scheme path authority : Bool)
-    → HasSeenPseudo Request fields old
-    → is_pseudo field ≡ pseudo → is_named (codes ":method") field ≡ method
-    → is_named (codes ":scheme") field ≡ scheme → is_named (codes ":path") field ≡ path
-    → is_named (codes ":authority") field ≡ authority
-    → IsSameOfPseudo (after_request old field.value pseudo method scheme path authority) new
-    → HasSeenPseudo Request (fields ++ field ∷ []) new
-request-with fields field old new pseudo method scheme path authority seen colon m s p a same =
-    same-pseudo Request (fields ++ field ∷ [])
-    (after_request old field.value pseudo method scheme path authority) new same
-    (rw (← colon, ← m, ← s, ← p, ← a) (request-push fields field old seen))
+  -- The pseudo-fields of a request after a field, by the names that it has.
+  request-with : (new : Scan) (pseudo method scheme path authority : Bool)
+      → HasSeenPseudo Request fields old → is_pseudo field ≡ pseudo
+      → is_named (codes ":method") field ≡ method → is_named (codes ":scheme") field ≡ scheme
+      → is_named (codes ":path") field ≡ path → is_named (codes ":authority") field ≡ authority
+      → IsSameOfPseudo (after_request old field.value pseudo method scheme path authority) new
+      → HasSeenPseudo Request (fields ++ field ∷ []) new
+  request-with new pseudo method scheme path authority seen colon m s p a same =
+      same-pseudo Request (fields ++ field ∷ [])
+      (after_request old field.value pseudo method scheme path authority) new same
+      (rw (← colon, ← m, ← s, ← p, ← a) (request-push seen))
 
 -- A `:method` was added.
 pub method-added : (fields : List Field) (name value : List ℕ) (sensitive : Bool) (old : Scan)

@@ -2,12 +2,11 @@
 use Rattle.h2_message.specs.declared.classes.Status.{Status}
 use Rattle.h2_message.proofs.Names
 use Names.{◌≡◌, ℕ, not, ◌||◌, ◌&&◌, cond, Bool, true, false, List, [], ◌∷◌, ◌++◌, codes, Option}
-use Names.{Some, None, refl, sym, ap, ap₂, ◌∙◌, list_any, option_or, is_some, bytes_eq, or-false}
+use Names.{Some, None, refl, sym, ap, ap₂, ◌∙◌, option_or, is_some, bytes_eq, or-false}
 use Names.{or-true, and-false, and-true, Field, Response, Scan, status_class, is_pseudo, is_named}
-use Names.{is_unknown_pseudo, pseudo_names, is_colon_first, has_unknown_pseudo, has_pseudo_twice}
+use Names.{is_unknown_pseudo, pseudo_names, is_colon_first}
 use Names.{HasPseudo, with_field, HasSeenPseudo, IsSameOfPseudo}
-use Rattle.h2_message.proofs.ScanLists.{any-push}
-use Rattle.h2_message.proofs.ScanPseudo.{other-name, same-pseudo, unknown-push, two-push, kept-any}
+use Rattle.h2_message.proofs.ScanPseudo.{same-pseudo, unknown-push, two-push, kept-any}
 use Rattle.h2_message.proofs.ScanPseudo.{kept-push, or-nothing, no-colon}
 
 -- the pseudo-fields of a response after one more field

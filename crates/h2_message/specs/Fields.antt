@@ -2,11 +2,12 @@
 -- contract: h2_message::Reading::fields
 -- contract: h2_message::check_request
 -- contract: h2_message::check_response
-use Rattle.std.specs.Prelude.{ℕ, nat_lt, ◌==◌, ◌||◌, ◌&&◌, not, Bool, true, false}
-use Rattle.std.specs.Prelude.{if◌then◌else◌, List, [], ◌∷◌, map, codes, Option, Some, None}
+use Rattle.std.specs.Prelude.{ℕ, nat_lt, ◌==◌, ◌||◌, ◌&&◌, not, Bool, false}
+use Rattle.std.specs.Prelude.{List, [], ◌∷◌, map, codes, Option, Some, None}
 use Rattle.std.specs.List.{list_any, filter, count_by}
-use Rattle.std.specs.Str.{byte, bytes_eq, str_eq_ignore_ascii_case}
+use Rattle.std.specs.Str.{byte, str_eq_ignore_ascii_case}
 use Rattle.hpack.specs.declared.types.field.Field.{Field}
+unfoldable pub use Rattle.hpack.specs.FieldLists.{is_named, value_of}
 use Rattle.h2_message.specs.declared.kind.Kind.{Kind}
 use Rattle.h2_message.specs.declared.kind.Kind.TheVariants.{Request, Response}
 use Rattle.h2_message.specs.Octets.{is_bad_name, is_bad_value, is_bad_method, is_bad_path}
@@ -24,16 +25,6 @@ is_pseudo field = is_colon_first field.name
 
 unfoldable pub is_regular : Field → Bool
 is_regular field = not (is_pseudo field)
-
--- Whether a field has this name.
-unfoldable pub is_named : List ℕ → Field → Bool
-is_named name field = bytes_eq field.name name
-
--- the value of the first field with this name
-unfoldable pub value_of : List ℕ → List Field → Option (List ℕ)
-value_of name [] = None
-value_of name (field ∷ fields) =
-    if is_named name field then Some field.value else value_of name fields
 
 -- the pseudo-fields of a request and of a response (sections 8.3.1 and 8.3.2)
 -- rule: 8.3 A pseudo-field that its kind of message does not have breaks M4

@@ -1,5 +1,5 @@
 -- Messages, and which of the rules one breaks first (RFC 9113, section 8).
-use Rattle.std.specs.Prelude.{ℕ, nat_lt, ◌==◌, ◌||◌, not, Bool, true, false, if◌then◌else◌}
+use Rattle.std.specs.Prelude.{ℕ, nat_lt, ◌==◌, ◌||◌, not, Bool, false, if◌then◌else◌}
 use Rattle.std.specs.Prelude.{List, [], ◌∷◌, ◌++◌, length, codes, Option, Some, None}
 use Rattle.std.specs.Str.{bytes_eq}
 use Rattle.hpack.specs.declared.types.field.Field.{Field}
@@ -24,6 +24,20 @@ pub record SentMessage : Type 0 where
   pub head : List Field
   pub body : List ℕ
   pub trailers : Option (List Field)
+
+-- a field that may be put into a table
+abbrev pub plain_field : (name value : List ℕ) → Field
+plain_field name value = record { name = name; value = value; sensitive = false }
+
+-- the pseudo-fields of a request over `http` (section 8.3.1)
+unfoldable pub request_head : (method authority path : List ℕ) → List Field
+request_head method authority path =
+    plain_field (codes ":method") method ∷ plain_field (codes ":scheme") (codes "http")
+    ∷ plain_field (codes ":authority") authority ∷ plain_field (codes ":path") path ∷ []
+
+-- the pseudo-field of a response (section 8.3.2)
+unfoldable pub response_head : (status : List ℕ) → List Field
+response_head status = plain_field (codes ":status") status ∷ []
 
 -- the first rule whose condition holds
 -- rule: 8.1.1 (own) A message to be sent is refused for the least of M1 to M11 it breaks

@@ -1,5 +1,5 @@
 -- What a scan has seen of a list of fields.
-use Rattle.std.specs.Prelude.{◌≡◌, ℕ, Bool, true, false, List, codes, option_map}
+use Rattle.std.specs.Prelude.{◌≡◌, false, List, codes, option_map}
 use Rattle.std.specs.List.{list_any}
 use Rattle.hpack.specs.declared.types.field.Field.{Field}
 use Rattle.h2_message.specs.declared.kind.Kind.{Kind}

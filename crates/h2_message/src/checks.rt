@@ -33,7 +33,7 @@ use crate::verdict::first_broken;
 ///
 /// # Errors
 ///
-/// The first of M1 to M8, M10 and M11 that it breaks.
+/// The first of M1 to M8, M10 and M11 ([`Malformed`]) that it breaks.
 pub fn check_request(message: &Message) -> Result<(), Malformed>
     ensures ok { OnOk result (broken_by_request (message_value message.now) ≡ None) }
     ensures err { IfErr result (λ rule. broken_by_request (message_value message.now)
@@ -91,8 +91,9 @@ fn broken_by_request(message: &Message) -> Option<Malformed>
 ///
 /// # Errors
 ///
-/// The first of M1 to M6 and M9 to M11 that it breaks: M9 of an interim response too, and M11
-/// where a response has a body that has none (to HEAD, 204 and 304; RFC 9110, section 6.4.1).
+/// The first of M1 to M6 and M9 to M11 ([`Malformed`]) that it breaks: M9 of an interim response
+/// too, and M11 where a response has a body that has none (to HEAD, 204 and 304; RFC 9110, section
+/// 6.4.1).
 pub fn check_response(message: &Message, to_head: bool) -> Result<(), Malformed>
     ensures ok { OnOk result (broken_by_response to_head (message_value message.now) ≡ None) }
     ensures err { IfErr result (λ rule. broken_by_response to_head (message_value message.now)

@@ -22,6 +22,6 @@ pub use checks::{check_request, check_response};
 pub use hpack::{Field, FieldList, FieldRef, Octets};
 pub use laws::sent_messages_are_well_read;
 pub use malformed::Malformed;
-pub use message::{Message, asks_head};
+pub use message::{Message, asks_head, list_asks_head};
 pub use octets::names_user;
 pub use reading::{Place, Reading, Reads};

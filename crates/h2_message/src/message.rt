@@ -1,9 +1,10 @@
 //! A message that is to be sent.
 
-ghost use Rattle.std.specs.Prelude.{◌≡◌};
-ghost use Rattle.h2_message.specs.Messages.{asks_head};
+ghost use Rattle.std.specs.Prelude.{◌≡◌, ◌∷◌, ◌++◌, [], None, IfOk, codes, decimal};
+ghost use Rattle.h2_message.specs.Messages.{asks_head, request_head, response_head, plain_field};
 
-use hpack::Field;
+use hpack::{Field, FieldList, Octets};
+use std::alloc::{AllocError, Global};
 
 /// A request or a response (RFC 9113, section 8.1).
 #[derive(Debug, Drop)]
@@ -14,6 +15,110 @@ pub struct Message {
     pub body: Vec<u8>,
     /// The fields after the body, if there are any.
     pub trailers: Option<Vec<Field>>,
+}
+
+impl Message {
+    /// A GET request for a path, over `http`, as [`Message::request`].
+    ///
+    /// # Errors
+    ///
+    /// [`AllocError`] where an allocation was refused.
+    pub fn get(alloc: Global, authority: &[u8], path: &[u8]) -> Result<Message, AllocError>
+        ensures { IfOk result (λ message.
+            (message.head.items ≡ request_head (codes "GET") authority.now path.now)
+            × (message.body.items ≡ []) × (message.trailers ≡ None)) }
+    {
+        Message::request(alloc, b"GET", authority, path)
+    }
+
+    /// A request over `http` with the four pseudo-fields (RFC 9113, section 8.3.1), without body
+    /// and trailers. Whether it breaks a rule, as a path that begins with no slash does, is for
+    /// [`check_request`](crate::check_request), which a client's `request` asks.
+    ///
+    /// # Errors
+    ///
+    /// [`AllocError`] where an allocation was refused.
+    pub fn request(
+        alloc: Global,
+        method: &[u8],
+        authority: &[u8],
+        path: &[u8],
+    ) -> Result<Message, AllocError>
+        ensures { IfOk result (λ message.
+            (message.head.items ≡ request_head method.now authority.now path.now)
+            × (message.body.items ≡ []) × (message.trailers ≡ None)) }
+    {
+        let mut head = Vec::with_capacity(alloc, 4)?;
+        head.push(named(b":method", Octets::copy_of(alloc, method)?))?;
+        head.push(named(b":scheme", Octets::from_static(b"http")))?;
+        head.push(named(b":authority", Octets::copy_of(alloc, authority)?))?;
+        head.push(named(b":path", Octets::copy_of(alloc, path)?))?;
+        Ok(Message {
+            head,
+            body: Vec::new(alloc),
+            trailers: None,
+        })
+    }
+
+    /// A response with a status (section 8.3.2), in decimal digits, without body and trailers.
+    /// Whether it breaks a rule, as a status of two digits does, is for
+    /// [`check_response`](crate::check_response), which a server's `respond` asks.
+    ///
+    /// # Errors
+    ///
+    /// [`AllocError`] where an allocation was refused.
+    pub fn response(alloc: Global, status: u16) -> Result<Message, AllocError>
+        ensures { IfOk result (λ message. (message.head.items ≡ response_head (decimal status))
+            × (message.body.items ≡ []) × (message.trailers ≡ None)) }
+    {
+        let mut head = Vec::with_capacity(alloc, 4)?;
+        let digits = status.to_string(alloc)?.into_bytes();
+        head.push(named(b":status", Octets::new(digits)))?;
+        Ok(Message {
+            head,
+            body: Vec::new(alloc),
+            trailers: None,
+        })
+    }
+
+    /// The message with a further field at the end of its head.
+    ///
+    /// # Errors
+    ///
+    /// [`AllocError`] where an allocation was refused; the message is dropped.
+    pub fn field(mut self, alloc: Global, name: &[u8], value: &[u8]) -> Result<Message, AllocError>
+        ensures { IfOk result (λ message.
+            (message.head.items ≡ self.head.items ++ plain_field name.now value.now ∷ [])
+            × (message.body.items ≡ self.body.items) × (message.trailers ≡ self.trailers)) }
+    {
+        self.head.push(Field::copy_of(alloc, name, value, false)?)?;
+        Ok(self)
+    }
+
+    /// The message with these octets at the end of its body.
+    ///
+    /// # Errors
+    ///
+    /// [`AllocError`] where an allocation was refused; the message is dropped.
+    pub fn body(mut self, octets: &[u8]) -> Result<Message, AllocError>
+        ensures { IfOk result (λ message. (message.head ≡ self.head)
+            × (message.body.items ≡ self.body.items ++ octets.now)
+            × (message.trailers ≡ self.trailers)) }
+    {
+        self.body.extend_from_slice(octets)?;
+        Ok(self)
+    }
+}
+
+/// A field of a name of the program.
+fn named(name: &'static [u8], value: Octets) -> Field
+    ensures { result ≡ plain_field name.now value }
+{
+    Field {
+        name: Octets::from_static(name),
+        value,
+        sensitive: false,
+    }
 }
 
 // contract: HTTP 9.3.2 A request asks with HEAD where the method of its head is HEAD
@@ -29,4 +134,15 @@ pub fn asks_head(head: &[Field]) -> bool
         }
     }
     false
+}
+
+// rule: HTTP 9.3.2 A request asks with HEAD where the method of its head is HEAD
+/// [`asks_head`] of the head of a request that was read. It takes no memory.
+pub fn list_asks_head(head: &FieldList) -> bool
+    ensures { result ≡ asks_head head.now }
+{
+    match head.value(b":method") {
+        Some(method) => method == b"HEAD".as_slice(),
+        None => false,
+    }
 }

@@ -9,3 +9,4 @@ mod ReadingLemmas
 pub mod SendingLemmas
 mod ServingLemmas
 pub mod examples
+mod FieldValues

@@ -2,11 +2,10 @@
 use Rattle.std.specs.Prelude.{◌≡◌, ◌⊎◌, [], ◌∷◌, codes, string_bytes, None}
 use Rattle.std.specs.Prelude.{Result, Err}
 use Rattle.h2_spec_log.specs.Acts.{Values}
-use Rattle.h2_message.specs.Messages.{SentMessage}
+use Rattle.h2_message.specs.Messages.{SentMessage, plain_field}
 use Rattle.h2_link.specs.declared.error.LinkError.{LinkError}
 use Rattle.h2_link.specs.declared.error.LinkError.TheVariants as errors
 use Rattle.h2_engines.specs.declared.fetcher.Fetched.{Fetched}
-use Rattle.h2_engines.specs.Answers.{answer_field}
 use Rattle.h2_engines.specs.Fetches.{Fetches}
 use Rattle.h2_engines.specs.Linked.{Traffic}
 use Rattle.h2_net.specs.declared.location.Location.{Location}
@@ -21,9 +20,9 @@ default_values =
 abbrev pub get_request : Location → SentMessage
 get_request location = record {
   head =
-      answer_field (codes ":method") (codes "GET") ∷ answer_field (codes ":scheme") (codes "http")
-      ∷ answer_field (codes ":path") (string_bytes location.path)
-      ∷ answer_field (codes ":authority") (string_bytes location.authority) ∷ [];
+      plain_field (codes ":method") (codes "GET") ∷ plain_field (codes ":scheme") (codes "http")
+      ∷ plain_field (codes ":path") (string_bytes location.path)
+      ∷ plain_field (codes ":authority") (string_bytes location.authority) ∷ [];
   body = [];
   trailers = None;
 }

@@ -1,13 +1,12 @@
 -- What two ends in one process say to each other.
 use Rattle.std.specs.Prelude.{◌≡◌, ◌≢◌, ◌⊎◌, ℕ, suc, zero, ◌%◌, List, [], ◌∷◌, ◌++◌, codes}
 use Rattle.std.specs.Prelude.{Some, None, Result, MatchResult}
-use Rattle.h2_message.specs.Messages.{SentMessage}
+use Rattle.h2_message.specs.Messages.{SentMessage, plain_field}
 use Rattle.h2_ends.specs.Ends.{EndLog, message_for, parts_on}
 use Rattle.h2_link.specs.declared.error.LinkError.{LinkError}
 use Rattle.h2_link.specs.declared.error.LinkError.TheVariants as errors
 use Rattle.h2_engines.specs.declared.fetcher.Fetched.{Fetched}
 use Rattle.h2_engines.specs.declared.fetcher.Fetcher.{Fetcher}
-use Rattle.h2_engines.specs.Answers.{answer_field}
 use Rattle.h2_engines.specs.ClientHistories.{IsFetching, IsFetched}
 use Rattle.h2_engines.specs.WithoutLink.{IsFetchingAlone, IsFetchedAlone}
 use Rattle.h2_net.specs.declared.loopback.Carried.{Carried}
@@ -36,9 +35,9 @@ posted_octets (suc count) = posted_octets count ++ count % 251 ∷ []
 abbrev pub post_request : (count : ℕ) → SentMessage
 post_request count = record {
   head =
-      answer_field (codes ":method") (codes "POST") ∷ answer_field (codes ":scheme") (codes "http")
-      ∷ answer_field (codes ":path") (codes "/")
-      ∷ answer_field (codes ":authority") (codes "127.0.0.1") ∷ [];
+      plain_field (codes ":method") (codes "POST") ∷ plain_field (codes ":scheme") (codes "http")
+      ∷ plain_field (codes ":path") (codes "/")
+      ∷ plain_field (codes ":authority") (codes "127.0.0.1") ∷ [];
   body = posted_octets count;
   trailers = None;
 }

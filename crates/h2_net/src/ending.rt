@@ -1,6 +1,6 @@
 //! How a command over sockets ends.
 
-ghost use Rattle.std.specs.Prelude.{◌≡◌};
+ghost use Rattle.std.specs.Prelude.{◌≡◌, None};
 ghost use Rattle.h2_net.specs.Endings.{IsClientHint, IsServerHint, link_hint, status_with};
 
 use h2_cli::{Hint, Status, hint_at_client, hint_at_server, hint_of_device, write_hint};
@@ -14,6 +14,15 @@ pub struct Ending {
     pub error: LinkError,
     /// What is likely the cause, where it is known.
     pub hint: Option<Hint>,
+}
+
+impl From<LinkError> for Ending {
+    ghost from_gives = { λ error ending. ending ≡ record { error = error; hint = None } };
+
+    /// An end without a hint.
+    fn from(error: LinkError) -> Ending {
+        Ending { error, hint: None }
+    }
 }
 
 // rule: engines (own) N1 to N7 end a command with their statuses

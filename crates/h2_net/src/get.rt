@@ -46,10 +46,8 @@ pub fn get_location<N: Net>(net: &N, alloc: Global, location: &Location) -> Resu
             });
         }
     };
-    match StreamLink::new(alloc, stream) {
-        Ok(mut link) => get_with_hint(alloc, &mut link, location),
-        Err(error) => Err(Ending { error, hint: None }),
-    }
+    let mut link = StreamLink::new(alloc, stream)?;
+    get_with_hint(alloc, &mut link, location)
 }
 
 // rule: engines (own) A URL is asked for with GET

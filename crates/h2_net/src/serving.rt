@@ -88,10 +88,8 @@ where
             });
         }
     };
-    match StreamLink::new(alloc, stream) {
-        Ok(mut link) => serve_with_hint(alloc, &mut link),
-        Err(error) => Err(Ending { error, hint: None }),
-    }
+    let mut link = StreamLink::new(alloc, stream)?;
+    serve_with_hint(alloc, &mut link)
 }
 
 /// Serves one connection, as [`serve_stream`] does. Where it ends early the hint says what is

@@ -3,14 +3,13 @@
 ghost use Rattle.std.specs.Prelude.{◌≡◌, ◌+◌, ◌≤◌, ◌++◌, length, take, drop, vec_len};
 ghost use Rattle.std.specs.Vec.{vec_capacity};
 
-/// The octets of a GOAWAY without debug octets (RFC 9113, section 6.8).
-pub(crate) const GOAWAY: usize = 17;
+use h2_frame::limits::LARGE_FRAME;
 
 /// The GOAWAY of a failed connection, which needs no memory: its octets, and how many of them were
 /// given out.
 #[derive(Clone, Copy, Debug)]
 pub(crate) struct LastFrame {
-    pub(crate) octets: [u8; GOAWAY],
+    pub(crate) octets: [u8; LARGE_FRAME],
     pub(crate) given: usize,
     ghost within: { given ≤ 17 },
 }
@@ -22,7 +21,7 @@ impl LastFrame {
         ensures value { result ≡ length (drop self.now.given self.now.octets) }
         ensures small { result ≤ 17 }
     {
-        GOAWAY - self.given
+        LARGE_FRAME - self.given
     }
 
     // rule: 5.4.1 (own) The GOAWAY of a failed connection goes out last, once, without memory

@@ -9,8 +9,9 @@ ghost use Rattle.h2_frame.specs.Encoding.{encoding_of, refusal};
 ghost use Rattle.h2_output.specs.Output.{max_control_octets};
 
 use crate::data_head::data_head;
-use crate::last_frame::{GOAWAY, LastFrame};
+use crate::last_frame::LastFrame;
 use bytes::BytesMut;
+use h2_frame::limits::LARGE_FRAME;
 use h2_frame::{FrameRef, write_ref};
 use std::alloc::{AllocError, Global};
 use std::marker::Model;
@@ -176,7 +177,7 @@ impl Output {
             debug: &[],
         };
         encode(goaway, &mut self.frame);
-        let mut octets = [0; GOAWAY];
+        let mut octets = [0; LARGE_FRAME];
         octets.copy_from_slice(&self.frame);
         self.last = Some(LastFrame { octets, given: 0 });
     }

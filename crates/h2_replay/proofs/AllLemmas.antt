@@ -2,8 +2,7 @@
 use Rattle.h2_replay.proofs.Names.{◌≡◌, ℕ, ◌-◌, List, [], ◌++◌, length, take, drop, Option, Some}
 use Rattle.h2_replay.proofs.Names.{None, refl, sym, ap, subst, ◌∙◌, append_assoc, append-nil, Code}
 use Rattle.h2_replay.proofs.Names.{Values, Log, Conn, ConnRepresents, Next, kept_by_octets}
-use Rattle.h2_replay.proofs.Names.{KeepsNews, GoesOn}
-use Rattle.h2_replay.specs.Replay.{all_by_octets}
+use Rattle.h2_replay.proofs.Names.{KeepsNews, GoesOn, all_by_octets}
 use Rattle.h2_laws_end.specs.Replays.{TakesAll, is_done, goes_on, has_fault}
 use Rattle.h2_replay.specs.declared.turns.Turn.{Turn}
 use Rattle.h2_replay.specs.Taking.{TakesPieceOf, TakesAllOf}

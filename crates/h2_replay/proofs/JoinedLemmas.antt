@@ -1,10 +1,9 @@
 -- What the turns of a replay tell together.
-use Rattle.h2_replay.proofs.Names.{◌≡◌, ℕ, List, [], ◌∷◌, ◌++◌, reverse, Some, None, refl, sym, ap}
-use Rattle.h2_replay.proofs.Names.{◌∙◌, append_assoc, append-nil, Role, Event, Values, In, Out}
-use Rattle.h2_replay.proofs.Names.{Happened, Called, Answered, TakeCalled, TakeAnswered, Log}
-use Rattle.h2_replay.proofs.Names.{ReplayAct, Take, Make, IsReplay, starts, takes, calls}
-use Rattle.h2_replay.proofs.Names.{turn_value, by_octets}
-use Rattle.h2_replay.specs.Replay.{each_octet, all_by_octets, kept_by_octets}
+use Rattle.h2_replay.proofs.Names.{◌≡◌, ℕ, List, [], ◌∷◌, ◌++◌, reverse, None, refl, sym, ap, ◌∙◌}
+use Rattle.h2_replay.proofs.Names.{append_assoc, append-nil, Role, Event, Values, In, Out, Happened}
+use Rattle.h2_replay.proofs.Names.{TakeAnswered, Log, ReplayAct, Take, Make, IsReplay, starts}
+use Rattle.h2_replay.proofs.Names.{takes, calls, turn_value, by_octets, each_octet, all_by_octets}
+use Rattle.h2_replay.proofs.Names.{kept_by_octets}
 use Rattle.std.proofs.lemmas.List.{reverse-append}
 use Rattle.h2_spec_log.specs.Acts.{Turn}
 use Rattle.h2_laws_log.specs.Turns.{octets_in, octets_out, events_in}
@@ -76,34 +75,22 @@ used_same : (turn : Turn) → flat used_in (by_octets turn) ≡ used_in turn
 unfolding flat
 used_same (In octets) = used_each octets
 used_same (Out octets) = used_none octets
-used_same (Called act) = refl
-used_same (Answered answer) = refl
-used_same (Happened event) = refl
-used_same (TakeCalled octets) = refl
 used_same (TakeAnswered None) = refl
-used_same (TakeAnswered (Some code)) = refl
+used_same turn = refl
 
 written_same : (turn : Turn) → flat written_in (by_octets turn) ≡ written_in turn
 unfolding flat
 written_same (In octets) = written_none octets
 written_same (Out octets) = written_each octets
-written_same (Called act) = refl
-written_same (Answered answer) = refl
-written_same (Happened event) = refl
-written_same (TakeCalled octets) = refl
 written_same (TakeAnswered None) = refl
-written_same (TakeAnswered (Some code)) = refl
+written_same turn = refl
 
 event_same : (turn : Turn) → flat event_in (by_octets turn) ≡ event_in turn
 unfolding flat
 event_same (In octets) = no_event In (λ octets. refl) octets
 event_same (Out octets) = no_event Out (λ octets. refl) octets
-event_same (Called act) = refl
-event_same (Answered answer) = refl
-event_same (Happened event) = refl
-event_same (TakeCalled octets) = refl
 event_same (TakeAnswered None) = refl
-event_same (TakeAnswered (Some code)) = refl
+event_same turn = refl
 
 -- The octets of a log's turns.
 used_all : (turns : List Turn) → flat used_in (all_by_octets turns) ≡ octets_in turns

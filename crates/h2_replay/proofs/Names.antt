@@ -12,18 +12,23 @@ pub use Rattle.h2_laws_end.specs.Takes.{Failed, MayTake, TakeAnswer, Took}
 pub use Rattle.h2_output.proofs.PieceLemmas.{drop-parts}
 pub use Rattle.h2_replay.specs.Calls.{call_of, MakesCall}
 pub use Rattle.h2_replay.specs.Recording.{Records}
-pub use Rattle.h2_replay.specs.Replay.{all_by_octets, by_octets, each_octet, kept_by_octets}
+pub use Rattle.h2_replay.specs.Replay.{by_octets}
+unfoldable pub use Rattle.h2_replay.specs.Replay.{all_by_octets, each_octet, kept_by_octets}
 pub use Rattle.h2_replay.specs.Taking.{GoesOn, IsWithinPiece, KeepsNews, ReplayTakesOctets}
 pub use Rattle.h2_replay.specs.Taking.{taken_answer, taken_events}
-pub use Rattle.h2_replay.specs.Values.{acts_made, kept_event_value, KeptEvent, turn_value}
+pub use Rattle.h2_replay.specs.Values.{kept_event_value, KeptEvent, turn_value}
+unfoldable pub use Rattle.h2_replay.specs.Values.{acts_made}
 pub use Rattle.h2_replay.specs.declared.taking.Next.{Next}
-pub use Rattle.h2_spec_log.specs.Acts.{Act, Answer, Answered, Called, Count, Done, Happened, In}
-pub use Rattle.h2_spec_log.specs.Acts.{IsTypedAct, Number, Out, OutOfMemory, PutOut, Refused}
-pub use Rattle.h2_spec_log.specs.Acts.{SendData, shown, TakeAnswered, TakeCalled, Values}
+pub use Rattle.h2_spec_log.specs.Acts.{Act, Answer, Count, Done, Happened, In, Number, Out}
+pub use Rattle.h2_spec_log.specs.Acts.{OutOfMemory, PutOut, Refused, SendData, shown, TakeAnswered}
+pub use Rattle.h2_spec_log.specs.Acts.{Values}
+unfoldable pub use Rattle.h2_spec_log.specs.Acts.{IsTypedAct}
 pub use Rattle.h2_spec_log.specs.Events.{Event}
-pub use Rattle.h2_spec_log.specs.Log.{Log, output, waiting}
-pub use Rattle.h2_spec_log.specs.LogCalls.{opened, with_call}
-pub use Rattle.h2_spec_log.specs.LogSteps.{with_sent, with_unreturned}
+pub use Rattle.h2_spec_log.specs.Log.{Log}
+unfoldable pub use Rattle.h2_spec_log.specs.Log.{output, waiting}
+unfoldable pub use Rattle.h2_spec_log.specs.LogCalls.{opened, with_call}
+pub use Rattle.h2_spec_log.specs.LogSteps.{with_unreturned}
+unfoldable pub use Rattle.h2_spec_log.specs.LogSteps.{with_sent}
 pub use Rattle.h2_spec_log.specs.declared.role.Role.{Role}
 pub use Rattle.hpack.specs.declared.types.field.Field.{Field}
 pub use Rattle.std.proofs.Common.{[], ap, append-nil, append_assoc, arith, Bool, drop, false}

@@ -1,19 +1,15 @@
 -- A replay with one act more.
 use Rattle.h2_replay.proofs.Names.{◌≡◌, ℕ, ◌+◌, ◌≤◌, List, [], ◌∷◌, ◌++◌, length, take, drop}
 use Rattle.h2_replay.proofs.Names.{Option, refl, sym, ap, subst, ◌∙◌, append_assoc, append-nil}
-use Rattle.h2_replay.proofs.Names.{drop-take, Code, Role, Values, Out, Called, Answered, TakeCalled}
-use Rattle.h2_replay.proofs.Names.{shown, TakeAnswered, Act, Answer, IsTypedAct, OutOfMemory}
-use Rattle.h2_replay.proofs.Names.{Number, Count, Done, Refused, Log, with_call, ReplayAct, Take}
-use Rattle.h2_replay.proofs.Names.{Make, IsReplay, starts, takes, calls, Conn, ConnRepresents}
-use Rattle.h2_replay.proofs.Names.{turn_value, each_octet, by_octets, ReplayTakesOctets, call_of}
-use Rattle.h2_replay.proofs.Names.{MakesCall, Records}
-use Rattle.h2_spec_log.specs.Log.{waiting, output}
-use Rattle.h2_spec_log.specs.LogSteps.{with_sent}
-use Rattle.h2_spec_log.specs.LogCalls.{opened}
-use Rattle.h2_replay.specs.Values.{acts_made, act_value, answer_turn, call_turn}
-use Rattle.h2_replay.specs.Replay.{all_by_octets, kept_by_octets}
+use Rattle.h2_replay.proofs.Names.{drop-take, Code, Role, Values, Out, shown, TakeAnswered, Act}
+use Rattle.h2_replay.proofs.Names.{Answer, IsTypedAct, OutOfMemory, Number, Count, Done, Refused}
+use Rattle.h2_replay.proofs.Names.{Log, with_call, ReplayAct, Take, Make, IsReplay, starts, takes}
+use Rattle.h2_replay.proofs.Names.{calls, Conn, ConnRepresents, turn_value, each_octet, by_octets}
+use Rattle.h2_replay.proofs.Names.{ReplayTakesOctets, call_of, MakesCall, Records, waiting, output}
+use Rattle.h2_replay.proofs.Names.{with_sent, opened, acts_made, all_by_octets, kept_by_octets}
+use Rattle.h2_spec_log.specs.Acts.{Called, Answered, TakeCalled, AreInRange, Turn}
+use Rattle.h2_replay.specs.Values.{act_value, answer_turn, call_turn}
 use Rattle.std.proofs.lemmas.List.{drop-drop, take-append-drop}
-use Rattle.h2_spec_log.specs.Acts.{AreInRange, Turn}
 use Rattle.h2_spec_log.specs.Histories.{IsLog, begins, took_some, took_one, met_fault, called_one}
 use Rattle.h2_spec_log.specs.Histories.{ran_out_of_memory, reported_one}
 use Rattle.h2_replay.specs.Taking.{IsTakeAnswer, fault_of_answer}
@@ -31,9 +27,7 @@ answered_alike : (answer : answered.Answer) → IsTakeAnswer answer
     → by_octets (answer_turn answer) ≡ by_octets (TakeAnswered (fault_of_answer answer))
 answered_alike answers.Done is = refl
 answered_alike (answers.Fault code) is = refl
-answered_alike (answers.Id id) is = absurd is
-answered_alike (answers.Count count) is = absurd is
-answered_alike (answers.Refused refusal) is = absurd is
+answered_alike answer is = absurd is
 
 -- The turns of octets that were taken.
 take_turns : (octets : List ℕ) (fault : Option Code) (news turns : List Turn)
@@ -92,10 +86,6 @@ take_records role values acts octets answer old one two three news conn new call
 -- No answer of a call is a fault.
 call_answered : (answer : answered.Answer) (one : Answer) → shown one ≡ answer_value answer
     → answer_turn answer ≡ Answered (shown one)
-call_answered (answers.Id id) one same = ap Answered (sym same)
-call_answered (answers.Count count) one same = ap Answered (sym same)
-call_answered answers.Done one same = ap Answered (sym same)
-call_answered (answers.Refused refusal) one same = ap Answered (sym same)
 call_answered (answers.Fault code) one same = absurd (never one same)
   where
     never : (one : Answer) → shown one ≡ OutOfMemory → ⊥
@@ -104,20 +94,12 @@ call_answered (answers.Fault code) one same = absurd (never one same)
     never Done is = cc
     never OutOfMemory is = cc
     never (Refused refusal) is = cc
+call_answered answer one same = ap Answered (sym same)
 
 -- An act that is a call.
 pub made_call : (act : code.Act) → IsCall act → act_value act ≡ Make (call_of act)
 made_call (acts.Take octets) is = absurd is
-made_call (acts.Open fields end) is = refl
-made_call (acts.Fields id fields end) is = refl
-made_call (acts.Data id octets end) is = refl
-made_call (acts.Release id count) is = refl
-made_call (acts.Reset id code) is = refl
-made_call (acts.Refuse id code) is = refl
-made_call (acts.Ping octets) is = refl
-made_call acts.GoAway is = refl
-made_call (acts.PutOut count) is = refl
-made_call (acts.ChangeSettings config) is = refl
+made_call act is = refl
 
 -- What was put out, and what is queued after it.
 given_and_waiting : (before count after : ℕ) (written : List ℕ) → after ≡ before + count

@@ -2,9 +2,8 @@
 use Rattle.h2_replay.proofs.Names.{◌≡◌, ℕ, ◌+◌, List, [], ◌∷◌, ◌++◌, refl, sym, ap, ◌∙◌}
 use Rattle.h2_replay.proofs.Names.{append_assoc, append-nil, Code, Item, Act, Answer, PutOut, Count}
 use Rattle.h2_replay.proofs.Names.{Number, Done, OutOfMemory, Refused, Out, Log, with_sent}
-use Rattle.h2_replay.proofs.Names.{with_unreturned, by_octets}
-use Rattle.h2_spec_log.specs.LogCalls.{with_call, called}
-use Rattle.h2_replay.specs.Replay.{each_octet, all_by_octets}
+use Rattle.h2_replay.proofs.Names.{with_unreturned, by_octets, with_call, each_octet, all_by_octets}
+use Rattle.h2_spec_log.specs.LogCalls.{called}
 use Rattle.std.proofs.Common.{add-zero}
 use Rattle.std.proofs.lemmas.List.{map-append}
 use Rattle.h2_spec_log.specs.Items.{encoding_of_items}

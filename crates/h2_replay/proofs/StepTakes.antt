@@ -2,15 +2,14 @@
 use Rattle.h2_replay.proofs.Names.{◌≡◌, ℕ, List, [], ◌∷◌, ◌++◌, map, Option, None, refl, sym, ap}
 use Rattle.h2_replay.proofs.Names.{subst, ◌∙◌, append-nil, append_assoc, Item, Event, In, Out}
 use Rattle.h2_replay.proofs.Names.{Happened, Log, with_unreturned, TakeAnswer, Took, Failed}
-use Rattle.h2_replay.proofs.Names.{MayTake, log_after_take}
-use Rattle.h2_replay.specs.Replay.{each_octet, all_by_octets}
+use Rattle.h2_replay.proofs.Names.{MayTake, log_after_take, each_octet, all_by_octets}
 use Rattle.std.proofs.lemmas.List.{append_cancel_right}
 use Rattle.h2_frame.specs.Frames.{Frame}
 use Rattle.h2_spec_log.specs.Events.{UnprocessedEvent}
 use Rattle.h2_spec_log.specs.Acts.{Turn}
 use Rattle.h2_spec_log.specs.Log.{next_unprocessed}
 use Rattle.h2_spec_log.specs.LogView.{log_view}
-use Rattle.h2_spec_log.specs.Verdicts.{Verdict, ConnectionFault, StreamFault, NoEvent, Reported}
+use Rattle.h2_spec_log.specs.Verdicts.{Verdict, ConnectionFault}
 use Rattle.h2_spec_log.specs.ItemRules.{Decoded, FrameStep, fails_with, begins_block, completes}
 use Rattle.h2_spec_log.specs.ItemRules.{frame_step}
 use Rattle.h2_spec_log.specs.LogSteps.{used, read, with_reported, with_verdict, with_step}
@@ -106,13 +105,7 @@ verdict_adds : (log : Log) (decoded : Option Decoded) (item : Item) (verdict : V
 unfolding with_verdict
 verdict_adds log decoded item (ConnectionFault code) =
     reports_none log _ (writes_failure code _ log)
-verdict_adds log decoded item (StreamFault code) =
-    events_from log (read log decoded item) _ refl refl refl refl refl
-    (reports_after _ _ _ (writes_more (read log decoded item) _ _))
-verdict_adds log decoded item NoEvent =
-    events_from log (read log decoded item) _ refl refl refl refl refl
-    (reports_after _ _ _ (writes_more (read log decoded item) _ _))
-verdict_adds log decoded item Reported =
+verdict_adds log decoded item verdict =
     events_from log (read log decoded item) _ refl refl refl refl refl
     (reports_after _ _ _ (writes_more (read log decoded item) _ _))
 

@@ -1,13 +1,12 @@
 -- A call of `take`, and what is kept of it.
 use Rattle.h2_replay.proofs.Names.{◌≡◌, ℕ, ◌-◌, ◌≤◌, Bool, false, List, [], ◌∷◌, ◌++◌, length, take}
 use Rattle.h2_replay.proofs.Names.{drop, map, Option, Some, None, refl, sym, ap, subst, ◌∙◌, arith}
-use Rattle.h2_replay.proofs.Names.{append_assoc, append-nil, length-drop, take-length, Code, Values}
-use Rattle.h2_replay.proofs.Names.{In, Out, Happened, Event, Log, TakeAnswer, Took, Failed, MayTake}
+use Rattle.h2_replay.proofs.Names.{append_assoc, append-nil, length-drop, take-length, Code, In}
+use Rattle.h2_replay.proofs.Names.{Out, Happened, Event, Log, TakeAnswer, Took, Failed, MayTake}
 use Rattle.h2_replay.proofs.Names.{log_after_take, KeptEvent, kept_event_value, turn_value}
 use Rattle.h2_replay.proofs.Names.{each_octet, by_octets, taken_answer, taken_events, KeepsNews}
-use Rattle.h2_replay.proofs.Names.{GoesOn, IsWithinPiece}
-use Rattle.h2_spec_log.specs.Log.{waiting, output}
-use Rattle.h2_replay.specs.Replay.{all_by_octets, kept_by_octets}
+use Rattle.h2_replay.proofs.Names.{GoesOn, IsWithinPiece, waiting, output, all_by_octets}
+use Rattle.h2_replay.proofs.Names.{kept_by_octets}
 use Rattle.std.proofs.Common.{◌≢◌, ◌^◌, nat_lt, true, if◌then◌else◌, inl, inr, ltb-true, ltb-false}
 use Rattle.std.proofs.Math.Seq.{drop-append_seam}
 use Rattle.std.proofs.lemmas.List.{append_cancel_left, length-append, take-append-le}

@@ -23,7 +23,7 @@ pub(crate) fn copy_event(
     Ok(match event {
         Event::Fields { id, list, end } => Event::Fields {
             id,
-            list: copy_list(alloc, list)?,
+            list: list.to_vec(alloc)?,
             end,
         },
         Event::Data {
@@ -43,18 +43,4 @@ pub(crate) fn copy_event(
         Event::Acked => Event::Acked,
         Event::Pong { octets } => Event::Pong { octets },
     })
-}
-
-/// A copy of a list of fields.
-fn copy_list(alloc: Global, list: &FieldList) -> Result<Vec<Field>, AllocError>
-    ensures { IfOk result (λ copy. copy.items ≡ list.now) }
-{
-    let mut copy = Vec::new(alloc);
-    for place in 0..list.len() {
-        let Some(field) = list.get(place) else {
-            unreachable!()
-        };
-        copy.push(Field::copy_of(alloc, field.name, field.value, field.sensitive)?)?;
-    }
-    Ok(copy)
 }

@@ -110,13 +110,9 @@ pub grouping_error_reports : (blocks : Blocks) (gather : GatherState) (frame : F
     (frames : List Frame) (fault : BlockFault) → GatherFails blocks.gather frame fault gather
     → BlocksRepresent blocks frames
     → BlockErrorReports (frames ++ frame ∷ []) (error_of_grouping fault)
-grouping_error_reports blocks gather frame frames grouping.Interrupted fails represents =
-    misgrouped blocks gather frame frames grouping.Interrupted fails represents
-grouping_error_reports blocks gather frame frames grouping.Stray fails represents =
-    misgrouped blocks gather frame frames grouping.Stray fails represents
-grouping_error_reports blocks gather frame frames grouping.TooLong fails represents =
-    misgrouped blocks gather frame frames grouping.TooLong fails represents
 grouping_error_reports blocks gather frame frames grouping.Memory fails represents = tt
+grouping_error_reports blocks gather frame frames fault fails represents =
+    misgrouped blocks gather frame frames fault fails represents
 
 -- what an error of decoding a block reports of the frames
 pub decoding_error_reports : (blocks : Blocks) (gather : GatherState) (frame : Frame)

@@ -14,6 +14,7 @@ use Rattle.h2_frame.specs.declared.code.Code.TheVariants.{ProtocolError}
 use Rattle.h2_wire.specs.declared.fault.WireFault.TheVariants as faults
 use Rattle.h2_wire.specs.Streams.{WireFaultAt, IsSound}
 use Rattle.h2_wire.specs.Cutter.{saturated}
+use Rattle.h2_wire.specs.Faults.{wire_fault_code}
 use Rattle.h2_show.specs.declared.blocks.BlockError.TheVariants as errors
 use Rattle.h2_show.specs.Shown.{ShowsFrames, is_complete, ends_inside_frame, ends_inside_block}
 use Rattle.h2_show.specs.Shown.{has_wire_fault, has_block_error}
@@ -110,27 +111,14 @@ wire_shows faults.BadPreface cutter new_cutter blocks due expects limits stream 
     (ap (preface_lines expects) (sym joined) ∙ none)
     ∙ ap (λ (octets : List ℕ). preface_lines expects octets ++ shows.lines
     ++ fault_line ProtocolError (saturated place)) (sym joined))
-wire_shows (faults.HeadFault code) cutter new_cutter blocks due expects limits stream output piece
-    more sound shows found =
+wire_shows fault cutter new_cutter blocks due expects limits stream output piece more sound shows
+    found =
     let all : List ℕ = (stream ++ piece) ++ more in
+    let code = wire_fault_code fault in
     let (place, first, at) = found.at expects limits stream shows.frames shows.cut in
-    let after = at_append expects limits (stream ++ piece) more shows.frames place
-    (faults.HeadFault code) first in
-    has_wire_fault shows.frames blocks.gather.begun place (faults.HeadFault code) shows.lines after
+    let after = at_append expects limits (stream ++ piece) more shows.frames place fault first in
+    has_wire_fault shows.frames blocks.gather.begun place fault shows.lines after
     (frames_shown blocks shows.frames shows.lines shows.blocks_show) refl
-    (ap (λ (where_at : ℕ). output ++ (due_line due ++ fault_line code where_at)) at
-    ∙ settled_fault cutter blocks due expects limits stream output all
-    (fault_line code (saturated place)) shows
-    (sound_lines expects limits shows.frames after.made.part _ all after.made.sound
-    (taken after.made.part after.made.last [] place all after.made.joined)))
-wire_shows (faults.PayloadFault code) cutter new_cutter blocks due expects limits stream output
-    piece more sound shows found =
-    let all : List ℕ = (stream ++ piece) ++ more in
-    let (place, first, at) = found.at expects limits stream shows.frames shows.cut in
-    let after = at_append expects limits (stream ++ piece) more shows.frames place
-    (faults.PayloadFault code) first in
-    has_wire_fault shows.frames blocks.gather.begun place (faults.PayloadFault code) shows.lines
-    after (frames_shown blocks shows.frames shows.lines shows.blocks_show) refl
     (ap (λ (where_at : ℕ). output ++ (due_line due ++ fault_line code where_at)) at
     ∙ settled_fault cutter blocks due expects limits stream output all
     (fault_line code (saturated place)) shows

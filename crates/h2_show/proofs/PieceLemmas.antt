@@ -133,18 +133,10 @@ pub fails_with_wire : (fault : WireFault) (cutter mid new_cutter : CutterState)
     → ViewerFailsWith cutter blocks due piece (Wire fault) new_cutter mid_due printed
 fails_with_wire faults.Memory cutter mid new_cutter blocks mid_blocks due mid_due piece done printed
     prints fails is = absurd is
-fails_with_wire faults.BadPreface cutter mid new_cutter blocks mid_blocks due mid_due piece done
-    printed prints fails is =
-    wire_fails faults.BadPreface cutter mid new_cutter blocks mid_blocks due mid_due piece done
-    printed (λ same. (cc)) prints fails
-fails_with_wire (faults.HeadFault code) cutter mid new_cutter blocks mid_blocks due mid_due piece
-    done printed prints fails is =
-    wire_fails (faults.HeadFault code) cutter mid new_cutter blocks mid_blocks due mid_due piece
-    done printed (λ same. (cc)) prints fails
-fails_with_wire (faults.PayloadFault code) cutter mid new_cutter blocks mid_blocks due mid_due piece
-    done printed prints fails is =
-    wire_fails (faults.PayloadFault code) cutter mid new_cutter blocks mid_blocks due mid_due piece
-    done printed (λ same. (cc)) prints fails
+fails_with_wire fault cutter mid new_cutter blocks mid_blocks due mid_due piece done printed prints
+    fails is =
+    wire_fails fault cutter mid new_cutter blocks mid_blocks due mid_due piece done printed
+    (λ same. (cc)) prints fails
 
 -- a frame that the blocks don't take
 pub fails_with_block : (error : BlockError) (cutter mid new_cutter : CutterState)

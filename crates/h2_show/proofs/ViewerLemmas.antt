@@ -53,11 +53,7 @@ step_continues : (cutter new_cutter : CutterState) (blocks new_blocks : Blocks) 
     → ViewerContinues cutter blocks used new_cutter new_blocks
 step_continues cutter new_cutter blocks new_blocks used frames continues blocks_continue expects
     limits stream represents =
-    record {
-      frames = represents.frames ++ frames;
-      cut = continues.represents expects limits stream represents.frames represents.cut;
-      blocks_represent = blocks_continue represents.frames represents.blocks_represent;
-    }
+    search (rules, continues.represents, blocks_continue)
 
 -- a call that returns no frame
 pub continues_without_frame : (cutter mid_cutter new_cutter : CutterState)
@@ -142,14 +138,10 @@ pub fails_at_cut : (fault : WireFault) (cutter mid_cutter new_cutter : CutterSta
     → ViewerContinues cutter blocks (take done piece) mid_cutter mid_blocks
     → CutterFails mid_cutter (take (length piece - done) (drop done piece)) fault new_cutter
     → ViewerFails cutter blocks piece (Wire fault) new_cutter
-fails_at_cut faults.BadPreface cutter mid_cutter new_cutter blocks mid_blocks piece done continues
-    fails = wire_fault_reports _ _ _ _ _ _ _ done continues fails
-fails_at_cut (faults.HeadFault code) cutter mid_cutter new_cutter blocks mid_blocks piece done
-    continues fails = wire_fault_reports _ _ _ _ _ _ _ done continues fails
-fails_at_cut (faults.PayloadFault code) cutter mid_cutter new_cutter blocks mid_blocks piece done
-    continues fails = wire_fault_reports _ _ _ _ _ _ _ done continues fails
 fails_at_cut faults.Memory cutter mid_cutter new_cutter blocks mid_blocks piece done continues
     fails = λ expects limits stream represents. tt
+fails_at_cut fault cutter mid_cutter new_cutter blocks mid_blocks piece done continues fails =
+    wire_fault_reports _ _ _ _ _ _ _ done continues fails
 
 -- a stream and a prefix of the piece, taken from the stream and the piece
 take_prefix : (stream piece : List ℕ) (count : ℕ)

@@ -5,7 +5,6 @@ use Rattle.std.specs.Prelude.{decimal}
 use Rattle.std.specs.Prelude.{flat_map, Option, Some, None}
 use Rattle.std.specs.Option.{is_some}
 use Rattle.hpack.specs.declared.types.field.Field.{Field}
-use Rattle.hpack.specs.declared.types.field.FieldRef.{FieldRef}
 use Rattle.hpack.specs.declared.types.field.Decoded.{Decoded}
 use Rattle.hpack.specs.declared.types.field.Decoded.TheVariants.{Whole, TooLarge}
 use Rattle.hpack.specs.Lists.{list_size}
@@ -57,11 +56,6 @@ abbrev pub list_lines : List Field → List ℕ
 list_lines fields =
     if nat_le (list_size fields) show_list_limit then flat_map field_line fields
     else codes "  list too large\n"
-
--- a lent field, without where its octets lie
-abbrev pub field_lent : FieldRef → Field
-field_lent field =
-    record { name = field.name.now; value = field.value.now; sensitive = field.sensitive }
 
 -- the lines of a list that a decoder was given
 -- rule: show (own) A list above 65,536 octets has one line, without fields

@@ -11,16 +11,15 @@ ghost use Rattle.h2_frame.specs.Pairs.{lent_pairs};
 ghost use Rattle.h2_show.specs.Lines.{frame_line, frame_words, flag_word, pad_word, pad_octets};
 ghost use Rattle.h2_show.specs.Lines.{hex_octet};
 ghost use Rattle.h2_show.specs.Lines.{hex_digit, is_plain as plain, shown_octet, shown_octets};
-ghost use Rattle.h2_show.specs.Lines.{field_line, field_lent};
+ghost use Rattle.h2_show.specs.Lines.{field_line};
+ghost use Rattle.hpack.specs.FieldLists.{field_lent};
 ghost use Rattle.h2_show.specs.Printed.{block_lines};
 
+use h2_frame::limits::PAIR;
 use h2_frame::{FrameRef, Pairs};
 use hpack::{Decoded, FieldList, FieldRef};
 use std::fmt;
 use std::io::{self, Write};
-
-/// The octets of a pair (RFC 9113, section 6.5.1).
-const PAIR: usize = 6;
 
 /// The octets of a priority (RFC 9113, section 6.3).
 const PRIORITY: usize = 5;

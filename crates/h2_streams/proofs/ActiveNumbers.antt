@@ -1,11 +1,10 @@
 -- The least active number above another, in the table of streams.
-use Rattle.h2_streams.proofs.Names.{◌≡◌, ℕ, ◌+◌, ◌^◌, ◌<◌, Bool, true, false, List, length, nat_eq}
-use Rattle.h2_streams.proofs.Names.{nat_lt, Option, Some, None, IsSome, refl, sym, ap, ◌∙◌, arith}
-use Rattle.h2_streams.proofs.Names.{nat_eq_equiv, HashMap, IsUnique, slice_get, keys_of, option_map}
-use Rattle.h2_streams.proofs.Names.{is_some, both_ways, ltb-true, ltb-false, slice_get-map}
-use Rattle.h2_streams.proofs.Names.{slice_get_within, place_from_lookup, hash_map_get_place}
-use Rattle.h2_streams.proofs.Names.{StreamEntry, active_entry, reset_entry, StreamMap, view_of_kept}
-use Rattle.h2_streams.proofs.Names.{active_at, is_reset, IsKeptWell, Kept}
+use Rattle.h2_streams.proofs.Names
+use Names.{◌≡◌, ℕ, ◌+◌, ◌^◌, ◌<◌, Bool, true, false, List, length, nat_eq, nat_lt, Option, Some}
+use Names.{None, IsSome, refl, sym, ap, ◌∙◌, arith, nat_eq_equiv, HashMap, IsUnique, slice_get}
+use Names.{keys_of, option_map, is_some, both_ways, ltb-true, ltb-false, slice_get-map}
+use Names.{slice_get_within, place_from_lookup, hash_map_get_place, StreamEntry, active_entry}
+use Names.{reset_entry, StreamMap, view_of_kept, active_at, is_reset, IsKeptWell, Kept}
 use Rattle.std.proofs.Common.{◌≢◌, ◌-◌, ◌%◌, ◌≤◌, min, nat_le}
 use Rattle.std.proofs.lemmas.Bool.{leb-true, leb-false, eqb-true, eqb-false}
 use Rattle.h2_spec_machine.specs.Machine.{first_active, is_active_entry}

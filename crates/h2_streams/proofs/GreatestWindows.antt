@@ -6,13 +6,12 @@ use Rattle.h2_streams.proofs.Names.{HashMap, IsUnique, nat_eq_equiv, ints, both_
 use Rattle.h2_streams.proofs.Names.{slice_get_within, place_from_lookup, hash_map_get_place}
 use Rattle.h2_streams.proofs.Names.{StreamEntry, active_entry, reset_entry, StreamMap, view_of_kept}
 use Rattle.h2_streams.proofs.Names.{active_at, is_reset, IsKeptWell, greater_of, is_far_offset}
-use Rattle.h2_streams.proofs.Names.{Kept}
-use Rattle.std.proofs.Common.{int_lt, ◌≤ℤ◌}
-use Rattle.h2_spec_machine.specs.End.{any_above, above_by_shift}
-use Rattle.h2_streams.specs.Streams.{is_above_by_shift}
+use Rattle.h2_streams.proofs.Names.{Kept, int_lt, ◌≤ℤ◌, any_above, is_above_by_shift, above_found}
+use Rattle.h2_streams.proofs.Names.{both_same}
+use Rattle.h2_spec_machine.specs.End.{above_by_shift}
 use Rattle.h2_streams.specs.Table.{IsGreatestOf, IsGreatestOffset}
 use Rattle.h2_streams.proofs.KeptEntries.{entry_at, get_kept, near_found}
-use Rattle.h2_spec_machine.proofs.SortedEntries.{above_found, any_found, both_same}
+use Rattle.h2_spec_machine.proofs.SortedEntries.{any_found}
 use Rattle.h2_streams.proofs.Places.{below_or_here}
 use Rattle.h2_streams.proofs.TableSteps.{streams}
 use Rattle.std.specs.FinMap as map
@@ -121,12 +120,6 @@ pub greatest_near : (entries : List (ℕ × Kept)) (numbers : List ℕ) (offset 
 greatest_near entries numbers offset well is =
     let near = near_found is.number is.kept entries numbers well is.found in
     rw (← is.same) near.0
-
--- An active stream is brought above the greatest window, by its difference.
-above_kept : (send recv new : ℕ) (kept : Kept)
-    → above_by_shift send new (active_entry (view_of_kept send recv kept))
-    ≡ is_above_by_shift send new (Some (kept.send_offset +ℤ pos send))
-above_kept send recv new kept = refl
 
 -- An entry that is brought above the greatest window is an active stream's.
 pub above_by : (send recv new : ℕ) (b : Bool) (kept : Option Kept) (x : StreamEntry)

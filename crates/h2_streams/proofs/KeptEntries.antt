@@ -4,8 +4,7 @@ use Rattle.h2_streams.proofs.Names.{None, IsSome, IfSome, nat_eq, refl, ap, ◌�
 use Rattle.h2_streams.proofs.Names.{arith, nat_cmp, nat_cmp_total, unsigned_tied, option_map}
 use Rattle.h2_streams.proofs.Names.{both_ways, ints, StreamEntry, active_entry, reset_entry}
 use Rattle.h2_streams.proofs.Names.{StreamMap, stream_in, stream_view, view_of_kept, active_at}
-use Rattle.h2_streams.proofs.Names.{is_reset, IsKeptWell, IsNearKept, Kept}
-use Rattle.h2_streams.specs.Table.{active_map, with_resets}
+use Rattle.h2_streams.proofs.Names.{is_reset, IsKeptWell, IsNearKept, Kept, active_map, with_resets}
 use Rattle.std.proofs.Common.{map as each, ◌||◌, subst}
 use Rattle.h2_streams.specs.declared.entry.Stream.{Stream}
 use Rattle.std.specs.FinMap as map

@@ -2,21 +2,17 @@
 use Rattle.h2_streams.proofs.Names.{◌≡◌, ℕ, Bool, true, false, cond, ℤ, pos, ◌+ℤ◌, List, Option}
 use Rattle.h2_streams.proofs.Names.{Some, None, IfSome, refl, sym, ◌∙◌, nat_eq, arith, ints}
 use Rattle.h2_streams.proofs.Names.{both_ways, active_at, is_far_offset, is_reset, IsNearKept, Kept}
-use Rattle.h2_streams.proofs.Names.{StreamMap}
-use Rattle.h2_streams.proofs.Names.{◌^◌, ◌<◌, w64, to_z-of_z}
-use Rattle.std.proofs.Common.{int_lt, int_le, ◌≤ℤ◌}
-use mir.Val.{to_z, of_z}
+use Rattle.h2_streams.proofs.Names.{StreamMap, ◌^◌, ◌<◌, w64, to_z-of_z, int_lt, ◌≤ℤ◌, to_z, of_z}
+use Rattle.h2_streams.proofs.Names.{any_above, above_found, both_same, is_above_by_shift}
+use Rattle.std.proofs.Common.{int_le}
 use Rattle.h2_streams.proofs.Offsets.{initial_fits, offset_fits, window_is}
 use Rattle.std.specs.Int.{int_max}
-use Rattle.std.specs.FinMap as map
 use Rattle.h2_spec_log.specs.Windows.{greatest_window}
-use Rattle.h2_spec_machine.specs.End.{any_above}
-use Rattle.h2_spec_machine.proofs.SortedEntries.{above_found, both_same}
-use Rattle.h2_streams.specs.Streams.{is_above_by_shift}
 use Rattle.h2_streams.specs.Table.{IsMost}
 use Rattle.h2_streams.proofs.GreatestWindows.{above_by, found_low}
 use Rattle.h2_streams.proofs.KeptEntries.{get_kept}
 use Rattle.h2_streams.proofs.TableSteps.{streams, ChangesAt}
+use Rattle.std.specs.FinMap as map
 
 -- The greater of two that are near is near, and neither is above it.
 near_by : (b : Bool) (most offset : ℤ) → is_far_offset most ≡ false → is_far_offset offset ≡ false

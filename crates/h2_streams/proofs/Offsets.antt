@@ -1,7 +1,6 @@
 -- Windows and their differences from initial windows, as `i64` computes them.
 use Rattle.h2_streams.proofs.Names.{◌≡◌, ℕ, ◌^◌, ◌<◌, false, ℤ, pos, ◌+ℤ◌, ◌-ℤ◌, arith, w64, SFits}
-use Rattle.h2_streams.proofs.Names.{ints, to_z-of_z, is_far_offset}
-use mir.Val.{to_z, of_z}
+use Rattle.h2_streams.proofs.Names.{ints, to_z-of_z, is_far_offset, to_z, of_z}
 use Rattle.h2_streams.specs.Streams.{is_far}
 
 -- A difference that is near fits.

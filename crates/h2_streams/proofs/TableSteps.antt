@@ -5,7 +5,8 @@ use Rattle.h2_streams.proofs.Names.{IsSome, IfSome, nat_eq, refl, sym, ap, ◌�
 use Rattle.h2_streams.proofs.Names.{nat_cmp_total, unsigned_tied, nat_eq_equiv, active_entry}
 use Rattle.h2_streams.proofs.Names.{reset_entry, StreamMap, stream_in, view_of_kept, active_map}
 use Rattle.h2_streams.proofs.Names.{with_resets, active_at, is_reset, IsKeptWell, IsNearKept, Kept}
-use Rattle.std.proofs.Common.{eqb-true, ◌∷◌}
+use Rattle.h2_streams.proofs.Names.{◌∷◌}
+use Rattle.std.proofs.Common.{eqb-true}
 use Rattle.std.specs.List.{list_any}
 use Rattle.std.specs.Ordering.{is_eq}
 use Rattle.h2_spec_log.specs.View.{StreamView}

@@ -120,6 +120,7 @@ impl StreamTable {
     /// # Errors
     ///
     /// [`AllocError`] where an allocation was refused; the table is as before.
+    #[inline(always)]
     pub fn open(&mut self, id: u32, stream: Stream) -> Result<(), AllocError>
         requires absent { map.get self.old.entries id ≡ None }
         requires send { is_far stream.send_window ≡ false }
@@ -156,6 +157,7 @@ impl StreamTable {
     // rule: 5.1 (own) A change of a stream changes that stream alone
     /// Forgets an active stream, since both sides have ended it, or the peer has reset it, or will
     /// not process it. It takes no memory.
+    #[inline(always)]
     pub fn close(&mut self, id: u32)
         requires { IsSome (stream_in (map.get self.old.entries id)) }
         ensures { self.new ≡ record self.old { entries = map.remove self.old.entries id } }

@@ -3,12 +3,14 @@
 //!
 //! - `engines`: refused allocations, `Debug`, and a list of acts that is run.
 //! - `laws`: that each law can be called. `texts`: what refusals and faults say. `uses`: that the
-//!   README's programs run.
+//!   README's programs run. `calling`: the callers that each CALLING.md quotes.
 //!
 //! They stand in one crate without code of its own, so that the gate proves the crates that they
 //! test once for all of them. Ends that are driven at random are cases: `bench/drive` makes them.
 #![tactic(auto)]
 
+#[cfg(test)]
+mod calling;
 #[cfg(test)]
 mod engines;
 #[cfg(test)]

@@ -3,7 +3,7 @@
 use anyhow::Result;
 use h2_ends::{Field, FieldList, Message};
 use h2_engines::MemoryLink;
-use h2_uses::{Handler, Hello, Response, get, post, response, serve};
+use h2_uses::{Handler, Hello, Response, get, post, serve};
 use std::alloc::Global;
 use std::collections::BTreeMap;
 use std::test::Fail;
@@ -43,7 +43,7 @@ struct Long;
 
 impl Handler for Long {
     fn answer(&mut self, alloc: Global, _head: &FieldList) -> Result<Message> {
-        let mut message = response(alloc, b"200", b"")?;
+        let mut message = Message::response(alloc, 200)?;
         let cookie = vec![in alloc; b'x'; 1_500]?;
         message
             .head
@@ -58,7 +58,7 @@ struct Bodies;
 
 impl Handler for Bodies {
     fn answer(&mut self, alloc: Global, _head: &FieldList) -> Result<Message> {
-        Ok(response(alloc, b"200", b"hello\n")?)
+        Ok(Message::response(alloc, 200)?.body(b"hello\n")?)
     }
 }
 

@@ -77,3 +77,55 @@ pub fn write_for_user(frame: &Frame, out: &mut Vec<u8>) -> Result<Option<()>, &'
     }
 }
 // end
+
+// calling: h2_frame pad
+use h2_frame::{pad_length, payload_frame};
+
+/// Reads a frame only where it is on this stream; the others are checked, and left as they lie. A
+/// fault of any of them is returned as its code, since it ends the connection.
+pub fn read_on<'a>(
+    stream: u32,
+    nine: &[u8; 9],
+    payload: &'a [u8],
+) -> Result<Option<FrameRef<'a>>, Code>
+    ensures { IfOk result (λ read. IfSome read (λ frame.
+        Carries (head_of nine.now) payload.now (frame_of frame))) }
+{
+    let head = head(nine);
+    if let Some(code) = head_fault(&head, 16_384) {
+        return Err(code);
+    }
+    if payload.len() != head.length as usize {
+        return Ok(None);
+    }
+    let pad = pad_length(&head, payload)?;
+    if head.stream != stream {
+        return Ok(None);
+    }
+    Ok(Some(payload_frame(&head, pad, payload)))
+}
+// end
+
+// calling: h2_frame lent
+ghost use Rattle.std.specs.Prelude.{true};
+
+use h2_frame::write_ref;
+
+/// Appends a frame that was read to a copy of its stream of octets, as a recorder does, and returns
+/// whether it did: out of memory, the caller writes the copy, and tries again. A frame as it was
+/// read is refused for nothing else; the codes are for one that was changed since. For another
+/// connection frames are made anew: stream numbers, header tables, settings and windows are each
+/// connection's own.
+pub fn pass_on(frame: FrameRef<'_>, out: &mut Vec<u8>) -> Result<bool, Code>
+    ensures ok { IfOk result (λ passed. passed ≡ true →
+        out.new.items ≡ out.old.items ++ encoding_of (frame_of frame.entry)) }
+    ensures err { OnErr result (out.new.items ≡ out.old.items) }
+{
+    match write_ref(frame, out) {
+        Ok(()) => Ok(true),
+        Err(Unwritable::Memory) => Ok(false),
+        Err(Unwritable::TooLong) => Err(Code::FrameSizeError),
+        Err(Unwritable::BadStream | Unwritable::BadValue) => Err(Code::ProtocolError),
+    }
+}
+// end

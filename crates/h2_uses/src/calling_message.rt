@@ -41,3 +41,23 @@ pub fn checked_response(message: Message, to_head: bool) -> Result<Message, &'st
     }
 }
 // end
+
+// calling: h2_message requests
+ghost use Rattle.std.specs.Prelude.{OnOk};
+ghost use Rattle.h2_message.specs.Messages.{broken_by_request};
+
+use h2_message::check_request;
+
+/// Whether a request may be sent on; else the status with which a gateway answers whoever made it:
+/// 501 (Not Implemented) for a method that cannot be sent, as CONNECT, and 400 (Bad Request) for
+/// whatever else is wrong with it.
+pub fn check_forwarded(request: &Message) -> Result<(), u16>
+    ensures { OnOk result (broken_by_request (message_value request.now) ≡ None) }
+{
+    match check_request(request) {
+        Ok(()) => Ok(()),
+        Err(Malformed::BadMethod) => Err(501),
+        Err(_) => Err(400),
+    }
+}
+// end

@@ -1,8 +1,7 @@
 //! A client over any reader and writer.
 
-use crate::fields::{get_request, value};
 use anyhow::Result;
-use h2_ends::{Client, Config, EndEvent, EndRefusal, FieldList, Refusal};
+use h2_ends::{Client, Config, EndEvent, EndRefusal, FieldList, Message, Refusal};
 use std::alloc::Global;
 use std::collections::BTreeMap;
 use std::io::{Read, Write};
@@ -79,7 +78,7 @@ fn ask(
     path: &[u8],
     responses: &mut BTreeMap<u32, Response>,
 ) -> Result<()> {
-    match client.request(get_request(alloc, path)?) {
+    match client.request(Message::get(alloc, b"localhost", path)?) {
         Ok(id) => {
             responses.insert(id, Response::new(alloc))?;
             Ok(())
@@ -136,7 +135,8 @@ impl Response {
     fn keep(&mut self, event: EndEvent<&FieldList, &[u8]>) -> Result<()> {
         match event {
             EndEvent::Head { list, end, .. } => {
-                self.status.extend_from_slice(value(list, b":status"))?;
+                self.status
+                    .extend_from_slice(list.value(b":status").unwrap_or(b""))?;
                 self.is_whole = end;
             }
             EndEvent::Body { bytes, end, .. } => {

@@ -2,7 +2,6 @@
 
 ghost use Rattle.std.specs.Prelude.{◌<◌, ◌-◌, ◌^◌};
 
-use crate::fields::head_of;
 use anyhow::Result;
 use h2_engines::{Config, Fetched, Link, Message, fetch_link};
 use std::alloc::Global;
@@ -21,10 +20,7 @@ pub fn post<L: Link>(
 ) -> Result<Fetched>
     requires { L.faults link.old < 2 ^ 64 - 1 }
 {
-    let message = Message {
-        head: head_of(alloc, b"POST", authority, path)?,
-        body,
-        trailers: None,
-    };
+    let mut message = Message::request(alloc, b"POST", authority, path)?;
+    message.body = body;
     Ok(fetch_link(alloc, link, Config::default(), message)?)
 }

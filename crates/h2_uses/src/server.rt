@@ -1,6 +1,5 @@
 //! A server over any reader and writer.
 
-use crate::fields::{response, value};
 use anyhow::Result;
 use h2_ends::{Code, Config, EndEvent, EndRefusal, FieldList, Message, Refusal, Server};
 use h2_frame::limits::FULL_OUTPUT;
@@ -33,6 +32,7 @@ pub fn serve<R: Read, W: Write, H: Handler>(
     serve_input(alloc, &mut server, &mut input, from, to, handler)
 }
 
+// calling: h2_ends loop
 /// Takes what is read, a piece at a time, and sends what there is to send after each.
 fn serve_input<R: Read, W: Write, H: Handler>(
     alloc: Global,
@@ -55,6 +55,7 @@ fn serve_input<R: Read, W: Write, H: Handler>(
     }
     Ok(())
 }
+// end
 
 // calling: h2_ends
 /// Takes what was read, and answers the requests whose heads are in it.
@@ -84,8 +85,8 @@ fn take_piece<W: Write, H: Handler>(
 
 /// The response to a request: the handler's, unless the authority names a user (section 8.3.1).
 fn message_for<H: Handler>(alloc: Global, head: &FieldList, handler: &mut H) -> Result<Message> {
-    if names_user(value(head, b":authority")) {
-        return Ok(response(alloc, b"400", b"")?);
+    if names_user(head.value(b":authority").unwrap_or(b"")) {
+        return Ok(Message::response(alloc, 400)?);
     }
     handler.answer(alloc, head)
 }
@@ -123,6 +124,7 @@ fn release<W: Write>(alloc: Global, server: &mut Server, to: &mut W) -> Result<(
 }
 // end
 
+// calling: h2_ends pump
 /// Sends what windows let through, and writes all queued output.
 fn send<W: Write>(alloc: Global, server: &mut Server, to: &mut W) -> Result<()> {
     let mut output = Vec::new(alloc);
@@ -139,3 +141,4 @@ fn send<W: Write>(alloc: Global, server: &mut Server, to: &mut W) -> Result<()> 
     }
     Ok(())
 }
+// end

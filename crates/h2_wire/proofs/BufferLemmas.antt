@@ -1,15 +1,13 @@
 -- What the steps of a call make of a buffer's state.
-use Rattle.h2_wire.proofs.Names.{◌≡◌, ◌≢◌, ℕ, ◌+◌, ◌-◌, ◌<◌, ◌≤◌, Bool, false, List, ◌++◌, length}
-use Rattle.h2_wire.proofs.Names.{take, drop, [], ◌∷◌, Option, None, Some, MatchOption, Result, Ok}
-use Rattle.h2_wire.proofs.Names.{Err, refl, arith, length-append, length-take, length-drop}
-use Rattle.h2_wire.proofs.Names.{append_assoc, subst, ap, sym, ◌∙◌, take_rest, take-append-drop}
-use Rattle.h2_wire.proofs.Names.{drop-append_seam, Code, WireFault, Buffer, Phase, Head, head_of}
-use Rattle.h2_wire.proofs.Names.{head_fault, Frame, Encodes, payload_fault, pad_of, head_of-append}
-use Rattle.h2_wire.proofs.Names.{Limits, IsAfterPreface, IsPartial, CutterState, saturated}
-use Rattle.h2_wire.proofs.Names.{CutterRepresents, CutterFaults, CutterFails, CutterPasses}
-use Rattle.h2_wire.proofs.Names.{CutterCompletes, octets_of, octets_at, Source, Complete, Advance}
-use Rattle.h2_wire.proofs.Names.{state_of, unparsed_of, fault_of, is_in_preface, IsPartialPayload}
-use Rattle.h2_wire.proofs.Names.{BufferTakes}
+use Rattle.h2_wire.proofs.Names
+use Names.{◌≡◌, ◌≢◌, ℕ, ◌+◌, ◌-◌, ◌<◌, ◌≤◌, Bool, false, List, ◌++◌, length, take, drop, [], ◌∷◌}
+use Names.{Option, None, Some, MatchOption, Result, Ok, Err, refl, arith, length-append}
+use Names.{length-take, length-drop, append_assoc, subst, ap, sym, ◌∙◌, take_rest, take-append-drop}
+use Names.{drop-append_seam, Code, WireFault, Buffer, Phase, Head, head_of, head_fault, Frame}
+use Names.{Encodes, payload_fault, pad_of, head_of-append, Limits, IsAfterPreface, IsPartial}
+use Names.{CutterState, saturated, CutterRepresents, CutterFaults, CutterFails, CutterPasses}
+use Names.{CutterCompletes, octets_of, octets_at, Source, Complete, Advance, state_of, unparsed_of}
+use Names.{fault_of, is_in_preface, IsPartialPayload, BufferTakes}
 use Rattle.h2_wire.specs.Streams.{preface, BeginsWithPreface, GoesPastPreface}
 use Rattle.std.proofs.lemmas.List.{length-take-le, drop-append-le, take_at, get_or-drop}
 use Rattle.std.proofs.lemmas.List.{get_or_append_left}
@@ -72,57 +70,54 @@ keeps_piece old appended new piece start phase same changed items sound after ke
           (ap (λ (b : Buffer). saturated (b.place + length piece)) same) (kept ∙ items) opens;
     })
 
--- A head that has come was checked when its ninth octet came.
-pub sound_head : (partial more : List ℕ) (limit : ℕ) (head : Head) → IsPartial limit partial
-    → head ≡ head_of (partial ++ more) → 9 ≤ length partial
-    → head_fault head limit ≡ None
-sound_head partial more limit head fits is_head nine =
-    rw (is_head, head_of-append partial more nine) (fits nine).0
+module _ (partial : List ℕ) where
+  -- A head that has come was checked when its ninth octet came.
+  pub sound_head : (more : List ℕ) (limit : ℕ) (head : Head) → IsPartial limit partial
+      → head ≡ head_of (partial ++ more) → 9 ≤ length partial → head_fault head limit ≡ None
+  sound_head more limit head fits is_head nine =
+      rw (is_head, head_of-append partial more nine) (fits nine).0
 
--- A frame's head is that of the octets up to its end.
-pub complete_head : (partial more : List ℕ) (missing_octets : ℕ)
-    → 9 ≤ length (partial ++ take missing_octets more)
-    → head_of (partial ++ more) ≡ head_of (partial ++ take missing_octets more)
-complete_head partial more missing_octets nine =
-    ap (λ (octets : List ℕ). head_of (partial ++ octets))
-    (sym (take-append-drop missing_octets more))
-    ∙ ap head_of (sym (append_assoc partial (take missing_octets more) (drop missing_octets more)))
-    ∙ head_of-append (partial ++ take missing_octets more) (drop missing_octets more) nine
+  -- A frame's head is that of the octets up to its end.
+  pub complete_head : (more : List ℕ) (missing_octets : ℕ)
+      → 9 ≤ length (partial ++ take missing_octets more)
+      → head_of (partial ++ more) ≡ head_of (partial ++ take missing_octets more)
+  complete_head more missing_octets nine = ap (λ (octets : List ℕ). head_of (partial ++ octets))
+      (sym (take-append-drop missing_octets more))
+      ∙ ap head_of (sym (append_assoc partial (take missing_octets more) (drop missing_octets
+      more))) ∙ head_of-append (partial ++ take missing_octets more) (drop missing_octets more) nine
 
--- The head of what is kept and of the octets missing to nine, one written after the other, is that
--- of the octets joined.
-pub read_head : (partial lent piece first more second : List ℕ) (kept start : ℕ) (head : Head)
-    → kept ≡ length partial → length partial < 9
-    → 9 - kept ≤ length (take (length piece - start) (drop start piece))
-    → lent ≡ partial → first ≡ lent
-    → second ≡ take (9 - kept) (take (length piece - start) (drop start piece))
-    → head ≡ head_of (put_mid kept (9 - kept) (first ++ more) second)
-    → (9 ≤ length partial + length (drop start piece))
-    × (head ≡ head_of (partial ++ drop start piece))
-read_head partial lent piece first more second kept start head counted few enough same is_lent rest
-    is_head =
-    let following = take_rest piece start in
-    let all : 9 - kept ≤ length (drop start piece) = rw following at enough in
-    let octets = put_mid kept (9 - kept) (first ++ more) second in
-    let missing : second ≡ take (9 - kept) (drop start piece) = rw following at rest in
-    let long : length second ≡ 9 - kept =
-    rw (missing, length-take (9 - kept) (drop start piece)) (omega arith) in
-    let shown : first ≡ partial = is_lent ∙ same in
-    let begun : take kept (first ++ more) ≡ partial =
-    take_at first more kept (rw shown (sym counted)) ∙ shown in
-    let within : kept ≤ length (first ++ more) =
-    rw (length-append first more, shown) (omega (arith, counted)) in
-    let nine : take 9 octets ≡ partial ++ take (9 - kept) (drop start piece) =
-    take-put_mid kept (9 - kept) (first ++ more) second 9 (omega (arith, long, counted)) within
-    ∙ rw (begun, missing) refl in
-    let whole : 9 ≤ length (partial ++ take (9 - kept) (drop start piece)) =
-    rw (length-append, ← missing, long) (omega (arith, counted)) in (
-      omega (arith, all, counted),
-      is_head
-          ∙ sym (head_of-take octets 9 (omega arith) (rw (begun, length-append, length-append)
-          (omega (arith, long, counted))))
-          ∙ ap head_of nine ∙ sym (complete_head partial (drop start piece) (9 - kept) whole),
-    )
+  -- The head of what is kept and of the octets missing to nine, one written after the other, is
+  -- that of the octets joined.
+  pub read_head : (lent piece first more second : List ℕ) (kept start : ℕ) (head : Head)
+      → kept ≡ length partial → length partial < 9
+      → 9 - kept ≤ length (take (length piece - start) (drop start piece)) → lent ≡ partial
+      → first ≡ lent → second ≡ take (9 - kept) (take (length piece - start) (drop start piece))
+      → head ≡ head_of (put_mid kept (9 - kept) (first ++ more) second)
+      → (9 ≤ length partial + length (drop start piece))
+      × (head ≡ head_of (partial ++ drop start piece))
+  read_head lent piece first more second kept start head counted few enough same is_lent rest
+      is_head =
+      let following = take_rest piece start in
+      let all : 9 - kept ≤ length (drop start piece) = rw following at enough in
+      let octets = put_mid kept (9 - kept) (first ++ more) second in
+      let missing : second ≡ take (9 - kept) (drop start piece) = rw following at rest in
+      let long : length second ≡ 9 - kept =
+      rw (missing, length-take (9 - kept) (drop start piece)) (omega arith) in
+      let shown : first ≡ partial = is_lent ∙ same in
+      let begun : take kept (first ++ more) ≡ partial =
+      take_at first more kept (rw shown (sym counted)) ∙ shown in
+      let within : kept ≤ length (first ++ more) =
+      rw (length-append first more, shown) (omega (arith, counted)) in
+      let nine : take 9 octets ≡ partial ++ take (9 - kept) (drop start piece) =
+      take-put_mid kept (9 - kept) (first ++ more) second 9 (omega (arith, long, counted)) within
+      ∙ rw (begun, missing) refl in
+      let whole : 9 ≤ length (partial ++ take (9 - kept) (drop start piece)) =
+      rw (length-append, ← missing, long) (omega (arith, counted)) in (
+        omega (arith, all, counted),
+        is_head ∙ sym (head_of-take octets 9 (omega arith) (rw (begun, length-append, length-append)
+            (omega (arith, long, counted))))
+            ∙ ap head_of nine ∙ sym (complete_head (drop start piece) (9 - kept) whole),
+      )
 
 -- so many octets more complete a frame
 pub length-complete : (partial more : List ℕ) (missing_octets : ℕ) (head : Head)
@@ -132,109 +127,101 @@ length-complete partial more missing_octets head counted enough =
     length-append partial (take missing_octets more)
     ∙ ap (λ (n : ℕ). length partial + n) (length-take missing_octets more) ∙ omega arith
 
--- The frame is complete, where it lies, and without fault.
-completes : (old kept new : Buffer) (piece : List ℕ) (start missing_octets : ℕ) (frame : Complete)
-    → kept ≡ record old { octets = kept.octets }
-    → new ≡ record kept {
-      phase = phases.Lent;
-      place = saturated (kept.place + (start + missing_octets));
-    }
-    → octets_of (state_of kept) piece frame
-    ≡ old.octets.items ++ take missing_octets (drop start piece)
-    → StartsPayload old piece start frame.head
-    → length old.octets.items + missing_octets ≡ 9 + frame.head.length
-    → missing_octets ≤ length (drop start piece)
-    → payload_fault frame.head (drop 9 (octets_of (state_of kept) piece frame)) ≡ None
-    → frame.pad ≡ pad_of frame.head (drop 9 (octets_of (state_of kept) piece frame))
-    → CutterCompletes (state_of old) piece (start + missing_octets) frame (state_of new)
-completes old kept new piece start missing_octets frame same changed items starts counted enough
-    sound_payload pad =
-    let following : List ℕ = drop start piece in
-    let complete : length (old.octets.items ++ take missing_octets following)
-    ≡ 9 + frame.head.length =
-    length-complete old.octets.items following missing_octets frame.head counted enough in
-    let prefix : frame.head ≡ head_of (old.octets.items ++ take missing_octets following) =
-    starts.is_head
-    ∙ complete_head old.octets.items following missing_octets (omega (arith, complete)) in
-    let within : start ≤ length piece = starts.within in
-    let short : length old.octets.items < 9 + frame.head.length = starts.short in
-    let all_within : start + missing_octets ≤ length piece =
-    omega (arith, enough, length-drop start piece) in
-    rw changed (record {
-      within = all_within;
-      some = omega (arith, counted, short);
-      lies = record {
-        complete = ap length items ∙ complete;
-        is_head = prefix ∙ ap head_of (sym items);
-        bounded = starts.bounded;
-        form = starts.form;
-        sound = sound_payload;
-        pad = pad;
-      };
-      none_unparsed = refl;
-      continues = λ value encodes.
-          completes_frame (state_of old) _ piece old.octets.items start missing_octets value refl
-          refl
-          (ap (λ (b : Buffer). b.limit) same) (ap (λ (b : Buffer). b.greatest) same)
-          (ap (λ (b : Buffer). saturated (b.place + (start + missing_octets))) same) all_within refl
-          (λ expects limits stream so_far represented.
-          let (past, sound_head) = starts.opens expects limits stream so_far represented in (
-            past,
-            record {
-              encodes =
-                  subst (λ (octets : List ℕ). Encodes value octets) items encodes;
-              sound_head = rw (← prefix) sound_head;
-              sound_payload = rw (← prefix) (rw items at sound_payload);
-            },
-          ));
-    })
+module _ (old kept new : Buffer) (piece : List ℕ) (start missing_octets : ℕ) where
+  -- The frame is complete, where it lies, and without fault.
+  completes : (frame : Complete)
+      → kept ≡ record old { octets = kept.octets }
+      → new ≡ record kept {
+        phase = phases.Lent;
+        place = saturated (kept.place + (start + missing_octets));
+      }
+      → octets_of (state_of kept) piece frame
+      ≡ old.octets.items ++ take missing_octets (drop start piece)
+      → StartsPayload old piece start frame.head
+      → length old.octets.items + missing_octets ≡ 9 + frame.head.length
+      → missing_octets ≤ length (drop start piece)
+      → payload_fault frame.head (drop 9 (octets_of (state_of kept) piece frame)) ≡ None
+      → frame.pad ≡ pad_of frame.head (drop 9 (octets_of (state_of kept) piece frame))
+      → CutterCompletes (state_of old) piece (start + missing_octets) frame (state_of new)
+  completes frame same changed items starts counted enough sound_payload pad =
+      let following : List ℕ = drop start piece in
+      let complete : length (old.octets.items ++ take missing_octets following)
+      ≡ 9 + frame.head.length =
+      length-complete old.octets.items following missing_octets frame.head counted enough in
+      let prefix : frame.head ≡ head_of (old.octets.items ++ take missing_octets following) =
+      starts.is_head
+      ∙ complete_head old.octets.items following missing_octets (omega (arith, complete)) in
+      let within : start ≤ length piece = starts.within in
+      let short : length old.octets.items < 9 + frame.head.length = starts.short in
+      let all_within : start + missing_octets ≤ length piece =
+      omega (arith, enough, length-drop start piece) in
+      rw changed (record {
+        within = all_within;
+        some = omega (arith, counted, short);
+        lies = record {
+          complete = ap length items ∙ complete;
+          is_head = prefix ∙ ap head_of (sym items);
+          bounded = starts.bounded;
+          form = starts.form;
+          sound = sound_payload;
+          pad = pad;
+        };
+        none_unparsed = refl;
+        continues = λ value encodes.
+            completes_frame (state_of old) _ piece old.octets.items start missing_octets value refl
+            refl (ap (λ (b : Buffer). b.limit) same) (ap (λ (b : Buffer). b.greatest) same)
+            (ap (λ (b : Buffer). saturated (b.place + (start + missing_octets))) same) all_within
+            refl (λ expects limits stream so_far represented.
+            let (past, sound_head) = starts.opens expects limits stream so_far represented in (
+              past,
+              record {
+                encodes = subst (λ (octets : List ℕ). Encodes value octets) items encodes;
+                sound_head = rw (← prefix) sound_head;
+                sound_payload = rw (← prefix) (rw items at sound_payload);
+              },
+            ));
+      })
 
--- So what `end_frame` answers is what the call makes of the buffer.
-pub ends_frame : (old kept new : Buffer) (piece : List ℕ) (start missing_octets : ℕ)
-    (head : Head) (source : Source) (result : Result Advance WireFault)
-    → kept ≡ record old { octets = kept.octets }
-    → octets_at kept.octets.items piece (9 + head.length) source
-    ≡ old.octets.items ++ take missing_octets (drop start piece)
-    → StartsPayload old piece start head
-    → length old.octets.items + missing_octets ≡ 9 + head.length
-    → missing_octets ≤ length (drop start piece)
-    → EndsFrame kept piece (start + missing_octets) head source result new
-    → BufferTakes (state_of old) piece result new
-ends_frame old kept new piece start missing_octets head source (Ok advance) same items starts
-    counted enough (sound, answer, changed) =
-    let within_now : kept.limit ≤ kept.greatest =
-    rw (ap (λ (b : Buffer). b.limit) same, ap (λ (b : Buffer). b.greatest) same)
-    starts.invariant.within in
-    rw answer (record {
-      invariant = rw changed (record { within = within_now; fits = tt });
-      makes =
-          completes old kept new piece start missing_octets _ same changed items starts counted
-          enough sound refl;
-    })
-ends_frame old kept new piece start missing_octets head source (Err fault) same items starts counted
-    enough (code, faulty, is, changed) =
-    let within_now : kept.limit ≤ kept.greatest =
-    rw (ap (λ (b : Buffer). b.limit) same, ap (λ (b : Buffer). b.greatest) same)
-    starts.invariant.within in
-    let following : List ℕ = drop start piece in
-    let complete : length (old.octets.items ++ take missing_octets following)
-    ≡ 9 + head.length =
-    length-complete old.octets.items following missing_octets head counted enough in
-    let prefix : head ≡ head_of (old.octets.items ++ take missing_octets following) =
-    starts.is_head
-    ∙ complete_head old.octets.items following missing_octets (omega (arith, complete)) in
-    let within : start ≤ length piece = starts.within in
-    record {
-      invariant = rw changed (record { within = within_now; fits = tt });
-      makes = rw (is, changed, is)
-          (fails_payload (state_of old) piece code _ starts.sound
-          (fails_at (state_of old) _ piece (faults.PayloadFault code) (start + missing_octets)
-          refl refl refl (ap (λ (b : Buffer). b.limit) same) (ap (λ (b : Buffer). b.greatest) same)
-          (omega (arith, enough, within, length-drop start piece))
-          (ap (λ (b : Buffer). saturated (b.place + (start + missing_octets))) same)
-          (wrong_payload (state_of old) piece old.octets.items start missing_octets head code
-          starts.opens prefix complete (rw items at faulty))));
-    }
+  -- So what `end_frame` answers is what the call makes of the buffer.
+  pub ends_frame : (head : Head) (source : Source) (result : Result Advance WireFault)
+      → kept ≡ record old { octets = kept.octets }
+      → octets_at kept.octets.items piece (9 + head.length) source ≡ old.octets.items ++ take
+      missing_octets (drop start piece)
+      → StartsPayload old piece start head
+      → length old.octets.items + missing_octets ≡ 9 + head.length
+      → missing_octets ≤ length (drop start piece)
+      → EndsFrame kept piece (start + missing_octets) head source result new
+      → BufferTakes (state_of old) piece result new
+  ends_frame head source (Ok advance) same items starts counted enough (sound, answer, changed) =
+      let within_now : kept.limit ≤ kept.greatest =
+      rw (ap (λ (b : Buffer). b.limit) same, ap (λ (b : Buffer). b.greatest) same)
+      starts.invariant.within in
+      rw answer (record {
+        invariant = rw changed (record { within = within_now; fits = tt });
+        makes = completes _ same changed items starts counted enough sound refl;
+      })
+  ends_frame head source (Err fault) same items starts counted enough (code, faulty, is, changed) =
+      let within_now : kept.limit ≤ kept.greatest =
+      rw (ap (λ (b : Buffer). b.limit) same, ap (λ (b : Buffer). b.greatest) same)
+      starts.invariant.within in
+      let following : List ℕ = drop start piece in
+      let complete : length (old.octets.items ++ take missing_octets following) ≡ 9 + head.length =
+      length-complete old.octets.items following missing_octets head counted enough in
+      let prefix : head ≡ head_of (old.octets.items ++ take missing_octets following) =
+      starts.is_head
+      ∙ complete_head old.octets.items following missing_octets (omega (arith, complete)) in
+      let within : start ≤ length piece = starts.within in
+      record {
+        invariant = rw changed (record { within = within_now; fits = tt });
+        makes = rw (is, changed, is) (fails_payload (state_of old) piece code _ starts.sound
+            (fails_at (state_of old) _ piece (faults.PayloadFault code) (start + missing_octets)
+            refl refl refl (ap (λ (b : Buffer). b.limit) same)
+            (ap (λ (b : Buffer). b.greatest) same)
+            (omega (arith, enough, within, length-drop start piece))
+            (ap (λ (b : Buffer). saturated (b.place + (start + missing_octets))) same)
+            (wrong_payload (state_of old) piece old.octets.items start missing_octets head code
+            starts.opens prefix complete (rw items at faulty))));
+      }
 
 -- A head begins or continues.
 pub starts_head : (buffer : Buffer) (piece : List ℕ) → buffer.phase ≡ phases.Head

@@ -116,178 +116,157 @@ wrong_once (octet ∷ prefix) (another ∷ other) right correct wrong false_one 
     ap suc (wrong_once prefix other right correct wrong false_one missing absent beyond following
     differs deviates opens_on reads_on)
 
--- Two makings of a fault in one line are one: of one length, and of one fault.
-pub one_making : (expects : Bool) (limits : Limits) (frames afters : List Frame)
-    (octets others beyond following : List ℕ) (fault another : WireFault)
-    → EndsWithFault expects limits frames octets fault
-    → EndsWithFault expects limits afters others another → octets ++ beyond ≡ others ++ following
-    → (frames ≡ afters) × (length octets ≡ length others) × (fault ≡ another)
-one_making expects limits frames afters octets others beyond following faults.BadPreface
-    faults.BadPreface made again joined =
-    let line : made.prefix ++ made.wrong ∷ beyond ≡ again.prefix ++ again.wrong ∷ following =
-    sym (ap (λ (w : List ℕ). w ++ beyond) made.reads
-    ∙ append_assoc made.prefix (made.wrong ∷ []) beyond) ∙ joined
-    ∙ ap (λ (w : List ℕ). w ++ following) again.reads
-    ∙ append_assoc again.prefix (again.wrong ∷ []) following in
-    let prefixes =
-    wrong_once made.prefix again.prefix made.right again.right made.wrong again.wrong
-    made.missing again.missing beyond following made.differs again.differs
-    (sym made.opens ∙ again.opens) line in
-    let ours = simp length-append at (ap length made.reads) in
-    let theirs = simp length-append at (ap length again.reads) in
-    (made.none ∙ sym again.none, omega (arith, ours, theirs, prefixes), refl)
-one_making expects limits frames afters octets others beyond following faults.BadPreface
-    (faults.HeadFault code) made again joined =
-    absurd (sound_no_wrong expects limits afters frames again.part
-    (again.last ++ following) octets beyond again.sound made
-    (sym (joined ∙ ap (λ (w : List ℕ). w ++ following) again.joined
-    ∙ append_assoc again.part again.last following)))
-one_making expects limits frames afters octets others beyond following faults.BadPreface
-    (faults.PayloadFault code) made again joined =
-    absurd (sound_no_wrong expects limits afters frames again.part
-    (again.last ++ following) octets beyond again.sound made
-    (sym (joined ∙ ap (λ (w : List ℕ). w ++ following) again.joined
-    ∙ append_assoc again.part again.last following)))
-one_making expects limits frames afters octets others beyond following faults.BadPreface
-    faults.Memory made again joined = absurd again
-one_making expects limits frames afters octets others beyond following
-    (faults.HeadFault code) faults.BadPreface made again joined =
-    absurd (sound_no_wrong expects limits frames afters made.part
-    (made.last ++ beyond) others following made.sound again
-    (sym (sym joined ∙ ap (λ (w : List ℕ). w ++ beyond) made.joined
-    ∙ append_assoc made.part made.last beyond)))
-one_making expects limits frames afters octets others beyond following (faults.HeadFault code)
-    (faults.HeadFault other) made again joined =
-    let one = one_past expects limits (octets ++ beyond) frames afters made.part again.part
-    (made.last ++ beyond) (again.last ++ following)
-    (ap (λ (w : List ℕ). w ++ beyond) made.joined ∙ append_assoc made.part made.last beyond)
-    (joined ∙ ap (λ (w : List ℕ). w ++ following) again.joined
-    ∙ append_assoc again.part again.last following) made.sound again.sound
-    (wrong_head_stops _ made.last beyond code made.nine made.faulty)
-    (wrong_head_stops _ again.last following other again.nine again.faulty) in
-    let same : head_of made.last ≡ head_of again.last =
-    same_head made.last again.last beyond following (omega (arith, made.nine))
-    (omega (arith, again.nine)) one.2 in
-    let codes : ◌≡◌ {A = Option Code} (Some code) (Some other) = sym made.faulty
-    ∙ rw (one.1, same) again.faulty in
-    let parts : length made.part ≡ length again.part = ap length one.1 in
-    let ours = simp length-append at (ap length made.joined) in
-    let theirs = simp length-append at (ap length again.joined) in
-    let code_same : code ≡ other = cc in (
-      one.0,
-      omega (arith, ours, theirs, parts, made.nine, again.nine),
-      ap faults.HeadFault code_same,
-    )
-one_making expects limits frames afters octets others beyond following (faults.HeadFault code)
-    (faults.PayloadFault other) made again joined =
-    let one = one_past expects limits (octets ++ beyond) frames afters made.part again.part
-    (made.last ++ beyond) (again.last ++ following)
-    (ap (λ (w : List ℕ). w ++ beyond) made.joined ∙ append_assoc made.part made.last beyond)
-    (joined ∙ ap (λ (w : List ℕ). w ++ following) again.joined
-    ∙ append_assoc again.part again.last following) made.sound again.sound
-    (wrong_head_stops _ made.last beyond code made.nine made.faulty)
-    (wrong_payload_stops _ again.last following other again.complete again.faulty) in
-    let same : head_of made.last ≡ head_of again.last =
-    same_head made.last again.last beyond following (omega (arith, made.nine))
-    (omega (arith, again.complete)) one.2 in
-    none_some code (sym (rw (one.1, same) again.sound_head) ∙ made.faulty)
-one_making expects limits frames afters octets others beyond following
-    (faults.HeadFault code) faults.Memory made again joined = absurd again
-one_making expects limits frames afters octets others beyond following
-    (faults.PayloadFault code) faults.BadPreface made again joined =
-    absurd (sound_no_wrong expects limits frames afters made.part
-    (made.last ++ beyond) others following made.sound again
-    (sym (sym joined ∙ ap (λ (w : List ℕ). w ++ beyond) made.joined
-    ∙ append_assoc made.part made.last beyond)))
-one_making expects limits frames afters octets others beyond following (faults.PayloadFault code)
-    (faults.HeadFault other) made again joined =
-    let one = one_past expects limits (octets ++ beyond) frames afters made.part again.part
-    (made.last ++ beyond) (again.last ++ following)
-    (ap (λ (w : List ℕ). w ++ beyond) made.joined ∙ append_assoc made.part made.last beyond)
-    (joined ∙ ap (λ (w : List ℕ). w ++ following) again.joined
-    ∙ append_assoc again.part again.last following) made.sound again.sound
-    (wrong_payload_stops _ made.last beyond code made.complete made.faulty)
-    (wrong_head_stops _ again.last following other again.nine again.faulty) in
-    let same : head_of made.last ≡ head_of again.last =
-    same_head made.last again.last beyond following (omega (arith, made.complete))
-    (omega (arith, again.nine)) one.2 in
-    none_some other (sym (rw (← one.1, ← same) made.sound_head) ∙ again.faulty)
-one_making expects limits frames afters octets others beyond following (faults.PayloadFault code)
-    (faults.PayloadFault other) made again joined =
-    let one = one_past expects limits (octets ++ beyond) frames afters made.part again.part
-    (made.last ++ beyond) (again.last ++ following)
-    (ap (λ (w : List ℕ). w ++ beyond) made.joined ∙ append_assoc made.part made.last beyond)
-    (joined ∙ ap (λ (w : List ℕ). w ++ following) again.joined
-    ∙ append_assoc again.part again.last following) made.sound again.sound
-    (wrong_payload_stops _ made.last beyond code made.complete made.faulty)
-    (wrong_payload_stops _ again.last following other again.complete again.faulty) in
-    let same : head_of made.last ≡ head_of again.last =
-    same_head made.last again.last beyond following (omega (arith, made.complete))
-    (omega (arith, again.complete)) one.2 in
-    let long : length made.last ≡ length again.last = made.complete
-    ∙ ap (λ head. 9 + head.length) same ∙ sym again.complete in
-    let last : made.last ≡ again.last =
-    same_prefix made.last again.last beyond following long one.2 in
-    let codes : ◌≡◌ {A = Option Code} (Some code) (Some other) = sym made.faulty
-    ∙ rw last again.faulty in
-    let parts : length made.part ≡ length again.part = ap length one.1 in
-    let ours = simp length-append at (ap length made.joined) in
-    let theirs = simp length-append at (ap length again.joined) in
-    let code_same : code ≡ other = cc in
-    (one.0, omega (arith, ours, theirs, parts, long), ap faults.PayloadFault code_same)
-one_making expects limits frames afters octets others beyond following
-    (faults.PayloadFault code) faults.Memory made again joined = absurd again
-one_making expects limits frames afters octets others beyond following faults.Memory another made
-    again joined = absurd made
+module _ (expects : Bool) (limits : Limits) (frames afters : List Frame)
+    (octets others beyond following : List ℕ) where
+  -- Two makings of a fault in one line are one: of one length, and of one fault.
+  pub one_making : (fault another : WireFault) → EndsWithFault expects limits frames octets fault
+      → EndsWithFault expects limits afters others another → octets ++ beyond ≡ others ++ following
+      → (frames ≡ afters) × (length octets ≡ length others) × (fault ≡ another)
+  one_making faults.BadPreface faults.BadPreface made again joined =
+      let line : made.prefix ++ made.wrong ∷ beyond ≡ again.prefix ++ again.wrong ∷ following =
+      sym (ap (λ (w : List ℕ). w ++ beyond) made.reads
+      ∙ append_assoc made.prefix (made.wrong ∷ []) beyond) ∙ joined
+      ∙ ap (λ (w : List ℕ). w ++ following) again.reads
+      ∙ append_assoc again.prefix (again.wrong ∷ []) following in
+      let prefixes =
+      wrong_once made.prefix again.prefix made.right again.right made.wrong again.wrong
+      made.missing again.missing beyond following made.differs again.differs
+      (sym made.opens ∙ again.opens) line in
+      let ours = simp length-append at (ap length made.reads) in
+      let theirs = simp length-append at (ap length again.reads) in
+      (made.none ∙ sym again.none, omega (arith, ours, theirs, prefixes), refl)
+  one_making faults.BadPreface (faults.HeadFault code) made again joined =
+      absurd (sound_no_wrong expects limits afters frames again.part
+      (again.last ++ following) octets beyond again.sound made
+      (sym (joined ∙ ap (λ (w : List ℕ). w ++ following) again.joined
+      ∙ append_assoc again.part again.last following)))
+  one_making faults.BadPreface (faults.PayloadFault code) made again joined =
+      absurd (sound_no_wrong expects limits afters frames again.part
+      (again.last ++ following) octets beyond again.sound made
+      (sym (joined ∙ ap (λ (w : List ℕ). w ++ following) again.joined
+      ∙ append_assoc again.part again.last following)))
+  one_making faults.BadPreface faults.Memory made again joined = absurd again
+  one_making (faults.HeadFault code) faults.BadPreface made again joined =
+      absurd (sound_no_wrong expects limits frames afters made.part
+      (made.last ++ beyond) others following made.sound again
+      (sym (sym joined ∙ ap (λ (w : List ℕ). w ++ beyond) made.joined
+      ∙ append_assoc made.part made.last beyond)))
+  one_making (faults.HeadFault code) (faults.HeadFault other) made again joined =
+      let one = one_past expects limits (octets ++ beyond) frames afters made.part again.part
+      (made.last ++ beyond) (again.last ++ following)
+      (ap (λ (w : List ℕ). w ++ beyond) made.joined ∙ append_assoc made.part made.last beyond)
+      (joined ∙ ap (λ (w : List ℕ). w ++ following) again.joined
+      ∙ append_assoc again.part again.last following) made.sound again.sound
+      (wrong_head_stops _ made.last beyond code made.nine made.faulty)
+      (wrong_head_stops _ again.last following other again.nine again.faulty) in
+      let same : head_of made.last ≡ head_of again.last =
+      same_head made.last again.last beyond following (omega (arith, made.nine))
+      (omega (arith, again.nine)) one.2 in
+      let codes : ◌≡◌ {A = Option Code} (Some code) (Some other) = sym made.faulty
+      ∙ rw (one.1, same) again.faulty in
+      let parts : length made.part ≡ length again.part = ap length one.1 in
+      let ours = simp length-append at (ap length made.joined) in
+      let theirs = simp length-append at (ap length again.joined) in
+      let code_same : code ≡ other = cc in (
+        one.0,
+        omega (arith, ours, theirs, parts, made.nine, again.nine),
+        ap faults.HeadFault code_same,
+      )
+  one_making (faults.HeadFault code) (faults.PayloadFault other) made again joined =
+      let one = one_past expects limits (octets ++ beyond) frames afters made.part again.part
+      (made.last ++ beyond) (again.last ++ following)
+      (ap (λ (w : List ℕ). w ++ beyond) made.joined ∙ append_assoc made.part made.last beyond)
+      (joined ∙ ap (λ (w : List ℕ). w ++ following) again.joined
+      ∙ append_assoc again.part again.last following) made.sound again.sound
+      (wrong_head_stops _ made.last beyond code made.nine made.faulty)
+      (wrong_payload_stops _ again.last following other again.complete again.faulty) in
+      let same : head_of made.last ≡ head_of again.last =
+      same_head made.last again.last beyond following (omega (arith, made.nine))
+      (omega (arith, again.complete)) one.2 in
+      none_some code (sym (rw (one.1, same) again.sound_head) ∙ made.faulty)
+  one_making (faults.HeadFault code) faults.Memory made again joined = absurd again
+  one_making (faults.PayloadFault code) faults.BadPreface made again joined =
+      absurd (sound_no_wrong expects limits frames afters made.part
+      (made.last ++ beyond) others following made.sound again
+      (sym (sym joined ∙ ap (λ (w : List ℕ). w ++ beyond) made.joined
+      ∙ append_assoc made.part made.last beyond)))
+  one_making (faults.PayloadFault code) (faults.HeadFault other) made again joined =
+      let one = one_past expects limits (octets ++ beyond) frames afters made.part again.part
+      (made.last ++ beyond) (again.last ++ following)
+      (ap (λ (w : List ℕ). w ++ beyond) made.joined ∙ append_assoc made.part made.last beyond)
+      (joined ∙ ap (λ (w : List ℕ). w ++ following) again.joined
+      ∙ append_assoc again.part again.last following) made.sound again.sound
+      (wrong_payload_stops _ made.last beyond code made.complete made.faulty)
+      (wrong_head_stops _ again.last following other again.nine again.faulty) in
+      let same : head_of made.last ≡ head_of again.last =
+      same_head made.last again.last beyond following (omega (arith, made.complete))
+      (omega (arith, again.nine)) one.2 in
+      none_some other (sym (rw (← one.1, ← same) made.sound_head) ∙ again.faulty)
+  one_making (faults.PayloadFault code) (faults.PayloadFault other) made again joined =
+      let one = one_past expects limits (octets ++ beyond) frames afters made.part again.part
+      (made.last ++ beyond) (again.last ++ following)
+      (ap (λ (w : List ℕ). w ++ beyond) made.joined ∙ append_assoc made.part made.last beyond)
+      (joined ∙ ap (λ (w : List ℕ). w ++ following) again.joined
+      ∙ append_assoc again.part again.last following) made.sound again.sound
+      (wrong_payload_stops _ made.last beyond code made.complete made.faulty)
+      (wrong_payload_stops _ again.last following other again.complete again.faulty) in
+      let same : head_of made.last ≡ head_of again.last =
+      same_head made.last again.last beyond following (omega (arith, made.complete))
+      (omega (arith, again.complete)) one.2 in
+      let long : length made.last ≡ length again.last = made.complete
+      ∙ ap (λ head. 9 + head.length) same ∙ sym again.complete in
+      let last : made.last ≡ again.last =
+      same_prefix made.last again.last beyond following long one.2 in
+      let codes : ◌≡◌ {A = Option Code} (Some code) (Some other) = sym made.faulty
+      ∙ rw last again.faulty in
+      let parts : length made.part ≡ length again.part = ap length one.1 in
+      let ours = simp length-append at (ap length made.joined) in
+      let theirs = simp length-append at (ap length again.joined) in
+      let code_same : code ≡ other = cc in
+      (one.0, omega (arith, ours, theirs, parts, long), ap faults.PayloadFault code_same)
+  one_making (faults.PayloadFault code) faults.Memory made again joined = absurd again
+  one_making faults.Memory another made again joined = absurd made
 
--- A line in which a fault is made has no reading.
-pub no_reading : (expects : Bool) (limits : Limits) (octets beyond stream unparsed : List ℕ)
-    (preceding frames : List Frame) (fault : WireFault)
-    → EndsWithFault expects limits preceding octets fault → stream ≡ octets ++ beyond
-    → Frames expects limits stream frames unparsed → ⊥
-no_reading expects limits octets beyond stream unparsed preceding frames faults.BadPreface made
-    joined (inl short) =
-    short_no_wrong expects stream frames preceding unparsed octets beyond short made joined
-no_reading expects limits octets beyond stream unparsed preceding frames faults.BadPreface made
-    joined (inr past) =
-    sound_no_wrong expects limits frames preceding past.part unparsed octets beyond past.sound made
-    (sym past.joined ∙ joined)
-no_reading expects limits octets beyond stream unparsed preceding frames
-    (faults.HeadFault code) made joined (inl short) =
-    let counted =
-    simp length-append at (ap length (joined ∙ ap (λ (w : List ℕ). w ++ beyond) made.joined
-    ∙ ap (λ (w : List ℕ). (w ++ made.last) ++ beyond) made.sound.opened)) in
-    let few = short.short in
-    omega (arith, counted, few)
-no_reading expects limits octets beyond stream unparsed preceding frames
-    (faults.HeadFault code) made joined (inr past) =
-    let one = one_past expects limits stream preceding frames made.part past.part
-    (made.last ++ beyond) unparsed
-    (joined ∙ ap (λ (w : List ℕ). w ++ beyond) made.joined
-    ∙ append_assoc made.part made.last beyond) past.joined made.sound past.sound
-    (wrong_head_stops _ made.last beyond code made.nine made.faulty)
-    (partial_stops _ unparsed past.partial) in
-    partial_no_head (limits (length made.part + 9)) made.last beyond code
-    (rw (one.1, one.2) past.partial) made.nine made.faulty
-no_reading expects limits octets beyond stream unparsed preceding frames
-    (faults.PayloadFault code) made joined (inl short) =
-    let counted =
-    simp length-append at (ap length (joined ∙ ap (λ (w : List ℕ). w ++ beyond) made.joined
-    ∙ ap (λ (w : List ℕ). (w ++ made.last) ++ beyond) made.sound.opened)) in
-    let few = short.short in
-    omega (arith, counted, few)
-no_reading expects limits octets beyond stream unparsed preceding frames
-    (faults.PayloadFault code) made joined (inr past) =
-    let one = one_past expects limits stream preceding frames made.part past.part
-    (made.last ++ beyond) unparsed
-    (joined ∙ ap (λ (w : List ℕ). w ++ beyond) made.joined
-    ∙ append_assoc made.part made.last beyond) past.joined made.sound past.sound
-    (wrong_payload_stops _ made.last beyond code made.complete made.faulty)
-    (partial_stops _ unparsed past.partial) in
-    partial_no_frame (limits (length made.part + 9)) made.last beyond
-    (rw (one.1, one.2) past.partial) made.complete
-no_reading expects limits octets beyond stream unparsed preceding frames faults.Memory made joined
-    read = made
+module _ (expects : Bool) (limits : Limits) (octets beyond stream unparsed : List ℕ)
+    (preceding frames : List Frame) where
+  -- A line in which a fault is made has no reading.
+  pub no_reading : (fault : WireFault) → EndsWithFault expects limits preceding octets fault
+      → stream ≡ octets ++ beyond → Frames expects limits stream frames unparsed → ⊥
+  no_reading faults.BadPreface made joined (inl short) =
+      short_no_wrong expects stream frames preceding unparsed octets beyond short made joined
+  no_reading faults.BadPreface made joined (inr past) =
+      sound_no_wrong expects limits frames preceding past.part unparsed octets beyond past.sound
+      made (sym past.joined ∙ joined)
+  no_reading (faults.HeadFault code) made joined (inl short) =
+      let counted =
+      simp length-append at (ap length (joined ∙ ap (λ (w : List ℕ). w ++ beyond) made.joined
+      ∙ ap (λ (w : List ℕ). (w ++ made.last) ++ beyond) made.sound.opened)) in
+      let few = short.short in
+      omega (arith, counted, few)
+  no_reading (faults.HeadFault code) made joined (inr past) =
+      let one = one_past expects limits stream preceding frames made.part past.part
+      (made.last ++ beyond) unparsed (joined ∙ ap (λ (w : List ℕ). w ++ beyond) made.joined
+      ∙ append_assoc made.part made.last beyond) past.joined made.sound past.sound
+      (wrong_head_stops _ made.last beyond code made.nine made.faulty)
+      (partial_stops _ unparsed past.partial) in
+      partial_no_head (limits (length made.part + 9)) made.last beyond code
+      (rw (one.1, one.2) past.partial) made.nine made.faulty
+  no_reading (faults.PayloadFault code) made joined (inl short) =
+      let counted =
+      simp length-append at (ap length (joined ∙ ap (λ (w : List ℕ). w ++ beyond) made.joined
+      ∙ ap (λ (w : List ℕ). (w ++ made.last) ++ beyond) made.sound.opened)) in
+      let few = short.short in
+      omega (arith, counted, few)
+  no_reading (faults.PayloadFault code) made joined (inr past) =
+      let one = one_past expects limits stream preceding frames made.part past.part
+      (made.last ++ beyond) unparsed (joined ∙ ap (λ (w : List ℕ). w ++ beyond) made.joined
+      ∙ append_assoc made.part made.last beyond) past.joined made.sound past.sound
+      (wrong_payload_stops _ made.last beyond code made.complete made.faulty)
+      (partial_stops _ unparsed past.partial) in
+      partial_no_frame (limits (length made.part + 9)) made.last beyond
+      (rw (one.1, one.2) past.partial) made.complete
+  no_reading faults.Memory made joined
+      read = made
 
 -- A stream has one fault at most, also with octets that follow.
 pub one_fault_lem : (expects : Bool) (limits : Limits) (stream more : List ℕ)

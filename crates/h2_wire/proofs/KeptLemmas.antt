@@ -54,49 +54,44 @@ first : (fault : Option WireFault) (Meets : Type 0) (Stays : WireFault → Type 
 first None Meets Stays none holds = holds
 first (Some known) Meets Stays none holds = (cc)
 
-fails : (state : CutterState) (kept piece : List ℕ) (fault : WireFault) (new : CutterState)
-    → state.fault ≡ None → CutterFails state piece fault new
-    → CutterFails (with_kept state kept) piece fault new
-fails state kept piece faults.Memory new none same = same
-fails state kept piece faults.BadPreface new none failed =
-    fails_preface (with_kept state kept) piece new none
-    (faults_now state kept piece faults.BadPreface new
-    (first state.fault (CutterFaults state piece faults.BadPreface new) (λ known. new ≡ state) none
-    failed))
-fails state kept piece (faults.HeadFault code) new none failed =
-    fails_head (with_kept state kept) piece code new none
-    (faults_now state kept piece (faults.HeadFault code) new
-    (first state.fault (CutterFaults state piece (faults.HeadFault code) new)
-    (λ known. new ≡ state) none failed))
-fails state kept piece (faults.PayloadFault code) new none failed =
-    fails_payload (with_kept state kept) piece code new none
-    (faults_now state kept piece (faults.PayloadFault code) new
-    (first state.fault (CutterFaults state piece (faults.PayloadFault code) new)
-    (λ known. new ≡ state) none failed))
+module _ (state : CutterState) (kept piece : List ℕ) where
+  fails : (fault : WireFault) (new : CutterState) → state.fault ≡ None
+      → CutterFails state piece fault new → CutterFails (with_kept state kept) piece fault new
+  fails faults.Memory new none same = same
+  fails faults.BadPreface new none failed = fails_preface (with_kept state kept) piece new none
+      (faults_now state kept piece faults.BadPreface new
+      (first state.fault (CutterFaults state piece faults.BadPreface new) (λ known. new ≡ state)
+      none failed))
+  fails (faults.HeadFault code) new none failed =
+      fails_head (with_kept state kept) piece code new none
+      (faults_now state kept piece (faults.HeadFault code) new
+      (first state.fault (CutterFaults state piece (faults.HeadFault code) new)
+      (λ known. new ≡ state) none failed))
+  fails (faults.PayloadFault code) new none failed =
+      fails_payload (with_kept state kept) piece code new none
+      (faults_now state kept piece (faults.PayloadFault code) new
+      (first state.fault (CutterFaults state piece (faults.PayloadFault code) new)
+      (λ known. new ≡ state) none failed))
 
-answers : (state : CutterState) (kept piece : List ℕ) (used : ℕ) (frame : Option Complete)
-    (new : CutterState) → Advances state piece (Ok (record { used = used; frame = frame })) new
-    → Advances (with_kept state kept) piece (Ok (record { used = used; frame = frame })) new
-answers state kept piece used None new passes = record {
-  all = passes.all;
-  continues = continues state kept piece _ new passes.continues;
-}
-answers state kept piece used (Some frame) new ends = record {
-  within = ends.within;
-  some = ends.some;
-  lies = ends.lies;
-  none_unparsed = ends.none_unparsed;
-  continues = λ value encodes.
-      continues state kept _ _ new (ends.continues value encodes);
-}
+  answers : (used : ℕ) (frame : Option Complete)
+      (new : CutterState) → Advances state piece (Ok (record { used = used; frame = frame })) new
+      → Advances (with_kept state kept) piece (Ok (record { used = used; frame = frame })) new
+  answers used None new passes = record {
+    all = passes.all;
+    continues = continues state kept piece _ new passes.continues;
+  }
+  answers used (Some frame) new ends = record {
+    within = ends.within;
+    some = ends.some;
+    lies = ends.lies;
+    none_unparsed = ends.none_unparsed;
+    continues = λ value encodes. continues state kept _ _ new (ends.continues value encodes);
+  }
 
-advances : (state : CutterState) (kept piece : List ℕ) (result : Result Advance WireFault)
-    (new : CutterState) → state.fault ≡ None → Advances state piece result new
-    → Advances (with_kept state kept) piece result new
-advances state kept piece (Ok advance) new none makes =
-    answers state kept piece advance.used advance.frame new makes
-advances state kept piece (Err fault) new none makes =
-    fails state kept piece fault new none makes
+  advances : (result : Result Advance WireFault) (new : CutterState) → state.fault ≡ None
+      → Advances state piece result new → Advances (with_kept state kept) piece result new
+  advances (Ok advance) new none makes = answers advance.used advance.frame new makes
+  advances (Err fault) new none makes = fails fault new none makes
 
 -- A call that forgets what is kept first.
 pub takes_forgotten : (old state : CutterState) (piece : List ℕ)

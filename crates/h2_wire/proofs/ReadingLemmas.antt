@@ -20,19 +20,16 @@ none_some code e = (cc)
 pub one_code : (code other : Code) → ◌≡◌ {A = Option Code} (Some code) (Some other) → code ≡ other
 one_code code other e = cc
 
--- Two prefixes of one length of one list are one.
-pub same_prefix : (xs ys unparsed others : List ℕ) → length xs ≡ length ys
-    → xs ++ unparsed ≡ ys ++ others → xs ≡ ys
-same_prefix xs ys unparsed others same joined =
-    sym (take-append_seam xs unparsed) ∙ ap (take (length xs)) joined
-    ∙ ap (λ (n : ℕ). take n (ys ++ others)) same ∙ take-append_seam ys others
+module _ (xs ys unparsed others : List ℕ) where
+  -- Two prefixes of one length of one list are one.
+  pub same_prefix : length xs ≡ length ys → xs ++ unparsed ≡ ys ++ others → xs ≡ ys
+  same_prefix same joined = sym (take-append_seam xs unparsed) ∙ ap (take (length xs)) joined
+      ∙ ap (λ (n : ℕ). take n (ys ++ others)) same ∙ take-append_seam ys others
 
--- What follows one prefix is one.
-pub same_following : (xs ys unparsed others : List ℕ) → length xs ≡ length ys
-    → xs ++ unparsed ≡ ys ++ others → unparsed ≡ others
-same_following xs ys unparsed others same joined =
-    sym (drop-append_seam xs unparsed) ∙ ap (drop (length xs)) joined
-    ∙ ap (λ (n : ℕ). drop n (ys ++ others)) same ∙ drop-append_seam ys others
+  -- What follows one prefix is one.
+  pub same_following : length xs ≡ length ys → xs ++ unparsed ≡ ys ++ others → unparsed ≡ others
+  same_following same joined = sym (drop-append_seam xs unparsed) ∙ ap (drop (length xs)) joined
+      ∙ ap (λ (n : ℕ). drop n (ys ++ others)) same ∙ drop-append_seam ys others
 
 -- Two lists of at least nine octets that begin one line have one head.
 pub same_head : (xs ys unparsed others : List ℕ) → 9 ≤ length xs → 9 ≤ length ys
@@ -91,61 +88,56 @@ wrong_payload_stops limit last more code complete faulty frame prefix others joi
     (sym one) sound.sound_payload in
     none_some code (sym none ∙ faulty)
 
--- Two lists of frames at one place, each up to where no sound frame begins, are one.
-pub one_body : (limits : Limits) (preceding : ℕ) (frames others : List Frame)
-    (body another tail end : List ℕ)
-    → AreFrames limits preceding frames body → AreFrames limits preceding others another
-    → body ++ tail ≡ another ++ end
-    → Stops (limits (preceding + length body + 9)) tail
-    → Stops (limits (preceding + length another + 9)) end
-    → (frames ≡ others) × (body ≡ another)
-one_body limits preceding [] [] body another tail end none nothing joined stops ends =
-    (refl, none ∙ sym nothing)
-one_body limits preceding [] (other ∷ others) body another tail end none
-    (first, following, split, sound, framed) joined stops ends =
-    let begins : tail ≡ first ++ (following ++ end) = rw none at joined
-    ∙ rw split (append_assoc first following end) in
-    let at : preceding + length body + 9 ≡ preceding + 9 = rw none (omega arith) in
-    absurd (stops other first (following ++ end) begins (rw at sound))
-one_body limits preceding (frame ∷ frames) [] body another tail end
-    (first, following, split, sound, framed) nothing joined stops ends =
-    let begins : end ≡ first ++ (following ++ tail) =
-    sym (sym (rw split (append_assoc first following tail)) ∙ rw nothing at joined) in
-    let at : preceding + length another + 9 ≡ preceding + 9 = rw nothing (omega arith) in
-    absurd (ends frame first (following ++ tail) begins (rw at sound))
-one_body limits preceding (frame ∷ frames) (other ∷ others) body another tail end
-    (first, following, split, sound, framed) (
-      second,
-      beyond,
-      parted,
-      complete,
-      sequel,
-    ) joined stops ends =
-    let line : first ++ (following ++ tail) ≡ second ++ (beyond ++ end) =
-    sym (append_assoc first following tail) ∙ ap (λ (octets : List ℕ). octets ++ tail) (sym split)
-    ∙ joined ∙ ap (λ (octets : List ℕ). octets ++ end) parted
-    ∙ append_assoc second beyond end in
-    let same : head_of first ≡ head_of second =
-    same_head first second (following ++ tail) (beyond ++ end) (nine_in_frame _ frame first sound)
-    (nine_in_frame _ other second complete) line in
-    let long : length first ≡ length second = sound.encodes.complete
-    ∙ ap (λ head. 9 + head.length) same ∙ sym complete.encodes.complete in
-    let one : first ≡ second =
-    same_prefix first second (following ++ tail) (beyond ++ end) long line in
-    let sequel_now = rw (← long) at sequel in
-    let at : preceding + length body + 9 ≡ preceding + length first + length following + 9 =
-    rw (split, length-append) (omega arith) in
-    let by : preceding + length another + 9 ≡ preceding + length first + length beyond + 9 =
-    rw (parted, length-append, ← long) (omega arith) in
-    let unparsed =
-    one_body limits (preceding + length first) frames others following beyond tail end framed
-    sequel_now
-    (same_following first second (following ++ tail) (beyond ++ end) long line) (rw at at stops)
-    (rw by at ends) in
-    let frame_same : frame ≡ other =
-    one_frame_lem frame other first sound.encodes
-    (subst (λ (octets : List ℕ). Encodes other octets) (sym one) complete.encodes) in
-    (rw (frame_same, unparsed.0) refl, split ∙ rw (one, unparsed.1) refl ∙ sym parted)
+module _ (limits : Limits) where
+  -- Two lists of frames at one place, each up to where no sound frame begins, are one.
+  pub one_body : (preceding : ℕ) (frames others : List Frame) (body another tail end : List ℕ)
+      → AreFrames limits preceding frames body → AreFrames limits preceding others another
+      → body ++ tail ≡ another ++ end → Stops (limits (preceding + length body + 9)) tail
+      → Stops (limits (preceding + length another + 9)) end → (frames ≡ others) × (body ≡ another)
+  one_body preceding [] [] body another tail end none nothing joined stops ends =
+      (refl, none ∙ sym nothing)
+  one_body preceding [] (other ∷ others) body another tail end none
+      (first, following, split, sound, framed) joined stops ends =
+      let begins : tail ≡ first ++ (following ++ end) = rw none at joined
+      ∙ rw split (append_assoc first following end) in
+      let at : preceding + length body + 9 ≡ preceding + 9 = rw none (omega arith) in
+      absurd (stops other first (following ++ end) begins (rw at sound))
+  one_body preceding (frame ∷ frames) [] body another tail end
+      (first, following, split, sound, framed) nothing joined stops ends =
+      let begins : end ≡ first ++ (following ++ tail) =
+      sym (sym (rw split (append_assoc first following tail)) ∙ rw nothing at joined) in
+      let at : preceding + length another + 9 ≡ preceding + 9 = rw nothing (omega arith) in
+      absurd (ends frame first (following ++ tail) begins (rw at sound))
+  one_body preceding (frame ∷ frames) (other ∷ others) body another tail end
+      (first, following, split, sound, framed) (
+        second,
+        beyond,
+        parted,
+        complete,
+        sequel,
+      ) joined stops ends =
+      let line : first ++ (following ++ tail) ≡ second ++ (beyond ++ end) =
+      sym (append_assoc first following tail) ∙ ap (λ (octets : List ℕ). octets ++ tail) (sym split)
+      ∙ joined ∙ ap (λ (octets : List ℕ). octets ++ end) parted ∙ append_assoc second beyond end in
+      let same : head_of first ≡ head_of second =
+      same_head first second (following ++ tail) (beyond ++ end) (nine_in_frame _ frame first sound)
+      (nine_in_frame _ other second complete) line in
+      let long : length first ≡ length second = sound.encodes.complete
+      ∙ ap (λ head. 9 + head.length) same ∙ sym complete.encodes.complete in
+      let one : first ≡ second =
+      same_prefix first second (following ++ tail) (beyond ++ end) long line in
+      let sequel_now = rw (← long) at sequel in
+      let at : preceding + length body + 9 ≡ preceding + length first + length following + 9 =
+      rw (split, length-append) (omega arith) in
+      let by : preceding + length another + 9 ≡ preceding + length first + length beyond + 9 =
+      rw (parted, length-append, ← long) (omega arith) in
+      let unparsed =
+      one_body (preceding + length first) frames others following beyond tail end framed sequel_now
+      (same_following first second (following ++ tail) (beyond ++ end) long line) (rw at at stops)
+      (rw by at ends) in
+      let frame_same : frame ≡ other = one_frame_lem frame other first sound.encodes
+      (subst (λ (octets : List ℕ). Encodes other octets) (sym one) complete.encodes) in
+      (rw (frame_same, unparsed.0) refl, split ∙ rw (one, unparsed.1) refl ∙ sym parted)
 
 -- Two readings after the preface are one.
 pub one_past : (expects : Bool) (limits : Limits) (stream : List ℕ) (frames others : List Frame)

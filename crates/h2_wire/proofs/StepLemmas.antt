@@ -29,56 +29,50 @@ unfolding preface expected_preface
 awaited_short true count few = lt-ltb count 24 few
 awaited_short false count few = absurd (omega arith)
 
--- Where the preface is awaited, the stream is what was matched of it.
-pub matched_stream : (state : CutterState) (expects : Bool) (limits : Limits) (stream : List ℕ)
-    (so_far : List Frame) → state.in_preface ≡ true
-    → CutterRepresents state expects limits stream so_far
-    → (expects ≡ true) × (so_far ≡ []) × (stream ≡ state.unparsed)
-unfolding preface
-matched_stream state expects limits stream so_far in_preface represented =
-    elim represented.split [
-      | inl short ↦ (
-        expects_awaited expects (length stream) (sym in_preface ∙ represented.in_preface),
-        short.none,
-        sym short.all,
-      )
-      | inr past ↦
-          absurd (false≢true
-          (sym (past_not_in_preface expects limits stream so_far state.unparsed past)
-          ∙ sym represented.in_preface ∙ in_preface))
-    ]
+module _ (state : CutterState) where
+  -- Where the preface is awaited, the stream is what was matched of it.
+  pub matched_stream : (expects : Bool) (limits : Limits) (stream : List ℕ) (so_far : List Frame)
+      → state.in_preface ≡ true → CutterRepresents state expects limits stream so_far
+      → (expects ≡ true) × (so_far ≡ []) × (stream ≡ state.unparsed)
+  unfolding preface
+  matched_stream expects limits stream so_far in_preface represented = elim represented.split [
+    | inl short ↦ (
+      expects_awaited expects (length stream) (sym in_preface ∙ represented.in_preface),
+      short.none,
+      sym short.all,
+    )
+    | inr past ↦ absurd (false≢true
+        (sym (past_not_in_preface expects limits stream so_far state.unparsed past)
+        ∙ sym represented.in_preface ∙ in_preface))
+  ]
 
--- After the preface, the unparsed octets follow the frames.
-pub opens_past : (state : CutterState) → state.in_preface ≡ false → Opens state [] state.unparsed
-unfolding preface
-opens_past state in_preface expects limits stream so_far represented =
-    elim represented.split [
-      | inl short ↦
-          absurd (false≢true (sym in_preface ∙ represented.in_preface
-          ∙ awaited_short expects (length stream) short.short))
-      | inr past ↦ rw (append-nil stream) past
-    ]
+  -- After the preface, the unparsed octets follow the frames.
+  pub opens_past : state.in_preface ≡ false → Opens state [] state.unparsed
+  unfolding preface
+  opens_past in_preface expects limits stream so_far represented = elim represented.split [
+    | inl short ↦ absurd (false≢true (sym in_preface ∙ represented.in_preface
+        ∙ awaited_short expects (length stream) short.short))
+    | inr past ↦ rw (append-nil stream) past
+  ]
 
--- The preface becomes complete.
-pub opens_first : (state : CutterState) (matched : ℕ) (used : List ℕ) → state.in_preface ≡ true
-    → state.unparsed ≡ take matched preface
-    → used ≡ drop matched preface → Opens state used []
-unfolding expected_preface
-opens_first state matched used in_preface unparsed same expects limits stream so_far represented =
-    let (asked, none, all) =
-    matched_stream state expects limits stream so_far in_preface represented in
-    let complete : stream ++ used ≡ preface =
-    rw (all, unparsed, same) (take-append-drop matched preface) in
-    record {
-      part = stream ++ used;
-      joined = sym (append-nil _);
-      sound = record {
-        body = [];
-        opened = complete ∙ rw (asked, append-nil preface) refl;
-        framed = rw none refl;
-      };
-      partial = IsPartial-empty _;
-    }
+  -- The preface becomes complete.
+  pub opens_first : (matched : ℕ) (used : List ℕ) → state.in_preface ≡ true
+      → state.unparsed ≡ take matched preface → used ≡ drop matched preface → Opens state used []
+  unfolding expected_preface
+  opens_first matched used in_preface unparsed same expects limits stream so_far represented =
+      let (asked, none, all) = matched_stream expects limits stream so_far in_preface represented in
+      let complete : stream ++ used ≡ preface =
+      rw (all, unparsed, same) (take-append-drop matched preface) in
+      record {
+        part = stream ++ used;
+        joined = sym (append-nil _);
+        sound = record {
+          body = [];
+          opened = complete ∙ rw (asked, append-nil preface) refl;
+          framed = rw none refl;
+        };
+        partial = IsPartial-empty _;
+      }
 
 -- The preface continues, and isn't complete yet.
 pub continues_preface : (old new : CutterState) (matched : ℕ) (used : List ℕ) → new.fault ≡ None
@@ -173,48 +167,45 @@ piece_in_two stream piece start =
     ap (λ (octets : List ℕ). stream ++ octets) (sym (take-append-drop start piece))
     ∙ sym (append_assoc stream (take start piece) (drop start piece))
 
--- A frame continues to the piece's end, and isn't complete.
-pub continues_partial : (old new : CutterState) (piece partial : List ℕ) (start : ℕ)
-    → new.fault ≡ None → new.in_preface ≡ false → new.limit ≡ old.limit
-    → new.greatest ≡ old.greatest
-    → new.place ≡ saturated (old.place + length piece) → new.unparsed ≡ partial ++ drop start piece
-    → ((expects : Bool) (limits : Limits) (stream : List ℕ) (so_far : List Frame)
-    → CutterRepresents old expects limits stream so_far
-    → (past : IsAfterPreface expects limits (stream ++ take start piece) so_far partial)
-    × IsPartial (limits (length past.part + 9)) (partial ++ drop start piece))
-    → CutterContinues old piece [] new
-continues_partial old new piece partial start sound in_preface limit greatest place unparsed opens =
-    continues_after old new piece [] sound in_preface limit greatest place
-    (λ expects limits stream so_far represented.
-    let (past, fits) = opens expects limits stream so_far represented in
-    rw (piece_in_two stream piece start, append-nil so_far, unparsed)
-    (past_more expects limits (stream ++ take start piece) so_far partial
-    (drop start piece) past fits))
+module _ (old new : CutterState) (piece partial : List ℕ) (start : ℕ) where
+  -- A frame continues to the piece's end, and isn't complete.
+  pub continues_partial : new.fault ≡ None → new.in_preface ≡ false → new.limit ≡ old.limit
+      → new.greatest ≡ old.greatest → new.place ≡ saturated (old.place + length piece)
+      → new.unparsed ≡ partial ++ drop start piece
+      → ((expects : Bool) (limits : Limits) (stream : List ℕ) (so_far : List Frame)
+      → CutterRepresents old expects limits stream so_far → (past : IsAfterPreface expects limits
+      (stream ++ take start piece) so_far partial) × IsPartial (limits (length past.part + 9))
+      (partial ++ drop start piece))
+      → CutterContinues old piece [] new
+  continues_partial sound in_preface limit greatest place unparsed opens =
+      continues_after old new piece [] sound in_preface limit greatest place
+      (λ expects limits stream so_far represented.
+      let (past, fits) = opens expects limits stream so_far represented in
+      rw (piece_in_two stream piece start, append-nil so_far, unparsed)
+      (past_more expects limits (stream ++ take start piece) so_far partial
+      (drop start piece) past fits))
 
--- A frame is complete.
-pub completes_frame : (old new : CutterState) (piece partial : List ℕ) (start missing_octets : ℕ)
-    (frame : Frame) → new.fault ≡ None → new.in_preface ≡ false → new.limit ≡ old.limit
-    → new.greatest ≡ old.greatest
-    → new.place ≡ saturated (old.place + (start + missing_octets))
-    → start + missing_octets ≤ length piece → new.unparsed ≡ []
-    → ((expects : Bool) (limits : Limits) (stream : List ℕ) (so_far : List Frame)
-    → CutterRepresents old expects limits stream so_far
-    → (past : IsAfterPreface expects limits (stream ++ take start piece) so_far partial)
-    × IsFrame (limits (length past.part + 9)) frame
-    (partial ++ take missing_octets (drop start piece)))
-    → CutterContinues old (take (start + missing_octets) piece) (frame ∷ []) new
-completes_frame old new piece partial start missing_octets frame sound in_preface limit greatest
-    place within unparsed opens =
-    let counted : length (take (start + missing_octets) piece) ≡ start + missing_octets =
-    length-take (start + missing_octets) piece ∙ omega arith in
-    continues_after old new (take (start + missing_octets) piece)
-    (frame ∷ []) sound in_preface limit greatest (place
-    ∙ ap (λ (n : ℕ). saturated (old.place + n)) (sym counted))
-    (λ expects limits stream so_far represented.
-    let (past, complete) = opens expects limits stream so_far represented in
-    rw (used_in_two stream piece start missing_octets, unparsed)
-    (past_frame expects limits (stream ++ take start piece) so_far partial
-    (take missing_octets (drop start piece)) frame past complete))
+  -- A frame is complete.
+  pub completes_frame : (missing_octets : ℕ) (frame : Frame) → new.fault ≡ None
+      → new.in_preface ≡ false → new.limit ≡ old.limit → new.greatest ≡ old.greatest
+      → new.place ≡ saturated (old.place + (start + missing_octets))
+      → start + missing_octets ≤ length piece → new.unparsed ≡ []
+      → ((expects : Bool) (limits : Limits) (stream : List ℕ) (so_far : List Frame)
+      → CutterRepresents old expects limits stream so_far → (past : IsAfterPreface expects limits
+      (stream ++ take start piece) so_far partial) × IsFrame (limits (length past.part + 9)) frame
+      (partial ++ take missing_octets (drop start piece)))
+      → CutterContinues old (take (start + missing_octets) piece) (frame ∷ []) new
+  completes_frame missing_octets frame sound in_preface limit greatest place within unparsed opens =
+      let counted : length (take (start + missing_octets) piece) ≡ start + missing_octets =
+      length-take (start + missing_octets) piece ∙ omega arith in
+      continues_after old new (take (start + missing_octets) piece)
+      (frame ∷ []) sound in_preface limit greatest (place
+      ∙ ap (λ (n : ℕ). saturated (old.place + n)) (sym counted))
+      (λ expects limits stream so_far represented.
+      let (past, complete) = opens expects limits stream so_far represented in
+      rw (used_in_two stream piece start missing_octets, unparsed)
+      (past_frame expects limits (stream ++ take start piece) so_far partial
+      (take missing_octets (drop start piece)) frame past complete))
 
 -- Where less than a head has come, the head is checked by the limit that the cutter has.
 pub limit_ahead : (old : CutterState) (expects : Bool) (limits : Limits) (stream : List ℕ)

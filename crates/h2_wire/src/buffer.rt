@@ -77,6 +77,7 @@ impl Buffer {
     }
 
     /// Takes octets of the piece, up to the end of a frame or all of them.
+    #[inline(always)]
     pub(crate) fn take(&mut self, piece: &[u8]) -> Result<Advance, WireFault>
         requires { BufferInvariant self.old }
         ensures failed { IfSome (fault_of self.old.phase) (λ fault. result ≡ Err fault) }
@@ -166,6 +167,7 @@ impl Buffer {
 
     // rule: 4.2 A fault of a head is known at its ninth octet, whatever memory is
     // A head begins or continues after so many octets of the piece.
+    #[inline(always)]
     fn take_head(&mut self, piece: &[u8], start: usize) -> Result<Advance, WireFault>
         requires starts { StartsFrame self.old piece.now start }
         ensures checked { (code : AnyCode)
@@ -201,6 +203,7 @@ impl Buffer {
     // rule: 4.1 The frames of a stream do not depend on the pieces of its octets
     // The head had no fault when it came, and its frame begins or continues after so many octets of
     // the piece.
+    #[inline(always)]
     fn take_payload(&mut self, piece: &[u8], start: usize, head: Head) -> Result<Advance, WireFault>
         requires starts { StartsPayload self.old piece.now start head }
         ensures lent { self.old.octets.items ≡ []
@@ -229,6 +232,7 @@ impl Buffer {
     // rule: 4.1 (own) A frame that is cut in two is kept until the next call
     // So many octets of the piece complete the frame with this head, which may have a fault of its
     // payload.
+    #[inline(always)]
     fn end_frame(
         &mut self,
         piece: &[u8],

@@ -1,6 +1,9 @@
 //! What one call cuts.
 
-use h2_frame::{FrameRef, Head};
+ghost use Rattle.std.specs.Prelude.{◌≡◌, ℕ, List, Some, length};
+ghost use Rattle.h2_wire.specs.Cutter.{CutterState, body_at};
+
+use h2_frame::{FrameRef, HEAD_LEN, Head};
 
 /// Where the octets of a complete frame lie.
 #[derive(Clone, Copy, Debug, PartialEq, Eq)]
@@ -21,6 +24,23 @@ pub struct Complete {
     /// The pad length of a payload that begins with one.
     pub(crate) pad: Option<u8>,
     pub(crate) source: Source,
+}
+
+impl Complete {
+    // contract: 6.1 With PADDED, DATA has a pad length, data and padding
+    // rule: 6.1 With PADDED, DATA has a pad length, data and padding
+    /// How many octets [`Cutter::body`](crate::Cutter::body) lends of this frame, where they lie
+    /// there: of DATA those of its data. It takes no memory.
+    pub fn body_len(&self) -> usize
+        ensures { (cutter : CutterState) (piece octets : List ℕ)
+            → body_at cutter piece self.now ≡ Some octets → result ≡ length octets }
+    {
+        let payload = self.head.length as usize;
+        match self.pad {
+            None => payload,
+            Some(padding) => payload.saturating_sub(1 + usize::from(padding)),
+        }
+    }
 }
 
 /// What one call of [`Cutter::advance`](crate::Cutter::advance) made of its piece; nothing is lent.

@@ -69,6 +69,7 @@ impl Cutter {
     /// last octet of a payload. [`Cutter::place`] says where, and every call from then on answers
     /// the same fault. [`WireFault::Memory`] comes where an allocation is refused: nothing was
     /// used, and the call may be made again.
+    #[inline(always)]
     pub fn advance(&mut self, piece: &[u8]) -> Result<Advance, WireFault>
         // A fault is answered again.
         ensures failed { IfSome self.old.fault (λ fault. result ≡ Err fault) }
@@ -100,6 +101,7 @@ impl Cutter {
     // contract: 4.1 (own) A frame that is cut in two is kept until the next call
     /// Lends the frame that the last call of [`Cutter::advance`] answered; `piece` is the one that
     /// it was given. It allocates nothing.
+    #[inline(always)]
     pub fn frame<'a>(&'a self, piece: &'a [u8], frame: Complete) -> FrameRef<'a>
         requires { HasFrame self.now piece.now frame }
         ensures value { Encodes (frame_of result) (octets_of self.now piece.now frame) }

@@ -7,6 +7,9 @@ use Rattle.hpack.proofs.Names.{IsWithin, field_of, fields_of, octets_between}
 use Rattle.std.proofs.lemmas.List.{take-append-le, drop-append-le}
 use Rattle.std.proofs.lemmas.Option.{slice_get-map}
 use Rattle.std.proofs.Math.Seq.{drop-append_seam, take-append_seam, take-length}
+use Rattle.std.specs.Prelude.{if◌then◌else◌}
+use Rattle.std.specs.Str.{bytes_eq}
+use Rattle.hpack.specs.FieldLists.{is_named, value_of}
 use Rattle.hpack.specs.FieldListBuilder.{AppendsField}
 
 -- as many fields as places
@@ -132,3 +135,12 @@ read_alone old new field read appended empty =
       value = field.value;
       sensitive = marked;
     }) appended.marked
+
+-- The value of the first field with a name is that of the first of all, or is among the others.
+pub value_first : (name : List ℕ) (fields : List Field) (field : Field) (others : List Field)
+    {named : Bool} → fields ≡ field ∷ others → bytes_eq field.name name ≡ named
+    → value_of name fields ≡ (if named then Some field.value else value_of name others)
+unfolding value_of is_named
+value_first name fields field others {named} first same =
+    ap (value_of name) first
+    ∙ ap (λ (b : Bool). if b then Some field.value else value_of name others) same

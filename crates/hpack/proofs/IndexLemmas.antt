@@ -1,10 +1,9 @@
 -- The index of a table's entries.
-use Rattle.hpack.proofs.Names.{◌≡◌, ℕ, suc, ◌+◌, ◌-◌, ◌<◌, ◌≤◌, ◌⊎◌, inl, inr, List, [], ◌∷◌, ◌++◌}
-use Rattle.hpack.proofs.Names.{length, take, drop, Some, sym, ap, ◌∙◌, subst, arith, reverse, true}
-use Rattle.hpack.proofs.Names.{and_parts, slice_get, drop_more, get_or_from_slice_get}
-use Rattle.hpack.proofs.Names.{drop_of_length-le, Entry, Exact, Name, Field, Sought, fit}
-use Rattle.hpack.proofs.Names.{same_octets, is_sought, bucket_of, LeadsTo, AreLinked, AreChains}
-use Rattle.hpack.proofs.Names.{IsIndexOf, bucket_by}
+use Rattle.hpack.proofs.Names
+use Names.{◌≡◌, ℕ, suc, ◌+◌, ◌-◌, ◌<◌, ◌≤◌, ◌⊎◌, inl, inr, List, [], ◌∷◌, ◌++◌, length, take, drop}
+use Names.{Some, sym, ap, ◌∙◌, subst, arith, reverse, true, and_parts, slice_get, drop_more}
+use Names.{get_or_from_slice_get, drop_of_length-le, Entry, Exact, Name, Field, Sought, fit}
+use Names.{same_octets, is_sought, bucket_of, LeadsTo, AreLinked, AreChains, IsIndexOf, bucket_by}
 use Rattle.std.proofs.lemmas.List.{reverse-append}
 use Rattle.hpack.specs.declared.types.chains.Chains.{Chains}
 use Rattle.hpack.specs.declared.types.chains.Index.{Index}

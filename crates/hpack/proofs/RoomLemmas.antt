@@ -1,12 +1,11 @@
 -- How many octets a block has at most.
-use Rattle.hpack.proofs.Names.{◌≡◌, ℕ, zero, suc, ◌+◌, ◌-◌, ◌*◌, ◌%◌, ◌/◌, ◌≤◌, ◌==◌, nat_lt}
-use Rattle.hpack.proofs.Names.{if◌then◌else◌, Bool, true, false, List, [], ◌∷◌, ◌++◌, length, refl}
-use Rattle.hpack.proofs.Names.{arith, length-append, flat_map, sum_by, leb-true, sum_by-cons}
-use Rattle.hpack.proofs.Names.{all_ones, continuation_of, integer, string, Field, Literal}
-use Rattle.hpack.proofs.Names.{WithIndexing, WithoutIndexing, NeverIndexed, Entries, EncoderState}
-use Rattle.hpack.proofs.Names.{list_size, Choice, indexed, literal, choice, literal_head}
-use Rattle.hpack.proofs.Names.{encoding_of_field, encoding_of_fields, after_choice, size_updates}
-use Rattle.hpack.proofs.Names.{after_updates, block_of, most_octets}
+use Rattle.hpack.proofs.Names
+use Names.{◌≡◌, ℕ, zero, suc, ◌+◌, ◌-◌, ◌*◌, ◌%◌, ◌/◌, ◌≤◌, ◌==◌, nat_lt, if◌then◌else◌, Bool, true}
+use Names.{false, List, [], ◌∷◌, ◌++◌, length, refl, arith, length-append, flat_map, sum_by}
+use Names.{leb-true, sum_by-cons, all_ones, continuation_of, integer, string, Field, Literal}
+use Names.{WithIndexing, WithoutIndexing, NeverIndexed, Entries, EncoderState, list_size, Choice}
+use Names.{indexed, literal, choice, literal_head, encoding_of_field, encoding_of_fields}
+use Names.{after_choice, size_updates, after_updates, block_of, most_octets}
 use Rattle.std.proofs.Common.{nat_le}
 use Rattle.hpack_text.specs.Huffman.{huffman_bits}
 

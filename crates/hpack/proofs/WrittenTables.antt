@@ -1,10 +1,9 @@
 -- Tables as they are written for: their sizes, and the entries that indices name.
-use Rattle.hpack.proofs.Names.{◌≡◌, inl, inr, ℕ, suc, ◌+◌, ◌-◌, ◌^◌, ◌<◌, ◌≤◌, ◌==◌}
-use Rattle.hpack.proofs.Names.{if◌then◌else◌, Bool, true, List, [], ◌∷◌, ◌++◌, length, get_or}
-use Rattle.hpack.proofs.Names.{Option, Some, None, position, refl, sym, ap, subst, arith}
-use Rattle.hpack.proofs.Names.{length-append, option_map_or, cases_lt, eqb-true}
-use Rattle.hpack.proofs.Names.{and_parts, sum_by-cons, slice_get-get_or, Entry, entry_size}
-use Rattle.hpack.proofs.Names.{table_size, fit, static_entries, entry, same_octets, least_index}
+use Rattle.hpack.proofs.Names
+use Names.{◌≡◌, inl, inr, ℕ, suc, ◌+◌, ◌-◌, ◌^◌, ◌<◌, ◌≤◌, ◌==◌, Bool, true, List, [], ◌∷◌, ◌++◌}
+use Names.{length, get_or, Option, Some, None, position, refl, sym, subst, arith, length-append}
+use Names.{option_map_or, cases_lt, eqb-true, and_parts, sum_by-cons, slice_get-get_or, Entry}
+use Names.{entry_size, table_size, fit, static_entries, entry, same_octets, least_index}
 use Rattle.std.proofs.lemmas.List.Quantifiers.{position-Some}
 use Rattle.hpack.proofs.SizeLemmas.{entries_are_large, fit-first, fit-none}
 

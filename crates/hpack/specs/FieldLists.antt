@@ -1,8 +1,11 @@
 -- A list of fields as octets and the places of its fields among them, and what a builder of such a
 -- list represents.
-use Rattle.std.specs.Prelude.{ℕ, ◌-◌, ◌≤◌, List, length, map, take, drop}
+use Rattle.std.specs.Prelude.{ℕ, ◌-◌, ◌≤◌, List, [], ◌∷◌, length, map, take, drop, Bool}
+use Rattle.std.specs.Prelude.{if◌then◌else◌, Option, None, Some}
 use Rattle.std.specs.List.{AllByRecursion}
+use Rattle.std.specs.Str.{bytes_eq}
 use Rattle.hpack.specs.declared.types.field.Field.{Field}
+use Rattle.hpack.specs.declared.types.field.FieldRef.{FieldRef}
 use Rattle.hpack.specs.declared.types.field_place.FieldPlace.{FieldPlace}
 
 -- the octets from one place to another
@@ -32,3 +35,19 @@ pub record IsWithin (count : ℕ) (place : FieldPlace) : Type 0 where
 -- The places are among the octets.
 abbrev pub AreWithin : List ℕ → List FieldPlace → Type 0
 AreWithin octets places = AllByRecursion (IsWithin (length octets)) places
+
+-- a field that is lent
+abbrev pub field_lent : FieldRef → Field
+field_lent field =
+    record { name = field.name.now; value = field.value.now; sensitive = field.sensitive }
+
+-- Whether a field has this name.
+unfoldable pub is_named : List ℕ → Field → Bool
+is_named name field = bytes_eq field.name name
+
+-- the value of the first field with this name
+-- rule: HPACK 3.2 (own) A kept list says its fields and their number
+unfoldable pub value_of : List ℕ → List Field → Option (List ℕ)
+value_of name [] = None
+value_of name (field ∷ fields) =
+    if is_named name field then Some field.value else value_of name fields

@@ -18,3 +18,4 @@ pub mod ChoiceModel
 pub mod EncoderInvariant
 pub mod Written
 pub mod Limits
+pub mod KeptOctets

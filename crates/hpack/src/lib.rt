@@ -21,5 +21,6 @@ pub use types::entry::Entry;
 pub use types::fault::Fault;
 pub use types::field::{Decoded, Field, FieldRef, List};
 pub use types::field_list::FieldList;
+pub use types::field_refs::FieldRefs;
 pub use types::list_size::list_size;
 pub use types::octets::Octets;

@@ -82,6 +82,7 @@ fn build_block(
 
 /// Applies the size updates, after which the maximum is within the limit, and answers the octets
 /// of the fields.
+#[inline(always)]
 fn read_updates<'a>(table: &mut Table, limit: u32, octets: &'a [u8]) -> Result<&'a [u8], Fault>
     ensures so_far { IfOk result (λ unparsed. UpdatesSoFar table.old limit octets.now table.new
         unparsed.now) }

@@ -14,6 +14,7 @@ use crate::encode::size_updates::SizeUpdates;
 use crate::table::dynamic_table::Table;
 use crate::types::fault::Fault;
 use crate::types::field::Field;
+use crate::types::list_size::list_size;
 use std::alloc::Global;
 use std::fmt;
 use std::marker::Model;
@@ -115,7 +116,32 @@ impl Encoder {
         ensures err { IfErr result (λ fault. (fault ≡ Fault.Memory)
             × (out.new.items ≡ out.old.items) × (self.new ≡ self.old)) }
     {
-        reserve_block(fields, out)?;
+        self.encode_sized(fields, list_size(fields), out)
+    }
+
+    // rule: HPACK 3.1 What is encoded is a block of the list
+    /// [`Encoder::encode`] for a caller that has asked for the list's size already: `size` is what
+    /// [`list_size`](crate::list_size) answers of the fields, below 2<sup>35</sup>.
+    ///
+    /// # Errors
+    ///
+    /// [`Fault::Memory`], and neither the encoder nor `out` has changed.
+    pub fn encode_sized(
+        &mut self,
+        fields: &[Field],
+        size: usize,
+        out: &mut Vec<u8>,
+    ) -> Result<(), Fault>
+        requires bound { list_size fields.now < 2 ^ 35 }
+        requires size { size ≡ list_size fields.now }
+        ensures ok { OnOk result ((out.new.items ≡ out.old.items ++ block_of self.old fields.now)
+            × (self.new ≡ after_block self.old fields.now)) }
+        ensures block { OnOk result ((limit : ℕ) → self.old.limit ≤ limit
+            → Block self.old.table limit (block_of self.old fields.now) fields.now self.new.table) }
+        ensures err { IfErr result (λ fault. (fault ≡ Fault.Memory)
+            × (out.new.items ≡ out.old.items) × (self.new ≡ self.old)) }
+    {
+        reserve_block(fields, size, out)?;
         let start = out.len();
         if self.append_block(fields, out).is_err() {
             out.truncate(start);

@@ -132,6 +132,7 @@ impl PendingTable {
 
     // rule: HPACK 6.1 (own) A field with an exact entry is its least index
     /// The least index of the dynamic entries that are looked for, or 0.
+    #[inline(always)]
     pub(crate) fn dynamic_index(
         &self,
         table: &Table,

@@ -7,7 +7,6 @@ ghost use Rattle.hpack.specs.Lists.{list_size as size_of_list};
 
 use crate::types::fault::Fault;
 use crate::types::field::Field;
-use crate::types::list_size::list_size;
 
 /// The octets of two size updates.
 const UPDATES: usize = 12;
@@ -17,21 +16,24 @@ const UPDATES: usize = 12;
 const SPARE: usize = 14;
 
 // rule: HPACK 3.1 What is encoded is a block of the list
-/// Reserves room for the block of the fields, whatever the encoder chooses.
-pub(crate) fn reserve_block(fields: &[Field], out: &mut Vec<u8>) -> Result<(), Fault>
-    requires { size_of_list fields.now < 2 ^ 35 }
+/// Reserves room for the block of the fields, whose list has this size, whatever the encoder
+/// chooses.
+pub(crate) fn reserve_block(fields: &[Field], size: usize, out: &mut Vec<u8>) -> Result<(), Fault>
+    requires bound { size_of_list fields.now < 2 ^ 35 }
+    requires size { size ≡ size_of_list fields.now }
     ensures room { OnOk result (vec_len out.new + most_octets fields.now ≤ vec_capacity out.new) }
     ensures items { out.new.items ≡ out.old.items }
     ensures err { IfErr result (λ fault. fault ≡ Fault.Memory) }
 {
-    out.reserve(octets_of_block(fields))?;
+    out.reserve(octets_of_block(fields, size))?;
     Ok(())
 }
 
-/// The most octets of the block of the fields.
-fn octets_of_block(fields: &[Field]) -> usize
-    requires { size_of_list fields.now < 2 ^ 35 }
+/// The most octets of the block of the fields, whose list has this size.
+fn octets_of_block(fields: &[Field], size: usize) -> usize
+    requires bound { size_of_list fields.now < 2 ^ 35 }
+    requires size { size ≡ size_of_list fields.now }
     ensures { result ≡ most_octets fields.now }
 {
-    list_size(fields) + UPDATES - SPARE * fields.len()
+    size + UPDATES - SPARE * fields.len()
 }

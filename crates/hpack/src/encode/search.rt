@@ -38,6 +38,7 @@ pub(crate) fn is_match(sought: Sought, field: &Field, name: &[u8], value: &[u8])
 // rule: HPACK 6.1 (own) A field with an exact entry is its least index
 /// The least index of the static table's entries that are looked for, or 0, by the hash of the
 /// field's name. Only names in the bucket of the hash are compared.
+#[inline(always)]
 pub(crate) fn static_index(sought: Sought, hash: u64, field: &Field) -> u64
     requires { hash ≡ hash_from 0 field.now.name }
     ensures { result ≡ first_index (is_sought sought field.now) 1 static_entries }

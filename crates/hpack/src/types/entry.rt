@@ -2,6 +2,7 @@
 
 ghost use Rattle.std.specs.Prelude.{◌≡◌, IfOk};
 
+use crate::types::shown::Shown;
 use std::alloc::{AllocError, Global};
 use std::fmt;
 use std::marker::Model;
@@ -66,8 +67,8 @@ impl Entry {
 impl fmt::Debug for Entry {
     fn fmt<W: fmt::Write>(&self, f: &mut fmt::Formatter<W>) -> fmt::Result {
         f.debug_struct("Entry")
-            .field("name", &self.name())
-            .field("value", &self.value())
+            .field("name", &Shown(self.name()))
+            .field("value", &Shown(self.value()))
             .finish()
     }
 }

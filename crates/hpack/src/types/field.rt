@@ -3,6 +3,7 @@
 ghost use Rattle.std.specs.Prelude.{◌≡◌, IfOk};
 
 use crate::types::octets::Octets;
+use crate::types::shown::Shown;
 use std::alloc::{AllocError, Global};
 use std::fmt;
 
@@ -75,12 +76,12 @@ impl fmt::Debug for FieldRef<'_> {
             return write!(
                 f,
                 "FieldRef {{ name: {:?}, value: [sensitive] }}",
-                self.name
+                Shown(self.name)
             );
         }
         f.debug_struct("FieldRef")
-            .field("name", &self.name)
-            .field("value", &self.value)
+            .field("name", &Shown(self.name))
+            .field("value", &Shown(self.value))
             .finish()
     }
 }

@@ -1,10 +1,12 @@
 //! A list of fields whose room is used again.
 
-ghost use Rattle.std.specs.Prelude.{◌≡◌, ◌==◌, ◌≤◌, [], length, slice_get, Some, MatchOption};
+ghost use Rattle.std.specs.Prelude.{◌≡◌, ◌==◌, ◌≤◌, [], length, slice_get, Some, None};
+ghost use Rattle.std.specs.Prelude.{IfOk, MatchOption};
 
-use crate::types::field::FieldRef;
+use crate::types::field::{Field, FieldRef};
 use crate::types::field_place::FieldPlace;
-use std::alloc::Global;
+use crate::types::field_refs::FieldRefs;
+use std::alloc::{AllocError, Global};
 use std::fmt;
 use std::marker::Model;
 
@@ -32,7 +34,7 @@ impl Model for FieldList {
 }
 
 impl FieldList {
-    ghost use Rattle.hpack.specs.FieldLists.{AreWithin, fields_of};
+    ghost use Rattle.hpack.specs.FieldLists.{AreWithin, fields_of, field_lent, value_of};
 
     // contract: HPACK 3.2 (own) A kept list says its fields and their number
     /// An empty list, without room. It takes no memory.
@@ -67,21 +69,53 @@ impl FieldList {
     /// A field, by its place: 0 is the first. It takes no memory.
     pub fn get(&self, place: usize) -> Option<FieldRef<'_>>
         ensures { MatchOption result (length self.now ≤ place)
-            (λ field. slice_get self.now place ≡ Some (record {
-              name = field.name.now;
-              value = field.value.now;
-              sensitive = field.sensitive;
-            })) }
+            (λ field. slice_get self.now place ≡ Some (field_lent field)) }
     {
-        if place >= self.places.len() {
-            return None;
+        let found = self.places.get(place)?;
+        Some(found.lend(&self.octets))
+    }
+
+    // contract: HPACK 3.2 (own) A kept list says its fields and their number
+    /// The fields, in order. It takes no memory.
+    pub fn iter(&self) -> FieldRefs<'_>
+        ensures { result ≡ self.now }
+    {
+        FieldRefs {
+            octets: &self.octets,
+            places: &self.places,
         }
-        let found = self.places[place];
-        Some(FieldRef {
-            name: &self.octets[found.start..found.name_end],
-            value: &self.octets[found.name_end..found.value_end],
-            sensitive: found.sensitive,
-        })
+    }
+
+    // contract: HPACK 3.2 (own) A kept list says its fields and their number
+    // rule: HPACK 3.2 (own) A kept list says its fields and their number
+    /// The value of the first field with this name, octet for octet; `None` where there is no such
+    /// field. It goes over the fields, and takes no memory.
+    pub fn value(&self, name: &[u8]) -> Option<&[u8]>
+        ensures { MatchOption result (value_of name.now self.now ≡ None)
+            (λ value. value_of name.now self.now ≡ Some value.now) }
+    {
+        for field in self.iter() {
+            if field.name == name {
+                return Some(field.value);
+            }
+        }
+        None
+    }
+
+    // contract: HPACK 3.2 (own) A kept list says its fields and their number
+    /// Copies of the fields, in order.
+    ///
+    /// # Errors
+    ///
+    /// [`AllocError`] where an allocation was refused.
+    pub fn to_vec(&self, alloc: Global) -> Result<Vec<Field>, AllocError>
+        ensures { IfOk result (λ copies. copies.items ≡ self.now) }
+    {
+        let mut copies = Vec::with_capacity(alloc, self.len())?;
+        for field in self.iter() {
+            copies.push(Field::copy_of(alloc, field.name, field.value, field.sensitive)?)?;
+        }
+        Ok(copies)
     }
 
     // rule: HPACK 3.2 (own) A kept list says its fields and their number
@@ -113,11 +147,7 @@ impl FieldList {
 impl fmt::Debug for FieldList {
     fn fmt<W: fmt::Write>(&self, f: &mut fmt::Formatter<W>) -> fmt::Result {
         let mut fields = f.debug_list();
-        for place in 0..self.len() {
-            if let Some(field) = self.get(place) {
-                fields.entry(&field);
-            }
-        }
+        fields.entries(self.iter());
         fields.finish()
     }
 }

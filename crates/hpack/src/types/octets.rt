@@ -2,22 +2,34 @@
 
 ghost use Rattle.std.specs.Prelude.{◌≡◌, IfOk};
 
+use crate::types::shown::Shown;
 use std::alloc::{AllocError, Global};
+use std::fmt;
 use std::marker::Model;
 
-/// The octets of a name or a value. It is made of a `Vec<u8>` and gives it back without taking
-/// memory.
-#[derive(Debug, Drop)]
+/// Where the octets are.
+#[derive(Drop)]
+pub(crate) enum Kept {
+    /// In a vector of their own.
+    Owned(Vec<u8>),
+    /// In the program, for as long as it runs.
+    Static(&'static [u8]),
+}
+
+/// The octets of a name or a value. It is made of a `Vec<u8>`, or of a text of the program, without
+/// taking memory. `{:?}` shows it as a byte string, as `b":path"`.
+#[derive(Drop)]
 pub struct Octets {
-    octets: Vec<u8>,
+    kept: Kept,
 }
 
 impl Model for Octets {
     ghost use Rattle.std.specs.Prelude.{List, ℕ};
+    ghost use Rattle.hpack.specs.KeptOctets.{octets_kept};
 
     ghost Value = { List ℕ };
 
-    ghost view = { λ octets. octets.octets.items };
+    ghost view = { λ octets. octets_kept octets.kept };
 }
 
 impl Octets {
@@ -27,7 +39,19 @@ impl Octets {
     pub fn new(octets: Vec<u8>) -> Octets
         ensures { result ≡ octets.items }
     {
-        Octets { octets }
+        Octets {
+            kept: Kept::Owned(octets),
+        }
+    }
+
+    // rule (contract): HPACK 2.1 (own) The octets of a name and a value are those that were given
+    /// Octets of the program, as `b":status"`. It takes no memory.
+    pub fn from_static(octets: &'static [u8]) -> Octets
+        ensures { result ≡ octets.now }
+    {
+        Octets {
+            kept: Kept::Static(octets),
+        }
     }
 
     // contract: HPACK 2.1 (own) The octets of a name and a value are those that were given
@@ -40,25 +64,25 @@ impl Octets {
     pub fn copy_of(alloc: Global, octets: &[u8]) -> Result<Octets, AllocError>
         ensures { IfOk result (λ copy. copy ≡ octets.now) }
     {
-        Ok(Octets {
-            octets: Vec::from_slice(alloc, octets)?,
-        })
+        Ok(Octets::new(Vec::from_slice(alloc, octets)?))
     }
 
     // contract: HPACK 2.1 (own) The octets of a name and a value are those that were given
     // rule (contract): HPACK 2.1 (own) The octets of a name and a value are those that were given
     /// The octets.
+    #[inline(always)]
     pub fn as_slice(&self) -> &[u8]
         ensures { result.now ≡ self.now }
     {
-        self.octets.as_slice()
+        match &self.kept {
+            Kept::Owned(octets) => octets.as_slice(),
+            Kept::Static(octets) => octets,
+        }
     }
+}
 
-    /// The vector of the octets.
-    pub fn into_vec(self) -> Vec<u8>
-        ensures { result.items ≡ self }
-    {
-        let Octets { octets } = self;
-        octets
+impl fmt::Debug for Octets {
+    fn fmt<W: fmt::Write>(&self, f: &mut fmt::Formatter<W>) -> fmt::Result {
+        Shown(self.as_slice()).fmt(f)
     }
 }

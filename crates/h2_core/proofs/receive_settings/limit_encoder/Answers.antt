@@ -1,7 +1,6 @@
 -- Pair by pair.
 use Rattle.h2_core.proofs.Names.{◌≡◌, ◌==◌, true, false, refl, sym, ◌∙◌, ℕ, List, ◌∷◌, min}
-use Rattle.h2_core.proofs.Names.{EncoderState}
-use Rattle.h2_spec_log.specs.ItemEffects.{encoder_after_settings}
+use Rattle.h2_core.proofs.Names.{EncoderState, encoder_after_settings}
 use Rattle.std.proofs.lemmas.Bool.{eq-eqb, ne_eqb}
 use Rattle.hpack.specs.Limits.{after_limit}
 use Rattle.h2_core.proofs.receive_settings.limit_encoder.Goals as goal

@@ -1,7 +1,6 @@
 -- The pairs are those of the role, with the greatest frame where it isn't the one that was sent
 -- last.
-use Rattle.h2_core.proofs.Names.{◌≡◌, ◌==◌, true, false, sym, ◌∙◌}
-use Rattle.h2_spec_log.specs.CallRules.{changed_pairs, with_max_frame}
+use Rattle.h2_core.proofs.Names.{◌≡◌, ◌==◌, true, false, sym, ◌∙◌, changed_pairs, with_max_frame}
 use Rattle.std.proofs.Common.{eq-eqb, ne_eqb}
 use Rattle.h2_core.proofs.settings_frame.add_changed_settings.Goals as goal
 

@@ -1,6 +1,6 @@
 -- The pairs are those of the role, with the greatest frame where it isn't 16,384.
-use Rattle.h2_core.proofs.Names.{◌≡◌, ◌==◌, true, false, sym, ◌∙◌}
-use Rattle.h2_spec_log.specs.CallRules.{with_max_frame, opening_pairs}
+use Rattle.h2_core.proofs.Names.{◌≡◌, ◌==◌, true, false, sym, ◌∙◌, with_max_frame}
+use Rattle.h2_spec_log.specs.CallRules.{opening_pairs}
 use Rattle.std.proofs.Common.{eq-eqb, ne_eqb}
 use Rattle.h2_core.proofs.settings_frame.add_opening_settings.Goals.{in-Client, in-Server}
 use Rattle.h2_core.proofs.settings_frame.add_opening_settings.Goals as goal

@@ -1,7 +1,7 @@
 -- The head and the pairs are the frame.
 use Rattle.h2_core.proofs.Names.{◌≡◌, ◌*◌, ◌++◌, [], ℕ, List, length, drop, flat_map, Bool, true}
 use Rattle.h2_core.proofs.Names.{false, refl, ◌∙◌, append_assoc, append-nil, arith, pair_octets}
-use Rattle.h2_frame.specs.Encoding.{encoding_of, payload_of, kind_of_frame, flags_of, stream_of}
+use Rattle.h2_core.proofs.Names.{encoding_of, payload_of, kind_of_frame, flags_of, stream_of}
 use Rattle.std.proofs.lemmas.List.{drop_all}
 use Rattle.std.specs.Int.{from_bool}
 use Rattle.h2_frame.specs.Frames.{Settings}

@@ -1,8 +1,7 @@
 -- The octets that are lent are those that lie there.
-use Rattle.h2_ends.proofs.Names.{◌≡◌, ℕ, List, [], Bool, false, Some, refl, ap, both_ways}
-use Rattle.h2_ends.proofs.Names.{Field, End, EndTook, Handed, handed_value, LocatedPart}
-use Rattle.h2_ends.specs.Loans.{BodyLiesIn, IsBodyIn, event_handed}
-use Rattle.h2_ends.specs.EndEvents.{end_event_with_parts}
+use Rattle.h2_ends.proofs.Names.{◌≡◌, ℕ, List, [], Bool, false, Some, refl, ap, both_ways, Field}
+use Rattle.h2_ends.proofs.Names.{End, EndTook, Handed, LocatedPart, end_event_with_parts}
+use Rattle.h2_ends.specs.Loans.{handed_value, BodyLiesIn, IsBodyIn, event_handed}
 use Rattle.h2_wire.specs.Cutter.{body_at}
 use Rattle.h2_wire.specs.declared.cut.Complete.{Complete}
 use Rattle.std.specs.Borrow.{Bor}

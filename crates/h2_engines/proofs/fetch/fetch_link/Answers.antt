@@ -13,49 +13,37 @@ returns-in_err-fetcher-clause-fetches g c =
     rw (answer.1, answer.2) (ends_at_once (message_value c.args.message) _
     c.in_err-fetcher.field-0.0 c.args.config.in_range c.in_err-fetcher.ensures.refused)
 
-pub returns-in_err-is_whole-clause-fetches : goal.returns-in_err-is_whole-clause-fetches
-returns-in_err-is_whole-clause-fetches g c =
+pub returns-in_err-is_whole : goal.returns-in_err-is_whole
+returns-in_err-is_whole g c =
     let answer = err_from_is_err_and c.from_residual-in_err-is_whole.result
     c.from_residual-in_err-is_whole.ensures.1 in
-    rw (answer.1, answer.2) (drive_fetches _ _ c.drive.new.machine c.in_err-is_whole.field-0.0
-    c.args.config.in_range c.in_ok-fetcher.ensures.unfinished c.in_ok-fetcher.ensures.ok
-    c.in_err-is_whole.ensures.drives)
+    rw (answer.1, answer.2) (record {
+      fetches = drive_fetches _ _ c.drive.new.machine c.args.config.in_range
+          c.in_ok-fetcher.ensures.unfinished c.in_ok-fetcher.ensures.ok c.in_err-is_whole.field-0.0
+          c.in_err-is_whole.ensures.drives;
+      cut_off = drive_not_cut _ _ c.drive.new.machine c.args.config.in_range
+          c.in_ok-fetcher.ensures.unfinished c.in_ok-fetcher.ensures.ok c.in_err-is_whole.field-0.0
+          _ c.in_err-is_whole.ensures.drives;
+      failures = c.in_err-is_whole.ensures.failures
+          ∙ failures_same Bool Fetched _ c.in_err-is_whole.field-0.0;
+    })
 
-pub returns-in_err-is_whole-clause-cut_off : goal.returns-in_err-is_whole-clause-cut_off
-returns-in_err-is_whole-clause-cut_off g c =
-    let answer = err_from_is_err_and c.from_residual-in_err-is_whole.result
-    c.from_residual-in_err-is_whole.ensures.1 in
-    rw (answer.1, answer.2) (drive_not_cut _ _ c.drive.new.machine c.in_err-is_whole.field-0.0 _
-    c.args.config.in_range c.in_ok-fetcher.ensures.unfinished c.in_ok-fetcher.ensures.ok
-    c.in_err-is_whole.ensures.drives)
-
-pub returns-in_err-is_whole-clause-failures : goal.returns-in_err-is_whole-clause-failures
-returns-in_err-is_whole-clause-failures g c =
-    let answer = err_from_is_err_and c.from_residual-in_err-is_whole.result
-    c.from_residual-in_err-is_whole.ensures.1 in
-    rw (answer.1, answer.2)
-    (c.in_err-is_whole.ensures.failures ∙ failures_same Bool Fetched _ c.in_err-is_whole.field-0.0)
-
-pub returns-then-is_whole-clause-fetches : goal.returns-then-is_whole-clause-fetches
-returns-then-is_whole-clause-fetches g c =
-    drive_whole _ _ c.drive.new.machine c.in_ok-is_whole.is_whole c.into_fetched.result
-    c.if-is_whole.true c.args.config.in_range c.in_ok-fetcher.ensures.unfinished
-    c.in_ok-fetcher.ensures.ok c.in_ok-is_whole.ensures.drives c.into_fetched.ensures.ok
-    c.into_fetched.ensures.none
-
-pub returns-then-is_whole-clause-cut_off : goal.returns-then-is_whole-clause-cut_off
-returns-then-is_whole-clause-cut_off g c =
-    fetched_not_cut c.into_fetched.result _ c.into_fetched.ensures.err
-
-pub returns-then-is_whole-clause-failures : goal.returns-then-is_whole-clause-failures
-returns-then-is_whole-clause-failures g c =
-    c.in_ok-is_whole.ensures.failures
-    ∙ fails_none Fetched _ errors.NoProgress c.into_fetched.result refl c.into_fetched.ensures.err
+pub returns-then-is_whole : goal.returns-then-is_whole
+returns-then-is_whole g c =
+    record {
+      fetches = drive_whole _ _ c.drive.new.machine c.args.config.in_range
+          c.in_ok-fetcher.ensures.unfinished c.in_ok-fetcher.ensures.ok c.in_ok-is_whole.is_whole
+          c.into_fetched.result c.if-is_whole.true c.in_ok-is_whole.ensures.drives
+          c.into_fetched.ensures.ok c.into_fetched.ensures.none;
+      cut_off = fetched_not_cut c.into_fetched.result _ c.into_fetched.ensures.err;
+      failures = c.in_ok-is_whole.ensures.failures ∙ fails_none Fetched _ errors.NoProgress
+          c.into_fetched.result refl c.into_fetched.ensures.err;
+    }
 
 pub returns-clause-fetches : goal.returns-clause-fetches
 returns-clause-fetches g c =
-    drive_cut_off _ _ c.drive.new.machine c.in_ok-is_whole.is_whole c.if-is_whole.false
-    c.args.config.in_range c.in_ok-fetcher.ensures.unfinished c.in_ok-fetcher.ensures.ok
+    drive_cut_off _ _ c.drive.new.machine c.args.config.in_range c.in_ok-fetcher.ensures.unfinished
+    c.in_ok-fetcher.ensures.ok c.in_ok-is_whole.is_whole c.if-is_whole.false
     c.in_ok-is_whole.ensures.drives
 
 pub returns-clause-cut_off : goal.returns-clause-cut_off

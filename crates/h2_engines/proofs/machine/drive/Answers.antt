@@ -30,8 +30,8 @@ returns-in_err-send_waiting-clause-drives g c course end is sent =
     let go = written_on (g.M.Machine.held c.write_out.new.machine)
     (c.loop.invariant.drives course end is sent) c.in_ok-write_out.ensures.kept
     c.in_ok-write_out.ensures.writes in
-    rw (answer.1, answer.2) (waiting_last _ (g.M.Machine.held c.send_waiting.new.machine)
-    c.in_err-send_waiting.field-0.0 go c.in_err-send_waiting.ensures.kept
+    rw (answer.1, answer.2) (waiting_last (g.M.Machine.held c.send_waiting.new.machine) go
+    c.in_err-send_waiting.ensures.kept c.in_err-send_waiting.field-0.0
     c.in_err-send_waiting.ensures.sends)
 
 pub loop-preserved-then-is_full : goal.loop-preserved-then-is_full
@@ -105,13 +105,13 @@ returns-in_err-send_waiting-2-clause-drives g c course end is sent =
     let go = written_on (g.M.Machine.held c.write_out.new.machine)
     (c.loop.invariant.drives course end is sent) c.in_ok-write_out.ensures.kept
     c.in_ok-write_out.ensures.writes in
-    rw (answer.1, answer.2) (waiting_last _ (g.M.Machine.held c.send_waiting-in-loop.new.machine)
-    c.in_err-send_waiting-2.field-0.0 (taken_on c.if-is_whole.false (read_on _ go (gives_piece _ _
-    c.in_ok-count.count c.loop.input.len c.read.new.buffer (drop (length c.read.new.buffer)
-    c.loop.input.items) c.deref.result.now c.deref.ensures.value
-    (c.in_ok-count.ensures.length ∙ c.deref_mut.ensures.len) c.in_ok-count.ensures.gives.1)
-    c.in_ok-count.ensures.takes_none) c.in_ok-is_whole.ensures.takes)
-    c.in_err-send_waiting-2.ensures.kept c.in_err-send_waiting-2.ensures.sends)
+    rw (answer.1, answer.2) (waiting_last (g.M.Machine.held c.send_waiting-in-loop.new.machine)
+    (taken_on c.if-is_whole.false (read_on _ go (gives_piece _ _ c.in_ok-count.count
+    c.loop.input.len c.read.new.buffer (drop (length c.read.new.buffer) c.loop.input.items)
+    c.deref.result.now c.deref.ensures.value (c.in_ok-count.ensures.length
+    ∙ c.deref_mut.ensures.len) c.in_ok-count.ensures.gives.1) c.in_ok-count.ensures.takes_none)
+    c.in_ok-is_whole.ensures.takes) c.in_err-send_waiting-2.ensures.kept
+    c.in_err-send_waiting-2.field-0.0 c.in_err-send_waiting-2.ensures.sends)
 
 pub returns-clause-drives : goal.returns-clause-drives
 returns-clause-drives g c course end is sent =

@@ -1,6 +1,5 @@
 -- By what the end's pump has answered.
-use Rattle.h2_engines.proofs.Names.{Ok, Err, ap, ◌∙◌, error_after, err_from_is_err_and}
-use Rattle.h2_engines.specs.ServerSteps.{EndsAfter}
+use Rattle.h2_engines.proofs.Names.{Ok, Err, ap, ◌∙◌, error_after, err_from_is_err_and, EndsAfter}
 use Rattle.h2_engines.proofs.machine.pump.Goals as goal
 
 pub returns-clause-pumps : goal.returns-clause-pumps

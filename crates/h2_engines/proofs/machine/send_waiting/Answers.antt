@@ -1,7 +1,6 @@
 -- By the lemmas on what is sent before output is put out.
-use Rattle.h2_engines.proofs.Names.{◌≡◌, Ok, Err, rules, sym, ◌∙◌, ReleasesSome}
-use Rattle.h2_engines.specs.ServerSteps.{EndsRelease, EndsAfter}
-use Rattle.std.proofs.Common.{◌≢◌}
+use Rattle.h2_engines.proofs.Names.{◌≡◌, Ok, Err, rules, sym, ◌∙◌, ReleasesSome, EndsRelease}
+use Rattle.h2_engines.proofs.Names.{EndsAfter, ◌≢◌}
 use Rattle.h2_engines.proofs.WithoutLinkSends.{failed_sends, not_released_as, sends_so}
 use Rattle.h2_engines.proofs.machine.send_waiting.Goals.{in-Ok-1, in-Err+in-Conn+in-OutputFull-1}
 use Rattle.h2_spec_log.specs.declared.refusal.Refusal.TheVariants as reasons
@@ -35,8 +34,12 @@ returns-in-Ok-clause-sends g c =
           let is : c.release_all-released.result ≡ Ok tt = search rules in
           (Ok tt, rw is at c.release_all-released.ensures.releases, tt)
       | in-Err+in-Conn+in-OutputFull-1 w ↦
-          let is : c.release_all-released.result ≡ Err (refusals.Conn reasons.OutputFull) = search rules in
-          (Err (refusals.Conn reasons.OutputFull), rw is at c.release_all-released.ensures.releases, tt)
+          let is : c.release_all-released.result ≡ Err (refusals.Conn reasons.OutputFull) =
+          search rules in (
+            Err (refusals.Conn reasons.OutputFull),
+            rw is at c.release_all-released.ensures.releases,
+            tt,
+          )
     ] in
     sends_so old middle (g.M.Machine.held c.pump.new.machine).end c.failed.result tt c.pump.result
     (rw c.conn.ensures at c.failed.ensures)

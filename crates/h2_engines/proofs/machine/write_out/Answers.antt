@@ -1,6 +1,6 @@
 -- By the lemmas on output that is written.
-use Rattle.h2_engines.proofs.Names.{refl, ap, sym, ◌∙◌, arith}
-use Rattle.h2_engines.proofs.Names.{err_from_is_err_and, Happens, error_after}
+use Rattle.h2_engines.proofs.Names.{refl, ap, sym, ◌∙◌, arith, err_from_is_err_and, Happens}
+use Rattle.h2_engines.proofs.Names.{error_after, traffic}
 use Rattle.h2_link.specs.Links.{WritesAll}
 use Rattle.h2_engines.proofs.MachineLaws.{puts_at}
 use Rattle.h2_engines.proofs.ResponderFaults.{written_some, written_failures, written_ends}
@@ -8,7 +8,6 @@ use Rattle.h2_engines.proofs.ResponderFaults.{call_failures, written_known}
 use Rattle.h2_engines.proofs.ResponderWrites.{writes_all, writes_lent, writes_lent_first}
 use Rattle.h2_engines.proofs.ResponderWrites.{writes_ready, writes_no_more, writes_nothing}
 use Rattle.h2_engines.proofs.ResponderWrites.{writes_refused}
-use Rattle.h2_engines.specs.Linked.{traffic}
 use Rattle.h2_engines.proofs.machine.write_out.Goals as goal
 
 pub loop-init : goal.loop-init
@@ -25,9 +24,9 @@ returns-in_err-unless_refused-clause-writes g c course end unused is was linked 
     let new = (g.M.Machine.held c.ready.new.self).end in
     let answer = err_from_is_err_and c.from_residual.result c.from_residual.ensures.1 in
     let (refused, refusal, same, made, ends) = c.in_err-unless_refused.ensures.err in
-    rw (answer.1, answer.2) (writes_refused (Happens course kept) (puts_at course kept) new 0
-    refused (omega arith) (rw same at c.ready.ensures.answers) (ends ∙ ap error_after made)
-    (c.loop.invariant.writes course end unused is was linked))
+    rw (answer.1, answer.2) (writes_refused (Happens course kept) (puts_at course kept)
+    (c.loop.invariant.writes course end unused is was linked) new 0 refused (omega arith)
+    (rw same at c.ready.ensures.answers) (ends ∙ ap error_after made))
 
 pub returns-then-waiting-eq0-clause-writes : goal.returns-then-waiting-eq0-clause-writes
 returns-then-waiting-eq0-clause-writes g c course end unused is was linked =
@@ -38,11 +37,12 @@ returns-then-waiting-eq0-clause-writes g c course end unused is was linked =
     (λ values log conn. sym c.if-waiting-eq0.true
     ∙ (rw c.conn.ensures at c.waiting.ensures.count) values log conn)
     (rw done at c.ready.ensures.returned)
-    (writes_ready (Happens course kept) (puts_at course kept) new
-    (rw done at c.ready.ensures.answers) (c.loop.invariant.writes course end unused is was linked))
+    (writes_ready (Happens course kept) (puts_at course kept)
+    (c.loop.invariant.writes course end unused is was linked) new
+    (rw done at c.ready.ensures.answers))
 
-pub returns-in_err-written-clause-writes : goal.returns-in_err-written-clause-writes
-returns-in_err-written-clause-writes g c course end unused is was linked =
+pub returns-in_err-written : goal.returns-in_err-written
+returns-in_err-written g c =
     let kept = (g.M.Machine.held c.args.machine.now).kept in
     let link = c.write_both-written.new.link in
     let now = traffic (g.L.Link.given link) (g.L.Link.taken link) (g.L.Link.stalled link) in
@@ -51,32 +51,26 @@ returns-in_err-written-clause-writes g c course end unused is was linked =
     let done = c.in_ok-unless_refused.ensures.ok in
     let written = rw c.in_err-written.was at c.write_both-written.ensures.writes in
     let some = written_some _ _ _ _ _ _ written in
-    rw (answer.1, answer.2) (writes_lent_first (Happens course kept) (puts_at course kept) now
-    (g.M.Machine.held c.ready.new.self).end (g.M.Machine.held c.consume-consumed.new.self).end
-    c.consume-consumed.result some.0 c.in_err-written.field-0.0 (rw done at c.ready.ensures.answers)
-    (record {
-      few = rw c.conn.ensures at c.waiting.ensures.bound;
-      all = rw c.conn.ensures at c.waiting.ensures.count;
-      lent = rw c.conn-in-loop.ensures at c.waiting_octets.ensures;
-      returned = rw done at c.ready.ensures.returned;
-    }) c.consume-consumed.ensures.answers c.consume-consumed.ensures.room
-    c.write_both-written.ensures.gives_none some.1.took (written_known _ _ _ _ _ _ written)
-    (rw c.in_err-written.was at c.write_both-written.ensures.stalled)
-    (c.loop.invariant.writes course end unused is was linked))
-
-pub returns-in_err-written-clause-failures : goal.returns-in_err-written-clause-failures
-returns-in_err-written-clause-failures g c =
-    let answer = err_from_is_err_and c.from_residual-in_err-written.result
-    c.from_residual-in_err-written.ensures.1 in
-    rw (answer.1, answer.2) (written_failures (Unit {0}) _ _ _ _ _ c.loop.invariant.failures
-    (rw c.in_err-written.was at c.write_both-written.ensures.writes))
-
-pub returns-in_err-written-clause-err : goal.returns-in_err-written-clause-err
-returns-in_err-written-clause-err g c =
-    let answer = err_from_is_err_and c.from_residual-in_err-written.result
-    c.from_residual-in_err-written.ensures.1 in
-    rw (answer.1, answer.2) (written_ends _ _ _ _ _ _
-    (rw c.in_err-written.was at c.write_both-written.ensures.writes))
+    rw (answer.1, answer.2) (record {
+      writes = λ course end unused is was linked. writes_lent_first (Happens course kept)
+          (puts_at course kept) now (g.M.Machine.held c.ready.new.self).end
+          (g.M.Machine.held c.consume-consumed.new.self).end
+          (c.loop.invariant.writes course end unused is was linked)
+          (rw done at c.ready.ensures.answers)
+          (record {
+            few = rw c.conn.ensures at c.waiting.ensures.bound;
+            all = rw c.conn.ensures at c.waiting.ensures.count;
+            lent = rw c.conn-in-loop.ensures at c.waiting_octets.ensures;
+            returned = rw done at c.ready.ensures.returned;
+          })
+          c.write_both-written.ensures.gives_none c.consume-consumed.result some.0
+          c.in_err-written.field-0.0 c.consume-consumed.ensures.answers
+          c.consume-consumed.ensures.room some.1.took (written_known _ _ _ _ _ _ written)
+          (rw c.in_err-written.was at c.write_both-written.ensures.stalled);
+      kept = c.consume-consumed.ensures.kept ∙ c.ready.ensures.kept ∙ c.loop.invariant.kept;
+      failures = written_failures (Unit {0}) _ _ _ _ _ c.loop.invariant.failures written;
+      err = written_ends _ _ _ _ _ _ written;
+    })
 
 pub returns-in_err-unless_refused-2-clause-failures :
     goal.returns-in_err-unless_refused-2-clause-failures
@@ -101,7 +95,8 @@ loop-preserved g c =
       kept = c.consume-consumed.ensures.kept ∙ c.ready.ensures.kept ∙ c.loop.invariant.kept;
       writes = λ course end unused is was linked. writes_lent (Happens course kept)
           (puts_at course kept) now (g.M.Machine.held c.ready.new.self).end
-          (g.M.Machine.held c.consume-consumed.new.self).end c.in_ok-unless_refused-2.field-0
+          (g.M.Machine.held c.consume-consumed.new.self).end
+          (c.loop.invariant.writes course end unused is was linked)
           (rw done at c.ready.ensures.answers)
           (record {
             few = rw c.conn.ensures at c.waiting.ensures.bound;
@@ -109,9 +104,8 @@ loop-preserved g c =
             lent = rw c.conn-in-loop.ensures at c.waiting_octets.ensures;
             returned = rw done at c.ready.ensures.returned;
           })
-          (rw c.in_ok-unless_refused-2.ensures.ok at c.consume-consumed.ensures.answers)
-          c.write_both-written.ensures.gives_none written.0
-          (c.loop.invariant.writes course end unused is was linked);
+          c.write_both-written.ensures.gives_none c.in_ok-unless_refused-2.field-0
+          (rw c.in_ok-unless_refused-2.ensures.ok at c.consume-consumed.ensures.answers) written.0;
     }
 
 pub returns-clause-writes : goal.returns-clause-writes

@@ -3,7 +3,8 @@ use Rattle.std.proofs.Common.{◌≡◌, ◌<◌, ◌≤◌, length, Some, arith
 use Rattle.std.specs.List.{slice_get}
 use Rattle.std.proofs.lemmas.Option.{slice_get_within, get_or_from_slice_get}
 use Rattle.hpack.specs.declared.types.field.Field.{Field}
-use Rattle.h2_show.specs.Lines.{field_line, field_lent}
+use Rattle.hpack.specs.FieldLists.{field_lent}
+use Rattle.h2_show.specs.Lines.{field_line}
 use Rattle.h2_events.proofs.LineLemmas.{next_written}
 use Rattle.h2_events.proofs.lines.write_fields.Goals as goal
 use Rattle.h2_events.proofs.lines.write_fields.Goals.{in-Some+in_ok-write_field, in_default}

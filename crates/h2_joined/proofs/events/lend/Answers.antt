@@ -1,6 +1,5 @@
 -- An event, by where it lies.
-use Rattle.h2_joined.proofs.Names.{refl}
-use Rattle.h2_joined.specs.Stored.{event_kept}
+use Rattle.h2_joined.proofs.Names.{refl, event_kept}
 use Rattle.h2_joined.proofs.events.lend.Goals as goal
 
 pub returns-in-Interim : goal.returns-in-Interim

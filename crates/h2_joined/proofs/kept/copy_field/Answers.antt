@@ -1,8 +1,7 @@
 -- The octets that were copied are those of slices.
-use Rattle.h2_joined.proofs.Names.{[], ◌∷◌, Result, Ok, Err, AllByRecursion, AreOctets, Field}
-use Rattle.std.proofs.Common.{◌≡◌, ℕ, Bool, List, IfOk}
+use Rattle.h2_joined.proofs.Names.{[], ◌∷◌, Result, Ok, Err, AllByRecursion, AreOctets, Field, ◌≡◌}
+use Rattle.h2_joined.proofs.Names.{ℕ, Bool, List, IfOk, all_octets}
 use Rattle.hpack_text.specs.Bits.{IsOctet}
-use Rattle.hpack_text.proofs.ReadLemmas.{all_octets}
 use Rattle.h2_joined.proofs.kept.copy_field.Goals as goal
 
 field_octets : {E : Type 0} (result : Result Field E) (name value : List ℕ) (sensitive : Bool)

@@ -8,16 +8,14 @@ pub returns-clause-to_server : goal.returns-clause-to_server
 returns-clause-to_server c = λ client_values server_values made client server way back bound is up
     sent returned below.
     let holds = joint_holds client_values server_values made client server is in
-    let one = half_of client holds.client_lost in
-    let other = half_of server holds.server_lost in
-    connection_conserved one other way back bound
-    (ends_to_server client_values server_values one other holds.pair) up sent returned below
+    connection_conserved (half_of client holds.stays.lost) (half_of server holds.stays.other_lost)
+    way back bound
+    (ends_to_server client_values server_values _ _ holds.stays.pair.0) up sent returned below
 
 pub returns-clause-to_client : goal.returns-clause-to_client
 returns-clause-to_client c = λ client_values server_values made client server way back bound is up
     sent returned below.
     let holds = joint_holds client_values server_values made client server is in
-    let one = half_of client holds.client_lost in
-    let other = half_of server holds.server_lost in
-    connection_conserved other one way back bound
-    (ends_to_client client_values server_values one other holds.pair) up sent returned below
+    connection_conserved (half_of server holds.stays.other_lost) (half_of client holds.stays.lost)
+    way back bound
+    (ends_to_client client_values server_values _ _ holds.stays.pair.0) up sent returned below

@@ -5,11 +5,9 @@ use Rattle.h2_joined.proofs.laws.joined_ends_are_a_pair.Goals as goal
 
 pub returns : goal.returns
 returns c = λ client_values server_values made client server is.
-    let holds = joint_holds client_values server_values made client server is in (
-      holds.client_lost,
-      holds.server_lost,
-      holds.pair,
-      λ had.
-          (holds.calm
-          (had_memory client_values server_values made client server is had)).undisturbed,
+    let stays = (joint_holds client_values server_values made client server is).stays in (
+      stays.lost,
+      stays.other_lost,
+      stays.pair.0,
+      λ had. stays.pair.1 (had_memory client_values server_values made client server is had),
     )

@@ -8,16 +8,14 @@ pub returns-clause-to_server : goal.returns-clause-to_server
 returns-clause-to_server c = λ client_values server_values made client server way back i is sent
     returned carried.
     let holds = joint_holds client_values server_values made client server is in
-    let one = half_of client holds.client_lost in
-    let other = half_of server holds.server_lost in
-    stream_conserved one other way back i
-    (ends_to_server client_values server_values one other holds.pair) sent returned carried
+    stream_conserved (half_of client holds.stays.lost) (half_of server holds.stays.other_lost)
+    way back i
+    (ends_to_server client_values server_values _ _ holds.stays.pair.0) sent returned carried
 
 pub returns-clause-to_client : goal.returns-clause-to_client
 returns-clause-to_client c = λ client_values server_values made client server way back i is sent
     returned carried.
     let holds = joint_holds client_values server_values made client server is in
-    let one = half_of client holds.client_lost in
-    let other = half_of server holds.server_lost in
-    stream_conserved other one way back i
-    (ends_to_client client_values server_values one other holds.pair) sent returned carried
+    stream_conserved (half_of server holds.stays.other_lost) (half_of client holds.stays.lost)
+    way back i
+    (ends_to_client client_values server_values _ _ holds.stays.pair.0) sent returned carried

@@ -1,4 +1,4 @@
-use Rattle.h2_message.proofs.Names.{◌≡◌, refl, sym, ap, ap₂, ◌∙◌, Field, bytes_eq, is_named}
+use Rattle.h2_message.proofs.Names.{sym, ap, ap₂, ◌∙◌, Field, bytes_eq, is_named}
 use Rattle.h2_message.proofs.MessageHeads.{method-here, method-later, no-method}
 use Rattle.h2_message.proofs.message.asks_head.Goals as goal
 

@@ -1,4 +1,4 @@
-use Rattle.h2_message.proofs.Names.{◌≤◌, length, take}
+use Rattle.h2_message.proofs.Names.{take}
 use Rattle.h2_message.proofs.ScanAdds.{scan-step, scan-end}
 use Rattle.h2_message.proofs.scan.scan_fields.Goals as goal
 

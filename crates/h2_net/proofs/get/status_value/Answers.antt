@@ -2,7 +2,7 @@
 use Rattle.std.proofs.Common.{◌≡◌, true, false, length, refl, sym, ◌∙◌, codes, arith}
 use Rattle.std.proofs.lemmas.Option.{slice_get_read}
 use Rattle.std.specs.Str.{bytes_eq}
-use Rattle.h2_engines.proofs.FieldValues.{value_left, value_none}
+use Rattle.h2_net.proofs.FieldValues.{value_left, value_none}
 use Rattle.h2_net.proofs.get.status_value.Goals as goal
 
 pub returns-then-eq : goal.returns-then-eq

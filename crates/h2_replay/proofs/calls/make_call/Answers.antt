@@ -1,7 +1,7 @@
 -- By the lemmas on each call.
 use Rattle.h2_replay.proofs.Names.{refl, subst, List, ℕ, arith, Field, SendData, Number, Count}
-use Rattle.h2_replay.proofs.Names.{Done, ConnAnswers, answer_by}
-use Rattle.h2_spec_log.specs.Acts.{IsTypedAct, Open, SendFields}
+use Rattle.h2_replay.proofs.Names.{Done, ConnAnswers, answer_by, IsTypedAct}
+use Rattle.h2_spec_log.specs.Acts.{Open, SendFields}
 use Rattle.hpack.specs.Written.{AreOctets}
 use Rattle.std.specs.List.{AllByRecursion}
 use Rattle.hpack_text.specs.Bits.{IsOctet}

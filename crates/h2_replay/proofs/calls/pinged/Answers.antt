@@ -1,6 +1,5 @@
 -- Octets are of their type, and the call gives nothing out.
-use Rattle.h2_replay.proofs.Names.{refl, Done}
-use Rattle.h2_spec_log.specs.Acts.{IsTypedAct}
+use Rattle.h2_replay.proofs.Names.{refl, Done, IsTypedAct}
 use Rattle.std.proofs.Common.{rules}
 use Rattle.hpack_text.proofs.ReadLemmas.{all_octets}
 use Rattle.h2_replay.proofs.CallLemmas.{answered_call, shows_itself}

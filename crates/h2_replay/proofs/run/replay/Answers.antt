@@ -1,7 +1,6 @@
 -- A new end, and then one act after another.
 use Rattle.h2_replay.proofs.Names.{refl, ◌∙◌, ap, ◌++◌, ◌∷◌, [], List, sym, subst, values_of}
-use Rattle.h2_replay.proofs.Names.{ReplayAct, opened, Records}
-use Rattle.h2_replay.specs.Values.{acts_made}
+use Rattle.h2_replay.proofs.Names.{ReplayAct, opened, Records, acts_made}
 use Rattle.h2_replay.specs.declared.turns.Turn.{Turn}
 use Rattle.h2_replay.proofs.RecordLemmas.{opening_records, one_more_act}
 use Rattle.h2_replay.specs.declared.turns.Turn.TheVariants as turns

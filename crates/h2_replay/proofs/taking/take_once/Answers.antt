@@ -1,6 +1,6 @@
 -- By the lemmas on the octets that a call of `take` has used.
 use Rattle.h2_replay.proofs.Names.{◌≡◌, ap, sym, refl, subst, Some, Option, Event, Took, MayTake}
-use Rattle.h2_replay.proofs.Names.{KeptEvent, kept_event_value}
+use Rattle.h2_replay.proofs.Names.{kept_event_value}
 use Rattle.std.specs.Option.{option_map}
 use Rattle.h2_conn.specs.Events.{lent_value}
 use Rattle.h2_replay.proofs.TakingLemmas.{took_input, failed_input}

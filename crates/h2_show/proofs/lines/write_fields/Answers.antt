@@ -1,7 +1,7 @@
 -- Each turn writes the line of the next field.
 use Rattle.h2_show.proofs.Names.{◌≡◌, ◌<◌, ◌≤◌, length, Some, arith, Field}
 use Rattle.std.specs.List.{slice_get}
-use Rattle.h2_show.specs.Lines.{field_lent}
+use Rattle.hpack.specs.FieldLists.{field_lent}
 use Rattle.h2_show.proofs.LinesLemmas.{next_field}
 use Rattle.h2_show.proofs.lines.write_fields.Goals as goal
 use Rattle.h2_show.proofs.lines.write_fields.Goals.{in-Some+in_ok-write_field, in_default}

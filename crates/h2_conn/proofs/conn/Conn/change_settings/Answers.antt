@@ -1,26 +1,18 @@
 -- By the lemmas on a call's answer, and on the cutter's limit that is set.
-use Rattle.h2_conn.proofs.Names.{◌≡◌, None, refl, rules, err_from_is_err_and, ChangeSettings}
-use Rattle.h2_conn.proofs.Names.{values_of, end_of, limit_in_range}
-use Rattle.h2_spec_log.specs.Acts.{IsTypedAct}
-use Rattle.h2_spec_log.specs.CallRules.{may_lack_memory}
+use Rattle.h2_conn.proofs.Names.{refl, err_from_is_err_and, ChangeSettings, values_of, end_of}
+use Rattle.h2_conn.proofs.Names.{limit_in_range, IsTypedAct, may_lack_memory}
 use Rattle.h2_conn.proofs.AskCalls.{change_answers, refused_answers, up_if_free}
-use Rattle.h2_conn.proofs.AskSound.{was_up, sound_by}
+use Rattle.h2_conn.proofs.AskSound.{call_kept, sound_by}
 use Rattle.h2_conn.proofs.conn.Conn.change_settings.Goals as goal
 
 pub invariant_of-self : goal.invariant_of-self
 unfolding IsTypedAct
 invariant_of-self c =
-    let e = end_of c.args.self.now.inner.end in
-    let new = end_of c.change_settings.new.self in
-    let act = ChangeSettings (values_of c.args.config) in
-    let was = was_up c.change_settings.result e new act refl c.change_settings.ensures.ok
-    c.change_settings.ensures.err in
-    record {
-      sound = λ up. let before : e.failed ≡ None = was up in
-          sound_by c.change_settings.result e new act c.args.config.in_range (search rules)
-          c.change_settings.ensures.ok c.change_settings.ensures.err;
-      cuts = λ up. let before : e.failed ≡ None = was up in search rules;
-    }
+    assumption (call_kept c.change_settings.result _ _
+    (ChangeSettings (values_of c.args.config)) _ refl
+    c.args.config.in_range
+    c.args.self.now.inner.sound c.args.self.now.inner.cuts
+    c.change_settings.ensures.ok c.change_settings.ensures.err)
 
 pub returns-in_err-change_settings : goal.returns-in_err-change_settings
 unfolding IsTypedAct may_lack_memory

@@ -1,29 +1,21 @@
 -- By the lemmas on a call's answer.
-use Rattle.h2_conn.proofs.Names.{◌≡◌, not, None, refl, ap, rules, all_octets, SendData, Count}
-use Rattle.h2_conn.proofs.Names.{end_of}
-use Rattle.h2_spec_log.specs.Acts.{IsTypedAct}
-use Rattle.h2_spec_log.specs.CallRules.{may_lack_memory}
+use Rattle.h2_conn.proofs.Names.{not, refl, ap, all_octets, Count, end_of, IsTypedAct}
+use Rattle.h2_conn.proofs.Names.{may_lack_memory}
+use Rattle.h2_spec_log.specs.Acts.{SendData}
 use Rattle.std.proofs.lemmas.Bool.{false_from_ne_true}
 use Rattle.h2_conn.proofs.AskCalls.{answers_by, value_as}
 use Rattle.h2_conn.proofs.AskMemory.{nothing_taken}
-use Rattle.h2_conn.proofs.AskSound.{was_up, sound_by, beside_value}
+use Rattle.h2_conn.proofs.AskSound.{call_kept, beside_value}
 use Rattle.h2_conn.proofs.conn.Conn.data.Goals as goal
 
 pub invariant_of-self : goal.invariant_of-self
 unfolding IsTypedAct
 invariant_of-self c =
-    let e = end_of c.args.self.now.inner.end in
-    let new = end_of c.send_data.new.self in
-    let act = SendData c.args.id c.args.octets.now c.args.end in
-    let was = was_up c.send_data.result e new act refl
-    (beside_value _ _ c.send_data.result c.send_data.ensures.ok) c.send_data.ensures.err in
-    record {
-      sound = λ up. let before : e.failed ≡ None = was up in
-          sound_by c.send_data.result e new act
-          (c.ranges.id.fits, all_octets c.args.octets.now c.type_inv.octets) (search rules)
-          (beside_value _ _ c.send_data.result c.send_data.ensures.ok) c.send_data.ensures.err;
-      cuts = λ up. let before : e.failed ≡ None = was up in search rules;
-    }
+    assumption (call_kept c.send_data.result _ _
+    (SendData c.args.id c.args.octets.now c.args.end) _ refl
+    (c.ranges.id.fits, all_octets c.args.octets.now c.type_inv.octets)
+    c.args.self.now.inner.sound c.args.self.now.inner.cuts
+    (beside_value _ _ c.send_data.result c.send_data.ensures.ok) c.send_data.ensures.err)
 
 pub returns-clause-answers : goal.returns-clause-answers
 unfolding IsTypedAct may_lack_memory

@@ -1,25 +1,17 @@
 -- By the lemmas on a call's answer.
-use Rattle.h2_conn.proofs.Names.{◌≡◌, None, refl, ap, rules, Open, end_of}
-use Rattle.h2_spec_log.specs.Acts.{IsTypedAct, Number}
-use Rattle.h2_spec_log.specs.CallRules.{may_lack_memory}
+use Rattle.h2_conn.proofs.Names.{refl, ap, Open, IsTypedAct, may_lack_memory}
+use Rattle.h2_spec_log.specs.Acts.{Number}
 use Rattle.h2_conn.proofs.AskCalls.{answers_by, value_as}
-use Rattle.h2_conn.proofs.AskSound.{was_up, sound_by, beside_value}
+use Rattle.h2_conn.proofs.AskSound.{call_kept, beside_value}
 use Rattle.h2_conn.proofs.conn.Conn.open.Goals as goal
 
 pub invariant_of-self : goal.invariant_of-self
 unfolding IsTypedAct
 invariant_of-self c =
-    let e = end_of c.args.self.now.inner.end in
-    let new = end_of c.open.new.self in
-    let act = Open c.args.fields.now c.args.end in
-    let was = was_up c.open.result e new act refl
-    (beside_value _ _ c.open.result c.open.ensures.ok) c.open.ensures.err in
-    record {
-      sound = λ up. let before : e.failed ≡ None = was up in
-          sound_by c.open.result e new act c.open.ensures.octets (search rules)
-          (beside_value _ _ c.open.result c.open.ensures.ok) c.open.ensures.err;
-      cuts = λ up. let before : e.failed ≡ None = was up in search rules;
-    }
+    assumption (call_kept c.open.result _ _ (Open c.args.fields.now c.args.end) _ refl
+    c.open.ensures.octets
+    c.args.self.now.inner.sound c.args.self.now.inner.cuts
+    (beside_value _ _ c.open.result c.open.ensures.ok) c.open.ensures.err)
 
 pub returns-clause-answers : goal.returns-clause-answers
 unfolding IsTypedAct may_lack_memory

@@ -1,29 +1,19 @@
 -- By the lemmas on putting output out.
-use Rattle.h2_conn.proofs.Names.{◌≡◌, None, length, min, sym, ◌∙◌, rules}
-use Rattle.h2_conn.proofs.Names.{returns_before_put_out, end_view, end_of, waiting_alike}
-use Rattle.h2_spec_log.specs.Acts.{IsTypedAct}
-use Rattle.h2_spec_log.specs.CallRules.{may_lack_memory}
+use Rattle.h2_conn.proofs.Names.{length, min, ◌∙◌, returns_before_put_out, end_view, end_of}
+use Rattle.h2_conn.proofs.Names.{waiting_alike, IsTypedAct, may_lack_memory}
 use Rattle.h2_conn.proofs.AskMemory.{returns_alike}
 use Rattle.h2_conn.proofs.AskOutput.{put_out_answers, lacks_by, given_out, ok_as, consumed_by}
 use Rattle.h2_conn.proofs.AskOutput.{same_by}
-use Rattle.h2_conn.proofs.AskSound.{put_out_sound, still_failed}
+use Rattle.h2_conn.proofs.AskSound.{put_out_kept}
 use Rattle.h2_conn.proofs.conn.Conn.put_out.Goals as goal
 
 pub invariant_of-self : goal.invariant_of-self
 unfolding IsTypedAct
 invariant_of-self c =
-    let e = end_of c.args.self.now.inner.end in
-    let new = end_of c.put_out.new.self in
-    let ok = consumed_by c.put_out.result e new c.args.count _ _ c.put_out.ensures.ok in
-    let err = same_by c.put_out.result e new _ c.put_out.ensures.err in
-    let still : new.failed ≡ e.failed =
-    still_failed c.put_out.result e new c.args.count ok err in
-    record {
-      sound = λ up. let before : e.failed ≡ None = sym still ∙ up in
-          put_out_sound c.put_out.result e new c.args.count c.ranges.count.fits (search rules)
-          ok err;
-      cuts = λ up. let before : e.failed ≡ None = sym still ∙ up in search rules;
-    }
+    assumption (put_out_kept c.put_out.result _ _ c.args.count _ c.ranges.count.fits
+    c.args.self.now.inner.sound c.args.self.now.inner.cuts
+    (consumed_by c.put_out.result _ _ _ _ _ c.put_out.ensures.ok)
+    (same_by c.put_out.result _ _ _ c.put_out.ensures.err))
 
 pub returns-clause-answers : goal.returns-clause-answers
 unfolding IsTypedAct may_lack_memory

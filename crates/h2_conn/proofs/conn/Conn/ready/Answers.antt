@@ -1,24 +1,16 @@
 -- It is consuming 0 octets.
-use Rattle.h2_conn.proofs.Names.{◌≡◌, None, sym, ◌∙◌, rules, arith, err_from_is_err_and, end_of}
-use Rattle.h2_spec_log.specs.Acts.{IsTypedAct}
+use Rattle.h2_conn.proofs.Names.{sym, ◌∙◌, arith, err_from_is_err_and, end_of, IsTypedAct}
 use Rattle.h2_conn.proofs.AskMemory.{returns_alike}
 use Rattle.h2_conn.proofs.AskOutput.{ready_consumes, ready_answers, ready_returned}
-use Rattle.h2_conn.proofs.AskSound.{put_out_sound, still_failed}
+use Rattle.h2_conn.proofs.AskSound.{put_out_kept}
 use Rattle.h2_conn.proofs.conn.Conn.ready.Goals as goal
 
 pub invariant_of-self : goal.invariant_of-self
 unfolding IsTypedAct
 invariant_of-self c =
-    let e = end_of c.args.self.now.inner.end in
-    let new = end_of c.consume.new.self in
-    let still : new.failed ≡ e.failed =
-    still_failed c.consume.result e new 0 c.consume.ensures.ok c.consume.ensures.err in
-    record {
-      sound = λ up. let before : e.failed ≡ None = sym still ∙ up in
-          put_out_sound c.consume.result e new 0 (omega arith) (search rules)
-          c.consume.ensures.ok c.consume.ensures.err;
-      cuts = λ up. let before : e.failed ≡ None = sym still ∙ up in search rules;
-    }
+    assumption (put_out_kept c.consume.result _ _ 0 _ (omega arith)
+    c.args.self.now.inner.sound c.args.self.now.inner.cuts
+    c.consume.ensures.ok c.consume.ensures.err)
 
 pub returns-in_err-consume-clause-answers : goal.returns-in_err-consume-clause-answers
 returns-in_err-consume-clause-answers c =

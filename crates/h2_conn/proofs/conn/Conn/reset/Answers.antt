@@ -1,24 +1,16 @@
 -- By the lemmas on a call's answer.
-use Rattle.h2_conn.proofs.Names.{◌≡◌, None, refl, rules, ResetStream, Done, end_of}
-use Rattle.h2_spec_log.specs.Acts.{IsTypedAct}
-use Rattle.h2_spec_log.specs.CallRules.{may_lack_memory}
+use Rattle.h2_conn.proofs.Names.{refl, Done, IsTypedAct, may_lack_memory}
+use Rattle.h2_spec_log.specs.Acts.{ResetStream}
 use Rattle.h2_conn.proofs.AskCalls.{done_by}
-use Rattle.h2_conn.proofs.AskSound.{was_up, sound_by}
+use Rattle.h2_conn.proofs.AskSound.{call_kept}
 use Rattle.h2_conn.proofs.conn.Conn.reset.Goals as goal
 
 pub invariant_of-self : goal.invariant_of-self
 unfolding IsTypedAct
 invariant_of-self c =
-    let e = end_of c.args.self.now.inner.end in
-    let new = end_of c.reset.new.self in
-    let act = ResetStream c.args.id c.args.code in
-    let was = was_up c.reset.result e new act refl c.reset.ensures.ok c.reset.ensures.err in
-    record {
-      sound = λ up. let before : e.failed ≡ None = was up in
-          sound_by c.reset.result e new act (c.ranges.id.fits, c.ranges.code.fits) (search rules)
-          c.reset.ensures.ok c.reset.ensures.err;
-      cuts = λ up. let before : e.failed ≡ None = was up in search rules;
-    }
+    assumption (call_kept c.reset.result _ _ (ResetStream c.args.id c.args.code) _ refl
+    (c.ranges.id.fits, c.ranges.code.fits)
+    c.args.self.now.inner.sound c.args.self.now.inner.cuts c.reset.ensures.ok c.reset.ensures.err)
 
 pub returns : goal.returns
 unfolding IsTypedAct may_lack_memory

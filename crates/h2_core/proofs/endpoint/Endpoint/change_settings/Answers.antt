@@ -2,15 +2,15 @@
 -- its acknowledgment.
 use Rattle.h2_core.proofs.Names.{◌≡◌, Option, Some, None, false, ◌++◌, ap, sym, ◌∙◌, refl}
 use Rattle.h2_core.proofs.Names.{err_from_is_err_and, encoding_of, values_of, Values, changed_pairs}
-use Rattle.h2_core.proofs.Names.{end_view, end_of}
-use Rattle.h2_spec_log.specs.CallRules.{conditions, first_of, items_of, encoder_after_call}
-use Rattle.h2_spec_machine.specs.Machine.{after_call}
+use Rattle.h2_core.proofs.Names.{end_view, end_of, conditions, first_of, items_of}
+use Rattle.h2_core.proofs.Names.{encoder_after_call, after_call}
 use Rattle.std.specs.Prelude.{is_some}
 use Rattle.h2_frame.specs.Frames.{Settings}
 use Rattle.h2_spec_machine.specs.End.{values_or}
 use Rattle.h2_core.proofs.CallConditions.{holds_first, others_decide, refused, lacks_memory}
 use Rattle.h2_core.proofs.CallConditions.{is_some_mapped}
-use Rattle.h2_core.proofs.CallOutput.{with_waiting, octets_of_frame}
+use Rattle.h2_core.proofs.StepEnds.{with_waiting}
+use Rattle.h2_core.proofs.StepFrames.{one-item}
 use Rattle.h2_core.proofs.endpoint.Endpoint.change_settings.Goals as goal
 
 -- Where no own values await their acknowledgment, those in force were written last.
@@ -67,5 +67,5 @@ returns-clause-ok c =
     record {
       free = rw (c.in_ok-check_up.ensures.ok, c.in_ok-check_room.ensures.ok, none_waits);
       after = ap (with_waiting (record e { own = record e.own { awaited = Some values } }))
-          (written ∙ ap (λ octets. e.output.waiting ++ octets) (sym (octets_of_frame _ _)));
+          (written ∙ ap (λ octets. e.output.waiting ++ octets) (sym (one-item _ _)));
     }

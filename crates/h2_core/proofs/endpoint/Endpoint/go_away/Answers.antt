@@ -1,53 +1,43 @@
 -- The code's tests are the conditions of GOAWAY in their order; the frame and its stream are kept.
 use Rattle.h2_core.proofs.Names.{ℕ, ◌<◌, ◌^◌, List, [], ◌∷◌, ◌++◌, Some, refl, sym, ap, arith, ◌∙◌}
 use Rattle.h2_core.proofs.Names.{err_from_is_err_and, GoAway, alone, encoding_of_items, SendGoAway}
-use Rattle.h2_core.proofs.Names.{End, end_view, end_of}
-use Rattle.h2_spec_log.specs.CallRules.{conditions}
+use Rattle.h2_core.proofs.Names.{End, end_view, end_of, conditions, first_of, after_call, items_of}
+use Rattle.h2_core.proofs.Names.{encoder_after_call}
 use Rattle.std.proofs.Common.{is_some}
 use Rattle.h2_core.proofs.SoundFacts.{last_small}
-use Rattle.h2_core.proofs.StepCalls.{first-here, first-later, first-none, refused, without_memory}
-use Rattle.h2_core.proofs.StepCalls.{after-goaway, at_ok}
+use Rattle.h2_core.proofs.CallConditions.{refused, lacks_memory}
+use Rattle.hpack.proofs.ResultLemmas.{on_ok}
 use Rattle.h2_core.proofs.StepEnds.{with_waiting, item-added}
 use Rattle.h2_output.proofs.EncodingLemmas.{goaway-written, length-goaway}
 use Rattle.h2_core.proofs.endpoint.Endpoint.go_away.Goals as goal
 
 pub returns-in_err-check_up-clause-err : goal.returns-in_err-check_up-clause-err
-unfolding conditions
+unfolding conditions first_of
 returns-in_err-check_up-clause-err c =
-    let e = end_of c.args.self.now in
     let p = err_from_is_err_and c.from_residual.result c.from_residual.ensures.1 in
-    rw (p.1, p.2, c.in_err-check_up.ensures.err.0)
-    (refused e SendGoAway _ e (first-here _ _ _ c.in_err-check_up.ensures.err.1) refl)
+    let closed = c.in_err-check_up.ensures.err in
+    rw (p.1, p.2, closed.0) (refused _ _ _ (rw closed.1))
 
 pub returns-then-is_some-clause-err : goal.returns-then-is_some-clause-err
-unfolding conditions
+unfolding conditions first_of
 returns-then-is_some-clause-err c =
-    let e = end_of c.args.self.now in
-    refused e SendGoAway _ e
-    (first-later _ _ _ (ap is_some c.in_ok-check_up.ensures.ok)
-    ∙ first-here _ _ _ (sym c.if-is_some.ensures)) refl
+    refused _ _ _ (rw (c.in_ok-check_up.ensures.ok, ← c.if-is_some.ensures))
 
 pub returns-in_err-check_room-clause-err : goal.returns-in_err-check_room-clause-err
-unfolding conditions
+unfolding conditions first_of
 returns-in_err-check_room-clause-err c =
-    let e = end_of c.args.self.now in
     let r = c.from_residual-in_err-check_room in
     let p = err_from_is_err_and r.result r.ensures.1 in
-    rw (p.1, p.2, c.in_err-check_room.ensures.err.0)
-    (refused e SendGoAway _ e
-    (first-later _ _ _ (ap is_some c.in_ok-check_up.ensures.ok)
-    ∙ first-later _ _ _ (sym c.if-is_some.ensures)
-    ∙ first-here _ _ _ c.in_err-check_room.ensures.err.1) refl)
+    let full = c.in_err-check_room.ensures.err in
+    rw (p.1, p.2, full.0)
+    (refused _ _ _ (rw (c.in_ok-check_up.ensures.ok, ← c.if-is_some.ensures, full.1)))
 
 pub returns-then-is_err-clause-err : goal.returns-then-is_err-clause-err
-unfolding conditions
+unfolding conditions first_of
 returns-then-is_err-clause-err c =
-    let e = end_of c.args.self.now in
-    without_memory e SendGoAway _
-    (first-later _ _ _ (ap is_some c.in_ok-check_up.ensures.ok)
-    ∙ first-later _ _ _ (sym c.if-is_some.ensures)
-    ∙ first-later _ _ _ c.in_ok-check_room.ensures.ok ∙ first-none)
-    (ap (λ (waiting : List ℕ). with_waiting e waiting) c.reserve.ensures.waiting)
+    lacks_memory _ _ _
+    (rw (c.in_ok-check_up.ensures.ok, ← c.if-is_some.ensures, c.in_ok-check_room.ensures.ok))
+    (ap (with_waiting (end_of c.args.self.now)) c.reserve.ensures.waiting)
 
 pub add_frame-requires-clause-writable : goal.add_frame-requires-clause-writable
 add_frame-requires-clause-writable c =
@@ -65,7 +55,7 @@ add_frame-requires-clause-room c =
     omega (
       arith,
       length-goaway c.args.self.now.last_processed c.number.result,
-      at_ok c.reserve.result (sym c.if-is_err.ensures.value) c.reserve.ensures.ok,
+      on_ok c.reserve.result (sym c.if-is_err.ensures.value) c.reserve.ensures.ok,
     )
 
 -- an end that has sent GOAWAY
@@ -73,23 +63,19 @@ abbrev with_goaway : End → End
 with_goaway e = record e { goaway = record e.goaway { sent = Some e.streams.last_processed } }
 
 pub returns-clause-ok : goal.returns-clause-ok
-unfolding conditions
+unfolding conditions first_of after_call items_of encoder_after_call
 returns-clause-ok c =
     let e = end_of c.args.self.now in
     let last = e.streams.last_processed in
-    let waiting =
-    item-added (end_view e).max_payload (GoAway last c.number.result []) e.output.waiting
-    c.reserve.new.self.waiting c.add_frame.new.self.waiting c.reserve.ensures.waiting
-    c.add_frame.ensures.waiting
-    ∙ ap (λ (code : ℕ). e.output.waiting
-    ++ encoding_of_items (end_view e).max_payload (alone (GoAway last code []) ∷ []))
-    c.number.ensures in
+    let room = c.in_ok-check_room.ensures.ok in
     record {
-      free =
-          first-later _ _ _ (ap is_some c.in_ok-check_up.ensures.ok)
-          ∙ first-later _ _ _ (sym c.if-is_some.ensures)
-          ∙ first-later _ _ _ c.in_ok-check_room.ensures.ok ∙ first-none;
+      free = rw (c.in_ok-check_up.ensures.ok, ← c.if-is_some.ensures, room);
       after =
-          ap (λ (octets : List ℕ). with_goaway (with_waiting e octets)) waiting
-          ∙ sym (after-goaway e);
+          ap (λ (octets : List ℕ). with_goaway (with_waiting e octets))
+          (item-added (end_view e).max_payload (GoAway last c.number.result []) e.output.waiting
+          c.reserve.new.self.waiting c.add_frame.new.self.waiting c.reserve.ensures.waiting
+          c.add_frame.ensures.waiting
+          ∙ ap (λ (code : ℕ). e.output.waiting
+          ++ encoding_of_items (end_view e).max_payload (alone (GoAway last code []) ∷ []))
+          c.number.ensures);
     }

@@ -1,7 +1,6 @@
 -- Part by part, as each is made.
 use Rattle.h2_core.proofs.Names.{◌≡◌, [], Option, Some, None, length, refl, ap, arith}
-use Rattle.h2_core.proofs.Names.{length-append, Begun, Groups}
-use Rattle.h2_spec_log.specs.Items.{encoding_of_items, encoding_of_item}
+use Rattle.h2_core.proofs.Names.{length-append, Begun, Groups, encoding_of_items, encoding_of_item}
 use Rattle.h2_spec_machine.specs.Machine.{new_end}
 use Rattle.h2_core.proofs.endpoint.Endpoint.new.Goals as goal
 

@@ -5,25 +5,36 @@ use Rattle.h2_core.proofs.Names.{TableState, End, end_view, active_entry, new_st
 use Rattle.h2_core.proofs.Names.{IsSoundEnd, get_set_same}
 use Rattle.h2_core.proofs.CallConditions.{lacks_memory, if_err}
 use Rattle.hpack.proofs.ResultLemmas.{on_ok as unless_err}
-use Rattle.h2_core.proofs.CallOpen.{may_open, number_above, with_table, with_stream, without}
+use Rattle.h2_core.proofs.CallOpen.{MayOpen, may_open, number_above, with_stream, without}
+use Rattle.h2_core.proofs.StepEnds.{with_table}
 use Rattle.h2_core.proofs.CallOpen.{table_of, taken_away, with_count, opened}
 use Rattle.h2_core.proofs.SoundFacts.{absent_above}
+use Rattle.h2_core.proofs.Names.{None, refusal_of}
+use Rattle.h2_spec_log.specs.Acts.{Open}
+use Rattle.h2_core.proofs.endpoint.Endpoint.open.Goals.{In_default}
 use Rattle.h2_core.proofs.endpoint.Endpoint.open.Goals as goal
+
+-- Where no condition refuses, the end is up and sound.
+free : (c : In_default)
+    → refusal_of (end_view (end_of c.args.self.now)) (Open c.args.fields.now c.args.end) ≡ None
+free c =
+    sym (c.refusal_of_open.ensures c.args.fields.now c.args.end c.list_size-size.ensures.size)
+    ∙ c.in_default.is
+
+may : (c : In_default) → MayOpen (end_of c.args.self.now) c.args.fields.now
+may c = may_open (end_of c.args.self.now) c.args.fields.now c.args.end (free c)
+
+sound : (c : In_default) → IsSoundEnd (end_of c.args.self.now)
+sound c = c.requires.sound (may c).up
 
 pub next_number-id-requires : goal.next_number-id-requires
 next_number-id-requires c =
-    let free = sym (c.refusal_of_open.ensures c.args.fields.now c.args.end
-    c.list_size-size.ensures.size) ∙ c.in_default.is in
-    let up = (may_open (end_of c.args.self.now) c.args.fields.now c.args.end free).up in
-    let sound : IsSoundEnd (end_of c.args.self.now) = c.requires.sound up in
-    search rules
+    let sound = sound (goal.at.next_number-id-requires c).In_default in search rules
 
 pub open-requires-clause-absent : goal.open-requires-clause-absent
 open-requires-clause-absent c =
-    let free = sym (c.refusal_of_open.ensures c.args.fields.now c.args.end
-    c.list_size-size.ensures.size) ∙ c.in_default.is in
-    let up = (may_open (end_of c.args.self.now) c.args.fields.now c.args.end free).up in
-    absent_above (end_of c.args.self.now) c.next_number-id.result (c.requires.sound up) (omega (
+    let sound = sound (goal.at.open-requires-clause-absent c).In_default in
+    absent_above (end_of c.args.self.now) c.next_number-id.result sound (omega (
       arith,
       c.next_number-id.ensures,
       (number_above c.args.self.now.highest).1,
@@ -31,50 +42,31 @@ open-requires-clause-absent c =
 
 pub open-requires-clause-recv : goal.open-requires-clause-recv
 open-requires-clause-recv c =
-    let free = sym (c.refusal_of_open.ensures c.args.fields.now c.args.end
-    c.list_size-size.ensures.size) ∙ c.in_default.is in
-    let up = (may_open (end_of c.args.self.now) c.args.fields.now c.args.end free).up in
-    let sound : IsSoundEnd (end_of c.args.self.now) = c.requires.sound up in
-    search rules
+    let sound = sound (goal.at.open-requires-clause-recv c).In_default in search rules
 
 pub overflow_add-self : goal.overflow_add-self
 overflow_add-self c =
-    let free = sym (c.refusal_of_open.ensures c.args.fields.now c.args.end
-    c.list_size-size.ensures.size) ∙ c.in_default.is in
-    let up = (may_open (end_of c.args.self.now) c.args.fields.now c.args.end free).up in
-    let sound : IsSoundEnd (end_of c.args.self.now) = c.requires.sound up in
-    search rules
+    let sound = sound (goal.at.overflow_add-self c).In_default in search rules
 
 pub write_block-requires-clause-up : goal.write_block-requires-clause-up
-write_block-requires-clause-up c =
-    (may_open (end_of c.args.self.now) c.args.fields.now c.args.end
-    (sym (c.refusal_of_open.ensures c.args.fields.now c.args.end
-    c.list_size-size.ensures.size) ∙ c.in_default.is)).up
+write_block-requires-clause-up c = (may (goal.at.write_block-requires-clause-up c).In_default).up
 
 pub write_block-requires-clause-number : goal.write_block-requires-clause-number
 write_block-requires-clause-number c =
-    let may = may_open (end_of c.args.self.now) c.args.fields.now c.args.end
-    (sym (c.refusal_of_open.ensures c.args.fields.now c.args.end
-    c.list_size-size.ensures.size) ∙ c.in_default.is) in
-    let above = number_above c.args.self.now.highest in (
+    let above = number_above c.args.self.now.highest in
+    let may = may (goal.at.write_block-requires-clause-number c).In_default in (
       omega (arith, c.next_number-id.ensures, above.0),
       omega (arith, c.next_number-id.ensures, may.number),
     )
 
 pub write_block-requires-clause-size : goal.write_block-requires-clause-size
 write_block-requires-clause-size c =
-    let may = may_open (end_of c.args.self.now) c.args.fields.now c.args.end
-    (sym (c.refusal_of_open.ensures c.args.fields.now c.args.end
-    c.list_size-size.ensures.size)
-    ∙ c.in_default.is) in
+    let may = may (goal.at.write_block-requires-clause-size c).In_default in
     omega (arith, c.list_size-size.ensures.size, may.small)
 
 pub write_block-requires-clause-small : goal.write_block-requires-clause-small
 write_block-requires-clause-small c =
-    let may = may_open (end_of c.args.self.now) c.args.fields.now c.args.end
-    (sym (c.refusal_of_open.ensures c.args.fields.now c.args.end
-    c.list_size-size.ensures.size)
-    ∙ c.in_default.is) in
+    let may = may (goal.at.write_block-requires-clause-small c).In_default in
     omega (arith, c.list_size-size.ensures.size, may.small)
 
 pub close-requires : goal.close-requires
@@ -94,13 +86,11 @@ pub returns-then-is_err-2-clause-err : goal.returns-then-is_err-2-clause-err
 returns-then-is_err-2-clause-err c =
     let e = end_of c.args.self.now in
     let id = c.next_number-id.result in
-    let free = sym (c.refusal_of_open.ensures c.args.fields.now c.args.end
-    c.list_size-size.ensures.size) ∙ c.in_default.is in
+    let at = (goal.at.returns-then-is_err-2-clause-err c).In_default in
     let added = unless_err c.open.result (cc c.is_err.ensures.value) c.open.ensures.ok in
     let same = if_err c.write_block.result (cc c.is_err-2.ensures.value)
     c.write_block.ensures.err in
-    let up = (may_open e c.args.fields.now c.args.end free).up in
-    let none = absent_above e id (c.requires.sound up) (omega (
+    let none = absent_above e id (sound at) (omega (
       arith,
       c.next_number-id.ensures,
       (number_above c.args.self.now.highest).1,
@@ -110,7 +100,7 @@ returns-then-is_err-2-clause-err c =
     ∙ ap (λ (one : End). without (table_of one) id) same
     ∙ taken_away c.args.self.now.streams c.open.new.self id
     (stream_view c.new_stream-stream.result) none added in
-    lacks_memory e _ _ free
+    lacks_memory e _ _ (free at)
     (ap (λ (one : End). with_table one c.close.new.self) same
     ∙ ap (with_table e) closed)
 
@@ -118,10 +108,8 @@ pub returns-clause-ok : goal.returns-clause-ok
 returns-clause-ok c =
     let e = end_of c.args.self.now in
     let id = c.next_number-id.result in
-    let free = sym (c.refusal_of_open.ensures c.args.fields.now c.args.end
-    c.list_size-size.ensures.size) ∙ c.in_default.is in
-    let may = may_open e c.args.fields.now c.args.end free in
-    let number : id ≡ (end_view e).next_number = rw may.client c.next_number-id.ensures in
+    let at = (goal.at.returns-clause-ok c).In_default in
+    let number : id ≡ (end_view e).next_number = rw (may at).client c.next_number-id.ensures in
     let added = unless_err c.open.result (cc c.is_err.ensures.value) c.open.ensures.ok in
     let wrote = unless_err c.write_block.result (cc c.is_err-2.ensures.value)
     c.write_block.ensures.ok in
@@ -131,7 +119,7 @@ returns-clause-ok c =
     let table = added ∙ ap (with_stream c.args.self.now.streams id) stream in (
       number,
       record {
-        free = free;
+        free = free at;
         after = ap (λ (one : End). with_count one id) wrote.0
             ∙ opened e c.open.new.self c.args.fields.now c.args.end id table number;
       },

@@ -1,6 +1,5 @@
 -- The vector has the capacity for all that is put out before anything is changed.
-use Rattle.h2_core.proofs.Names.{◌≡◌, refl, ◌++◌, take}
-use Rattle.h2_core.proofs.Names.{before_put_out_at, end_of}
+use Rattle.h2_core.proofs.Names.{◌≡◌, refl, ◌++◌, take, before_put_out_at, end_of}
 use Rattle.h2_core.proofs.OwnOutput.{without_error, waiting_ready, given_out}
 use Rattle.h2_core.proofs.endpoint.Endpoint.put_out.Goals as goal
 

@@ -1,7 +1,6 @@
 -- The first condition that holds refuses; those before it don't hold.
 use Rattle.h2_core.proofs.Names.{◌≡◌, false, length, sym, arith, le-leb, lt-leb, lt-ltb, le-ltb}
-use Rattle.h2_core.proofs.Names.{list_size}
-use Rattle.h2_spec_log.specs.CallRules.{conditions, first_of}
+use Rattle.h2_core.proofs.Names.{list_size, conditions, first_of}
 use Rattle.std.specs.Prelude.{is_some, nat_le, nat_lt}
 use Rattle.h2_core.proofs.CallConditions.{holds_first, others_decide}
 use Rattle.h2_core.proofs.endpoint.Endpoint.refusal_of_open.Goals as goal

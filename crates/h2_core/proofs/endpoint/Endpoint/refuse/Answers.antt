@@ -3,7 +3,8 @@ use Rattle.h2_core.proofs.Names.{◌≡◌, ◌≢◌, ◌+◌, ◌≤◌, max, 
 use Rattle.h2_core.proofs.Names.{◌∙◌, err_from_is_err_and, InternalError, EnhanceYourCalm, End}
 use Rattle.h2_core.proofs.Names.{fail, stream_view, StepError, end_of, FailsBy}
 use Rattle.h2_core.proofs.SoundFacts.{counted, owed_fits}
-use Rattle.h2_core.proofs.StepCalls.{no-stream, some-stream, at_ok, at_err}
+use Rattle.h2_core.proofs.CallConditions.{if_err}
+use Rattle.hpack.proofs.ResultLemmas.{on_ok}
 use Rattle.h2_core.proofs.StepRefuse.{refuse-closed, refuse-no-stream, refuse-internal}
 use Rattle.h2_core.proofs.StepRefuse.{refuse-active, after-internal, after-limit, no-limit}
 use Rattle.h2_core.proofs.StepRefuse.{after-refusal}
@@ -30,7 +31,7 @@ returns-in_default c =
     let e = end_of c.args.self.now in
     let other : c.args.code ≢ 2 = omega (arith, c.number.ensures, c.if-code-number.false) in (
       refuse-no-stream e c.args.id c.args.code c.in_ok-check_up.ensures.ok other
-          (no-stream e c.args.id c.in_default.ensures),
+          c.in_default.ensures,
       refl,
     )
 
@@ -46,8 +47,8 @@ returns-then-is_over_limits c =
     c.fail_by-then-is_over_limits.ensures in
     inl (record {
       free =
-          refuse-active e c.args.id c.args.code c.in_ok-check_up.ensures.ok
-          (some-stream e c.args.id (stream_view c.in-Some.stream) c.in-Some.ensures);
+          refuse-active e c.args.id c.args.code _ c.in_ok-check_up.ensures.ok
+          c.in-Some.ensures;
       after =
           fails.1 ∙ ap (λ (last : ℕ). fail EnhanceYourCalm last e) last
           ∙ sym (after-limit e c.args.id c.args.code other (sym c.if-is_over_limits.ensures));
@@ -74,10 +75,10 @@ returns-then-is_err c =
     let e = end_of c.args.self.now in
     let other : c.args.code ≢ 2 = omega (arith, c.number.ensures, c.if-code-number.false) in
     let same =
-    at_err c.reset_stream.result (sym c.if-is_err.ensures.value) c.reset_stream.ensures.err in
+    if_err c.reset_stream.result (sym c.if-is_err.ensures.value) c.reset_stream.ensures.err in
     inr (
-      refuse-active e c.args.id c.args.code c.in_ok-check_up.ensures.ok
-          (some-stream e c.args.id (stream_view c.in-Some.stream) c.in-Some.ensures),
+      refuse-active e c.args.id c.args.code _ c.in_ok-check_up.ensures.ok
+          c.in-Some.ensures,
       no-limit e c.args.code other (sym c.if-is_over_limits.ensures),
       c.fail_by-then-is_err.ensures.1
           ∙ ap (λ (end : End). fail InternalError end.streams.last_processed end) same,
@@ -89,9 +90,9 @@ returns-else-is_err c =
     let other : c.args.code ≢ 2 = omega (arith, c.number.ensures, c.if-code-number.false) in
     inl (record {
       free =
-          refuse-active e c.args.id c.args.code c.in_ok-check_up.ensures.ok
-          (some-stream e c.args.id (stream_view c.in-Some.stream) c.in-Some.ensures);
+          refuse-active e c.args.id c.args.code _ c.in_ok-check_up.ensures.ok
+          c.in-Some.ensures;
       after =
-          at_ok c.reset_stream.result (sym c.if-is_err.ensures.value) c.reset_stream.ensures.ok
+          on_ok c.reset_stream.result (sym c.if-is_err.ensures.value) c.reset_stream.ensures.ok
           ∙ sym (after-refusal e c.args.id c.args.code other (sym c.if-is_over_limits.ensures));
     })

@@ -1,6 +1,5 @@
 -- By the machine's condition.
-use Rattle.h2_core.proofs.Names.{refl}
-use Rattle.h2_spec_machine.specs.Machine.{before_put_out_at}
+use Rattle.h2_core.proofs.Names.{refl, before_put_out_at}
 use Rattle.h2_core.proofs.endpoint.Endpoint.return_before_output.Goals as goal
 
 pub returns-then-returns_before_output : goal.returns-then-returns_before_output

@@ -2,10 +2,10 @@
 -- through join the output, and the windows are without them.
 use Rattle.h2_core.proofs.Names.{◌≡◌, ◌+◌, ◌==◌, ◌&&◌, length, take, ap, sym, ◌∙◌, arith, and_parts}
 use Rattle.h2_core.proofs.Names.{err_from_is_err_and, data_frames, end_view, stream_view, end_of}
-use Rattle.h2_spec_log.specs.CallRules.{conditions}
+use Rattle.h2_core.proofs.Names.{conditions}
 use Rattle.std.proofs.lemmas.Bool.{eqb-true}
 use Rattle.h2_core.proofs.CallConditions.{refused, lacks_memory}
-use Rattle.h2_core.proofs.CallOutput.{with_waiting}
+use Rattle.h2_core.proofs.StepEnds.{with_waiting}
 use Rattle.h2_core.proofs.CallSend.{data_free, data_unsent, after_sent, data_written}
 use Rattle.h2_core.proofs.SoundFacts.{send_near}
 use Rattle.h2_core.proofs.endpoint.Endpoint.send_data.Goals.{then-end, else-end}

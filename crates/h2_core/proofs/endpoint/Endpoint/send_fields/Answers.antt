@@ -1,8 +1,7 @@
 -- The first condition that holds refuses; where none holds, the block joins the output, and the
 -- stream is changed.
 use Rattle.h2_core.proofs.Names.{◌≡◌, ◌∷◌, [], ap, sym, ◌∙◌, arith, err_from_is_err_and}
-use Rattle.h2_core.proofs.Names.{stream_view, update_stream, End, end_of}
-use Rattle.h2_spec_log.specs.CallRules.{conditions}
+use Rattle.h2_core.proofs.Names.{stream_view, update_stream, End, end_of, conditions}
 use Rattle.h2_core.proofs.CallConditions.{refused, lacks_memory, if_err}
 use Rattle.hpack.proofs.ResultLemmas.{on_ok as unless_err}
 use Rattle.h2_core.proofs.CallSend.{fields_free, fields_large, fields_sent}

@@ -1,6 +1,6 @@
 use Rattle.h2_core.proofs.Names.{length-append, ℕ, List, Some, ◌≡◌, ◌≤◌, ◌+◌, length, true, ap, inl}
-use Rattle.h2_core.proofs.Names.{inr, arith, frame_of, FrameRef, end_of}
-use Rattle.h2_frame.specs.Encoding.{payload_of, padded}
+use Rattle.h2_core.proofs.Names.{inr, arith, frame_of, FrameRef, end_of, payload_of}
+use Rattle.h2_frame.specs.Encoding.{padded}
 use Rattle.std.proofs.lemmas.List.{length-replicate}
 use Rattle.std.proofs.Common.{replicate}
 use Rattle.h2_core.proofs.FrameWritable.{writable, data_number, update_number, update_increment}

@@ -1,24 +1,22 @@
 -- DATA by the state of its stream, and within both windows.
 use Rattle.h2_core.proofs.Names.{◌≡◌, ◌&&◌, ℕ, Option, true, false, sym, ap, ◌∙◌, inl, inr, refl}
-use Rattle.h2_core.proofs.Names.{[], ◌∷◌, arith, stream_view, ProtocolError}
-use Rattle.h2_core.proofs.Names.{FlowControlError, StreamClosed, exceeds, alone}
-use Rattle.h2_core.proofs.Names.{frame_of_data, end_of, end_view, Reported, needs_memory}
-use Rattle.h2_core.proofs.Names.{err_from_is_err_and}
-use Rattle.h2_frame.specs.Encoding.{stream_of}
-use Rattle.h2_spec_log.specs.Items.{stream_of_item}
-use Rattle.h2_spec_log.specs.ItemEffects.{events_of}
-use Rattle.h2_spec_machine.specs.Machine.{after_stream_fault}
+use Rattle.h2_core.proofs.Names.{[], ◌∷◌, None, arith, stream_view, ProtocolError, FlowControlError}
+use Rattle.h2_core.proofs.Names.{StreamClosed, exceeds, alone, frame_of_data, end_of, end_view}
+use Rattle.h2_core.proofs.Names.{Reported, needs_memory, err_from_is_err_and, stream_of}
+use Rattle.h2_core.proofs.Names.{stream_of_item, events_of, after_stream_fault}
 use Rattle.std.proofs.lemmas.Bool.{and_from}
 use Rattle.h2_spec_log.specs.Events.{DataEvent}
 use Rattle.h2_core.proofs.SoundFacts.{counted, owed_fits, send_near, recv_near}
 use Rattle.h2_core.proofs.ItemWindows.{narrowed_is, narrowed_near, exceeds_asked, within_asked}
 use Rattle.h2_core.proofs.ItemWindows.{none_exceeds}
 use Rattle.h2_core.proofs.ItemVerdicts.{fault_taken, fault_item, report_taken, lacks_memory}
-use Rattle.h2_core.proofs.ItemVerdicts.{with_waiting}
+use Rattle.h2_core.proofs.StepEnds.{with_waiting}
 use Rattle.h2_core.proofs.ItemData.{HasFlow, idle_data, past_data, beyond_connection, beyond_stream}
 use Rattle.h2_core.proofs.ItemData.{discarded_taken, late_data, reported_data, reported_after}
 use Rattle.h2_core.proofs.endpoint.Endpoint.take_data.Goals.{else-frame-gt0-via-then-frame-gt0+else-stream-from}
 use Rattle.h2_core.proofs.endpoint.Endpoint.take_data.Goals.{else-frame-gt0-via-else-frame-gt0}
+use Rattle.h2_core.proofs.endpoint.Endpoint.take_data.Goals.{Joined-else-frame-gt0}
+use Rattle.h2_core.proofs.endpoint.Endpoint.take_data.Goals.{After-reserve_if_over}
 use Rattle.h2_core.proofs.endpoint.Endpoint.take_data.Goals as goal
 
 pub returns-in-Idle : goal.returns-in-Idle
@@ -83,7 +81,8 @@ returns-then-stream-from c =
     fault_taken e (frame_of_data c.args.frame pad) FlowControlError c.args.self.now.list
     c.fault-then-stream-from.result c.fault-then-stream-from.ensures
     (beyond_stream e c.args.frame pad stream flow active c.if-stream.false c.if-frame-self-2.false
-    (exceeds_asked c.args.frame.flow stream.recv_window c.from.result near c.from.ensures c.from.type_inv c.if-frame-gt0.true c.if-stream-from.true))
+    (exceeds_asked c.args.frame.flow stream.recv_window c.from.result near c.from.ensures
+    c.from.type_inv c.if-frame-gt0.true c.if-stream-from.true))
 
 pub overflow_add-changed : goal.overflow_add-changed
 overflow_add-changed c =
@@ -94,25 +93,30 @@ overflow_add-changed c =
       c.if-frame-self-2.false,
     )
 
+-- The output goes on after the call as before it.
+writes : (c : After-reserve_if_over) → c.args.self.now.failed ≡ None
+    → c.reserve_if_over.new.output.ended ≡ false
+writes c up = c.reserve_if_over.ensures.ended ∙ c.args.self.now.writes up
+
 pub invariant_of-self : goal.invariant_of-self
 invariant_of-self c =
-    record {
-      gathers = c.args.self.now.gathers;
-      decodes = c.args.self.now.decodes;
-      writes = λ up. c.reserve_if_over.ensures.ended ∙ c.args.self.now.writes up;
-      initial = c.args.self.now.initial;
-      unsaid = c.args.self.now.unsaid;
-    }
+    assumption (writes (goal.at.invariant_of-self c).After-reserve_if_over, c.args.self.now)
 
 pub invariant_of-self-2 : goal.invariant_of-self-2
 invariant_of-self-2 c =
-    record {
-      gathers = c.args.self.now.gathers;
-      decodes = c.args.self.now.decodes;
-      writes = λ up. c.reserve_if_over.ensures.ended ∙ c.args.self.now.writes up;
-      initial = c.args.self.now.initial;
-      unsaid = c.args.self.now.unsaid;
-    }
+    assumption (writes (goal.at.invariant_of-self-2 c).After-reserve_if_over, c.args.self.now)
+
+-- The octets are within the window of the stream.
+within : (c : Joined-else-frame-gt0)
+    → exceeds c.args.frame.flow c.in-Active.stream.recv_window ≡ false
+within c =
+    let near = recv_near _ _ _ c.requires.sound (sym c.in-Active.ensures.stream) in
+    elim c.else-frame-gt0.branch [
+      | else-frame-gt0-via-then-frame-gt0+else-stream-from w ↦
+          within_asked c.args.frame.flow _ w.from.result near w.from.ensures w.from.type_inv
+          w.if-stream-from.false
+      | else-frame-gt0-via-else-frame-gt0 w ↦ none_exceeds c.args.frame.flow _ w.if-frame-gt0.false
+    ]
 
 pub update_stream-requires-clause-near : goal.update_stream-requires-clause-near
 update_stream-requires-clause-near c =
@@ -121,14 +125,7 @@ update_stream-requires-clause-near c =
     let stream = stream_view c.in-Active.stream in
     let active = sym c.in-Active.ensures.stream in
     let near = recv_near e id stream c.requires.sound active in
-    let within : exceeds c.args.frame.flow stream.recv_window ≡ false =
-    elim c.else-frame-gt0.branch [
-      | else-frame-gt0-via-then-frame-gt0+else-stream-from w ↦
-          within_asked c.args.frame.flow stream.recv_window w.from.result near
-          w.from.ensures w.from.type_inv w.if-stream-from.false
-      | else-frame-gt0-via-else-frame-gt0 w ↦
-          none_exceeds c.args.frame.flow stream.recv_window w.if-frame-gt0.false
-    ] in
+    let within = within (goal.at.update_stream-requires-clause-near c).Joined-else-frame-gt0 in
     record {
       send = send_near e id stream c.requires.sound active;
       recv =
@@ -162,15 +159,7 @@ returns-in_err-reserve_if_over c =
     let id = c.args.frame.stream in
     let stream = stream_view c.in-Active.stream in
     let active = sym c.in-Active.ensures.stream in
-    let near = recv_near e id stream c.requires.sound active in
-    let within : exceeds c.args.frame.flow stream.recv_window ≡ false =
-    elim c.else-frame-gt0.branch [
-      | else-frame-gt0-via-then-frame-gt0+else-stream-from w ↦
-          within_asked c.args.frame.flow stream.recv_window w.from.result near
-          w.from.ensures w.from.type_inv w.if-stream-from.false
-      | else-frame-gt0-via-else-frame-gt0 w ↦
-          none_exceeds c.args.frame.flow stream.recv_window w.if-frame-gt0.false
-    ] in
+    let within = within (goal.at.returns-in_err-reserve_if_over c).Joined-else-frame-gt0 in
     let p = err_from_is_err_and c.from_residual.result c.from_residual.ensures.1 in
     let (over, due) = c.in_err-reserve_if_over.ensures.err in
     λ (pad : Option ℕ) (flow : HasFlow c.args.frame pad).
@@ -190,15 +179,7 @@ returns c =
     let id = c.args.frame.stream in
     let stream = stream_view c.in-Active.stream in
     let active = sym c.in-Active.ensures.stream in
-    let near = recv_near e id stream c.requires.sound active in
-    let within : exceeds c.args.frame.flow stream.recv_window ≡ false =
-    elim c.else-frame-gt0.branch [
-      | else-frame-gt0-via-then-frame-gt0+else-stream-from w ↦
-          within_asked c.args.frame.flow stream.recv_window w.from.result near
-          w.from.ensures w.from.type_inv w.if-stream-from.false
-      | else-frame-gt0-via-else-frame-gt0 w ↦
-          none_exceeds c.args.frame.flow stream.recv_window w.if-frame-gt0.false
-    ] in
+    let within = within (goal.at.returns c).Joined-else-frame-gt0 in
     λ (pad : Option ℕ) (flow : HasFlow c.args.frame pad).
     report_taken e (frame_of_data c.args.frame pad) c.update_stream.new.self.list _ _
     (reported_data e c.args.frame pad stream flow active c.if-stream.false

@@ -1,8 +1,7 @@
 use Rattle.h2_core.proofs.Names.{◌≡◌, None, Some, inl, refl, sym, ap, ◌∙◌, Option, Bool, true}
 use Rattle.h2_core.proofs.Names.{false, subst, Begun, alone, FrameRef, frame_of, Headers, End}
-use Rattle.h2_core.proofs.Names.{end_of, IsSoundEnd, not, ◌&&◌, List, ℕ}
-use Rattle.h2_spec_log.specs.ItemRules.{may_be_first}
-use Rattle.h2_block.specs.Grouping.{is_standalone}
+use Rattle.h2_core.proofs.Names.{end_of, IsSoundEnd, not, ◌&&◌, List, ℕ, may_be_first}
+use Rattle.h2_core.proofs.Names.{is_standalone}
 use Rattle.h2_frame.specs.Frames.{Settings}
 use Rattle.std.proofs.Common.{is_some}
 use Rattle.h2_core.proofs.FrameFailures.{stopped_same}
@@ -23,15 +22,7 @@ other_first : (frame : FrameRef)
     → may_be_first (frame_of frame) ≡ false
 unfolding may_be_first
 other_first (lent.Settings ack pairs) other = absurd (other ack pairs refl)
-other_first (lent.Data stream end octets pad) other = refl
-other_first (lent.Headers stream end whole fragment pad priority) other = refl
-other_first (lent.Priority stream octets) other = refl
-other_first (lent.Reset stream code) other = refl
-other_first (lent.Ping ack octets) other = refl
-other_first (lent.GoAway last code debug) other = refl
-other_first (lent.WindowUpdate stream increment) other = refl
-other_first (lent.Continuation stream whole fragment) other = refl
-other_first (lent.Unknown kind flags stream payload) other = refl
+other_first frame other = refl
 
 -- Whether a frame may come now.
 first_is : (c : Joined-frame) → c.match-frame.may_be_first ≡ may_be_first (frame_of c.args.frame)
@@ -79,12 +70,14 @@ returns-then-fragment-le-MAX_BLOCK c =
     headers_taken (end_of c.args.self.now) (end_of c.take_block.new.self) (frame_of c.args.frame)
     c.in-Headers.stream c.in-Headers.end c.in-Headers.fragment.now c.in-Headers.pad
     c.in-Headers.priority c.take_block.new.self.list c.take_block.result frame
-    (timely (goal.at.returns-then-fragment-le-MAX_BLOCK c).After-is_inside (first_is (goal.at.returns-then-fragment-le-MAX_BLOCK c).Joined-frame))
+    (timely (goal.at.returns-then-fragment-le-MAX_BLOCK c).After-is_inside (first_is
+    (goal.at.returns-then-fragment-le-MAX_BLOCK c).Joined-frame))
     (none_by c.args.self.now.gather.begun (sym c.is_inside.ensures ∙ c.if-is_inside.false))
     c.if-fragment-le-MAX_BLOCK.true c.take_block.ensures
 
 pub gather_frame-requires-clause-started : goal.gather_frame-requires-clause-started
-gather_frame-requires-clause-started c = timely (goal.at.gather_frame-requires-clause-started c).After-is_inside (first_is (goal.at.gather_frame-requires-clause-started c).Joined-frame)
+gather_frame-requires-clause-started c = timely (goal.at.gather_frame-requires-clause-started
+    c).After-is_inside (first_is (goal.at.gather_frame-requires-clause-started c).Joined-frame)
 
 pub take_alone-requires-clause-alone : goal.take_alone-requires-clause-alone
 take_alone-requires-clause-alone c =
@@ -110,8 +103,10 @@ returns-in-Ok c =
     alone_taken e (end_of c.take_alone.new.self) (frame_of c.args.frame) c.take_alone.new.self.list
     c.in-Ok.event
     (standalone_step e (frame_of c.args.frame)
-    (timely (goal.at.returns-in-Ok c).After-is_inside (first_is (goal.at.returns-in-Ok c).Joined-frame)) none
-    (other_standalone c.args.frame c.in_default-frame.not-Headers c.in_default-frame.not-Continuation))
+    (timely (goal.at.returns-in-Ok c).After-is_inside (first_is (goal.at.returns-in-Ok
+    c).Joined-frame)) none
+    (other_standalone c.args.frame c.in_default-frame.not-Headers
+    c.in_default-frame.not-Continuation))
     none c.requires.up c.in-Ok.ensures
 
 pub returns-in-Err : goal.returns-in-Err
@@ -122,8 +117,10 @@ returns-in-Err c =
     alone_stopped e (end_of c.take_alone.new.self) (end_of c.fail_by-in-Err.new.self)
     (frame_of c.args.frame) c.take_alone.new.self.list c.in-Err.stop c.fail_by-in-Err.result
     (standalone_step e (frame_of c.args.frame)
-    (timely (goal.at.returns-in-Err c).After-is_inside (first_is (goal.at.returns-in-Err c).Joined-frame)) none
-    (other_standalone c.args.frame c.in_default-frame.not-Headers c.in_default-frame.not-Continuation))
+    (timely (goal.at.returns-in-Err c).After-is_inside (first_is (goal.at.returns-in-Err
+    c).Joined-frame)) none
+    (other_standalone c.args.frame c.in_default-frame.not-Headers
+    c.in_default-frame.not-Continuation))
     none c.in-Err.ensures c.fail_by-in-Err.ensures
 
 pub gather_frame-requires-else-whole-clause-part : goal.gather_frame-requires-else-whole-clause-part

@@ -3,6 +3,7 @@ use Rattle.h2_core.proofs.Names.{sym, ap, ◌∙◌, ◌||◌, inl, inr, ◌⊎�
 use Rattle.h2_core.proofs.Names.{EnhanceYourCalm, stream_view, Decoded, StreamFault, Reported}
 use Rattle.h2_core.proofs.Names.{StreamView, End, stream_at, update_stream, receive_block, end_of}
 use Rattle.h2_core.proofs.Names.{err_from_is_err_and}
+use Rattle.h2_core.proofs.StepEnds.{with_waiting}
 use Rattle.h2_core.proofs.SoundFacts.{counted, owed_fits, send_near, recv_near}
 use Rattle.h2_core.proofs.FrameVerdicts.{active_stale, by_block, is_too_large, further_rule}
 use Rattle.h2_core.proofs.FrameVerdicts.{further_opens, fault_item, reported_taken, report_lacks}
@@ -65,10 +66,6 @@ update_stream-requires-clause-window c =
       owed_fits (end_of c.args.self.now) c.args.id (stream_view c.args.stream)
           c.requires.sound c.requires.active,
     )
-
--- an end with this queued output
-abbrev with_waiting : End → List ℕ → End
-with_waiting e waiting = record e { output = record e.output { waiting = waiting } }
 
 -- A block that is reported on a stream that is open or half-closed (local).
 received : (e : End) (id : ℕ) (end : Bool) (stream : StreamView) (waiting : List ℕ) (new : End)

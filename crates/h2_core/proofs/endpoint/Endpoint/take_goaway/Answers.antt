@@ -1,9 +1,7 @@
 -- GOAWAY is reported, with the least of the last streams.
 use Rattle.h2_core.proofs.Names.{◌≡◌, ℕ, List, [], ◌∷◌, Some, refl, ap, rules, GoAway, end_view}
-use Rattle.h2_core.proofs.Names.{end_of}
-use Rattle.h2_spec_log.specs.ItemRules.{verdict_by_rules}
-use Rattle.h2_spec_log.specs.ItemEffects.{events_of, least_last}
-use Rattle.h2_spec_machine.specs.Machine.{after_reported}
+use Rattle.h2_core.proofs.Names.{end_of, verdict_by_rules, events_of, after_reported}
+use Rattle.h2_spec_log.specs.ItemEffects.{least_last}
 use Rattle.h2_spec_log.specs.Events.{GoAwayEvent}
 use Rattle.h2_core.proofs.ItemVerdicts.{report_stands, report_taken}
 use Rattle.h2_core.proofs.endpoint.Endpoint.take_goaway.Goals.{in-Some, in-None}

@@ -3,14 +3,13 @@ use Rattle.h2_core.proofs.Names.{None, Some, arith, refl, sym, ap, ◌∙◌, lt
 use Rattle.h2_core.proofs.Names.{err_from_is_err_and, EnhanceYourCalm, StreamState, TableState}
 use Rattle.h2_core.proofs.Names.{Decoded, opened_by, is_at_capacity, StreamFault, Reported, NoEvent}
 use Rattle.h2_core.proofs.Names.{StreamView, block, End, end_view, stream_at, active_entry}
-use Rattle.h2_core.proofs.Names.{receive_block, new_stream, Endpoint, end_of}
-use Rattle.h2_spec_log.specs.Verdicts.{opening_verdict}
+use Rattle.h2_core.proofs.Names.{receive_block, new_stream, Endpoint, end_of, opening_verdict}
 use Rattle.std.proofs.Common.{is_some}
 use Rattle.h2_frame.specs.declared.code.Code.TheVariants.{RefusedStream}
 use Rattle.h2_core.proofs.FrameVerdicts.{by_block, is_too_large, Fresh, fresh_of, fresh_no_stream}
 use Rattle.h2_core.proofs.FrameVerdicts.{opening_rule, fresh_opens, fault_error, fault_answer}
 use Rattle.h2_core.proofs.FrameVerdicts.{ignored_taken, reported_taken, report_lacks}
-use Rattle.h2_core.proofs.ItemVerdicts.{with_table}
+use Rattle.h2_core.proofs.StepEnds.{with_table}
 use Rattle.std.specs.FinMap as map
 use Rattle.h2_core.proofs.endpoint.Endpoint.take_opening.Goals as goal
 

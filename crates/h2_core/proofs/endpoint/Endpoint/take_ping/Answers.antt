@@ -1,11 +1,11 @@
 -- PING is answered.
 use Rattle.h2_core.proofs.Names.{◌≤◌, ◌++◌, ℕ, List, true, false, refl, arith, ap, ◌∙◌, Ping}
 use Rattle.h2_core.proofs.Names.{encoding_of, EnhanceYourCalm, end_of, err_from_is_err_and, NoEvent}
-use Rattle.h2_spec_log.specs.Items.{encoding_of_items, encoding_of_item}
-use Rattle.h2_spec_machine.specs.Machine.{after_ignored}
+use Rattle.h2_core.proofs.Names.{encoding_of_items, encoding_of_item, after_ignored}
 use Rattle.h2_core.proofs.StepFrames.{ping-written, length-ping}
 use Rattle.h2_core.proofs.ItemPings.{ping_too_much, ping_answered}
-use Rattle.h2_core.proofs.ItemVerdicts.{fault_taken, ignored_taken, with_waiting, lacks_memory}
+use Rattle.h2_core.proofs.ItemVerdicts.{fault_taken, ignored_taken, lacks_memory}
+use Rattle.h2_core.proofs.StepEnds.{with_waiting}
 use Rattle.h2_core.proofs.endpoint.Endpoint.take_ping.Goals as goal
 
 pub returns-then-len : goal.returns-then-len

@@ -1,9 +1,7 @@
 -- The answer to a PING is reported where it is awaited.
 use Rattle.h2_core.proofs.Names.{◌≡◌, true, false, refl, Ping, is_awaited_ping, NoEvent, end_view}
-use Rattle.h2_core.proofs.Names.{end_of}
-use Rattle.h2_spec_log.specs.ItemRules.{verdict_by_rules, replies_to}
-use Rattle.h2_spec_log.specs.ItemEffects.{events_of}
-use Rattle.h2_spec_machine.specs.Machine.{after_reported, after_ignored}
+use Rattle.h2_core.proofs.Names.{end_of, verdict_by_rules, replies_to, events_of, after_reported}
+use Rattle.h2_core.proofs.Names.{after_ignored}
 use Rattle.h2_core.proofs.ItemVerdicts.{quiet_verdict, report_stands, report_taken, ignored_taken}
 use Rattle.h2_core.proofs.ItemPings.{awaited_is}
 use Rattle.h2_core.proofs.endpoint.Endpoint.take_pong.Goals as goal

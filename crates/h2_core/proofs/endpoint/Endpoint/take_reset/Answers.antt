@@ -1,12 +1,12 @@
 -- RST_STREAM closes an active stream.
 use Rattle.h2_core.proofs.Names.{ℕ, List, length, Option, arith, refl, sym, ap, ◌∙◌, ProtocolError}
 use Rattle.h2_core.proofs.Names.{stream_view, state_at, close_stream, end_of, err_from_is_err_and}
-use Rattle.h2_core.proofs.Names.{StreamView, owed_on, returns_credit, Reported}
-use Rattle.h2_spec_log.specs.ItemEffects.{events_of}
-use Rattle.h2_spec_machine.specs.Machine.{after_ignored, after_reported}
+use Rattle.h2_core.proofs.Names.{StreamView, owed_on, returns_credit, Reported, events_of}
+use Rattle.h2_core.proofs.Names.{after_ignored, after_reported}
 use Rattle.h2_frame.specs.Frames.{Reset}
 use Rattle.h2_core.proofs.SoundFacts.{counted, owed_fits}
-use Rattle.h2_core.proofs.ItemVerdicts.{fault_taken, ignored_taken, report_taken, with_waiting}
+use Rattle.h2_core.proofs.ItemVerdicts.{fault_taken, ignored_taken, report_taken}
+use Rattle.h2_core.proofs.StepEnds.{with_waiting}
 use Rattle.h2_core.proofs.ItemVerdicts.{lacks_memory}
 use Rattle.h2_core.proofs.ItemStatuses.{closed_state}
 use Rattle.h2_core.proofs.ItemResets.{idle_reset, active_reset, closed_reset}

@@ -5,7 +5,7 @@ use Rattle.h2_core.proofs.Names.{end_of, streams_allowed_by, with_values}
 use Rattle.h2_core.proofs.OwnItems.{settings_stop, settings_over, settings_taken, window_after}
 use Rattle.h2_core.proofs.OwnItems.{frame_after, streams_after, settings_lacks}
 use Rattle.h2_core.proofs.OwnItems.{acknowledgment_octets}
-use Rattle.h2_core.proofs.ItemVerdicts.{with_waiting}
+use Rattle.h2_core.proofs.StepEnds.{with_waiting}
 use Rattle.h2_core.proofs.endpoint.Endpoint.take_settings.Goals as goal
 
 pub returns-in_err-settings : goal.returns-in_err-settings

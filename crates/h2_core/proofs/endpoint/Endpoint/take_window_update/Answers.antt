@@ -1,6 +1,6 @@
 -- WINDOW_UPDATE of a stream that isn't active.
 use Rattle.h2_core.proofs.Names.{sym, WindowUpdate, ProtocolError, stream_at, state_at, end_of}
-use Rattle.h2_spec_machine.specs.Machine.{after_ignored}
+use Rattle.h2_core.proofs.Names.{after_ignored}
 use Rattle.h2_core.proofs.ItemVerdicts.{fault_taken, ignored_taken}
 use Rattle.h2_core.proofs.ItemStatuses.{closed_state, closed_stream}
 use Rattle.h2_core.proofs.ItemUpdates.{idle_update, closed_update, widen_none}

@@ -1,7 +1,6 @@
 -- WINDOW_UPDATE of the connection widens its window.
 use Rattle.h2_core.proofs.Names.{◌≤◌, arith, refl, WindowUpdate, ProtocolError, FlowControlError}
-use Rattle.h2_core.proofs.Names.{end_of}
-use Rattle.h2_spec_machine.specs.Machine.{after_ignored}
+use Rattle.h2_core.proofs.Names.{end_of, after_ignored}
 use Rattle.h2_core.proofs.ItemVerdicts.{fault_taken, ignored_taken}
 use Rattle.h2_core.proofs.ItemUpdates.{empty_is_fault, great_is_fault, widens_connection}
 use Rattle.h2_core.proofs.endpoint.Endpoint.widen_connection.Goals as goal

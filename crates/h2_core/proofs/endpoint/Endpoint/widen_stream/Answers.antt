@@ -2,13 +2,12 @@
 use Rattle.h2_core.proofs.Names.{◌≡◌, ◌≢◌, ℤ, false, true, arith, None, sym, ap, ◌∙◌, [], ◌∷◌}
 use Rattle.h2_core.proofs.Names.{WindowUpdate, alone, StreamFault, verdict_by_rules, overflows_by}
 use Rattle.h2_core.proofs.Names.{stream_view, is_far, End, end_view, set_stream, widen_send_window}
-use Rattle.h2_core.proofs.Names.{reset_stream, queue_output, code_number, end_of}
-use Rattle.h2_frame.specs.Encoding.{stream_of}
-use Rattle.h2_spec_log.specs.Items.{stream_of_item}
-use Rattle.h2_spec_machine.specs.Machine.{after_ignored, after_stream_fault}
+use Rattle.h2_core.proofs.Names.{reset_stream, queue_output, code_number, end_of, stream_of}
+use Rattle.h2_core.proofs.Names.{stream_of_item, after_ignored, after_stream_fault}
 use Rattle.h2_frame.specs.Frames.{Reset}
 use Rattle.h2_core.proofs.SoundFacts.{send_near, recv_near}
-use Rattle.h2_core.proofs.ItemVerdicts.{ignored_taken, fault_item, with_table}
+use Rattle.h2_core.proofs.ItemVerdicts.{ignored_taken, fault_item}
+use Rattle.h2_core.proofs.StepEnds.{with_table}
 use Rattle.h2_core.proofs.StepStreams.{narrow_none}
 use Rattle.h2_core.proofs.ItemWindows.{widened_fits, widened_is, widened_near, passes_as}
 use Rattle.h2_core.proofs.ItemUpdates.{empty_resets, great_resets, widens_stream}

@@ -2,7 +2,8 @@
 use Rattle.h2_core.proofs.Names.{◌≡◌, ◌∷◌, [], ◌++◌, length, ap, sym, ◌∙◌, arith, block_of}
 use Rattle.h2_core.proofs.Names.{after_block, block, encoding_of_items, end_view, with_encoder}
 use Rattle.h2_core.proofs.Names.{end_of}
-use Rattle.h2_core.proofs.CallOutput.{octets_of_block, with_waiting}
+use Rattle.h2_core.proofs.CallOutput.{octets_of_block}
+use Rattle.h2_core.proofs.StepEnds.{with_waiting}
 use Rattle.h2_core.proofs.endpoint.Endpoint.write_block.Goals as goal
 
 pub returns-clause-ok : goal.returns-clause-ok

@@ -1,7 +1,8 @@
-use Rattle.h2_ends.proofs.Names.{refl}
-use Rattle.h2_ends.proofs.ControlSteps.{puts_out}
+use Rattle.h2_ends.proofs.Names.{refl, Count}
+use Rattle.h2_ends.proofs.ControlSteps.{controls}
 use Rattle.h2_ends.proofs.end.End.consume.Goals as goal
 
 pub returns-clause-answers : goal.returns-clause-answers
 returns-clause-answers c =
-    puts_out (λ given. given) c.args.self.now _ c.args.count _ c.consume.ensures.answers refl refl refl
+    controls c.args.self.now _ refl refl refl (λ given. Count given) _ _ c.consume.ensures.answers
+    (λ given i is. cc) tt

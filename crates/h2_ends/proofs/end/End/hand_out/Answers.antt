@@ -1,15 +1,15 @@
 -- What is reported is handed out, or the stream is refused.
-use Rattle.h2_ends.proofs.Names.{◌≡◌, [], refl, ap, length, ResetEvent, UnprocessedEvent, Conn}
-use Rattle.h2_ends.proofs.Names.{end_with_log, code_unread}
-use Rattle.h2_laws_pair.specs.Tokens.{tokens_of_event}
-use Rattle.h2_ends.specs.Ends.{part_of_event}
+use Rattle.h2_ends.proofs.Names.{◌≡◌, [], refl, sym, ap, ResetEvent, Conn, end_with_log, Option}
+use Rattle.h2_ends.proofs.Names.{code_unread, tokens_of_event, part_of_event, take_has_fields}
+use Rattle.h2_ends.proofs.Names.{take_has_data, take_may_close, event_may_close, UnprocessedEvent}
+use Rattle.h2_ends.proofs.Names.{GoAwayEvent, AckedEvent, PongEvent, Some, None, List, ℕ, true}
+use Rattle.h2_ends.proofs.Names.{false, both_ways}
+use Rattle.std.proofs.Common.{is_some}
 use Rattle.h2_ends.specs.Loans.{BodyLiesIn, IsBodyIn}
-use Rattle.h2_laws_end.specs.Activity.{take_has_fields, take_has_data, take_may_close}
-use Rattle.h2_laws_end.specs.Activity.{event_may_close}
-use Rattle.h2_spec_log.specs.Events.{GoAwayEvent, AckedEvent, PongEvent}
-use Rattle.h2_ends.proofs.TakeHands.{fields_on, data_on, event_passed, fields_handed, part_lies}
-use Rattle.h2_ends.proofs.TakeHands.{fields_not_handed, data_handed, data_not_handed, reset_lies}
-use Rattle.h2_ends.proofs.TakeInStep.{reported_as, reset_but, unprocessed_but}
+use Rattle.h2_ends.proofs.TakeHands.{fields_on, data_on, event_passed, plain_passed, fields_handed}
+use Rattle.h2_ends.proofs.TakeHands.{part_lies, fields_not_handed, data_handed, data_not_handed}
+use Rattle.h2_ends.proofs.TakeHands.{reset_lies}
+use Rattle.h2_ends.proofs.TakeInStep.{reset_but, unprocessed_but}
 use Rattle.h2_ends.proofs.end.End.hand_out.Goals as goal
 
 pub returns-then-read_data-clause-lies : goal.returns-then-read_data-clause-lies
@@ -20,17 +20,15 @@ returns-then-read_data-clause-lies c =
 pub returns-then-read_data-clause-hands : goal.returns-then-read_data-clause-hands
 unfolding IsBodyIn
 returns-then-read_data-clause-hands c = λ octets body.
-    let lies = rw c.read_data.ensures.conn at body in
-    let lent = rw c.in-Some.is at c.octets.ensures in
-    let same : octets ≡ c.in-Some.octets.now = cc in
-    let counted = ap length same in (
+    let lies = rw c.read_data.ensures.conn at body in (
       octets,
       rw c.in-Data.is lies,
       λ values end count log reported.
           let said = rw c.in-Data.is at reported in
           data_handed values c.args.self.now c.read_data.new.self end c.args.piece.now count
           c.in-Data.id octets c.in-Data.flow c.in-Data.end log said
-          (c.if-read_data.ensures.reads values (end_with_log end log) octets counted
+          (c.if-read_data.ensures.reads values (end_with_log end log) octets
+          (sym (c.body_len.ensures c.args.self.now.conn.inner.cutter _ octets lies))
           (data_on values c.args.self.now end c.args.piece.now count c.in-Data.id octets
           c.in-Data.flow c.in-Data.end log c.with-self.result c.with-self.ensures.here
           c.with-self.ensures.more said)),
@@ -41,17 +39,25 @@ returns-else-read_data-clause-lies c =
     reset_lies _ c.args.piece.now c.in-Data.id 1 c.refuse-in-Data.result
     c.refuse-in-Data.ensures.resets
 
+-- octets that are there
+octets_there : (octets : Option (List ℕ)) → is_some octets ≡ true
+    → (some : List ℕ) × (octets ≡ Some some)
+octets_there (Some octets) there = (octets, refl)
+octets_there None there = absurd (both_ways false refl there)
+
 pub returns-else-read_data-clause-hands : goal.returns-else-read_data-clause-hands
 returns-else-read_data-clause-hands c = λ octets none.
-    let lent = c.in-Some.octets.now in (
+    let there = octets_there _ (rw c.in-Data.is at c.requires.lies) in
+    let lent = there.0 in (
       lent,
-      rw c.in-Data.is (rw c.in-Some.is at c.octets.ensures),
+      rw c.in-Data.is there.1,
       λ values end count log reported.
           let said = rw c.in-Data.is at reported in
           data_not_handed values c.args.self.now c.read_data.new.self c.refuse-in-Data.new.self end
           c.args.piece.now count c.in-Data.id lent c.in-Data.flow c.in-Data.end log _ octets
           c.refuse-in-Data.result said
-          (c.if-read_data.ensures.reads values (end_with_log end log) lent refl
+          (c.if-read_data.ensures.reads values (end_with_log end log) lent
+          (sym (c.body_len.ensures c.args.self.now.conn.inner.cutter _ lent there.1))
           (data_on values c.args.self.now end c.args.piece.now count c.in-Data.id lent
           c.in-Data.flow c.in-Data.end log c.with-self.result c.with-self.ensures.here
           c.with-self.ensures.more said))
@@ -98,92 +104,79 @@ returns-in-Err-clause-hands c = λ octets none. (
       (c.refuse.ensures.answers values (end_with_log end log)) c.refuse.ensures.resets,
 )
 
-pub returns-in-Reset-clause-lies : goal.returns-in-Reset-clause-lies
-unfolding BodyLiesIn
-returns-in-Reset-clause-lies c = tt
+pub returns-in-Reset : goal.returns-in-Reset
+unfolding BodyLiesIn part_of_event
+returns-in-Reset c =
+    record {
+      lies = tt;
+      hands = λ octets none. rw c.in-Reset.is (
+        [],
+        tt,
+        λ values end count log said. event_passed values c.args.self.now c.forget_if_over.new.self
+            end c.args.piece.now count (ResetEvent c.in-Reset.id c.in-Reset.code c.in-Reset.ours)
+            log said refl (c.forget_if_over.ensures.represents values (end_with_log end log)
+            (reset_but values c.args.self.now end c.args.piece.now count c.in-Reset.id
+            c.in-Reset.code c.in-Reset.ours log said)),
+      );
+    }
 
-pub returns-in-Reset-clause-hands : goal.returns-in-Reset-clause-hands
-unfolding part_of_event
-returns-in-Reset-clause-hands c = λ octets none. (
-  [],
-  rw c.in-Reset.is tt,
-  λ values end count log reported.
-      let said = rw c.in-Reset.is at reported in
-      event_passed values c.args.self.now c.forget_if_over.new.self end c.args.piece.now count
-      (ResetEvent c.in-Reset.id c.in-Reset.code c.in-Reset.ours) log said refl
-      (c.forget_if_over.ensures.represents values (end_with_log end log)
-      (reset_but values c.args.self.now end c.args.piece.now count c.in-Reset.id c.in-Reset.code
-      c.in-Reset.ours log said)),
-)
+pub returns-in-Unprocessed : goal.returns-in-Unprocessed
+unfolding BodyLiesIn part_of_event
+returns-in-Unprocessed c =
+    record {
+      lies = tt;
+      hands = λ octets none. rw c.in-Unprocessed.is (
+        [],
+        tt,
+        λ values end count log said. event_passed values c.args.self.now
+            c.forget_if_over-in-Unprocessed.new.self end c.args.piece.now count
+            (UnprocessedEvent c.in-Unprocessed.id) log said refl
+            (c.forget_if_over-in-Unprocessed.ensures.represents values (end_with_log end log)
+            (unprocessed_but values c.args.self.now end c.args.piece.now count c.in-Unprocessed.id
+            log said)),
+      );
+    }
 
-pub returns-in-Unprocessed-clause-lies : goal.returns-in-Unprocessed-clause-lies
-unfolding BodyLiesIn
-returns-in-Unprocessed-clause-lies c = tt
-
-pub returns-in-Unprocessed-clause-hands : goal.returns-in-Unprocessed-clause-hands
-unfolding part_of_event
-returns-in-Unprocessed-clause-hands c = λ octets none. (
-  [],
-  rw c.in-Unprocessed.is tt,
-  λ values end count log reported.
-      let said = rw c.in-Unprocessed.is at reported in
-      event_passed values c.args.self.now c.forget_if_over-in-Unprocessed.new.self end
-      c.args.piece.now count (UnprocessedEvent c.in-Unprocessed.id) log said refl
-      (c.forget_if_over-in-Unprocessed.ensures.represents values (end_with_log end log)
-      (unprocessed_but values c.args.self.now end c.args.piece.now count c.in-Unprocessed.id log
-      said)),
-)
-
-pub returns-in-GoAway-clause-lies : goal.returns-in-GoAway-clause-lies
-unfolding BodyLiesIn
-returns-in-GoAway-clause-lies c = tt
-
-pub returns-in-GoAway-clause-hands : goal.returns-in-GoAway-clause-hands
-unfolding part_of_event tokens_of_event take_has_fields take_has_data take_may_close
+pub returns-in-GoAway : goal.returns-in-GoAway
+unfolding BodyLiesIn part_of_event tokens_of_event take_has_fields take_has_data take_may_close
     event_may_close
-returns-in-GoAway-clause-hands c = λ octets none. (
-  [],
-  rw c.in-GoAway.is tt,
-  λ values end count log reported.
-      let said = rw c.in-GoAway.is at reported in
-      event_passed values c.args.self.now c.args.self.now end c.args.piece.now count
-      (GoAwayEvent c.in-GoAway.last c.in-GoAway.code) log said refl (reported_as values
-      c.args.self.now end c.args.piece.now count (GoAwayEvent c.in-GoAway.last c.in-GoAway.code) log
-      said (λ i. refl) (λ i. refl) (λ i. refl) (λ i. refl)),
-)
+returns-in-GoAway c =
+    record {
+      lies = tt;
+      hands = λ octets none. rw c.in-GoAway.is (
+        [],
+        tt,
+        λ values end count log said. plain_passed values c.args.self.now end c.args.piece.now count
+            (GoAwayEvent c.in-GoAway.last c.in-GoAway.code) log said refl (λ i. refl) (λ i. refl)
+            (λ i. refl) (λ i. refl),
+      );
+    }
 
-pub returns-in-Acked-clause-lies : goal.returns-in-Acked-clause-lies
-unfolding BodyLiesIn
-returns-in-Acked-clause-lies c = tt
-
-pub returns-in-Acked-clause-hands : goal.returns-in-Acked-clause-hands
-unfolding part_of_event tokens_of_event take_has_fields take_has_data take_may_close
+pub returns-in-Acked : goal.returns-in-Acked
+unfolding BodyLiesIn part_of_event tokens_of_event take_has_fields take_has_data take_may_close
     event_may_close
-returns-in-Acked-clause-hands c = λ octets none. (
-  [],
-  rw c.in-Acked.is tt,
-  λ values end count log reported.
-      let said = rw c.in-Acked.is at reported in
-      event_passed values c.args.self.now c.args.self.now end c.args.piece.now count AckedEvent log
-      said refl (reported_as values
-      c.args.self.now end c.args.piece.now count AckedEvent log
-      said (λ i. refl) (λ i. refl) (λ i. refl) (λ i. refl)),
-)
+returns-in-Acked c =
+    record {
+      lies = tt;
+      hands = λ octets none. rw c.in-Acked.is (
+        [],
+        tt,
+        λ values end count log said. plain_passed values c.args.self.now end c.args.piece.now count
+            AckedEvent log said refl (λ i. refl) (λ i. refl) (λ i. refl) (λ i. refl),
+      );
+    }
 
-pub returns-in-Pong-clause-lies : goal.returns-in-Pong-clause-lies
-unfolding BodyLiesIn
-returns-in-Pong-clause-lies c = tt
-
-pub returns-in-Pong-clause-hands : goal.returns-in-Pong-clause-hands
-unfolding part_of_event tokens_of_event take_has_fields take_has_data take_may_close
+pub returns-in-Pong : goal.returns-in-Pong
+unfolding BodyLiesIn part_of_event tokens_of_event take_has_fields take_has_data take_may_close
     event_may_close
-returns-in-Pong-clause-hands c = λ octets none. (
-  [],
-  rw c.in-Pong.is tt,
-  λ values end count log reported.
-      let said = rw c.in-Pong.is at reported in
-      event_passed values c.args.self.now c.args.self.now end c.args.piece.now count
-      (PongEvent c.in-Pong.octets) log said refl (reported_as values
-      c.args.self.now end c.args.piece.now count (PongEvent c.in-Pong.octets) log
-      said (λ i. refl) (λ i. refl) (λ i. refl) (λ i. refl)),
-)
+returns-in-Pong c =
+    record {
+      lies = tt;
+      hands = λ octets none. rw c.in-Pong.is (
+        [],
+        tt,
+        λ values end count log said. plain_passed values c.args.self.now end c.args.piece.now count
+            (PongEvent c.in-Pong.octets) log said refl (λ i. refl) (λ i. refl) (λ i. refl)
+            (λ i. refl),
+      );
+    }

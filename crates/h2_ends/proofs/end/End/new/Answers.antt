@@ -1,4 +1,5 @@
-use Rattle.h2_ends.proofs.Names.{refl, values_of}
+use Rattle.h2_ends.proofs.Names.{refl}
+use Rattle.h2_flow.specs.ConfigValues.{values_of}
 use Rattle.h2_ends.proofs.ControlStart.{starts}
 use Rattle.h2_ends.proofs.end.End.new.Goals.{in-Client+in_ok-conn-in-Client}
 use Rattle.h2_ends.proofs.end.End.new.Goals.{in-Server+in_ok-conn-in-Server}

@@ -40,13 +40,14 @@ pub returns-in-Full : goal.returns-in-Full
 returns-in-Full c =
     pump_full c.args.self.now c.loop-id.self c.loop-id.left c.loop-id.count c.loop-id.last
     c.loop-id.invariant c.in-Some.id c.in-Some.ensures.next c.pump_stream.new.self
-    c.pump_stream.new.count c.in_ok-pump_stream.field-0 c.in-Full.is c.in_ok-pump_stream.ensures.pumps
+    c.pump_stream.new.count c.in_ok-pump_stream.field-0 c.in-Full.is
+    c.in_ok-pump_stream.ensures.pumps
 
 pub returns-in_err-pump_stream : goal.returns-in_err-pump_stream
 returns-in_err-pump_stream c =
     let made = err_from_is_err_and c.from_residual.result c.from_residual.ensures.1 in
-    rw (made.1, made.2) (pump_refused c.args.self.now c.loop-id.self c.loop-id.left c.loop-id.count c.loop-id.last
-    c.loop-id.invariant c.in-Some.id c.in-Some.ensures.next c.pump_stream.new.self
+    rw (made.1, made.2) (pump_refused c.args.self.now c.loop-id.self c.loop-id.left c.loop-id.count
+    c.loop-id.last c.loop-id.invariant c.in-Some.id c.in-Some.ensures.next c.pump_stream.new.self
     c.pump_stream.new.count _ c.in_err-pump_stream.ensures.pumps)
 
 pub returns : goal.returns

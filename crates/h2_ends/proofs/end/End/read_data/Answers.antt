@@ -1,10 +1,9 @@
 use Rattle.h2_ends.proofs.Names.{◌≡◌, ℕ, List, length, true, Some, refl, sym, ap, Values, EndLog}
-use Rattle.h2_ends.proofs.Names.{OctetsPart, IsReadOn}
-use Rattle.h2_ends.specs.Taking.{ReadsData}
+use Rattle.h2_ends.proofs.Names.{OctetsPart, IsReadOn, ReadsData}
 use Rattle.std.specs.Option.{is_some}
 use Rattle.h2_ends.proofs.TableSteps.{keeps_but}
 use Rattle.h2_ends.proofs.TakeReads.{IsReadBut, with_reading, first_data, data_taken, data_refused}
-use Rattle.h2_ends.proofs.TakeInStep.{represents_all}
+use Rattle.h2_ends.proofs.InSteps.{represents_all}
 use Rattle.h2_ends.proofs.end.End.read_data.Goals.{After-data}
 use Rattle.h2_ends.proofs.end.End.read_data.Goals as goal
 
@@ -19,12 +18,10 @@ returns-then-not-data-clause-reads c = λ values happened octets counted is.
     let stream = c.in-Some.stream.now in
     let found = sym c.in-Some.ensures.value in
     let holds = c.get_mut.follows.holds (with_reading stream c.data.new.self) in
-    data_refused values c.args.self.now _ happened c.args.id octets c.args.end stream
-    c.data.new.self is found
-    (λ reads parts follows.
-    rw c.if-not-data.true at c.data.ensures reads parts octets counted follows)
+    data_refused values c.args.self.now _ happened c.args.id c.args.end stream c.data.new.self found
     (keeps_but c.args.self.now _ c.args.id (Some (with_reading stream c.data.new.self))
-    (holds.3 (ap is_some found)).0) refl refl refl
+    (holds.3 (ap is_some found)).0) refl refl refl octets is (λ reads parts follows.
+    rw c.if-not-data.true at c.data.ensures reads parts octets counted follows)
 
 -- What is kept once the octets were read.
 taken : (c : After-data) → c.data.result ≡ true → (values : Values) (happened : EndLog)
@@ -37,10 +34,10 @@ taken c read values happened octets counted is =
     let stream = c.in-Some.stream.now in
     let found = sym c.in-Some.ensures.value in
     let holds = c.get_mut.follows.holds (with_reading stream c.data.new.self) in
-    data_taken values c.args.self.now _ happened c.args.id octets c.args.end stream c.data.new.self
-    is found (λ reads parts follows. rw read at c.data.ensures reads parts octets counted follows)
+    data_taken values c.args.self.now _ happened c.args.id c.args.end stream c.data.new.self found
     (keeps_but c.args.self.now _ c.args.id (Some (with_reading stream c.data.new.self))
-    (holds.3 (ap is_some found)).0) refl refl refl
+    (holds.3 (ap is_some found)).0) refl refl refl octets is
+    (λ reads parts follows. rw read at c.data.ensures reads parts octets counted follows)
 
 pub returns-then-end-clause-reads : goal.returns-then-end-clause-reads
 unfolding ReadsData

@@ -1,10 +1,9 @@
 use Rattle.h2_ends.proofs.Names.{◌≡◌, Some, refl, sym, ap, Values, EndLog, FieldsPart, Place}
-use Rattle.h2_ends.proofs.Names.{place_after, parts_on, IsReadOn, reads_on}
-use Rattle.h2_ends.specs.Taking.{ReadsFields}
+use Rattle.h2_ends.proofs.Names.{parts_on, IsReadOn, reads_on, ReadsFields, place_after}
 use Rattle.std.specs.Option.{is_some}
 use Rattle.h2_ends.proofs.TableSteps.{keeps_but}
 use Rattle.h2_ends.proofs.TakeReads.{IsReadBut, with_reading, fields_taken, fields_refused}
-use Rattle.h2_ends.proofs.TakeInStep.{represents_all}
+use Rattle.h2_ends.proofs.InSteps.{represents_all}
 use Rattle.h2_ends.proofs.end.End.read_fields.Goals.{After-fields}
 use Rattle.h2_ends.proofs.end.End.read_fields.Goals as goal
 
@@ -13,11 +12,10 @@ returns-in_default-fields-clause-reads c = λ values happened is.
     let stream = c.in-Some.stream.now in
     let found = sym c.in-Some.ensures.value in
     let holds = c.get_mut.follows.holds (with_reading stream c.fields.new.self) in
-    fields_refused values c.args.self.now _ happened c.args.id _ c.args.end stream
-    c.fields.new.self is found
+    fields_refused values c.args.self.now _ happened c.args.id c.args.end stream c.fields.new.self
+    found (keeps_but c.args.self.now _ c.args.id (Some (with_reading stream c.fields.new.self))
+    (holds.3 (ap is_some found)).0) refl refl refl _ is
     (λ reads parts follows. rw c.list.ensures at c.in_default-fields.ensures reads parts follows)
-    (keeps_but c.args.self.now _ c.args.id (Some (with_reading stream c.fields.new.self))
-    (holds.3 (ap is_some found)).0) refl refl refl
 
 -- What is kept once the fields were read.
 taken : (c : After-fields) (place : Place) → c.fields.result ≡ Some place → (values : Values)
@@ -34,11 +32,10 @@ taken c place read values happened is =
     let stream = c.in-Some.stream.now in
     let found = sym c.in-Some.ensures.value in
     let holds = c.get_mut.follows.holds (with_reading stream c.fields.new.self) in
-    fields_taken values c.args.self.now _ happened c.args.id _ c.args.end place stream
-    c.fields.new.self is found
+    fields_taken values c.args.self.now _ happened c.args.id c.args.end stream c.fields.new.self
+    found (keeps_but c.args.self.now _ c.args.id (Some (with_reading stream c.fields.new.self))
+    (holds.3 (ap is_some found)).0) refl refl refl _ place is
     (λ reads parts follows. rw (c.list.ensures, read) at c.fields.ensures reads parts follows)
-    (keeps_but c.args.self.now _ c.args.id (Some (with_reading stream c.fields.new.self))
-    (holds.3 (ap is_some found)).0) refl refl refl
 
 pub returns-then-end-clause-reads : goal.returns-then-end-clause-reads
 unfolding ReadsFields

@@ -13,9 +13,9 @@ returns-in_default-clause-reads c = λ values happened is.
 
 pub returns-then-is_err-clause-reads : goal.returns-then-is_err-clause-reads
 returns-then-is_err-clause-reads c = λ values happened is.
-    first_lacks values c.args.self.now _ happened c.args.id _ c.args.end c.in-Some.place
-    c.new-reading.result c.fields.new.self is c.requires.first
-    (rw c.first_reads.ensures at c.new-reading.ensures)
+    first_lacks values c.args.self.now happened c.args.id _ c.args.end c.new-reading.result
+    c.fields.new.self is c.requires.first (rw c.first_reads.ensures at c.new-reading.ensures) _
+    c.in-Some.place
     (λ reads parts follows. rw c.list.ensures at c.in-Some.ensures reads parts follows) refl refl
     refl (on_err c.insert.result _ (sym c.is_err.ensures.value ∙ c.if-is_err.true)
     c.insert.ensures.err)
@@ -24,9 +24,9 @@ pub returns-clause-reads : goal.returns-clause-reads
 returns-clause-reads c = λ values happened is.
     let updates = on_ok c.insert.result _ (sym c.is_err.ensures.value ∙ c.if-is_err.false)
     c.insert.ensures.updates in
-    first_taken values c.args.self.now _ happened c.args.id _ c.args.end c.in-Some.place
-    c.new-reading.result c.fields.new.self is c.requires.first
-    (rw c.first_reads.ensures at c.new-reading.ensures)
+    first_taken values c.args.self.now happened c.args.id _ c.args.end c.new-reading.result
+    c.fields.new.self is c.requires.first (rw c.first_reads.ensures at c.new-reading.ensures) _
+    c.in-Some.place
     (λ reads parts follows. rw c.list.ensures at c.in-Some.ensures reads parts follows)
     (keeps_but c.args.self.now _ c.args.id (Some (first_stream c.fields.new.self)) updates.0) refl
     refl refl

@@ -1,7 +1,8 @@
-use Rattle.h2_ends.proofs.Names.{refl}
-use Rattle.h2_ends.proofs.ControlSteps.{puts_out}
+use Rattle.h2_ends.proofs.Names.{refl, Count}
+use Rattle.h2_ends.proofs.ControlSteps.{controls}
 use Rattle.h2_ends.proofs.end.End.ready.Goals as goal
 
 pub returns-clause-answers : goal.returns-clause-answers
 returns-clause-answers c =
-    puts_out (λ done. 0) c.args.self.now _ 0 _ c.ready.ensures.answers refl refl refl
+    controls c.args.self.now _ refl refl refl (λ done. Count 0) _ _ c.ready.ensures.answers
+    (λ done i is. cc) tt

@@ -1,5 +1,4 @@
-use Rattle.h2_ends.proofs.Names.{refl, sym, ◌∙◌}
-use Rattle.h2_ends.specs.Taking.{AnswersRefusal}
+use Rattle.h2_ends.proofs.Names.{refl, sym, ◌∙◌, AnswersRefusal}
 use Rattle.h2_ends.proofs.TakeRefusing.{refused}
 use Rattle.h2_ends.proofs.end.End.refuse.Goals as goal
 

@@ -36,8 +36,8 @@ loop-id-preserved c =
 pub returns-in_err-release : goal.returns-in_err-release
 returns-in_err-release c =
     let made = err_from_is_err_and c.from_residual.result c.from_residual.ensures.1 in
-    rw (made.1, made.2) (refuses_stream c.args.self.now c.loop-id.self _ c.in-Some.id c.owed-owed.result
-    _ (comes_to c.args.self.now c.loop-id.self c.loop-id.last c.in-Some.id
+    rw (made.1, made.2) (refuses_stream c.args.self.now c.loop-id.self _ c.in-Some.id
+    c.owed-owed.result _ (comes_to c.args.self.now c.loop-id.self c.loop-id.last c.in-Some.id
     c.loop-id.invariant c.in-Some.ensures.next) c.owed-owed.ensures c.if-owed-eq0.false
     (omega arith) (omega arith) c.in_err-release.ensures refl refl refl)
 

@@ -1,9 +1,8 @@
 -- What was handed out is kept, where it is a part of the response.
-use Rattle.h2_engines.proofs.Names.{rules, Vec, Global, ◌++◌, ◌∷◌, [], List, Some, refl, ap, ◌∙◌}
-use Rattle.h2_engines.proofs.Names.{map_push, Field, notes_interim, notes_head, notes_body}
-use Rattle.h2_engines.proofs.Names.{notes_trailers, notes_nothing}
-use Rattle.h2_ends.specs.Ends.{part_on}
-use Rattle.std.proofs.Common.{map as each}
+use Rattle.h2_engines.proofs.Names.{rules, ◌++◌, ◌∷◌, [], List, Some, refl, ap, ◌∙◌, map_push}
+use Rattle.h2_engines.proofs.Names.{Field, notes_interim, notes_head, notes_body, notes_trailers}
+use Rattle.h2_engines.proofs.Names.{notes_nothing, part_on}
+use Rattle.std.proofs.Common.{Vec, Global, map as each}
 use Rattle.h2_engines.proofs.NoteResponses.{other_stream, other_event}
 use Rattle.h2_engines.proofs.fetcher.Coming.note.Goals as goal
 
@@ -16,10 +15,10 @@ returns-in_ok-push-in-Interim-clause-notes c =
     each (λ (one : Vec Field Global). one.items) c.args.self.now.interims.items ++ list ∷ [])
     c.in_ok-list-in-Interim.ensures) refl refl refl)
 
-pub returns-in_ok-copy_list-in-Head-clause-notes : goal.returns-in_ok-copy_list-in-Head-clause-notes
-returns-in_ok-copy_list-in-Head-clause-notes c =
+pub returns-in_ok-to_vec-in-Head-clause-notes : goal.returns-in_ok-to_vec-in-Head-clause-notes
+returns-in_ok-to_vec-in-Head-clause-notes c =
     rw (c.in-Head.is, c.if-id-stream-2.true) (notes_head c.in-Head.list.now c.in-Head.end
-    (ap Some c.in_ok-copy_list-in-Head.ensures) refl c.clear.ensures.items refl)
+    (ap Some c.in_ok-to_vec-in-Head.ensures) refl c.clear.ensures.items refl)
 
 pub returns-in_ok-extend_from_slice-in-Body-clause-notes :
     goal.returns-in_ok-extend_from_slice-in-Body-clause-notes
@@ -27,11 +26,11 @@ returns-in_ok-extend_from_slice-in-Body-clause-notes c =
     rw (c.in-Body.is, c.if-id-stream-3.true) (notes_body c.in-Body.bytes.now c.in-Body.end
     c.in_ok-extend_from_slice-in-Body.ensures.items refl refl refl)
 
-pub returns-in_ok-copy_list-in-Trailers-clause-notes :
-    goal.returns-in_ok-copy_list-in-Trailers-clause-notes
-returns-in_ok-copy_list-in-Trailers-clause-notes c =
+pub returns-in_ok-to_vec-in-Trailers-clause-notes :
+    goal.returns-in_ok-to_vec-in-Trailers-clause-notes
+returns-in_ok-to_vec-in-Trailers-clause-notes c =
     rw (c.in-Trailers.is, c.if-id-stream-4.true) (notes_trailers c.in-Trailers.list.now
-    (ap Some c.in_ok-copy_list-in-Trailers.ensures) refl refl refl)
+    (ap Some c.in_ok-to_vec-in-Trailers.ensures) refl refl refl)
 
 pub returns-in_default-clause-notes : goal.returns-in_default-clause-notes
 unfolding part_on

@@ -1,6 +1,5 @@
 -- By the lemmas on a new client's request.
-use Rattle.h2_engines.proofs.Names.{◌≡◌, refl, rules, Malformed, message_value, error_after}
-use Rattle.std.proofs.Common.{◌≢◌}
+use Rattle.h2_engines.proofs.Names.{◌≡◌, refl, rules, Malformed, message_value, error_after, ◌≢◌}
 use Rattle.h2_engines.proofs.FetcherStart.{has_requested, refused_as_broken, refused_as_large}
 use Rattle.h2_engines.proofs.FetcherStart.{refused_otherwise}
 use Rattle.h2_spec_log.specs.declared.refusal.Refusal.TheVariants as reasons

@@ -1,10 +1,8 @@
 -- The octets are added to what is kept.
 use Rattle.h2_engines.proofs.Names.{◌≡◌, ℕ, ap, sym, Some, None, refl, inl, inr, arith, Request}
-use Rattle.h2_engines.proofs.Names.{body_room}
-use Rattle.h2_engines.specs.PartialMessages.{AddsOctets, EndsRequest}
-use Rattle.std.specs.Option.{is_some}
+use Rattle.h2_engines.proofs.Names.{body_room, AddsOctets, EndsRequest, Requests}
 use Rattle.std.specs.BTreeMap.{BTreeMap}
-use Rattle.h2_engines.specs.declared.request.Requests.{Requests}
+use Rattle.std.specs.Option.{is_some}
 use Rattle.h2_engines.proofs.RequestTable.{adds_last, changes_one, changes_none, changes_twice}
 use Rattle.h2_engines.proofs.request.Requests.add.Goals as goal
 

@@ -1,6 +1,5 @@
 -- The request is taken out, if it is kept.
-use Rattle.h2_engines.proofs.Names.{None, refl, sym}
-use Rattle.h2_engines.specs.PartialMessages.{EndsKept, EndsRequest}
+use Rattle.h2_engines.proofs.Names.{None, refl, sym, EndsKept, EndsRequest}
 use Rattle.h2_engines.proofs.RequestTable.{changes_one}
 use Rattle.h2_engines.proofs.request.Requests.end.Goals as goal
 

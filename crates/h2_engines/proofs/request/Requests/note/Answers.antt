@@ -1,6 +1,5 @@
 -- What was handed out of a request is kept.
-use Rattle.h2_engines.proofs.Names.{None, Some, refl}
-use Rattle.h2_engines.specs.PartialMessages.{EndsRequest, NotesHanded}
+use Rattle.h2_engines.proofs.Names.{None, Some, refl, EndsRequest, NotesHanded}
 use Rattle.h2_engines.proofs.NoteOne.{notes_other}
 use Rattle.h2_engines.proofs.RequestTable.{changes_one}
 use Rattle.h2_engines.proofs.request.Requests.note.Goals.{in-Reset+in-Some-1, in-Reset+in-None-1}

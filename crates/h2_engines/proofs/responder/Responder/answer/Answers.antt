@@ -1,6 +1,6 @@
 -- By the lemmas on an answer.
-use Rattle.h2_engines.proofs.Names.{refl, arith, no_memory, err_from_is_err_and}
-use Rattle.h2_engines.specs.ServerSteps.{AnsweredSo, counted_answer, counts_no_more}
+use Rattle.h2_engines.proofs.Names.{refl, arith, err_from_is_err_and}
+use Rattle.h2_engines.specs.ServerSteps.{AnsweredSo, no_memory, counted_answer, counts_no_more}
 use Rattle.h2_engines.proofs.ResponderCalls.{answers_done, answers_refused}
 use Rattle.h2_engines.proofs.responder.Responder.answer.Goals.{in-Ok, in-Err}
 use Rattle.h2_engines.proofs.responder.Responder.answer.Goals as goal

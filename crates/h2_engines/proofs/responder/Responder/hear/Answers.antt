@@ -14,7 +14,8 @@ returns-after-used-piece-clause-hears c =
     ])
     (λ done. elim c.if-used-piece.branch [
       | then-used-piece w ↦ let same = w.next-is in cc
-      | else-used-piece w ↦ omega (arith, (rw c.in_ok-taken.ensures.ok at c.take.ensures.used), w.if-used-piece.false)
+      | else-used-piece w ↦ omega
+          (arith, (rw c.in_ok-taken.ensures.ok at c.take.ensures.used), w.if-used-piece.false)
     ])
     (rw c.in_ok-taken.ensures.ok at c.take.follows.holds-at-none)
 

@@ -1,7 +1,5 @@
 -- By the lemmas on a reset.
-use Rattle.h2_engines.proofs.Names.{◌≡◌, Err, refl, rules, TooManyResets, Refused}
-use Rattle.h2_engines.specs.ServerSteps.{ResetSo}
-use Rattle.std.proofs.Common.{◌≢◌}
+use Rattle.h2_engines.proofs.Names.{◌≡◌, Err, refl, rules, TooManyResets, Refused, ResetSo, ◌≢◌}
 use Rattle.h2_engines.proofs.ResponderCalls.{resets_as}
 use Rattle.h2_engines.proofs.responder.Responder.reset.Goals as goal
 
@@ -9,7 +7,8 @@ pub returns-in-Err-TooManyResets-clause-resets : goal.returns-in-Err-TooManyRese
 unfolding ResetSo
 returns-in-Err-TooManyResets-clause-resets c values end represents =
     let is : c.reset-answer.result ≡ Err TooManyResets = search rules in
-    let (may, now) = (rw (is, c.number-code.ensures) at c.reset-answer.ensures) values end represents in
+    let (may, now) = (rw (is, c.number-code.ensures) at c.reset-answer.ensures) values end
+    represents in
     (Refused TooManyResets, may, now, (c.number-code.ensures, refl))
 
 pub returns-in_default-clause-resets : goal.returns-in_default-clause-resets

@@ -1,6 +1,5 @@
 -- A field of a list, by its place.
-use Rattle.h2_joined.proofs.Names.{arith}
-use Rattle.h2_joined.specs.Stored.{stored_field}
+use Rattle.h2_joined.proofs.Names.{arith, stored_field}
 use Rattle.h2_joined.proofs.KeptPlaces.{made_at}
 use Rattle.h2_joined.proofs.events.KeptFields.get.Goals as goal
 

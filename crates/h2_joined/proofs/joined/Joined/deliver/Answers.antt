@@ -1,7 +1,6 @@
 -- By the lemmas on octets that are delivered.
 use Rattle.h2_joined.proofs.Names.{length, drop, Option, sym, ap, subst, Code, Acted, Delivers}
-use Rattle.h2_joined.proofs.Names.{MakesAct, HoldsOctets, made, PutsPipe}
-use Rattle.std.proofs.Common.{◌≡◌, ℕ, Bool, List}
+use Rattle.h2_joined.proofs.Names.{MakesAct, HoldsOctets, made, PutsPipe, ◌≡◌, ℕ, Bool, List}
 use Rattle.h2_joined.proofs.CodeDelivers.{used_by, answered_by, unfinished_by, HasFailed}
 use Rattle.h2_joined.proofs.CodeDelivers.{delivers_acts, none_delivered}
 use Rattle.h2_joined.proofs.joined.Joined.deliver.Goals.{in-Client, in-Server, in-Whole, in-Failed}

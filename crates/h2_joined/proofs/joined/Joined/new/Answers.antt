@@ -1,6 +1,5 @@
 -- Two new ends with the pipes between them, and nothing is kept of them yet.
-use Rattle.h2_joined.proofs.Names.{values_of}
-use Rattle.h2_joined.specs.Joints.{begins}
+use Rattle.h2_joined.proofs.Names.{values_of, begins}
 use Rattle.h2_spec_log.specs.declared.role.Role.TheVariants as roles
 use Rattle.h2_joined.proofs.joined.Joined.new.Goals as goal
 

@@ -1,8 +1,7 @@
 -- By the lemma on a call of the connection.
 use Rattle.h2_joined.proofs.Names.{refl, rules, SendPing, Done, answer_by, EndAnswers, end_at}
-use Rattle.h2_spec_log.specs.Acts.{IsTypedAct}
-use Rattle.hpack_text.proofs.ReadLemmas.{all_octets}
-use Rattle.h2_joined.proofs.KeptActs.{ChangesEnd, same_kept}
+use Rattle.h2_joined.proofs.Names.{IsTypedAct, all_octets}
+use Rattle.h2_joined.proofs.KeptActs.{ChangesEnd, changes_end}
 use Rattle.h2_joined.proofs.CodeCalls.{call_acts}
 use Rattle.h2_joined.proofs.joined.Joined.ping.Goals.{in-Client, in-Server}
 use Rattle.h2_joined.proofs.joined.Joined.ping.Goals as goal
@@ -17,14 +16,10 @@ returns c =
     × EndAnswers (end_at c.args.side old) act (answer_by (λ done. Done) c.match-side.done)
     (end_at c.args.side new) =
     elim c.match-side.branch [
-      | in-Client w ↦ rw (w.in-Client.is, w.self-is, w.done-is) (
-        record { other_end = refl; kept = same_kept _ _ refl; other_kept = refl },
-        w.ping.ensures,
-      )
-      | in-Server w ↦ rw (w.in-Server.is, w.self-is, w.done-is) (
-        record { other_end = refl; kept = same_kept _ _ refl; other_kept = refl },
-        w.ping-in-Server.ensures,
-      )
+      | in-Client w ↦ rw (w.in-Client.is, w.self-is, w.done-is)
+          (changes_end _ _ _ refl refl refl refl refl refl, w.ping.ensures)
+      | in-Server w ↦ rw (w.in-Server.is, w.self-is, w.done-is)
+          (changes_end _ _ _ refl refl refl refl refl refl, w.ping-in-Server.ensures)
     ] in
     call_acts c.args.side old new act _ c.done.result c.done.ensures tt
     (search rules, all_octets c.args.octets (λ i. search rules))

@@ -1,9 +1,7 @@
 -- By the lemmas on a request.
 use Rattle.h2_joined.proofs.Names.{refl, ap, Ok, Err, subst, SentMessage, message_value}
-use Rattle.h2_joined.proofs.Names.{EndRequests, Accepted, no_copy_of_a_request}
-use Rattle.h2_joined.specs.declared.act.Side.TheVariants.{Client}
-use Rattle.h2_joined.specs.Joints.{Requests}
-use Rattle.h2_joined.proofs.KeptActs.{same_kept, acts_without_copy}
+use Rattle.h2_joined.proofs.Names.{EndRequests, Accepted, no_copy_of_a_request, Client, Requests}
+use Rattle.h2_joined.proofs.KeptActs.{acts_without_copy, changes_end}
 use Rattle.h2_joined.proofs.CodeMessages.{request_is_refused, request_is_accepted}
 use Rattle.h2_joined.proofs.joined.Joined.request.Goals as goal
 
@@ -12,22 +10,13 @@ returns-in_default c =
     acts_without_copy Client c.args.self.now c.args.self.now
     (Requests (message_value c.args.message.now))
     (λ one other. no_copy_of_a_request (message_value c.args.message.now)) refl
-    (record { other_end = refl; kept = same_kept _ _ refl; other_kept = refl })
+    (changes_end _ _ _ refl refl refl refl refl refl)
 
 pub returns-then-is_err : goal.returns-then-is_err
 returns-then-is_err c =
     acts_without_copy Client c.args.self.now _ (Requests (message_value c.args.message.now))
     (λ one other. no_copy_of_a_request (message_value c.args.message.now)) refl
-    (record {
-      other_end = refl;
-      kept = record {
-        incoming = refl;
-        accepted = c.reserve.ensures.items;
-        handed = refl;
-        unfinished = refl;
-      };
-      other_kept = refl;
-    })
+    (changes_end _ _ _ c.reserve.ensures.items refl refl refl refl refl)
 
 pub returns-in-Ok-request : goal.returns-in-Ok-request
 returns-in-Ok-request c =
@@ -50,16 +39,7 @@ pub returns-in-Err : goal.returns-in-Err
 returns-in-Err c =
     request_is_refused c.args.self.now _ (message_value c.args.message.now)
     c.in-Err.field-0-0 c.in-Err.refusal
-    (record {
-      other_end = refl;
-      kept = record {
-        incoming = refl;
-        accepted = c.reserve.ensures.items;
-        handed = refl;
-        unfinished = refl;
-      };
-      other_kept = refl;
-    }) c.in-Ok.ensures.octets
+    (changes_end _ _ _ c.reserve.ensures.items refl refl refl refl refl) c.in-Ok.ensures.octets
     (subst (λ (m : SentMessage). EndRequests c.args.self.now.client.end m
     (Err (c.in-Err.field-0-0, c.in-Err.refusal)) c.request.new.self.end) c.in-Ok.ensures.given
     c.in-Err.ensures)

@@ -1,7 +1,7 @@
 -- By the lemma on a call of the connection.
 use Rattle.h2_joined.proofs.Names.{refl, rules, ResetStream, Done, answer_by, EndAnswers, end_at}
-use Rattle.h2_spec_log.specs.Acts.{IsTypedAct}
-use Rattle.h2_joined.proofs.KeptActs.{ChangesEnd, same_kept}
+use Rattle.h2_joined.proofs.Names.{IsTypedAct}
+use Rattle.h2_joined.proofs.KeptActs.{ChangesEnd, changes_end}
 use Rattle.h2_joined.proofs.CodeCalls.{call_acts}
 use Rattle.h2_joined.proofs.joined.Joined.reset.Goals.{in-Client, in-Server}
 use Rattle.h2_joined.proofs.joined.Joined.reset.Goals as goal
@@ -16,14 +16,10 @@ returns c =
     × EndAnswers (end_at c.args.side old) act (answer_by (λ done. Done) c.match-side.done)
     (end_at c.args.side new) =
     elim c.match-side.branch [
-      | in-Client w ↦ rw (w.in-Client.is, w.self-is, w.done-is) (
-        record { other_end = refl; kept = same_kept _ _ refl; other_kept = refl },
-        w.reset.ensures,
-      )
-      | in-Server w ↦ rw (w.in-Server.is, w.self-is, w.done-is) (
-        record { other_end = refl; kept = same_kept _ _ refl; other_kept = refl },
-        w.reset-in-Server.ensures,
-      )
+      | in-Client w ↦ rw (w.in-Client.is, w.self-is, w.done-is)
+          (changes_end _ _ _ refl refl refl refl refl refl, w.reset.ensures)
+      | in-Server w ↦ rw (w.in-Server.is, w.self-is, w.done-is)
+          (changes_end _ _ _ refl refl refl refl refl refl, w.reset-in-Server.ensures)
     ] in
     call_acts c.args.side old new act _ c.done.result c.done.ensures tt (search rules)
     does.0 does.1

@@ -1,8 +1,7 @@
 -- By the lemmas on a response.
 use Rattle.h2_joined.proofs.Names.{refl, ap, Ok, Err, subst, arith, SentMessage, message_value}
-use Rattle.h2_joined.proofs.Names.{EndResponds, Accepted, Responds, no_copy_of_a_response}
-use Rattle.h2_joined.specs.declared.act.Side.TheVariants.{Server}
-use Rattle.h2_joined.proofs.KeptActs.{same_kept, acts_without_copy}
+use Rattle.h2_joined.proofs.Names.{EndResponds, Accepted, Responds, no_copy_of_a_response, Server}
+use Rattle.h2_joined.proofs.KeptActs.{acts_without_copy, changes_end}
 use Rattle.h2_joined.proofs.CodeMessages.{respond_is_refused, respond_is_accepted}
 use Rattle.h2_joined.proofs.joined.Joined.respond.Goals as goal
 
@@ -11,23 +10,14 @@ returns-in_default c =
     acts_without_copy Server c.args.self.now c.args.self.now
     (Responds c.args.id (message_value c.args.message.now))
     (λ one other. no_copy_of_a_response c.args.id (message_value c.args.message.now)) refl
-    (record { other_end = refl; kept = same_kept _ _ refl; other_kept = refl })
+    (changes_end _ _ _ refl refl refl refl refl refl)
 
 pub returns-then-is_err : goal.returns-then-is_err
 returns-then-is_err c =
     acts_without_copy Server c.args.self.now _
     (Responds c.args.id (message_value c.args.message.now))
     (λ one other. no_copy_of_a_response c.args.id (message_value c.args.message.now)) refl
-    (record {
-      other_end = refl;
-      kept = record {
-        incoming = refl;
-        accepted = c.reserve.ensures.items;
-        handed = refl;
-        unfinished = refl;
-      };
-      other_kept = refl;
-    })
+    (changes_end _ _ _ c.reserve.ensures.items refl refl refl refl refl)
 
 pub returns-in-Ok-respond : goal.returns-in-Ok-respond
 returns-in-Ok-respond c =
@@ -52,16 +42,8 @@ pub returns-in-Err : goal.returns-in-Err
 returns-in-Err c =
     respond_is_refused c.args.self.now _ c.args.id (message_value c.args.message.now)
     c.in-Err.field-0-0 c.in-Err.refusal
-    (record {
-      other_end = refl;
-      kept = record {
-        incoming = refl;
-        accepted = c.reserve.ensures.items;
-        handed = refl;
-        unfinished = refl;
-      };
-      other_kept = refl;
-    }) (omega arith) c.in-Ok.ensures.octets
+    (changes_end _ _ _ c.reserve.ensures.items refl refl refl refl refl) (omega arith)
+    c.in-Ok.ensures.octets
     (subst (λ (m : SentMessage). EndResponds c.args.self.now.server.end c.args.id m
     (Err (c.in-Err.field-0-0, c.in-Err.refusal)) c.respond.new.self.end) c.in-Ok.ensures.given
     c.in-Err.ensures)

@@ -1,6 +1,6 @@
 -- By the lemmas on the fields of a list, one after another.
 use Rattle.h2_joined.proofs.Names.{◌+◌, ◌∷◌, ◌++◌, [], take, drop, ap, ◌∙◌, arith, slice_get, Field}
-use Rattle.std.proofs.Common.{◌≡◌, Some}
+use Rattle.h2_joined.proofs.Names.{◌≡◌, Some}
 use Rattle.std.proofs.lemmas.List.{take_more, drop_more}
 use Rattle.std.proofs.lemmas.Option.{slice_get_within, get_or_from_slice_get}
 use Rattle.h2_joined.proofs.KeptStore.{list_begins, list_goes_on, list_ends}

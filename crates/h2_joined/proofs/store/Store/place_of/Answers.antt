@@ -1,7 +1,6 @@
 -- By the lemmas on what an event has.
 use Rattle.h2_joined.proofs.Names.{refl, ap, Field, InterimHanded, HeadHanded, TrailersHanded}
-use Rattle.h2_joined.specs.Stored.{event_kept, Fits, IsEventPlace}
-use Rattle.std.proofs.Common.{List}
+use Rattle.h2_joined.proofs.Names.{event_kept, Fits, IsEventPlace, List}
 use Rattle.h2_joined.proofs.KeptStore.{list_event, body_event, bare_event}
 use Rattle.h2_ends.specs.declared.event.EndEvent.TheVariants as places
 use Rattle.h2_joined.proofs.store.Store.place_of.Goals as goal

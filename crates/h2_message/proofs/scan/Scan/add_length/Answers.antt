@@ -1,5 +1,5 @@
-use Rattle.h2_message.proofs.Names.{◌≡◌, refl, sym, ap, ◌∙◌, or-false}
-use Rattle.h2_message.proofs.ScanRegular.{bad-length-added, length-added, is_other}
+use Rattle.h2_message.proofs.Names.{sym, or-false}
+use Rattle.h2_message.proofs.ScanRegular.{bad-length-added, length-added}
 use Rattle.h2_message.proofs.scan.Scan.add_length.Goals as goal
 
 pub returns-in-None-default-clause-seen : goal.returns-in-None-default-clause-seen

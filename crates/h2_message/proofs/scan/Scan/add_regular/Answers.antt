@@ -1,4 +1,4 @@
-use Rattle.h2_message.proofs.Names.{◌≡◌, true, false, codes, refl, sym, ◌∙◌, bytes_eq-Decides}
+use Rattle.h2_message.proofs.Names.{true, false, codes, refl, sym, ◌∙◌, bytes_eq-Decides}
 use Rattle.std.proofs.lemmas.Bool.Decides.{same_from_decides}
 use Rattle.h2_message.proofs.ScanPseudo.{compared}
 use Rattle.h2_message.proofs.ScanRegular.{regular-length, regular-connection, regular-te}

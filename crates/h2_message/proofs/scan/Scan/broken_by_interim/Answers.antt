@@ -1,4 +1,4 @@
-use Rattle.h2_message.proofs.Names.{not, ◌||◌, ◌∙◌, has_bad_status, is_interim, interim_rules}
+use Rattle.h2_message.proofs.Names.{not, ◌||◌, has_bad_status, is_interim, interim_rules}
 use Rattle.h2_message.proofs.Names.{head_rules}
 use Rattle.h2_message.proofs.VerdictRules.{not-twice}
 use Rattle.h2_message.proofs.scan.Scan.broken_by_interim.Goals as goal

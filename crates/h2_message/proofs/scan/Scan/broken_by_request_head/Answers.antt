@@ -1,4 +1,4 @@
-use Rattle.h2_message.proofs.Names.{◌∙◌, request_head_rules, head_rules}
+use Rattle.h2_message.proofs.Names.{request_head_rules, head_rules}
 use Rattle.h2_message.proofs.scan.Scan.broken_by_request_head.Goals as goal
 
 pub returns : goal.returns

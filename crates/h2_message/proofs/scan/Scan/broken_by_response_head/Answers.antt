@@ -1,4 +1,4 @@
-use Rattle.h2_message.proofs.Names.{◌∙◌, response_head_rules, head_rules}
+use Rattle.h2_message.proofs.Names.{response_head_rules, head_rules}
 use Rattle.h2_message.proofs.scan.Scan.broken_by_response_head.Goals as goal
 
 pub returns : goal.returns

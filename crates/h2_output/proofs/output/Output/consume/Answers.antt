@@ -20,7 +20,14 @@ returns-clause-waiting c =
       | in-Some w ↦
           let part : last ≡ drop w.in-Some.last.given w.in-Some.last.octets =
           rw w.in-Some.is refl in
-          rw (w.self-inside-is, w.take_away-in-Some.ensures.waiting, first.waiting, waiting, left, part) refl
+          rw (
+            w.self-inside-is,
+            w.take_away-in-Some.ensures.waiting,
+            first.waiting,
+            waiting,
+            left,
+            part,
+          ) refl
       | in_default w ↦
           let none : last ≡ [] = rw w.in_default.is refl in
           rw (w.self-inside-is, first.waiting, waiting, left, none, drop-nil) refl

@@ -15,4 +15,5 @@ returns-in-None-2 c =
     let t = c.self.inside in
     sym (rw (← c.self.view_is)
     (nothing_kept t.send_initial t.recv_initial c.args.id t.active.entries t.resets.keys
-    (sym (reset_test c.args.id t.resets.keys) ∙ sym c.if-contains.ensures) (sym (rw (← c.self.view_is) at c.in-None-2.ensures))))
+    (sym (reset_test c.args.id t.resets.keys) ∙ sym c.if-contains.ensures) (sym (rw (←
+    c.self.view_is) at c.in-None-2.ensures))))

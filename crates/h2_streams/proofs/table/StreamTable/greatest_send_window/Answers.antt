@@ -15,7 +15,8 @@ returns c = λ initial.
     let t = c.self.inside in
     let offset = c.in_ok-offset.offset in
     let near : is_far_offset offset ≡ false =
-    greatest_near t.active.entries t.resets.keys offset c.self.invariant.well c.in_ok-offset.ensures in
+    greatest_near t.active.entries t.resets.keys offset c.self.invariant.well
+    c.in_ok-offset.ensures in
     let small : t.send_initial < 2 ^ 32 = search rules in
     rw (← c.self.view_is, c.from.ensures, window_is offset t.send_initial near small)
     (above_same t.send_initial t.recv_initial initial t.active.entries t.resets.keys (Some offset)

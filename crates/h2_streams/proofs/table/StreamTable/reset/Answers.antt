@@ -1,7 +1,7 @@
 use Rattle.h2_streams.proofs.Names.{ap, sym, ◌∙◌, is_reset}
 use Rattle.std.proofs.lemmas.Bool.{not-false}
-use Rattle.h2_streams.proofs.TableSteps.{table_with, streams_reset, gone_already}
-use Rattle.h2_streams.proofs.TableSteps.{reset_test, resets_more, well_reset}
+use Rattle.h2_streams.proofs.TableSteps.{table_with, streams_reset, gone_already, reset_test}
+use Rattle.h2_streams.proofs.TableSteps.{resets_more, well_reset}
 use Rattle.h2_streams.proofs.MostWindows.{most_closed}
 use Rattle.std.proofs.Common.{not}
 use Rattle.h2_streams.proofs.table.StreamTable.reset.Goals as goal

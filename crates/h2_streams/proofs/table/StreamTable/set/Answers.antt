@@ -37,7 +37,8 @@ invariant_of-self c =
                 c.self.invariant.well ((holds.3 here.1).0) here.0 c.kept-kept.ensures.near;
             most = most_set c.args.id c.kept-kept.result t.active.entries
                 (c.get_mut.follows.lender c.kept-kept.result).entries t.send_most
-                c.max-self-inside.result c.max-self-inside.ensures.value c.self.invariant.most ((holds.3 here.1).0)
+                c.max-self-inside.result c.max-self-inside.ensures.value c.self.invariant.most
+                ((holds.3 here.1).0)
                 c.kept-kept.ensures.near;
           })
       | in_default w ↦

@@ -109,7 +109,8 @@ returns-in-Some-clause-checked c = λ code faulty.
     (read_head old.octets.items c.deref.result.now c.args.piece.now _ _ _ c.len-kept.result
     c.args.start c.head-head.result (omega (arith, c.len-kept.ensures, old.octets.ok.0))
     c.requires.starts.few (omega (arith, c.if-following-lacking.false)) c.deref.ensures.value
-    c.copy_from_slice.ensures.after c.copy_from_slice-2.ensures.after c.head-head.ensures.value).1 in
+    c.copy_from_slice.ensures.after c.copy_from_slice-2.ensures.after c.head-head.ensures.value).1
+    in
     let reported : head_fault c.head-head.result old.limit ≡ Some c.in-Some.code =
     sym c.head_fault.ensures.value ∙ c.in-Some.is in
     let found : head_fault c.head-head.result old.limit ≡ Some code =
@@ -124,7 +125,8 @@ returns-clause-checked c = λ code faulty.
     (read_head old.octets.items c.deref.result.now c.args.piece.now _ _ _ c.len-kept.result
     c.args.start c.head-head.result (omega (arith, c.len-kept.ensures, old.octets.ok.0))
     c.requires.starts.few (omega (arith, c.if-following-lacking.false)) c.deref.ensures.value
-    c.copy_from_slice.ensures.after c.copy_from_slice-2.ensures.after c.head-head.ensures.value).1 in
+    c.copy_from_slice.ensures.after c.copy_from_slice-2.ensures.after c.head-head.ensures.value).1
+    in
     let found : head_fault c.head-head.result old.limit ≡ Some code =
     ap (λ (head : Head). head_fault head old.limit) is_head ∙ faulty.faulty in
     none_some code (sym (sym c.head_fault.ensures.value ∙ c.in_default.is) ∙ found)
@@ -136,5 +138,6 @@ returns-clause-lent c = λ none nine enough.
     (read_head old.octets.items c.deref.result.now c.args.piece.now _ _ _ c.len-kept.result
     c.args.start c.head-head.result (omega (arith, c.len-kept.ensures, old.octets.ok.0))
     c.requires.starts.few (omega (arith, c.if-following-lacking.false)) c.deref.ensures.value
-    c.copy_from_slice.ensures.after c.copy_from_slice-2.ensures.after c.head-head.ensures.value).1 in
+    c.copy_from_slice.ensures.after c.copy_from_slice-2.ensures.after c.head-head.ensures.value).1
+    in
     c.take_payload.ensures.lent none (rw (is_head, none) enough)

@@ -1,5 +1,4 @@
 use Rattle.hpack.proofs.Names.{take, false, sym, subst, ◌∙◌, refl, err_from_is_err_and, Field, Step}
-use Rattle.hpack.proofs.Names.{IsIndex, IsStep}
 use Rattle.hpack.proofs.FieldListLemmas.{read_alone}
 use Rattle.hpack.proofs.PrefixLemmas.{octets_after, split_at_count, fault_moves}
 use Rattle.hpack.proofs.StepLemmas.{index_first, index_step, no_index_step}

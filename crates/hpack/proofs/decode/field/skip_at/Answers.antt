@@ -1,4 +1,4 @@
-use Rattle.hpack.proofs.Names.{take, false, refl, err_from_is_err_and, Field, IsIndex, IsStep}
+use Rattle.hpack.proofs.Names.{take, false, refl, err_from_is_err_and, Field}
 use Rattle.hpack.proofs.PrefixLemmas.{octets_after, split_at_count, fault_moves}
 use Rattle.hpack.proofs.StepLemmas.{index_first, index_step, no_index_step}
 use Rattle.hpack.proofs.decode.field.skip_at.Goals as goal

@@ -12,3 +12,8 @@ returns-then-is_too_large-clause-ok c =
       owned_too_large_stays builder.list builder.remaining h.0
           (c.is_too_large.ensures c.if-is_too_large.true),
     )) c.skip_at.ensures.ok
+
+pub returns-clause-ok : goal.returns-clause-ok
+returns-clause-ok c =
+    let read = c.in_ok-field.ensures.ok in
+    (c.in_ok-field.field, read.0, read.1, c.in_ok-push.ensures.ok)

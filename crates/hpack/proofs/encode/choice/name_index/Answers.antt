@@ -1,4 +1,4 @@
-use Rattle.hpack.proofs.Names.{arith, Name, is_sought, represented}
+use Rattle.hpack.proofs.Names.{arith}
 use Rattle.hpack.proofs.ChoiceLemmas.{least_static, least_dynamic, least_small}
 use Rattle.hpack.proofs.encode.choice.name_index.Goals as goal
 

@@ -1,10 +1,11 @@
 -- The value of the first field with a name, field by field.
-use Rattle.h2_engines.proofs.Names.{◌≡◌, ℕ, ◌+◌, ◌≤◌, Bool, true, false, List, [], ◌∷◌, length}
-use Rattle.h2_engines.proofs.Names.{drop, Some, ap, ◌∙◌, slice_get, bytes_eq, drop_all}
-use Rattle.h2_engines.proofs.Names.{slice_get_within, get_or_from_slice_get, Field}
+use Rattle.std.proofs.Common.{◌≡◌, ℕ, ◌+◌, ◌≤◌, Bool, true, false, List, [], ◌∷◌, length, drop, Some}
+use Rattle.std.proofs.Common.{ap, ◌∙◌, if◌then◌else◌, slice_get}
+use Rattle.std.specs.Str.{bytes_eq}
+use Rattle.std.proofs.lemmas.List.{drop_more, drop_all}
+use Rattle.std.proofs.lemmas.Option.{slice_get_within, get_or_from_slice_get}
+use Rattle.hpack.specs.declared.types.field.Field.{Field}
 use Rattle.h2_message.specs.Fields.{value_or_nothing, is_named, value_of, or_nothing}
-use Rattle.std.proofs.Common.{if◌then◌else◌}
-use Rattle.std.proofs.lemmas.List.{drop_more}
 
 -- The next field is the first of those that are left.
 left_from : (fields : List Field) (place : ℕ) (field : Field)

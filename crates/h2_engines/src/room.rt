@@ -1,24 +1,9 @@
-//! Copies of what is lent, room for input, and what stands for a link where there is none.
+//! Room for input, and what stands for a link where there is none.
 
 ghost use Rattle.std.specs.Prelude.{◌≡◌, IfOk, IfErr, length};
 
-use h2_ends::{Field, FieldList};
 use h2_link::{LinkError, MemoryLink};
-use std::alloc::{AllocError, Global};
-
-/// A copy of a list of fields.
-pub(crate) fn copy_list(alloc: Global, list: &FieldList) -> Result<Vec<Field>, AllocError>
-    ensures { IfOk result (λ copy. copy.items ≡ list.now) }
-{
-    let mut copy = Vec::new(alloc);
-    for place in 0..list.len() {
-        let Some(field) = list.get(place) else {
-            unreachable!()
-        };
-        copy.push(Field::copy_of(alloc, field.name, field.value, field.sensitive)?)?;
-    }
-    Ok(copy)
-}
+use std::alloc::Global;
 
 /// How many octets are read at a time, at most.
 const PIECE: usize = 16_384;
