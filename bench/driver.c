@@ -4,6 +4,8 @@
  * driver serve CLIENT PIECE [BODY]
  * serves what a client sends, each answer with a body of BODY octets (1,000), and prints how many
  * answers it had and the octets of the output.
+ * driver whole CLIENT [BODY] | parts CLIENT [BODY]
+ * serves it with a server of messages, whose bodies are given whole or in parts.
  * driver server CLIENT
  * serves it with the README's server, and prints how many octets of output it had.
  * driver blocks LISTS | wire BLOCKS
@@ -76,6 +78,12 @@ int main(int argc, char **argv) {
   if (!strcmp(argv[1], "server")) {
     failed = measure_server(octets, n, &counts);
     printf("%llu\n", (unsigned long long)counts.octets);
+    return failed;
+  }
+  if (!strcmp(argv[1], "whole") || !strcmp(argv[1], "parts")) {
+    failed = measure_answers(octets, n, argc > 3 ? (size_t)atol(argv[3]) : 16384,
+                             !strcmp(argv[1], "parts"), &counts);
+    printf("%llu %llu\n", (unsigned long long)counts.units, (unsigned long long)counts.octets);
     return failed;
   }
   if (!strcmp(argv[1], "blocks")) return write_blocks(octets, n);

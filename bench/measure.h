@@ -27,6 +27,10 @@ int measure_cut(const uint8_t *octets, size_t n, size_t piece, uint32_t rounds,
  * yet, and that all octets were served. */
 enum { MARK = 0xbe1c0e };
 int measure_serve(const uint8_t *octets, size_t n, size_t piece, size_t body, struct counts *out);
+/* Serves a client's octets with a server of messages: each request is answered with a body of so many
+ * octets, whole, or, where parts isn't 0, in parts of 16,384. */
+int measure_answers(const uint8_t *octets, size_t n, size_t body, uint32_t parts,
+                    struct counts *out);
 /* Serves a client's octets with the README's server, whose answers are smaller. No units. */
 int measure_server(const uint8_t *octets, size_t n, struct counts *out);
 

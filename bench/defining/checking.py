@@ -186,7 +186,7 @@ class Checker:
         numbers = set(other.accepted) | {one.id for one in half.all_handed if type(one) is not Passed}
         for number in numbers:
             parts = said.parts_heard(number, half.all_handed)
-            whole = said.parts_said(said.message_for(number, accepted))
+            whole = said.parts_said(said.said_for(number, accepted))
             self.check("IsPrefixOfParts", said.is_prefix_of_parts(parts, whole), half.side, number)
 
     def quiet(self, joined):
@@ -199,7 +199,7 @@ class Checker:
             for number in half.accepted:
                 if not joined.was_disturbed(number):
                     parts = said.parts_heard(number, other.all_handed)
-                    whole = said.parts_said(said.message_for(number, end.accepted))
+                    whole = said.parts_said(said.said_for(number, end.accepted))
                     self.check("parts_heard is whole", parts == whole, side, number)
 
     def settled(self, joined):

@@ -291,9 +291,17 @@ def trailers_tokens(trailers):
     return [] if trailers is None else [fields_token(trailers, True)]
 
 
-def message_tokens(message):
-    return [fields_token(message.head, is_head_alone(message)), *message.body, *trailers_tokens(message.trailers),
-            END]
+def is_ended_by_head(message):
+    return message.form == "whole" and is_head_alone(message)
+
+
+def given_end(form):
+    return [] if form == "begun" else [END]
+
+
+def said_tokens(message):
+    return [fields_token(message.head, is_ended_by_head(message)), *message.body, *trailers_tokens(message.trailers),
+            *given_end(message.form)]
 
 
 # h2_ends/specs/MessageTokens.antt
@@ -311,12 +319,17 @@ def trailers_listed(trailers):
     return [] if trailers is None else [list_token("Trailers", trailers)]
 
 
-def parts_of_message(message):
-    return [list_token("Head", message.head), *message.body, *trailers_listed(message.trailers), END]
+def given_last(form):
+    return [] if form == "begun" else [END]
+
+
+def parts_of_said(message):
+    return [list_token("Head", message.head), *message.body, *trailers_listed(message.trailers),
+            *given_last(message.form)]
 
 
 def parts_said(message):
-    return [] if message is None else parts_of_message(message)
+    return [] if message is None else parts_of_said(message)
 
 
 def parts_heard_in(i, handed):
@@ -344,16 +357,16 @@ def is_prefix_of_parts(parts, whole):
 
 
 # h2_ends/specs/Ends.antt and EndCalls.antt, h2_laws_pair/specs/Quiet.antt. An end has `log`, `accepted` (pairs of a
-# stream and a message) and `handed`.
+# stream and a message, which knows how it was given) and `handed`.
 
 
-def message_for(i, accepted):
+def said_for(i, accepted):
     return next((message for id, message in accepted if id == i), None)
 
 
 def tokens_waiting(end, i):
-    message = message_for(i, end.accepted)
-    said = [] if message is None else message_tokens(message)
+    message = said_for(i, end.accepted)
+    said = [] if message is None else said_tokens(message)
     return said[len(tokens_sent(i, end.log.calls)):]
 
 

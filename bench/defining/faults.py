@@ -7,7 +7,7 @@ from joined import Half
 from model import Fault, Model
 
 SEND_DATA, CHANGE, WRITE, NEXT_LIVE = calls.CALLS["data"], calls.CALLS["change"], Model.write, Model.next_live
-HAND_OUT, PUMP_STREAM, TAKE_FRAME = Half.hand_out, Half.pump_stream, receive.take_frame
+HAND_OUT, PUMP_STREAM, TAKE_FRAME, BODY = Half.hand_out, Half.pump_stream, receive.take_frame, Half.body
 
 
 def limit_of_newest(end, frame):
@@ -72,6 +72,21 @@ def pump_of_first_octets(half, number):
     return PUMP_STREAM(half, number)
 
 
+def all_of_a_part(half, number, octets, ends):
+    """All octets of a part count as given, sent or not."""
+    count = BODY(half, number, octets, ends)
+    half.accepted[number].body += octets[count:]
+    return count
+
+
+def end_of_a_cut_part(half, number, octets, ends):
+    """The end of a part counts as given where only some of its octets were sent."""
+    count = BODY(half, number, octets, ends)
+    if ends:
+        half.end_message(number)
+    return count
+
+
 def trailers_as_head(half, event):
     """Each field block is handed out as a head."""
     if event is not None:
@@ -93,7 +108,8 @@ FAULTS = [
     ("conn", (receive, "take_window"), window_of_new_streams),
     ("conn", (calls.CALLS, "data"), data_above_windows), ("pair", (Model, "write"), data_reversed),
     ("pair", (Half, "pump"), pump_from_the_highest), ("pair", (Half, "pump"), pump_of_one_stream),
-    ("pair", (Half, "pump_stream"), pump_of_first_octets), ("pair", (Half, "hand_out"), trailers_as_head),
+    ("pair", (Half, "pump_stream"), pump_of_first_octets), ("pair", (Half, "body"), all_of_a_part),
+    ("pair", (Half, "body"), end_of_a_cut_part), ("pair", (Half, "hand_out"), trailers_as_head),
     ("pair", (Half, "hand_out"), last_octet_lost),
 ]
 

@@ -223,11 +223,12 @@ def parts_newest_first(i, handed):
 
 
 def parts_with_trailers_first(message):
-    return [said.list_token("Head", message.head), *said.trailers_listed(message.trailers), *message.body, said.END]
+    return [said.list_token("Head", message.head), *said.trailers_listed(message.trailers), *message.body,
+            *said.given_last(message.form)]
 
 
 def parts_of_two_ends(message):
-    return [*right("parts_of_message")(message), said.END]
+    return [*right("parts_of_said")(message), said.END]
 
 
 def parts_said_without_body(message):
@@ -237,6 +238,14 @@ def parts_said_without_body(message):
 def parts_said_without_trailers(message):
     trailers = [] if message is None else said.trailers_listed(message.trailers)
     return [part for part in right("parts_said")(message) if part not in trailers]
+
+
+def end_of_each(form):
+    return [said.END]
+
+
+def end_of_none(form):
+    return []
 
 
 def prefix_the_other_way(parts, whole):
@@ -255,12 +264,12 @@ def message_of_newest(i, accepted):
 
 
 def waits_from_the_start(end, i):
-    message = said.message_for(i, end.accepted)
-    return [] if message is None else said.message_tokens(message)
+    message = said.said_for(i, end.accepted)
+    return [] if message is None else said.said_tokens(message)
 
 
 def body_waits_from_the_start(end, id, octets, ends):
-    message = said.message_for(id, end.accepted)
+    message = said.said_for(id, end.accepted)
     return octets == message.body and ends == (message.trailers is None)
 
 
@@ -368,10 +377,11 @@ MUTANTS = [
     ("pair", "tokens_of_call", all_octets_of_a_call), ("pair", "tokens_of_call", no_end_of_a_head_alone),
     ("pair", "parts_heard_in", head_as_interim), ("pair", "parts_heard_in", trailers_as_head),
     ("pair", "parts_heard_in", parts_without_an_end), ("pair", "parts_heard", parts_newest_first),
-    ("pair", "parts_of_message", parts_with_trailers_first), ("pair", "parts_of_message", parts_of_two_ends),
+    ("pair", "parts_of_said", parts_with_trailers_first), ("pair", "parts_of_said", parts_of_two_ends),
+    ("pair", "given_last", end_of_each), ("pair", "given_last", end_of_none), ("pair", "given_end", end_of_each),
     ("pair", "parts_said", parts_said_without_body), ("pair", "parts_said", parts_said_without_trailers),
     ("pair", "is_prefix_of_parts", prefix_the_other_way), ("pair", "is_prefix_of_parts", prefix_that_is_whole),
-    ("pair", "message_for", message_of_newest), ("pair", "tokens_waiting", waits_from_the_start),
+    ("pair", "said_for", message_of_newest), ("pair", "tokens_waiting", waits_from_the_start),
     ("pair", "body_waits", body_waits_from_the_start), ("pair", "body_waits", body_waits_and_always_ends),
     ("pair", "trailers_wait", trailers_wait_unended), ("pair", "trailers_wait", trailers_wait_alone),
     ("pair", "is_next", next_is_the_highest), ("pair", "is_next", next_where_none_waits_below),

@@ -22,6 +22,7 @@ class Half:
         self.unparsed = b"" if side == "client" else None  # None until the preface has come
         self.came = b""
         self.accepted = {}  # messages that were accepted, by stream
+        self.open = {}  # of those that more may follow of, how many octets their heads say are left, or None
         self.waiting = {}  # of these, the bodies and trailers that were not sent yet
         self.handed = []  # lines of what was handed out and not shown yet
         self.count = 0  # how many events were handed out
@@ -41,8 +42,9 @@ class Half:
         return answer
 
     def forget_over(self):
-        """What waits on a stream that is over is forgotten."""
+        """What waits on a stream that is over is forgotten, and that a message is open there."""
         self.waiting = {number: left for number, left in self.waiting.items() if number in self.end.streams}
+        self.open = {number: left for number, left in self.open.items() if number in self.end.streams}
 
     def keep(self, number, message):
         self.accepted[number] = message
@@ -56,17 +58,72 @@ class Half:
         self.keep(number, message)
         return number
 
-    def respond(self, number, message):
+    def has_no_body(self, number, message):
+        """Whether the response to the request on a stream has none, where one may be given now."""
         if number not in self.heads or number not in self.end.streams:
             raise EndRefused("E3 NotAsked")
         if number in self.accepted:
             raise EndRefused("E4 Answered")
-        is_bodiless = message.is_bodiless or self.requests[number][0][1] == b"HEAD"
+        return message.is_bodiless or self.requests[number][0][1] == b"HEAD"
+
+    def respond(self, number, message):
+        is_bodiless = self.has_no_body(number, message)
         broken = message.broken or ("M11 BadLength" if message.body and is_bodiless else None)
         if broken:
             raise EndRefused(f"E1 BadMessage: {broken}")
         self.call("fields", number, message.head, message.is_alone)
         self.keep(number, message)
+
+    # Messages that are given in parts.
+
+    def begin(self, message):
+        if message.broken:
+            raise EndRefused(f"E1 BadMessage: {message.broken}")
+        number = self.call("open", message.head, False)
+        self.accepted[number], self.open[number] = message, message.length
+        return number
+
+    def begin_response(self, number, message):
+        is_bodiless = self.has_no_body(number, message)
+        if message.broken:
+            raise EndRefused(f"E1 BadMessage: {message.broken}")
+        self.call("fields", number, message.head, False)
+        self.accepted[number], self.open[number] = message, 0 if is_bodiless else message.length
+
+    def left_of(self, number):
+        """How many octets are left of a body, or None where its head says nothing."""
+        if number not in self.open:
+            raise EndRefused("E3 NotAsked")
+        return self.open[number]
+
+    def body(self, number, octets, ends):
+        """As many octets are sent as windows let through; the end counts where all of them are."""
+        left = self.left_of(number)
+        if left is not None and (len(octets) > left or (ends and len(octets) < left)):
+            raise EndRefused("E1 BadMessage: M11 BadLength")
+        count = self.call("data", number, octets, ends)
+        message = self.accepted[number]
+        message.body += octets[:count]
+        if ends and count == len(octets):
+            self.end_message(number)
+        elif left is not None:
+            self.open[number] = left - count
+        return count
+
+    def trailers(self, number, trailers, broken):
+        left = self.left_of(number)
+        broken = broken or ("M11 BadLength" if left else None)
+        if broken:
+            raise EndRefused(f"E1 BadMessage: {broken}")
+        self.call("fields", number, trailers, True)
+        self.accepted[number].trailers = trailers
+        self.end_message(number)
+
+    def end_message(self, number):
+        self.accepted[number].form = "ended"
+        self.open.pop(number, None)
+
+    # What was given whole.
 
     def pump(self):
         """Sends what waits: streams in rising order, each as far as its windows go."""
@@ -181,7 +238,7 @@ class Joined:
         """Makes an act; EndRefused where it is refused."""
         half = self.half(side)
         match name:
-            case "request" | "respond" | "pump" | "release_all":
+            case "request" | "respond" | "begin" | "begin_response" | "body" | "trailers" | "pump" | "release_all":
                 return getattr(half, name)(*words)
             case "move":
                 octets = half.put_out(*words)

@@ -13,6 +13,7 @@ def fields(text):
 GET = ":method: GET | :scheme: http"
 TRAILERS = fields("x: y | authorization: secret")
 TYPE = "content-type: text/plain"
+TOO_LONG = (b"long", b"z" * 65_600, False)
 
 # Heads, each with the rule that it breaks (docs/PROTOCOL.md, "Messages").
 REQUESTS = [
@@ -48,13 +49,24 @@ RESPONSES = [
     (fields(":status: 200 | te: gzip"), "M10 ConnectionField"),
     (fields(":status: 200 | content-length: 9x"), "M11 BadLength"),
 ]
+# Trailers that end a message which is given in parts, each with the rule that it breaks; the first ones are good.
+ENDINGS = [
+    (TRAILERS, None),
+    ([], None),
+    (fields("content-length: x"), None),
+    (fields("X: y"), "M1 BadName"),
+    (fields("x:  y"), "M2 BadValue"),
+    (fields("x: y | :path: /"), "M3 PseudoPlace"),
+    (fields("te: gzip"), "M10 ConnectionField"),
+]
+GOOD_ENDINGS = 3
 
 
 class Message:
-    """A message, and the rule that its head breaks."""
+    """A message, and the rule that its head breaks. It is given whole, or begun and then ended."""
 
-    def __init__(self, head, broken, body=b"", trailers=None):
-        self.head, self.broken, self.body, self.trailers = head, broken, body, trailers
+    def __init__(self, head, broken, body=b"", trailers=None, form="whole"):
+        self.head, self.broken, self.body, self.trailers, self.form = head, broken, body, trailers, form
 
     @property
     def is_alone(self):
@@ -66,20 +78,45 @@ class Message:
         """A request with HEAD, or a response 204, has a response without a body."""
         return self.head[0][1] in (b"HEAD", b"204")
 
+    @property
+    def is_open(self):
+        """Whether more of it may follow."""
+        return self.form == "begun"
+
+    @property
+    def length(self):
+        """How long its head says that its body is, or None."""
+        return next((int(value) for name, value, _ in self.head if name == b"content-length"), None)
+
     def text(self):
         parts = [fields_text(self.head)]
         if self.body:
             parts.append("body " + octets_text(self.body))
         if self.trailers is not None:
             parts.append("trailers " + fields_text(self.trailers))
+        if self.is_open:
+            parts.append("open")
         return " ; ".join(parts)
 
 
+def any_list(lists, good, random):
+    """One of the good lists, or any, and the rule that it breaks; one of a hundred is too long."""
+    chosen, broken = random.one_of(lists[:good] if random.percent(70) else lists)
+    return chosen + ([TOO_LONG] if random.percent(1) else []), broken
+
+
+def any_begun(heads, is_heavy, random):
+    """A message of which the head is given. Half of the heads say a length, and some of them two."""
+    head, broken = any_list(heads, GOOD, random)
+    lengths = [0, 4, 66_000, 140_000] if is_heavy else [0, 1, 4, 4, 20]
+    said = [random.one_of(lengths) for _ in range(random.one_of([0, 0, 0, 1, 1, 2]))]
+    head = head + [(b"content-length", str(length).encode(), False) for length in said]
+    return Message(head, broken or ("M11 BadLength" if len(set(said)) > 1 else None), form="begun")
+
+
 def any_message(heads, is_heavy, random):
-    """A head is one of the good ones, or any; one of a hundred lists is too long."""
-    head, broken = random.one_of(heads[:GOOD] if random.percent(70) else heads)
-    if random.percent(1):
-        head = head + [(b"long", b"z" * 65_600, False)]
+    """A message that is given whole."""
+    head, broken = any_list(heads, GOOD, random)
     length = random.one_of([0, 4, 66_000, 66_000] if is_heavy else [0, 0, 1, 4, 20])
     body = counted(length, random.below(251))
     return Message(head, broken, body, TRAILERS if random.percent(30) else None)

@@ -4,11 +4,13 @@ Each act has the answer that the model expects, what is handed out, and what is 
 from choose import FRAME_SIZES
 from coverage import Marks
 from joined import EndRefused, Joined
-from messages import REQUESTS, RESPONSES, any_message
+from messages import ENDINGS, GOOD_ENDINGS, REQUESTS, RESPONSES, TRAILERS, any_begun, any_list, any_message
 from model import FIRST_FRAME, Config
+from text import counted, fields_text, last_text
 
-KINDS = {"request": 90, "respond": 110, "pump": 110, "move": 270, "deliver": 270, "release_all": 60, "reset": 20,
-         "ping": 30, "go_away": 12, "change": 34}
+KINDS = {"request": 70, "respond": 80, "begin": 60, "begin_response": 70, "body": 170, "trailers": 30, "pump": 100,
+         "move": 270, "deliver": 270, "release_all": 60, "reset": 20, "ping": 30, "go_away": 12, "change": 34}
+PARTS = ("body", "trailers")  # acts of a message that was begun
 ALL = 1 << 40
 COUNTS = [0, 1, 1, 9, 50, 300, ALL, ALL, ALL, ALL, ALL, ALL]
 # What both ends do in a round: each moves all, returns credit, sends what it can and moves that.
@@ -57,16 +59,53 @@ class Play:
             return random.one_of(list(client.accepted))
         return random.below(20)
 
+    def part_stream(self, side):
+        """One on which a message is open, or another one."""
+        numbers = list(self.joined.half(side).open)
+        return self.random.one_of(numbers) if numbers and self.random.percent(85) else self.stream()
+
+    def any_part(self, side, number):
+        """Octets of a body, often no more than its head says, and whether they end it."""
+        random, half = self.random, self.joined.half(side)
+        length = random.one_of([0, 4, 20_000, 66_000] if self.is_heavy else [0, 1, 4, 20, 20])
+        left = half.open.get(number)
+        if left is not None and random.percent(80):
+            length = min(length, left)
+        return self.next_octets(side, number, length), random.percent(70 if length == left else 25)
+
+    def next_octets(self, side, number, count):
+        """Octets that count on from those that a body has."""
+        half = self.joined.half(side)
+        before = half.accepted[number].body if number in half.open else b""
+        return counted(count, (before[-1] + 1) % 251 if before else self.random.below(251))
+
+    def any_name(self):
+        """Where no message is open one is begun, mostly, in place of a part."""
+        name = self.random.weighted(KINDS)
+        client, server = self.joined.halves.values()
+        if name not in PARTS or client.open or server.open or self.random.percent(10):
+            return name
+        return "begin_response" if server.heads - server.accepted.keys() else "begin"
+
     def any_act(self):
         """An act: its name, its end, and what else it has."""
         random = self.random
-        name = random.weighted(KINDS)
+        name = self.any_name()
         side = self.side_of(name)
         match name:
             case "request":
                 return name, side, any_message(REQUESTS, self.is_heavy, random)
             case "respond":
                 return name, side, self.stream(), any_message(RESPONSES, self.is_heavy, random)
+            case "begin":
+                return name, side, any_begun(REQUESTS, self.is_heavy, random)
+            case "begin_response":
+                return name, side, self.stream(), any_begun(RESPONSES, self.is_heavy, random)
+            case "body":
+                number = self.part_stream(side)
+                return name, side, number, *self.any_part(side, number)
+            case "trailers":
+                return name, side, self.part_stream(side), *any_list(ENDINGS, GOOD_ENDINGS, random)
             case "move" | "deliver":
                 return name, side, random.one_of(COUNTS)
             case "reset":
@@ -79,10 +118,13 @@ class Play:
 
     def side_of(self, name):
         random, joined = self.random, self.joined
-        if name == "request":
+        if name in ("request", "begin"):
             return "client"
-        if name == "respond":
+        if name in ("respond", "begin_response"):
             return "server"
+        open_at = [side for side, half in joined.halves.items() if half.open]
+        if name in PARTS and open_at and random.percent(90):
+            return random.one_of(open_at)
         if name == "deliver":
             if len(joined.half("server").pipe) > len(joined.half("client").pipe):
                 return "server"
@@ -102,15 +144,25 @@ class Play:
             self.done.add(name)
             if name == "deliver" and words == (1,) and answer == 1:
                 self.marks.reach("a list with one octet delivered")
+            if name == "body":
+                self.note_part(*words[1:], answer)
             answer = "done" if answer is None else str(answer)
         self.command(act_text(name, side, words), [answer])
         self.show_handed()
 
     def note_refusal(self, name, refused):
         self.marks.reach(f"{name} refused")
+        if name in PARTS:
+            self.marks.reach(f"{name} refused by {refused.split()[-2]}")
         self.marks.reach(refused.split()[0])
         if ": " in refused:
             self.marks.reach(refused.split(": ")[1].split()[0])
+
+    def note_part(self, octets, ends, count):
+        if count < len(octets):
+            self.marks.reach("a part that is cut")
+        if ends and not octets:
+            self.marks.reach("an end alone")
 
     def show_handed(self):
         for side, half in self.joined.halves.items():
@@ -142,7 +194,8 @@ class Play:
         raise AssertionError("never quiet")
 
     def finish(self):
-        """What was accepted was handed out whole, but for streams that were reset or not processed."""
+        """What was accepted was handed out whole, but for open messages, and streams that were reset or not
+        processed."""
         joined = self.joined
         self.command("ends", joined.lines())
         for side, half in joined.halves.items():
@@ -150,7 +203,9 @@ class Play:
             other = joined.other(side)
             for number in half.accepted:
                 is_whole = number in other.whole
-                assert is_whole or joined.was_disturbed(number), number
+                is_open = half.accepted[number].is_open
+                assert not (is_whole and is_open), number
+                assert is_whole or is_open or joined.was_disturbed(number), number
                 self.command(f"whole {other.side} {number}", ["yes" if is_whole else "no"])
         self.mark_list()
 
@@ -160,6 +215,12 @@ class Play:
                       for number, one in half.accepted.items()) for half in halves]
         if all(bodies):
             self.marks.reach("a list with bodies both ways")
+        parts = [any(one.form == "ended" and one.body and number in self.joined.other(half.side).whole
+                     for number, one in half.accepted.items()) for half in halves]
+        if all(parts):
+            self.marks.reach("a list with parts both ways")
+        if any(half.open for half in halves):
+            self.marks.reach("a list with an open message at its end")
         for act, what in (("reset", "a reset"), ("go_away", "a go_away"), ("change", "changed settings")):
             if act in self.done:
                 self.marks.reach(f"a list with {what}")
@@ -169,11 +230,30 @@ class Play:
             if mark.endswith(" handed out"):
                 self.marks.counts[mark] += count
 
+    def end_messages(self):
+        """Each message that is open has an end now: with the rest of its body, or with trailers."""
+        for side, half in self.joined.halves.items():
+            for number, left in list(half.open.items()):
+                if not left and self.random.percent(30):
+                    self.make("trailers", side, number, TRAILERS, None)
+                    continue
+                count = self.random.one_of([0, 4, 20]) if left is None else left
+                self.make("body", side, number, self.next_octets(side, number, count), True)
+
     def run(self):
-        for _ in range(self.random.below(56) + 5):
+        """Both ends are quiet in the midst of one list of two; and open messages are ended in most."""
+        random = self.random
+        count = random.below(56) + 5
+        quiet = random.below(count) if random.percent(50) else count
+        for place in range(count):
+            if place == quiet:
+                self.drain()
             self.make(*self.any_act())
             self.command("ends", self.joined.lines())
         self.drain()
+        if random.percent(70):
+            self.end_messages()
+            self.drain()
         self.finish()
 
 
@@ -184,6 +264,14 @@ def act_text(name, side, words):
             return f"request {words[0].text()}"
         case "respond":
             return f"respond {words[0]} {words[1].text()}"
+        case "begin":
+            return f"begin {fields_text(words[0].head)}"
+        case "begin_response":
+            return f"begin_response {words[0]} {fields_text(words[1].head)}"
+        case "body":
+            return f"body {side} {words[0]}{last_text(words[1])}{' end' if words[2] else ''}"
+        case "trailers":
+            return f"trailers {side} {words[0]} {fields_text(words[1])}".rstrip()
         case "move" | "deliver":
             return f"{name} {side} {'all' if words[0] == ALL else words[0]}"
         case "ping":

@@ -17,6 +17,20 @@ pub fn read_octets(alloc: Global, words: &mut Words<'_>) -> Vec<u8> {
     octets
 }
 
+/// The octets of the words that are left, as [`read_octets`] reads them, up to the word `end`, and
+/// whether that stands last. There may be no octets.
+pub fn read_part(alloc: Global, words: &mut Words<'_>) -> (Vec<u8>, bool) {
+    let mut octets = Vec::new(alloc);
+    let text = words.rest();
+    let before = if text == "end" {
+        Some("")
+    } else {
+        text.strip_suffix(" end")
+    };
+    append_octets(alloc, &mut octets, words, before.unwrap_or(text));
+    (octets, before.is_some())
+}
+
 /// Appends the octets of a text, as [`read_octets`] reads them. A fault is noted in the words.
 pub(crate) fn append_octets(
     alloc: Global,

@@ -8,6 +8,9 @@
 //!   and not shown.
 //! - `request MESSAGE`, `respond ID MESSAGE`: messages are written as [`h2_case::messages`] says.
 //!   A refused one must be returned unchanged.
+//! - `begin FIELDS`, at a server `begin ID FIELDS`: a head is sent whose body comes in parts.
+//!   Fields are written as the head of a message. `body ID OCTETS` and `body ID OCTETS end`: how
+//!   many of the octets are sent; there may be none. `trailers ID FIELDS`.
 //! - `serve each N MESSAGE`, at a client `ask each N MESSAGE`: see [`crate::crowds`].
 //! - `pump`, `release_all`, `is_quiet`, `is_full`, `is_drained`; `active`: the numbers of all
 //!   active streams, and `count active`: their number; `count out`: the number of octets of output
@@ -25,8 +28,9 @@ use crate::joined::exchange;
 use crate::side::Side;
 use h2_case::case::Case;
 use h2_case::driver::{Answer, Driver};
+use h2_case::fields::read_fields;
 use h2_case::messages::{add_message, read_message};
-use h2_case::octets::add_frames;
+use h2_case::octets::{add_frames, read_part};
 use h2_case::text::Text;
 use h2_case::words::Words;
 use h2_case_conn::acts::{read_config, read_ping};
@@ -113,6 +117,32 @@ fn respond(alloc: Global, side: &mut Side, words: &mut Words<'_>, text: &mut Tex
         Ok(()) => text.push_line("done"),
         Err(refused) => add_refused(alloc, text, given, refused),
     }
+}
+
+// Begins a message, and adds the answer.
+fn begin(alloc: Global, side: &mut Side, words: &mut Words<'_>, text: &mut Text) {
+    if side.is_server() {
+        let id = words.number();
+        let head = read_fields(alloc, words);
+        add_done(alloc, text, side.begin_response(id, &head));
+    } else {
+        let head = read_fields(alloc, words);
+        add_answer(alloc, text, side.begin_request(&head));
+    }
+}
+
+// Sends a part of a body, and adds the answer.
+fn send_body(alloc: Global, side: &mut Side, words: &mut Words<'_>, text: &mut Text) {
+    let id = words.number();
+    let (octets, ends) = read_part(alloc, words);
+    add_answer(alloc, text, side.send_body(id, &octets, ends));
+}
+
+// Sends trailers, and adds the answer.
+fn send_trailers(alloc: Global, side: &mut Side, words: &mut Words<'_>, text: &mut Text) {
+    let id = words.number();
+    let list = read_fields(alloc, words);
+    add_done(alloc, text, side.send_trailers(id, &list));
 }
 
 // Adds the numbers of the active streams, or their count.
@@ -218,6 +248,16 @@ fn answer_message(
         "serve" | "ask" => add_crowd(alloc, side, words, text),
         "pump" => add_answer(alloc, text, side.pump()),
         "release_all" => add_done(alloc, text, side.release_all()),
+        _ => answer_part(alloc, side, name, words, text),
+    }
+}
+
+// Runs a command about a message that is given in parts, or another one.
+fn answer_part(alloc: Global, side: &mut Side, name: &str, words: &mut Words<'_>, text: &mut Text) {
+    match name {
+        "begin" => begin(alloc, side, words, text),
+        "body" => send_body(alloc, side, words, text),
+        "trailers" => send_trailers(alloc, side, words, text),
         _ => answer_call(alloc, side, name, words, text),
     }
 }

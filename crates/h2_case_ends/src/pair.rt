@@ -13,6 +13,9 @@
 //!   of a request, the number of octets sent, moved or delivered, `done`, the rule by which it is
 //!   refused, `fault CODE` or `memory`. Where a refused act has changed what is seen of the ends,
 //!   that is said.
+//! - `begin FIELDS`, `begin_response ID FIELDS`, `body SIDE ID OCTETS`, `body SIDE ID OCTETS end`
+//!   and `trailers SIDE ID FIELDS`: acts of a message that is given in parts. Fields are written as
+//!   the head of a message; there may be no octets.
 //! - `settle`: both ends pump, release, move and deliver all, until they are quiet.
 //! - `quiet`: whether they are. `waits SIDE`: the number of octets of an end's queued output.
 //!   `pipes SIDE`: the number of octets on its pipe, and `piped SIDE`: those octets, as frames.
@@ -22,13 +25,15 @@
 //!   handed out, and of octets that are queued, that are on its pipe, and that it may send on the
 //!   connection, where one of these has changed since the last such command; and `quiet` where
 //!   both ends are.
-//! - `accepted SIDE`: the messages that an end has accepted, with their streams.
+//! - `accepted SIDE`: the messages that an end has accepted, with their streams; of one that was
+//!   begun, what was accepted so far, and ` ; open` where more may follow.
 //! - `handed SIDE`: what an end has handed out since the last such command: `interim ID`, `head ID`
 //!   and `trailers ID`, and a line for each field; `body ID OCTETS`; each with `end` after its
 //!   stream where the message is complete; `reset ID code=N ours` or `theirs`,
 //!   `goaway last=N code=N`, `unprocessed ID`, `acked`, and `pong OCTETS`.
 //! - `whole SIDE ID`: whether an end has handed out on a stream all of the message that the other
-//!   has accepted for it; `no prefix` where what was handed out on some stream begins no message.
+//!   has accepted for it, its end too; `no prefix` where what was handed out on some stream begins
+//!   no message. The end of one that is open was not given.
 
 mod acts;
 mod ends;

@@ -1,6 +1,8 @@
 //! A client or a server: each call is that of the one it is.
 
-use h2_ends::{Client, Config, Conn, ConnFault, EndRefusal, EndTaken, Message, Refusal, Server};
+use h2_ends::{
+    Client, Config, Conn, ConnFault, EndRefusal, EndTaken, Field, Message, Refusal, Server,
+};
 use h2_spec_log::Role;
 use std::alloc::Global;
 
@@ -72,6 +74,41 @@ impl Side {
         match self {
             Side::Client(_) => Err((message, EndRefusal::NotAsked)),
             Side::Server(server) => server.respond(id, message),
+        }
+    }
+
+    /// Begins a request. A server has no such call.
+    pub(crate) fn begin_request(&mut self, head: &[Field]) -> Result<u32, EndRefusal> {
+        match self {
+            Side::Client(client) => client.begin(head),
+            Side::Server(_) => Err(EndRefusal::NotAsked),
+        }
+    }
+
+    /// Begins a response. A client has no such call.
+    pub(crate) fn begin_response(&mut self, id: u32, head: &[Field]) -> Result<(), EndRefusal> {
+        match self {
+            Side::Client(_) => Err(EndRefusal::NotAsked),
+            Side::Server(server) => server.begin(id, head),
+        }
+    }
+
+    pub(crate) fn send_body(
+        &mut self,
+        id: u32,
+        octets: &[u8],
+        ends: bool,
+    ) -> Result<usize, EndRefusal> {
+        match self {
+            Side::Client(client) => client.send_body(id, octets, ends),
+            Side::Server(server) => server.send_body(id, octets, ends),
+        }
+    }
+
+    pub(crate) fn send_trailers(&mut self, id: u32, trailers: &[Field]) -> Result<(), EndRefusal> {
+        match self {
+            Side::Client(client) => client.send_trailers(id, trailers),
+            Side::Server(server) => server.send_trailers(id, trailers),
         }
     }
 

@@ -2,7 +2,7 @@
 use Rattle.h2_ends.proofs.Names.{◌≡◌, ℕ, List, [], ◌++◌, None, refl, sym, ap, ◌∙◌, inl, inr}
 use Rattle.h2_ends.proofs.Names.{both_ways, Role, Values, ConnRepresents, Token, End, Spans}
 use Rattle.h2_ends.proofs.Names.{EndRepresents, IsInStep, SendsInOrder, owed_inactive, tokens_sent}
-use Rattle.h2_ends.proofs.Names.{tokens_heard, message_for, parts_on, tokens_given, tokens_of_parts}
+use Rattle.h2_ends.proofs.Names.{tokens_heard, said_for, parts_on, tokens_given, tokens_of_parts}
 use Rattle.h2_ends.proofs.Names.{IsKept, new_end_log, opened}
 use Rattle.h2_spec_log.specs.LogSteps.{with_sent}
 use Rattle.h2_laws_machine.proofs.NewEnd.{new_is_active as none_active}
@@ -23,7 +23,7 @@ none_sent i = refl
 
 -- Nothing is kept of any stream, and nothing has happened on it.
 nothing_kept : (role : Role) (values : Values) (i : ℕ) → IsKept (new_end_log role values) i None
-unfolding IsKept parts_on message_for
+unfolding IsKept parts_on said_for
 nothing_kept role values i =
     record {
       unread = refl;
@@ -31,8 +31,8 @@ nothing_kept role values i =
       unsent = ap (tokens_sent i) (opened_calls role values) ∙ none_sent i;
     }
 
-pub none_given : (i : ℕ) → message_for i [] ≡ None
-unfolding message_for
+pub none_given : (i : ℕ) → said_for i [] ≡ None
+unfolding said_for
 none_given i = refl
 
 -- So all that it was given to say is said,

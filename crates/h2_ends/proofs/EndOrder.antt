@@ -6,12 +6,12 @@ use Names.{Option, Some, None, inl, inr, refl, sym, ap, ◌∙◌, append_assoc,
 use Names.{drop-append_seam, and_parts, cases_eq, eqb-true, Field, Refusal, Act, Answer, SendFields}
 use Names.{SendData, Refuse, Count, Done, Refused, Event, FieldsEvent, DataEvent, ResetEvent, Log}
 use Names.{MayAnswer, with_call, IsOver, is_number_used, TakeAnswer, MayTake, Took, Failed}
-use Names.{fields_in_use, data_in_use, log_after_take, SentMessage, Part, FieldsPart, OctetsPart}
+use Names.{fields_in_use, data_in_use, log_after_take, Said, Part, FieldsPart, OctetsPart}
 use Names.{Token, OctetToken, EndToken, tokens_of_call, tokens_of_event, tokens_heard}
 use Names.{trailers_tokens, IsPrefixOfTokens, EndLog, Passed, EndAnswer, parts_on, reads_on}
-use Names.{handed_as, tokens_of_part, tokens_handed, tokens_out, message_for, tokens_waiting}
+use Names.{handed_as, tokens_of_part, tokens_handed, tokens_out, said_for, tokens_waiting}
 use Names.{IsReadableWith, end_with_log, end_with_handed, hands_nothing, passes, hands_out}
-use Names.{refusal_fails, BodyWaits, TrailersWait, end_with_message, end_after_call, SendsInOrder}
+use Names.{refusal_fails, BodyWaits, TrailersWait, end_with_said, end_after_call, SendsInOrder}
 use Names.{HandsInOrder, end_tokens, part_of_event, tokens_given, is_none}
 use Rattle.h2_ends.specs.EndTakes.{EndMayTake, fails, refuses, runs_out_of_memory}
 use Rattle.std.proofs.Common.{map as each}
@@ -105,7 +105,7 @@ none_begins [] rest is = refl
 none_begins (token ∷ tokens) rest is = absurd (cc)
 
 pub unsaid_unsent : (end : EndLog) (i : ℕ) → SendsInOrder end i
-    → message_for i end.accepted ≡ None → tokens_out end i ≡ []
+    → said_for i end.accepted ≡ None → tokens_out end i ≡ []
 unfolding tokens_given
 unsaid_unsent end i is none =
     none_begins (tokens_out end i) is.waiting (sym (ap tokens_given none) ∙ is.prefix)
@@ -137,28 +137,28 @@ order_by_call end act answer is may next =
       hands = λ i. handed_called end act answer end.accepted i may (is.hands i);
     }
 
--- So does one that sends the head of a message, where nothing was sent on its stream before.
-pub order_by_head : (end : EndLog) (act : Act) (answer : Answer) (id : ℕ) (message : SentMessage)
+-- So does one that sends the head of what is given, where nothing was sent on its stream before.
+pub order_by_head : (end : EndLog) (act : Act) (answer : Answer) (id : ℕ) (said : Said)
     → KeepsOrder end → MayAnswer end.log act answer → tokens_out end id ≡ []
     → ((i : ℕ) → i ≢ id → tokens_of_call i act answer ≡ [])
-    → tokens_of_call id act answer ≡ head_tokens message
-    → KeepsOrder (end_with_message end act answer id message)
-order_by_head end act answer id message is may unsent others head =
-    let accepted = (id, message) ∷ end.accepted in
-    let after = end_with_message end act answer id message in
+    → tokens_of_call id act answer ≡ head_tokens said
+    → KeepsOrder (end_with_said end act answer id said)
+order_by_head end act answer id said is may unsent others head =
+    let accepted = (id, said) ∷ end.accepted in
+    let after = end_with_said end act answer id said in
     record {
       sends = λ i. elim (cases_eq i id) [
-        | inl here ↦ rw here (sent_in_order after id message
-            (accepted_here id message end.accepted)
-            (sent_first end act answer accepted id (head_tokens message) unsent head))
+        | inl here ↦ rw here (sent_in_order after id said
+            (accepted_here id said end.accepted)
+            (sent_first end act answer accepted id (head_tokens said) unsent head))
         | inr other ↦ record {
           waiting = (is.sends i).waiting;
           prefix = rw (
-            accepted_elsewhere i id message end.accepted other,
+            accepted_elsewhere i id said end.accepted other,
             call_adds_none i end.log act answer (others i other),
           ) (is.sends i).prefix;
           begun = rw (
-            accepted_elsewhere i id message end.accepted other,
+            accepted_elsewhere i id said end.accepted other,
             call_adds_none i end.log act answer (others i other),
           ) (is.sends i).begun;
         }

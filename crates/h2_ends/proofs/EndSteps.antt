@@ -3,8 +3,8 @@ use Rattle.h2_ends.proofs.Names
 use Names.{◌≡◌, ◌≢◌, ◌⊎◌, ℕ, Bool, true, false, List, [], ◌∷◌, ◌++◌, Option, Some, None, refl, sym}
 use Names.{ap, ◌∙◌, inl, inr, append-nil, cases_eq, Values, Act, Answer, Event, Log, active}
 use Names.{MayAnswer, with_call, TakeAnswer, MayTake, IsOver, is_number_used, ConnRepresents}
-use Names.{SentMessage, Part, Follows, tokens_of_call, tokens_sent, End, Outgoing, Stream, EndLog}
-use Names.{Passed, message_for, handed_as, Handed, tokens_out, end_with_log, end_with_handed}
+use Names.{Said, Part, Follows, tokens_of_call, tokens_sent, End, Outgoing, Stream, EndLog}
+use Names.{Passed, said_for, handed_as, Handed, tokens_out, end_with_log, end_with_handed}
 use Names.{RepresentsMessages, SendsInOrder, kept_at, outgoing_in, KeepsOne, over_by_call}
 use Names.{used_by_call, grows_call, parts_on, part_on, reads_on, IsKept, IsOutgoing}
 use Rattle.h2_laws_end.proofs.OverReads.{over_by_take, used_by_take}
@@ -20,7 +20,7 @@ kept end i = kept_at i end.streams.entries
 -- Of a stream the same was given, sent and handed out, and it is still used.
 pub record IsSame (old new : EndLog) (i : ℕ) : Type 0 where
   pub handed : parts_on i new.handed ≡ parts_on i old.handed
-  pub accepted : message_for i new.accepted ≡ message_for i old.accepted
+  pub accepted : said_for i new.accepted ≡ said_for i old.accepted
   pub sent : tokens_out new i ≡ tokens_out old i
   pub role : new.log.role ≡ old.log.role
   pub used_still : is_number_used old.log i ≡ true → is_number_used new.log i ≡ true
@@ -35,17 +35,33 @@ pub same_outgoing : (old new : EndLog) (i : ℕ) (outgoing : Outgoing) → IsSam
 unfolding IsOutgoing
 same_outgoing old new i outgoings.NotGiven same is =
     (same.accepted ∙ is.0, same.sent ∙ is.1)
+same_outgoing old new i (outgoings.Open rest) same is =
+    record {
+      said = is.said;
+      number = is.number;
+      accepted = same.accepted ∙ is.accepted;
+      form = is.form;
+      bare = is.bare;
+      out = is.out ∙ sym same.sent;
+      left = is.left;
+    }
 same_outgoing old new i (outgoings.Waiting waiting) same is =
     record {
-      message = is.message;
+      said = is.said;
       accepted = same.accepted ∙ is.accepted;
+      whole = is.whole;
       rest = rw same.sent is.rest;
       begun = rw same.sent is.begun;
       some = is.some;
       fits = is.fits;
     }
 same_outgoing old new i outgoings.Sent same is =
-    (is.0, same.accepted ∙ is.1, is.2 ∙ sym same.sent)
+    record {
+      said = is.said;
+      accepted = same.accepted ∙ is.accepted;
+      whole = is.whole;
+      out = is.out ∙ sym same.sent;
+    }
 
 pub same_kept : (old new : EndLog) (i : ℕ) (stream : Option Stream) → IsSame old new i
     → IsKept old i stream → IsKept new i stream
@@ -117,7 +133,7 @@ most_same values end new old happened id stream is conn role same_role keeps ove
     }
 
 -- what has happened after a call of the connection, where these messages are accepted
-abbrev pub called_end : EndLog → Act → Answer → List (ℕ × SentMessage) → EndLog
+abbrev pub called_end : EndLog → Act → Answer → List (ℕ × Said) → EndLog
 called_end happened act answer accepted = record {
   log = with_call happened.log act answer;
   accepted = accepted;
@@ -126,11 +142,11 @@ called_end happened act answer accepted = record {
 
 module _ (values : Values) (end new : End) (happened : EndLog) (act : Act) (answer : Answer) where
   -- A call that sends tokens on one stream at most leaves all that is kept of the others.
-  pub stepped : (id : ℕ) (stream : Option Stream) (accepted : List (ℕ × SentMessage))
+  pub stepped : (id : ℕ) (stream : Option Stream) (accepted : List (ℕ × Said))
       → RepresentsMessages values end happened → MayAnswer happened.log act answer
       → ConnRepresents values new.conn (with_call happened.log act answer) → new.role ≡ end.role
       → KeepsOne end new id stream → ((i : ℕ) → i ≢ id → tokens_of_call i act answer ≡ [])
-      → ((i : ℕ) → i ≢ id → message_for i accepted ≡ message_for i happened.accepted)
+      → ((i : ℕ) → i ≢ id → said_for i accepted ≡ said_for i happened.accepted)
       → IsOver (with_call happened.log act answer) id
       ⊎ IsKept (called_end happened act answer accepted) id stream
       → SendsInOrder (called_end happened act answer accepted) id
@@ -268,16 +284,28 @@ module _ (happened : EndLog) (handed : Handed) (id : ℕ) where
       → IsOutgoing (end_with_handed happened happened.log handed) id outgoing
   unfolding IsOutgoing
   outgoing_handed outgoings.NotGiven is = is
+  outgoing_handed (outgoings.Open rest) is =
+      record {
+        said = is.said;
+        number = is.number;
+        accepted = is.accepted;
+        form = is.form;
+        bare = is.bare;
+        out = is.out;
+        left = is.left;
+      }
   outgoing_handed (outgoings.Waiting waiting) is =
       record {
-        message = is.message;
+        said = is.said;
         accepted = is.accepted;
+        whole = is.whole;
         rest = is.rest;
         begun = is.begun;
         some = is.some;
         fits = is.fits;
       }
-  outgoing_handed outgoings.Sent is = is
+  outgoing_handed outgoings.Sent is =
+      record { said = is.said; accepted = is.accepted; whole = is.whole; out = is.out }
 
   -- So is how it is sent, and what is read.
   pub sent_handed : SendsInOrder happened id

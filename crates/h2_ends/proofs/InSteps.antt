@@ -4,7 +4,7 @@ use Names.{◌≡◌, ◌≢◌, ℕ, false, List, [], ◌∷◌, ◌++◌, Opti
 use Names.{inr, append-nil, both_ways, cases_Bool, Role, Values, Act, Answer, Number, Log, active}
 use Names.{MayAnswer, with_call, IsLog, grows_call, TakeAnswer, MayTake, Took, Failed}
 use Names.{reports_unprocessed, ends_no_frame, ends_frame, meets_fault, over_by_call}
-use Names.{log_after_take, ConnRepresents, SentMessage, Token, tokens_of_event, tokens_of_call}
+use Names.{log_after_take, ConnRepresents, Said, Token, tokens_of_event, tokens_of_call}
 use Names.{call_calls, End, Stream, Span, Spans, EndLog, Handed, part_on, tokens_of_parts}
 use Names.{tokens_handed, end_with_log, end_with_handed, EndRepresents, RepresentsBut, IsInStep}
 use Names.{KeepsActive, HandsInOrder, OwesWithin, WasRefused, outgoing_in, call_may_close}
@@ -34,7 +34,7 @@ refused_called log act answer i was = (
 
 -- Other messages that were accepted, and more calls, leave what was handed out.
 pub handed_called : (happened : EndLog) (act : Act) (answer : Answer)
-    (accepted : List (ℕ × SentMessage)) (i : ℕ) → MayAnswer happened.log act answer
+    (accepted : List (ℕ × Said)) (i : ℕ) → MayAnswer happened.log act answer
     → HandsInOrder happened i → HandsInOrder (called_end happened act answer accepted) i
 handed_called happened act answer accepted i may (inl same) =
     inl (ap (tokens_heard i) (grows_call happened.log act answer).reported ∙ same)
@@ -69,7 +69,7 @@ owes_taken role values span log after piece answer i came may no_data owes = λ 
 
 -- A call that does not open the stream.
 pub in_step_called : (role : Role) (values : Values) (spans : Spans) (stream : Option Stream)
-    (happened : EndLog) (act : Act) (answer : Answer) (accepted : List (ℕ × SentMessage)) (i : ℕ)
+    (happened : EndLog) (act : Act) (answer : Answer) (accepted : List (ℕ × Said)) (i : ℕ)
     → IsLog role values happened.log → MayAnswer happened.log act answer → answer ≢ Number i
     → IsInStep spans stream happened i
     → IsInStep spans stream (called_end happened act answer accepted) i

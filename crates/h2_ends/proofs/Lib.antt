@@ -1,7 +1,7 @@
 pub mod EndTokens
 pub mod EndParts
 mod EndSteps
-mod InSteps
+pub mod InSteps
 pub mod TableSteps
 mod ControlSteps
 pub mod ControlStart
@@ -24,12 +24,17 @@ mod RequestOpens
 mod RespondHeads
 pub mod PumpWindows
 mod PumpRefusals
-mod PumpStuck
+pub mod PumpStuck
 pub mod PumpSteps
 mod PumpStays
 pub mod PumpTokens
 mod PumpEnds
 mod ReleaseSteps
+pub mod PartBegins
+mod PartLengths
+pub mod PartSends
+mod PartAnswers
+mod Unsent
 mod PumpCalls
 mod PumpSends
 mod SendingRelease
@@ -41,6 +46,7 @@ mod QuietRoom
 mod QuietSends
 mod QuietEnds
 pub mod ReadableParts
+pub mod SoundParts
 pub mod MessageTokensPlaced
 pub mod MessageTokensSaid
 pub mod EndOrder

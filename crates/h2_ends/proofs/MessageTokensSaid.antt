@@ -1,16 +1,19 @@
 -- Where the tokens that have come are a prefix of a message's, so are its parts: what each part is
 -- follows from the tokens, since the first list is the head and a later one the trailers.
 use Rattle.h2_ends.proofs.Names.{◌≡◌, ℕ, Bool, true, false, List, [], ◌∷◌, ◌++◌, Option, None, Some}
-use Rattle.h2_ends.proofs.Names.{refl, sym, ap, ◌∙◌, subst, Field, SentMessage, first_broken}
+use Rattle.h2_ends.proofs.Names.{refl, sym, ap, ◌∙◌, subst, Field, SentMessage, Said, Form, AtOnce}
+use Rattle.h2_ends.proofs.Names.{Begun, Ended, given_end, first_broken}
 use Rattle.h2_ends.proofs.Names.{interim_rules, broken_by_response, Part, FieldsPart, OctetsPart}
 use Rattle.h2_ends.proofs.Names.{Token, FieldsToken, OctetToken, EndToken, IsPrefixOfTokens}
-use Rattle.h2_ends.proofs.Names.{final_rules, end_tokens, trailers_tokens, message_tokens}
+use Rattle.h2_ends.proofs.Names.{final_rules, end_tokens, trailers_tokens, said_tokens}
 use Rattle.h2_ends.proofs.Names.{tokens_of_part, tokens_of_parts, tokens_given, sent_response}
 use Rattle.std.proofs.lemmas.List.{map-append}
 use Rattle.h2_ends.specs.MessageTokens.{MessageToken, ListToken, BodyToken, last_tokens, LastToken}
-use Rattle.h2_ends.specs.MessageTokens.{trailers_listed, parts_of_message, parts_said}
+use Rattle.h2_ends.specs.MessageTokens.{trailers_listed, given_last, parts_of_said, parts_said}
 use Rattle.h2_ends.specs.MessageTokens.{IsPrefixOfParts}
 use Rattle.std.proofs.Common.{map as each}
+use Rattle.h2_message.specs.Lengths.{broken_by_head}
+use Rattle.h2_message.specs.declared.reading.Reads.TheVariants.{Responses}
 use Rattle.h2_message.proofs.ReadingRules.{some_not_none, not_both}
 use Rattle.h2_message.proofs.ReadingWhole.{one_sum}
 use Rattle.h2_ends.proofs.MessageTokensPlaced.{place_where, parts_placed}
@@ -79,26 +82,38 @@ unfolding trailers_tokens trailers_listed
 trailers_placed None = refl
 trailers_placed (Some list) = refl
 
--- So a message has the parts that its tokens are,
-message_placed : (message : SentMessage)
-    → parts_of_message message ≡ tokens_placed (message_tokens message)
-unfolding parts_of_message message_tokens
-message_placed message =
-    rw (map-append, octets_placed message.body, map-append, trailers_placed message.trailers) refl
+-- So is the end, where it was given.
+given_end_placed : (form : Form) → each token_in_body (given_end form) ≡ given_last form
+given_end_placed AtOnce = refl
+given_end_placed (Begun length) = refl
+given_end_placed Ended = refl
 
--- whether one was given or none.
-said_placed : (given : Option SentMessage) → parts_said given ≡ tokens_placed (tokens_given given)
+-- So what was given has the parts that its tokens are,
+parts_given : (said : Said) → parts_of_said said ≡ tokens_placed (said_tokens said)
+unfolding parts_of_said said_tokens
+parts_given said =
+    rw (
+      map-append,
+      octets_placed said.message.body,
+      map-append,
+      trailers_placed said.message.trailers,
+      given_end_placed said.form,
+    ) refl
+
+-- whether something was given or nothing.
+said_placed : (given : Option Said) → parts_said given ≡ tokens_placed (tokens_given given)
 unfolding parts_said tokens_given
 said_placed None = refl
-said_placed (Some message) = message_placed message
+said_placed (Some said) = parts_given said
 
--- The first token of a message is its head.
-head_first : (server : Bool) (given : Option SentMessage)
-    → ((message : SentMessage) → given ≡ Some message
-    → place_where false server message.head ≡ places.Head) → HeadFirst server (tokens_given given)
-unfolding tokens_given message_tokens
+-- The first token of what was given is its head.
+head_first : (server : Bool) (given : Option Said)
+    → ((said : Said) → given ≡ Some said
+    → place_where false server said.message.head ≡ places.Head)
+    → HeadFirst server (tokens_given given)
+unfolding tokens_given said_tokens
 head_first server None final = tt
-head_first server (Some message) final = final message refl
+head_first server (Some said) final = final said refl
 
 -- So is the first token of what begins it.
 first_begins : (server : Bool) (tokens rest : List Token) → HeadFirst server (tokens ++ rest)
@@ -120,9 +135,9 @@ placed_begins (EndToken ∷ tokens) rest =
     (each token_in_body rest, rw (map-append token_in_body tokens rest) refl)
 
 -- Where the tokens that have come are a prefix of a message's, the parts are one of its parts,
-pub parts_prefix : (server : Bool) (parts : List (Part × Bool)) (given : Option SentMessage)
-    → ((message : SentMessage) → given ≡ Some message
-    → place_where false server message.head ≡ places.Head)
+pub parts_prefix : (server : Bool) (parts : List (Part × Bool)) (given : Option Said)
+    → ((said : Said) → given ≡ Some said
+    → place_where false server said.message.head ≡ places.Head)
     → IsPrefixOfTokens (tokens_of_parts parts) (tokens_given given)
     → IsPrefixOfParts (parts_placed false server parts) (parts_said given)
 parts_prefix server parts given final (rest, is) =
@@ -132,20 +147,27 @@ parts_prefix server parts given final (rest, is) =
     (placed_begins tokens rest)
 
 -- and where they are the message's, the parts are its parts.
-pub parts_whole : (server : Bool) (parts : List (Part × Bool)) (given : Option SentMessage)
-    → ((message : SentMessage) → given ≡ Some message
-    → place_where false server message.head ≡ places.Head)
+pub parts_whole : (server : Bool) (parts : List (Part × Bool)) (given : Option Said)
+    → ((said : Said) → given ≡ Some said
+    → place_where false server said.message.head ≡ places.Head)
     → tokens_of_parts parts ≡ tokens_given given
     → parts_placed false server parts ≡ parts_said given
 parts_whole server parts given final is =
     let first : HeadFirst server (tokens_of_parts parts) = rw is (head_first server given final) in
     parts_by_tokens server parts first ∙ ap tokens_placed is ∙ sym (said_placed given)
 
--- The head of a response that may be sent is a final one.
+-- A head that breaks no rule of a response is a final one,
+pub head_final : (to_head : Bool) (head : List Field)
+    → broken_by_head (Responses to_head) head ≡ None
+    → place_where false false head ≡ places.Head
+unfolding final_rules
+head_final to_head head well =
+    rw (some_not_none (first_broken (interim_rules head)) (not_both head well)) refl
+
+-- and so is that of a response that may be sent.
 pub response_final : (to_head : Bool) (message : SentMessage)
     → broken_by_response to_head message ≡ None
     → place_where false false message.head ≡ places.Head
-unfolding final_rules
 response_final to_head message well =
-    rw (some_not_none (first_broken (interim_rules message.head)) (not_both message.head
-    (sent_response to_head message (message.body ∷ []) well (one_sum message.body)).head)) refl
+    head_final to_head message.head
+    (sent_response to_head message (message.body ∷ []) well (one_sum message.body)).head

@@ -3,12 +3,15 @@ pub use Rattle.h2_block.specs.Grouping.{alone, block, Item}
 pub use Rattle.h2_conn.specs.Conn.{answer_by, ConnAnswers, ConnRepresents, reader_next_number}
 pub use Rattle.h2_conn.specs.declared.conn.Conn.{Conn}
 unfoldable pub use Rattle.h2_ends.specs.EndCalls.{MayPump, MayReleaseAll}
-pub use Rattle.h2_ends.specs.EndCalls.{BodyWaits, end_with_message, IsNextOwed, IsStuckOn, Pumps}
+pub use Rattle.h2_ends.specs.EndCalls.{BodyWaits, end_with_said, IsNextOwed, IsStuckOn, Pumps}
+pub use Rattle.h2_ends.specs.EndCalls.{end_with_more, IsNotOpen, IsOpen, with_octets, with_trailers}
+pub use Rattle.h2_ends.specs.EndCalls.{answered_with, answer_reads, begun, opened_with}
+pub use Rattle.h2_message.specs.Lengths.{broken_by_head}
 pub use Rattle.h2_ends.specs.EndCalls.{RefusesMessage, TrailersWait}
 pub use Rattle.h2_ends.specs.EndEvents.{end_event_with_parts, LocatedPart}
 pub use Rattle.h2_ends.specs.EndTakes.{end_with_handed, end_with_log, hands_nothing, hands_out}
 pub use Rattle.h2_ends.specs.EndTakes.{IsReadableWith, passes, refusal_fails}
-unfoldable pub use Rattle.h2_ends.specs.Ends.{asked_head, handed_as, handed_at, message_for}
+unfoldable pub use Rattle.h2_ends.specs.Ends.{asked_head, handed_as, handed_at, replaced, said_for}
 unfoldable pub use Rattle.h2_ends.specs.Ends.{part_of_event, part_on, parts_on, reads_on}
 unfoldable pub use Rattle.h2_ends.specs.Ends.{tokens_given, tokens_of_part, tokens_of_parts}
 pub use Rattle.h2_ends.specs.Ends.{BodyHanded, EndAnswer, EndFailed, EndLog, EndTook, Handed}
@@ -61,10 +64,12 @@ pub use Rattle.h2_laws_log.proofs.CallConditions.{neither_other, none_holds}
 pub use Rattle.h2_laws_log.proofs.LogGrowth.{grows_call}
 pub use Rattle.h2_laws_log.proofs.PartsStay.{call_calls}
 pub use Rattle.h2_laws_log.proofs.ReaderStates.{active_parts, state_is_active}
-unfoldable pub use Rattle.h2_laws_pair.specs.Tokens.{end_tokens, message_tokens, tokens_heard}
+unfoldable pub use Rattle.h2_laws_pair.specs.Tokens.{end_tokens, said_tokens, tokens_heard}
 unfoldable pub use Rattle.h2_laws_pair.specs.Tokens.{tokens_of_call, tokens_of_event, tokens_sent}
 unfoldable pub use Rattle.h2_laws_pair.specs.Tokens.{trailers_tokens}
 pub use Rattle.h2_laws_pair.specs.Tokens.{EndToken, FieldsToken, is_head_alone, IsPrefixOfTokens}
+pub use Rattle.h2_laws_pair.specs.Tokens.{AtOnce, at_once, Begun, Ended, Form, is_begun, Said}
+pub use Rattle.h2_laws_pair.specs.Tokens.{given_end, is_ended_by_head}
 pub use Rattle.h2_laws_pair.specs.Tokens.{OctetToken, Token}
 pub use Rattle.h2_message.proofs.LawSent.{sent_request, sent_response}
 pub use Rattle.h2_message.proofs.PhaseSteps.{after_both, after_none}

@@ -3,10 +3,11 @@ use Rattle.h2_ends.proofs.Names
 use Names.{◌≡◌, ◌≢◌, ◌⊎◌, inl, inr, ℕ, ◌==◌, Bool, true, false, [], Option, Some, if◌then◌else◌}
 use Names.{refl, sym, ap, ◌∙◌, subst, append-nil, both_ways, eq-eqb, eqb-true, ne_eqb, cases_eq}
 use Names.{Role, Values, Act, Answer, active, MayAnswer, with_call, grows_call, IsOver}
-use Names.{used_by_call, over_by_call, Conn, ConnRepresents, Reads, SentMessage, Follows}
-use Names.{tokens_of_call, End, Outgoing, Stream, Waiting, EndLog, parts_on, tokens_out, IsStuckOn}
+use Names.{used_by_call, over_by_call, Conn, ConnRepresents, Reads, Said, Follows}
+use Names.{tokens_of_call, End, Outgoing, Stream, Waiting, EndLog, parts_on, tokens_out}
+use Names.{said_for, IsStuckOn}
 use Names.{RepresentsMessages, IsStream, SendsInOrder, tokens_kept, outgoing_in, end_after_call}
-use Names.{with_outgoing, keeps_with, message_tokens, reads_on, tokens_given, IsKept, IsOutgoing}
+use Names.{with_outgoing, keeps_with, said_tokens, reads_on, tokens_given, IsKept, IsOutgoing}
 use Rattle.h2_ends.specs.Pumping.{RepresentsBy}
 use Rattle.h2_ends.proofs.EndSteps.{kept, IsSame, same_kept, same_sent, outgoing_kept}
 use Rattle.h2_ends.proofs.PumpStuck.{out_same, stuck_inactive}
@@ -63,7 +64,9 @@ stuck_outgoing : (end : EndLog) (id : ℕ) (outgoing : Outgoing) → IsOutgoing 
 unfolding IsOutgoing
 stuck_outgoing end id outgoings.NotGiven is other = stuck_unsaid end id is.0
 stuck_outgoing end id (outgoings.Waiting waits) is other = absurd (other waits refl)
-stuck_outgoing end id outgoings.Sent is other = stuck_sent end id is
+stuck_outgoing end id (outgoings.Open rest) is other =
+    stuck_sent end id is.said is.accepted is.out
+stuck_outgoing end id outgoings.Sent is other = stuck_sent end id is.said is.accepted is.out
 
 pub stuck_unless_waiting : (values : Values) (conn : Conn) (role : Role)
     (keeps : ℕ → Option Stream) (happened : EndLog) (id : ℕ)
@@ -96,12 +99,23 @@ stream_after end act answer id stream outgoing is sends =
       asked = λ server. is.asked (sym (grows_call end.log act answer).role ∙ server);
     }
 
--- Of a message that is accepted its head was sent, and what was sent is a prefix of it.
-some_tokens : (message : SentMessage) → message_tokens message ≢ []
-unfolding message_tokens
-some_tokens message = λ none. cc
+-- Of what is accepted the head was sent, and what was sent is a prefix of it.
+some_tokens : (said : Said) → said_tokens said ≢ []
+unfolding said_tokens
+some_tokens said = λ none. cc
 
-sends_of : (end : EndLog) (id : ℕ) (outgoing : Outgoing) → IsOutgoing end id outgoing
+-- Where all of it was sent, nothing waits.
+all_out : (end : EndLog) (id : ℕ) (said : Said) → said_for id end.accepted ≡ Some said
+    → said_tokens said ≡ tokens_out end id → SendsInOrder end id
+unfolding tokens_given
+all_out end id said accepted all =
+    record {
+      waiting = [];
+      prefix = ap tokens_given accepted ∙ all ∙ sym (append-nil (tokens_out end id));
+      begun = λ some none. some_tokens said (all ∙ none);
+    }
+
+pub sends_of : (end : EndLog) (id : ℕ) (outgoing : Outgoing) → IsOutgoing end id outgoing
     → SendsInOrder end id
 unfolding IsOutgoing tokens_given
 sends_of end id outgoings.NotGiven is =
@@ -116,12 +130,8 @@ sends_of end id (outgoings.Waiting waits) is =
       prefix = ap tokens_given is.accepted ∙ is.rest;
       begun = λ some. is.begun;
     }
-sends_of end id outgoings.Sent (message, accepted, all) =
-    record {
-      waiting = [];
-      prefix = ap tokens_given accepted ∙ all ∙ sym (append-nil (tokens_out end id));
-      begun = λ some none. some_tokens message (all ∙ none);
-    }
+sends_of end id (outgoings.Open rest) is = all_out end id is.said is.accepted is.out
+sends_of end id outgoings.Sent is = all_out end id is.said is.accepted is.out
 
 -- A call that sends nothing on a stream leaves what is kept of it.
 pub same_by_call : (end : EndLog) (act : Act) (answer : Answer) (i : ℕ)

@@ -31,20 +31,20 @@ use Rattle.h2_ends.specs.Pumping as pumping
 use Rattle.h2_ends.proofs.PumpRefusals as refused
 
 -- Neither call, nor its refusal, closes another stream.
-data_elsewhere : (i id : ℕ) (octets : List ℕ) (end : Bool) (answer : Answer) → i ≢ id
+pub data_elsewhere : (i id : ℕ) (octets : List ℕ) (end : Bool) (answer : Answer) → i ≢ id
     → call_may_close i (SendData id octets end) answer ≡ false
 unfolding call_may_close
 data_elsewhere i id octets end (Count n) other = rw (ne_eqb id i (λ same. other (sym same))) refl
 data_elsewhere i id octets end answer other = refl
 
-fields_elsewhere : (i id : ℕ) (fields : List Field) (end : Bool) (answer : Answer) → i ≢ id
+pub fields_elsewhere : (i id : ℕ) (fields : List Field) (end : Bool) (answer : Answer) → i ≢ id
     → call_may_close i (SendFields id fields end) answer ≡ false
 unfolding call_may_close
 fields_elsewhere i id fields end Done other = rw (ne_eqb id i (λ same. other (sym same))) refl
 fields_elsewhere i id fields end answer other = refl
 
 -- A refused one closes none.
-data_closes_none : (i id : ℕ) (octets : List ℕ) (end : Bool) (refusal : Refusal)
+pub data_closes_none : (i id : ℕ) (octets : List ℕ) (end : Bool) (refusal : Refusal)
     → call_may_close i (SendData id octets end) (Refused refusal) ≡ false
 unfolding call_may_close
 data_closes_none i id octets end refusal = refl

@@ -5,10 +5,10 @@ use Names.{List, [], ◌∷◌, ◌++◌, length, take, drop, Option, Some, None
 use Names.{append_assoc, append-nil, length-drop, arith, list_any, both_ways, and_from}
 use Names.{false_from_ne_true, eq-eqb, drop-append_seam, take-length, nat_tests, Role, Values}
 use Names.{SendFields, SendData, Count, Done, ends, IsLog, has_room, Field, is_too_large}
-use Names.{SentMessage, Token, FieldsToken, OctetToken, EndToken, Waiting, EndLog, message_for}
+use Names.{Said, Token, FieldsToken, OctetToken, EndToken, Waiting, EndLog, said_for}
 use Names.{tokens_out, tokens_said, tokens_waiting, IsStuckOn, BodyWaits, TrailersWait}
 use Names.{end_after_call, IsWaiting, tokens_kept, trailer_fields, end_tokens, tokens_of_call}
-use Names.{trailers_tokens, message_tokens, tokens_given, IsOutgoing, is_none, option_map}
+use Names.{trailers_tokens, said_tokens, tokens_given, IsOutgoing, is_none, option_map}
 use Rattle.std.proofs.lemmas.List.{map-append, take-append-drop, drop-drop}
 use Rattle.std.proofs.Common.{map as each}
 use Rattle.h2_laws_end.specs.Sendings.{lists_accepted, settings_received}
@@ -55,30 +55,30 @@ waiting_goes_on role values end id waiting is waits = false_from_ne_true _ (λ h
     let many : length (lists_accepted log.calls) ≡ _ =
     blocks_of_lists log.sent (settings_received log.received) (lists_accepted log.calls)
     log.encoder (log_sent role values log is) in
-    unended waits.message (tokens_out end id) some.0 some.1
+    unended waits.said (tokens_out end id) some.0 some.1
     (waits.rest ∙ ap (λ (line : List Token). tokens_out end id ++ line) some.2)
     (rw (tokens_carried id role values log is)
     (ended_tokens id log.sent (lists_accepted log.calls) many here)))
 
 -- What waits on a stream is what is kept.
-pub said_is : (end : EndLog) (id : ℕ) (message : SentMessage)
-    → message_for id end.accepted ≡ Some message → tokens_said end id ≡ message_tokens message
-unfolding tokens_given message_tokens
-said_is end id message is = ap tokens_given is
+pub said_is : (end : EndLog) (id : ℕ) (said : Said) → said_for id end.accepted ≡ Some said
+    → tokens_said end id ≡ said_tokens said
+unfolding tokens_given said_tokens
+said_is end id said is = ap tokens_given is
 
 pub waiting_is_kept : (end : EndLog) (id : ℕ) (waiting : Waiting) → IsWaiting end id waiting
     → tokens_waiting end id ≡ tokens_kept waiting
 waiting_is_kept end id waiting waits =
     ap (drop (length (tokens_out end id)))
-    (said_is end id waits.message waits.accepted ∙ waits.rest)
+    (said_is end id waits.said waits.accepted ∙ waits.rest)
     ∙ drop-append_seam (tokens_out end id) (tokens_kept waiting)
 
 -- Where nothing waits, nothing could go.
-pub stuck_sent : (end : EndLog) (id : ℕ) → IsOutgoing end id outgoings.Sent → IsStuckOn end id
-unfolding IsOutgoing
-stuck_sent end id (message, accepted, all) =
+pub stuck_sent : (end : EndLog) (id : ℕ) (said : Said) → said_for id end.accepted ≡ Some said
+    → said_tokens said ≡ tokens_out end id → IsStuckOn end id
+stuck_sent end id said accepted all =
     stuck_empty end id (ap (drop (length (tokens_out end id)))
-    (said_is end id message accepted ∙ all ∙ sym (append-nil (tokens_out end id)))
+    (said_is end id said accepted ∙ all ∙ sym (append-nil (tokens_out end id)))
     ∙ drop-append_seam (tokens_out end id) [])
 
 nothing_left : (n : ℕ) → drop n (tokens_given None) ≡ []
@@ -86,11 +86,18 @@ unfolding tokens_given
 nothing_left zero = refl
 nothing_left (suc n) = refl
 
-pub stuck_unsaid : (end : EndLog) (id : ℕ) → message_for id end.accepted ≡ None → IsStuckOn end id
+-- Where nothing was accepted, nothing waits.
+pub none_unsaid : (end : EndLog) (id : ℕ) → said_for id end.accepted ≡ None
+    → tokens_waiting end id ≡ []
+unfolding tokens_given
+none_unsaid end id none =
+    ap (λ (said : Option Said). drop (length (tokens_out end id)) (tokens_given said)) none
+    ∙ nothing_left (length (tokens_out end id))
+
+pub stuck_unsaid : (end : EndLog) (id : ℕ) → said_for id end.accepted ≡ None → IsStuckOn end id
 unfolding tokens_given
 stuck_unsaid end id none =
-    stuck_empty end id (ap (λ (said : Option SentMessage). drop (length (tokens_out end id))
-    (tokens_given said)) none ∙ nothing_left (length (tokens_out end id)))
+    stuck_empty end id (none_unsaid end id none)
 
 -- An octet is next, where some are left.
 pub some_octet : (octets : List ℕ) → length octets ≢ 0
@@ -197,9 +204,10 @@ waits_after end id waiting n waits start within goes =
     out_after end act (Count n) id ∙ ap (λ (line : List Token). tokens_out end id ++ line)
     (data_tokens id (octets_left waiting) (is_none waiting.trailers) n) in
     record {
-      message = waits.message;
+      said = waits.said;
       accepted = waits.accepted;
-      rest = kept_rest waiting n _ (tokens_out end id) _ (message_tokens waits.message) goes out
+      whole = waits.whole;
+      rest = kept_rest waiting n _ (tokens_out end id) _ (said_tokens waits.said) goes out
           waits.rest;
       begun = λ none. begun_more (tokens_out end id) _ waits.begun (sym out ∙ none);
       some = some_by waiting.trailers n waiting.sent (length waiting.body.items)
@@ -234,15 +242,17 @@ pub sent_after_data : (end : EndLog) (id : ℕ) (waiting : Waiting) (n : ℕ) �
     (Count n)) id outgoings.Sent
 unfolding IsOutgoing
 sent_after_data end id waiting n waits none all =
-    let act = SendData id (octets_left waiting) (is_none waiting.trailers) in (
-      waits.message,
-      waits.accepted,
-      waits.rest ∙ ap (λ (line : List Token). tokens_out end id ++ line)
+    let act = SendData id (octets_left waiting) (is_none waiting.trailers) in
+    record {
+      said = waits.said;
+      accepted = waits.accepted;
+      whole = waits.whole;
+      out = waits.rest ∙ ap (λ (line : List Token). tokens_out end id ++ line)
           (sym (data_tokens id (octets_left waiting) (is_none waiting.trailers) n
           ∙ kept_all waiting n _ all none
           (and_from _ _ none (eq-eqb n (length (octets_left waiting)) all))))
-          ∙ sym (out_after end act (Count n) id),
-    )
+          ∙ sym (out_after end act (Count n) id);
+    }
 
 -- Once no octets are left and the trailers were sent, all was sent.
 pub fields_tokens : (id : ℕ) (fields : List Field)
@@ -275,13 +285,15 @@ pub sent_after_fields : (end : EndLog) (id : ℕ) (waiting : Waiting) (fields : 
     → option_map (λ list. list.items) waiting.trailers ≡ Some fields
     → IsOutgoing (end_after_call end (SendFields id fields true) Done) id outgoings.Sent
 unfolding IsOutgoing
-sent_after_fields end id waiting fields waits none are = (
-  waits.message,
-  waits.accepted,
-  waits.rest ∙ ap (λ (line : List Token). tokens_out end id ++ line)
-      (trailers_kept waiting fields none are ∙ sym (fields_tokens id fields))
-      ∙ sym (out_after end (SendFields id fields true) Done id),
-)
+sent_after_fields end id waiting fields waits none are =
+    record {
+      said = waits.said;
+      accepted = waits.accepted;
+      whole = waits.whole;
+      out = waits.rest ∙ ap (λ (line : List Token). tokens_out end id ++ line)
+          (trailers_kept waiting fields none are ∙ sym (fields_tokens id fields))
+          ∙ sym (out_after end (SendFields id fields true) Done id);
+    }
 
 -- The trailers that wait aren't too large.
 pub trailers_fit : (end : EndLog) (id : ℕ) (waiting : Waiting) (fields : List Field)

@@ -1,20 +1,26 @@
 -- What was handed out of a message that was sent can be read, in whatever pieces its body came.
 use Rattle.h2_ends.proofs.Names
 use Names.{◌≡◌, ◌≢◌, ℕ, Bool, true, false, List, [], ◌∷◌, ◌++◌, length, Option, Some, None, refl}
-use Names.{sym, ap, ◌∙◌, inl, inr, append_assoc, append-nil, arith, AllByRecursion, Field, Requests}
-use Names.{Responses, SentMessage, broken_by_request, broken_by_response, Part, FieldsPart}
-use Names.{OctetsPart, Token, FieldsToken, OctetToken, EndToken, IsPrefixOfTokens, is_head_alone}
-use Names.{end_tokens, trailers_tokens, message_tokens, tokens_of_part, tokens_of_parts, IsReadable}
-use Names.{length-append, sent_response, sent_request, body_parts, ended_more}
+use Names.{sym, ap, ◌∙◌, inl, inr, append_assoc, append-nil, arith, AllByRecursion, Field, Reads}
+use Names.{SentMessage, Part, FieldsPart, OctetsPart, Token, FieldsToken, OctetToken, EndToken}
+use Names.{IsPrefixOfTokens, end_tokens, trailers_tokens, tokens_of_part, tokens_of_parts}
+use Names.{IsReadable, length-append, body_parts, ended_more}
 use Rattle.h2_message.specs.Reading.{ended, message_parts, final_parts, trailers_parts, as_read}
+use Rattle.h2_message.specs.Reading.{IsWellRead}
 use Rattle.h2_ends.specs.Ends.{IsNoEmptyPart}
 use Rattle.std.proofs.Common.{map as each, sum_by}
 use Rattle.std.proofs.lemmas.List.Sums.{sum_by-cons}
 use Rattle.h2_message.proofs.ReadingWhole.{one_sum as one_piece}
 
 -- the tokens after a head, of this body and these trailers
-abbrev rest_tokens : List ℕ → Option (List Field) → List Token
+abbrev pub rest_tokens : List ℕ → Option (List Field) → List Token
 rest_tokens body trailers = each OctetToken body ++ (trailers_tokens trailers ++ EndToken ∷ [])
+
+-- the tokens of a message whose head has END_STREAM or not; where it hasn't and there are neither
+-- a body nor trailers, DATA ends the message
+abbrev pub whole_tokens : SentMessage → (end : Bool) → List Token
+whole_tokens message end =
+    FieldsToken message.head end ∷ rest_tokens message.body message.trailers
 
 -- Octets that begin these tokens begin the body; the tokens after them are those of its rest.
 octets_begin : (octets body : List ℕ) (trailers : Option (List Field)) (tail : List Token)
@@ -192,58 +198,48 @@ head_first message list parts head rest =
           ∙ ap (λ (line : List (Part × Bool)). (FieldsPart list, false) ∷ line) rest.begins;
     }
 
-message_begins : (message : SentMessage) (parts : List (Part × Bool)) (tail : List Token)
-    → AllByRecursion IsNoEmptyPart parts → message_tokens message ≡ tokens_of_parts parts ++ tail
-    → BeginsMessage message parts
-unfolding message_tokens tokens_of_parts tokens_of_part end_tokens IsNoEmptyPart
-message_begins message [] tail say is =
+message_begins : (message : SentMessage) (end : Bool) (parts : List (Part × Bool))
+    (tail : List Token) → AllByRecursion IsNoEmptyPart parts
+    → whole_tokens message end ≡ tokens_of_parts parts ++ tail → BeginsMessage message parts
+unfolding tokens_of_parts tokens_of_part end_tokens IsNoEmptyPart
+message_begins message end [] tail say is =
     record {
       pieces = message.body ∷ [];
       more = message_parts (as_read message (message.body ∷ []));
       whole = one_piece message.body;
       begins = refl;
     }
-message_begins message ((FieldsPart list, true) ∷ parts) tail say is =
+message_begins message end ((FieldsPart list, true) ∷ parts) tail say is =
     let tokens = tokens_of_parts parts in
-    let same : FieldsToken message.head (is_head_alone message) ≡ FieldsToken list true = cc in
+    let same : FieldsToken message.head end ≡ FieldsToken list true = cc in
     let rest : rest_tokens message.body message.trailers ≡ EndToken ∷ (tokens ++ tail) = cc in
     let last = ends_here message.body message.trailers (tokens ++ tail) rest in
     head_alone message list parts (cc) last.0 last.1 (says_none parts tail say.1 last.2)
-message_begins message ((FieldsPart list, false) ∷ parts) tail say is =
+message_begins message end ((FieldsPart list, false) ∷ parts) tail say is =
     let tokens = tokens_of_parts parts in
-    let same : FieldsToken message.head (is_head_alone message) ≡ FieldsToken list false = cc in
+    let same : FieldsToken message.head end ≡ FieldsToken list false = cc in
     let rest : rest_tokens message.body message.trailers ≡ tokens ++ tail = cc in
     head_first message list parts (cc)
     (rest_begins parts message.body message.trailers tail say.1 rest)
-message_begins message ((OctetsPart (octet ∷ octets), end) ∷ parts) tail say is = cc
-message_begins message ((OctetsPart [], true) ∷ parts) tail say is = cc
-message_begins message ((OctetsPart [], false) ∷ parts) tail (inl some, say) is =
+message_begins message end ((OctetsPart (octet ∷ octets), last) ∷ parts) tail say is = cc
+message_begins message end ((OctetsPart [], true) ∷ parts) tail say is = cc
+message_begins message end ((OctetsPart [], false) ∷ parts) tail (inl some, say) is =
     absurd (some refl)
-message_begins message ((OctetsPart [], false) ∷ parts) tail (inr wrong, say) is = cc
+message_begins message end ((OctetsPart [], false) ∷ parts) tail (inr wrong, say) is = cc
 
--- Where the message breaks no rule, they can be read.
-pub readable_request : (message : SentMessage) (parts : List (Part × Bool))
-    → broken_by_request message ≡ None → AllByRecursion IsNoEmptyPart parts
-    → IsPrefixOfTokens (tokens_of_parts parts) (message_tokens message)
-    → IsReadable Requests parts
-readable_request message parts none say prefix =
-    let all = message_begins message parts prefix.0 say prefix.1 in
+-- Where the message is well read in whatever pieces its body comes, they can be read.
+pub readable_parts : (reads : Reads) (message : SentMessage) (end : Bool)
+    (parts : List (Part × Bool))
+    → ((pieces : List (List ℕ)) → sum_by length pieces ≡ length message.body
+    → IsWellRead reads (as_read message pieces))
+    → AllByRecursion IsNoEmptyPart parts
+    → IsPrefixOfTokens (tokens_of_parts parts) (whole_tokens message end)
+    → IsReadable reads parts
+readable_parts reads message end parts well say prefix =
+    let all = message_begins message end parts prefix.0 say prefix.1 in
     record {
       message = as_read message all.pieces;
       more = all.more;
-      well = sent_request message all.pieces none all.whole;
-      begins = all.begins;
-    }
-
-pub readable_response : (to_head : Bool) (message : SentMessage) (parts : List (Part × Bool))
-    → broken_by_response to_head message ≡ None → AllByRecursion IsNoEmptyPart parts
-    → IsPrefixOfTokens (tokens_of_parts parts) (message_tokens message)
-    → IsReadable (Responses to_head) parts
-readable_response to_head message parts none say prefix =
-    let all = message_begins message parts prefix.0 say prefix.1 in
-    record {
-      message = as_read message all.pieces;
-      more = all.more;
-      well = sent_response to_head message all.pieces none all.whole;
+      well = well all.pieces all.whole;
       begins = all.begins;
     }

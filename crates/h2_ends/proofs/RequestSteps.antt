@@ -1,10 +1,11 @@
 -- What keeps step with a call that opens or closes one stream at most.
 use Rattle.h2_ends.proofs.Names
-use Names.{◌≡◌, ◌≢◌, ℕ, if◌then◌else◌, Bool, true, false, List, Option, Some, None, refl, sym, ap}
+use Names.{◌≡◌, ◌≢◌, ℕ, Bool, false, List, Option, Some, None, refl, sym, ap}
 use Names.{◌∙◌, inl, inr, both_ways, cases_eq, ne_eqb, Field, Refusal, Values, Act, Answer, Open}
 use Names.{SendFields, Number, Done, Refused, Log, MayAnswer, accepts, lacks, grows_call}
-use Names.{is_number_used, Message, SentMessage, message_value, tokens_heard, End, Stream, Waiting}
-use Names.{Span, Spans, EndLog, tokens_handed, is_head_alone, EndRepresents, RepresentsBut}
+use Names.{is_number_used, Said, tokens_heard, End, Stream, Waiting}
+use Names.{Outgoing}
+use Names.{Span, Spans, EndLog, tokens_handed, EndRepresents, RepresentsBut}
 use Names.{RepresentsMessages, IsInStep, WaitsWithin, InSpan, HandsInOrder, KeepsOne, given_stream}
 use Names.{call_may_close, refuses, fails, none_holds}
 use Rattle.h2_spec_log.specs.CallRules.{conditions}
@@ -27,7 +28,7 @@ wider spans more stream happened i grows same is =
 
 -- A call that opens and closes no stream but one leaves the others in step, and active.
 pub stepped_but : (values : Values) (end new : End) (happened : EndLog) (act : Act)
-    (answer : Answer) (id : ℕ) (stream : Option Stream) (accepted : List (ℕ × SentMessage))
+    (answer : Answer) (id : ℕ) (stream : Option Stream) (accepted : List (ℕ × Said))
     → EndRepresents values end happened → MayAnswer happened.log act answer
     → RepresentsMessages values new (called_end happened act answer accepted)
     → KeepsOne end new id stream
@@ -104,28 +105,15 @@ uncut end id new up (inr cut) = elim cut.last [
 
 -- So what was handed out of the stream that is opened is what was reported of it.
 pub handed_open : (end : EndLog) (fields : List Field) (ends : Bool) (id : ℕ)
-    (accepted : List (ℕ × SentMessage)) → MayAnswer end.log (Open fields ends) (Number id)
+    (accepted : List (ℕ × Said)) → MayAnswer end.log (Open fields ends) (Number id)
     → is_number_used end.log id ≡ false → HandsInOrder end id
     → HandsInOrder (called_end end (Open fields ends) (Number id) accepted) id
 handed_open end fields ends id accepted may new hands =
     inl (ap (tokens_heard id) (grows_call end.log (Open fields ends) (Number id)).reported
     ∙ uncut end id new (open_up end.log fields ends id may) hands)
 
--- What waits of a message that is given is in the span where its number is, unless its head is
--- alone.
-within_by : (span : Span) (id : ℕ) (message : Message) (b : Bool)
-    → is_head_alone (message_value message) ≡ b
-    → (is_head_alone (message_value message) ≡ false → InSpan span id) → (waiting : Waiting)
-    → (if b then outgoings.Sent else outgoings.Waiting (record {
-      body = message.body;
-      sent = 0;
-      trailers = message.trailers;
-    })) ≡ outgoings.Waiting waiting → InSpan span id
-within_by span id message true is here waiting waits = cc
-within_by span id message false is here waiting waits = here is
-
-pub within_given : (span : Span) (id : ℕ) (message : Message) (stream : Stream)
-    → (is_head_alone (message_value message) ≡ false → InSpan span id)
-    → WaitsWithin span (Some (given_stream message stream)) id
-within_given span id message stream here =
-    within_by span id message (is_head_alone (message_value message)) refl here
+-- What waits of what is given is in the span.
+pub within_given : (span : Span) (id : ℕ) (outgoing : Outgoing) (stream : Stream)
+    → ((waiting : Waiting) → outgoing ≡ outgoings.Waiting waiting → InSpan span id)
+    → WaitsWithin span (Some (given_stream outgoing stream)) id
+within_given span id outgoing stream here = here

@@ -1,11 +1,15 @@
--- What `respond` may answer, by what an end keeps of the stream.
+-- What `respond` and `begin` of a server may answer, by what an end keeps of the stream.
 use Rattle.h2_ends.proofs.Names
-use Names.{◌≡◌, ◌≢◌, ◌⊎◌, ℕ, true, false, Some, None, refl, sym, ◌∙◌, inl, both_ways, Refusal}
-use Names.{Client, Server, Values, SendFields, Done, is_too_large, active, MayAnswer, IsOver}
-use Names.{Malformed, SentMessage, trailer_fields, broken_by_response, End, Outgoing, Stream}
-use Names.{EndLog, message_for, end_with_message, is_head_alone, RefusesMessage, EndRepresents}
-use Names.{IsStream, kept_at, inr, sameb, the_type, IsKept, IsOutgoing}
-use Rattle.h2_ends.specs.EndCalls.{IsAsked, IsUnchanged, MayRespond, IsNotAsked, broken_by_answer}
+use Names.{◌≡◌, ◌≢◌, ◌⊎◌, ℕ, Bool, true, false, Option, Some, None, refl, sym, ◌∙◌, inl, both_ways}
+use Names.{Refusal, Client, Values, Done, is_too_large, active, MayAnswer, IsOver, Malformed, Said}
+use Names.{trailer_fields, End, Outgoing, Stream, EndLog, said_for, end_with_said, parts_on}
+use Names.{RefusesMessage, EndRepresents, IsStream, kept_at, inr, sameb, the_type, IsKept}
+use Names.{IsOutgoing, SentMessage, broken_by_response}
+use Rattle.h2_ends.specs.EndCalls.{IsAsked, IsUnchanged, MayReply, IsNotAsked, answered_with}
+use Rattle.h2_ends.specs.EndCalls.{broken_by_answer}
+use Rattle.h2_ends.specs.Heads.{AsksOn}
+use Rattle.h2_ends.specs.declared.refusal.EndRefusal.{EndRefusal}
+use Rattle.h2_message.specs.Phases.{asks_head_first}
 use Rattle.std.specs.Prelude.{Ok, Err}
 use Rattle.h2_ends.proofs.RequestHeads.{server_reads}
 use Rattle.h2_ends.proofs.RequestSends.{is_server_by}
@@ -13,20 +17,18 @@ use Rattle.h2_ends.specs.declared.outgoing.Outgoing.TheVariants as outgoings
 use Rattle.h2_ends.specs.declared.refusal.EndRefusal.TheVariants as refusals
 
 -- E3, where nothing is kept of the stream, and at a client.
-pub nothing_asked : (end : EndLog) (id : ℕ) (message : SentMessage)
-    → IsOver end.log id ⊎ IsKept end id None
-    → MayRespond end id message (Err refusals.NotAsked) end
-unfolding IsKept IsNotAsked MayRespond
-nothing_asked end id message (inl past) = (inl past.not_active, refl)
-nothing_asked end id message (inr kept) = (inr (inl kept.unread), refl)
+pub nothing_asked : (end : EndLog) (id : ℕ) → IsOver end.log id ⊎ IsKept end id None
+    → IsNotAsked end id
+unfolding IsKept IsNotAsked
+nothing_asked end id (inl past) = inl past.not_active
+nothing_asked end id (inr kept) = inr (inl kept.unread)
 
-pub client_asked : (end : EndLog) (id : ℕ) (message : SentMessage) → end.log.role ≡ Client
-    → MayRespond end id message (Err refusals.NotAsked) end
-unfolding IsNotAsked MayRespond
-client_asked end id message client = (inr (inr client), refl)
+pub client_asked : (end : EndLog) (id : ℕ) → end.log.role ≡ Client → IsNotAsked end id
+unfolding IsNotAsked
+client_asked end id client = inr (inr client)
 
 -- What is kept of a stream that is active at a server.
-kept_stream : (end : EndLog) (id : ℕ) (stream : Stream) → active end.log id ≡ true
+pub kept_stream : (end : EndLog) (id : ℕ) (stream : Stream) → active end.log id ≡ true
     → IsOver end.log id ⊎ IsKept end id (Some stream) → IsStream end id stream
 unfolding IsKept
 kept_stream end id stream alive (inl past) = absurd (both_ways _ past.not_active alive)
@@ -43,78 +45,67 @@ asked_here values now end id stream was is other =
     (record { active = alive; handed = kept.asked server; server = server }, kept)
 
 -- E4, where a message is kept of it.
-accepted_by : (end : EndLog) (id : ℕ) (outgoing : Outgoing) → (outgoing ≡ outgoings.NotGiven → ⊥)
-    → IsOutgoing end id outgoing → message_for id end.accepted ≢ None
+pub accepted_by : (end : EndLog) (id : ℕ) (outgoing : Outgoing)
+    → (outgoing ≡ outgoings.NotGiven → ⊥) → IsOutgoing end id outgoing
+    → said_for id end.accepted ≢ None
 unfolding IsOutgoing
 accepted_by end id outgoings.NotGiven given is = absurd (given refl)
+accepted_by end id (outgoings.Open rest) given is = λ none. let some = is.accepted in cc
 accepted_by end id (outgoings.Waiting waiting) given is = λ none. let some = is.accepted in cc
-accepted_by end id outgoings.Sent given is = λ none. let some = is.1 in cc
+accepted_by end id outgoings.Sent given is = λ none. let some = is.accepted in cc
 
-pub was_answered : (end : EndLog) (id : ℕ) (message : SentMessage) (stream : Stream)
-    → IsAsked end id → IsStream end id stream → (stream.outgoing ≡ outgoings.NotGiven → ⊥)
-    → MayRespond end id message (Err refusals.Answered) end
-unfolding MayRespond
-was_answered end id message stream asked is given =
-    (asked, accepted_by end id stream.outgoing given is.outgoing, refl)
-
-not_accepted : (end : EndLog) (id : ℕ) (outgoing : Outgoing) → outgoing ≡ outgoings.NotGiven
-    → IsOutgoing end id outgoing → message_for id end.accepted ≡ None
+pub not_accepted : (end : EndLog) (id : ℕ) (outgoing : Outgoing) → outgoing ≡ outgoings.NotGiven
+    → IsOutgoing end id outgoing → said_for id end.accepted ≡ None
 unfolding IsOutgoing
 not_accepted end id outgoings.NotGiven given is = is.0
+not_accepted end id (outgoings.Open rest) given is = cc
 not_accepted end id (outgoings.Waiting waiting) given is = cc
 not_accepted end id outgoings.Sent given is = cc
 
--- The rule that the message breaks is that of an answer to what was read.
-broken_alike : (end : EndLog) (id : ℕ) (message : SentMessage) (stream : Stream)
-    → end.log.role ≡ Server → IsStream end id stream
-    → broken_by_answer end id message ≡ broken_by_response stream.reading.asks_head message
-broken_alike end id message stream server is =
-    rw (is.reading.asks_head (server_reads end id server)) refl
+-- Whether what was read asks with HEAD.
+pub asks_alike : (end : EndLog) (id : ℕ) (stream : Stream) → IsAsked end id
+    → IsStream end id stream
+    → stream.reading.asks_head ≡ asks_head_first (parts_on id end.handed)
+asks_alike end id stream asked is =
+    is.reading.asks_head (server_reads end id asked.server)
 
--- E1.
-pub breaks_response : (end : EndLog) (id : ℕ) (message : SentMessage) (stream : Stream)
-    (rule : Malformed) → IsAsked end id → IsStream end id stream
-    → stream.outgoing ≡ outgoings.NotGiven
-    → broken_by_response stream.reading.asks_head message ≡ Some rule
-    → MayRespond end id message (Err (refusals.BadMessage rule)) end
-unfolding MayRespond
-breaks_response end id message stream rule asked is given broken = (
-  asked,
-  not_accepted end id stream.outgoing given is.outgoing,
-  broken_alike end id message stream asked.server is ∙ broken,
-  refl,
-)
+-- So the rule that a message breaks is that of an answer to what was read.
+pub broken_alike : (end : EndLog) (id : ℕ) (message : SentMessage) {to_head : Bool}
+    {broken : Option Malformed} → to_head ≡ asks_head_first (parts_on id end.handed)
+    → broken_by_response to_head message ≡ broken → broken_by_answer end id message ≡ broken
+broken_alike end id message same is = rw same at is
 
--- E2.
-pub refuses_response : (end after : EndLog) (id : ℕ) (message : SentMessage) (stream : Stream)
-    (refusal : Refusal) → IsAsked end id → IsStream end id stream
-    → stream.outgoing ≡ outgoings.NotGiven
-    → broken_by_response stream.reading.asks_head message ≡ None
-    → RefusesMessage end.log (SendFields id message.head (is_head_alone message)) message refusal
-    → IsUnchanged end after → MayRespond end id message (Err (refusals.Conn refusal)) after
-unfolding MayRespond
-refuses_response end after id message stream refusal asked is given unbroken refuses unchanged = (
-  asked,
-  not_accepted end id stream.outgoing given is.outgoing,
-  broken_alike end id message stream asked.server is ∙ unbroken,
-  refuses,
-  unchanged,
-)
+module _ (broken : Option Malformed) (end : EndLog) (id : ℕ) (said : Said) where
+  -- E3 and E4.
+  pub replies_not : (refusal : EndRefusal) → AsksOn end id (Err refusal)
+      → MayReply broken end id said (Err refusal) end
+  unfolding MayReply
+  replies_not refusals.NotAsked is = (is, refl)
+  replies_not refusals.Answered is = (is.0, is.1, refl)
+  replies_not (refusals.BadMessage rule) is = absurd is
+  replies_not (refusals.Conn refusal) is = absurd is
 
--- The head was sent.
-pub may_respond : (end : EndLog) (id : ℕ) (message : SentMessage) (stream : Stream)
-    → IsAsked end id → IsStream end id stream → stream.outgoing ≡ outgoings.NotGiven
-    → broken_by_response stream.reading.asks_head message ≡ None
-    → is_too_large (trailer_fields message.trailers) ≡ false
-    → MayAnswer end.log (SendFields id message.head (is_head_alone message)) Done
-    → MayRespond end id message (Ok tt) (end_with_message end
-    (SendFields id message.head (is_head_alone message)) Done id message)
-unfolding MayRespond
-may_respond end id message stream asked is given unbroken fits answers = (
-  asked,
-  not_accepted end id stream.outgoing given is.outgoing,
-  broken_alike end id message stream asked.server is ∙ unbroken,
-  fits,
-  answers,
-  refl,
-)
+  -- E1.
+  pub breaks_reply : (rule : Malformed) → IsAsked end id → said_for id end.accepted ≡ None
+      → broken ≡ Some rule → MayReply broken end id said (Err (refusals.BadMessage rule)) end
+  unfolding MayReply
+  breaks_reply rule asked unsaid is = (asked, unsaid, is, refl)
+
+  -- E2.
+  pub refuses_reply : (after : EndLog) (refusal : Refusal) → IsAsked end id
+      → said_for id end.accepted ≡ None → broken ≡ None
+      → RefusesMessage end.log (answered_with id said) said.message refusal
+      → IsUnchanged end after → MayReply broken end id said (Err (refusals.Conn refusal)) after
+  unfolding MayReply
+  refuses_reply after refusal asked unsaid unbroken refuses unchanged =
+      (asked, unsaid, unbroken, refuses, unchanged)
+
+  -- The head was sent.
+  pub may_reply : IsAsked end id → said_for id end.accepted ≡ None → broken ≡ None
+      → is_too_large (trailer_fields said.message.trailers) ≡ false
+      → MayAnswer end.log (answered_with id said) Done
+      → MayReply broken end id said (Ok tt)
+      (end_with_said end (answered_with id said) Done id said)
+  unfolding MayReply
+  may_reply asked unsaid unbroken fits answers =
+      (asked, unsaid, unbroken, fits, answers, refl)

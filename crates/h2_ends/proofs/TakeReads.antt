@@ -2,8 +2,8 @@
 use Rattle.h2_ends.proofs.Names
 use Names.{◌≡◌, ℕ, Bool, true, false, if◌then◌else◌, List, [], ◌∷◌, ◌++◌, Option, Some, None, refl}
 use Names.{sym, ap, subst, ◌∙◌, inl, inr, cases_eq, Field, Role, Client, Server, Values, is_server}
-use Names.{Place, Reads, Requests, Responses, Reading, SentMessage, Part, FieldsPart, OctetsPart}
-use Names.{Follows, End, Stream, EndLog, message_for, parts_on, tokens_of_part, IsReadableWith}
+use Names.{Place, Reads, Requests, Responses, Reading, Said, Part, FieldsPart, OctetsPart}
+use Names.{Follows, End, Stream, EndLog, said_for, parts_on, tokens_of_part, IsReadableWith}
 use Names.{RepresentsMessages, RepresentsBut, IsStream, IsUntouched, KeepsActive, kept_at}
 use Names.{outgoing_in, IsReadOn, MustRefuse, end_with_part, KeepsOne, reads_on, asked_head, IsKept}
 use Names.{ReadsFields, ReadsData, reads_of_new, Ok, Err, IsReadable, place_after}
@@ -149,7 +149,7 @@ module _ (values : Values) (end new : End) (happened : EndLog) (id : ℕ) (last 
         (more.0, part_refused _ is more.1)
 
 -- What is read on a stream on which nothing has happened.
-reads_by : (role : Role) (given : Option SentMessage) → given ≡ None
+reads_by : (role : Role) (given : Option Said) → given ≡ None
     → (if is_server role then Requests else Responses (asked_head given)) ≡ reads_of_new role
 unfolding asked_head
 reads_by Client given none = rw none refl
@@ -160,7 +160,7 @@ reads_first : (values : Values) (end : End) (happened : EndLog) (id : ℕ)
     → reads_of_new end.role ≡ reads_on happened id
 unfolding reads_on
 reads_first values end happened id is none =
-    rw is.role (sym (reads_by happened.log.role (message_for id happened.accepted) none.unsaid))
+    rw is.role (sym (reads_by happened.log.role (said_for id happened.accepted) none.unsaid))
 
 -- A new reading follows what was read of it.
 follows_first : (values : Values) (end : End) (happened : EndLog) (id : ℕ) (part : Part × Bool)

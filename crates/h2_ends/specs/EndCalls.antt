@@ -1,7 +1,8 @@
 -- What the calls of a client or a server may answer, and what has happened after them (RFC 9113,
 -- sections 8.1 and 6.9).
-use Rattle.std.specs.Prelude.{map as each, ◌≡◌, ◌≢◌, ◌⊎◌, ◌≤◌, ◌<◌, ℕ, ◌+◌, Bool, true, false}
-use Rattle.std.specs.Prelude.{List, [], ◌∷◌, ◌++◌, Option, Some, None, is_none}
+use Rattle.std.specs.Prelude.{map as each, ◌≡◌, ◌≢◌, ◌⊎◌, ◌≤◌, ◌<◌, ℕ, suc, ◌+◌, Bool, true, false}
+use Rattle.std.specs.Prelude.{List, [], ◌∷◌, ◌++◌, length, take, Option, Some, None, is_none}
+use Rattle.std.specs.Prelude.{if◌then◌else◌, ◌==◌, ◌&&◌}
 use Rattle.std.specs.Prelude.{Result, Ok, Err}
 use Rattle.hpack.specs.declared.types.field.Field.{Field}
 use Rattle.h2_spec_log.specs.declared.refusal.Refusal.{Refusal}
@@ -18,13 +19,18 @@ use Rattle.h2_spec_log.specs.LogCalls.{MayAnswer, with_call}
 use Rattle.h2_message.specs.declared.malformed.Malformed.{Malformed}
 use Rattle.h2_message.specs.Messages.{SentMessage, trailer_fields, broken_by_request}
 use Rattle.h2_message.specs.Messages.{broken_by_response}
+use Rattle.h2_message.specs.Lengths.{length_to_send, breaks_length, broken_by_head}
+use Rattle.h2_message.specs.Lengths.{broken_by_trailers}
+use Rattle.h2_message.specs.declared.malformed.Malformed.TheVariants.{BadLength}
+use Rattle.h2_message.specs.declared.reading.Reads.{Reads}
+use Rattle.h2_message.specs.declared.reading.Reads.TheVariants.{Requests, Responses}
 use Rattle.h2_message.specs.Phases.{asks_head_first}
 use Rattle.h2_laws_pair.specs.Quiet.{IsStuck}
-use Rattle.h2_laws_pair.specs.Tokens.{FieldsToken, OctetToken, EndToken, is_head_alone}
-use Rattle.h2_laws_pair.specs.Tokens.{trailers_tokens}
+use Rattle.h2_laws_pair.specs.Tokens.{Token, FieldsToken, OctetToken, EndToken, trailers_tokens}
+use Rattle.h2_laws_pair.specs.Tokens.{Begun, Ended, Said, at_once, is_ended_by_head}
 use Rattle.h2_ends.specs.declared.refusal.EndRefusal.{EndRefusal}
 use Rattle.h2_ends.specs.declared.refusal.EndRefusal.TheVariants as refusals
-use Rattle.h2_ends.specs.Ends.{EndLog, message_for, parts_on, tokens_waiting}
+use Rattle.h2_ends.specs.Ends.{EndLog, said_for, replaced, parts_on, tokens_waiting}
 use Rattle.h2_ends.specs.EndTakes.{end_with_log}
 
 -- why the connection refuses a message whose head this call sends: as the call, and C10 of the
@@ -56,29 +62,49 @@ IsUnchanged before after =
     × MayAnswer before.log act (Refused refusal)
     × (after ≡ end_with_log before (with_call before.log act (Refused refusal))))
 
--- the end after a message was accepted and its head sent by this call
-abbrev pub end_with_message : EndLog → Act → Answer → ℕ → SentMessage → EndLog
-end_with_message end act answer id message = record end {
+-- the end after this call, which has sent the head of what was accepted for a stream
+abbrev pub end_with_said : EndLog → Act → Answer → ℕ → Said → EndLog
+end_with_said end act answer id said = record end {
   log = with_call end.log act answer;
-  accepted = (id, message) ∷ end.accepted;
+  accepted = (id, said) ∷ end.accepted;
 }
 
--- What `request` may answer.
+-- the call that opens a stream with the head of what is given, and the one that sends the head on a
+-- stream
+abbrev pub opened_with : Said → Act
+opened_with said = Open said.message.head (is_ended_by_head said.form said.message)
+
+abbrev pub answered_with : ℕ → Said → Act
+answered_with id said = SendFields id said.message.head (is_ended_by_head said.form said.message)
+
+-- what is given of a message that is begun with its head, for one who reads this
+abbrev pub begun : Reads → List Field → Said
+begun reads head = record {
+  message = record { head = head; body = []; trailers = None };
+  form = Begun (length_to_send reads head);
+}
+
+-- What `request` and `begin` of a client may answer: `broken` is the rule that is broken, if one
+-- is.
 -- rule: 8.1 (own) A request is refused for a rule, or as its head is, or sent
-unfoldable pub MayRequest : EndLog → SentMessage → Result ℕ EndRefusal → EndLog → Type 0
-MayRequest end message (Ok id) after =
-    (broken_by_request message ≡ None)
-    × (is_too_large (trailer_fields message.trailers) ≡ false)
-    × MayAnswer end.log (Open message.head (is_head_alone message)) (Number id)
-    × (after ≡ end_with_message end (Open message.head (is_head_alone message)) (Number id) id
-    message)
-MayRequest end message (Err (refusals.BadMessage rule)) after =
-    (broken_by_request message ≡ Some rule) × (after ≡ end)
-MayRequest end message (Err (refusals.Conn refusal)) after =
-    (broken_by_request message ≡ None)
-    × RefusesMessage end.log (Open message.head (is_head_alone message)) message refusal
+unfoldable pub MayAsk : (broken : Option Malformed) → EndLog → Said → Result ℕ EndRefusal → EndLog
+    → Type 0
+MayAsk broken end said (Ok id) after =
+    (broken ≡ None) × (is_too_large (trailer_fields said.message.trailers) ≡ false)
+    × MayAnswer end.log (opened_with said) (Number id)
+    × (after ≡ end_with_said end (opened_with said) (Number id) id said)
+MayAsk broken end said (Err (refusals.BadMessage rule)) after =
+    (broken ≡ Some rule) × (after ≡ end)
+MayAsk broken end said (Err (refusals.Conn refusal)) after =
+    (broken ≡ None) × RefusesMessage end.log (opened_with said) said.message refusal
     × IsUnchanged end after
-MayRequest end message (Err other) after = ⊥
+MayAsk broken end said (Err other) after = ⊥
+
+abbrev pub MayRequest : EndLog → SentMessage → Result ℕ EndRefusal → EndLog → Type 0
+MayRequest end message = MayAsk (broken_by_request message) end (at_once message)
+
+abbrev pub MayBegin : EndLog → List Field → Result ℕ EndRefusal → EndLog → Type 0
+MayBegin end head = MayAsk (broken_by_head Requests head) end (begun Requests head)
 
 -- E3: the stream isn't active, or the head of its request was not handed out. A client hands out
 -- none.
@@ -98,29 +124,136 @@ abbrev pub broken_by_answer : EndLog → ℕ → SentMessage → Option Malforme
 broken_by_answer end id message =
     broken_by_response (asks_head_first (parts_on id end.handed)) message
 
--- What `respond` may answer: E3, E4, E1 and E2 in this order.
+-- what the client reads on a stream of a server
+abbrev pub answer_reads : EndLog → ℕ → Reads
+answer_reads end id = Responses (asks_head_first (parts_on id end.handed))
+
+-- What `respond` and `begin` of a server may answer: E3, E4, E1 and E2 in this order. `broken` is
+-- the rule that is broken, if one is.
 -- rule: 8.1 (own) A second response to a request is refused
 -- rule: 8.1 A response may come before its request is whole
-unfoldable pub MayRespond : EndLog → ℕ → SentMessage → Result (Unit {0}) EndRefusal → EndLog
+unfoldable pub MayReply : (broken : Option Malformed) → EndLog → ℕ → Said
+    → Result (Unit {0}) EndRefusal → EndLog → Type 0
+MayReply broken end id said (Ok done) after =
+    IsAsked end id × (said_for id end.accepted ≡ None) × (broken ≡ None)
+    × (is_too_large (trailer_fields said.message.trailers) ≡ false)
+    × MayAnswer end.log (answered_with id said) Done
+    × (after ≡ end_with_said end (answered_with id said) Done id said)
+MayReply broken end id said (Err refusals.NotAsked) after = IsNotAsked end id × (after ≡ end)
+MayReply broken end id said (Err refusals.Answered) after =
+    IsAsked end id × (said_for id end.accepted ≢ None) × (after ≡ end)
+MayReply broken end id said (Err (refusals.BadMessage rule)) after =
+    IsAsked end id × (said_for id end.accepted ≡ None) × (broken ≡ Some rule) × (after ≡ end)
+MayReply broken end id said (Err (refusals.Conn refusal)) after =
+    IsAsked end id × (said_for id end.accepted ≡ None) × (broken ≡ None)
+    × RefusesMessage end.log (answered_with id said) said.message refusal × IsUnchanged end after
+
+abbrev pub MayRespond : EndLog → ℕ → SentMessage → Result (Unit {0}) EndRefusal → EndLog → Type 0
+MayRespond end id message = MayReply (broken_by_answer end id message) end id (at_once message)
+
+abbrev pub MayBeginAnswer : EndLog → ℕ → List Field → Result (Unit {0}) EndRefusal → EndLog
     → Type 0
-MayRespond end id message (Ok done) after =
-    IsAsked end id × (message_for id end.accepted ≡ None)
-    × (broken_by_answer end id message ≡ None)
-    × (is_too_large (trailer_fields message.trailers) ≡ false)
-    × MayAnswer end.log (SendFields id message.head (is_head_alone message)) Done
-    × (after ≡ end_with_message end (SendFields id message.head (is_head_alone message)) Done id
-    message)
-MayRespond end id message (Err refusals.NotAsked) after = IsNotAsked end id × (after ≡ end)
-MayRespond end id message (Err refusals.Answered) after =
-    IsAsked end id × (message_for id end.accepted ≢ None) × (after ≡ end)
-MayRespond end id message (Err (refusals.BadMessage rule)) after =
-    IsAsked end id × (message_for id end.accepted ≡ None)
-    × (broken_by_answer end id message ≡ Some rule) × (after ≡ end)
-MayRespond end id message (Err (refusals.Conn refusal)) after =
-    IsAsked end id × (message_for id end.accepted ≡ None)
-    × (broken_by_answer end id message ≡ None)
-    × RefusesMessage end.log (SendFields id message.head (is_head_alone message)) message refusal
-    × IsUnchanged end after
+MayBeginAnswer end id head = MayReply (broken_by_head (answer_reads end id) head) end id
+    (begun (answer_reads end id) head)
+
+-- the end after this call, with which so much was accepted for a stream
+abbrev pub end_with_more : EndLog → Act → Answer → ℕ → Said → EndLog
+end_with_more end act answer id said = record end {
+  log = with_call end.log act answer;
+  accepted = replaced id said end.accepted;
+}
+
+-- A message was begun on an active stream: this was given of it, and its body has to have this
+-- length, if one is said.
+pub record IsOpen (end : EndLog) (id : ℕ) (said : Said) (number : Option ℕ) : Type 0 where
+  pub active : active end.log id ≡ true
+  pub accepted : said_for id end.accepted ≡ Some said
+  pub form : said.form ≡ Begun number
+
+-- E3: none was begun there, or all of it was given.
+abbrev pub IsNotOpen : EndLog → ℕ → Type 0
+IsNotOpen end id = (said : Said) (number : Option ℕ) → IsOpen end id said number → ⊥
+
+-- what was given with octets of its body more, and then its end where that is set
+abbrev pub with_octets : Said → List ℕ → (end : Bool) → Said
+with_octets said octets end = record {
+  message = record {
+    head = said.message.head;
+    body = said.message.body ++ octets;
+    trailers = None;
+  };
+  form = if end then Ended else said.form;
+}
+
+-- what was given with the trailers more, which end it
+abbrev pub with_trailers : Said → List Field → Said
+with_trailers said list = record {
+  message = record {
+    head = said.message.head;
+    body = said.message.body;
+    trailers = Some list;
+  };
+  form = Ended;
+}
+
+-- Whether these octets break M11 after those that were given, all of them, with the end or without.
+abbrev pub breaks_with : Said → Option ℕ → List ℕ → (end : Bool) → Bool
+breaks_with said number octets end =
+    breaks_length number (length said.message.body + length octets) end
+
+-- What `send_body` may answer: E3; M11; what the connection refuses; or how many of the octets it
+-- has sent. The end was given where it has sent all of them.
+-- rule: 8.1 (own) A part of a message is sent where one was begun, and is checked
+unfoldable pub MaySendBody : EndLog → ℕ → List ℕ → (ends : Bool) → Result ℕ EndRefusal → EndLog
+    → Type 0
+MaySendBody end id octets ends (Ok count) after =
+    (said : Said) × (number : Option ℕ) × IsOpen end id said number
+    × (breaks_with said number octets ends ≡ false)
+    × MayAnswer end.log (SendData id octets ends) (Count count)
+    × (after ≡ end_with_more end (SendData id octets ends) (Count count) id
+    (with_octets said (take count octets) (ends && count == length octets)))
+MaySendBody end id octets ends (Err refusals.NotAsked) after =
+    IsNotOpen end id × (after ≡ end)
+MaySendBody end id octets ends (Err refusals.Answered) after = ⊥
+MaySendBody end id octets ends (Err (refusals.BadMessage rule)) after =
+    (said : Said) × (number : Option ℕ) × IsOpen end id said number
+    × (breaks_with said number octets ends ≡ true) × (rule ≡ BadLength) × (after ≡ end)
+MaySendBody end id octets ends (Err (refusals.Conn refusal)) after =
+    (said : Said) × (number : Option ℕ) × IsOpen end id said number
+    × (breaks_with said number octets ends ≡ false)
+    × MayAnswer end.log (SendData id octets ends) (Refused refusal)
+    × (after ≡ end_with_log end (with_call end.log (SendData id octets ends) (Refused refusal)))
+
+-- What `send_trailers` may answer: E3; the rule that they break; what the connection refuses.
+-- rule: 8.1 (own) A part of a message is sent where one was begun, and is checked
+unfoldable pub MaySendTrailers : EndLog → ℕ → List Field → Result (Unit {0}) EndRefusal → EndLog
+    → Type 0
+MaySendTrailers end id list (Ok done) after =
+    (said : Said) × (number : Option ℕ) × IsOpen end id said number
+    × (broken_by_trailers number (length said.message.body) list ≡ None)
+    × MayAnswer end.log (SendFields id list true) Done
+    × (after ≡ end_with_more end (SendFields id list true) Done id (with_trailers said list))
+MaySendTrailers end id list (Err refusals.NotAsked) after = IsNotOpen end id × (after ≡ end)
+MaySendTrailers end id list (Err refusals.Answered) after = ⊥
+MaySendTrailers end id list (Err (refusals.BadMessage rule)) after =
+    (said : Said) × (number : Option ℕ) × IsOpen end id said number
+    × (broken_by_trailers number (length said.message.body) list ≡ Some rule) × (after ≡ end)
+MaySendTrailers end id list (Err (refusals.Conn refusal)) after =
+    (said : Said) × (number : Option ℕ) × IsOpen end id said number
+    × (broken_by_trailers number (length said.message.body) list ≡ None)
+    × MayAnswer end.log (SendFields id list true) (Refused refusal)
+    × (after ≡ end_with_log end (with_call end.log (SendFields id list true) (Refused refusal)))
+
+-- how many octets of bodies are among the tokens
+unfoldable pub octets_among : List Token → ℕ
+octets_among [] = 0
+octets_among (OctetToken octet ∷ tokens) = suc (octets_among tokens)
+octets_among (token ∷ tokens) = octets_among tokens
+
+-- How many octets of a body wait on a stream; nothing waits on one that isn't active.
+-- rule: 8.1 What was sent on a stream is a prefix of its message
+unfoldable pub unsent_on : EndLog → ℕ → ℕ
+unsent_on end i = if active end.log i then octets_among (tokens_waiting end i) else 0
 
 -- Of what waits on a stream nothing could go now.
 -- rule: 8.1 (own) pump sends the lower streams first, and all that can go

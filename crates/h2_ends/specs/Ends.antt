@@ -1,5 +1,5 @@
 -- What has happened at a client or a server: its connection's log, the messages that it was given,
--- and what it has handed out (RFC 9113, section 8.1).
+-- whole or in parts, and what it has handed out (RFC 9113, section 8.1).
 use Rattle.std.specs.Prelude.{◌≡◌, ◌≢◌, ◌⊎◌, ℕ, ◌==◌, Bool, true, false, if◌then◌else◌, List}
 use Rattle.std.specs.Prelude.{[], ◌∷◌, ◌++◌, length, drop, map as each, Option, Some, None}
 use Rattle.hpack.specs.declared.types.field.Field.{Field}
@@ -11,11 +11,11 @@ use Rattle.h2_message.specs.declared.reading.Reads.{Reads}
 use Rattle.h2_message.specs.declared.reading.Reads.TheVariants.{Requests, Responses}
 use Rattle.h2_message.specs.declared.reading.Place.{Place}
 use Rattle.h2_message.specs.declared.reading.Place.TheVariants as places
-use Rattle.h2_message.specs.Messages.{SentMessage, asks_head}
+use Rattle.h2_message.specs.Messages.{asks_head}
 use Rattle.h2_message.specs.Reading.{Part, FieldsPart, OctetsPart}
 use Rattle.h2_message.specs.Phases.{place_after}
 use Rattle.h2_laws_pair.specs.Tokens.{Token, FieldsToken, OctetToken, end_tokens, tokens_sent}
-use Rattle.h2_laws_pair.specs.Tokens.{message_tokens}
+use Rattle.h2_laws_pair.specs.Tokens.{Said, said_tokens}
 
 -- what an end hands out
 pub data Handed : Type 0 where
@@ -33,16 +33,21 @@ pub data Handed : Type 0 where
 pub record EndLog : Type 0 where
   -- the connection's
   pub log : Log
-  -- the messages that were accepted, with their streams, newest first
-  pub accepted : List (ℕ × SentMessage)
+  -- what was accepted, one message a stream, the newest first; one that is given in parts grows
+  pub accepted : List (ℕ × Said)
   -- what was handed out, newest first
   pub handed : List Handed
 
--- the message that was accepted for a stream
-unfoldable pub message_for : ℕ → List (ℕ × SentMessage) → Option SentMessage
-message_for i [] = None
-message_for i ((id, message) ∷ accepted) =
-    if id == i then Some message else message_for i accepted
+-- what was accepted for a stream
+unfoldable pub said_for : ℕ → List (ℕ × Said) → Option Said
+said_for i [] = None
+said_for i ((id, said) ∷ accepted) = if id == i then Some said else said_for i accepted
+
+-- the same with more accepted for one of the streams
+unfoldable pub replaced : ℕ → Said → List (ℕ × Said) → List (ℕ × Said)
+replaced i said [] = []
+replaced i said ((id, before) ∷ accepted) =
+    if id == i then (i, said) ∷ accepted else (id, before) ∷ replaced i said accepted
 
 -- the part of the stream's message that was handed out, and whether it has END_STREAM
 unfoldable pub part_on : ℕ → Handed → List (Part × Bool)
@@ -57,14 +62,14 @@ unfoldable pub parts_on : ℕ → List Handed → List (Part × Bool)
 parts_on i [] = []
 parts_on i (one ∷ handed) = parts_on i handed ++ part_on i one
 
--- the tokens of a message that was accepted, or none
-unfoldable pub tokens_given : Option SentMessage → List Token
+-- the tokens of what was accepted, or none
+unfoldable pub tokens_given : Option Said → List Token
 tokens_given None = []
-tokens_given (Some message) = message_tokens message
+tokens_given (Some said) = said_tokens said
 
 -- what an end was given to say on a stream
 abbrev pub tokens_said : EndLog → ℕ → List Token
-tokens_said end i = tokens_given (message_for i end.accepted)
+tokens_said end i = tokens_given (said_for i end.accepted)
 
 -- what it has sent of it so far, and what waits
 abbrev pub tokens_out : EndLog → ℕ → List Token
@@ -98,15 +103,15 @@ abbrev pub tokens_handed : EndLog → ℕ → List Token
 tokens_handed end i = tokens_of_parts (parts_on i end.handed)
 
 -- Whether an end has asked with HEAD on a stream.
-unfoldable pub asked_head : Option SentMessage → Bool
+unfoldable pub asked_head : Option Said → Bool
 asked_head None = false
-asked_head (Some message) = asks_head message.head
+asked_head (Some said) = asks_head said.message.head
 
 -- what an end reads on a stream
 unfoldable pub reads_on : EndLog → ℕ → Reads
 reads_on end i =
     if is_server end.log.role then Requests
-    else Responses (asked_head (message_for i end.accepted))
+    else Responses (asked_head (said_for i end.accepted))
 
 -- the part of a message that the connection reports, with its stream
 unfoldable pub part_of_event : Event → Option (ℕ × (Part × Bool))

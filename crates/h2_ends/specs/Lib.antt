@@ -9,4 +9,5 @@ pub mod Pumping
 pub mod Taking
 pub mod Heads
 pub mod Sends
+pub mod SoundSaid
 pub mod MessageTokens

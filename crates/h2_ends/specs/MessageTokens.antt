@@ -5,7 +5,7 @@ use Rattle.std.specs.Prelude.{◌∷◌, ◌++◌, Option, Some, None}
 use Rattle.hpack.specs.declared.types.field.Field.{Field}
 use Rattle.h2_message.specs.declared.reading.Place.{Place}
 use Rattle.h2_message.specs.declared.reading.Place.TheVariants as places
-use Rattle.h2_message.specs.Messages.{SentMessage}
+use Rattle.h2_laws_pair.specs.Tokens.{Form, Begun, Said}
 use Rattle.h2_ends.specs.Ends.{Handed, InterimHanded, HeadHanded, BodyHanded}
 use Rattle.h2_ends.specs.Ends.{TrailersHanded, Passed}
 
@@ -27,17 +27,22 @@ unfoldable pub trailers_listed : Option (List Field) → List MessageToken
 trailers_listed None = []
 trailers_listed (Some list) = ListToken places.Trailers list ∷ []
 
--- the parts of a message that an end sends: it sends no interim heads
--- rule (law): 8.1 (own) What has come of a message that breaks no rule can be read
-unfoldable pub parts_of_message : SentMessage → List MessageToken
-parts_of_message message =
-    ListToken places.Head message.head ∷ (each BodyToken message.body
-    ++ (trailers_listed message.trailers ++ LastToken ∷ []))
+-- the end, where it was given
+abbrev pub given_last : Form → List MessageToken
+given_last (Begun length) = []
+given_last form = LastToken ∷ []
 
--- the same of a message that was accepted for a stream, or none
-unfoldable pub parts_said : Option SentMessage → List MessageToken
+-- the parts of what an end is given to say: it sends no interim heads
+-- rule (law): 8.1 (own) What has come of a message that breaks no rule can be read
+unfoldable pub parts_of_said : Said → List MessageToken
+parts_of_said said =
+    ListToken places.Head said.message.head ∷ (each BodyToken said.message.body
+    ++ (trailers_listed said.message.trailers ++ given_last said.form))
+
+-- the same of what was accepted for a stream, or none
+unfoldable pub parts_said : Option Said → List MessageToken
 parts_said None = []
-parts_said (Some message) = parts_of_message message
+parts_said (Some said) = parts_of_said said
 
 -- what was handed out on a stream with one event
 -- rule: 8.1 (own) What is handed out of a stream is what was reported, in order

@@ -1,7 +1,7 @@
 -- When a client or a server represents what has happened at it, and what its calls make of that.
-use Rattle.std.specs.Prelude.{◌≡◌, ◌≢◌, ◌⊎◌, ◌<◌, ◌≤◌, ℕ, true, false, List, [], ◌∷◌, ◌++◌}
+use Rattle.std.specs.Prelude.{◌≡◌, ◌≢◌, ◌⊎◌, ◌<◌, ◌≤◌, ◌-◌, ℕ, true, false, List, [], ◌∷◌, ◌++◌}
 use Rattle.std.specs.Prelude.{length, drop, map as each, option_map, Option, Some, None, Result}
-use Rattle.std.specs.Prelude.{Ok, Err}
+use Rattle.std.specs.Prelude.{Bool, Ok, Err}
 use Rattle.std.specs.List.{Contains}
 use Rattle.std.specs.Map.{lookup}
 use Rattle.std.specs.Ordering.{nat_cmp}
@@ -13,14 +13,17 @@ use Rattle.h2_spec_log.specs.CallRules.{is_too_large}
 use Rattle.h2_spec_log.specs.Log.{Log, active, owed}
 use Rattle.h2_spec_log.specs.LogCalls.{MayAnswer, with_call, opened}
 use Rattle.h2_laws_end.specs.Over.{IsOver, is_number_used}
+use Rattle.hpack.specs.declared.types.field.Field.{Field}
 use Rattle.h2_conn.specs.Conn.{ConnRepresents}
 use Rattle.h2_message.specs.declared.message.Message.{Message}
 use Rattle.h2_message.specs.declared.reading.Reads.{Reads}
 use Rattle.h2_message.specs.declared.reading.Reads.TheVariants.{Requests, Responses}
+use Rattle.h2_message.specs.declared.parts.BodyLength.{BodyLength}
 use Rattle.h2_message.specs.Messages.{SentMessage, trailer_fields}
 use Rattle.h2_message.specs.Phases.{Follows}
 use Rattle.h2_message.specs.Values.{message_value}
-use Rattle.h2_laws_pair.specs.Tokens.{Token, OctetToken, EndToken, trailers_tokens, message_tokens}
+use Rattle.h2_laws_pair.specs.Tokens.{Token, OctetToken, EndToken, trailers_tokens, Said}
+use Rattle.h2_laws_pair.specs.Tokens.{Begun, is_begun, said_tokens}
 use Rattle.h2_laws_pair.specs.Tokens.{tokens_heard, IsPrefixOfTokens}
 use Rattle.h2_ends.specs.declared.refusal.EndRefusal.{EndRefusal}
 use Rattle.h2_ends.specs.declared.end.End.{End}
@@ -32,10 +35,11 @@ use Rattle.h2_ends.specs.declared.span.Span.{Span}
 use Rattle.h2_ends.specs.declared.span.Spans.{Spans}
 use Rattle.h2_ends.specs.declared.taking.EndProgress.{EndProgress}
 use Rattle.h2_conn.specs.declared.taken.ConnFault.{ConnFault}
-use Rattle.h2_ends.specs.Ends.{EndLog, message_for, parts_on, reads_on, tokens_said, tokens_out}
+use Rattle.h2_ends.specs.Ends.{EndLog, said_for, parts_on, reads_on, tokens_said, tokens_out}
 use Rattle.h2_ends.specs.Ends.{tokens_handed}
 use Rattle.h2_ends.specs.EndTakes.{EndMayTake, end_with_log}
-use Rattle.h2_ends.specs.EndCalls.{MayRequest, MayRespond, MayPump, MayReleaseAll}
+use Rattle.h2_ends.specs.EndCalls.{MayRequest, MayRespond, MayPump, MayReleaseAll, MayBegin}
+use Rattle.h2_ends.specs.EndCalls.{MayBeginAnswer, MaySendBody, MaySendTrailers}
 use Rattle.h2_ends.specs.declared.event.EndTaken.{EndTaken}
 use Rattle.h2_ends.specs.Loans.{answer_handed, answer_of_taken}
 
@@ -62,22 +66,44 @@ tokens_kept waiting =
 -- What is kept of a message that waits is what was not sent of it, and not the end alone.
 -- rule: 8.1 What was sent on a stream is a prefix of its message
 pub record IsWaiting (end : EndLog) (i : ℕ) (waiting : Waiting) : Type 0 where
-  pub message : SentMessage
-  pub accepted : message_for i end.accepted ≡ Some message
-  pub rest : message_tokens message ≡ tokens_out end i ++ tokens_kept waiting
+  pub said : Said
+  pub accepted : said_for i end.accepted ≡ Some said
+  pub whole : is_begun said.form ≡ false
+  pub rest : said_tokens said ≡ tokens_out end i ++ tokens_kept waiting
   pub begun : tokens_out end i ≢ []
   pub some : (waiting.sent < length waiting.body.items) ⊎ (waiting.trailers ≢ None)
   pub fits : is_too_large (trailer_fields (option_map (λ fields. fields.items) waiting.trailers))
       ≡ false
 
+-- What is left of a body of this length after so many octets, which are no more than that.
+unfoldable pub IsRest : (length : Option ℕ) → (count : ℕ) → BodyLength → Type 0
+IsRest None count rest = rest.left ≡ None
+IsRest (Some number) count rest = (count ≤ number) × (rest.left ≡ Some (number - count))
+
+-- A message was begun on a stream, and what was given of it was sent; so much of its body is left.
+pub record IsInParts (end : EndLog) (i : ℕ) (rest : BodyLength) : Type 0 where
+  pub said : Said
+  pub number : Option ℕ
+  pub accepted : said_for i end.accepted ≡ Some said
+  pub form : said.form ≡ Begun number
+  pub bare : said.message.trailers ≡ None
+  pub out : said_tokens said ≡ tokens_out end i
+  pub left : IsRest number (length said.message.body) rest
+
+-- All of a message was sent.
+pub record IsSent (end : EndLog) (i : ℕ) : Type 0 where
+  pub said : Said
+  pub accepted : said_for i end.accepted ≡ Some said
+  pub whole : is_begun said.form ≡ false
+  pub out : said_tokens said ≡ tokens_out end i
+
 -- What is kept of the message that is sent on a stream.
 unfoldable pub IsOutgoing : EndLog → ℕ → Outgoing → Type 0
 IsOutgoing end i outgoings.NotGiven =
-    (message_for i end.accepted ≡ None) × (tokens_out end i ≡ [])
+    (said_for i end.accepted ≡ None) × (tokens_out end i ≡ [])
+IsOutgoing end i (outgoings.Open rest) = IsInParts end i rest
 IsOutgoing end i (outgoings.Waiting waiting) = IsWaiting end i waiting
-IsOutgoing end i outgoings.Sent =
-    (message : SentMessage) × (message_for i end.accepted ≡ Some message)
-    × (message_tokens message ≡ tokens_out end i)
+IsOutgoing end i outgoings.Sent = IsSent end i
 
 -- What is kept of a stream. At a server its head was handed out.
 pub record IsStream (end : EndLog) (i : ℕ) (stream : Stream) : Type 0 where
@@ -89,7 +115,7 @@ pub record IsStream (end : EndLog) (i : ℕ) (stream : Stream) : Type 0 where
 -- Nothing was given or handed out on a stream.
 pub record IsUntouched (end : EndLog) (i : ℕ) : Type 0 where
   pub unread : parts_on i end.handed ≡ []
-  pub unsaid : message_for i end.accepted ≡ None
+  pub unsaid : said_for i end.accepted ≡ None
   pub unsent : tokens_out end i ≡ []
 
 -- What is kept of a number.
@@ -103,7 +129,7 @@ IsKept end i (Some stream) = IsStream end i stream
 pub record SendsInOrder (end : EndLog) (i : ℕ) : Type 0 where
   pub waiting : List Token
   pub prefix : tokens_said end i ≡ tokens_out end i ++ waiting
-  pub begun : message_for i end.accepted ≢ None → tokens_out end i ≢ []
+  pub begun : said_for i end.accepted ≢ None → tokens_out end i ≢ []
 
 -- This end has asked its connection to refuse the stream.
 abbrev pub WasRefused : Log → ℕ → Type 0
@@ -222,6 +248,29 @@ EndResponds old id message result new =
     HandsBack message result × ((values : Values) (end : EndLog) → EndRepresents values old end
     → (after : EndLog) × MayRespond end id message (without_message result) after
     × EndRepresents values new after)
+
+-- The same of the calls that give a message in parts.
+abbrev pub EndBegins : End → List Field → Result ℕ EndRefusal → End → Type 0
+EndBegins old head result new =
+    (values : Values) (end : EndLog) → EndRepresents values old end
+    → (after : EndLog) × MayBegin end head result after × EndRepresents values new after
+
+abbrev pub EndBeginsAnswer : End → ℕ → List Field → Result (Unit {0}) EndRefusal → End → Type 0
+EndBeginsAnswer old id head result new =
+    (values : Values) (end : EndLog) → EndRepresents values old end
+    → (after : EndLog) × MayBeginAnswer end id head result after × EndRepresents values new after
+
+abbrev pub EndSendsBody : End → ℕ → List ℕ → (ends : Bool) → Result ℕ EndRefusal → End → Type 0
+EndSendsBody old id octets ends result new =
+    (values : Values) (end : EndLog) → EndRepresents values old end
+    → (after : EndLog) × MaySendBody end id octets ends result after
+    × EndRepresents values new after
+
+abbrev pub EndSendsTrailers : End → ℕ → List Field → Result (Unit {0}) EndRefusal → End → Type 0
+EndSendsTrailers old id list result new =
+    (values : Values) (end : EndLog) → EndRepresents values old end
+    → (after : EndLog) × MaySendTrailers end id list result after
+    × EndRepresents values new after
 
 abbrev pub EndPumps : End → Result ℕ EndRefusal → End → Type 0
 EndPumps old result new =

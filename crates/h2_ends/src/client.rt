@@ -14,15 +14,17 @@ ghost use Rattle.h2_spec_log.specs.LogView.{log_view};
 ghost use Rattle.h2_conn.specs.Conn.{ConnRepresents, GivesOut, answer_by};
 ghost use Rattle.h2_message.specs.Values.{message_value};
 ghost use Rattle.h2_ends.specs.Ends.{EndLog};
+ghost use Rattle.h2_ends.specs.EndCalls.{unsent_on};
 ghost use Rattle.h2_ends.specs.Quiet.{IsQuietEnd};
 ghost use Rattle.h2_ends.specs.Represents.{EndRepresents, EndAnswers, EndPumps, EndReleases};
-ghost use Rattle.h2_ends.specs.Represents.{EndRequests, new_end_log};
+ghost use Rattle.h2_ends.specs.Represents.{EndRequests, new_end_log, EndBegins, EndSendsBody};
+ghost use Rattle.h2_ends.specs.Represents.{EndSendsTrailers};
 
 use crate::end::End;
 use crate::refusal::EndRefusal;
 use h2_conn::{Config, Conn, Refusal};
 use h2_frame::limits::FULL_OUTPUT;
-use h2_message::Message;
+use h2_message::{Field, Malformed, Message};
 use h2_spec_log::Role;
 use std::alloc::Global;
 use std::fmt;
@@ -74,6 +76,64 @@ impl Client {
         self.end.request(message)
     }
 
+    // contract: 8.1 (own) A part of a message is sent where one was begun, and is checked
+    /// Begins a request on a new stream, whose number it answers: sends its head, without
+    /// END_STREAM, after which [`Client::send_body`] sends the body as it comes, and its end, or
+    /// [`Client::send_trailers`] the end. A request without body and trailers is better given
+    /// whole, by [`Client::request`]. One that is begun and cannot be ended is given up by
+    /// [`Client::reset`].
+    ///
+    /// # Errors
+    ///
+    /// [`EndRefusal::BadMessage`] (E1) with the first of M1 to M8 and M10 that the head breaks, or
+    /// M11 for a `content-length` that is no number or that differs from another one, else
+    /// [`EndRefusal::Conn`] (E2) and the first of [`Refusal::Closed`] (C1),
+    /// [`Refusal::TooManyStreams`] (C4), [`Refusal::StreamsExhausted`] (C5),
+    /// [`Refusal::GoingAway`] (C6), [`Refusal::OutputFull`] (C7), [`Refusal::ListTooLarge`] (C10)
+    /// and [`Refusal::Memory`] (C12). Nothing has changed.
+    pub fn begin(&mut self, head: &[Field]) -> Result<u32, EndRefusal>
+        ensures { EndBegins self.old.end head.now result self.new.end }
+    {
+        self.end.begin(head)
+    }
+
+    // contract: 8.1 (own) A part of a message is sent where one was begun, and is checked
+    /// Sends octets of the body of the message that was begun on a stream, and its end (END_STREAM)
+    /// with them where `end` is set and all of them are sent. Answers how many were: as many as
+    /// both windows let through, at most 65,536 a call (see [`Conn::data`]), which may be none. No
+    /// octet is kept here: give the rest again, once the output was written and, where
+    /// [`Conn::room`] of the stream or of the connection (0) is not above 0, [`Client::take`] has
+    /// brought more.
+    ///
+    /// # Errors
+    ///
+    /// [`EndRefusal::NotAsked`] (E3) where the stream isn't active, no message was begun on it, or
+    /// its end was given; else [`EndRefusal::BadMessage`] (E1) with [`Malformed::BadLength`] (M11)
+    /// where the body, with all of these octets, would be longer than its head says, or, with its
+    /// end, shorter; else [`EndRefusal::Conn`] (E2) and the first of [`Refusal::Closed`] (C1),
+    /// [`Refusal::OutputFull`] (C7) and [`Refusal::Memory`] (C12). Nothing has changed.
+    pub fn send_body(&mut self, id: u32, octets: &[u8], end: bool) -> Result<usize, EndRefusal>
+        ensures { EndSendsBody self.old.end id octets.now end result self.new.end }
+    {
+        self.end.send_body(id, octets, end)
+    }
+
+    // contract: 8.1 (own) A part of a message is sent where one was begun, and is checked
+    /// Sends trailers, which end the message that was begun on a stream.
+    ///
+    /// # Errors
+    ///
+    /// [`EndRefusal::NotAsked`] (E3) as [`Client::send_body`]; else [`EndRefusal::BadMessage`] (E1)
+    /// with the first of M1, M2, M3 and M10 that the trailers break, or M11 where the body is
+    /// shorter than its head says; else [`EndRefusal::Conn`] (E2) and the first of
+    /// [`Refusal::Closed`] (C1), [`Refusal::OutputFull`] (C7), [`Refusal::ListTooLarge`] (C10) and
+    /// [`Refusal::Memory`] (C12). Nothing has changed.
+    pub fn send_trailers(&mut self, id: u32, trailers: &[Field]) -> Result<(), EndRefusal>
+        ensures { EndSendsTrailers self.old.end id trailers.now result self.new.end }
+    {
+        self.end.send_trailers(id, trailers)
+    }
+
     // contract: 8.1 What was sent on a stream is a prefix of its message
     // contract: 8.1 (own) pump sends the lower streams first, and all that can go
     /// Sends what waits of bodies and trailers, streams in rising order, each as far as its windows
@@ -89,6 +149,17 @@ impl Client {
         ensures { EndPumps self.old.end result self.new.end }
     {
         self.end.pump()
+    }
+
+    // contract: 8.1 What was sent on a stream is a prefix of its message
+    /// How many octets of the body that was given for a stream wait for [`Client::pump`]; 0 where
+    /// the stream isn't active, and of a message in parts, of which none waits. Trailers are not
+    /// counted: where they alone wait it is 0 too.
+    pub fn unsent(&self, id: u32) -> usize
+        ensures { (values : Values) (end : EndLog) → EndRepresents values self.now.end end
+            → result ≡ unsent_on end id }
+    {
+        self.end.unsent(id)
     }
 
     // contract: 6.9 (own) release_all releases what is owed on each active stream
@@ -122,7 +193,8 @@ impl Client {
 
     // contract: 8.1 (own) Something is kept of each active stream, and of no other
     // contract: 8.1 (own) The other calls of a client and a server are the connection's
-    /// Resets a stream with a code, and forgets what waits on it: see [`Conn::reset`].
+    /// Resets a stream with a code, forgets what waits on it, and gives up a message that was begun
+    /// there: see [`Conn::reset`].
     ///
     /// # Errors
     ///

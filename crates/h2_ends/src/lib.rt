@@ -1,8 +1,9 @@
 //! A client and a server of HTTP/2 over cleartext, without input and output (RFC 9113, section 8).
 //!
 //! [`Client::request`] and [`Server::respond`] take whole messages, whose bodies are sent as
-//! windows allow. What the peer sends is handed out part by part: a part is handed out only where
-//! the parts so far begin a message that breaks no rule.
+//! windows allow. [`Client::begin`] and [`Server::begin`] send a head alone, and `send_body` and
+//! `send_trailers` what follows it, as it comes. What the peer sends is handed out part by part: a
+//! part is handed out only where the parts so far begin a message that breaks no rule.
 //!
 //! Whoever reads and writes goes round so: `take` with what was read, until the piece is used and
 //! nothing is handed out; `respond` to what was asked; `release_all`, without which the peer stops
@@ -18,7 +19,9 @@ mod event;
 mod laws;
 mod lending;
 mod outgoing;
+mod parts;
 mod quiet;
+mod readers;
 mod refusal;
 mod sending;
 mod server;
@@ -30,8 +33,9 @@ pub use event::{EndEvent, EndTaken};
 pub use h2_conn::{BadConfig, Config, Conn, ConnFault, Refusal};
 pub use h2_frame::Code;
 pub use h2_message::{
-    Field, FieldList, FieldRef, Malformed, Message, Octets, check_request, check_response,
+    BodyLength, Field, FieldList, FieldRef, Malformed, Message, Octets, check_request,
+    check_request_head, check_response, check_response_head,
 };
-pub use laws::sent_parts_are_readable;
+pub use laws::{parts_are_sent_at_once, sent_parts_are_readable};
 pub use refusal::EndRefusal;
 pub use server::Server;

@@ -1,6 +1,6 @@
 //! What a stream of an end has to send, and what was read of it.
 
-use h2_message::Reading;
+use h2_message::{BodyLength, Reading};
 use hpack::Field;
 
 /// What waits of a message whose head was sent: octets of its body, its trailers, or both.
@@ -19,6 +19,8 @@ pub(crate) struct Waiting {
 pub(crate) enum Outgoing {
     /// It wasn't given yet.
     NotGiven,
+    /// It was begun, and what was given of it was sent; its body has to have so much more.
+    Open(BodyLength),
     /// Its head was sent, and this waits.
     Waiting(Waiting),
     /// All of it was sent.

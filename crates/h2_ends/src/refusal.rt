@@ -2,7 +2,7 @@
 
 ghost use Rattle.std.specs.Prelude.{◌≡◌};
 
-use h2_message::Malformed;
+use h2_message::{Malformed, Message};
 use h2_spec_log::Refusal;
 use thiserror::Error;
 
@@ -17,12 +17,33 @@ pub enum EndRefusal {
     /// E2: the connection refuses it.
     #[error("E2 Conn: {0}")]
     Conn(Refusal),
-    /// E3: the stream isn't active, or the head of its request wasn't handed out.
-    #[error("E3 NotAsked: no request was handed out on an active stream with this number")]
+    /// E3: the stream isn't active; or a response is given where the head of no request was handed
+    /// out, or a part of a message where none was begun or its end was given.
+    #[error("E3 NotAsked: the stream is not active, or has no request or no open message")]
     NotAsked,
-    /// E4: a response was given for the stream already.
+    /// E4: a response was given for the stream already, or begun.
     #[error("E4 Answered: the request has its answer already")]
     Answered,
+}
+
+impl From<(Message, EndRefusal)> for EndRefusal {
+    ghost from_gives = { λ back made. made ≡ back.1 };
+
+    /// The refusal of a message that is handed back. The message is dropped.
+    fn from(back: (Message, EndRefusal)) -> EndRefusal {
+        let (_, refusal) = back;
+        refusal
+    }
+}
+
+impl From<Malformed> for EndRefusal {
+    ghost use Rattle.h2_ends.specs.declared.refusal.EndRefusal.TheVariants.{BadMessage};
+
+    ghost from_gives = { λ rule made. made ≡ BadMessage rule };
+
+    fn from(rule: Malformed) -> EndRefusal {
+        EndRefusal::BadMessage(rule)
+    }
 }
 
 impl From<Refusal> for EndRefusal {

@@ -8,8 +8,9 @@ ghost use Rattle.h2_conn.specs.Conn.{ConnRepresents};
 ghost use Rattle.h2_message.specs.Messages.{trailer_fields};
 ghost use Rattle.h2_message.specs.Values.{message_value};
 ghost use Rattle.h2_ends.specs.Ends.{EndLog};
-ghost use Rattle.h2_laws_pair.specs.Tokens.{is_head_alone};
-ghost use Rattle.h2_ends.specs.Heads.{AnswersHead, IsGiven, OpensStream, SendsHead, outgoing_for};
+ghost use Rattle.h2_laws_pair.specs.Tokens.{Said, at_once, is_ended_by_head, is_head_alone};
+ghost use Rattle.h2_ends.specs.Heads.{AnswersHead, AsksOn, IsGiven, OpensStream, SendsHead};
+ghost use Rattle.h2_ends.specs.Heads.{outgoing_for};
 ghost use Rattle.h2_ends.specs.Represents.{EndRepresents, EndPumps, EndReleases, EndRequests};
 ghost use Rattle.h2_ends.specs.Represents.{EndResponds};
 ghost use Rattle.h2_ends.specs.Sends.{IsNextIn, PumpsOn, Sends, StopsBy, WaitsAsBefore};
@@ -48,7 +49,7 @@ impl End {
         }
         match self.open(&message) {
             Ok(id) => {
-                self.give(id, message);
+                self.keep(id, outgoing_of(message));
                 Ok(id)
             }
             Err(refusal) => Err((message, refusal.into())),
@@ -59,26 +60,39 @@ impl End {
     /// Opens a stream with the head of a request.
     fn open(&mut self, message: &Message) -> Result<u32, Refusal>
         ensures { (values : Values) (end : EndLog) → EndRepresents values self.old end
-            → OpensStream values end (message_value message.now) self.old result self.new }
+            → OpensStream values end (at_once (message_value message.now)) self.old result
+            self.new }
     {
         if let Some(trailers) = large_trailers(message) {
             // The connection refuses them, and says whether something else comes first.
             return self.conn.open(trailers, true);
         }
+        self.open_with(&message.head, is_head_alone(message))
+    }
+
+    // rule: 8.1 (own) A request is refused for a rule, or as its head is, or sent
+    /// Opens a stream with this head. Its trailers, where they are known, are not too large.
+    pub(crate) fn open_with(&mut self, head: &[Field], ends: bool) -> Result<u32, Refusal>
+        ensures { (values : Values) (end : EndLog) (said : Said)
+            → EndRepresents values self.old end → said.message.head ≡ head.now
+            → is_ended_by_head said.form said.message ≡ ends
+            → is_too_large (trailer_fields said.message.trailers) ≡ false
+            → OpensStream values end said self.old result self.new }
+    {
         let Some(id) = self.conn.next_number() else {
-            return self.conn.open(&message.head, true);
+            return self.conn.open(head, ends);
         };
         let stream = Stream {
             reading: Reading::new(Reads::Responses {
-                to_head: asks_head(&message.head),
+                to_head: asks_head(head),
             }),
             outgoing: Outgoing::NotGiven,
         };
         if self.streams.insert(id, stream).is_err() {
-            let refusal = self.conn.refusal_to_open(&message.head);
+            let refusal = self.conn.refusal_to_open(head);
             return Err(refusal.unwrap_or(Refusal::Memory));
         }
-        let opened = self.conn.open(&message.head, is_head_alone(message));
+        let opened = self.conn.open(head, ends);
         if opened.is_err() {
             self.streams.remove(&id);
         }
@@ -94,7 +108,7 @@ impl End {
             return Err((message, refusal));
         }
         let is_whole = is_head_alone(&message);
-        self.give(id, message);
+        self.keep(id, outgoing_of(message));
         if is_whole {
             self.forget_if_over(id);
         }
@@ -102,11 +116,25 @@ impl End {
     }
 
     // rule: 8.1 (own) A response is sent only to a request, and is checked
-    // rule: 8.1 (own) A second response to a request is refused
     /// Sends the head of a response.
     fn answer(&mut self, id: u32, message: &Message) -> Result<(), EndRefusal>
         ensures { (values : Values) (end : EndLog) → EndRepresents values self.old end
             → AnswersHead values end id (message_value message.now) self.old result self.new }
+    {
+        let to_head = self.asks_on(id)?;
+        if let Err(rule) = check_response(message, to_head) {
+            return Err(EndRefusal::BadMessage(rule));
+        }
+        send_head(&mut self.conn, id, message)?;
+        Ok(())
+    }
+
+    // rule: 8.1 (own) A response is sent only to a request, and is checked
+    // rule: 8.1 (own) A second response to a request is refused
+    /// Whether the request on a stream, which has no response yet, asks with HEAD.
+    pub(crate) fn asks_on(&self, id: u32) -> Result<bool, EndRefusal>
+        ensures { (values : Values) (end : EndLog) → EndRepresents values self.now end
+            → AsksOn end id result }
     {
         let Some(stream) = self.streams.get(&id) else {
             return Err(EndRefusal::NotAsked);
@@ -117,23 +145,19 @@ impl End {
         if !matches!(stream.outgoing, Outgoing::NotGiven) {
             return Err(EndRefusal::Answered);
         }
-        if let Err(rule) = check_response(message, stream.reading.asks_head()) {
-            return Err(EndRefusal::BadMessage(rule));
-        }
-        send_head(&mut self.conn, id, message)?;
-        Ok(())
+        Ok(stream.reading.asks_head())
     }
 
     // rule: 8.1 (own) A request is refused for a rule, or as its head is, or sent
-    /// Keeps what waits of a message whose head was sent.
-    fn give(&mut self, id: u32, message: Message)
-        ensures { IsGiven self.old id message self.new }
+    /// Keeps what is left of a message whose head was sent.
+    pub(crate) fn keep(&mut self, id: u32, outgoing: Outgoing)
+        ensures { IsGiven self.old id outgoing self.new }
     {
-        if !is_head_alone(&message) {
+        if matches!(outgoing, Outgoing::Waiting(_)) {
             self.spans.waiting = self.spans.waiting.with(id);
         }
         if let Some(stream) = self.streams.get_mut(&id) {
-            stream.outgoing = outgoing_of(message);
+            stream.outgoing = outgoing;
         }
     }
 

@@ -14,15 +14,17 @@ ghost use Rattle.h2_spec_log.specs.LogView.{log_view};
 ghost use Rattle.h2_conn.specs.Conn.{ConnRepresents, GivesOut, answer_by};
 ghost use Rattle.h2_message.specs.Values.{message_value};
 ghost use Rattle.h2_ends.specs.Ends.{EndLog};
+ghost use Rattle.h2_ends.specs.EndCalls.{unsent_on};
 ghost use Rattle.h2_ends.specs.Quiet.{IsQuietEnd};
 ghost use Rattle.h2_ends.specs.Represents.{EndRepresents, EndAnswers, EndPumps, EndReleases};
-ghost use Rattle.h2_ends.specs.Represents.{EndResponds, new_end_log};
+ghost use Rattle.h2_ends.specs.Represents.{EndResponds, new_end_log, EndBeginsAnswer, EndSendsBody};
+ghost use Rattle.h2_ends.specs.Represents.{EndSendsTrailers};
 
 use crate::end::End;
 use crate::refusal::EndRefusal;
 use h2_conn::{Config, Conn, Refusal};
 use h2_frame::limits::FULL_OUTPUT;
-use h2_message::Message;
+use h2_message::{Field, Malformed, Message};
 use h2_spec_log::Role;
 use std::alloc::Global;
 use std::fmt;
@@ -66,14 +68,75 @@ impl Server {
     ///
     /// The message is handed back with [`EndRefusal::NotAsked`] (E3) where the stream isn't active
     /// or no request on it was handed out, else with [`EndRefusal::Answered`] (E4) where it has its
-    /// response, else with [`EndRefusal::BadMessage`] (E1) where the message breaks a rule, else
-    /// with [`EndRefusal::Conn`] (E2) and the first of [`Refusal::Closed`] (C1),
-    /// [`Refusal::OutputFull`] (C7), [`Refusal::ListTooLarge`] (C10, of the trailers too) and
+    /// response, or one was begun, else with [`EndRefusal::BadMessage`] (E1) where the message
+    /// breaks a rule, else with [`EndRefusal::Conn`] (E2) and the first of [`Refusal::Closed`]
+    /// (C1), [`Refusal::OutputFull`] (C7), [`Refusal::ListTooLarge`] (C10, of the trailers too) and
     /// [`Refusal::Memory`] (C12). Nothing has changed.
     pub fn respond(&mut self, id: u32, message: Message) -> Result<(), (Message, EndRefusal)>
         ensures { EndResponds self.old.end id (message_value message) result self.new.end }
     {
         self.end.respond(id, message)
+    }
+
+    // contract: 8.1 (own) A part of a message is sent where one was begun, and is checked
+    // contract: 8.1 (own) A second response to a request is refused
+    /// Begins a response to the request on a stream: sends its head, without END_STREAM, after
+    /// which [`Server::send_body`] sends the body as it comes, and its end, or
+    /// [`Server::send_trailers`] the end. The request need not be whole. A response without body
+    /// and trailers is better given whole, by [`Server::respond`]. One that is begun and cannot be
+    /// ended is given up by [`Server::reset`].
+    ///
+    /// # Errors
+    ///
+    /// [`EndRefusal::NotAsked`] (E3) where the stream isn't active or no request on it was handed
+    /// out, else [`EndRefusal::Answered`] (E4) where it has its response, or one was begun, else
+    /// [`EndRefusal::BadMessage`] (E1) with the first of M1 to M6, M9 and M10 that the head breaks,
+    /// or M11 for a `content-length` that is no number or that differs from another one, else
+    /// [`EndRefusal::Conn`] (E2) and the first of [`Refusal::Closed`] (C1),
+    /// [`Refusal::OutputFull`] (C7), [`Refusal::ListTooLarge`] (C10) and [`Refusal::Memory`] (C12).
+    /// Nothing has changed.
+    pub fn begin(&mut self, id: u32, head: &[Field]) -> Result<(), EndRefusal>
+        ensures { EndBeginsAnswer self.old.end id head.now result self.new.end }
+    {
+        self.end.begin_answer(id, head)
+    }
+
+    // contract: 8.1 (own) A part of a message is sent where one was begun, and is checked
+    /// Sends octets of the body of the message that was begun on a stream, and its end (END_STREAM)
+    /// with them where `end` is set and all of them are sent. Answers how many were: as many as
+    /// both windows let through, at most 65,536 a call (see [`Conn::data`]), which may be none. No
+    /// octet is kept here: give the rest again, once the output was written and, where
+    /// [`Conn::room`] of the stream or of the connection (0) is not above 0, [`Server::take`] has
+    /// brought more.
+    ///
+    /// # Errors
+    ///
+    /// [`EndRefusal::NotAsked`] (E3) where the stream isn't active, no message was begun on it, or
+    /// its end was given; else [`EndRefusal::BadMessage`] (E1) with [`Malformed::BadLength`] (M11)
+    /// where the body, with all of these octets, would be longer than its head says, or, with its
+    /// end, shorter, or has any where none may be (an answer to HEAD, 204, 304); else
+    /// [`EndRefusal::Conn`] (E2) and the first of [`Refusal::Closed`] (C1), [`Refusal::OutputFull`]
+    /// (C7) and [`Refusal::Memory`] (C12). Nothing has changed.
+    pub fn send_body(&mut self, id: u32, octets: &[u8], end: bool) -> Result<usize, EndRefusal>
+        ensures { EndSendsBody self.old.end id octets.now end result self.new.end }
+    {
+        self.end.send_body(id, octets, end)
+    }
+
+    // contract: 8.1 (own) A part of a message is sent where one was begun, and is checked
+    /// Sends trailers, which end the message that was begun on a stream.
+    ///
+    /// # Errors
+    ///
+    /// [`EndRefusal::NotAsked`] (E3) as [`Server::send_body`]; else [`EndRefusal::BadMessage`] (E1)
+    /// with the first of M1, M2, M3 and M10 that the trailers break, or M11 where the body is
+    /// shorter than its head says; else [`EndRefusal::Conn`] (E2) and the first of
+    /// [`Refusal::Closed`] (C1), [`Refusal::OutputFull`] (C7), [`Refusal::ListTooLarge`] (C10) and
+    /// [`Refusal::Memory`] (C12). Nothing has changed.
+    pub fn send_trailers(&mut self, id: u32, trailers: &[Field]) -> Result<(), EndRefusal>
+        ensures { EndSendsTrailers self.old.end id trailers.now result self.new.end }
+    {
+        self.end.send_trailers(id, trailers)
     }
 
     // contract: 8.1 What was sent on a stream is a prefix of its message
@@ -93,6 +156,17 @@ impl Server {
         self.end.pump()
     }
 
+    // contract: 8.1 What was sent on a stream is a prefix of its message
+    /// How many octets of the body that was given for a stream wait for [`Server::pump`]; 0 where
+    /// the stream isn't active, and of a message in parts, of which none waits. Trailers are not
+    /// counted: where they alone wait it is 0 too.
+    pub fn unsent(&self, id: u32) -> usize
+        ensures { (values : Values) (end : EndLog) → EndRepresents values self.now.end end
+            → result ≡ unsent_on end id }
+    {
+        self.end.unsent(id)
+    }
+
     // contract: 6.9 (own) release_all releases what is owed on each active stream
     /// Gives all that is owed back to the client (section 6.9), streams in rising order.
     ///
@@ -106,7 +180,8 @@ impl Server {
         self.end.release_all()
     }
 
-    /// Resets a stream with a code, and forgets what waits on it: see [`Conn::reset`].
+    /// Resets a stream with a code, forgets what waits on it, and gives up a message that was begun
+    /// there: see [`Conn::reset`].
     ///
     /// # Errors
     ///

@@ -1,32 +1,24 @@
 -- What is kept of requests once one of them was answered, or its stream was reset; and at first.
 use Rattle.h2_engines.proofs.Names
-use Names.{◌≡◌, ℕ, Bool, true, false, List, [], ◌∷◌, Option, Some, None, Ok, refl, sym, ap, ◌∙◌}
-use Names.{subst, inl, inr, ne_eqb, cases_eq, both_ways, Server, Values, Act, SendFields}
+use Names.{◌≡◌, ℕ, Bool, true, false, List, [], Option, Some, None, Ok, refl, sym, ap, ◌∙◌}
+use Names.{subst, inl, inr, cases_eq, both_ways, Server, Values, Act, SendFields}
 use Names.{ResetStream, Done, SentMessage, Part, first_in, call_calls, is_head_alone, EndLog}
 use Names.{end_with_log, new_end_log, with_call, Request, answer_with, KeepsOthers, IsResponding}
-use Names.{WasReportedReset, WasTooLarge, WasAnswered, AnswersAll, calm, ends_message, message_for}
-use Names.{parts_on, MayRespond, answer_to, body_of_parts, is_too_large_body, ◌≢◌, if◌then◌else◌}
+use Names.{WasReportedReset, WasTooLarge, WasAnswered, AnswersAll, calm, ends_message, said_for}
+use Names.{parts_on, MayReply, MayRespond, answer_to, body_of_parts, is_too_large_body, ◌≢◌}
 use Names.{◌⊎◌, Requests, RequestState, has_not_come, comes, was_answered, was_given_up}
-use Names.{KeepsRequests, IsToAnswer, request_at, end_with_message}
+use Names.{KeepsRequests, IsToAnswer, request_at, end_with_said, at_once}
 use Rattle.h2_engines.specs.ServerHistories.{AreOnce}
 use Rattle.h2_engines.proofs.SameRequests.{SameOn, same_on, stands_as}
 use Rattle.h2_engines.proofs.LinkInvariants.{holds_responding}
 use Rattle.h2_engines.proofs.TakeMessages.{keeps_by_call, taken_says}
-use Rattle.h2_ends.proofs.RequestSent.{accepted_here as message_here}
+use Rattle.h2_ends.proofs.RequestSent.{accepted_elsewhere, accepted_here}
 
 -- A request that is to be answered is answered with what was kept of it.
 pub kept_to_answer : {end : EndLog} {id : ℕ} {request : Request} → IsToAnswer end id request
     → answer_to (parts_on id end.handed) ≡ Some (answer_with request.text.items request.to_head)
 unfolding answer_to
 kept_to_answer is = rw (is.came, is.request_is.text, is.request_is.to_head) refl
-
--- and for another one the one before.
-message_other : (id i : ℕ) (message : SentMessage) (accepted : List (ℕ × SentMessage)) → i ≢ id
-    → message_for i ((id, message) ∷ accepted) ≡ message_for i accepted
-unfolding message_for
-message_other id i message accepted other =
-    ap (λ (b : Bool). if b then Some message else message_for i accepted)
-    (ne_eqb id i (λ same. other (sym same)))
 
 -- What holds of the one and of all others holds of each.
 by_stream : {requests : Requests} {end after : EndLog} {id : ℕ} → KeepsOthers requests end id
@@ -40,13 +32,13 @@ by_stream {requests} {after} {id} keeps one same i = elim (cases_eq i id) [
 
 -- A message was accepted, and the call that sent its head was made.
 record Accepts (end : EndLog) (id : ℕ) (message : SentMessage) (after : EndLog) : Type 0 where
-  pub unanswered : message_for id end.accepted ≡ None
+  pub unanswered : said_for id end.accepted ≡ None
   pub act : Act
-  pub is : after ≡ end_with_message end act Done id message
+  pub is : after ≡ end_with_said end act Done id (at_once message)
 
 accepts : (end after : EndLog) (id : ℕ) (message : SentMessage) (done : Unit {0})
     → MayRespond end id message (Ok done) after → Accepts end id message after
-unfolding MayRespond
+unfolding MayReply
 accepts end after id message done may =
     record {
       unanswered = may.1;
@@ -56,11 +48,11 @@ accepts end after id message done may =
 
 -- On other streams nothing has happened then.
 answered_others : (end : EndLog) (id : ℕ) (message : SentMessage) (act : Act) (i : ℕ) → i ≢ id
-    → SameOn end (end_with_message end act Done id message) i
+    → SameOn end (end_with_said end act Done id (at_once message)) i
 answered_others end id message act i other =
     record {
       parts = refl;
-      message = message_other id i message end.accepted other;
+      message = accepted_elsewhere i id (at_once message) end.accepted other;
       resets = λ reset. reset;
       calls = keeps_by_call end.log act Done;
     }
@@ -68,7 +60,8 @@ answered_others end id message act i other =
 -- The request was answered.
 answered_now : {end : EndLog} {id : ℕ} {request : Request} (act : Act) → IsToAnswer end id request
     → WasAnswered
-    (end_with_message end act Done id (answer_with request.text.items request.to_head)) id
+    (end_with_said end act Done id
+    (at_once (answer_with request.text.items request.to_head))) id
 answered_now {end} {id} {request} act is =
     let message = answer_with request.text.items request.to_head in
     record {
@@ -76,7 +69,7 @@ answered_now {end} {id} {request} act is =
       fits = is.fits;
       message = message;
       asked = kept_to_answer is;
-      answered = message_here id message end.accepted;
+      answered = accepted_here id (at_once message) end.accepted;
     }
 
 pub kept_answered : {requests : Requests} {end : EndLog} (after : EndLog) {id : ℕ}
@@ -86,7 +79,7 @@ pub kept_answered : {requests : Requests} {end : EndLog} (after : EndLog) {id : 
 kept_answered {requests} {end} after {id} {request} done keeps is may =
     let message = answer_with request.text.items request.to_head in
     let accepted = accepts end after id message done may in
-    let now = end_with_message end accepted.act Done id message in
+    let now = end_with_said end accepted.act Done id (at_once message) in
     rw accepted.is (by_stream keeps (was_answered (answered_now accepted.act is))
     (λ i other. answered_others end id message accepted.act i other))
 
@@ -107,7 +100,7 @@ none_at : (requests : Requests) (id : ℕ) → requests.kept.entries ≡ []
 none_at requests id none = rw none refl
 
 none_come : (values : Values) (id : ℕ) → RequestState (new_end_log Server values) id None
-unfolding parts_on message_for
+unfolding parts_on said_for
 none_come values id = has_not_come refl refl
 
 pub kept_none : (requests : Requests) → requests.kept.entries ≡ [] → (values : Values)
@@ -145,7 +138,7 @@ large_stands (was_given_up why unsaid) large = why
 
 -- What was answered was a whole request.
 none_else_stands : {end : EndLog} {id : ℕ} {request : Option Request} → RequestState end id request
-    → message_for id end.accepted ≢ None → WasAnswered end id
+    → said_for id end.accepted ≢ None → WasAnswered end id
 none_else_stands (has_not_come none unsaid) some = absurd (some unsaid)
 none_else_stands (comes head parts kept are goes fits is unsaid) some = absurd (some unsaid)
 none_else_stands (was_answered was) some = was

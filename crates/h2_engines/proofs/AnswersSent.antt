@@ -7,10 +7,10 @@ use Names.{SendFields, ResetStream, Refuse, PutOut, Done, OutOfMemory, Event, Re
 use Names.{is_server, log_after_take, call_calls, first_in, later_in, SentMessage, Part, Ok, EndLog}
 use Names.{Handed, Passed, EndAnswer, end_with_log, EndMayTake, End, EndRepresents, new_end_log}
 use Names.{is_head_alone, drop-append_seam, with_call, active, grows_call, Token, WasAsked}
-use Names.{message_for, part_on, take_calls, is_too_large_body, IsResponding, WasReportedReset}
-use Names.{AnswersAll, calm, opened, with_sent, parts_on, tokens_given, MayRespond, part_of_event}
-use Names.{tokens_out, ◌⊎◌, message_tokens, HasSentWhole, memory_fails, MayTake, Took, Failed}
-use Names.{ends_no_frame, ends_frame, meets_fault, TakeAnswer, reports_unprocessed}
+use Names.{said_for, part_on, take_calls, is_too_large_body, IsResponding, WasReportedReset}
+use Names.{AnswersAll, calm, opened, with_sent, parts_on, tokens_given, MayReply, MayRespond}
+use Names.{part_of_event, tokens_out, ◌⊎◌, Said, said_tokens, HasSentWhole, memory_fails, MayTake}
+use Names.{ends_no_frame, ends_frame, Failed, meets_fault, TakeAnswer, Took, reports_unprocessed}
 use Rattle.h2_laws_pair.proofs.HeardMessages.{unended}
 use Rattle.h2_ends.specs.EndTakes.{refusal_fails, runs_out_of_memory, hands_nothing, passes}
 use Rattle.h2_ends.specs.EndTakes.{hands_out, end_with_handed, fails, refuses}
@@ -113,7 +113,7 @@ calls_drop end act answer sends was up =
 answer_drops : (before : EndLog) (id : ℕ) (message : SentMessage) (done : Unit {0}) (after : EndLog)
     → MayRespond before id message (Ok done) after
     → (before.log.failed ≡ None → AreDropped before) → after.log.failed ≡ None → AreDropped after
-unfolding MayRespond
+unfolding MayReply
 answer_drops before id message done after may was up =
     let act = SendFields id message.head (is_head_alone message) in
     let log : after.log ≡ with_call before.log act Done = ap (λ (end : EndLog). end.log) may.5 in
@@ -345,34 +345,34 @@ module _ {values : Values} {server : End} {end : EndLog} (responding : IsRespond
     (represents : EndRepresents values server end) (up : end.log.failed ≡ None)
     (none_active : (i : ℕ) → active end.log i ≡ false) (answers : AnswersAll end) (i : ℕ)
     (unreset : WasReportedReset end i → ⊥) where
-  goes_nowhere : (message : SentMessage) (token : Token) (others : List Token)
-      → message_for i end.accepted ≡ Some message
-      → message_tokens message ≡ tokens_out end i ++ token ∷ others → IsSpoken i end.log → ⊥
-  goes_nowhere message token others given waits (goes_on alive) =
+  goes_nowhere : (said : Said) (token : Token) (others : List Token)
+      → said_for i end.accepted ≡ Some said
+      → said_tokens said ≡ tokens_out end i ++ token ∷ others → IsSpoken i end.log → ⊥
+  goes_nowhere said token others given waits (goes_on alive) =
       both_ways _ (none_active i) alive
-  goes_nowhere message token others given waits (has_ended ended) =
-      unended message (tokens_out end i) token others waits ended
-  goes_nowhere message token others given waits (was_reset code ours here) =
+  goes_nowhere said token others given waits (has_ended ended) =
+      unended said (tokens_out end i) token others waits ended
+  goes_nowhere said token others given waits (was_reset code ours here) =
       unreset ((dropped_by responding up).reported i code ours here)
-  goes_nowhere message token others given waits (was_asked code asked) =
+  goes_nowhere said token others given waits (was_asked code asked) =
       elim ((dropped_by responding up).asked i code asked) [
         | inl reset ↦ unreset reset
         | inr large ↦ both_ways _
             (answers.none_else i (λ none. let wrong = sym none ∙ given in cc)).fits large
       ]
-  goes_nowhere message token others given waits (was_named named) =
+  goes_nowhere said token others given waits (was_named named) =
       both_ways _ (log_named _ values end.log represents.streams.conn.machine.came i named).0
       (ap is_server (kept_role responding))
 
-  none_waits : (waiting : List Token) (said : Option SentMessage)
-      → message_for i end.accepted ≡ said → tokens_given said ≡ tokens_out end i ++ waiting
+  none_waits : (waiting : List Token) (said : Option Said)
+      → said_for i end.accepted ≡ said → tokens_given said ≡ tokens_out end i ++ waiting
       → waiting ≡ []
-  unfolding message_tokens tokens_given
+  unfolding said_tokens tokens_given
   none_waits [] said given prefix = refl
   none_waits (token ∷ others) None given prefix =
       absurd (nothing_said (tokens_out end i) token others prefix)
-  none_waits (token ∷ others) (Some message) given prefix =
-      absurd (goes_nowhere message token others given prefix
+  none_waits (token ∷ others) (Some said) given prefix =
+      absurd (goes_nowhere said token others given prefix
       (spoken_by_logs _ values end.log i represents.streams.conn.machine.came up
       ((represents.streams.sent i).begun (λ none. let wrong = sym none ∙ given in cc))))
 
@@ -385,4 +385,4 @@ sent_whole {end} responding represents up none_active answers i unreset =
     ap (drop (length (tokens_out end i))) sends.prefix
     ∙ drop-append_seam (tokens_out end i) sends.waiting
     ∙ none_waits responding represents up none_active answers i unreset sends.waiting
-    (message_for i end.accepted) refl sends.prefix
+    (said_for i end.accepted) refl sends.prefix

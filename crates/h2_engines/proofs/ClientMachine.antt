@@ -2,10 +2,10 @@
 use Rattle.h2_engines.proofs.Names
 use Names.{◌≡◌, ℕ, Bool, true, false, List, ◌∷◌, Some, None, Result, Ok, Err, refl, sym, ap, ◌∙◌}
 use Names.{subst, inl, inr, append-nil, Contains, Event, SentMessage, first_in, End, EndLog, Handed}
-use Names.{EndAnswer, EndTook, EndFailed, Passed, EndMayTake, LinkError, ends_message, message_for}
+use Names.{EndAnswer, EndTook, EndFailed, Passed, EndMayTake, LinkError, ends_message, said_for}
 use Names.{Coming, Heard, Next, part_on, parts_on, ◌≢◌, EndsUnfinished, refused_stream, ClientHears}
 use Names.{FetchedSo, ErrsFetching, KeepsResponse, Fetching, MachineState, HearsNoMore, gives_up}
-use Names.{Hears, IsDue, Responds, Keeps}
+use Names.{Hears, IsDue, Responds, Keeps, at_once}
 use Rattle.h2_engines.specs.Machines.{fails}
 use Rattle.h2_engines.specs.ClientHistories.{takes}
 use Rattle.h2_engines.proofs.LinkInvariants.{fetching_role}
@@ -33,7 +33,7 @@ passed_parts id event handed same = ap (parts_on id) same ∙ append-nil (parts_
 
 -- What is kept of the response, by what is to be done.
 keeps_response : (message : SentMessage) (id : ℕ) (coming : Coming) (whole : Bool)
-    (after : EndLog) (next : Next) → message_for id after.accepted ≡ Some message
+    (after : EndLog) (next : Next) → said_for id after.accepted ≡ Some (at_once message)
     → KeepsResponse after id coming next → (next ≡ nexts.Whole → whole ≡ true)
     → (next ≢ nexts.Whole → whole ≡ false)
     → Keeps message (Fetching id coming whole) after next
@@ -60,7 +60,7 @@ client_hears old new id coming now_come was whole piece heard said unless hears 
       now_is.0,
       hears_on (client_with new id now_come whole) heard says.0 is says.1 now_is.1
           (takes is.happened piece _ says.1) (keeps_response course.message id now_come whole
-          now_is.0 heard.next (ap (message_for id) taken.accepted ∙ is.keeps.0) says.2 said
+          now_is.0 heard.next (ap (said_for id) taken.accepted ∙ is.keeps.0) says.2 said
           (λ other. unless other ∙ is.keeps.2)) says.3,
     )
 
@@ -68,7 +68,7 @@ client_hears old new id coming now_come was whole piece heard said unless hears 
 hears_why : (message : SentMessage) (id : ℕ) (coming : Coming) (whole : Bool) {end : EndLog}
     {piece : List ℕ} (answer : EndAnswer) {after : EndLog} (error : LinkError) (octets : List ℕ)
     → EndMayTake end piece answer after → ErrsFetching answer id error
-    → SaysUsed answer octets after.log → message_for id after.accepted ≡ Some message
+    → SaysUsed answer octets after.log → said_for id after.accepted ≡ Some (at_once message)
     → ends_message (parts_on id end.handed) ≡ false
     → HearsNoMore message (Fetching id coming whole) after error
 unfolding ErrsFetching
@@ -125,7 +125,7 @@ client_hears_last old new id coming now_come whole piece error hears course now 
       hears_last (client_with new id now_come whole) error is says.1 now_is.1
           (takes is.happened piece says.0 says.1) (λ octets used. hears_why course.message id
           now_come whole says.0 error octets says.1 says.2 used
-          (ap (message_for id) taken.accepted ∙ is.keeps.0) (come_not_whole is.keeps.1)),
+          (ap (said_for id) taken.accepted ∙ is.keeps.0) (come_not_whole is.keeps.1)),
     )
 
 -- Nothing is due at a client.

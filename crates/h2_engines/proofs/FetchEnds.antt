@@ -1,12 +1,12 @@
 -- How a client ends its fetch, over a link and without one, by how it was driven.
 use Rattle.h2_engines.proofs.Names
-use Names.{◌≡◌, ℕ, Bool, true, false, List, [], ◌∷◌, Option, Some, None, Result, Ok, Err, refl, sym}
-use Names.{ap, ◌∙◌, subst, inl, inr, eq-eqb, Appends-nil, Field, Code, InternalError, Client}
+use Names.{◌≡◌, ℕ, Bool, true, false, List, [], Option, Some, None, Result, Ok, Err, refl, sym}
+use Names.{ap, ◌∙◌, subst, inl, inr, Appends-nil, Field, Code, InternalError, Client}
 use Names.{Values, AreInRange, Log, Keeps-call, SentMessage, Part, call_given, is_head_alone}
 use Names.{EndLog, new_end_log, LinkError, Open, Number, Coming, Fetched, Fetcher, CutsOffAtEnd}
 use Names.{HasRequested, Traffic, IsLinked, HasTakenAll, AreHeadsSoFar, HasCome, IsWhole}
 use Names.{interims_alone, interim_parts, error_with, items_failed, opened, with_call, with_sent}
-use Names.{message_for, parts_on, MayRequest, IfErr, OnErr, if◌then◌else◌, IsNotAccepted, Course}
+use Names.{said_for, parts_on, MayAsk, IfErr, OnErr, IsNotAccepted, Course}
 use Names.{IsDriven, EndsFor, lacks_memory, link_fails, has_stalled, stops_itself, HasEnded}
 use Names.{MachineTakesPiece, Drives, HasSentFor, Keeps, TakenSo, DrivenSo, has_failed, IsFetchedOf}
 use Rattle.h2_engines.specs.WithoutLink.{FetchesInSo, StopsFetchAlone, IsFetchingAlone}
@@ -17,6 +17,7 @@ use Rattle.h2_engines.specs.ClientHistories.{IsFetched, begins, requests}
 use Rattle.h2_engines.proofs.MachineLaws.{holds_again}
 use Rattle.h2_engines.proofs.MachineViews.{client_held, begun, carried, links_alone, uses_alone}
 use Rattle.h2_engines.proofs.MachineViews.{all_in_part, goes_for, not_cut}
+use Rattle.h2_ends.proofs.RequestSent.{accepted_here}
 use Rattle.h2_link.specs.declared.error.LinkError.TheVariants as errors
 use Rattle.h2_engines.specs.declared.request.Next.TheVariants as nexts
 
@@ -47,13 +48,6 @@ ends_at_once {values} message start error range refused =
       so = inr (record { refused = refused; new = refl; same = refl });
     }
 
--- The message for a stream is the one that was accepted for it.
-message_here : (id : ℕ) (message : SentMessage)
-    → message_for id ((id, message) ∷ []) ≡ Some message
-unfolding message_for
-message_here id message =
-    ap (λ (b : Bool). if b then Some message else message_for id []) (eq-eqb id id refl)
-
 open_failed : (log : Log) (list : List Field) (end : Bool) (id : ℕ)
     → (with_call log (Open list end) (Number id)).failed ≡ log.failed
 unfolding with_call
@@ -83,7 +77,7 @@ no_parts id = refl
 -- The message was accepted: no octets were used yet,
 none_used : {values : Values} {message : SentMessage} {fetcher : Fetcher}
     → (has : HasRequested values message fetcher) → has.end.log.input ≡ []
-unfolding MayRequest
+unfolding MayAsk
 none_used {values} {message} {fetcher} has =
     let new = opened Client values in
     let act = Open message.head (is_head_alone message) in
@@ -95,7 +89,7 @@ new_driven : {values : Values} {message : SentMessage} (start : Traffic) {fetche
     → AreInRange values → fetcher.whole ≡ false → (has : HasRequested values message fetcher)
     → IsDriven (record { values = values; message = message; start = start }) start
     (client_held fetcher) has.end [] nexts.Again
-unfolding MayRequest Keeps
+unfolding MayAsk Keeps
 new_driven {values} {message} start {fetcher} range not has =
     let new = opened Client values in
     let act = Open message.head (is_head_alone message) in
@@ -113,7 +107,7 @@ new_driven {values} {message} start {fetcher} range not has =
       up = ap (λ (one : Log). one.failed) log ∙ open_failed new message.head (is_head_alone message)
           fetcher.id ∙ (new_log values).2;
       keeps = (
-        ap (λ (end : EndLog). message_for fetcher.id end.accepted) now ∙ message_here _ _,
+        ap (λ (end : EndLog). said_for fetcher.id end.accepted) now ∙ accepted_here _ _ _,
         subst (HasCome fetcher.coming) (sym parts)
             (come_none fetcher.coming has.none_come has.no_body has.no_interims has.no_trailers),
         not,

@@ -3,7 +3,7 @@ use Rattle.h2_engines.proofs.Names
 use Names.{◌≡◌, ℕ, Bool, true, false, List, [], ◌∷◌, ◌++◌, length, Some, None, Ok, Err, refl, sym}
 use Names.{ap, ◌∙◌, subst, inl, inr, Field, Client, ResetEvent, is_server, ConnFault, Reads, Place}
 use Names.{Part, FieldsPart, OctetsPart, IsReadable, place_after, End, LentPart, EndTaken, EndLog}
-use Names.{EndTook, EndFailed, Handed, Passed, event_handed, EndTakes, LinkError, message_for}
+use Names.{EndTook, EndFailed, Handed, Passed, event_handed, EndTakes, LinkError, said_for}
 use Names.{part_on, Coming, Next, NotesPart, HasCome, error_with, handed_as, handed_at, parts_on}
 use Names.{reads_on, asked_head, if◌then◌else◌, ClientHears, FetchedSo, KeepsResponse, ErrsFetching}
 use Rattle.h2_message.specs.declared.reading.Reads.TheVariants.{Responses, Requests}
@@ -36,11 +36,11 @@ hands_so coming id i parts (OctetsPart octets, last) come readable =
 
 -- A client reads responses.
 reads_responses : (end : EndLog) (i : ℕ) → end.log.role ≡ Client
-    → reads_on end i ≡ Responses (asked_head (message_for i end.accepted))
+    → reads_on end i ≡ Responses (asked_head (said_for i end.accepted))
 unfolding reads_on
 reads_responses end i role =
     ap (λ (b : Bool). if b then Requests
-    else Responses (asked_head (message_for i end.accepted))) (ap is_server role)
+    else Responses (asked_head (said_for i end.accepted))) (ap is_server role)
 
 hands_as_read : {coming : Coming} (end : EndLog) (id i : ℕ) (part : Part × Bool) (to_head : Bool)
     {reads : Reads} → reads ≡ Responses to_head → HasCome coming (parts_on id end.handed)
@@ -56,7 +56,7 @@ hands_by : {coming : Coming} (end : EndLog) (id : ℕ) {handed : Handed} → end
     → HasCome coming (parts_on id end.handed) → HandsAsRead end handed → MayHand coming id handed
 hands_by end id role come (hands_event event) = tt
 hands_by end id role come (hands_part i part readable) =
-    hands_as_read end id i part (asked_head (message_for i end.accepted))
+    hands_as_read end id i part (asked_head (said_for i end.accepted))
     (reads_responses end i role) come readable
 
 -- What was handed out is on the stream after what was.

@@ -3,7 +3,7 @@ use Rattle.h2_engines.proofs.Names.{◌≡◌, [], Option, Some, None, Ok, Err, 
 use Rattle.h2_engines.proofs.Names.{inr, Refusal, Memory, Client, Values, Malformed, Message}
 use Rattle.h2_engines.proofs.Names.{SentMessage, LinkError, End, EndRefusal, EndLog, EndRepresents}
 use Rattle.h2_engines.proofs.Names.{new_end_log, Fetcher, error_after, HasRequested, MayRequest}
-use Rattle.h2_engines.proofs.Names.{◌≢◌, ◌⊎◌, EndRequests, IsNotAccepted}
+use Rattle.h2_engines.proofs.Names.{◌≢◌, ◌⊎◌, EndRequests, IsNotAccepted, MayAsk}
 use Rattle.h2_engines.specs.Fetches.{IsRefusedMessage, IsRefusedOtherwise, refusal_of_request}
 use Rattle.h2_spec_log.specs.declared.refusal.Refusal.TheVariants.{ListTooLarge}
 use Rattle.h2_ends.specs.declared.refusal.EndRefusal.TheVariants as refusals
@@ -33,7 +33,7 @@ broken_some rule is none = absurd (cc)
 refused_rule : (values : Values) (message : SentMessage) (rule : Malformed) (after : EndLog)
     → MayRequest (new_end_log Client values) message (Err (refusals.BadMessage rule)) after
     → IsRefusedMessage values message
-unfolding MayRequest
+unfolding MayAsk
 refused_rule values message rule after may = inl (broken_some rule may.0)
 
 pub refused_as_broken : {values : Values} (message : SentMessage) {old : End} (new : End)
@@ -54,7 +54,7 @@ too_many found (inr other) = let wrong = other.1 in cc
 refused_list : (values : Values) (message : SentMessage) (after : EndLog)
     → MayRequest (new_end_log Client values) message (Err (refusals.Conn ListTooLarge)) after
     → IsRefusedMessage values message
-unfolding MayRequest
+unfolding MayAsk
 refused_list values message after may = inr (too_many _ may.1)
 
 pub refused_as_large : {values : Values} (message : SentMessage) {old : End} (new : End)
@@ -92,7 +92,7 @@ module _ (values : Values) (message : SentMessage) where
       → refusal ≢ refusals.Conn ListTooLarge
       → MayRequest (new_end_log Client values) message (Err refusal) after
       → IsNotAccepted values message (Err (error_after refusal))
-  unfolding MayRequest
+  unfolding MayAsk
   refused_so (refusals.BadMessage rule) after kept small may = absurd (kept rule refl)
   refused_so (refusals.Conn refusal) after kept small may = ends_otherwise refusal
       (λ same. small (ap (λ (one : Refusal). refusals.Conn one) same)) may.1

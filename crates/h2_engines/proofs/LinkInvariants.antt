@@ -6,8 +6,8 @@ use Names.{Values, Act, Answer, Refuse, PutOut, true, Count, Done, OutOfMemory, 
 use Names.{SentMessage, EndRefusal, EndLog, EndAnswer, EndMayTake, end_with_log, Pumps}
 use Names.{pumps_no_more, pumps_trailers, trailers_refused, releases_one, releases_refused}
 use Names.{new_end_log, Open, SendFields, SendData, owed, with_call, IsResponding, opened}
-use Names.{with_sent, MayRequest, MayRespond, MayPump, MayReleaseAll, releases_no_more, Release}
-use Names.{pumps_data, data_refused, Releases}
+use Names.{with_sent, MayAsk, MayRequest, MayReply, MayRespond, MayPump, MayReleaseAll, Release}
+use Names.{pumps_data, data_refused, Releases, releases_no_more}
 use Rattle.h2_ends.specs.EndCalls.{IsUnchanged, IsHeadCall}
 use Rattle.h2_engines.specs.ClientHistories.{IsFetching}
 use Rattle.h2_engines.proofs.TakeMessages.{role_by_call, taken_role}
@@ -129,7 +129,7 @@ module _ (P : EndLog → Type 0) (keep : CallsKeep P) where
   pub responded_keeps : AnswersKeep P → (before : EndLog) (id : ℕ) (message : SentMessage)
       (result : Result (Unit {0}) EndRefusal) (after : EndLog)
       → MayRespond before id message result after → P before → P after
-  unfolding MayRespond
+  unfolding MayReply
   responded_keeps answer before id message (Ok done) after may holds =
       answer before id message done after may holds
   responded_keeps answer before id message (Err refusals.NotAsked) after may holds = rw may.1 holds
@@ -142,7 +142,7 @@ module _ (P : EndLog → Type 0) (keep : CallsKeep P) where
   requested_keeps : RequestsKeep P → (before : EndLog) (message : SentMessage)
       (result : Result ℕ EndRefusal) (after : EndLog)
       → MayRequest before message result after → P before → P after
-  unfolding MayRequest
+  unfolding MayAsk
   requested_keeps request before message (Ok id) after may holds =
       request before message id after may holds
   requested_keeps request before message (Err (refusals.BadMessage rule)) after may holds =
@@ -209,13 +209,13 @@ role_as before same role = ap (λ (end : EndLog). end.log.role) same ∙ role
 responded_role : (before : EndLog) (id : ℕ) (message : SentMessage) (done : Unit {0})
     (after : EndLog) → MayRespond before id message (Ok done) after
     → after.log.role ≡ before.log.role
-unfolding MayRespond
+unfolding MayReply
 responded_role before id message done after may =
     role_as before may.5 (role_by_call before.log _ _)
 
 requested_role : (before : EndLog) (message : SentMessage) (id : ℕ) (after : EndLog)
     → MayRequest before message (Ok id) after → after.log.role ≡ before.log.role
-unfolding MayRequest
+unfolding MayAsk
 requested_role before message id after may =
     role_as before may.3 (role_by_call before.log _ _)
 

@@ -3,7 +3,7 @@
 use Rattle.h2_engines.proofs.Names
 use Names.{◌≡◌, ℕ, Bool, true, false, List, length, Result, Err, refl, sym, ap, ◌∙◌, subst, inr}
 use Names.{SentMessage, EndRefusal, EndLog, Handed, EndRepresents, LinkError, ends_message}
-use Names.{message_for, parts_on, MayPump, MayReleaseAll, Next, EndsWriting, Traffic, IsLinked}
+use Names.{said_for, parts_on, MayPump, MayReleaseAll, Next, EndsWriting, Traffic, IsLinked}
 use Names.{StallsWriting, Happens, HasCome, IsWhole, IsSameOfMessages, ◌≢◌, EndsUnfinished}
 use Names.{MessageState, Serving, Fetching, MachineState, Course, IsDriven, EndsBeforeResponse}
 use Names.{IsDue, EndsFor, lacks_memory, link_fails, has_stalled, HasEnded, Keeps}
@@ -47,7 +47,7 @@ keeps_same message (Serving requests answered) before after next same keeps = (
   keeps.1 ∙ ap length (sym same.accepted),
 )
 keeps_same message (Fetching id coming whole) before after nexts.Whole same keeps = (
-  ap (message_for id) same.accepted ∙ keeps.0,
+  ap (said_for id) same.accepted ∙ keeps.0,
   subst (λ (handed : List Handed). IsWhole coming (parts_on id handed)) (sym same.handed) keeps.1,
   keeps.2,
 )
@@ -56,7 +56,7 @@ keeps_same message (Fetching id coming whole) before after (nexts.Answer stream 
 keeps_same message (Fetching id coming whole) before after (nexts.Reset stream) same keeps =
     absurd keeps
 keeps_same message (Fetching id coming whole) before after next same keeps = (
-  ap (message_for id) same.accepted ∙ keeps.0,
+  ap (said_for id) same.accepted ∙ keeps.0,
   subst (λ (handed : List Handed). HasCome coming (parts_on id handed)) (sym same.handed) keeps.1,
   keeps.2,
 )
@@ -75,7 +75,7 @@ pub holds_same : (message : SentMessage) (kept : MessageState) {before after : E
     → EndsBeforeResponse message kept after error
 holds_same message (Serving requests answered) error same holds = tt
 holds_same message (Fetching id coming whole) {before} {after} error same holds = (
-  ap (message_for id) same.accepted ∙ holds.0,
+  ap (said_for id) same.accepted ∙ holds.0,
   unfinished_same before after id error same.handed holds.1,
 )
 

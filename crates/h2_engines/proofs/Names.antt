@@ -5,14 +5,15 @@ pub use Rattle.h2_conn.specs.declared.taken.ConnFault.{ConnFault}
 pub use Rattle.h2_ends.proofs.EndTokens.{call_adds_none, call_tokens, take_calls}
 pub use Rattle.h2_ends.proofs.PumpWindows.{data_active, refused_failed}
 pub use Rattle.h2_ends.proofs.TakeRefusing.{memory_fails}
-unfoldable pub use Rattle.h2_ends.specs.EndCalls.{MayPump, MayReleaseAll, MayRequest, MayRespond}
-pub use Rattle.h2_ends.specs.EndCalls.{data_refused, end_with_message, IsStuckOn, Pumps, pumps_data}
+unfoldable pub use Rattle.h2_ends.specs.EndCalls.{MayAsk, MayPump, MayReleaseAll, MayReply}
+pub use Rattle.h2_ends.specs.EndCalls.{data_refused, end_with_said, IsStuckOn, MayRequest}
+pub use Rattle.h2_ends.specs.EndCalls.{MayRespond, Pumps, pumps_data}
 pub use Rattle.h2_ends.specs.EndCalls.{pumps_no_more, pumps_trailers, refusal_of_message}
 pub use Rattle.h2_ends.specs.EndCalls.{RefusesMessage, Releases, releases_no_more, releases_one}
 pub use Rattle.h2_ends.specs.EndCalls.{releases_refused, trailers_refused}
 pub use Rattle.h2_ends.specs.EndEvents.{LentPart}
 pub use Rattle.h2_ends.specs.EndTakes.{end_with_log, EndMayTake}
-unfoldable pub use Rattle.h2_ends.specs.Ends.{handed_as, handed_at, message_for, part_of_event}
+unfoldable pub use Rattle.h2_ends.specs.Ends.{handed_as, handed_at, part_of_event, said_for}
 unfoldable pub use Rattle.h2_ends.specs.Ends.{part_on, parts_on, reads_on, tokens_given}
 pub use Rattle.h2_ends.specs.Ends.{asked_head, BodyHanded, EndAnswer, EndFailed, EndLog, EndTook}
 pub use Rattle.h2_ends.specs.Ends.{Handed, HeadHanded, InterimHanded, Passed, tokens_out}
@@ -80,8 +81,9 @@ pub use Rattle.h2_laws_log.proofs.PartsStay.{call_calls}
 pub use Rattle.h2_laws_pair.proofs.FaultsInvariant.{first_in, later_in}
 pub use Rattle.h2_laws_pair.proofs.StepCalls.{call_failed, call_given}
 pub use Rattle.h2_laws_pair.specs.Pairs.{given_out}
-unfoldable pub use Rattle.h2_laws_pair.specs.Tokens.{end_tokens, message_tokens, tokens_of_call}
-pub use Rattle.h2_laws_pair.specs.Tokens.{EndToken, is_head_alone, OctetToken, Token, tokens_sent}
+unfoldable pub use Rattle.h2_laws_pair.specs.Tokens.{end_tokens, said_tokens, tokens_of_call}
+pub use Rattle.h2_laws_pair.specs.Tokens.{at_once, EndToken, is_head_alone, OctetToken, Said}
+pub use Rattle.h2_laws_pair.specs.Tokens.{Token, tokens_sent}
 pub use Rattle.h2_laws_pair.specs.Undisturbed.{WasAsked}
 pub use Rattle.h2_link.specs.Links.{ended_after, StallsAtNoProgress}
 pub use Rattle.h2_link.specs.declared.error.LinkError.{LinkError}

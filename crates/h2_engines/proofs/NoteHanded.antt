@@ -3,7 +3,7 @@ use Rattle.h2_engines.proofs.Names
 use Names.{◌≡◌, ℕ, ◌≤◌, Bool, true, false, List, [], ◌∷◌, ◌++◌, length, Option, Some, None, refl}
 use Names.{sym, ap, ◌∙◌, subst, inl, inr, arith, both_ways, cases_eq, Field, Server, Event}
 use Names.{ResetEvent, Part, FieldsPart, OctetsPart, EndLog, EndTook, Handed, Passed, EndMayTake}
-use Names.{message_for, parts_on, Next, Request, IsRequest, is_too_large_body, KeepsOthers}
+use Names.{said_for, parts_on, Next, Request, IsRequest, is_too_large_body, KeepsOthers}
 use Names.{WasReportedReset, WasTooLarge, ends_message, body_in, KeepsNext, EndsRequest, AddsOctets}
 use Names.{EndsKept, NotesHanded, NotesTaken, ◌≢◌, ◌⊎◌, Requests, RequestState, has_not_come, comes}
 use Names.{was_answered, was_given_up, KeepsRequests, IsToAnswer, request_at, ChangesAt}
@@ -30,7 +30,7 @@ changes_all {new} end {after} {id} keeps changes same one i = elim (cases_eq i i
 
 changes_others : {old new : Requests} (end after : EndLog) {id : ℕ} → KeepsRequests old end
     → ChangesAt old new id None → ((i : ℕ) → i ≢ id → SameOn end after i)
-    → message_for id after.accepted ≡ None → KeepsOthers new after id
+    → said_for id after.accepted ≡ None → KeepsOthers new after id
 changes_others end after keeps changes same unsaid =
     record {
       others = λ i other. subst (λ (request : Option Request). RequestState after i request)
@@ -49,7 +49,7 @@ record HasRequest (end : EndLog) (id : ℕ) (last : Bool) (request : Request) : 
   pub is_last : ends_message (parts_on id end.handed) ≡ last
   pub fits : is_too_large_body (parts_on id end.handed) ≡ false
   pub request_is : IsRequest head parts request
-  pub unsaid : message_for id end.accepted ≡ None
+  pub unsaid : said_for id end.accepted ≡ None
 
 request_comes : {end : EndLog} {id : ℕ} {request : Request} → HasRequest end id false request
     → RequestState end id (Some request)
@@ -97,7 +97,7 @@ drops_request {new} end {after} keeps same again changes one =
 -- A stream that goes on was not answered.
 not_answered : {end : EndLog} {id : ℕ} {request : Option Request}
     → ends_message (parts_on id end.handed) ≡ false → RequestState end id request
-    → message_for id end.accepted ≡ None
+    → said_for id end.accepted ≡ None
 not_answered goes (has_not_come none unsaid) = unsaid
 not_answered goes (comes head parts kept are on fits is unsaid) = unsaid
 not_answered goes (was_answered was) = absurd (both_ways _ goes was.whole)
@@ -134,7 +134,7 @@ record IsComing (end : EndLog) (id : ℕ) (request : Request) : Type 0 where
   pub came : parts_on id end.handed ≡ (FieldsPart head, false) ∷ parts
   pub fits : is_too_large_body (parts_on id end.handed) ≡ false
   pub request_is : IsRequest head parts request
-  pub unsaid : message_for id end.accepted ≡ None
+  pub unsaid : said_for id end.accepted ≡ None
 
 is_coming : (end : EndLog) (id : ℕ) (kept : Option Request) (request : Request)
     → kept ≡ Some request → RequestState end id kept → IsComing end id request

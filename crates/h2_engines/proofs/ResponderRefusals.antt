@@ -3,8 +3,8 @@ use Rattle.h2_engines.proofs.Names
 use Names.{◌≡◌, ℕ, Bool, true, false, length, Some, None, Err, refl, ap, subst, inl, inr, arith}
 use Names.{SendFields, full_output, Log, SentMessage, is_head_alone, LinkError, End, EndRefusal}
 use Names.{EndLog, error_after, Traffic, IsWrittenOut, ReleasesSome, conditions, first_of, output}
-use Names.{waiting, MayRespond, EndsAfter, EndsRelease, EndReleases, ◌≢◌, if◌then◌else◌, nat_le}
-use Names.{RefusesMessage, refusal_of_message}
+use Names.{waiting, MayReply, MayRespond, EndsAfter, EndsRelease, EndReleases, ◌≢◌, nat_le}
+use Names.{RefusesMessage, if◌then◌else◌, refusal_of_message}
 use Rattle.std.proofs.lemmas.List.{length-take}
 use Rattle.h2_spec_log.specs.declared.refusal.Refusal.TheVariants as reasons
 use Rattle.h2_ends.specs.declared.refusal.EndRefusal.TheVariants as refusals
@@ -59,7 +59,7 @@ refused_otherwise log id message none (inr memory) = let wrong = memory.1 in cc
 full_is_none : (end : EndLog) (id : ℕ) (message : SentMessage) (after : EndLog)
     → waiting end.log ≡ 0
     → MayRespond end id message (Err (refusals.Conn reasons.OutputFull)) after → ⊥
-unfolding MayRespond
+unfolding MayReply
 full_is_none end id message after none may = refused_otherwise end.log id message none may.3
 
 pub answer_not_full : (end : EndLog) (id : ℕ) (message : SentMessage) (refusal : EndRefusal)

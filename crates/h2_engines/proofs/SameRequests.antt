@@ -1,7 +1,7 @@
 -- What is kept of requests says the same of an end at which nothing of a request has happened.
 use Rattle.h2_engines.proofs.Names
 use Names.{◌≡◌, ℕ, List, Option, sym, ap, ◌∙◌, subst, inl, inr, Contains, ResetEvent, EndLog}
-use Names.{Handed, Passed, ends_message, message_for, parts_on, Next, Request, answer_to}
+use Names.{Handed, Passed, ends_message, said_for, parts_on, Next, Request, answer_to}
 use Names.{is_too_large_body, KeepsOthers, WasReportedReset, WasTooLarge, WasAnswered}
 use Names.{IsSameOfMessages, KeepsNext, ◌⊎◌, Requests, RequestState, has_not_come, comes}
 use Names.{was_answered, was_given_up, KeepsRequests, IsToAnswer}
@@ -11,7 +11,7 @@ use Rattle.h2_engines.specs.declared.request.Next.TheVariants as nexts
 -- Nothing has happened to the request on this stream.
 pub record SameOn (before after : EndLog) (id : ℕ) : Type 0 where
   pub parts : parts_on id after.handed ≡ parts_on id before.handed
-  pub message : message_for id after.accepted ≡ message_for id before.accepted
+  pub message : said_for id after.accepted ≡ said_for id before.accepted
   pub resets : WasReportedReset before id → WasReportedReset after id
   pub calls : KeepsCalls before.log after.log
 
@@ -56,7 +56,7 @@ pub same_on : (before after : EndLog) (id : ℕ) → after.accepted ≡ before.a
 same_on before after id accepted handed calls =
     record {
       parts = ap (parts_on id) handed;
-      message = ap (message_for id) accepted;
+      message = ap (said_for id) accepted;
       resets = λ reset. (
         reset.0,
         reset.1,
@@ -82,7 +82,7 @@ others_as {id} same keeps =
     record {
       others = λ i other. stands_as (same_of_messages i same) (keeps.others i other);
       none = keeps.none;
-      unanswered = ap (message_for id) same.accepted ∙ keeps.unanswered;
+      unanswered = ap (said_for id) same.accepted ∙ keeps.unanswered;
     }
 
 -- of a request that is to be answered,

@@ -6,10 +6,10 @@ use Names.{ResetStream, Done, Refused, Log, log_view, MayAnswer, accepts, lacks,
 use Names.{first_in, SentMessage, EndRefusal, EndLog, EndAnswer, EndTook, EndFailed, EndMayTake}
 use Names.{end_with_log, LinkError, waiting, parts_on, Heard, Request, Responder, answer_with}
 use Names.{is_too_large_body, IsOfCall, Traffic, IsResponding, calm, IsTypedAct, conditions}
-use Names.{first_of, with_call, MayRespond, KeepsNext, ResetSo, IfErr, refuses, fails}
+use Names.{at_once, first_of, with_call, MayReply, MayRespond, KeepsNext, ResetSo, IfErr, fails}
 use Names.{if◌then◌else◌, leb-true, max_resets, Requests, CannotReset, KeepsRequests, IsToAnswer}
 use Names.{Serving, Course, EndsFor, HearsNoMore, gives_up, Hears, Responds, Keeps, RespondedSo}
-use Names.{resets_written, refusal_of}
+use Names.{resets_written, refusal_of, refuses}
 use Rattle.h2_engines.specs.ServerSteps.{ServerAnswers, is_refused, ServerResets, AnsweredSo}
 use Rattle.h2_engines.specs.ServerSteps.{ServerHears, HeardSo, ErrsServing, NotAnswered, no_memory}
 use Rattle.h2_engines.specs.ServerSteps.{counted_answer, counts_no_more}
@@ -78,7 +78,7 @@ calls_go log end act answer sends goes =
     goes_twice goes (call_goes end.log act answer (sends_quietly act answer sends))
 
 answers_go : (log : Log) → AnswersKeep (λ one. GoesOn log one.log)
-unfolding MayRespond
+unfolding MayReply
 answers_go log before id message done after may goes =
     rw may.5 (calls_go log before (SendFields id message.head (is_head_alone message)) Done tt goes)
 
@@ -93,10 +93,11 @@ responded_goes end id message result after may =
 responded_counts : (end : EndLog) (id : ℕ) (message : SentMessage) (done : Unit {0})
     (after : EndLog) → MayRespond end id message (Ok done) after
     → length after.accepted ≡ length end.accepted + 1
-unfolding MayRespond
+unfolding MayReply
 responded_counts end id message done after may =
     let all = ap (λ (one : EndLog). length one.accepted) may.5 in
-    let more : length ((id, message) ∷ end.accepted) ≡ length end.accepted + 1 = omega arith in
+    let more : length ((id, at_once message) ∷ end.accepted) ≡ length end.accepted + 1 =
+    omega arith in
     all ∙ more
 
 same_goes : {before after : EndLog} → after ≡ before → GoesOn before.log after.log

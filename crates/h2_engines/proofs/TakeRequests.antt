@@ -3,7 +3,7 @@ use Rattle.h2_engines.proofs.Names
 use Names.{◌≡◌, ℕ, Bool, true, false, List, [], ◌∷◌, ◌++◌, refl, sym, ap, ◌∙◌, subst, append-nil}
 use Names.{ne_eqb, eq-eqb, Contains, Field, Server, Event, ResetEvent, Reads, Place, Part}
 use Names.{FieldsPart, OctetsPart, IsReadable, first_in, later_in, EndLog, Handed, HeadHanded}
-use Names.{BodyHanded, TrailersHanded, Passed, ends_message, message_for, WasReportedReset}
+use Names.{BodyHanded, TrailersHanded, Passed, ends_message, said_for, WasReportedReset}
 use Names.{handed_as, handed_at, part_on, parts_on, ◌≢◌, if◌then◌else◌, ◌==◌}
 use Rattle.h2_message.specs.declared.reading.Reads.TheVariants.{Requests}
 use Rattle.h2_engines.proofs.NextParts.{place_first, place_later, request_begun, no_octets_first}
@@ -78,7 +78,7 @@ server_hands end role (read.hands_part id part readable) =
 -- One part of a request was handed out on a stream, and nothing on others.
 pub record Hands (end after : EndLog) (id : ℕ) (part : Part × Bool) : Type 0 where
   pub parts : parts_on id after.handed ≡ parts_on id end.handed ++ part ∷ []
-  pub message : message_for id after.accepted ≡ message_for id end.accepted
+  pub message : said_for id after.accepted ≡ said_for id end.accepted
   pub resets : WasReportedReset end id → WasReportedReset after id
   pub calls : KeepsCalls end.log after.log
   pub others : (i : ℕ) → i ≢ id → SameOn end after i
@@ -111,7 +111,7 @@ pub same_besides : {end after : EndLog} {one : Handed} (i : ℕ) → HandedOne e
 same_besides {end} i hands none =
     record {
       parts = parts_with i hands none ∙ append-nil (parts_on i end.handed);
-      message = ap (message_for i) hands.accepted;
+      message = ap (said_for i) hands.accepted;
       resets = resets_with i hands;
       calls = hands.calls;
     }
@@ -122,7 +122,7 @@ hands_one : {end after : EndLog} {one : Handed} (id : ℕ) (part : Part × Bool)
 hands_one id part hands here there =
     record {
       parts = parts_with id hands here;
-      message = ap (message_for id) hands.accepted;
+      message = ap (said_for id) hands.accepted;
       resets = resets_with id hands;
       calls = hands.calls;
       others = λ i other. same_besides i hands (there i other);

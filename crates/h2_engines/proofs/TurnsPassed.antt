@@ -3,8 +3,8 @@ use Rattle.h2_engines.proofs.Names
 use Names.{◌≤◌, ◌<◌, ℕ, ◌+◌, Bool, List, [], length, Option, Result, ap, arith, Act, Answer, Refuse}
 use Names.{Event, Log, SentMessage, EndRefusal, EndLog, Handed, EndAnswer, EndTook, EndMayTake}
 use Names.{subst, is_head_alone, SendFields, Done, with_call, MayPump, MayReleaseAll, used}
-use Names.{MayRespond, length-append, Turn, MayTake, Took, ends_no_frame, ends_frame, meets_fault}
-use Names.{TakeAnswer, reports_unprocessed}
+use Names.{MayReply, MayRespond, length-append, Turn, MayTake, Took, ends_no_frame, ends_frame}
+use Names.{TakeAnswer, meets_fault, reports_unprocessed}
 use Rattle.h2_laws_end.specs.Takes.{has_failed, runs_out_of_memory as lacks_memory}
 use Rattle.h2_laws_end.proofs.TurnsAdded.{Adds, adds_call, adds_take}
 use Rattle.h2_engines.proofs.LinkInvariants.{CallsKeep, AnswersKeep, pumped_keeps, released_keeps}
@@ -76,7 +76,7 @@ turns_kept : (n : ℕ) → CallsKeep (λ one. n ≤ length one.log.turns)
 turns_kept n end act answer sends so = omega (arith, so, turns_of_call end.log act answer)
 
 answer_turns : (n : ℕ) → AnswersKeep (λ one. n ≤ length one.log.turns)
-unfolding MayRespond
+unfolding MayReply
 answer_turns n before id message done after may so =
     rw may.5 (omega (
       arith,

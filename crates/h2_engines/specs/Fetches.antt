@@ -10,8 +10,8 @@ use Rattle.h2_spec_log.specs.Events.{ResetEvent, UnprocessedEvent}
 use Rattle.h2_spec_log.specs.LogCalls.{opened}
 use Rattle.h2_message.specs.Messages.{SentMessage, broken_by_request}
 use Rattle.h2_message.specs.Phases.{ends_message}
-use Rattle.h2_laws_pair.specs.Tokens.{is_head_alone}
-use Rattle.h2_ends.specs.Ends.{EndLog, Passed, message_for, parts_on}
+use Rattle.h2_laws_pair.specs.Tokens.{at_once, is_head_alone}
+use Rattle.h2_ends.specs.Ends.{EndLog, Passed, said_for, parts_on}
 use Rattle.h2_ends.specs.EndCalls.{refusal_of_message}
 use Rattle.h2_ends.specs.Represents.{new_end_log}
 use Rattle.h2_link.specs.declared.error.LinkError.{LinkError}
@@ -85,7 +85,7 @@ EndsUnfinished end id (Err error) = ends_message (parts_on id end.handed) ≡ fa
 pub record EndsFetch (start now : Traffic) (message : SentMessage) (end : EndLog)
     (result : Result Fetched LinkError) : Type 0 where
   pub id : ℕ
-  pub accepted : message_for id end.accepted ≡ Some message
+  pub accepted : said_for id end.accepted ≡ Some (at_once message)
   pub sends : SendsAll end
   pub unfinished : EndsUnfinished end id result
   pub so : EndsFetchSo start now end id result

@@ -9,10 +9,11 @@ use Rattle.h2_spec_log.specs.Acts.{Values, ResetStream, Refused}
 use Rattle.h2_spec_log.specs.Log.{Log, waiting}
 use Rattle.h2_message.specs.Messages.{SentMessage}
 use Rattle.h2_message.specs.Phases.{ends_message}
+use Rattle.h2_laws_pair.specs.Tokens.{at_once}
 use Rattle.h2_ends.specs.declared.end.End.{End}
 use Rattle.h2_ends.specs.declared.refusal.EndRefusal.{EndRefusal}
 use Rattle.h2_ends.specs.declared.refusal.EndRefusal.TheVariants.{Conn}
-use Rattle.h2_ends.specs.Ends.{EndLog, message_for, parts_on}
+use Rattle.h2_ends.specs.Ends.{EndLog, said_for, parts_on}
 use Rattle.h2_ends.specs.EndCalls.{MayRespond}
 use Rattle.h2_ends.specs.Represents.{EndRepresents}
 use Rattle.h2_link.specs.declared.error.LinkError.{LinkError}
@@ -63,12 +64,12 @@ unfoldable pub Keeps : SentMessage → MessageState → EndLog → Next → Type
 Keeps message (Serving requests answered) end next =
     KeepsNext requests end next × (answered ≡ length end.accepted)
 Keeps message (Fetching id coming whole) end nexts.Whole =
-    (message_for id end.accepted ≡ Some message) × IsWhole coming (parts_on id end.handed)
+    (said_for id end.accepted ≡ Some (at_once message)) × IsWhole coming (parts_on id end.handed)
     × (whole ≡ true)
 Keeps message (Fetching id coming whole) end (nexts.Answer stream request) = ⊥
 Keeps message (Fetching id coming whole) end (nexts.Reset stream) = ⊥
 Keeps message (Fetching id coming whole) end next =
-    (message_for id end.accepted ≡ Some message) × HasCome coming (parts_on id end.handed)
+    (said_for id end.accepted ≡ Some (at_once message)) × HasCome coming (parts_on id end.handed)
     × (whole ≡ false)
 
 -- A machine that is driven, at which this has happened and that is to be done: the connection is
@@ -96,7 +97,7 @@ MayEnd writes serves error = StopsWith serves error
 abbrev pub EndsBeforeResponse : SentMessage → MessageState → EndLog → LinkError → Type 0
 EndsBeforeResponse message (Serving requests answered) end error = Unit {0}
 EndsBeforeResponse message (Fetching id coming whole) end error =
-    (message_for id end.accepted ≡ Some message) × EndsUnfinished end id (Err error)
+    (said_for id end.accepted ≡ Some (at_once message)) × EndsUnfinished end id (Err error)
 
 -- Why a server ends by itself: it can't reset a stream any more; it can count no more answers; or
 -- its end has refused an answer or a reset, though memory was there. Where all output was written

@@ -11,7 +11,7 @@ use Rattle.h2_message.specs.Messages.{first_broken, interim_rules}
 use Rattle.h2_message.specs.Phases.{ends_message}
 use Rattle.h2_message.specs.Reading.{Part, FieldsPart, OctetsPart, BreakNone}
 use Rattle.h2_ends.specs.Ends.{EndLog, Handed, HeadHanded, BodyHanded, TrailersHanded, Passed}
-use Rattle.h2_ends.specs.Ends.{message_for, parts_on}
+use Rattle.h2_ends.specs.Ends.{said_for, parts_on}
 use Rattle.h2_engines.specs.declared.request.Next.{Next}
 use Rattle.h2_engines.specs.declared.request.Next.TheVariants as nexts
 use Rattle.h2_engines.specs.declared.request.Request.{Request}
@@ -28,15 +28,15 @@ request_at id requests = lookup (is_at (nat_cmp id)) requests.kept.entries
 
 -- The state of the request on a stream, and what is kept of it.
 pub data RequestState (end : EndLog) (id : ℕ) : Option Request → Type 0 where
-  has_not_come : parts_on id end.handed ≡ [] → message_for id end.accepted ≡ None
+  has_not_come : parts_on id end.handed ≡ [] → said_for id end.accepted ≡ None
       → RequestState end id None
   comes : (head : List Field) (parts : List (Part × Bool)) (request : Request)
       → parts_on id end.handed ≡ (FieldsPart head, false) ∷ parts
       → ends_message (parts_on id end.handed) ≡ false
       → is_too_large_body (parts_on id end.handed) ≡ false → IsRequest head parts request
-      → message_for id end.accepted ≡ None → RequestState end id (Some request)
+      → said_for id end.accepted ≡ None → RequestState end id (Some request)
   was_answered : WasAnswered end id → RequestState end id None
-  was_given_up : WasReportedReset end id ⊎ WasTooLarge end id → message_for id end.accepted ≡ None
+  was_given_up : WasReportedReset end id ⊎ WasTooLarge end id → said_for id end.accepted ≡ None
       → RequestState end id None
 
 -- Each request is in such a state.
@@ -47,7 +47,7 @@ KeepsRequests requests end = (id : ℕ) → RequestState end id (request_at id r
 pub record KeepsOthers (requests : Requests) (end : EndLog) (id : ℕ) : Type 0 where
   pub others : (i : ℕ) → i ≢ id → RequestState end i (request_at i requests)
   pub none : request_at id requests ≡ None
-  pub unanswered : message_for id end.accepted ≡ None
+  pub unanswered : said_for id end.accepted ≡ None
 
 -- The request is whole, and to be answered next.
 pub record IsToAnswer (end : EndLog) (id : ℕ) (request : Request) : Type 0 where

@@ -9,8 +9,9 @@ use Rattle.h2_spec_log.specs.Events.{ResetEvent}
 use Rattle.h2_spec_log.specs.LogCalls.{MayAnswer, with_call}
 use Rattle.h2_message.specs.Messages.{SentMessage}
 use Rattle.h2_message.specs.Phases.{ends_message}
+use Rattle.h2_laws_pair.specs.Tokens.{Said, at_once}
 use Rattle.h2_ends.specs.declared.refusal.EndRefusal.{EndRefusal}
-use Rattle.h2_ends.specs.Ends.{EndLog, EndAnswer, Passed, message_for, parts_on}
+use Rattle.h2_ends.specs.Ends.{EndLog, EndAnswer, Passed, said_for, parts_on}
 use Rattle.h2_ends.specs.EndTakes.{EndMayTake, end_with_log}
 use Rattle.h2_ends.specs.EndCalls.{MayRespond, MayPump, MayReleaseAll}
 use Rattle.h2_ends.specs.Represents.{new_end_log}
@@ -64,12 +65,12 @@ pub record WasAnswered (end : EndLog) (id : ℕ) : Type 0 where
   pub fits : is_too_large_body (parts_on id end.handed) ≡ false
   pub message : SentMessage
   pub asked : answer_to (parts_on id end.handed) ≡ Some message
-  pub answered : message_for id end.accepted ≡ Some message
+  pub answered : said_for id end.accepted ≡ Some (at_once message)
 
 -- No stream is there twice.
-unfoldable pub AreOnce : List (ℕ × SentMessage) → Type 0
+unfoldable pub AreOnce : List (ℕ × Said) → Type 0
 AreOnce [] = Unit {0}
-AreOnce ((id, message) ∷ accepted) = (message_for id accepted ≡ None) × AreOnce accepted
+AreOnce ((id, said) ∷ accepted) = (said_for id accepted ≡ None) × AreOnce accepted
 
 -- Each request that was handed out whole was answered, unless its stream was reset, as that of each
 -- too large one was; and nothing else was answered, and no stream twice.
@@ -79,5 +80,5 @@ pub record AnswersAll (end : EndLog) : Type 0 where
       → WasAnswered end id ⊎ (WasReportedReset end id ⊎ WasTooLarge end id)
   pub too_large : (id : ℕ) → is_too_large_body (parts_on id end.handed) ≡ true
       → WasReportedReset end id ⊎ WasTooLarge end id
-  pub none_else : (id : ℕ) → message_for id end.accepted ≢ None → WasAnswered end id
+  pub none_else : (id : ℕ) → said_for id end.accepted ≢ None → WasAnswered end id
   pub once : AreOnce end.accepted

@@ -13,10 +13,11 @@ use Rattle.h2_spec_log.specs.Log.{Log}
 use Rattle.h2_message.specs.Messages.{SentMessage}
 use Rattle.h2_message.specs.Phases.{ends_message}
 use Rattle.h2_laws_pair.specs.Pairs.{given_out}
+use Rattle.h2_laws_pair.specs.Tokens.{at_once}
 use Rattle.h2_ends.specs.declared.end.End.{End}
 use Rattle.h2_ends.specs.declared.refusal.EndRefusal.{EndRefusal}
 use Rattle.h2_ends.specs.declared.refusal.EndRefusal.TheVariants.{Conn}
-use Rattle.h2_ends.specs.Ends.{EndLog, message_for, parts_on}
+use Rattle.h2_ends.specs.Ends.{EndLog, said_for, parts_on}
 use Rattle.h2_ends.specs.EndCalls.{MayPump, MayReleaseAll, MayRespond}
 use Rattle.h2_ends.specs.Represents.{EndRepresents}
 use Rattle.h2_link.specs.declared.error.LinkError.{LinkError}
@@ -163,7 +164,7 @@ pub record IsFetchingAlone (values : Values) (message : SentMessage) (fetcher : 
     (end : EndLog) : Type 0 where
   pub fetching : IsFetching values message end
   pub represents : EndRepresents values fetcher.client.end end
-  pub accepted : message_for fetcher.id end.accepted ≡ Some message
+  pub accepted : said_for fetcher.id end.accepted ≡ Some (at_once message)
   pub up : end.log.failed ≡ None
   pub come : HasCome fetcher.coming (parts_on fetcher.id end.handed)
   pub unfinished : fetcher.whole ≡ false
@@ -173,7 +174,7 @@ pub record IsFetchedAlone (values : Values) (message : SentMessage) (fetcher : F
     (end : EndLog) : Type 0 where
   pub fetching : IsFetching values message end
   pub represents : EndRepresents values fetcher.client.end end
-  pub accepted : message_for fetcher.id end.accepted ≡ Some message
+  pub accepted : said_for fetcher.id end.accepted ≡ Some (at_once message)
   pub response : IsWhole fetcher.coming (parts_on fetcher.id end.handed)
   pub noted : fetcher.whole ≡ true
 
@@ -215,7 +216,7 @@ FetchesInSo values message fetcher end piece after (Ok true) =
     × ((unused : List ℕ) × UsesPiece end.log after.log piece unused)
 FetchesInSo values message fetcher end piece after (Err error) =
     IsFetching values message after × EndRepresents values fetcher.client.end after
-    × (message_for fetcher.id after.accepted ≡ Some message)
+    × (said_for fetcher.id after.accepted ≡ Some (at_once message))
     × ((unused : List ℕ) × UsesPiece end.log after.log piece unused)
     × StopsFetchAlone after fetcher.id error
 

@@ -4,11 +4,12 @@ use Names.{true, ◌++◌, length, take, drop, Option, refl, sym, ap, ◌∙◌,
 use Names.{take-append-drop, drop-append-le, Code, Values, Log, End, EndLog, EndRepresents, Side}
 use Names.{Acted, Accepted, Kept, Pipe, Store, Joined, JointEnd, Delivers, MayDo, IsDelivered}
 use Names.{delivers, delivery_fails, delivery_stops, HoldsOctets, KeepsHanded, KeepsEnd, MakesAct}
-use Names.{made, end_at, kept_of, other_side, accepted_value, PutsPipe, TakesDelivery, IsKeptAt}
+use Names.{made, end_at, kept_of, other_side, said_shown, PutsPipe, TakesDelivery, IsKeptAt}
 use Names.{◌≡◌, ℕ, Bool, false, List, reverse, Some, None, has_failed}
 use Rattle.std.proofs.Common.{map as each}
 use Rattle.h2_conn.specs.Conn.{ConnRepresents}
 use Rattle.h2_joined.specs.declared.octets.Delivered.{Delivered}
+use Rattle.h2_joined.specs.Parts.{shown_of}
 use Rattle.h2_joined.specs.Delivering.{TakesPipe, EndsWithin, delivery_of}
 use Rattle.h2_joined.proofs.KeptActs.{acts_by, acts_on_end, changes_end}
 use Rattle.h2_joined.specs.declared.act.Acted.TheVariants as acted
@@ -117,12 +118,11 @@ module _ (side : Side) (old new : Joined) (count : ℕ) (octets : List ℕ) (of 
       → HoldsOctets at.left (left_by of count one.incoming)
       → KeepsEnd (kept_of side new) (delivered_to of count one after)
   kept_after values one after keeps kept says holds =
-      let items = λ (k : List Accepted). reverse (each accepted_value k) in
       record {
         incoming = subst (λ (p : Pipe). HoldsOctets p (left_by of count one.incoming))
             (sym at.back.pipe_is) holds;
-        accepted = says ∙ keeps.accepted
-            ∙ sym (ap (λ a. items a.items)
+        accepted = ap (each said_shown) says ∙ keeps.accepted
+            ∙ sym (ap (λ a. shown_of a.items)
             (at.back.accepted ∙ at.takes.only.accepted ∙ at.out.accepted));
         handed = subst (λ (s : Store). KeepsHanded s after.handed) (sym at.back.handed)
             kept.handed;
@@ -133,7 +133,7 @@ module _ (side : Side) (old new : Joined) (count : ℕ) (octets : List ℕ) (of 
   delivers_acts =
       acts_by side old new (Delivers count) (answered_by of (length octets))
       (at.back.other_end ∙ at.takes.only.other_end ∙ at.out.other_end)
-      (λ values one other represents keeps other_keeps.
+      (λ values one other represents begun keeps other_keeps.
       let holds = subst (λ (p : Pipe). HoldsOctets p one.incoming) (sym at.out.pipe_is)
       keeps.incoming in
       let are = at.first one.incoming holds in

@@ -9,6 +9,7 @@ use Rattle.std.specs.Result.{OnErr}
 use Rattle.std.proofs.lemmas.List.{drop_all}
 use Rattle.h2_conn.specs.Conn.{GivesOut}
 use Rattle.h2_joined.specs.Joints.{Moves}
+use Rattle.h2_joined.specs.Parts.{shown_of}
 use Rattle.h2_joined.proofs.KeptActs.{acts_by, keeps_same, same_kept}
 
 -- More octets are on a pipe.
@@ -91,7 +92,7 @@ moves_acts side old new count result answer same fits at =
     let answered = answer_by (λ given. Count given) result in
     subst (λ (a : Acted). MakesAct old (made side (Moves count) a) new) (sym same)
     (acts_by _ _ _ _ (acted_as answered) at.other_end
-    (λ values one other represents keeps other_keeps.
+    (λ values one other represents begun keeps other_keeps.
     let (may, now) = at.answers values one.happened represents in
     let ours = kept_of side old in
     let theirs = kept_of (other_side side) old in
@@ -99,7 +100,7 @@ moves_acts side old new count result answer same fits at =
     let stays = keeps_same theirs (record after { incoming = theirs.incoming }) other other
     other_keeps (record {
       incoming = refl;
-      accepted = ap (λ a. a.items) at.accepted;
+      accepted = ap (λ a. shown_of a.items) at.accepted;
       handed = at.handed;
       unfinished = at.unfinished;
     }) refl refl refl refl in

@@ -1,12 +1,11 @@
--- What an end hears of a message that the other one has accepted can be read, since that breaks no
--- rule.
+-- What an end hears of what the other one has accepted can be read, since that breaks no rule.
 use Rattle.h2_joined.proofs.Names
 use Names.{true, AllByRecursion, tokens_of_event, IsPrefixOfTokens, begins_message, tokens_of_parts}
 use Names.{[], ◌∷◌, inl, inr, sym, ap, ◌∙◌, Side, Made, ◌≡◌, ◌≢◌, ℕ, Bool, List, Some, None, ◌++◌}
 use Names.{refl, Values, Part, Half, Token, EndLog, parts_on, reads_on, false, Client, Server}
-use Names.{Option, message_for, tokens_said, SendsInOrder, part_tokens, tokens_heard, tokens_given}
+use Names.{Option, said_for, tokens_said, SendsInOrder, part_tokens, tokens_heard, tokens_given}
 use Names.{Event, Responses, asks_head, FieldsPart, OctetsPart, IsReadable, tokens_with, end_tokens}
-use Names.{SentMessage, IsNoEmptyData, part_of_event, IsReadableWith, IsNoEmptyPart, tokens_of_part}
+use Names.{Said, IsNoEmptyData, part_of_event, IsReadableWith, IsNoEmptyPart, tokens_of_part}
 use Rattle.h2_laws_pair.specs.Tokens.{OctetToken, EndToken}
 use Rattle.h2_ends.specs.Ends.{asked_head}
 use Rattle.std.proofs.Common.{map as each}
@@ -14,7 +13,7 @@ use Rattle.h2_message.specs.declared.reading.Reads.TheVariants.{Requests}
 use Rattle.h2_joined.proofs.HoldsParts.{says_with, part_says}
 use Rattle.h2_joined.proofs.HoldsSides.{IsPairAt, role_at, hears_at, reports_at}
 use Rattle.h2_joined.proofs.JointHolds.{EndHolds, AcceptAt}
-use Rattle.h2_ends.proofs.ReadableParts.{readable_request, readable_response}
+use Rattle.h2_ends.proofs.SoundParts.{sound_parts_are_readable}
 use Rattle.h2_spec_log.specs.declared.role.Role.TheVariants as roles
 
 -- Tokens of a part that says something are some.
@@ -39,20 +38,19 @@ some_with : (tokens more : List Token) → more ≢ [] → tokens ++ more ≢ []
 some_with [] more some none = some none
 some_with (token ∷ tokens) more some none = cc
 
--- Where some tokens are a prefix of what an end was given to say, it has accepted a message.
-message_given : (given : Option SentMessage) (tokens : List Token) → tokens ≢ []
-    → IsPrefixOfTokens tokens (tokens_given given)
-    → (message : SentMessage) × (given ≡ Some message)
+-- Where some tokens are a prefix of what an end was given to say, it was given something.
+something_given : (given : Option Said) (tokens : List Token) → tokens ≢ []
+    → IsPrefixOfTokens tokens (tokens_given given) → (said : Said) × (given ≡ Some said)
 unfolding tokens_given
-message_given (Some message) tokens some prefix = (message, refl)
-message_given None [] some prefix = absurd (some refl)
-message_given None (token ∷ tokens) some (rest, is) = absurd (cc)
+something_given (Some said) tokens some prefix = (said, refl)
+something_given None [] some prefix = absurd (some refl)
+something_given None (token ∷ tokens) some (rest, is) = absurd (cc)
 
--- What is said is the message.
-said_is : (end : EndLog) (i : ℕ) (message : SentMessage) (tokens : List Token)
-    → message_for i end.accepted ≡ Some message → IsPrefixOfTokens tokens (tokens_said end i)
-    → IsPrefixOfTokens tokens (tokens_given (Some message))
-said_is end i message tokens is prefix = rw is at prefix
+-- That is what is said.
+said_is : (end : EndLog) (i : ℕ) (said : Said) (tokens : List Token)
+    → said_for i end.accepted ≡ Some said → IsPrefixOfTokens tokens (tokens_said end i)
+    → IsPrefixOfTokens tokens (tokens_given (Some said))
+said_is end i said tokens is prefix = rw is at prefix
 
 -- What an end reads, by its role: a server requests, and a client responses to what it has asked.
 reads_requests : (end : EndLog) (i : ℕ) → end.log.role ≡ roles.Server
@@ -60,9 +58,9 @@ reads_requests : (end : EndLog) (i : ℕ) → end.log.role ≡ roles.Server
 unfolding reads_on
 reads_requests end i role = rw role refl
 
-reads_responses : (end : EndLog) (i : ℕ) (request : SentMessage) → end.log.role ≡ roles.Client
-    → message_for i end.accepted ≡ Some request
-    → reads_on end i ≡ Responses (asks_head request.head)
+reads_responses : (end : EndLog) (i : ℕ) (request : Said) → end.log.role ≡ roles.Client
+    → said_for i end.accepted ≡ Some request
+    → reads_on end i ≡ Responses (asks_head request.message.head)
 unfolding reads_on asked_head
 reads_responses end i request role is = rw (role, is) refl
 
@@ -75,16 +73,16 @@ read_at : (side : Side) (end other : EndLog) (i : ℕ) (parts : List (Part × Bo
     → IsReadable (reads_on end i) parts
 unfolding tokens_given
 read_at Client end other i parts role accept some says prefix =
-    let said = message_given (message_for i other.accepted) (tokens_of_parts parts) some prefix in
-    let answers = accept.answers i said.0 said.1 in
+    let given = something_given (said_for i other.accepted) (tokens_of_parts parts) some prefix in
+    let answers = accept.answers i given.0 given.1 in
     rw (reads_responses end i answers.request role answers.accepted)
-    (readable_response (asks_head answers.request.head) said.0 parts answers.well says
-    (said_is other i said.0 (tokens_of_parts parts) said.1 prefix))
+    (sound_parts_are_readable (Responses (asks_head answers.request.message.head)) given.0 parts
+    answers.well says (said_is other i given.0 (tokens_of_parts parts) given.1 prefix))
 read_at Server end other i parts role accept some says prefix =
-    let said = message_given (message_for i other.accepted) (tokens_of_parts parts) some prefix in
+    let given = something_given (said_for i other.accepted) (tokens_of_parts parts) some prefix in
     rw (reads_requests end i role)
-    (readable_request said.0 parts (accept.requests i said.0 said.1) says
-    (said_is other i said.0 (tokens_of_parts parts) said.1 prefix))
+    (sound_parts_are_readable Requests given.0 parts (accept.requests i given.0 given.1) says
+    (said_is other i given.0 (tokens_of_parts parts) given.1 prefix))
 
 -- What is heard with one event more, by what was handed out before.
 heard_then : (id : ℕ) (event : Event) (part : Part × Bool) (parts : List (Part × Bool))

@@ -1,24 +1,36 @@
 -- Every act keeps what holds of two joined ends.
 use Rattle.h2_joined.proofs.Names
-use Names.{◌<◌, ◌^◌, ◌∷◌, Err, sym, ◌∙◌, Act, Made, ◌≢◌, List, Result, ap, subst, Values, Answer}
-use Names.{PutOut, Number, EndLog, Acted, Client, Server, begins, Ok, SendFields, SentMessage}
-use Names.{EndRefusal, KeepsOrder, IsTypedAct, refl, Open, Done, Side, Doing, Calls, Whole, Fails}
-use Names.{Stops, MayDo, pumps, moves, ℕ, Contains, AreOctets, IsNextAct, at_client, MayRequest}
-use Names.{MayRespond, has_failed, ResetStream, delivery_fails, delivery_stops}
-use Names.{no_copy_of_a_request, no_copy_of_a_response, stream_of_log, is_head_alone, with_happened}
+use Names.{◌<◌, ◌^◌, ◌∷◌, Err, sym, ◌∙◌, ◌≡◌, Act, Made, ◌≢◌, List, Result, ap, subst, Values}
+use Names.{Answer, PutOut, Number, EndLog, Acted, Client, Server, begins, Ok, SendFields, Said}
+use Names.{EndRefusal, KeepsOrder, IsTypedAct, refl, Done, Side, Doing, Calls, Whole, Fails}
+use Names.{Stops, MayDo, pumps, moves, ℕ, Contains, AreOctets, IsNextAct, at_client, MayAsk}
+use Names.{MayReply, has_failed, ResetStream, delivery_fails, delivery_stops, MayAnswer, Count}
+use Names.{no_copy_of_a_request, no_copy_of_a_response, stream_of_log, with_happened, Option}
 use Names.{IsControlCall, releases_all, JointEnd, acted_as, requests, responds, delivers, at_server}
-use Names.{continues, IsJoint}
+use Names.{continues, IsJoint, Malformed, IsSoundSaid, MaySendBody, MaySendTrailers, Bool, Field}
+use Names.{said_for, Some, None, true}
+use Rattle.h2_spec_log.specs.Acts.{SendData}
+use Rattle.h2_message.specs.declared.reading.Reads.TheVariants as reading
+use Rattle.h2_laws_pair.specs.Tokens.{at_once}
+use Rattle.h2_ends.specs.Ends.{replaced}
+use Rattle.h2_ends.specs.EndCalls.{opened_with, answered_with, answer_reads, begun, end_with_more}
 use Rattle.h2_laws_pair.proofs.FaultsInvariant.{first_in}
-use Rattle.h2_joined.specs.Joints.{calls}
+use Rattle.h2_joined.specs.Joints.{calls, begins_request, begins_answer, sends_body, sends_trailers}
+use Rattle.h2_joined.specs.Joints.{no_copy_of_a_head, no_copy_of_an_answer, no_copy_of_octets}
+use Rattle.h2_joined.specs.Joints.{no_copy_of_trailers}
+use Rattle.h2_joined.proofs.BegunOut.{SendsBegun}
+use Rattle.h2_joined.proofs.JointSound.{StaysSound, sound_request, sound_response, sound_begun}
+use Rattle.h2_joined.proofs.JointSound.{sound_with_octets, sound_with_trailers}
 use Rattle.h2_joined.proofs.JointHolds.{JointHolds, accept_same, turned, HoldsAt, StaysAt, log_of}
 use Rattle.h2_joined.proofs.JointHolds.{stays_more}
-use Rattle.h2_joined.proofs.JointCalls.{IsOfAct, ordinary_of_act, ordinary_stays_in, called_at}
-use Rattle.h2_joined.proofs.JointCalls.{called_within}
+use Rattle.h2_joined.proofs.JointCalls.{IsOfAct, IsOrdinary, ordinary_of_act, ordinary_stays_in}
+use Rattle.h2_joined.proofs.JointCalls.{called_at, called_within}
 use Rattle.h2_joined.proofs.JointChains.{KeptByCalls, holds_by_pump, holds_by_release}
-use Rattle.h2_joined.proofs.JointChains.{holds_by_refused_request, holds_by_refused_response}
-use Rattle.h2_joined.proofs.JointAnswers.{request_accepted, response_accepted}
+use Rattle.h2_joined.proofs.JointChains.{holds_by_refused_ask, holds_by_refused_reply}
+use Rattle.h2_joined.proofs.JointChains.{holds_by_refused_body, holds_by_refused_trailers}
+use Rattle.h2_joined.proofs.JointAnswers.{request_accepted, response_accepted, part_accepted}
 use Rattle.h2_joined.proofs.JointStart.{new_ends_hold}
-use Rattle.h2_joined.proofs.OrderKept.{act_keeps_order}
+use Rattle.h2_joined.proofs.OrderKept.{act_keeps_said}
 use Rattle.h2_joined.proofs.HoldsLater.{delivery_stays}
 use Rattle.h2_joined.proofs.JointMemory.{other_stays}
 use Rattle.h2_joined.proofs.HoldsSides.{one_role}
@@ -37,64 +49,118 @@ module _ (side : Side) (client_values server_values : Values) (made : List Made)
       (ordinary_stays_in act ordinary)
       (λ had. accept_same side end _ other.happened refl (stays.calm had).accepted)
 
--- A request at the client. A server makes none.
+-- A request at the client, whole or begun. A server makes none.
 requested : (side : Side) (client_values server_values : Values) (made : List Made) (did : Made)
-    (one other : JointEnd) (message : SentMessage) (result : Result ℕ EndRefusal) (after : EndLog)
-    → HoldsAt side client_values server_values made one other → AreOctets message.head
-    → MayRequest one.happened message result after
+    (one other : JointEnd) (broken : Option Malformed) (said : Said) (result : Result ℕ EndRefusal)
+    (after : EndLog) → HoldsAt side client_values server_values made one other
+    → AreOctets said.message.head → (broken ≡ None → IsSoundSaid reading.Requests said)
+    → MayAsk broken one.happened said result after
     → StaysAt side client_values server_values (did ∷ made) (with_happened one after) other
-unfolding MayRequest IsTypedAct
-requested Client client_values server_values made did client server message (Ok id) after holds
-    typed (unbroken, fits, may, same) =
-    let act = Open message.head (is_head_alone message) in
+unfolding MayAsk IsTypedAct
+requested Client client_values server_values made did client server broken said (Ok id) after holds
+    typed sound (unbroken, fits, may, same) =
+    let act = opened_with said in
     subst (StaysWith Client client_values server_values (did ∷ made) client server) (sym same)
     (called_within Client client_values server_values (did ∷ made) client server act (Number id)
-    ((id, message) ∷ client.happened.accepted)
+    ((id, said) ∷ client.happened.accepted)
     (stays_more Client client_values server_values made client server did holds.stays) typed may
     (ordinary_of_act (did ∷ made) Client act (Number id) tt) (ordinary_stays_in act tt)
-    (λ had. request_accepted client_values server_values made client server message id
-    (is_head_alone message) holds unbroken may (holds.stays.calm had.1).accepted))
-requested Server client_values server_values made did server client message (Ok id) after holds
-    typed (unbroken, fits, may, same) =
+    (λ had. request_accepted client_values server_values made client server said id
+    holds (sound unbroken) may (holds.stays.calm had.1).accepted))
+requested Server client_values server_values made did server client broken said (Ok id) after holds
+    typed sound (unbroken, fits, may, same) =
     absurd (one_role server.happened.log.role (open_answer _ _ _ id may).0
     (stream_of_log _ _ _ (log_of Server client_values server_values made server client
     holds.stays)).role)
-requested side client_values server_values made did one other message (Err refusal) after holds
-    typed may =
-    holds_by_refused_request (StaysWith side client_values server_values (did ∷ made) one other)
-    (call_kept side client_values server_values (did ∷ made) one other) one.happened after message
-    refusal may (stays_more side client_values server_values made one other did holds.stays)
+requested side client_values server_values made did one other broken said (Err refusal) after holds
+    typed sound may =
+    holds_by_refused_ask (StaysWith side client_values server_values (did ∷ made) one other)
+    (call_kept side client_values server_values (did ∷ made) one other) broken one.happened after
+    said refusal may (stays_more side client_values server_values made one other did holds.stays)
 
--- A response at the server. No client responds.
+-- A response at the server, whole or begun. No client responds.
 responded : (side : Side) (client_values server_values : Values) (made : List Made) (did : Made)
-    (one other : JointEnd) (id : ℕ) (message : SentMessage)
+    (one other : JointEnd) (broken : Option Malformed) (id : ℕ) (said : Said)
     (result : Result (Unit {0}) EndRefusal) (after : EndLog)
     → HoldsAt side client_values server_values made one other → id < 2 ^ 32
-    → AreOctets message.head → MayRespond one.happened id message result after
+    → AreOctets said.message.head
+    → (broken ≡ None → IsSoundSaid (answer_reads one.happened id) said)
+    → MayReply broken one.happened id said result after
     → StaysAt side client_values server_values (did ∷ made) (with_happened one after) other
-unfolding MayRespond IsTypedAct
-responded Client client_values server_values made did client server id message (Ok done) after holds
-    small typed (asked, none, unbroken, fits, may, same) =
+unfolding MayReply IsTypedAct
+responded Client client_values server_values made did client server broken id said (Ok done) after
+    holds small typed sound (asked, none, unbroken, fits, may, same) =
     absurd (one_role client.happened.log.role
     (stream_of_log _ _ _ (log_of Client client_values server_values made client server
     holds.stays)).role asked.server)
-responded Server client_values server_values made did server client id message (Ok done) after holds
-    small typed (asked, none, unbroken, fits, may, same) =
-    let act = SendFields id message.head (is_head_alone message) in
+responded Server client_values server_values made did server client broken id said (Ok done) after
+    holds small typed sound (asked, none, unbroken, fits, may, same) =
+    let act = answered_with id said in
     subst (StaysWith Server client_values server_values (did ∷ made) server client) (sym same)
     (called_within Server client_values server_values (did ∷ made) server client act Done
-    ((id, message) ∷ server.happened.accepted)
+    ((id, said) ∷ server.happened.accepted)
     (stays_more Server client_values server_values made server client did holds.stays)
     (small, typed) may (ordinary_of_act (did ∷ made) Server act Done tt) (ordinary_stays_in act tt)
     (λ had. let calm = holds.stays.calm had.1 in
-    response_accepted client_values server_values made client server id message
-    (is_head_alone message) holds calm.holds asked unbroken calm.accepted))
-responded side client_values server_values made did one other id message (Err refusal) after holds
-    small typed may =
-    holds_by_refused_response (StaysWith side client_values server_values (did ∷ made) one other)
-    (call_kept side client_values server_values (did ∷ made) one other) one.happened after id
-    message refusal may
+    response_accepted client_values server_values made client server id said
+    holds calm.holds asked (sound unbroken) calm.accepted))
+responded side client_values server_values made did one other broken id said (Err refusal) after
+    holds small typed sound may =
+    holds_by_refused_reply (StaysWith side client_values server_values (did ∷ made) one other)
+    (call_kept side client_values server_values (did ∷ made) one other) broken one.happened after id
+    said refusal may
     (stays_more side client_values server_values made one other did holds.stays)
+
+module _ (side : Side) (client_values server_values : Values) (made : List Made) (did : Made)
+    (one other : JointEnd) (after : EndLog) (id : ℕ) where
+  -- A part more of a message that was begun, at either end: of its head nothing changes.
+  parted : (act : Act) (answer : Answer) (said more : Said)
+      → HoldsAt side client_values server_values made one other → IsTypedAct act → IsOrdinary act
+      → MayAnswer one.happened.log act answer → said_for id one.happened.accepted ≡ Some said
+      → more.message.head ≡ said.message.head → StaysSound said more
+      → StaysAt side client_values server_values (did ∷ made)
+      (with_happened one (end_with_more one.happened act answer id more)) other
+  parted act answer said more holds typed ordinary may was head sound =
+      called_within side client_values server_values (did ∷ made) one other act answer
+      (replaced id more one.happened.accepted)
+      (stays_more side client_values server_values made one other did holds.stays) typed may
+      (ordinary_of_act (did ∷ made) side act answer ordinary) (ordinary_stays_in act ordinary)
+      (λ had. part_accepted side one.happened other.happened act answer id said more was head sound
+      (holds.stays.calm had.1).accepted)
+
+  -- So octets of its body keep what holds,
+  body_sent : (octets : List ℕ) (ends : Bool) (result : Result ℕ EndRefusal)
+      → HoldsAt side client_values server_values made one other
+      → IsTypedAct (SendData id octets ends)
+      → MaySendBody one.happened id octets ends result after
+      → StaysAt side client_values server_values (did ∷ made) (with_happened one after) other
+  unfolding MaySendBody
+  body_sent octets ends (Ok count) holds typed (said, number, is_open, fits, may, same) =
+      subst (StaysWith side client_values server_values (did ∷ made) one other) (sym same)
+      (parted (SendData id octets ends) (Count count) said _ holds typed tt may is_open.accepted
+      refl (sound_with_octets said number octets count ends is_open.form fits))
+  body_sent octets ends (Err refusal) holds typed may =
+      holds_by_refused_body (StaysWith side client_values server_values (did ∷ made) one other)
+      (call_kept side client_values server_values (did ∷ made) one other) one.happened after id
+      octets ends refusal typed may
+      (stays_more side client_values server_values made one other did holds.stays)
+
+  -- and trailers do.
+  trailers_sent : (list : List Field) (result : Result (Unit {0}) EndRefusal)
+      → HoldsAt side client_values server_values made one other
+      → IsTypedAct (SendFields id list true)
+      → MaySendTrailers one.happened id list result after
+      → StaysAt side client_values server_values (did ∷ made) (with_happened one after) other
+  unfolding MaySendTrailers
+  trailers_sent list (Ok done) holds typed (said, number, is_open, well, may, same) =
+      subst (StaysWith side client_values server_values (did ∷ made) one other) (sym same)
+      (parted (SendFields id list true) Done said _ holds typed tt may is_open.accepted refl
+      (sound_with_trailers said number list is_open.form well))
+  trailers_sent list (Err refusal) holds typed may =
+      holds_by_refused_trailers (StaysWith side client_values server_values (did ∷ made) one other)
+      (call_kept side client_values server_values (did ∷ made) one other) one.happened after id
+      list refusal typed may
+      (stays_more side client_values server_values made one other did holds.stays)
 
 -- the act that makes a call
 abbrev call_made : Side → Act → Answer → Made
@@ -129,11 +195,24 @@ module _ (side : Side) (client_values server_values : Values) (made : List Made)
       → StaysAt side client_values server_values
       (record { side = side; doing = doing; acted = answer } ∷ made) new_one new_other
   act_stays _ _ _ _ holds (requests message result after typed may) =
-      requested side client_values server_values made _ one other message result after holds typed
-      may
+      requested side client_values server_values made _ one other _ (at_once message) result after
+      holds typed (sound_request message) may
   act_stays _ _ _ _ holds (responds id message result after small typed may) =
-      responded side client_values server_values made _ one other id message result after holds
-      small typed may
+      responded side client_values server_values made _ one other _ id (at_once message) result
+      after holds small typed (sound_response _ message) may
+  act_stays _ _ _ _ holds (begins_request head result after typed may) =
+      requested side client_values server_values made _ one other _ (begun reading.Requests head)
+      result after holds typed (sound_begun reading.Requests head) may
+  act_stays _ _ _ _ holds (begins_answer id head result after small typed may) =
+      let reads = answer_reads one.happened id in
+      responded side client_values server_values made _ one other _ id (begun reads head) result
+      after holds small typed (sound_begun reads head) may
+  act_stays _ _ _ _ holds (sends_body id octets ends result after typed may) =
+      body_sent side client_values server_values made _ one other after id octets ends result holds
+      typed may
+  act_stays _ _ _ _ holds (sends_trailers id list result after typed may) =
+      trailers_sent side client_values server_values made _ one other after id list result holds
+      typed may
   act_stays _ _ _ _ holds (pumps result after may) =
       holds_by_pump (StaysWith side client_values server_values _ one other)
       (call_kept side client_values server_values _ one other) one.happened after result may
@@ -169,6 +248,14 @@ module _ (side : Side) (client_values server_values : Values) (made : List Made)
       stays_more side client_values server_values made one other _ holds.stays
   act_stays _ _ _ _ holds (no_copy_of_a_response id message) =
       stays_more side client_values server_values made one other _ holds.stays
+  act_stays _ _ _ _ holds (no_copy_of_a_head head) =
+      stays_more side client_values server_values made one other _ holds.stays
+  act_stays _ _ _ _ holds (no_copy_of_an_answer id head) =
+      stays_more side client_values server_values made one other _ holds.stays
+  act_stays _ _ _ _ holds (no_copy_of_octets id octets ends) =
+      stays_more side client_values server_values made one other _ holds.stays
+  act_stays _ _ _ _ holds (no_copy_of_trailers id list) =
+      stays_more side client_values server_values made one other _ holds.stays
 
   -- and all that holds.
   act_holds : (new_one new_other : JointEnd) (doing : Doing) (answer : Acted)
@@ -176,13 +263,18 @@ module _ (side : Side) (client_values server_values : Values) (made : List Made)
       → MayDo one other doing answer new_one new_other
       → HoldsAt side client_values server_values
       (record { side = side; doing = doing; acted = answer } ∷ made) new_one new_other
-  act_holds new_one new_other doing answer holds may = record {
-    stays = act_stays new_one new_other doing answer holds may;
-    order = act_keeps_order _ _ one other new_one new_other doing answer
-        (log_of side client_values server_values made one other holds.stays) holds.order may;
-    other_order = subst KeepsOrder (sym (other_stays one other new_one new_other doing answer may))
-        holds.other_order;
-  }
+  act_holds new_one new_other doing answer holds may =
+      let keeps = act_keeps_said _ _ one other new_one new_other doing answer
+      (log_of side client_values server_values made one other holds.stays)
+      (record { order = holds.order; begun = holds.begun }) may in
+      let stays = sym (other_stays one other new_one new_other doing answer may) in
+      record {
+        stays = act_stays new_one new_other doing answer holds may;
+        order = keeps.order;
+        other_order = subst KeepsOrder stays holds.other_order;
+        begun = keeps.begun;
+        other_begun = subst SendsBegun stays holds.other_begun;
+      }
 
 -- So does one act more,
 next_holds : (client_values server_values : Values) (made : List Made)

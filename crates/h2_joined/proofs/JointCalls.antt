@@ -1,7 +1,7 @@
 -- One call of the connection at either end keeps what holds of two joined ends.
 use Rattle.h2_joined.proofs.Names.{inl, inr, ◌∷◌, sym, ◌∙◌, Act, Log, ◌≡◌, ◌≢◌, ℕ, List, ◌++◌, refl}
 use Rattle.h2_joined.proofs.Names.{subst, Done, View, Side, Made, false, calls, ap, append-nil}
-use Rattle.h2_joined.proofs.Names.{IsTypedAct, OutOfMemory, grows_call, SentMessage, both_ways}
+use Rattle.h2_joined.proofs.Names.{IsTypedAct, OutOfMemory, grows_call, Said, both_ways}
 use Rattle.h2_joined.proofs.Names.{first_or_later, call_gives_nothing, IsUndisturbedStep, Values}
 use Rattle.h2_joined.proofs.Names.{Answer, Refuse, PutOut, EndLog, JointEnd, ResetStream}
 use Rattle.h2_joined.proofs.Names.{tokens_heard, half_of, with_happened, log_view, MayAnswer}
@@ -16,8 +16,8 @@ use Rattle.h2_laws_log.proofs.CallConditions.{answer_in_memory as in_memory}
 use Rattle.h2_joined.proofs.HoldsSides.{goes_on_at}
 use Rattle.h2_laws_pair.specs.Steps.{no_step, then_step}
 
--- the end after a call of its connection, where these messages are accepted
-abbrev pub end_called : EndLog → Act → Answer → List (ℕ × SentMessage) → EndLog
+-- the end after a call of its connection, where this is accepted
+abbrev pub end_called : EndLog → Act → Answer → List (ℕ × Said) → EndLog
 end_called end act answer accepted = record {
   log = with_call end.log act answer;
   accepted = accepted;
@@ -95,7 +95,7 @@ asked_before made side end act answer holds of_act id code (inr here) =
 
 -- A call keeps what holds of an end.
 end_kept : (made : List Made) (side : Side) (end : EndLog) (act : Act) (answer : Answer)
-    (accepted : List (ℕ × SentMessage)) → EndHolds made side end → IsOfAct made side act answer
+    (accepted : List (ℕ × Said)) → EndHolds made side end → IsOfAct made side act answer
     → EndHolds made side (end_called end act answer accepted)
 end_kept made side end act answer accepted holds of_act =
     let same = (grows_call end.log act answer).reported in
@@ -110,7 +110,7 @@ end_kept made side end act answer accepted holds of_act =
 
 module _ (side : Side) (client_values server_values : Values) (made : List Made)
     (one other : JointEnd) (act : Act) (answer : Answer)
-    (accepted : List (ℕ × SentMessage)) where
+    (accepted : List (ℕ × Said)) where
   -- A call at either end keeps what holds.
   pub called_at : StaysAt side client_values server_values made one other → IsTypedAct act
       → MayAnswer one.happened.log act answer → IsOfAct made side act answer

@@ -1,8 +1,9 @@
 -- What an ordinary call of the connection keeps, an act of such calls keeps.
 use Rattle.h2_joined.proofs.Names
 use Names.{inl, pumps_no_more, pumps_trailers, trailers_refused, releases_no_more, releases_refused}
-use Names.{inr, IsTypedAct, SendFields, EndRefusal, pumps_data, IsUnchanged, MayRequest, MayRespond}
-use Names.{true, SentMessage, end_with_log, data_refused, releases_one, no_part_next, MayReleaseAll}
+use Names.{inr, IsTypedAct, SendFields, EndRefusal, pumps_data, IsUnchanged, MayAsk, MayReply}
+use Names.{true, Bool, List, Field, Said, MaySendBody, MaySendTrailers, Malformed, end_with_log}
+use Names.{data_refused, releases_one, no_part_next, MayReleaseAll}
 use Names.{Option, Result, subst, Refusal, Answer, Refused, MayAnswer, with_call, Releases, MayPump}
 use Names.{Ok, Err, sym, Act, Open, Count, Done, EndLog, Pumps, ℕ, Some, None}
 use Rattle.h2_ends.specs.EndCalls.{IsHeadCall}
@@ -98,26 +99,62 @@ holds_by_release Holds kept end after (Err (refusals.Conn Memory)) (up, releases
     holds_by_releases Holds kept end after (Some Memory) releases holds
 holds_by_release Holds kept end after (Err other) may holds = absurd may
 
--- and with a message that is refused.
-pub holds_by_refused_request : (Holds : EndLog → Type 0) → KeptByCalls Holds → (end after : EndLog)
-    (message : SentMessage) (refusal : EndRefusal) → MayRequest end message (Err refusal) after
-    → Holds end → Holds after
-unfolding MayRequest
-holds_by_refused_request Holds kept end after message (refusals.BadMessage rule) (broken, same)
+-- with what is given and refused,
+pub holds_by_refused_ask : (Holds : EndLog → Type 0) → KeptByCalls Holds
+    → (broken : Option Malformed) (end after : EndLog) (said : Said) (refusal : EndRefusal)
+    → MayAsk broken end said (Err refusal) after → Holds end → Holds after
+unfolding MayAsk
+holds_by_refused_ask Holds kept broken end after said (refusals.BadMessage rule) (breaks, same)
     holds = subst Holds (sym same) holds
-holds_by_refused_request Holds kept end after message (refusals.Conn refusal)
+holds_by_refused_ask Holds kept broken end after said (refusals.Conn refusal)
     (well, refuses, unchanged) holds = holds_unchanged Holds kept end after unchanged holds
-holds_by_refused_request Holds kept end after message other may holds = absurd may
+holds_by_refused_ask Holds kept broken end after said other may holds = absurd may
 
-pub holds_by_refused_response : (Holds : EndLog → Type 0) → KeptByCalls Holds → (end after : EndLog)
-    (id : ℕ) (message : SentMessage) (refusal : EndRefusal)
-    → MayRespond end id message (Err refusal) after → Holds end → Holds after
-unfolding MayRespond
-holds_by_refused_response Holds kept end after id message refusals.NotAsked (unasked, same) holds =
-    subst Holds (sym same) holds
-holds_by_refused_response Holds kept end after id message refusals.Answered (asked, some, same)
+pub holds_by_refused_reply : (Holds : EndLog → Type 0) → KeptByCalls Holds
+    → (broken : Option Malformed) (end after : EndLog) (id : ℕ) (said : Said)
+    (refusal : EndRefusal) → MayReply broken end id said (Err refusal) after → Holds end
+    → Holds after
+unfolding MayReply
+holds_by_refused_reply Holds kept broken end after id said refusals.NotAsked (unasked, same)
     holds = subst Holds (sym same) holds
-holds_by_refused_response Holds kept end after id message (refusals.BadMessage rule)
-    (asked, none, broken, same) holds = subst Holds (sym same) holds
-holds_by_refused_response Holds kept end after id message (refusals.Conn refusal)
+holds_by_refused_reply Holds kept broken end after id said refusals.Answered (asked, some, same)
+    holds = subst Holds (sym same) holds
+holds_by_refused_reply Holds kept broken end after id said (refusals.BadMessage rule)
+    (asked, none, breaks, same) holds = subst Holds (sym same) holds
+holds_by_refused_reply Holds kept broken end after id said (refusals.Conn refusal)
     (asked, none, well, refuses, unchanged) holds = holds_unchanged _ kept _ after unchanged holds
+
+-- and with a part more that is.
+pub holds_by_refused_body : (Holds : EndLog → Type 0) → KeptByCalls Holds → (end after : EndLog)
+    (id : ℕ) (octets : List ℕ) (ends : Bool) (refusal : EndRefusal)
+    → IsTypedAct (SendData id octets ends)
+    → MaySendBody end id octets ends (Err refusal) after → Holds end → Holds after
+unfolding MaySendBody
+holds_by_refused_body Holds kept end after id octets ends refusals.NotAsked typed (none, same)
+    holds = subst Holds (sym same) holds
+holds_by_refused_body Holds kept end after id octets ends refusals.Answered typed may holds =
+    absurd may
+holds_by_refused_body Holds kept end after id octets ends (refusals.BadMessage rule) typed
+    (said, number, is, breaks, rule_is, same) holds = subst Holds (sym same) holds
+holds_by_refused_body Holds kept end after id octets ends (refusals.Conn refusal) typed
+    (said, number, is, fits, may, same) holds =
+    let act = SendData id octets ends in
+    subst Holds (sym same) (kept end act (Refused refusal) holds tt typed may
+    (refused_next end act refusal))
+
+pub holds_by_refused_trailers : (Holds : EndLog → Type 0) → KeptByCalls Holds
+    → (end after : EndLog) (id : ℕ) (list : List Field) (refusal : EndRefusal)
+    → IsTypedAct (SendFields id list true)
+    → MaySendTrailers end id list (Err refusal) after → Holds end → Holds after
+unfolding MaySendTrailers
+holds_by_refused_trailers Holds kept end after id list refusals.NotAsked typed (none, same)
+    holds = subst Holds (sym same) holds
+holds_by_refused_trailers Holds kept end after id list refusals.Answered typed may holds =
+    absurd may
+holds_by_refused_trailers Holds kept end after id list (refusals.BadMessage rule) typed
+    (said, number, is, breaks, same) holds = subst Holds (sym same) holds
+holds_by_refused_trailers Holds kept end after id list (refusals.Conn refusal) typed
+    (said, number, is, fits, may, same) holds =
+    let act = SendFields id list true in
+    subst Holds (sym same) (kept end act (Refused refusal) holds tt typed may
+    (refused_next end act refusal))

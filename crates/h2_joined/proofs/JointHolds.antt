@@ -1,12 +1,14 @@
 -- What holds of two joined ends, whatever acts were made.
 use Rattle.h2_joined.proofs.Names
-use Names.{InternalError, AllByRecursion, next_unprocessed, broken_by_request, broken_by_response}
-use Names.{Contains, asks_head, WasAsked, message_for, parts_on, KeepsOrder, JointEnd, WasResetAt}
-use Names.{Values, Event, EndLog, Passed, Side, Made, half_of, Client, Server, SentMessage}
+use Names.{InternalError, AllByRecursion, next_unprocessed, IsSoundSaid, Responses}
+use Names.{Contains, asks_head, WasAsked, said_for, parts_on, KeepsOrder, JointEnd, WasResetAt}
+use Names.{Values, Event, EndLog, Passed, Side, Made, half_of, Client, Server, Said}
 use Names.{tokens_heard, IsNoEmptyPart, part_of_event, tokens_handed, Contains-append_right, IsLog}
 use Names.{[], ◌∷◌, other_side}
 use Rattle.std.specs.Prelude.{◌≡◌, ◌≢◌, ℕ, false, List, Some, None}
 use Rattle.h2_joined.specs.declared.act.Acted.TheVariants.{Failed}
+use Rattle.h2_message.specs.declared.reading.Reads.TheVariants.{Requests}
+use Rattle.h2_joined.proofs.BegunOut.{SendsBegun}
 use Rattle.h2_joined.proofs.HoldsSides.{IsPairAt, log_at, role_at, values_at}
 use Rattle.h2_joined.proofs.HoldsSteps.{where_at}
 
@@ -40,19 +42,19 @@ end_holds_more act made side end holds =
       asked = λ id code was. Contains-append_right (act ∷ []) made _ (holds.asked id code was);
     }
 
--- The server has accepted a message for a stream: it answers the request that the client has
--- accepted for it, and breaks no rule as an answer to that.
-pub record IsAnswer (client : EndLog) (i : ℕ) (message : SentMessage) : Type 0 where
-  pub request : SentMessage
-  pub accepted : message_for i client.accepted ≡ Some request
-  pub well : broken_by_response (asks_head request.head) message ≡ None
+-- The server has accepted this for a stream: it answers what the client has accepted for it, and
+-- breaks no rule as an answer to that, as far as it was given.
+pub record IsAnswer (client : EndLog) (i : ℕ) (said : Said) : Type 0 where
+  pub request : Said
+  pub accepted : said_for i client.accepted ≡ Some request
+  pub well : IsSoundSaid (Responses (asks_head request.message.head)) said
 
--- the messages that were accepted break no rule
+-- What was accepted breaks no rule, as far as it was given.
 pub record AcceptWell (client server : EndLog) : Type 0 where
-  pub requests : (i : ℕ) (message : SentMessage) → message_for i client.accepted ≡ Some message
-      → broken_by_request message ≡ None
-  pub answers : (i : ℕ) (message : SentMessage) → message_for i server.accepted ≡ Some message
-      → IsAnswer client i message
+  pub requests : (i : ℕ) (said : Said) → said_for i client.accepted ≡ Some said
+      → IsSoundSaid Requests said
+  pub answers : (i : ℕ) (said : Said) → said_for i server.accepted ≡ Some said
+      → IsAnswer client i said
 
 -- the same as one of the ends sees it
 abbrev pub AcceptAt : Side → (one other : EndLog) → Type 0
@@ -65,7 +67,7 @@ pub accept_same : (side : Side) (end new other : EndLog) → new.accepted ≡ en
 accept_same Client end new other same accept =
     record {
       requests = rw same accept.requests;
-      answers = λ i message is. let answer = accept.answers i message is in record {
+      answers = λ i said is. let answer = accept.answers i said is in record {
         request = answer.request;
         accepted = rw same answer.accepted;
         well = answer.well;
@@ -74,7 +76,7 @@ accept_same Client end new other same accept =
 accept_same Server end new other same accept =
     record {
       requests = accept.requests;
-      answers = λ i message is. let answer = accept.answers i message (rw same at is) in record {
+      answers = λ i said is. let answer = accept.answers i said (rw same at is) in record {
         request = answer.request;
         accepted = answer.accepted;
         well = answer.well;
@@ -118,6 +120,8 @@ pub record HoldsAt (side : Side) (client_values server_values : Values) (made : 
   pub stays : StaysAt side client_values server_values made one other
   pub order : KeepsOrder one.happened
   pub other_order : KeepsOrder other.happened
+  pub begun : SendsBegun one.happened
+  pub other_begun : SendsBegun other.happened
 
 -- the same, as the client sees it
 abbrev pub JointHolds : (client_values server_values : Values) → List Made
@@ -162,6 +166,8 @@ module _ (side : Side) (client_values server_values : Values) (made : List Made)
     stays = turned_stays side client_values server_values made one other holds.stays;
     order = holds.other_order;
     other_order = holds.order;
+    begun = holds.other_begun;
+    other_begun = holds.begun;
   }
 
   -- One act more leaves what holds.

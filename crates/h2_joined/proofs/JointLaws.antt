@@ -1,8 +1,8 @@
--- What follows for two joined ends: no fault is reported, and once they are quiet each message was
--- handed out whole.
+-- What follows for two joined ends: no fault is reported, and once they are quiet all that was
+-- accepted was handed out.
 use Rattle.h2_joined.proofs.Names
 use Names.{inl, inr, true, Option, refl, sym, ap, ◌∙◌, subst, Values, ResetEvent, UnprocessedEvent}
-use Names.{SentMessage, Token, IsPrefixOfTokens, message_tokens, tokens_heard, EndLog, message_for}
+use Names.{Said, Token, IsPrefixOfTokens, said_tokens, tokens_heard, EndLog, said_for}
 use Names.{tokens_handed, tokens_said, SendsInOrder, IsQuietEnd, Side, JointEnd, Made, half_of}
 use Names.{AreQuiet, WasResetIn, ReportsNoFault, part_of_event, tokens_given, ◌≡◌, ℕ, false, List}
 use Names.{Some, None, Client, Server, other_side}
@@ -76,31 +76,31 @@ reset_in made client server i client_holds server_holds (inr (inl (code, asked))
 reset_in made client server i client_holds server_holds (inr (inr named)) =
     inr (client_holds.reported (UnprocessedEvent i) (no_part i) named)
 
-sending_of : (end : EndLog) (i : ℕ) (message : SentMessage)
-    → message_for i end.accepted ≡ Some message → (sends : SendsInOrder end i)
-    → IsSending end.log i message sends.waiting
-sending_of end i message is sends =
+sending_of : (end : EndLog) (i : ℕ) (said : Said)
+    → said_for i end.accepted ≡ Some said → (sends : SendsInOrder end i)
+    → IsSending end.log i said sends.waiting
+sending_of end i said is sends =
     record {
-      sent = sym (said_of end i message is) ∙ sends.prefix;
-      begun = sends.begun (λ none. let wrong : Some message ≡ None = sym is ∙ none in cc);
+      sent = sym (said_of end i said is) ∙ sends.prefix;
+      begun = sends.begun (λ none. let wrong : Some said ≡ None = sym is ∙ none in cc);
     }
 
--- Where no message was accepted for a stream, nothing was handed out on it; where one was, all of
--- it, by what a quiet pair has heard.
+-- Where nothing was accepted for a stream, nothing was handed out on it; where something was, all
+-- of it, by what a quiet pair has heard.
 handed_whole : (one other : EndLog) (made : List Made) (side : Side) (i : ℕ)
-    (said : Option SentMessage) → message_for i other.accepted ≡ said
+    (given : Option Said) → said_for i other.accepted ≡ given
     → IsPrefixOfTokens (tokens_handed one i) (tokens_said other i) → SendsInOrder other i
     → EndHolds made side one → IsQuietEnd other
-    → ((message : SentMessage) (waiting : List Token) → IsSending other.log i message waiting
-    → IsStuck other.log i waiting → tokens_heard i one.log.reported ≡ message_tokens message)
+    → ((said : Said) (waiting : List Token) → IsSending other.log i said waiting
+    → IsStuck other.log i waiting → tokens_heard i one.log.reported ≡ said_tokens said)
     → tokens_handed one i ≡ tokens_said other i
 unfolding tokens_given
 handed_whole one other made side i None is begins sends holds quiet heard =
     none_begins _ begins.0 (sym (ap tokens_given is) ∙ begins.1) ∙ sym (ap tokens_given is)
-handed_whole one other made side i (Some message) is begins sends holds quiet heard =
-    sym (holds.heard i) ∙ heard message sends.waiting (sending_of other i message is sends)
+handed_whole one other made side i (Some said) is begins sends holds quiet heard =
+    sym (holds.heard i) ∙ heard said sends.waiting (sending_of other i said is sends)
     (subst (λ (waiting : List Token). IsStuck other.log i waiting) (waiting_of _ _ sends)
-    (quiet.stuck i)) ∙ sym (said_of other i message is)
+    (quiet.stuck i)) ∙ sym (said_of other i said is)
 
 module _ (client_values server_values : Values) (made : List Made) (client server : JointEnd)
     (i : ℕ) (holds : JointHolds client_values server_values made client server)
@@ -116,8 +116,8 @@ module _ (client_values server_values : Values) (made : List Made) (client serve
       handed_whole server.happened client.happened made Server i _ refl
       (hands_at Server _ _ _ _ _ i (turned Client _ _ _ _ _ holds)) (holds.order.sends i)
       (holds.stays.calm had).other_holds quiet.quiet_client
-      (λ message waiting. server_hears_whole client_values server_values
-      (half_of client holds.stays.lost) (half_of server holds.stays.other_lost) i message waiting
+      (λ said waiting. server_hears_whole client_values server_values
+      (half_of client holds.stays.lost) (half_of server holds.stays.other_lost) i said waiting
       holds.stays.pair.0 (holds.stays.pair.1 had) (quiet_pair _ _ _ _ server holds had quiet)
       not_reset)
 
@@ -126,7 +126,7 @@ module _ (client_values server_values : Values) (made : List Made) (client serve
       handed_whole client.happened server.happened made Client i _ refl
       (hands_at Client _ _ _ _ _ i holds) (holds.other_order.sends i)
       (holds.stays.calm had).holds quiet.quiet_server
-      (λ message waiting. client_hears_whole client_values server_values
-      (half_of client holds.stays.lost) (half_of server holds.stays.other_lost) i message waiting
+      (λ said waiting. client_hears_whole client_values server_values
+      (half_of client holds.stays.lost) (half_of server holds.stays.other_lost) i said waiting
       holds.stays.pair.0 (holds.stays.pair.1 had) (quiet_pair _ _ _ _ server holds had quiet)
       not_reset)

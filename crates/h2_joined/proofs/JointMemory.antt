@@ -3,17 +3,23 @@
 use Rattle.h2_joined.proofs.Names
 use Names.{suc, take, drop, Result, Ok, Err, refl, ap, subst, ◌∙◌, Code, InternalError, Values, Act}
 use Names.{Answer, Number, Count, Done, OutOfMemory, Refused, Open, SendFields, Refuse, PutOut, Log}
-use Names.{MayAnswer, with_call, log_after_take, Took, FieldsEvent, SentMessage, is_head_alone}
+use Names.{MayAnswer, with_call, log_after_take, Took, FieldsEvent, Said, Malformed}
 use Names.{EndRefusal, EndLog, EndAnswer, EndFailed, EndMayTake, hands_nothing, hands_out}
 use Names.{refusal_fails, runs_out_of_memory, memory_fails, Side, Acted, Doing, JointEnd, Made}
 use Names.{Delivery, Fails, IsDelivered, MayDo, IsControlCall, IsJoint, IsNextAct, MemorySufficed}
-use Names.{acted_by, acted_as, MayRequest, MayRespond, ◌≡◌, ◌≢◌, ℕ, List, Some, Failed, fails}
+use Names.{acted_by, acted_as, MayAsk, MayReply, MaySendBody, MaySendTrailers, IsTypedAct, Option}
+use Names.{Bool, true, Field, ◌≡◌, ◌≢◌, ℕ, List, Some, Failed, fails}
 use Names.{passes, refuses, Client, Server}
+use Rattle.h2_message.specs.declared.reading.Reads.TheVariants.{Requests}
+use Rattle.h2_spec_log.specs.Acts.{SendData}
+use Rattle.h2_laws_pair.specs.Tokens.{at_once}
+use Rattle.h2_ends.specs.EndCalls.{opened_with, answered_with, answer_reads, begun}
 use Rattle.h2_laws_pair.proofs.StepCalls.{call_failed}
 use Rattle.h2_joined.proofs.JointHolds.{ActHadMemory, AllHadMemory}
 use Rattle.h2_joined.proofs.JointCalls.{IsOrdinary, answers_in_memory}
 use Rattle.h2_joined.proofs.JointChains.{KeptByCalls, holds_by_pump, holds_by_release}
-use Rattle.h2_joined.proofs.JointChains.{holds_by_refused_request, holds_by_refused_response}
+use Rattle.h2_joined.proofs.JointChains.{holds_by_refused_ask, holds_by_refused_reply}
+use Rattle.h2_joined.proofs.JointChains.{holds_by_refused_body, holds_by_refused_trailers}
 use Rattle.h2_joined.specs.declared.act.Acted.TheVariants as acted
 use Rattle.h2_joined.specs.Joints as joints
 
@@ -31,38 +37,69 @@ failed_kept : (code : Code) → KeptByCalls (HasFailed code)
 failed_kept code end act answer failed ordinary typed may next =
     call_stays end.log act answer (λ id c is. absurd (subst IsOrdinary is ordinary)) may ∙ failed
 
-request_keeps : (code : Code) (end after : EndLog) (message : SentMessage)
-    (result : Result ℕ EndRefusal) → MayRequest end message result after → HasFailed code end
+ask_keeps : (code : Code) (broken : Option Malformed) (end after : EndLog) (said : Said)
+    (result : Result ℕ EndRefusal) → MayAsk broken end said result after → HasFailed code end
     → HasFailed code after
-unfolding MayRequest
-request_keeps code end after message (Ok id) (unbroken, fits, may, same) failed =
+unfolding MayAsk
+ask_keeps code broken end after said (Ok id) (unbroken, fits, may, same) failed =
     ap (λ (e : EndLog). e.log.failed) same
-    ∙ (call_stays end.log (Open message.head (is_head_alone message)) (Number id) (λ i c is. cc) may
-    ∙ failed)
-request_keeps code end after message (Err refusal) may failed =
-    holds_by_refused_request (HasFailed code) (failed_kept code) end after message refusal may
+    ∙ (call_stays end.log (opened_with said) (Number id) (λ i c is. cc) may ∙ failed)
+ask_keeps code broken end after said (Err refusal) may failed =
+    holds_by_refused_ask (HasFailed code) (failed_kept code) broken end after said refusal may
     failed
 
-respond_keeps : (code : Code) (end after : EndLog) (id : ℕ) (message : SentMessage)
-    (result : Result (Unit {0}) EndRefusal) → MayRespond end id message result after
-    → HasFailed code end → HasFailed code after
-unfolding MayRespond
-respond_keeps code end after id message (Ok done) (asked, none, well, fits, may, same) failed =
+reply_keeps : (code : Code) (broken : Option Malformed) (end after : EndLog) (id : ℕ)
+    (said : Said) (result : Result (Unit {0}) EndRefusal)
+    → MayReply broken end id said result after → HasFailed code end → HasFailed code after
+unfolding MayReply
+reply_keeps code broken end after id said (Ok done) (asked, none, well, fits, may, same) failed =
     ap (λ (e : EndLog). e.log.failed) same
-    ∙ (call_stays end.log (SendFields id message.head (is_head_alone message)) Done (λ i c is. cc)
-    may ∙ failed)
-respond_keeps code end after id message (Err refusal) may failed =
-    holds_by_refused_response (HasFailed code) (failed_kept code) end after id message refusal may
+    ∙ (call_stays end.log (answered_with id said) Done (λ i c is. cc) may ∙ failed)
+reply_keeps code broken end after id said (Err refusal) may failed =
+    holds_by_refused_reply (HasFailed code) (failed_kept code) broken end after id said refusal may
     failed
+
+body_keeps : (code : Code) (end after : EndLog) (id : ℕ) (octets : List ℕ) (ends : Bool)
+    (result : Result ℕ EndRefusal) → IsTypedAct (SendData id octets ends)
+    → MaySendBody end id octets ends result after → HasFailed code end → HasFailed code after
+unfolding MaySendBody
+body_keeps code end after id octets ends (Ok count) typed (said, number, is, fits, may, same)
+    failed =
+    ap (λ (e : EndLog). e.log.failed) same
+    ∙ (call_stays end.log (SendData id octets ends) (Count count) (λ i c is. cc) may ∙ failed)
+body_keeps code end after id octets ends (Err refusal) typed may failed =
+    holds_by_refused_body (HasFailed code) (failed_kept code) end after id octets ends refusal typed
+    may failed
+
+trailers_keep : (code : Code) (end after : EndLog) (id : ℕ) (list : List Field)
+    (result : Result (Unit {0}) EndRefusal) → IsTypedAct (SendFields id list true)
+    → MaySendTrailers end id list result after → HasFailed code end → HasFailed code after
+unfolding MaySendTrailers
+trailers_keep code end after id list (Ok done) typed (said, number, is, fits, may, same) failed =
+    ap (λ (e : EndLog). e.log.failed) same
+    ∙ (call_stays end.log (SendFields id list true) Done (λ i c is. cc) may ∙ failed)
+trailers_keep code end after id list (Err refusal) typed may failed =
+    holds_by_refused_trailers (HasFailed code) (failed_kept code) end after id list refusal typed
+    may failed
 
 -- Where an act is done with an end that has failed, it stays failed,
 act_keeps : (one other new_one new_other : JointEnd) (doing : Doing) (answer : Acted) (code : Code)
     → MayDo one other doing answer new_one new_other
     → HasFailed code one.happened → HasFailed code new_one.happened
 act_keeps one other _ _ _ _ code (joints.requests message result after typed may) failed =
-    request_keeps code one.happened after message result may failed
+    ask_keeps code _ one.happened after (at_once message) result may failed
 act_keeps one other _ _ _ _ code (joints.responds id message result after small typed may)
-    failed = respond_keeps code one.happened after id message result may failed
+    failed = reply_keeps code _ one.happened after id (at_once message) result may failed
+act_keeps one other _ _ _ _ code (joints.begins_request head result after typed may) failed =
+    ask_keeps code _ one.happened after (begun Requests head) result may failed
+act_keeps one other _ _ _ _ code (joints.begins_answer id head result after small typed may)
+    failed =
+    reply_keeps code _ one.happened after id (begun (answer_reads one.happened id) head) result may
+    failed
+act_keeps one other _ _ _ _ code (joints.sends_body id octets ends result after typed may)
+    failed = body_keeps code one.happened after id octets ends result typed may failed
+act_keeps one other _ _ _ _ code (joints.sends_trailers id list result after typed may) failed =
+    trailers_keep code one.happened after id list result typed may failed
 act_keeps one other _ _ _ _ code (joints.pumps result after may) failed =
     holds_by_pump (HasFailed code) (failed_kept code) one.happened after result may failed
 act_keeps one other _ _ _ _ code (joints.releases_all result after may) failed =
@@ -81,12 +118,20 @@ act_keeps one other _ _ _ _ code (joints.delivery_stops count unused after up de
     failed = absurd (cc)
 act_keeps one other _ _ _ _ code (joints.no_copy_of_a_request message) failed = failed
 act_keeps one other _ _ _ _ code (joints.no_copy_of_a_response id message) failed = failed
+act_keeps one other _ _ _ _ code (joints.no_copy_of_a_head head) failed = failed
+act_keeps one other _ _ _ _ code (joints.no_copy_of_an_answer id head) failed = failed
+act_keeps one other _ _ _ _ code (joints.no_copy_of_octets id octets ends) failed = failed
+act_keeps one other _ _ _ _ code (joints.no_copy_of_trailers id list) failed = failed
 
 -- and at the other nothing happens.
 pub other_stays : (one other new_one new_other : JointEnd) (doing : Doing) (answer : Acted)
     → MayDo one other doing answer new_one new_other → new_other.happened ≡ other.happened
 other_stays one other _ _ _ _ (joints.requests message result after typed may) = refl
 other_stays one other _ _ _ _ (joints.responds id message result after small typed may) = refl
+other_stays one other _ _ _ _ (joints.begins_request head result after typed may) = refl
+other_stays one other _ _ _ _ (joints.begins_answer id head result after small typed may) = refl
+other_stays one other _ _ _ _ (joints.sends_body id octets ends result after typed may) = refl
+other_stays one other _ _ _ _ (joints.sends_trailers id list result after typed may) = refl
 other_stays one other _ _ _ _ (joints.pumps result after may) = refl
 other_stays one other _ _ _ _ (joints.releases_all result after may) = refl
 other_stays one other _ _ _ _ (joints.calls act answer call typed may) = refl
@@ -97,6 +142,10 @@ other_stays one other _ _ _ _ (joints.has_failed count fault is) = refl
 other_stays one other _ _ _ _ (joints.delivery_stops count unused after up delivered) = refl
 other_stays one other _ _ _ _ (joints.no_copy_of_a_request message) = refl
 other_stays one other _ _ _ _ (joints.no_copy_of_a_response id message) = refl
+other_stays one other _ _ _ _ (joints.no_copy_of_a_head head) = refl
+other_stays one other _ _ _ _ (joints.no_copy_of_an_answer id head) = refl
+other_stays one other _ _ _ _ (joints.no_copy_of_octets id octets ends) = refl
+other_stays one other _ _ _ _ (joints.no_copy_of_trailers id list) = refl
 
 -- A call of `take` that answers a failure leaves the connection failed so.
 take_fails : (end after : EndLog) (piece : List ℕ) (answer : EndAnswer) (code : Code)
@@ -174,6 +223,14 @@ act_fails one other _ _ _ _ code (joints.requests message result after typed may
     absurd (id_is_none result code is)
 act_fails one other _ _ _ _ code (joints.responds id message result after small typed may) is =
     absurd (done_is_none result code is)
+act_fails one other _ _ _ _ code (joints.begins_request head result after typed may) is =
+    absurd (id_is_none result code is)
+act_fails one other _ _ _ _ code (joints.begins_answer id head result after small typed may) is =
+    absurd (done_is_none result code is)
+act_fails one other _ _ _ _ code (joints.sends_body id octets ends result after typed may) is =
+    absurd (count_is_none result code is)
+act_fails one other _ _ _ _ code (joints.sends_trailers id list result after typed may) is =
+    absurd (done_is_none result code is)
 act_fails one other _ _ _ _ code (joints.pumps result after may) is =
     absurd (count_is_none result code is)
 act_fails one other _ _ _ _ code (joints.releases_all result after may) is =
@@ -191,6 +248,10 @@ act_fails one other _ _ _ _ code (joints.delivery_stops count unused after up de
     absurd (cc)
 act_fails one other _ _ _ _ code (joints.no_copy_of_a_request message) is = absurd (cc)
 act_fails one other _ _ _ _ code (joints.no_copy_of_a_response id message) is = absurd (cc)
+act_fails one other _ _ _ _ code (joints.no_copy_of_a_head head) is = absurd (cc)
+act_fails one other _ _ _ _ code (joints.no_copy_of_an_answer id head) is = absurd (cc)
+act_fails one other _ _ _ _ code (joints.no_copy_of_octets id octets ends) is = absurd (cc)
+act_fails one other _ _ _ _ code (joints.no_copy_of_trailers id list) is = absurd (cc)
 
 -- So memory was not refused to the connection in an act after which it has not failed so.
 had_memory_in : (side : Side) (one other new_one new_other : JointEnd) (doing : Doing)

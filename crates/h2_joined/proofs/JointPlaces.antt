@@ -1,5 +1,5 @@
 -- Whatever acts were made, what was handed out at each of two joined ends is what its place says,
--- and each message that the server has accepted has a final head.
+-- and what the server has accepted has a final head.
 use Rattle.h2_joined.proofs.Names
 use Names.{◌⊎◌, Refuse, PutOut, EndLog, Handed, Passed, Acted, Doing, Whole, opened, Failed, passes}
 use Names.{inl, inr, ◌∷◌, Err, sym, ap, ◌∙◌, Log, ◌≡◌, List, Some, None, ◌==◌, true, ◌++◌, refl}
@@ -7,8 +7,10 @@ use Names.{Role, Took, Part, Made, Fails, Stops, MayDo, Bool, false, fails, if�
 use Names.{IsReadableWith, end_with_handed, runs_out_of_memory, handed_elsewhere, Result, Values}
 use Names.{Event, JointEnd, Delivery, IsJoint, part_on, parts_on, reads_on, refuses, Ok}
 use Names.{FieldsEvent, end_with_log, hands_nothing, refusal_fails, MessageToken, readable_here}
-use Names.{subst, ResetEvent, with_call, grows_call, EndRefusal, EndMayTake, MayRequest, MayRespond}
-use Names.{append-nil, cases_Bool, SentMessage, new_end_log, IsDelivered, message_for, parts_heard}
+use Names.{subst, ResetEvent, with_call, grows_call, EndRefusal, EndMayTake, MayAsk, MayReply}
+use Names.{append-nil, cases_Bool, Said, Act, Answer, Option, Malformed, Field, IsTypedAct}
+use Names.{SendFields, MaySendBody, MaySendTrailers, new_end_log, IsDelivered, said_for}
+use Names.{parts_heard}
 use Names.{cases_eq, is_server, Responses, EndAnswer, handed_as, hands_out, IsNextAct, with_sent, ℕ}
 use Rattle.h2_ends.specs.MessageTokens.{parts_heard_in}
 use Rattle.h2_laws_end.proofs.OverNumbers.{open_answer}
@@ -19,23 +21,28 @@ use Rattle.h2_ends.proofs.EndParts.{has_phase}
 use Rattle.h2_ends.proofs.MessageTokensPlaced.{place_where, begun_after, placed_part, parts_placed}
 use Rattle.h2_ends.proofs.MessageTokensPlaced.{placed_more, reads_requests, heard_here}
 use Rattle.h2_ends.proofs.MessageTokensPlaced.{heard_elsewhere}
-use Rattle.h2_ends.proofs.MessageTokensSaid.{response_final}
+use Rattle.h2_ends.proofs.MessageTokensSaid.{response_final, head_final}
+use Rattle.h2_spec_log.specs.Acts.{SendData}
+use Rattle.h2_laws_pair.specs.Tokens.{at_once}
+use Rattle.h2_ends.specs.Ends.{replaced}
+use Rattle.h2_ends.specs.EndCalls.{answer_reads, begun, end_with_more}
+use Rattle.h2_ends.proofs.PartSends.{one_said, replaced_here, replaced_elsewhere}
 use Rattle.h2_joined.proofs.JointChains.{KeptByCalls, holds_by_pump, holds_by_release}
-use Rattle.h2_joined.proofs.JointChains.{holds_by_refused_request, holds_by_refused_response}
+use Rattle.h2_joined.proofs.JointChains.{holds_by_refused_ask, holds_by_refused_reply}
+use Rattle.h2_joined.proofs.JointChains.{holds_by_refused_body, holds_by_refused_trailers}
 use Rattle.h2_joined.proofs.HoldsSides.{one_role}
 use Rattle.h2_spec_log.specs.declared.role.Role.TheVariants as roles
 use Rattle.h2_message.specs.declared.reading.Place.TheVariants as places
 use Rattle.h2_joined.specs.Joints as joints
 
 -- What was handed out at an end on each stream is what its place says, and where it is a server
--- each message that it has accepted has a final head.
+-- what it has accepted has a final head.
 pub record KeepsPlaces (role : Role) (end : EndLog) : Type 0 where
   pub role_is : end.log.role ≡ role
   pub placed : (i : ℕ) → parts_heard i end.handed
       ≡ parts_placed false (is_server role) (parts_on i end.handed)
-  pub final : role ≡ roles.Server → (i : ℕ) (message : SentMessage)
-      → message_for i end.accepted ≡ Some message
-      → place_where false false message.head ≡ places.Head
+  pub final : role ≡ roles.Server → (i : ℕ) (said : Said) → said_for i end.accepted ≡ Some said
+      → place_where false false said.message.head ≡ places.Head
 
 module _ (server : Bool) (before : List Handed) where
   -- Of the stream either nothing is handed out, or a part that is what its place says.
@@ -169,48 +176,89 @@ delivery_places role _ end after _ _ (joints.fails calls octets code few may) ke
 delivery_places role _ end _ _ _ (joints.stops calls octets) keeps = keeps
 
 -- A request is accepted only at a client,
-request_places : (role : Role) (end after : EndLog) (message : SentMessage)
-    (result : Result ℕ EndRefusal) → MayRequest end message result after → KeepsPlaces role end
+ask_places : (role : Role) (broken : Option Malformed) (end after : EndLog) (said : Said)
+    (result : Result ℕ EndRefusal) → MayAsk broken end said result after → KeepsPlaces role end
     → KeepsPlaces role after
-unfolding MayRequest
-request_places role end after message (Ok id) (unbroken, fits, may, same) keeps =
+unfolding MayAsk
+ask_places role broken end after said (Ok id) (unbroken, fits, may, same) keeps =
     subst (KeepsPlaces role) (sym same) (record {
       role_is = (grows_call end.log _ _).role ∙ keeps.role_is;
       placed = keeps.placed;
       final = λ server i one is. absurd (one_role role
           (sym keeps.role_is ∙ (open_answer _ _ _ id may).0) server);
     })
-request_places role end after message (Err refusal) may keeps =
-    holds_by_refused_request _ (call_places role) _ _ _ refusal may keeps
+ask_places role broken end after said (Err refusal) may keeps =
+    holds_by_refused_ask _ (call_places role) _ _ _ said refusal may keeps
 
 -- and a response has a final head.
-final_with : (id : ℕ) (message : SentMessage) (accepted : List (ℕ × SentMessage))
-    → place_where false false message.head ≡ places.Head
-    → ((i : ℕ) (one : SentMessage) → message_for i accepted ≡ Some one
-    → place_where false false one.head ≡ places.Head)
-    → (i : ℕ) (one : SentMessage) → message_for i ((id, message) ∷ accepted) ≡ Some one
-    → place_where false false one.head ≡ places.Head
-unfolding message_for
-final_with id message accepted final all i one is = elim (cases_Bool (id == i)) [
+final_with : (id : ℕ) (said : Said) (accepted : List (ℕ × Said))
+    → place_where false false said.message.head ≡ places.Head
+    → ((i : ℕ) (one : Said) → said_for i accepted ≡ Some one
+    → place_where false false one.message.head ≡ places.Head)
+    → (i : ℕ) (one : Said) → said_for i ((id, said) ∷ accepted) ≡ Some one
+    → place_where false false one.message.head ≡ places.Head
+unfolding said_for
+final_with id said accepted final all i one is = elim (cases_Bool (id == i)) [
   | inl here ↦
-      let same : message ≡ one = let given = rw here at is in cc in
-      subst (λ (any : SentMessage). place_where false false any.head ≡ places.Head) same final
+      let same : said ≡ one = let given = rw here at is in cc in
+      subst (λ (any : Said). place_where false false any.message.head ≡ places.Head) same final
   | inr other ↦ all i one (rw other at is)
 ]
 
-respond_places : (role : Role) (end after : EndLog) (id : ℕ) (message : SentMessage)
-    (result : Result (Unit {0}) EndRefusal) → MayRespond end id message result after
-    → KeepsPlaces role end → KeepsPlaces role after
-unfolding MayRespond
-respond_places role end after id message (Ok done) (asked, none, well, fits, may, same) keeps =
+reply_places : (role : Role) (broken : Option Malformed) (end after : EndLog) (id : ℕ)
+    (said : Said) (result : Result (Unit {0}) EndRefusal)
+    → (broken ≡ None → place_where false false said.message.head ≡ places.Head)
+    → MayReply broken end id said result after → KeepsPlaces role end → KeepsPlaces role after
+unfolding MayReply
+reply_places role broken end after id said (Ok done) final (asked, none, well, fits, may, same)
+    keeps =
     subst (KeepsPlaces role) (sym same) (record {
       role_is = (grows_call end.log _ _).role ∙ keeps.role_is;
       placed = keeps.placed;
-      final = λ server. final_with id message end.accepted (response_final _ _ well)
-          (keeps.final server);
+      final = λ server. final_with id said end.accepted (final well) (keeps.final server);
     })
-respond_places role end after id message (Err refusal) may keeps =
-    holds_by_refused_response _ (call_places role) _ _ _ _ refusal may keeps
+reply_places role broken end after id said (Err refusal) final may keeps =
+    holds_by_refused_reply _ (call_places role) _ _ _ _ said refusal may keeps
+
+-- A part more leaves the head.
+more_places : (role : Role) (end : EndLog) (act : Act) (answer : Answer) (id : ℕ)
+    (said more : Said) → said_for id end.accepted ≡ Some said
+    → more.message.head ≡ said.message.head → KeepsPlaces role end
+    → KeepsPlaces role (end_with_more end act answer id more)
+more_places role end act answer id said more was head keeps =
+    record {
+      role_is = (grows_call end.log act answer).role ∙ keeps.role_is;
+      placed = keeps.placed;
+      final = λ server i one is. elim (cases_eq i id) [
+        | inl here ↦
+            let same = one_said _ more one (replaced_here id more said end.accepted was)
+            (subst (λ (j : ℕ). said_for j (replaced id more end.accepted) ≡ Some one) here is) in
+            ap (λ (any : Said). place_where false false any.message.head) (sym same)
+            ∙ ap (place_where false false) head ∙ keeps.final server id said was
+        | inr other ↦ keeps.final server i one
+            (sym (replaced_elsewhere i id more end.accepted other) ∙ is)
+      ];
+    }
+
+body_places : (role : Role) (end after : EndLog) (id : ℕ) (octets : List ℕ) (ends : Bool)
+    (result : Result ℕ EndRefusal) → IsTypedAct (SendData id octets ends)
+    → MaySendBody end id octets ends result after → KeepsPlaces role end → KeepsPlaces role after
+unfolding MaySendBody
+body_places role end after id octets ends (Ok count) typed (said, number, is, fits, may, same)
+    keeps = subst (KeepsPlaces role) (sym same)
+    (more_places role end _ _ id said _ is.accepted refl keeps)
+body_places role end after id octets ends (Err refusal) typed may keeps =
+    holds_by_refused_body _ (call_places role) _ _ _ _ _ refusal typed may keeps
+
+trailers_places : (role : Role) (end after : EndLog) (id : ℕ) (list : List Field)
+    (result : Result (Unit {0}) EndRefusal) → IsTypedAct (SendFields id list true)
+    → MaySendTrailers end id list result after → KeepsPlaces role end → KeepsPlaces role after
+unfolding MaySendTrailers
+trailers_places role end after id list (Ok done) typed (said, number, is, fits, may, same) keeps =
+    subst (KeepsPlaces role) (sym same)
+    (more_places role end _ _ id said _ is.accepted refl keeps)
+trailers_places role end after id list (Err refusal) typed may keeps =
+    holds_by_refused_trailers _ (call_places role) _ _ _ _ refusal typed may keeps
 
 -- So it stays with each act, at both ends.
 act_places : (role peer : Role) (one other new_one new_other : JointEnd) (doing : Doing)
@@ -218,9 +266,25 @@ act_places : (role peer : Role) (one other new_one new_other : JointEnd) (doing 
     → KeepsPlaces role one.happened → KeepsPlaces peer other.happened
     → KeepsPlaces role new_one.happened × KeepsPlaces peer new_other.happened
 act_places role peer one other _ _ _ _ (joints.requests message result after typed may) keeps
-    there = (request_places role one.happened after message result may keeps, there)
+    there = (ask_places role _ one.happened after (at_once message) result may keeps, there)
 act_places role peer one other _ _ _ _ (joints.responds id message result after small typed may)
-    keeps there = (respond_places role one.happened after id message result may keeps, there)
+    keeps there = (
+      reply_places role _ one.happened after id (at_once message) result
+          (response_final _ message) may keeps,
+      there,
+    )
+act_places role peer one other _ _ _ _ (joints.begins_request head result after typed may) keeps
+    there = (ask_places role _ one.happened after (begun Requests head) result may keeps, there)
+act_places role peer one other _ _ _ _ (joints.begins_answer id head result after small typed may)
+    keeps there = (
+      reply_places role _ one.happened after id (begun (answer_reads one.happened id) head) result
+          (head_final _ head) may keeps,
+      there,
+    )
+act_places role peer one other _ _ _ _ (joints.sends_body id octets ends result after typed may)
+    keeps there = (body_places role one.happened after id octets ends result typed may keeps, there)
+act_places role peer one other _ _ _ _ (joints.sends_trailers id list result after typed may) keeps
+    there = (trailers_places role one.happened after id list result typed may keeps, there)
 act_places role peer one other _ _ _ _ (joints.pumps result after may) keeps there = (
   holds_by_pump (KeepsPlaces role) (call_places role) one.happened after result may keeps,
   there,
@@ -251,12 +315,19 @@ act_places role peer one other _ _ _ _ (joints.no_copy_of_a_request message) kee
     (keeps, there)
 act_places role peer one other _ _ _ _ (joints.no_copy_of_a_response id message) keeps there =
     (keeps, there)
+act_places role peer one other _ _ _ _ (joints.no_copy_of_a_head head) keeps there = (keeps, there)
+act_places role peer one other _ _ _ _ (joints.no_copy_of_an_answer id head) keeps there =
+    (keeps, there)
+act_places role peer one other _ _ _ _ (joints.no_copy_of_octets id octets ends) keeps there =
+    (keeps, there)
+act_places role peer one other _ _ _ _ (joints.no_copy_of_trailers id list) keeps there =
+    (keeps, there)
 
 -- At a new end nothing was handed out or accepted.
 new_places : (role : Role) (values : Values) → KeepsPlaces role (new_end_log role values)
-unfolding opened with_sent parts_heard parts_on parts_placed message_for
+unfolding opened with_sent parts_heard parts_on parts_placed said_for
 new_places role values =
-    record { role_is = refl; placed = λ i. refl; final = λ server i message is. absurd (cc) }
+    record { role_is = refl; placed = λ i. refl; final = λ server i said is. absurd (cc) }
 
 -- So it is at both ends, whatever acts were made.
 next_places : (client server new_client new_server : JointEnd) (act : Made)

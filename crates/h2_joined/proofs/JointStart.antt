@@ -1,24 +1,29 @@
 -- Of two new ends all of it holds.
 use Rattle.h2_joined.proofs.Names.{inl, inr, [], refl, Role, Values, new_end_log, KeepsOrder, Side}
 use Rattle.h2_joined.proofs.Names.{new_joint_end, next_unprocessed, opened, with_sent, tokens_sent}
-use Rattle.h2_joined.proofs.Names.{tokens_heard, IsUndisturbed, message_for, parts_on, tokens_given}
+use Rattle.h2_joined.proofs.Names.{tokens_heard, IsUndisturbed, said_for, parts_on, tokens_given}
 use Rattle.h2_joined.proofs.Names.{tokens_of_parts, ◌≡◌}
 use Rattle.h2_spec_log.specs.Acts.{AreInRange}
 use Rattle.h2_spec_log.specs.States.{least_block}
 use Rattle.h2_laws_pair.specs.Pairs.{begins}
 use Rattle.h2_laws_pair.proofs.FaultsInvariant.{none_in}
+use Rattle.h2_joined.proofs.BegunOut.{SendsBegun}
 use Rattle.h2_joined.proofs.JointHolds.{JointHolds, EndHolds, AcceptWell}
 use Rattle.h2_spec_log.specs.declared.role.Role.TheVariants as roles
 
 -- A new end has said and handed out nothing,
 new_order : (role : Role) (values : Values) → KeepsOrder (new_end_log role values)
-unfolding opened with_sent tokens_sent tokens_heard message_for parts_on tokens_given
+unfolding opened with_sent tokens_sent tokens_heard said_for parts_on tokens_given
     tokens_of_parts
 new_order role values =
     record {
       sends = λ i. record { waiting = []; prefix = refl; begun = λ given. absurd (given refl) };
       hands = λ i. inl refl;
     }
+
+new_begun : (role : Role) (values : Values) → SendsBegun (new_end_log role values)
+unfolding said_for
+new_begun role values i said is goes = absurd (cc)
 
 -- was asked for nothing,
 new_holds : (side : Side) (role : Role) (values : Values)
@@ -36,14 +41,14 @@ new_holds side role values =
       ];
     }
 
--- and has accepted no message.
+-- and has accepted nothing.
 new_accepted : (client_values server_values : Values)
     → AcceptWell (new_end_log roles.Client client_values) (new_end_log roles.Server server_values)
-unfolding message_for
+unfolding said_for
 new_accepted client_values server_values =
     record {
-      requests = λ i message is. cc;
-      answers = λ i message is. absurd (cc);
+      requests = λ i said is. absurd (cc);
+      answers = λ i said is. absurd (cc);
     }
 
 -- No stream is to be reported.
@@ -71,4 +76,6 @@ new_ends_hold client_values server_values client_range server_range =
       };
       order = new_order roles.Client client_values;
       other_order = new_order roles.Server server_values;
+      begun = new_begun roles.Client client_values;
+      other_begun = new_begun roles.Server server_values;
     }

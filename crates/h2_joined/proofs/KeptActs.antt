@@ -1,12 +1,19 @@
 -- An act at one end of two joined ends is one more act of both.
-use Rattle.h2_joined.proofs.Names.{[], ◌∷◌, ◌++◌, refl, sym, ap, ◌∙◌, subst, reverse-append, Values}
-use Rattle.h2_joined.proofs.Names.{SentMessage, End, EndLog, Handed, EndRepresents, Side, Acted}
-use Rattle.h2_joined.proofs.Names.{Accepted, Kept, Pipe, Store, Joined, Doing, JointEnd, MayDo}
-use Rattle.h2_joined.proofs.Names.{with_happened, at_client, at_server, continues, HoldsOctets}
-use Rattle.h2_joined.proofs.Names.{KeepsHanded, KeepsEnd, MakesAct, made, accepted_value, end_at}
-use Rattle.h2_joined.proofs.Names.{kept_of, other_side, ◌≡◌, ℕ, List, reverse}
+use Rattle.h2_joined.proofs.Names
+use Names.{[], ◌∷◌, ◌++◌, refl, sym, ap, ap₂, ◌∙◌, subst, reverse-append, Values, End, EndLog}
+use Names.{Handed, EndRepresents, Side, Acted, Accepted, Kept, Pipe, Store, Joined, Doing, JointEnd}
+use Names.{MayDo, with_happened, at_client, at_server, continues, HoldsOctets, KeepsHanded}
+use Names.{KeepsEnd}
+use Names.{MakesAct, made, end_at, kept_of, other_side, ◌≡◌, ◌==◌, ℕ, Bool, List, Some, reverse}
+use Names.{accepted_shown, said_shown, Shown, Said, SentMessage, is_begun, said_for, cases_Bool}
+use Names.{inl, inr}
 use Rattle.std.proofs.Common.{map as each}
+use Rattle.std.proofs.lemmas.Bool.{eqb-true}
 use Rattle.std.proofs.lemmas.List.{map_push}
+use Rattle.h2_ends.specs.Ends.{replaced}
+use Rattle.h2_joined.specs.Parts.{shown_of, grown}
+use Rattle.h2_joined.proofs.BegunOut.{SendsBegun}
+use Rattle.h2_joined.proofs.JointActs.{joint_holds}
 use Rattle.h2_joined.specs.declared.act.Side.TheVariants as sides
 use Rattle.h2_joined.specs.declared.act.Acted.TheVariants as acted
 
@@ -26,7 +33,8 @@ pub record DoesAt (values : Values) (side : Side) (one other : JointEnd) (doing 
 abbrev pub DoesAll : Side → (old new : Joined) → Doing → Acted → Type 0
 DoesAll side old new doing answer =
     (values : Values) (one other : JointEnd) → EndRepresents values (end_at side old) one.happened
-    → KeepsEnd (kept_of side old) one → KeepsEnd (kept_of (other_side side) old) other
+    → SendsBegun one.happened → KeepsEnd (kept_of side old) one
+    → KeepsEnd (kept_of (other_side side) old) other
     → DoesAt values side one other doing answer new
 
 -- The other end represents the same.
@@ -40,7 +48,9 @@ pub acts_by : (side : Side) (old new : Joined) (doing : Doing) (answer : Acted)
     → end_at (other_side side) new ≡ end_at (other_side side) old
     → DoesAll side old new doing answer → MakesAct old (made side doing answer) new
 acts_by sides.Client old new doing answer same does ours theirs before client server both =
-    let done = does ours client server both.client_represents both.client_kept both.server_kept in
+    let holds = joint_holds ours theirs before client server both.joint in
+    let done = does ours client server both.client_represents holds.begun both.client_kept
+    both.server_kept in
     let next = at_client doing answer done.may in (
       done.new_one,
       done.new_other,
@@ -55,7 +65,9 @@ acts_by sides.Client old new doing answer same does ours theirs before client se
       },
     )
 acts_by sides.Server old new doing answer same does theirs ours before client server both =
-    let done = does ours server client both.server_represents both.server_kept both.client_kept in
+    let holds = joint_holds theirs ours before client server both.joint in
+    let done = does ours server client both.server_represents holds.other_begun both.server_kept
+    both.client_kept in
     let next = at_server doing answer done.may in (
       done.new_other,
       done.new_one,
@@ -73,7 +85,7 @@ acts_by sides.Server old new doing answer same does theirs ours before client se
 -- What is kept of an end is the same, but for where it lies.
 pub record SameKept (old new : Kept) : Type 0 where
   pub incoming : new.incoming ≡ old.incoming
-  pub accepted : new.accepted.items ≡ old.accepted.items
+  pub accepted : shown_of new.accepted.items ≡ shown_of old.accepted.items
   pub handed : new.handed ≡ old.handed
   pub unfinished : new.unfinished ≡ old.unfinished
 
@@ -81,7 +93,7 @@ pub same_kept : (old new : Kept) → new ≡ old → SameKept old new
 same_kept old new same =
     record {
       incoming = ap (λ (k : Kept). k.incoming) same;
-      accepted = ap (λ (k : Kept). k.accepted.items) same;
+      accepted = ap (λ (k : Kept). shown_of k.accepted.items) same;
       handed = ap (λ (k : Kept). k.handed) same;
       unfinished = ap (λ (k : Kept). k.unfinished) same;
     }
@@ -104,7 +116,7 @@ changes_end side old new items end incoming handed unfinished other =
       other_end = end;
       kept = record {
         incoming = incoming;
-        accepted = items;
+        accepted = ap shown_of items;
         handed = handed;
         unfinished = unfinished;
       };
@@ -121,9 +133,7 @@ keeps_same old new one new_one keeps same incoming accepted handed unfinished =
       incoming = subst (λ (pipe : Pipe). HoldsOctets pipe new_one.incoming) (sym same.incoming)
           (subst (λ (octets : List ℕ). HoldsOctets old.incoming octets) (sym incoming)
           keeps.incoming);
-      accepted = accepted ∙ keeps.accepted
-          ∙ ap (λ (items : List Accepted). reverse (each accepted_value items))
-          (sym same.accepted);
+      accepted = ap (each said_shown) accepted ∙ keeps.accepted ∙ sym same.accepted;
       handed = subst (λ (store : Store). KeepsHanded store new_one.happened.handed)
           (sym same.handed)
           (subst (λ (all : List Handed). KeepsHanded old.handed all) (sym handed) keeps.handed);
@@ -145,7 +155,7 @@ module _ (side : Side) (old new : Joined) (doing : Doing) where
       one.happened → HappensAt values (end_at side new) one other doing answer)
       → MakesAct old (made side doing answer) new
   acts_on_end answer changes happens = acts_by side old new doing answer changes.other_end
-      (λ values one other represents keeps other_keeps.
+      (λ values one other represents begun keeps other_keeps.
       let does = happens values one other represents in
       record {
         new_one = with_happened one does.after;
@@ -175,75 +185,99 @@ module _ (side : Side) (old new : Joined) (doing : Doing) where
         handed = refl;
       })
 
--- Only this end has changed, and of what is kept of it this is accepted too.
-pub record AcceptsAt (side : Side) (old new : Joined) (one : Accepted) : Type 0 where
+-- Only this end has changed, and of what is kept of it only what was accepted.
+pub record ChangesAccepted (side : Side) (old new : Joined) : Type 0 where
   pub other_end : end_at (other_side side) new ≡ end_at (other_side side) old
   pub incoming : (kept_of side new).incoming ≡ (kept_of side old).incoming
-  pub accepted : (kept_of side new).accepted.items
-      ≡ (kept_of side old).accepted.items ++ one ∷ []
   pub handed : (kept_of side new).handed ≡ (kept_of side old).handed
   pub unfinished : (kept_of side new).unfinished ≡ (kept_of side old).unfinished
   pub other_kept : kept_of (other_side side) new ≡ kept_of (other_side side) old
 
--- One more is the newest.
-pub newest : {A B : Type 0} (value : A → B) (items : List A) (one : A)
-    → reverse (each value (items ++ one ∷ [])) ≡ value one ∷ reverse (each value items)
-newest value items one =
-    ap reverse (map_push value items one) ∙ reverse-append (each value items) (value one ∷ [])
-
-keeps_accepted : (side : Side) (old new : Joined) (accepted : Accepted) (one new_one : JointEnd)
-    → AcceptsAt side old new accepted → KeepsEnd (kept_of side old) one
-    → new_one.incoming ≡ one.incoming
-    → new_one.happened.accepted ≡ accepted_value accepted ∷ one.happened.accepted
-    → new_one.happened.handed ≡ one.happened.handed → new_one.unfinished ≡ one.unfinished
-    → KeepsEnd (kept_of side new) new_one
-keeps_accepted side old new accepted one new_one accepts keeps incoming said handed unfinished =
-    let before = kept_of side old in
-    let after = kept_of side new in
-    let same = keeps_same _ (record after { accepted = before.accepted }) _
-    (record new_one { happened = record new_one.happened { accepted = one.happened.accepted } })
-    keeps (record {
-      incoming = accepts.incoming;
-      accepted = refl;
-      handed = accepts.handed;
-      unfinished = accepts.unfinished;
-    }) incoming refl handed unfinished in
-    record {
-      incoming = same.incoming;
-      accepted = said ∙ ap (λ (all : List (ℕ × SentMessage)). accepted_value accepted ∷ all)
-          keeps.accepted ∙ sym (newest accepted_value before.accepted.items accepted) ∙ ap
-          (λ (items : List Accepted). reverse (each accepted_value items)) (sym accepts.accepted);
-      handed = same.handed;
-      unfinished = same.unfinished;
-    }
-
--- What a call of one end has to show, that accepts a message.
-pub record SaysAt (values : Values) (new : End) (one other : JointEnd) (doing : Doing)
-    (answer : Acted) (accepted : Accepted) : Type 0 where
+-- What a call of one end has to show, that accepts something: what is kept as accepted shows it.
+pub record SaysAt (values : Values) (side : Side) (old new : Joined) (one other : JointEnd)
+    (doing : Doing) (answer : Acted) : Type 0 where
   pub after : EndLog
   pub may : MayDo one other doing answer (with_happened one after) other
-  pub represents : EndRepresents values new after
-  pub says : after.accepted ≡ accepted_value accepted ∷ one.happened.accepted
+  pub represents : EndRepresents values (end_at side new) after
+  pub says : each said_shown one.happened.accepted ≡ shown_of (kept_of side old).accepted.items
+      → each said_shown after.accepted ≡ shown_of (kept_of side new).accepted.items
   pub handed : after.handed ≡ one.happened.handed
 
 pub acts_accepting : (side : Side) (old new : Joined) (doing : Doing) (answer : Acted)
-    (accepted : Accepted) → AcceptsAt side old new accepted
+    → ChangesAccepted side old new
     → ((values : Values) (one other : JointEnd)
-    → EndRepresents values (end_at side old) one.happened
-    → SaysAt values (end_at side new) one other doing answer accepted)
+    → EndRepresents values (end_at side old) one.happened → SendsBegun one.happened
+    → SaysAt values side old new one other doing answer)
     → MakesAct old (made side doing answer) new
-acts_accepting side old new doing answer accepted accepts says =
-    acts_by side old new doing answer accepts.other_end
-    (λ values one other represents keeps other_keeps.
-    let does = says values one other represents in
+acts_accepting side old new doing answer changes says =
+    acts_by side old new doing answer changes.other_end
+    (λ values one other represents begun keeps other_keeps.
+    let does = says values one other represents begun in
+    let before = kept_of side old in
+    let after = kept_of side new in
+    let same = keeps_same before (record after { accepted = before.accepted }) one
+    (with_happened one (record does.after { accepted = one.happened.accepted })) keeps (record {
+      incoming = changes.incoming;
+      accepted = refl;
+      handed = changes.handed;
+      unfinished = changes.unfinished;
+    }) refl refl does.handed refl in
     record {
       new_one = with_happened one does.after;
       new_other = other;
       may = does.may;
       represents = does.represents;
-      kept = keeps_accepted side old new accepted one (with_happened one does.after) accepts keeps
-          refl does.says does.handed refl;
+      kept = record {
+        incoming = same.incoming;
+        accepted = does.says keeps.accepted;
+        handed = same.handed;
+        unfinished = same.unfinished;
+      };
       happened = refl;
       other_kept = keeps_same _ _ other other other_keeps (same_kept (kept_of (other_side side) old)
-          (kept_of (other_side side) new) accepts.other_kept) refl refl refl refl;
+          (kept_of (other_side side) new) changes.other_kept) refl refl refl refl;
     })
+
+-- One more is the newest.
+newest : {A B : Type 0} (value : A → B) (items : List A) (one : A)
+    → reverse (each value (items ++ one ∷ [])) ≡ value one ∷ reverse (each value items)
+newest value items one =
+    ap reverse (map_push value items one) ∙ reverse-append (each value items) (value one ∷ [])
+
+-- What is accepted is shown, where it is kept last,
+pub shows_newest : (accepted new : List (ℕ × Said)) (one : ℕ × Said) (items items_then
+    : List Accepted) (kept : Accepted) → new ≡ one ∷ accepted → said_shown one ≡ accepted_shown kept
+    → items_then ≡ items ++ kept ∷ [] → each said_shown accepted ≡ shown_of items
+    → each said_shown new ≡ shown_of items_then
+shows_newest accepted new one items items_then kept now same more shown =
+    ap (each said_shown) now
+    ∙ ap₂ (λ (first : Shown) (others : List Shown). first ∷ others) same shown
+    ∙ sym (newest accepted_shown items kept) ∙ ap shown_of (sym more)
+
+-- and a part more of a message that was begun.
+grown_said : (id : ℕ) (said more : Said) (grow : SentMessage × Bool → SentMessage × Bool)
+    (accepted : List (ℕ × Said)) → said_for id accepted ≡ Some said
+    → grow (said.message, is_begun said.form) ≡ (more.message, is_begun more.form)
+    → each said_shown (replaced id more accepted) ≡ grown id grow (each said_shown accepted)
+unfolding said_for replaced grown
+grown_said id said more grow [] is grows = absurd (cc)
+grown_said id said more grow ((i, one) ∷ accepted) is grows = elim (cases_Bool (i == id)) [
+  | inl here ↦
+      let same : one ≡ said = let given = rw here at is in cc in
+      rw (here, same, grows) (ap
+      (λ (j : ℕ). (j, (more.message, is_begun more.form)) ∷ each said_shown accepted)
+      (sym (eqb-true i id here)))
+  | inr other ↦ rw other (ap
+      (λ (others : List Shown). (i, (one.message, is_begun one.form)) ∷ others)
+      (grown_said id said more grow accepted (rw other at is) grows))
+]
+
+pub shows_grown : (accepted new : List (ℕ × Said)) (id : ℕ) (said more : Said)
+    (grow : SentMessage × Bool → SentMessage × Bool) (items items_then : List Accepted)
+    → said_for id accepted ≡ Some said → new ≡ replaced id more accepted
+    → grow (said.message, is_begun said.form) ≡ (more.message, is_begun more.form)
+    → shown_of items_then ≡ grown id grow (shown_of items)
+    → each said_shown accepted ≡ shown_of items → each said_shown new ≡ shown_of items_then
+shows_grown accepted new id said more grow items items_then was now grows kept shown =
+    ap (each said_shown) now ∙ grown_said id said more grow accepted was grows
+    ∙ ap (grown id grow) shown ∙ sym kept

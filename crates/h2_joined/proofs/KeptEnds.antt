@@ -1,11 +1,18 @@
--- What a call of an end makes of the messages that it has accepted and of what it has handed out.
+-- What a call of an end makes of what it has accepted and of what it has handed out.
 use Rattle.h2_joined.proofs.Names
-use Names.{◌∷◌, Option, Result, Ok, Err, inl, inr, refl, sym, ap, ◌∙◌, Refusal, Log, SentMessage}
+use Names.{◌∷◌, Option, Result, Ok, Err, inl, inr, refl, sym, ap, ◌∙◌, Refusal, Log, Said, Act}
+use Names.{Field, Malformed}
 use Names.{EndRefusal, EndLog, Handed, EndAnswer, EndTook, EndFailed, EndMayTake, hands_nothing}
 use Names.{hands_out, refusal_fails, runs_out_of_memory, pumps_no_more, pumps_data, pumps_trailers}
 use Names.{data_refused, trailers_refused, Releases, releases_no_more, releases_one}
-use Names.{releases_refused, MayRequest, MayRespond, MayPump, MayReleaseAll, IsUnchanged, Pumps}
-use Names.{◌≡◌, ℕ, List, Some, None, fails, passes, refuses}
+use Names.{releases_refused, MayAsk, MayReply, MaySendBody, MaySendTrailers, MayPump, MayReleaseAll}
+use Names.{IsUnchanged, Pumps}
+use Names.{◌≡◌, ◌==◌, ℕ, Bool, true, List, length, take, Some, None, fails, passes, refuses}
+use Names.{is_begun, said_for, SendFields, Refused, with_call, end_with_log}
+use Rattle.std.specs.Prelude.{◌&&◌}
+use Rattle.h2_spec_log.specs.Acts.{SendData}
+use Rattle.h2_ends.specs.Ends.{replaced}
+use Rattle.h2_ends.specs.EndCalls.{with_octets, with_trailers}
 use Rattle.h2_spec_log.specs.declared.refusal.Refusal.TheVariants as reasons
 use Rattle.h2_ends.specs.declared.refusal.EndRefusal.TheVariants as refusals
 
@@ -74,7 +81,7 @@ module _ (before : EndLog) where
   released_says (Err (refusals.Conn reasons.Memory)) after may = release_says before _ after may.1
   released_says (Err other) after may = absurd may
 
-  -- A refused message changes nothing, but that the connection may have refused a call.
+  -- What is refused changes nothing, but that the connection may have refused a call.
   unchanged_says : (after : EndLog) → IsUnchanged before after → SaysNothing before after
   unfolding IsUnchanged
   unchanged_says after (inl same) = says_itself before after same
@@ -84,44 +91,111 @@ module _ (before : EndLog) where
         handed = ap (λ (end : EndLog). end.handed) called.5;
       }
 
-  pub request_refused : (message : SentMessage) (refusal : EndRefusal) (after : EndLog)
-      → MayRequest before message (Err refusal) after → SaysNothing before after
-  unfolding MayRequest
-  request_refused message (refusals.BadMessage rule) after may = says_itself before after may.1
-  request_refused message (refusals.Conn refusal) after may = unchanged_says after may.2
-  request_refused message other after may = absurd may
+  pub ask_refused : (broken : Option Malformed) (said : Said) (refusal : EndRefusal)
+      (after : EndLog) → MayAsk broken before said (Err refusal) after → SaysNothing before after
+  unfolding MayAsk
+  ask_refused broken said (refusals.BadMessage rule) after may = says_itself before after may.1
+  ask_refused broken said (refusals.Conn refusal) after may = unchanged_says after may.2
+  ask_refused broken said other after may = absurd may
 
-  pub respond_refused : (id : ℕ) (message : SentMessage) (refusal : EndRefusal) (after : EndLog)
-      → MayRespond before id message (Err refusal) after → SaysNothing before after
-  unfolding MayRespond
-  respond_refused id message refusals.NotAsked after may = says_itself before after may.1
-  respond_refused id message refusals.Answered after may = says_itself before after may.2
-  respond_refused id message (refusals.BadMessage rule) after may = says_itself before after may.3
-  respond_refused id message (refusals.Conn refusal) after may = unchanged_says after may.4
+  pub reply_refused : (broken : Option Malformed) (id : ℕ) (said : Said) (refusal : EndRefusal)
+      (after : EndLog) → MayReply broken before id said (Err refusal) after
+      → SaysNothing before after
+  unfolding MayReply
+  reply_refused broken id said refusals.NotAsked after may = says_itself before after may.1
+  reply_refused broken id said refusals.Answered after may = says_itself before after may.2
+  reply_refused broken id said (refusals.BadMessage rule) after may =
+      says_itself before after may.3
+  reply_refused broken id said (refusals.Conn refusal) after may = unchanged_says after may.4
 
--- The end has accepted a message.
-pub record SaysMessage (before : EndLog) (id : ℕ) (message : SentMessage) (after : EndLog)
-    : Type 0 where
-  pub accepted : after.accepted ≡ (id, message) ∷ before.accepted
+  -- So it is with a part more that is refused.
+  call_refused : (act : Act) (refusal : Refusal) (after : EndLog)
+      → after ≡ end_with_log before (with_call before.log act (Refused refusal))
+      → SaysNothing before after
+  call_refused act refusal after same = record {
+    accepted = ap (λ (end : EndLog). end.accepted) same;
+    handed = ap (λ (end : EndLog). end.handed) same;
+  }
+
+  pub body_refused : (id : ℕ) (octets : List ℕ) (ends : Bool) (refusal : EndRefusal)
+      (after : EndLog) → MaySendBody before id octets ends (Err refusal) after
+      → SaysNothing before after
+  unfolding MaySendBody
+  body_refused id octets ends refusals.NotAsked after may = says_itself before after may.1
+  body_refused id octets ends refusals.Answered after may = absurd may
+  body_refused id octets ends (refusals.BadMessage rule) after may =
+      says_itself before after may.5
+  body_refused id octets ends (refusals.Conn refusal) after may =
+      call_refused (SendData id octets ends) refusal after may.5
+
+  pub list_refused : (id : ℕ) (list : List Field) (refusal : EndRefusal)
+      (after : EndLog) → MaySendTrailers before id list (Err refusal) after
+      → SaysNothing before after
+  unfolding MaySendTrailers
+  list_refused id list refusals.NotAsked after may = says_itself before after may.1
+  list_refused id list refusals.Answered after may = absurd may
+  list_refused id list (refusals.BadMessage rule) after may =
+      says_itself before after may.4
+  list_refused id list (refusals.Conn refusal) after may =
+      call_refused (SendFields id list true) refusal after may.5
+
+-- The end has accepted this for a stream.
+pub record Says (before : EndLog) (id : ℕ) (said : Said) (after : EndLog) : Type 0 where
+  pub accepted : after.accepted ≡ (id, said) ∷ before.accepted
   pub handed : after.handed ≡ before.handed
 
-pub request_accepted : (before : EndLog) (message : SentMessage) (id : ℕ) (after : EndLog)
-    → MayRequest before message (Ok id) after → SaysMessage before id message after
-unfolding MayRequest
-request_accepted before message id after may =
+pub ask_accepted : (broken : Option Malformed) (before : EndLog) (said : Said) (id : ℕ)
+    (after : EndLog) → MayAsk broken before said (Ok id) after → Says before id said after
+unfolding MayAsk
+ask_accepted broken before said id after may =
     record {
       accepted = ap (λ (end : EndLog). end.accepted) may.3;
       handed = ap (λ (end : EndLog). end.handed) may.3;
     }
 
-pub respond_accepted : (before : EndLog) (id : ℕ) (message : SentMessage) (done : Unit {0})
-    (after : EndLog) → MayRespond before id message (Ok done) after
-    → SaysMessage before id message after
-unfolding MayRespond
-respond_accepted before id message done after may =
+pub reply_accepted : (broken : Option Malformed) (before : EndLog) (id : ℕ) (said : Said)
+    (done : Unit {0}) (after : EndLog) → MayReply broken before id said (Ok done) after
+    → Says before id said after
+unfolding MayReply
+reply_accepted broken before id said done after may =
     record {
       accepted = ap (λ (end : EndLog). end.accepted) may.5;
       handed = ap (λ (end : EndLog). end.handed) may.5;
+    }
+
+-- The end has accepted a part more of what was begun on a stream.
+pub record SaysMore (before : EndLog) (id : ℕ) (more : Said → Said) (after : EndLog) : Type 0 where
+  pub said : Said
+  pub was : said_for id before.accepted ≡ Some said
+  pub goes : is_begun said.form ≡ true
+  pub accepted : after.accepted ≡ replaced id (more said) before.accepted
+  pub handed : after.handed ≡ before.handed
+
+pub body_accepted : (before : EndLog) (id : ℕ) (octets : List ℕ) (ends : Bool) (count : ℕ)
+    (after : EndLog) → MaySendBody before id octets ends (Ok count) after
+    → SaysMore before id
+    (λ said. with_octets said (take count octets) (ends && count == length octets)) after
+unfolding MaySendBody
+body_accepted before id octets ends count after (said, number, is_open, fits, may, same) =
+    record {
+      said = said;
+      was = is_open.accepted;
+      goes = ap is_begun is_open.form;
+      accepted = ap (λ (end : EndLog). end.accepted) same;
+      handed = ap (λ (end : EndLog). end.handed) same;
+    }
+
+pub trailers_accepted : (before : EndLog) (id : ℕ) (list : List Field) (done : Unit {0})
+    (after : EndLog) → MaySendTrailers before id list (Ok done) after
+    → SaysMore before id (λ said. with_trailers said list) after
+unfolding MaySendTrailers
+trailers_accepted before id list done after (said, number, is_open, fits, may, same) =
+    record {
+      said = said;
+      was = is_open.accepted;
+      goes = ap is_begun is_open.form;
+      accepted = ap (λ (end : EndLog). end.accepted) same;
+      handed = ap (λ (end : EndLog). end.handed) same;
     }
 
 -- what was handed out once a call of `take` has this answer

@@ -1,4 +1,6 @@
 -- The lemmas of two joined ends.
+pub mod BegunOut
+pub mod JointSound
 pub mod JointHolds
 pub mod HoldsSides
 pub mod HoldsNumbers
@@ -25,6 +27,7 @@ pub mod RunHeadline
 pub mod RunActs
 pub mod KeptPipe
 pub mod KeptPlaces
+pub mod KeptParts
 pub mod KeptStore
 pub mod TakenSizes
 pub mod KeptActs
@@ -32,6 +35,7 @@ pub mod KeptEnds
 pub mod KeptQuiet
 pub mod CodeCalls
 pub mod CodeMessages
+pub mod CodeParts
 pub mod CodeTakes
 pub mod CodeRounds
 pub mod CodeMoves

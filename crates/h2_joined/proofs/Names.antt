@@ -1,13 +1,14 @@
 -- The names of std and of the crates below that several proofs cite, passed on from one place.
-unfoldable pub use Rattle.h2_ends.specs.EndCalls.{IsUnchanged, MayPump, MayReleaseAll, MayRequest}
-unfoldable pub use Rattle.h2_ends.specs.EndCalls.{MayRespond}
-unfoldable pub use Rattle.h2_ends.specs.Ends.{handed_as, handed_at, IsNoEmptyPart, message_for}
+unfoldable pub use Rattle.h2_ends.specs.EndCalls.{IsUnchanged, MayAsk, MayPump, MayReleaseAll}
+unfoldable pub use Rattle.h2_ends.specs.EndCalls.{MayReply, MaySendBody, MaySendTrailers}
+unfoldable pub use Rattle.h2_ends.specs.Ends.{handed_as, handed_at, IsNoEmptyPart, said_for}
 unfoldable pub use Rattle.h2_ends.specs.Ends.{part_of_event, part_on, parts_on, reads_on}
 unfoldable pub use Rattle.h2_ends.specs.Ends.{tokens_given, tokens_of_part, tokens_of_parts}
-unfoldable pub use Rattle.h2_ends.specs.MessageTokens.{parts_heard}
+unfoldable pub use Rattle.h2_ends.specs.MessageTokens.{parts_heard, parts_said}
+unfoldable pub use Rattle.h2_ends.specs.SoundSaid.{IsSoundSaid}
 unfoldable pub use Rattle.h2_joined.specs.Stored.{event_kept, Fits, IsEventPlace, stored_field}
 unfoldable pub use Rattle.h2_laws_pair.specs.Steps.{AreUndisturbed}
-unfoldable pub use Rattle.h2_laws_pair.specs.Tokens.{end_tokens, IsNoEmptyData, message_tokens}
+unfoldable pub use Rattle.h2_laws_pair.specs.Tokens.{end_tokens, IsNoEmptyData, said_tokens}
 unfoldable pub use Rattle.h2_laws_pair.specs.Tokens.{tokens_heard, tokens_sent}
 unfoldable pub use Rattle.h2_laws_pair.specs.Undisturbed.{IsUndisturbed, IsUndisturbedStep}
 unfoldable pub use Rattle.h2_spec_log.specs.Acts.{IsTypedAct}
@@ -20,17 +21,18 @@ pub use Rattle.h2_conn.specs.Conn.{answer_by}
 pub use Rattle.h2_ends.proofs.EndOrder.{KeepsOrder, no_part_next}
 pub use Rattle.h2_ends.proofs.EndParts.{handed_elsewhere, part_tokens, readable_here, tokens_with}
 pub use Rattle.h2_ends.proofs.TakeRefusing.{memory_fails}
-pub use Rattle.h2_ends.specs.EndCalls.{data_refused, Pumps, pumps_data, pumps_no_more}
+pub use Rattle.h2_ends.specs.EndCalls.{data_refused, end_with_said, Pumps, pumps_data}
+pub use Rattle.h2_ends.specs.EndCalls.{pumps_no_more}
 pub use Rattle.h2_ends.specs.EndCalls.{pumps_trailers, Releases, releases_no_more, releases_one}
 pub use Rattle.h2_ends.specs.EndCalls.{releases_refused, trailers_refused}
 pub use Rattle.h2_ends.specs.EndTakes.{end_with_handed, end_with_log, EndMayTake, fails}
 pub use Rattle.h2_ends.specs.EndTakes.{hands_nothing, hands_out, IsReadableWith, passes}
 pub use Rattle.h2_ends.specs.EndTakes.{refusal_fails, refuses, runs_out_of_memory}
 pub use Rattle.h2_ends.specs.Ends.{BodyHanded, EndAnswer, EndFailed, EndLog, EndTook, Handed}
-pub use Rattle.h2_ends.specs.Ends.{HeadHanded, InterimHanded, Passed, tokens_handed, tokens_said}
-pub use Rattle.h2_ends.specs.Ends.{TrailersHanded}
+pub use Rattle.h2_ends.specs.Ends.{HeadHanded, InterimHanded, Passed, tokens_handed, tokens_out}
+pub use Rattle.h2_ends.specs.Ends.{tokens_said, TrailersHanded}
 pub use Rattle.h2_ends.specs.Loans.{event_handed}
-pub use Rattle.h2_ends.specs.MessageTokens.{IsPrefixOfParts, MessageToken, parts_said}
+pub use Rattle.h2_ends.specs.MessageTokens.{IsPrefixOfParts, MessageToken}
 pub use Rattle.h2_ends.specs.Quiet.{IsQuietEnd}
 pub use Rattle.h2_ends.specs.Represents.{EndAnswers, EndPumps, EndReleases, EndRepresents}
 pub use Rattle.h2_ends.specs.Represents.{EndRequests, EndResponds, new_end_log, SendsInOrder}
@@ -50,8 +52,9 @@ pub use Rattle.h2_joined.specs.Joints.{Made, MayDo, MemorySufficed, moves, new_j
 pub use Rattle.h2_joined.specs.Joints.{no_copy_of_a_request, no_copy_of_a_response, pumps}
 pub use Rattle.h2_joined.specs.Joints.{releases_all, Requests, requests, Responds, responds, Stops}
 pub use Rattle.h2_joined.specs.Joints.{Whole, with_answer, with_given, with_happened}
-pub use Rattle.h2_joined.specs.Kept.{accepted_value, end_at, HoldsOctets, JoinedRepresents}
+pub use Rattle.h2_joined.specs.Kept.{accepted_shown, end_at, HoldsOctets, JoinedRepresents}
 pub use Rattle.h2_joined.specs.Kept.{KeepsEnd, KeepsHanded, kept_of, made, MakesAct, other_side}
+pub use Rattle.h2_joined.specs.Kept.{said_shown, Shown}
 pub use Rattle.h2_joined.specs.Runs.{MakesAll}
 pub use Rattle.h2_joined.specs.Stored.{AreStored, EventPlace, events_kept, HasRoomForEvent}
 pub use Rattle.h2_joined.specs.Stored.{IsFieldPlace, IsSpan, KeepsMore, part_of, stored_fields}
@@ -77,10 +80,11 @@ pub use Rattle.h2_laws_pair.proofs.HeardPairs.{begins_message, client_hears, ser
 pub use Rattle.h2_laws_pair.proofs.PairLogs.{both_logs}
 pub use Rattle.h2_laws_pair.proofs.StepCalls.{call_gives_nothing}
 pub use Rattle.h2_laws_pair.specs.Pairs.{calls, given_since, Half, IsPair}
-pub use Rattle.h2_laws_pair.specs.Tokens.{is_head_alone, IsPrefixOfTokens, Token, tokens_of_event}
+pub use Rattle.h2_laws_pair.specs.Tokens.{is_begun, IsPrefixOfTokens, Said, Token, tokens_of_event}
 pub use Rattle.h2_laws_pair.specs.Undisturbed.{WasAsked}
 pub use Rattle.h2_message.specs.Messages.{asks_head, broken_by_request, broken_by_response}
 pub use Rattle.h2_message.specs.Messages.{SentMessage}
+pub use Rattle.h2_message.specs.declared.malformed.Malformed.{Malformed}
 pub use Rattle.h2_message.specs.Reading.{FieldsPart, IsReadable, OctetsPart, Part}
 pub use Rattle.h2_message.specs.Values.{message_value}
 pub use Rattle.h2_message.specs.declared.reading.Place.{Place}

@@ -9,7 +9,7 @@ use Rattle.h2_spec_log.specs.declared.role.Role.{Role}
 use Rattle.h2_spec_log.specs.declared.role.Role.TheVariants.{Client, Server}
 use Rattle.h2_spec_log.specs.Acts.{Values, AreInRange, Act, Answer, IsTypedAct, Number, Count, Done}
 use Rattle.h2_spec_log.specs.Acts.{OutOfMemory, Refused, ResetStream, SendPing, SendGoAway}
-use Rattle.h2_spec_log.specs.Acts.{ChangeSettings, PutOut}
+use Rattle.h2_spec_log.specs.Acts.{ChangeSettings, PutOut, SendFields, SendData}
 use Rattle.h2_spec_log.specs.LogCalls.{MayAnswer, with_call}
 use Rattle.h2_message.specs.Messages.{SentMessage}
 use Rattle.h2_laws_pair.specs.Pairs.{Half, given_since}
@@ -17,7 +17,9 @@ use Rattle.h2_ends.specs.declared.refusal.EndRefusal.{EndRefusal}
 use Rattle.h2_ends.specs.declared.refusal.EndRefusal.TheVariants.{Conn}
 use Rattle.h2_ends.specs.Ends.{EndLog, Handed, EndTook, EndFailed}
 use Rattle.h2_ends.specs.EndTakes.{EndMayTake, end_with_log}
-use Rattle.h2_ends.specs.EndCalls.{MayRequest, MayRespond, MayPump, MayReleaseAll}
+use Rattle.h2_ends.specs.EndCalls.{MayRequest, MayRespond, MayPump, MayReleaseAll, MayBegin}
+use Rattle.h2_ends.specs.EndCalls.{MayBeginAnswer, MaySendBody, MaySendTrailers}
+use Rattle.hpack.specs.declared.types.field.Field.{Field}
 use Rattle.h2_ends.specs.Represents.{new_end_log}
 use Rattle.h2_joined.specs.declared.act.Side.{Side}
 use Rattle.h2_joined.specs.declared.act.Side.TheVariants as sides
@@ -29,6 +31,12 @@ pub data Doing : Type 0 where
   -- a request is made; a response is given
   Requests : (message : SentMessage) → Doing
   Responds : (id : ℕ) (message : SentMessage) → Doing
+  -- a request is begun; a response is
+  Begins : (head : List Field) → Doing
+  BeginsAnswer : (id : ℕ) (head : List Field) → Doing
+  -- octets of the body of a message that was begun are sent, with its end or without; or trailers
+  SendsBody : (id : ℕ) (octets : List ℕ) (ends : Bool) → Doing
+  SendsTrailers : (id : ℕ) (list : List Field) → Doing
   -- `pump` and `release_all`
   Pumps : Doing
   ReleasesAll : Doing
@@ -143,6 +151,24 @@ pub data MayDo (one other : JointEnd) : Doing → Acted → (new_one new_other :
         → MayRespond one.happened id message result after
         → MayDo one other (Responds id message) (acted_by (λ done. acted.Done) result)
         (with_happened one after) other
+    begins_request : (head : List Field) (result : Result ℕ EndRefusal) (after : EndLog)
+        → AreOctets head → MayBegin one.happened head result after
+        → MayDo one other (Begins head) (acted_by acted.Id result) (with_happened one after) other
+    begins_answer : (id : ℕ) (head : List Field) (result : Result (Unit {0}) EndRefusal)
+        (after : EndLog) → id < 2 ^ 32 → AreOctets head
+        → MayBeginAnswer one.happened id head result after
+        → MayDo one other (BeginsAnswer id head) (acted_by (λ done. acted.Done) result)
+        (with_happened one after) other
+    sends_body : (id : ℕ) (octets : List ℕ) (ends : Bool) (result : Result ℕ EndRefusal)
+        (after : EndLog) → IsTypedAct (SendData id octets ends)
+        → MaySendBody one.happened id octets ends result after
+        → MayDo one other (SendsBody id octets ends) (acted_by acted.Count result)
+        (with_happened one after) other
+    sends_trailers : (id : ℕ) (list : List Field) (result : Result (Unit {0}) EndRefusal)
+        (after : EndLog) → IsTypedAct (SendFields id list true)
+        → MaySendTrailers one.happened id list result after
+        → MayDo one other (SendsTrailers id list) (acted_by (λ done. acted.Done) result)
+        (with_happened one after) other
     pumps : (result : Result ℕ EndRefusal) (after : EndLog) → MayPump one.happened result after
         → MayDo one other Pumps (acted_by acted.Count result) (with_happened one after) other
     releases_all : (result : Result (Unit {0}) EndRefusal) (after : EndLog)
@@ -182,6 +208,14 @@ pub data MayDo (one other : JointEnd) : Doing → Acted → (new_one new_other :
         → MayDo one other (Requests message) acted.Memory one other
     no_copy_of_a_response : (id : ℕ) (message : SentMessage)
         → MayDo one other (Responds id message) acted.Memory one other
+    no_copy_of_a_head : (head : List Field)
+        → MayDo one other (Begins head) acted.Memory one other
+    no_copy_of_an_answer : (id : ℕ) (head : List Field)
+        → MayDo one other (BeginsAnswer id head) acted.Memory one other
+    no_copy_of_octets : (id : ℕ) (octets : List ℕ) (ends : Bool)
+        → MayDo one other (SendsBody id octets ends) acted.Memory one other
+    no_copy_of_trailers : (id : ℕ) (list : List Field)
+        → MayDo one other (SendsTrailers id list) acted.Memory one other
 
 -- an act with its result: what was done with which end, and what came of it
 pub record Made : Type 0 where

@@ -1,5 +1,6 @@
 -- What is kept of the two ends, and what it represents.
-use Rattle.std.specs.Prelude.{map as each, ◌≡◌, ◌≤◌, ℕ, List, ◌∷◌, ◌++◌, length, reverse}
+use Rattle.std.specs.Prelude.{map as each, ◌≡◌, ◌≤◌, ℕ, Bool, List, ◌∷◌, ◌++◌, length, reverse}
+use Rattle.h2_laws_pair.specs.Tokens.{Said, is_begun}
 use Rattle.h2_flow.specs.ConfigValues.{values_of}
 use Rattle.h2_spec_log.specs.Acts as log
 use Rattle.h2_spec_log.specs.Acts.{Values}
@@ -18,19 +19,31 @@ use Rattle.h2_joined.specs.declared.kept.Kept.{Kept}
 use Rattle.h2_joined.specs.declared.pipe.Pipe.{Pipe}
 use Rattle.h2_joined.specs.declared.store.Store.{Store}
 use Rattle.h2_joined.specs.declared.joined.Joined.{Joined}
-use Rattle.h2_joined.specs.Joints.{Doing, Requests, Responds, Pumps, ReleasesAll, Calls, Moves}
+use Rattle.h2_joined.specs.Joints.{Doing, Requests, Responds, Begins, BeginsAnswer, SendsBody}
+use Rattle.h2_joined.specs.Joints.{SendsTrailers, Pumps, ReleasesAll, Calls, Moves}
 use Rattle.h2_joined.specs.Joints.{Delivers, JointEnd, Made, IsJoint, IsNextAct}
 use Rattle.h2_joined.specs.Stored.{events_kept, AreStored}
 
--- a message that was accepted, with its stream
-abbrev pub accepted_value : Accepted → ℕ × SentMessage
-accepted_value accepted = (accepted.id, message_value accepted.message)
+-- what was accepted for a stream: its number, the message so far, and whether more may follow
+abbrev pub Shown : Type 0
+Shown = ℕ × (SentMessage × Bool)
+
+-- the same of what has happened at an end, and of what is kept of it
+abbrev pub said_shown : ℕ × Said → Shown
+said_shown (id, said) = (id, (said.message, is_begun said.form))
+
+abbrev pub accepted_shown : Accepted → Shown
+accepted_shown accepted = (accepted.id, (message_value accepted.message, accepted.begun))
 
 -- the end with which something is done, and what
 -- rule: joined (own) An act is the call of its name at its end
 abbrev pub side_of : JointAct → Side
 side_of (acts.Request message) = sides.Client
 side_of (acts.Respond id message) = sides.Server
+side_of (acts.Begin head) = sides.Client
+side_of (acts.BeginResponse id head) = sides.Server
+side_of (acts.SendBody side id octets ends) = side
+side_of (acts.SendTrailers side id trailers) = side
 side_of (acts.Pump side) = side
 side_of (acts.Move from count) = from
 side_of (acts.Deliver to count) = to
@@ -44,6 +57,10 @@ side_of (acts.ChangeSettings side config) = side
 abbrev pub doing_of : JointAct → Doing
 doing_of (acts.Request message) = Requests (message_value message)
 doing_of (acts.Respond id message) = Responds id (message_value message)
+doing_of (acts.Begin head) = Begins head.items
+doing_of (acts.BeginResponse id head) = BeginsAnswer id head.items
+doing_of (acts.SendBody side id octets ends) = SendsBody id octets.items ends
+doing_of (acts.SendTrailers side id trailers) = SendsTrailers id trailers.items
 doing_of (acts.Pump side) = Pumps
 doing_of (acts.Move from count) = Moves count
 doing_of (acts.Deliver to count) = Delivers count
@@ -79,7 +96,8 @@ pub record KeepsHanded (store : Store) (handed : List Handed) : Type 0 where
 -- rule: joined (own) Accepted messages, what was handed out, octets on a pipe are kept
 pub record KeepsEnd (kept : Kept) (one : JointEnd) : Type 0 where
   pub incoming : HoldsOctets kept.incoming one.incoming
-  pub accepted : one.happened.accepted ≡ reverse (each accepted_value kept.accepted.items)
+  pub accepted : each said_shown one.happened.accepted
+      ≡ reverse (each accepted_shown kept.accepted.items)
   pub handed : KeepsHanded kept.handed one.happened.handed
   pub unfinished : kept.unfinished ≡ one.unfinished
 

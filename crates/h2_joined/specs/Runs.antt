@@ -1,12 +1,14 @@
 -- The headline: what holds of two joined ends after any list of acts.
-use Rattle.std.specs.Prelude.{map as each, ◌≡◌, ◌≢◌, ℕ, List, [], ◌∷◌, ◌++◌, reverse}
+use Rattle.std.specs.Prelude.{map as each, ◌≡◌, ◌≢◌, ℕ, ◌==◌, Bool, if◌then◌else◌, List, []}
+use Rattle.std.specs.Prelude.{◌∷◌, ◌++◌, reverse, None}
 use Rattle.std.specs.List.{AllByRecursion}
 use Rattle.h2_spec_log.specs.declared.refusal.Refusal.TheVariants.{Memory}
 use Rattle.h2_spec_log.specs.Acts.{Values}
 use Rattle.h2_laws_end.specs.WithinWindows.{KeepsWindows}
 use Rattle.h2_ends.specs.declared.refusal.EndRefusal.TheVariants.{Conn}
-use Rattle.h2_ends.specs.Ends.{message_for}
-use Rattle.h2_ends.specs.MessageTokens.{MessageToken, parts_heard, parts_said, IsPrefixOfParts}
+use Rattle.h2_ends.specs.MessageTokens.{MessageToken, parts_heard, parts_of_said, IsPrefixOfParts}
+use Rattle.h2_message.specs.Messages.{SentMessage}
+use Rattle.h2_laws_pair.specs.Tokens.{Begun, Ended}
 use Rattle.h2_joined.specs.declared.act.Side.{Side}
 use Rattle.h2_joined.specs.declared.act.Side.TheVariants as sides
 use Rattle.h2_joined.specs.declared.act.Acted.{Acted}
@@ -16,7 +18,7 @@ use Rattle.h2_joined.specs.declared.kept.Kept.{Kept}
 use Rattle.h2_joined.specs.declared.joined.Joined.{Joined}
 use Rattle.h2_joined.specs.Joints.{Doing, JointEnd, Made, IsNextAct, MemorySufficed}
 use Rattle.h2_joined.specs.Headline.{AreQuiet, WasResetIn, ReportsNoFault}
-use Rattle.h2_joined.specs.Kept.{accepted_value, side_of, doing_of, JoinedRepresents}
+use Rattle.h2_joined.specs.Kept.{Shown, accepted_shown, side_of, doing_of, JoinedRepresents}
 use Rattle.h2_joined.specs.Stored.{events_kept}
 
 -- what is kept of what an end has handed out on a stream, part by part: interim heads, the head,
@@ -24,10 +26,19 @@ use Rattle.h2_joined.specs.Stored.{events_kept}
 abbrev pub parts_recorded : Kept → ℕ → List MessageToken
 parts_recorded kept i = parts_heard i (reverse (events_kept kept.handed))
 
--- the parts of the message that is kept as accepted for a stream, or none
+-- the parts of what is kept as accepted, and its end unless more may follow
+abbrev pub parts_shown : SentMessage × Bool → List MessageToken
+parts_shown (message, begun) =
+    parts_of_said (record { message = message; form = if begun then Begun None else Ended })
+
+-- the same of what is kept for a stream, or none
+unfoldable pub parts_shown_for : ℕ → List Shown → List MessageToken
+parts_shown_for i [] = []
+parts_shown_for i ((id, shown) ∷ accepted) =
+    if id == i then parts_shown shown else parts_shown_for i accepted
+
 abbrev pub parts_accepted : Kept → ℕ → List MessageToken
-parts_accepted kept i =
-    parts_said (message_for i (reverse (each accepted_value kept.accepted.items)))
+parts_accepted kept i = parts_shown_for i (reverse (each accepted_shown kept.accepted.items))
 
 -- What an end has handed out on each stream is a prefix of what the other has accepted for it.
 pub record AreInOrder (joined : Joined) : Type 0 where

@@ -1,6 +1,6 @@
 //! Acts on two joined ends, and their results.
 
-use h2_ends::{Code, Config, EndRefusal, Message};
+use h2_ends::{Code, Config, EndRefusal, Field, Message};
 
 /// Which end of the two.
 #[derive(Clone, Copy, Debug, PartialEq, Eq, Hash)]
@@ -22,6 +22,37 @@ pub enum JointAct {
         id: u32,
         /// The response.
         message: Message,
+    },
+    /// The client begins a request: [`Client::begin`](h2_ends::Client::begin).
+    Begin(Vec<Field>),
+    /// The server begins a response: [`Server::begin`](h2_ends::Server::begin).
+    BeginResponse {
+        /// The stream of its request.
+        id: u32,
+        /// The head of the response.
+        head: Vec<Field>,
+    },
+    /// An end sends octets of the body of a message that was begun:
+    /// [`Client::send_body`](h2_ends::Client::send_body).
+    SendBody {
+        /// The end.
+        side: Side,
+        /// The stream of the message.
+        id: u32,
+        /// The octets.
+        octets: Vec<u8>,
+        /// Whether its end comes with them.
+        end: bool,
+    },
+    /// An end ends a message that was begun with trailers:
+    /// [`Client::send_trailers`](h2_ends::Client::send_trailers).
+    SendTrailers {
+        /// The end.
+        side: Side,
+        /// The stream of the message.
+        id: u32,
+        /// The trailers.
+        trailers: Vec<Field>,
     },
     /// An end sends what windows let through: [`Client::pump`](h2_ends::Client::pump).
     Pump(Side),
@@ -74,21 +105,23 @@ pub enum JointAct {
 /// The result of an act.
 #[derive(Clone, Copy, Debug, PartialEq, Eq)]
 pub enum Acted {
-    /// A Request was sent on this stream.
+    /// A Request was sent, or its head by a Begin, on this stream.
     Id(u32),
-    /// How many octets a Pump has sent of bodies, a Move has put on the pipe, or a Deliver has
-    /// delivered.
+    /// How many octets a Pump or a SendBody has sent of bodies, a Move has put on the pipe, or a
+    /// Deliver has delivered.
     Count(usize),
-    /// A Respond, ReleaseAll, Reset, Ping, GoAway or ChangeSettings was done.
+    /// A Respond, BeginResponse, SendTrailers, ReleaseAll, Reset, Ping, GoAway or ChangeSettings
+    /// was done.
     Done,
     /// The end has refused it: any act but a Deliver.
     Refused(EndRefusal),
     /// The end has failed with this code as a Deliver handed it octets, or had failed before.
     Failed(Code),
-    /// Memory was refused. Of a Request or Respond: to copy its message; nothing has changed. Of a
-    /// Deliver: to make room for the event of one more call of `take`. It stopped before that call:
-    /// the octets that were used are off the pipe, and the events are kept; nothing is lost, and
-    /// the same Deliver, made again, continues where this one stopped. A Deliver that called `take`
-    /// 2^64 - 1 times, as none does, would stop in the same way.
+    /// Memory was refused. Of a Request, a Respond, a Begin, a BeginResponse, a SendBody or a
+    /// SendTrailers: to copy what is given; nothing has changed. Of a Deliver: to make room for the
+    /// event of one more call of `take`. It stopped before that call: the octets that were used are
+    /// off the pipe, and the events are kept; nothing is lost, and the same Deliver, made again,
+    /// continues where this one stopped. A Deliver that called `take` 2^64 - 1 times, as none does,
+    /// would stop in the same way.
     Memory,
 }

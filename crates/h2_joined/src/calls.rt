@@ -31,7 +31,11 @@ impl Joined {
         }
         match self.client.request(given) {
             Ok(id) => {
-                self.at_client.accept(Accepted { id, message: kept });
+                self.at_client.accept(Accepted {
+                    id,
+                    message: kept,
+                    begun: false,
+                });
                 Acted::Id(id)
             }
             Err((_, refusal)) => Acted::Refused(refusal),
@@ -52,7 +56,11 @@ impl Joined {
         }
         match self.server.respond(id, given) {
             Ok(()) => {
-                self.at_server.accept(Accepted { id, message: kept });
+                self.at_server.accept(Accepted {
+                    id,
+                    message: kept,
+                    begun: false,
+                });
                 Acted::Done
             }
             Err((_, refusal)) => Acted::Refused(refusal),

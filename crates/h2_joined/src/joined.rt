@@ -72,6 +72,17 @@ impl Joined {
         match act {
             JointAct::Request(message) => self.request(message),
             JointAct::Respond { id, message } => self.respond(*id, message),
+            JointAct::Begin(head) => self.begin(head),
+            JointAct::BeginResponse { id, head } => self.begin_response(*id, head),
+            JointAct::SendBody {
+                side,
+                id,
+                octets,
+                end,
+            } => self.send_body(*side, *id, octets, *end),
+            JointAct::SendTrailers { side, id, trailers } => {
+                self.send_trailers(*side, *id, trailers)
+            }
             JointAct::Pump(side) => self.pump(*side),
             JointAct::Move { from, count } => self.put_on_pipe(*from, *count),
             JointAct::Deliver { to, count } => self.deliver(*to, *count),
@@ -120,7 +131,7 @@ impl Joined {
     }
 
     // contract: joined (own) Accepted messages, what was handed out, octets on a pipe are kept
-    /// The messages that an end has accepted, with their streams, in order.
+    /// What an end has accepted, a message a stream, in the order of their first calls.
     pub fn accepted(&self, side: Side) -> &[Accepted]
         ensures { result.now ≡ (kept_of side self.now).accepted.items }
     {

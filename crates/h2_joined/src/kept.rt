@@ -1,14 +1,17 @@
 //! What is kept of an end: the messages that it has accepted, what it has handed out, and the pipe
 //! that leads to it.
 
-ghost use Rattle.std.specs.Prelude.{◌≡◌, ◌+◌, ◌≤◌, [], ◌∷◌, ◌++◌, IfOk, vec_len};
+ghost use Rattle.std.specs.Prelude.{◌≡◌, ◌+◌, ◌≤◌, true, [], ◌∷◌, ◌++◌, length, IfOk, None};
+ghost use Rattle.std.specs.Prelude.{vec_len};
 ghost use Rattle.std.specs.Vec.{vec_capacity};
 ghost use Rattle.h2_spec_log.specs.Acts.{Values};
 ghost use Rattle.h2_spec_log.specs.declared.role.Role.{Role};
 ghost use Rattle.hpack.specs.Written.{AreOctets};
 ghost use Rattle.h2_message.specs.Values.{message_value};
 ghost use Rattle.h2_joined.specs.Joints.{new_joint_end};
-ghost use Rattle.h2_joined.specs.Kept.{KeepsEnd};
+ghost use Rattle.h2_joined.specs.Kept.{KeepsEnd, accepted_shown};
+ghost use Rattle.h2_joined.specs.Parts.{IsPlaceOf, HasRoomInBody, ShowsAccepted, shown_of, grown};
+ghost use Rattle.h2_joined.specs.Parts.{shown_with_octets, shown_with_trailers};
 
 use crate::pipe::Pipe;
 use crate::store::Store;
@@ -53,15 +56,95 @@ impl Kept {
     {
         let _pushed = self.accepted.push(accepted);
     }
+
+    /// The place of what was accepted for a stream, if anything was.
+    fn place_of(&self, id: u32) -> Option<usize>
+        ensures { IsPlaceOf self.now.accepted.items id result }
+    {
+        let mut place = self.accepted.len();
+        while place > 0 {
+            place -= 1;
+            if self.accepted[place].id == id {
+                return Some(place);
+            }
+        }
+        None
+    }
+
+    // rule: joined (own) Accepted messages, what was handed out, octets on a pipe are kept
+    /// Makes room for so many octets more of the body of the stream's message, if one was accepted,
+    /// and returns whether there was memory for them.
+    pub(crate) fn make_room(&mut self, id: u32, count: usize) -> bool
+        ensures same { ShowsAccepted self.old (shown_of self.old.accepted.items) self.new }
+        ensures room { result ≡ true → HasRoomInBody self.new.accepted.items id count }
+    {
+        let Some(place) = self.place_of(id) else {
+            return true;
+        };
+        self.accepted[place].message.body.reserve(count).is_ok()
+    }
+
+    // rule: joined (own) Accepted messages, what was handed out, octets on a pipe are kept
+    /// Keeps octets more of the body of the stream's message, for which there is room, and whether
+    /// they end it.
+    pub(crate) fn keep_octets(&mut self, id: u32, octets: &[u8], ended: bool)
+        ensures { HasRoomInBody self.old.accepted.items id (length octets.now)
+            → ShowsAccepted self.old (grown id (shown_with_octets octets.now ended)
+            (shown_of self.old.accepted.items)) self.new }
+    {
+        let Some(place) = self.place_of(id) else {
+            return;
+        };
+        let one = &mut self.accepted[place];
+        let _kept = one.message.body.extend_from_slice(octets);
+        if ended {
+            one.begun = false;
+        }
+    }
+
+    // rule: joined (own) Accepted messages, what was handed out, octets on a pipe are kept
+    /// Keeps the trailers of the stream's message, which end it.
+    pub(crate) fn keep_trailers(&mut self, id: u32, trailers: Vec<Field>)
+        ensures { ShowsAccepted self.old (grown id (shown_with_trailers trailers.items)
+            (shown_of self.old.accepted.items)) self.new }
+    {
+        let Some(place) = self.place_of(id) else {
+            return;
+        };
+        let one = &mut self.accepted[place];
+        one.message.trailers = Some(trailers);
+        one.begun = false;
+    }
 }
 
-/// A message that an end has accepted.
+/// What an end has accepted for a stream.
 #[derive(Debug, Drop)]
 pub struct Accepted {
-    /// Its stream.
+    /// The stream.
     pub id: u32,
-    /// The message.
+    /// The message: of one that was begun, what was accepted of it so far.
     pub message: Message,
+    /// Whether more of it may follow.
+    pub begun: bool,
+}
+
+impl Accepted {
+    /// A message that is begun on a stream with this head.
+    pub(crate) fn with_head(alloc: Global, id: u32, head: Vec<Field>) -> Accepted
+        ensures { accepted_shown result
+            ≡ (id, (record { head = head.items; body = []; trailers = None }, true)) }
+    {
+        let message = Message {
+            head,
+            body: Vec::new(alloc),
+            trailers: None,
+        };
+        Accepted {
+            id,
+            message,
+            begun: true,
+        }
+    }
 }
 
 /// A field of copies of a name and a value. The items of slices are octets, so its contract can
@@ -83,7 +166,7 @@ fn copy_field(
 }
 
 /// A copy of fields. Their names and values are octets.
-fn copy_fields(alloc: Global, fields: &[Field]) -> Result<Vec<Field>, AllocError>
+pub(crate) fn copy_fields(alloc: Global, fields: &[Field]) -> Result<Vec<Field>, AllocError>
     ensures same { IfOk result (λ copy. copy.items ≡ fields.now) }
     ensures octets { IfOk result (λ copy. AreOctets copy.items) }
 {

@@ -9,7 +9,7 @@ ghost use Rattle.h2_laws_pair.specs.Directions.{AreUnderWay, BoundsStreams, Cons
 ghost use Rattle.h2_laws_pair.specs.Directions.{ConservesStream, IsCarried};
 ghost use Rattle.h2_laws_pair.specs.HeaderTables.{HeaderTablesInStep};
 ghost use Rattle.h2_laws_pair.specs.Undisturbed.{IsUndisturbed};
-ghost use Rattle.h2_ends.specs.Ends.{message_for};
+ghost use Rattle.h2_ends.specs.Ends.{said_for};
 ghost use Rattle.h2_ends.specs.MessageTokens.{parts_heard, parts_said, IsPrefixOfParts};
 ghost use Rattle.h2_joined.specs.declared.act.Side.TheVariants.{Client, Server};
 ghost use Rattle.h2_joined.specs.Joints.{JointEnd, Made, IsJoint, MemorySufficed, half_of};
@@ -27,20 +27,20 @@ pub fn joined_ends_are_a_pair()
         (half_of server server_lost)) × (MemorySufficed client server → IsUndisturbed pair) }
 {}
 
-/// What an end has handed out on a stream is a prefix of the message that the other has accepted
-/// for it, part by part, where the head, interim heads and trailers are told apart: always, after
-/// faults, refusals and resets too.
+/// What an end has handed out on a stream is a prefix of what the other has accepted for it, part
+/// by part, where the head, interim heads and trailers are told apart: always, after faults,
+/// refusals and resets too.
 pub fn handed_out_is_a_prefix()
     ensures at_server { (client_values server_values : Values) (made : List Made)
         (client server : JointEnd) (i : ℕ)
         → IsJoint client_values server_values made client server
         → IsPrefixOfParts (parts_heard i server.happened.handed)
-        (parts_said (message_for i client.happened.accepted)) }
+        (parts_said (said_for i client.happened.accepted)) }
     ensures at_client { (client_values server_values : Values) (made : List Made)
         (client server : JointEnd) (i : ℕ)
         → IsJoint client_values server_values made client server
         → IsPrefixOfParts (parts_heard i client.happened.handed)
-        (parts_said (message_for i server.happened.accepted)) }
+        (parts_said (said_for i server.happened.accepted)) }
 {}
 
 /// Where memory was not refused, neither end reports a fault: its connection has not failed, it has
@@ -54,21 +54,21 @@ pub fn no_fault_is_reported()
         → MemorySufficed client server → ReportsNoFault made server.happened Client }
 {}
 
-/// Once both are quiet, the message that an end has accepted for a stream was handed out whole at
-/// the other, unless that stream was reset.
+/// Once both are quiet, what an end has accepted for a stream was handed out whole at the other,
+/// unless that stream was reset: of a message that was begun, all that was accepted of it.
 pub fn quiet_ends_have_all()
     ensures at_server { (client_values server_values : Values) (made : List Made)
         (client server : JointEnd) (i : ℕ)
         → IsJoint client_values server_values made client server
         → AreQuiet client server → (WasResetIn made client i → ⊥)
         → parts_heard i server.happened.handed
-        ≡ parts_said (message_for i client.happened.accepted) }
+        ≡ parts_said (said_for i client.happened.accepted) }
     ensures at_client { (client_values server_values : Values) (made : List Made)
         (client server : JointEnd) (i : ℕ)
         → IsJoint client_values server_values made client server
         → AreQuiet client server → (WasResetIn made client i → ⊥)
         → parts_heard i client.happened.handed
-        ≡ parts_said (message_for i server.happened.accepted) }
+        ≡ parts_said (said_for i server.happened.accepted) }
 {}
 
 // contract: joined (own) Two joined ends are quiet where both are, and both pipes are empty

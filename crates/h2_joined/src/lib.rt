@@ -13,6 +13,7 @@ mod joined;
 mod kept;
 mod laws;
 mod octets;
+mod parts;
 mod pipe;
 mod running;
 mod store;

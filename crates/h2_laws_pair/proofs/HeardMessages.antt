@@ -1,14 +1,16 @@
 -- What a stream on which something was sent is like, and how a message ends.
 use Rattle.std.proofs.Common.{map as each}
 use Rattle.h2_spec_log.specs.Allowed.{MayContinue, MayOpen}
-use Rattle.h2_laws_pair.specs.Tokens.{is_head_alone, trailers_tokens}
+use Rattle.h2_laws_pair.specs.Tokens.{Form, AtOnce, Begun, Ended, Said, is_ended_by_head}
+use Rattle.h2_laws_pair.specs.Tokens.{given_end, said_tokens, trailers_tokens}
 use Rattle.h2_laws_pair.proofs.Names
 use Names.{◌≡◌, inl, inr, ℕ, ◌==◌, ◌%◌, Bool, true, false, List, [], ◌∷◌, ◌++◌, Option, None, Some}
-use Names.{refl, sym, ◌∙◌, append_assoc, arith, length, list_any, both_ways, or_parts, or_cases}
+use Names.{refl, sym, ◌∙◌, append_assoc, append-nil, arith, length, list_any, both_ways, or_parts}
+use Names.{or_cases}
 use Names.{eqb-true, eq-eqb, or_left, or_right, or_from, and_parts, list_any-append, Field, Data}
 use Names.{Settings, Item, alone, block, Role, AllowedHistory, Allowed, starts, reads, writes}
-use Names.{is_block_on, ends, any_after, active_parts, block_count, SentMessage, openings, Token}
-use Names.{FieldsToken, OctetToken, EndToken, end_tokens, tokens_written, message_tokens}
+use Names.{is_block_on, ends, any_after, active_parts, block_count, openings, Token}
+use Names.{FieldsToken, OctetToken, EndToken, end_tokens, tokens_written}
 use Rattle.h2_laws_pair.proofs.HeardTokens.{item_tokens, frame_tokens, alone_adds}
 use Rattle.h2_laws_pair.proofs.HeardGoAways.{speaks}
 use Rattle.h2_laws_end.proofs.ActivityStays.{opened_after}
@@ -137,16 +139,15 @@ ended_tokens i (block stream end octets ∷ items) (list ∷ lists) many here =
           (ended_tokens i items lists (omega (arith, many)) before)
     ]
 
--- A message has its end last.
-abbrev before_end : SentMessage → List Token
-before_end message =
-    FieldsToken message.head (is_head_alone message)
-    ∷ (each OctetToken message.body ++ trailers_tokens message.trailers)
+-- What was given of a message has its end last.
+abbrev before_end : Said → List Token
+before_end said =
+    FieldsToken said.message.head (is_ended_by_head said.form said.message)
+    ∷ (each OctetToken said.message.body ++ trailers_tokens said.message.trailers)
 
-message_ends : (message : SentMessage)
-    → message_tokens message ≡ before_end message ++ EndToken ∷ []
-unfolding message_tokens
-message_ends message = rw append_assoc refl
+said_ends : (said : Said) → said_tokens said ≡ before_end said ++ given_end said.form
+unfolding said_tokens
+said_ends said = rw append_assoc refl
 
 body_endless : (octets : List ℕ) → list_any is_end (each OctetToken octets) ≡ false
 unfolding is_end
@@ -159,11 +160,12 @@ unfolding trailers_tokens is_end
 trailers_endless None = refl
 trailers_endless (Some list) = refl
 
-front_endless : (message : SentMessage) → list_any is_end (before_end message) ≡ false
+front_endless : (said : Said) → list_any is_end (before_end said) ≡ false
 unfolding is_end
-front_endless message =
-    list_any-append is_end (each OctetToken message.body) (trailers_tokens message.trailers)
-    ∙ or_from _ _ (body_endless message.body) (trailers_endless message.trailers)
+front_endless said =
+    list_any-append is_end (each OctetToken said.message.body)
+    (trailers_tokens said.message.trailers)
+    ∙ or_from _ _ (body_endless said.message.body) (trailers_endless said.message.trailers)
 
 -- What stands before a last token, stands before.
 not_more : (tokens : List Token) (token last : Token) (others : List Token)
@@ -187,9 +189,26 @@ proper_front (first ∷ tokens) (one ∷ front) token last others is here =
           (proper_front tokens front token last others after before)
     ]
 
--- As long as something waits of a message, its end wasn't sent.
-pub unended : (message : SentMessage) (tokens : List Token) (token : Token) (others : List Token)
-    → message_tokens message ≡ tokens ++ token ∷ others → list_any is_end tokens ≡ true → ⊥
-unended message tokens token others is here =
-    both_ways _ (front_endless message) (proper_front tokens (before_end message) token EndToken
-    others (sym is ∙ message_ends message) here)
+-- Where it has no end last, what stands before stands before.
+any_front : (tokens front : List Token) (token : Token) (others : List Token)
+    → tokens ++ token ∷ others ≡ front → list_any is_end tokens ≡ true
+    → list_any is_end front ≡ true
+any_front tokens front token others is here =
+    rw (← is) (list_any-append is_end tokens (token ∷ others) ∙ or_left _ _ here)
+
+-- As long as something waits of what was given, the end wasn't sent.
+unended_by : (said : Said) (form : Form) (tokens : List Token) (token : Token)
+    (others : List Token) → before_end said ++ given_end form ≡ tokens ++ token ∷ others
+    → list_any is_end tokens ≡ true → list_any is_end (before_end said) ≡ true
+unended_by said AtOnce tokens token others is here =
+    proper_front tokens (before_end said) token EndToken others (sym is) here
+unended_by said Ended tokens token others is here =
+    proper_front tokens (before_end said) token EndToken others (sym is) here
+unended_by said (Begun length) tokens token others is here =
+    any_front tokens (before_end said) token others (sym is ∙ append-nil _) here
+
+pub unended : (said : Said) (tokens : List Token) (token : Token) (others : List Token)
+    → said_tokens said ≡ tokens ++ token ∷ others → list_any is_end tokens ≡ true → ⊥
+unended said tokens token others is here =
+    both_ways _ (front_endless said)
+    (unended_by said said.form tokens token others (sym (said_ends said) ∙ is) here)

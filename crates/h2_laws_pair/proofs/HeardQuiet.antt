@@ -13,8 +13,8 @@ use Names.{Allowed, starts, reads, writes, ends, resets, total, data_on, data_of
 use Names.{greatest_block, value_read, is_server, Log, active, owed, send_window, first_window}
 use Names.{connection_send_window, IsLog, sum_below, written_is_allowed, total_none, active_from}
 use Names.{lasts_from, lists_accepted, log_sent, Half, IsPair, AreUnderWay, IsUndisturbed, IsQuiet}
-use Names.{WasReset, SentMessage, is_above, is_closed_by_us, openings, Token, FieldsToken}
-use Names.{OctetToken, EndToken, tokens_sent, tokens_heard, message_tokens}
+use Names.{WasReset, is_above, is_closed_by_us, openings, Token, FieldsToken}
+use Names.{OctetToken, EndToken, tokens_sent, tokens_heard, Said, said_tokens}
 use Rattle.h2_laws_pair.proofs.PairLogs.{both_logs}
 use Rattle.h2_laws_pair.proofs.BothWays.{AreEnds, ends_to_server, ends_to_client}
 use Rattle.h2_laws_pair.proofs.ConnectionWindows.{connection_conserved}
@@ -119,11 +119,11 @@ spoken_by role values log i is some = elim (cases_Bool (list_any (speaks i) log.
 ]
 
 -- As long as something waits of a message, the stream wasn't ended.
-goes_on_by : (role : Role) (values : Values) (log : Log) (i : ℕ) (message : SentMessage)
+goes_on_by : (role : Role) (values : Values) (log : Log) (i : ℕ) (said : Said)
     (token : Token) (others : List Token) → IsLog role values log
-    → message_tokens message ≡ tokens_sent i log.calls ++ token ∷ others
+    → said_tokens said ≡ tokens_sent i log.calls ++ token ∷ others
     → list_any (ends i) log.sent ≡ false
-goes_on_by role values log i message token others is waits =
+goes_on_by role values log i said token others is waits =
     false_from_ne_true _ (λ here.
     let many : length (lists_accepted log.calls) ≡ _ = blocks_of_lists _ _ _ _ (log_sent _ _ _ is)
     in
@@ -150,14 +150,14 @@ active_by role values log i is own spoken below goes unreset kept unnamed =
     }))
 
 -- Where nothing waits, or what waits could go, all of a message was sent.
-all_sent : (writer reader : Half) (i : ℕ) (message : SentMessage) (waiting : List Token)
-    → IsSending writer.log i message waiting → IsStuck writer.log i waiting
+all_sent : (writer reader : Half) (i : ℕ) (said : Said) (waiting : List Token)
+    → IsSending writer.log i said waiting → IsStuck writer.log i waiting
     → ((token : Token) (others : List Token)
-    → message_tokens message ≡ tokens_sent i writer.log.calls ++ token ∷ others
+    → said_tokens said ≡ tokens_sent i writer.log.calls ++ token ∷ others
     → IsIdle writer reader i)
-    → tokens_sent i writer.log.calls ≡ message_tokens message
-all_sent writer reader i message [] sending stuck idle = sym (append-nil _) ∙ sym sending.sent
-all_sent writer reader i message (token ∷ others) sending stuck idle =
+    → tokens_sent i writer.log.calls ≡ said_tokens said
+all_sent writer reader i said [] sending stuck idle = sym (append-nil _) ∙ sym sending.sent
+all_sent writer reader i said (token ∷ others) sending stuck idle =
     let now = idle token others sending.sent in
     absurd (stuck now.alive (could_go writer reader i token now))
 
@@ -168,17 +168,17 @@ server_unnamed values log i is own = false_from_ne_true _ (λ here.
     both_ways _ (log_named Server values log is i here).0 (ap is_server own))
 
 module _ (client_values server_values : Values) (client server : Half) (i : ℕ)
-    (message : SentMessage) where
+    (said : Said) where
   -- A stream of a client goes on at the server.
   client_idle : IsPair client_values server_values client server → IsQuiet client server
       → IsQuietStream client.log server.log i → tokens_sent i client.log.calls ≢ []
       → (token : Token) (others : List Token)
-      → message_tokens message ≡ tokens_sent i client.log.calls ++ token ∷ others
+      → said_tokens said ≡ tokens_sent i client.log.calls ++ token ∷ others
       → IsIdle client server i
   client_idle pair quiet settled begun token others sent =
       let is = (both_logs client_values server_values client server pair).client_log in
       let spoken = spoken_by Client client_values client.log i is begun in
-      let goes = goes_on_by Client client_values client.log i message token others is sent in
+      let goes = goes_on_by Client client_values client.log i said token others is sent in
       let opened = spoken_opened Client i client.log.received client.log.sent settled.allowed
       spoken in
       record {
@@ -206,12 +206,12 @@ module _ (client_values server_values : Values) (client server : Half) (i : ℕ)
   server_idle : IsPair client_values server_values client server → IsQuiet client server
       → IsQuietStream client.log server.log i → tokens_sent i server.log.calls ≢ []
       → (token : Token) (others : List Token)
-      → message_tokens message ≡ tokens_sent i server.log.calls ++ token ∷ others
+      → said_tokens said ≡ tokens_sent i server.log.calls ++ token ∷ others
       → IsIdle server client i
   server_idle pair quiet settled begun token others sent =
       let is = (both_logs client_values server_values client server pair).server_log in
       let spoken = spoken_by Server server_values server.log i is begun in
-      let goes = goes_on_by Server server_values server.log i message token others is sent in
+      let goes = goes_on_by Server server_values server.log i said token others is sent in
       record {
         halves = ends_to_client client_values server_values client server pair;
         up = settled.client_clean.up;
@@ -238,21 +238,21 @@ module _ (client_values server_values : Values) (client server : Half) (i : ℕ)
   pub server_hears_whole : (waiting : List Token)
       (pair : IsPair client_values server_values client server)
       → IsUndisturbed pair → IsQuiet client server → (WasReset client.log server.log i → ⊥)
-      → IsSending client.log i message waiting → IsStuck client.log i waiting
-      → tokens_heard i server.log.reported ≡ message_tokens message
+      → IsSending client.log i said waiting → IsStuck client.log i waiting
+      → tokens_heard i server.log.reported ≡ said_tokens said
   server_hears_whole waiting pair calm quiet unreset sending stuck =
       server_hears_all client_values server_values client server i pair calm quiet unreset
-      ∙ all_sent client server i message waiting sending stuck (client_idle pair quiet
+      ∙ all_sent client server i said waiting sending stuck (client_idle pair quiet
       (pair_settled client_values server_values client server i pair calm quiet unreset)
       sending.begun)
 
   pub client_hears_whole : (waiting : List Token)
       (pair : IsPair client_values server_values client server)
       → IsUndisturbed pair → IsQuiet client server → (WasReset client.log server.log i → ⊥)
-      → IsSending server.log i message waiting → IsStuck server.log i waiting
-      → tokens_heard i client.log.reported ≡ message_tokens message
+      → IsSending server.log i said waiting → IsStuck server.log i waiting
+      → tokens_heard i client.log.reported ≡ said_tokens said
   client_hears_whole waiting pair calm quiet unreset sending stuck =
       client_hears_all client_values server_values client server i pair calm quiet unreset
-      ∙ all_sent server client i message waiting sending stuck (server_idle pair quiet
+      ∙ all_sent server client i said waiting sending stuck (server_idle pair quiet
       (pair_settled client_values server_values client server i pair calm quiet unreset)
       sending.begun)

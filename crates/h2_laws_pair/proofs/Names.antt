@@ -27,7 +27,8 @@ unfoldable pub use Rattle.h2_laws_machine.specs.Machines.{log_after, MayStep}
 unfoldable pub use Rattle.h2_laws_pair.specs.HeaderTables.{block_count}
 unfoldable pub use Rattle.h2_laws_pair.specs.Tokens.{tokens_written, tokens_heard, tokens_sent}
 unfoldable pub use Rattle.h2_laws_pair.specs.Tokens.{end_tokens, tokens_of_call, tokens_of_event}
-unfoldable pub use Rattle.h2_laws_pair.specs.Tokens.{message_tokens}
+pub use Rattle.h2_laws_pair.specs.Tokens.{Said}
+unfoldable pub use Rattle.h2_laws_pair.specs.Tokens.{said_tokens}
 unfoldable pub use Rattle.h2_laws_pair.specs.Undisturbed.{IsUndisturbed, IsUndisturbedStep}
 pub use Rattle.std.proofs.Common.{List, ◌≡◌, [], refl, ◌∷◌, ℕ, ◌++◌, None, ◌∙◌, arith, sym, false}
 pub use Rattle.std.proofs.Common.{true, length, ap, ◌≤◌, Bool, inl, inr, Option, append_assoc, ◌+◌}

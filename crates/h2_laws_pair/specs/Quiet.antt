@@ -7,9 +7,8 @@ use Rattle.h2_spec_log.specs.Log.{Log, active, owed, send_window, next_unprocess
 use Rattle.h2_spec_log.specs.Windows.{connection_send_window}
 use Rattle.h2_laws_pair.specs.Pairs.{Half}
 use Rattle.h2_laws_pair.specs.Undisturbed.{WasAsked}
-use Rattle.h2_message.specs.Messages.{SentMessage}
 use Rattle.h2_laws_pair.specs.Tokens.{Token, FieldsToken, OctetToken, EndToken, tokens_sent}
-use Rattle.h2_laws_pair.specs.Tokens.{message_tokens}
+use Rattle.h2_laws_pair.specs.Tokens.{Said, said_tokens}
 
 -- All output of one end was given out and delivered to the other, which owes nothing on any stream
 -- and has nothing unreturned.
@@ -46,12 +45,11 @@ abbrev pub NoneCouldGo : Log → ℕ → List Token → Type 0
 NoneCouldGo log i [] = Unit {0}
 NoneCouldGo log i (token ∷ tokens) = CouldGo log i token → ⊥
 
--- An end was given the message for the stream and has sent a prefix of it, its head at least; these
+-- An end was given this to say on the stream and has sent a prefix of it, the head at least; these
 -- tokens of it wait.
-pub record IsSending (log : Log) (i : ℕ) (message : SentMessage) (waiting : List Token) : Type 0
-  where
-    pub sent : message_tokens message ≡ tokens_sent i log.calls ++ waiting
-    pub begun : tokens_sent i log.calls ≢ []
+pub record IsSending (log : Log) (i : ℕ) (said : Said) (waiting : List Token) : Type 0 where
+  pub sent : said_tokens said ≡ tokens_sent i log.calls ++ waiting
+  pub begun : tokens_sent i log.calls ≢ []
 
 -- What waits cannot go, as long as the stream is active.
 abbrev pub IsStuck : Log → ℕ → List Token → Type 0

@@ -87,9 +87,45 @@ unfoldable pub trailers_tokens : Option (List Field) → List Token
 trailers_tokens None = []
 trailers_tokens (Some list) = FieldsToken list true ∷ []
 
--- the tokens of a message
+-- how a message was given to an end
+pub data Form : Type 0 where
+  -- whole, by one call
+  AtOnce : Form
+  -- in parts, and more of it may follow; its body has to have this length, if one is said
+  Begun : (length : Option ℕ) → Form
+  -- in parts, and its end was given
+  Ended : Form
+
+-- what an end was given to say on a stream: a message, and how; of one that was begun, its head and
+-- the octets of its body so far
+pub record Said : Type 0 where
+  pub message : SentMessage
+  pub form : Form
+
+-- a message that was given whole
+abbrev pub at_once : SentMessage → Said
+at_once message = record { message = message; form = AtOnce }
+
+-- Whether the head of a message has END_STREAM: only where it was given whole, and is its head
+-- alone.
+abbrev pub is_ended_by_head : Form → SentMessage → Bool
+is_ended_by_head AtOnce message = is_head_alone message
+is_ended_by_head form message = false
+
+-- Whether more of a message may follow.
+abbrev pub is_begun : Form → Bool
+is_begun (Begun length) = true
+is_begun form = false
+
+-- the end, where it was given
+abbrev pub given_end : Form → List Token
+given_end (Begun length) = []
+given_end form = EndToken ∷ []
+
+-- the tokens of what was given
 -- rule (law): 8.1 (own) What has come of a message that breaks no rule can be read
-unfoldable pub message_tokens : SentMessage → List Token
-message_tokens message =
-    FieldsToken message.head (is_head_alone message) ∷ (each OctetToken message.body
-    ++ (trailers_tokens message.trailers ++ EndToken ∷ []))
+unfoldable pub said_tokens : Said → List Token
+said_tokens said =
+    FieldsToken said.message.head (is_ended_by_head said.form said.message)
+    ∷ (each OctetToken said.message.body
+    ++ (trailers_tokens said.message.trailers ++ given_end said.form))

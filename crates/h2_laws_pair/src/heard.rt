@@ -7,8 +7,7 @@ ghost use Rattle.h2_laws_pair.specs.Pairs.{Half, IsPair};
 ghost use Rattle.h2_laws_pair.specs.Undisturbed.{IsUndisturbed};
 ghost use Rattle.h2_laws_pair.specs.Tokens.{Token, tokens_sent, tokens_heard, IsPrefixOfTokens};
 ghost use Rattle.h2_laws_pair.specs.Tokens.{IsNoEmptyData};
-ghost use Rattle.h2_message.specs.Messages.{SentMessage};
-ghost use Rattle.h2_laws_pair.specs.Tokens.{message_tokens};
+ghost use Rattle.h2_laws_pair.specs.Tokens.{Said, said_tokens};
 ghost use Rattle.h2_laws_pair.specs.Quiet.{IsQuiet, WasReset, IsSending, IsStuck};
 
 /// What one end has reported of a stream is a prefix of what the other was given for it, token by
@@ -21,15 +20,15 @@ pub fn heard_is_a_prefix()
         → IsPair client_values server_values client server
         → IsPrefixOfTokens (tokens_heard i client.log.reported) (tokens_sent i server.log.calls) }
     ensures of_a_request { (client_values server_values : Values) (client server : Half) (i : ℕ)
-        (message : SentMessage) (waiting : List Token)
+        (said : Said) (waiting : List Token)
         → IsPair client_values server_values client server
-        → IsSending client.log i message waiting
-        → IsPrefixOfTokens (tokens_heard i server.log.reported) (message_tokens message) }
+        → IsSending client.log i said waiting
+        → IsPrefixOfTokens (tokens_heard i server.log.reported) (said_tokens said) }
     ensures of_a_response { (client_values server_values : Values) (client server : Half) (i : ℕ)
-        (message : SentMessage) (waiting : List Token)
+        (said : Said) (waiting : List Token)
         → IsPair client_values server_values client server
-        → IsSending server.log i message waiting
-        → IsPrefixOfTokens (tokens_heard i client.log.reported) (message_tokens message) }
+        → IsSending server.log i said waiting
+        → IsPrefixOfTokens (tokens_heard i client.log.reported) (said_tokens said) }
 {}
 
 /// Once an undisturbed pair is quiet, all that was sent on a stream that wasn't reset was heard.
@@ -45,22 +44,22 @@ pub fn all_is_heard()
         → tokens_heard i client.log.reported ≡ tokens_sent i server.log.calls }
 {}
 
-/// Once an undisturbed pair is quiet, and what waits of a message could not go, the message was
-/// heard whole on its stream, unless that was reset: in a quiet pair no window holds it back. That
-/// a pair becomes quiet isn't promised.
+/// Once an undisturbed pair is quiet, and what waits of a message could not go, all that was given
+/// of it was heard on its stream, unless that was reset: in a quiet pair no window holds it back.
+/// That a pair becomes quiet isn't promised.
 pub fn quiet_messages_are_whole()
     ensures at_server { (client_values server_values : Values) (client server : Half) (i : ℕ)
-        (message : SentMessage) (waiting : List Token)
+        (said : Said) (waiting : List Token)
         (pair : IsPair client_values server_values client server) → IsUndisturbed pair
         → IsQuiet client server → (WasReset client.log server.log i → ⊥)
-        → IsSending client.log i message waiting → IsStuck client.log i waiting
-        → tokens_heard i server.log.reported ≡ message_tokens message }
+        → IsSending client.log i said waiting → IsStuck client.log i waiting
+        → tokens_heard i server.log.reported ≡ said_tokens said }
     ensures at_client { (client_values server_values : Values) (client server : Half) (i : ℕ)
-        (message : SentMessage) (waiting : List Token)
+        (said : Said) (waiting : List Token)
         (pair : IsPair client_values server_values client server) → IsUndisturbed pair
         → IsQuiet client server → (WasReset client.log server.log i → ⊥)
-        → IsSending server.log i message waiting → IsStuck server.log i waiting
-        → tokens_heard i client.log.reported ≡ message_tokens message }
+        → IsSending server.log i said waiting → IsStuck server.log i waiting
+        → tokens_heard i client.log.reported ≡ said_tokens said }
 {}
 
 /// No DATA that an end of a pair reports is empty, unless it has END_STREAM: the other end sends

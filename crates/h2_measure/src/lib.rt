@@ -1,6 +1,7 @@
 //! The calls of `bench/measure.h` over the crates, for a driver in C (see `bench/README.md`).
 #![tactic(auto)]
 
+mod answering;
 mod counts;
 mod cutting;
 mod decoding;
@@ -74,6 +75,19 @@ pub extern "C" fn measure_serve(
     counts: &mut Counts,
 ) -> i32 {
     serving::serve_octets(alloc, octets, piece, body, counts)
+}
+
+/// Serves a client's octets with a server of messages: each request is answered as it comes, with a
+/// body of `body` octets, whole or, where `parts` isn't 0, in parts of 16,384.
+#[unsafe(no_mangle)]
+pub extern "C" fn measure_answers(
+    alloc: Global,
+    octets: &[u8],
+    body: usize,
+    parts: u32,
+    counts: &mut Counts,
+) -> i32 {
+    answering::answer_octets(alloc, octets, body, parts != 0, counts)
 }
 
 /// Serves a client's octets with the README's server. The octets that are counted are those of the

@@ -7,17 +7,17 @@ use Names.{has_late_pseudo, has_pseudo, has_connection_field, has_bad_length, de
 use Names.{SentMessage, trailer_fields, differs_from, has_wrong_body, is_without_content}
 use Names.{head_rules, request_head_rules, response_head_rules, trailer_rules, request_rules}
 use Names.{response_rules, broken_by_request, broken_by_response, IsWellRead, as_read, final_rules}
-use Names.{compared_length, IsDeclared, AreSoundTrailers}
-use Rattle.h2_message.proofs.ReadingRules.{NoneHold, none_hold, none_broken}
+use Names.{BreakNone, compared_length, IsDeclared, AreSoundTrailers}
+use Rattle.h2_message.proofs.ReadingRules.{none_hold, none_broken}
 use Rattle.h2_message.proofs.ReadingWhole.{no_interims}
 use Rattle.hpack.proofs.Tests.{not_false as same_by_test}
 
--- Trailers of which no condition holds are sound, and so are none.
-sound_trailers : (trailers : Option (List Field))
-    → NoneHold (trailer_rules (trailer_fields trailers)) → AreSoundTrailers trailers
+-- Trailers that break no rule are sound, and so are none.
+pub sound_trailers : (trailers : Option (List Field))
+    → BreakNone (trailer_rules (trailer_fields trailers)) → AreSoundTrailers trailers
 unfolding AreSoundTrailers trailer_fields
-sound_trailers None hold = tt
-sound_trailers (Some fields) hold = none_broken (trailer_rules fields) hold
+sound_trailers None none = tt
+sound_trailers (Some fields) none = none
 
 -- A length that doesn't differ is the declared one.
 declared_same : (declared : Option ℕ) (sum count : ℕ) → differs_from declared count ≡ false
@@ -70,7 +70,9 @@ sent_request message data_parts none counted =
           ),
         ),
       );
-      trailers = sound_trailers message.trailers (name.1, (value.1, (place.1, (connection.1, tt))));
+      trailers = sound_trailers message.trailers (
+          none_broken (trailer_rules trailers) (name.1, (value.1, (place.1, (connection.1, tt))))
+          );
       declared = declared_same (declared_length message.head) (sum_by length data_parts)
           (length message.body) lengths.1 counted;
     }
@@ -128,7 +130,9 @@ sent_response to_head message data_parts none counted =
           ),
         ),
       );
-      trailers = sound_trailers message.trailers (name.1, (value.1, (place.1, (connection.1, tt))));
+      trailers = sound_trailers message.trailers (
+          none_broken (trailer_rules trailers) (name.1, (value.1, (place.1, (connection.1, tt))))
+          );
       declared = response_declared (declared_length message.head)
           (is_without_content to_head message.head) (nat_lt 0 (length message.body))
           (sum_by length data_parts) (length message.body) lengths.1 counted;

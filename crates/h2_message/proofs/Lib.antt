@@ -13,6 +13,7 @@ mod ReadingParts
 mod ReadingFollows
 pub mod LawSent
 pub mod examples
+mod BodyLengths
 mod CheckBodies
 mod CheckRules
 mod ScanAdds

@@ -11,6 +11,8 @@ unfoldable pub use Rattle.h2_message.specs.Fields.{has_bad_name, has_bad_value, 
 unfoldable pub use Rattle.h2_message.specs.Fields.{connection_names, lengths_of, differ}
 unfoldable pub use Rattle.h2_message.specs.Fields.{first_number, has_pseudo, required_names}
 unfoldable pub use Rattle.h2_message.specs.Fields.{is_connection_field}
+unfoldable pub use Rattle.h2_message.specs.Lengths.{length_to_send, breaks_length, length_after}
+unfoldable pub use Rattle.h2_message.specs.Lengths.{broken_by_trailers}
 unfoldable pub use Rattle.h2_message.specs.Messages.{first_broken, head_rules, interim_rules}
 unfoldable pub use Rattle.h2_message.specs.Messages.{is_without_content, response_head_rules}
 unfoldable pub use Rattle.h2_message.specs.Messages.{trailer_rules, differs_from}
@@ -48,6 +50,7 @@ pub use Rattle.std.specs.List.{list_any, sum_by, AllByRecursion, count_by, filte
 pub use Rattle.std.specs.Option.{is_some, option_or, unwrap_or, option_eq, option_map}
 pub use Rattle.std.specs.Str.{bytes_eq, all_ascii_digits, str_eq_ignore_ascii_case, byte}
 pub use Rattle.h2_message.specs.Fields.{status_of}
+pub use Rattle.h2_message.specs.Lengths.{broken_by_head}
 pub use Rattle.h2_message.specs.Messages.{broken_by_request, broken_by_response, SentMessage}
 pub use Rattle.h2_message.specs.Messages.{asks_head}
 pub use Rattle.h2_message.specs.Octets.{is_bad_value}

@@ -1,9 +1,9 @@
 -- Which conditions hold where no rule is broken.
 use Rattle.h2_message.proofs.Names.{◌≡◌, Bool, true, false, List, [], ◌∷◌, Option, None, Some, refl}
-use Rattle.h2_message.proofs.Names.{◌⊎◌, inl, inr, sym, ap, ◌∙◌, AllByRecursion, Field, Responses}
+use Rattle.h2_message.proofs.Names.{◌⊎◌, inl, inr, sym, ap, ◌∙◌, AllByRecursion, Field}
 use Rattle.h2_message.proofs.Names.{Malformed, first_broken, head_rules, response_head_rules}
 use Rattle.h2_message.proofs.Names.{interim_rules, is_without_content, has_bad_status, is_interim}
-use Rattle.h2_message.proofs.Names.{declared_length, BreakNone, compared_length}
+use Rattle.h2_message.proofs.Names.{BreakNone}
 use Rattle.std.specs.Prelude.{is_some, not, ◌||◌}
 
 -- No condition of a rule holds.
@@ -57,18 +57,15 @@ not_both head final interim =
     or_not (has_bad_status head) (is_interim head) (final_status head final)
     (interim_status head interim)
 
--- Which length is compared of a response.
-pub length_of_none : (to_head : Bool) (head : List Field)
+-- Whether a response has no content: to HEAD, or by its status.
+pub no_content : (to_head : Bool) (head : List Field)
     → ((to_head ≡ true) ⊎ (is_without_content false head ≡ true))
-    → None ≡ compared_length (Responses to_head) head
-unfolding compared_length is_without_content
-length_of_none true head none = refl
-length_of_none false head (inl none) = cc
-length_of_none false head (inr none) = rw none
+    → is_without_content to_head head ≡ true
+unfolding is_without_content
+no_content true head none = refl
+no_content false head (inl none) = cc
+no_content false head (inr none) = none
 
-pub length_of_some : (to_head : Bool) (head : List Field) → to_head ≡ false
-    → is_without_content false head ≡ false
-    → declared_length head ≡ compared_length (Responses to_head) head
-unfolding compared_length is_without_content
-length_of_some true head final some = cc
-length_of_some false head final some = rw some
+pub some_content : (to_head : Bool) (head : List Field) → to_head ≡ false
+    → is_without_content false head ≡ false → is_without_content to_head head ≡ false
+some_content to_head head final some = rw final some

@@ -5,5 +5,6 @@ pub mod Words
 pub mod Octets
 pub mod Requests
 pub mod Responses
+pub mod Lengths
 pub mod Readings
 pub mod Readable

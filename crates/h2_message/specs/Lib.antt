@@ -1,5 +1,6 @@
 pub mod Classes
 pub mod Fields
+pub mod Lengths
 pub mod Messages
 pub mod Octets
 pub mod Phases

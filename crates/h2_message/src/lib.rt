@@ -3,7 +3,8 @@
 //!
 //! [`check_request`] and [`check_response`] say which rule a message breaks that is to be sent;
 //! [`Reading`] follows a message part by part as it is read, and says whether it can still be one
-//! that breaks none. Nothing here takes memory.
+//! that breaks none; [`check_request_head`] and [`check_response_head`] are for a message that is
+//! sent in parts. Nothing here takes memory.
 #![tactic(auto)]
 
 mod checks;
@@ -14,6 +15,7 @@ mod laws;
 mod malformed;
 mod message;
 mod octets;
+mod parts;
 mod reading;
 mod scan;
 mod verdict;
@@ -24,4 +26,5 @@ pub use laws::sent_messages_are_well_read;
 pub use malformed::Malformed;
 pub use message::{Message, asks_head, list_asks_head};
 pub use octets::names_user;
+pub use parts::{BodyLength, check_request_head, check_response_head};
 pub use reading::{Place, Reading, Reads};

@@ -1,9 +1,9 @@
 -- What a client without a link makes of the request that it posts.
-use Rattle.std.proofs.Common.{◌≡◌, ◌≢◌, ◌∷◌, ℕ, Bool, true, false, List, [], Option, Some}
+use Rattle.std.proofs.Common.{◌≡◌, ◌≢◌, ℕ, Bool, true, false, List, [], Option, Some}
 use Rattle.std.proofs.Common.{None, Vec, Global}
 use Rattle.hpack.specs.declared.types.field.Field.{Field}
-use Rattle.std.proofs.Common.{Result, Ok, Err, inl, inr, refl, sym, ap, ◌∙◌, subst, arith, eq-eqb}
-use Rattle.std.proofs.Common.{if◌then◌else◌, map as each, IfErr, IfOk, OnOk}
+use Rattle.std.proofs.Common.{Result, Ok, Err, inl, inr, refl, sym, ap, ◌∙◌, subst, arith}
+use Rattle.std.proofs.Common.{map as each, IfErr, IfOk, OnOk}
 use Rattle.h2_spec_log.specs.declared.role.Role.TheVariants.{Client}
 use Rattle.h2_spec_log.specs.Acts.{AreInRange, Open, Number, Values}
 use Rattle.h2_spec_log.specs.LogCalls.{opened, with_call}
@@ -11,8 +11,9 @@ use Rattle.h2_spec_log.specs.LogSteps.{with_sent}
 use Rattle.h2_laws_end.proofs.Failures.{items_failed}
 use Rattle.h2_message.specs.Messages.{SentMessage}
 use Rattle.h2_laws_pair.specs.Tokens.{is_head_alone}
-use Rattle.h2_ends.specs.Ends.{EndLog, message_for, parts_on}
-use Rattle.h2_ends.specs.EndCalls.{MayRequest}
+use Rattle.h2_ends.proofs.RequestSent.{accepted_here}
+use Rattle.h2_ends.specs.Ends.{EndLog, said_for, parts_on}
+use Rattle.h2_ends.specs.EndCalls.{MayAsk}
 use Rattle.h2_link.specs.declared.error.LinkError.{LinkError}
 use Rattle.h2_link.specs.declared.error.LinkError.TheVariants as errors
 use Rattle.h2_link.specs.Links.{WritesAll}
@@ -134,13 +135,6 @@ new_up : (opened Client default_values).failed ≡ None
 unfolding opened with_sent
 new_up = refl
 
-first_accepted : (id count : ℕ)
-    → message_for id ((id, post_request count) ∷ []) ≡ Some (post_request count)
-unfolding message_for
-first_accepted id count =
-    ap (λ (b : Bool). if b then Some (post_request count) else message_for id [])
-    (eq-eqb id id refl)
-
 first_up : (count id : ℕ)
     → (with_call (opened Client default_values)
     (Open (post_request count).head (is_head_alone (post_request count))) (Number id)).failed
@@ -166,7 +160,7 @@ none_has_come coming head body interims trailers id =
 begins_alone : (count : ℕ) (fetcher : Fetcher)
     → HasRequested default_values (post_request count) fetcher → fetcher.whole ≡ false
     → IsPosting count fetcher
-unfolding MayRequest
+unfolding MayAsk
 begins_alone count fetcher has unfinished =
     let now = has.requested.3 in
     let coming = none_has_come fetcher.coming has.none_come has.no_body has.no_interims
@@ -175,8 +169,8 @@ begins_alone count fetcher has unfinished =
       inl (record {
         fetching = requests in_range (Ok fetcher.id) has.requested;
         represents = has.represents;
-        accepted = ap (λ (end : EndLog). message_for fetcher.id end.accepted) now
-            ∙ first_accepted fetcher.id count;
+        accepted = ap (λ (end : EndLog). said_for fetcher.id end.accepted) now
+            ∙ accepted_here _ _ _;
         up = ap (λ (end : EndLog). end.log.failed) now ∙ first_up count fetcher.id;
         come = subst (λ (end : EndLog). HasCome fetcher.coming (parts_on fetcher.id end.handed))
             (sym now) coming;

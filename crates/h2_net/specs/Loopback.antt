@@ -2,7 +2,8 @@
 use Rattle.std.specs.Prelude.{◌≡◌, ◌≢◌, ◌⊎◌, ℕ, suc, zero, ◌%◌, List, [], ◌∷◌, ◌++◌, codes}
 use Rattle.std.specs.Prelude.{Some, None, Result, MatchResult}
 use Rattle.h2_message.specs.Messages.{SentMessage, plain_field}
-use Rattle.h2_ends.specs.Ends.{EndLog, message_for, parts_on}
+use Rattle.h2_laws_pair.specs.Tokens.{at_once}
+use Rattle.h2_ends.specs.Ends.{EndLog, said_for, parts_on}
 use Rattle.h2_link.specs.declared.error.LinkError.{LinkError}
 use Rattle.h2_link.specs.declared.error.LinkError.TheVariants as errors
 use Rattle.h2_engines.specs.declared.fetcher.Fetched.{Fetched}
@@ -60,7 +61,7 @@ pub record FetchesPost (count : ℕ) (fetched : Fetched) : Type 0 where
   pub end : EndLog
   pub fetching : IsFetching default_values (post_request count) end
   pub id : ℕ
-  pub accepted : message_for id end.accepted ≡ Some (post_request count)
+  pub accepted : said_for id end.accepted ≡ Some (at_once (post_request count))
   pub is : IsFetched (parts_on id end.handed) fetched
 
 -- What comes of posting so many octets: a response; or an end before it, but not since the request

@@ -1,6 +1,6 @@
 //! Laws are functions that do nothing: each is called.
 
-use h2_ends::sent_parts_are_readable;
+use h2_ends::{parts_are_sent_at_once, sent_parts_are_readable};
 use h2_message::sent_messages_are_well_read;
 use h2_replay::{
     calls_of_a_replay, events_of_a_replay, fault_of_a_replay, output_of_a_replay,
@@ -9,10 +9,12 @@ use h2_replay::{
 
 // rule: 8.1 (own) A message that breaks no rule as sent breaks none as read
 // rule: 8.1 (own) What has come of a message that breaks no rule can be read
+// rule: 8.1 (own) A part of a message is sent where one was begun, and is checked
 #[test]
 fn laws_are_called() {
     sent_messages_are_well_read();
     sent_parts_are_readable();
+    parts_are_sent_at_once();
     turns_are_of_the_log();
     output_of_a_replay();
     events_of_a_replay();

@@ -69,7 +69,7 @@ const REFUSALS: &[(EndRefusal, &str)] = &[
     ),
     (
         EndRefusal::NotAsked,
-        "E3 NotAsked: no request was handed out on an active stream with this number",
+        "E3 NotAsked: the stream is not active, or has no request or no open message",
     ),
     (
         EndRefusal::Answered,

@@ -1,6 +1,8 @@
 //! Acts, as commands have them and as they are answered.
 
+use h2_case::fields::read_fields;
 use h2_case::messages::read_message;
+use h2_case::octets::read_part;
 use h2_case::text::Text;
 use h2_case::words::Words;
 use h2_case_conn::acts::{config_of, read_ping};
@@ -48,9 +50,40 @@ pub(crate) fn read_act(alloc: Global, name: &str, words: &mut Words<'_>) -> Opti
             to: read_side(words),
             count: read_count(words),
         },
+        _ => return read_part_act(alloc, name, words),
+    };
+    Some(act)
+}
+
+// The act of a message that is given in parts that a command is, or another one.
+fn read_part_act(alloc: Global, name: &str, words: &mut Words<'_>) -> Option<JointAct> {
+    let act = match name {
+        "begin" => JointAct::Begin(read_fields(alloc, words)),
+        "begin_response" => JointAct::BeginResponse {
+            id: words.number(),
+            head: read_fields(alloc, words),
+        },
+        "body" => read_body(alloc, words),
+        "trailers" => JointAct::SendTrailers {
+            side: read_side(words),
+            id: words.number(),
+            trailers: read_fields(alloc, words),
+        },
         _ => return read_call(alloc, name, words),
     };
     Some(act)
+}
+
+// The act that sends octets of a body.
+fn read_body(alloc: Global, words: &mut Words<'_>) -> JointAct {
+    let (side, id) = (read_side(words), words.number());
+    let (octets, end) = read_part(alloc, words);
+    JointAct::SendBody {
+        side,
+        id,
+        octets,
+        end,
+    }
 }
 
 // The call of an end that a command is, where it is one.

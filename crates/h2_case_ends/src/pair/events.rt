@@ -17,9 +17,9 @@ impl FieldLines for KeptFields<'_> {
     }
 }
 
-/// Adds the line of a message that was accepted.
+/// Adds the line of a message that was accepted, which ends with ` ; open` where more may follow.
 pub(crate) fn add_accepted(alloc: Global, text: &mut Text, accepted: &Accepted) {
     write!(text, "{}: ", accepted.id);
     add_message(alloc, text, &accepted.message);
-    text.push_str("\n");
+    text.push_line(if accepted.begun { " ; open" } else { "" });
 }

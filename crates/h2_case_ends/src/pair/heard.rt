@@ -120,17 +120,15 @@ impl Heard {
         }
     }
 
-    // Whether this is a prefix of the message.
-    fn begins(self, message: &Message) -> bool {
-        let has_all = self.count == message.body.len()
-            && self.has_trailers == message.trailers.is_some();
-        let is_alone = message.body.is_empty() && message.trailers.is_none();
-        let ends_well = if self.ended {
-            has_all
-        } else {
-            !is_alone && !self.has_trailers
-        };
-        self.fits && (!self.has_head || ends_well)
+    // Whether this has all parts of the message.
+    fn has_all(self, message: &Message) -> bool {
+        self.count == message.body.len() && self.has_trailers == message.trailers.is_some()
+    }
+
+    // Whether this is a prefix of what was accepted; its end was given where it is not open. A head
+    // alone that was given in parts is ended by DATA without octets.
+    fn begins(self, accepted: &Accepted) -> bool {
+        self.fits && (!self.ended || (!accepted.begun && self.has_all(&accepted.message)))
     }
 }
 
@@ -190,7 +188,7 @@ pub(crate) fn is_whole(events: HandedEvents<'_>, accepted: &[Accepted], id: u32)
     let mut is_whole = false;
     for one in accepted {
         let heard = heard_of(events, one);
-        if !heard.begins(&one.message) {
+        if !heard.begins(one) {
             return None;
         }
         if one.id == id {

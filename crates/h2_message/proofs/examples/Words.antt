@@ -18,6 +18,7 @@ use Names.{broken_by_request, broken_by_response, final_rules, compared_length, 
 use Names.{final_parts, ended, message_parts, IsDeclared, AreSoundTrailers, AreSoundInterims}
 use Names.{is_short, phase_in_body, phase_after_final, phase_after_head, phase_after_data}
 use Names.{phase_after, phase_after_all, asks_head_first, ends_message, place_at_head, place_in}
+use Names.{length_to_send, breaks_length, length_after, broken_by_trailers}
 
 -- opens all that computes
 unfoldable pub computing : Unit {0}
@@ -34,6 +35,7 @@ unfolding is_bad_in_name is_bad_after_first is_bad_name is_bad_in_value is_blank
     compared_length trailers_parts final_parts ended message_parts IsDeclared AreSoundTrailers
     AreSoundInterims is_short phase_in_body phase_after_final phase_after_head phase_after_data
     phase_after phase_after_all asks_head_first ends_message place_at_head place_in
+    length_to_send breaks_length length_after broken_by_trailers
 computing = tt
 
 -- a field of two texts

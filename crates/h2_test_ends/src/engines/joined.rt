@@ -112,10 +112,12 @@ fn goes_on(joined: &mut Joined, act: &JointAct, side: Side) -> bool {
 /// The end whose act this is.
 fn side_of(act: &JointAct) -> Side {
     match act {
-        JointAct::Request(_) => Side::Client,
-        JointAct::Respond { .. } => Side::Server,
+        JointAct::Request(_) | JointAct::Begin(_) => Side::Client,
+        JointAct::Respond { .. } | JointAct::BeginResponse { .. } => Side::Server,
         JointAct::Move { from: side, .. }
         | JointAct::Deliver { to: side, .. }
+        | JointAct::SendBody { side, .. }
+        | JointAct::SendTrailers { side, .. }
         | JointAct::Pump(side)
         | JointAct::ReleaseAll(side)
         | JointAct::Reset { side, .. }

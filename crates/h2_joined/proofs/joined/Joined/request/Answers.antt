@@ -1,5 +1,5 @@
 -- By the lemmas on a request.
-use Rattle.h2_joined.proofs.Names.{refl, ap, Ok, Err, subst, SentMessage, message_value}
+use Rattle.h2_joined.proofs.Names.{false, refl, ap, Ok, Err, subst, SentMessage, message_value}
 use Rattle.h2_joined.proofs.Names.{EndRequests, Accepted, no_copy_of_a_request, Client, Requests}
 use Rattle.h2_joined.proofs.KeptActs.{acts_without_copy, changes_end}
 use Rattle.h2_joined.proofs.CodeMessages.{request_is_refused, request_is_accepted}
@@ -20,17 +20,17 @@ returns-then-is_err c =
 
 pub returns-in-Ok-request : goal.returns-in-Ok-request
 returns-in-Ok-request c =
-    let one : Accepted = record { id = c.in-Ok-request.id; message = c.in-Ok.kept } in
+    let one : Accepted = record { id = c.in-Ok-request.id; message = c.in-Ok.kept; begun = false } in
     request_is_accepted c.args.self.now _ (message_value c.args.message.now) c.in-Ok-request.id one
+    (rw (← c.reserve.ensures.items) c.accept.ensures.accepted)
     (record {
       other_end = refl;
       incoming = c.accept.ensures.incoming;
-      accepted = rw (← c.reserve.ensures.items) c.accept.ensures.accepted;
       handed = c.accept.ensures.handed;
       unfinished = c.accept.ensures.unfinished;
       other_kept = refl;
     })
-    (ap (λ (m : SentMessage). (c.in-Ok-request.id, m)) c.in-Ok.ensures.kept)
+    (ap (λ (m : SentMessage). (c.in-Ok-request.id, (m, false))) c.in-Ok.ensures.kept)
     c.in-Ok.ensures.octets
     (subst (λ (m : SentMessage). EndRequests c.args.self.now.client.end m (Ok c.in-Ok-request.id)
     c.request.new.self.end) c.in-Ok.ensures.given c.in-Ok-request.ensures)

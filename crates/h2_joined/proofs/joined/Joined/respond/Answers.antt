@@ -1,5 +1,6 @@
 -- By the lemmas on a response.
-use Rattle.h2_joined.proofs.Names.{refl, ap, Ok, Err, subst, arith, SentMessage, message_value}
+use Rattle.h2_joined.proofs.Names.{false, refl, ap, Ok, Err, subst, arith, SentMessage}
+use Rattle.h2_joined.proofs.Names.{message_value}
 use Rattle.h2_joined.proofs.Names.{EndResponds, Accepted, Responds, no_copy_of_a_response, Server}
 use Rattle.h2_joined.proofs.KeptActs.{acts_without_copy, changes_end}
 use Rattle.h2_joined.proofs.CodeMessages.{respond_is_refused, respond_is_accepted}
@@ -21,18 +22,18 @@ returns-then-is_err c =
 
 pub returns-in-Ok-respond : goal.returns-in-Ok-respond
 returns-in-Ok-respond c =
-    let one : Accepted = record { id = c.args.id; message = c.in-Ok.kept } in
+    let one : Accepted = record { id = c.args.id; message = c.in-Ok.kept; begun = false } in
     respond_is_accepted c.args.self.now _ c.args.id (message_value c.args.message.now)
     c.in-Ok-respond.field-0 one
+    (rw (← c.reserve.ensures.items) c.accept.ensures.accepted)
     (record {
       other_end = refl;
       incoming = c.accept.ensures.incoming;
-      accepted = rw (← c.reserve.ensures.items) c.accept.ensures.accepted;
       handed = c.accept.ensures.handed;
       unfinished = c.accept.ensures.unfinished;
       other_kept = refl;
     })
-    (ap (λ (m : SentMessage). (c.args.id, m)) c.in-Ok.ensures.kept) (omega arith)
+    (ap (λ (m : SentMessage). (c.args.id, (m, false))) c.in-Ok.ensures.kept) (omega arith)
     c.in-Ok.ensures.octets
     (subst (λ (m : SentMessage). EndResponds c.args.self.now.server.end c.args.id m
     (Ok c.in-Ok-respond.field-0) c.respond.new.self.end) c.in-Ok.ensures.given

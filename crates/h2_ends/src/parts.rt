@@ -1,0 +1,89 @@
+//! Sending messages in parts: each part goes into the output at once.
+
+ghost use Rattle.h2_spec_log.specs.Acts.{Values};
+ghost use Rattle.h2_ends.specs.Ends.{EndLog};
+ghost use Rattle.h2_ends.specs.Heads.{RestOn};
+ghost use Rattle.h2_ends.specs.Represents.{EndRepresents, EndBegins, EndBeginsAnswer, EndSendsBody};
+ghost use Rattle.h2_ends.specs.Represents.{EndSendsTrailers};
+
+use crate::end::End;
+use crate::outgoing::Outgoing;
+use crate::refusal::EndRefusal;
+use h2_message::{BodyLength, check_request_head, check_response_head};
+use hpack::Field;
+
+impl End {
+    // rule: 8.1 (own) A part of a message is sent where one was begun, and is checked
+    /// Begins a request: sends its head on a new stream.
+    pub(crate) fn begin(&mut self, head: &[Field]) -> Result<u32, EndRefusal>
+        ensures { EndBegins self.old head.now result self.new }
+    {
+        let rest = check_request_head(head)?;
+        let id = self.open_with(head, false)?;
+        self.keep(id, Outgoing::Open(rest));
+        Ok(id)
+    }
+
+    // rule: 8.1 (own) A part of a message is sent where one was begun, and is checked
+    /// Begins a response: sends its head.
+    pub(crate) fn begin_answer(&mut self, id: u32, head: &[Field]) -> Result<(), EndRefusal>
+        ensures { EndBeginsAnswer self.old id head.now result self.new }
+    {
+        let to_head = self.asks_on(id)?;
+        let rest = check_response_head(head, to_head)?;
+        self.conn.fields(id, head, false)?;
+        self.keep(id, Outgoing::Open(rest));
+        Ok(())
+    }
+
+    // rule: 8.1 (own) A part of a message is sent where one was begun, and is checked
+    /// Sends octets of the body of a message that was begun, as many as the connection takes now,
+    /// and its end where `end` is set and all of them go; answers how many.
+    pub(crate) fn send_body(
+        &mut self,
+        id: u32,
+        octets: &[u8],
+        end: bool,
+    ) -> Result<usize, EndRefusal>
+        ensures { EndSendsBody self.old id octets.now end result self.new }
+    {
+        let rest = self.rest_on(id)?;
+        rest.check(octets.len(), end)?;
+        let count = self.conn.data(id, octets, end)?;
+        if end && count == octets.len() {
+            self.keep(id, Outgoing::Sent);
+            self.forget_if_over(id);
+        } else {
+            self.keep(id, Outgoing::Open(rest.after(count)));
+        }
+        Ok(count)
+    }
+
+    // rule: 8.1 (own) A part of a message is sent where one was begun, and is checked
+    /// Ends a message that was begun with trailers.
+    pub(crate) fn send_trailers(&mut self, id: u32, list: &[Field]) -> Result<(), EndRefusal>
+        ensures { EndSendsTrailers self.old id list.now result self.new }
+    {
+        let rest = self.rest_on(id)?;
+        rest.check_trailers(list)?;
+        self.conn.fields(id, list, true)?;
+        self.keep(id, Outgoing::Sent);
+        self.forget_if_over(id);
+        Ok(())
+    }
+
+    // rule: 8.1 (own) A part of a message is sent where one was begun, and is checked
+    /// How long the rest of the body has to be of the message that was begun on a stream.
+    fn rest_on(&self, id: u32) -> Result<BodyLength, EndRefusal>
+        ensures { (values : Values) (end : EndLog) → EndRepresents values self.now end
+            → RestOn end id result }
+    {
+        let Some(stream) = self.streams.get(&id) else {
+            return Err(EndRefusal::NotAsked);
+        };
+        match &stream.outgoing {
+            Outgoing::Open(rest) => Ok(*rest),
+            _ => Err(EndRefusal::NotAsked),
+        }
+    }
+}

@@ -1,0 +1,27 @@
+//! What an end answers of what waits.
+
+ghost use Rattle.std.specs.Prelude.{◌≡◌};
+ghost use Rattle.h2_spec_log.specs.Acts.{Values};
+ghost use Rattle.h2_ends.specs.Ends.{EndLog};
+ghost use Rattle.h2_ends.specs.EndCalls.{unsent_on};
+ghost use Rattle.h2_ends.specs.Represents.{EndRepresents};
+
+use crate::end::End;
+use crate::outgoing::Outgoing;
+
+impl End {
+    // rule: 8.1 What was sent on a stream is a prefix of its message
+    /// How many octets of a body wait on a stream.
+    pub(crate) fn unsent(&self, id: u32) -> usize
+        ensures { (values : Values) (end : EndLog) → EndRepresents values self.now end
+            → result ≡ unsent_on end id }
+    {
+        let Some(stream) = self.streams.get(&id) else {
+            return 0;
+        };
+        match &stream.outgoing {
+            Outgoing::Waiting(waiting) => waiting.body.len().saturating_sub(waiting.sent),
+            _ => 0,
+        }
+    }
+}

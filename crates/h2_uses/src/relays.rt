@@ -1,0 +1,372 @@
+//! A proxy in memory: one request of a client is passed on to another server, and the answer back.
+
+use anyhow::Result;
+use h2_ends::{
+    Client, Code, Config, Conn, EndEvent, EndRefusal, Field, FieldList, Refusal, Server,
+};
+use std::alloc::Global;
+
+/// How many octets of output are put into a queue at most.
+const QUEUE: usize = 65_536;
+
+/// The octets between a relay and one of its peers.
+#[derive(Drop)]
+pub struct Wire {
+    /// Those that have come from the peer: a step takes all of them.
+    pub input: Vec<u8>,
+    /// Those that go to the peer, which takes them away as fast as it likes.
+    pub output: Vec<u8>,
+}
+
+/// How a message ends, as far as that has come.
+#[derive(Drop)]
+enum Ending {
+    /// It isn't whole.
+    Open,
+    /// With its head or its body.
+    Body,
+    /// With trailers.
+    Trailers(Vec<Field>),
+    /// It was passed on, whole.
+    Passed,
+}
+
+/// A message on its way from one end to the other: what has come of it and wasn't passed on.
+#[derive(Drop)]
+struct Passage {
+    head: Option<Vec<Field>>,
+    body: Vec<u8>,
+    ending: Ending,
+    /// The code with which its stream was reset.
+    reset: Option<u32>,
+}
+
+/// A server towards a client, and a client towards another server: one request is passed on, in
+/// parts, and its response back. What one side doesn't take is kept, and the other side gets credit
+/// only for what was taken: so at most 65,535 octets of either body are kept.
+#[derive(Drop)]
+pub struct Relay {
+    alloc: Global,
+    front: Server,
+    back: Client,
+    /// The stream of the request at either end.
+    front_id: Option<u32>,
+    back_id: Option<u32>,
+    request: Passage,
+    response: Passage,
+}
+
+/// What both ends do with a message that is passed on.
+trait Side {
+    fn conn(&self) -> &Conn;
+
+    fn is_full(&self) -> bool;
+
+    fn send_body(&mut self, id: u32, octets: &[u8], ends: bool) -> Result<usize, EndRefusal>;
+
+    fn send_trailers(&mut self, id: u32, trailers: &[Field]) -> Result<(), EndRefusal>;
+
+    fn release(&mut self, id: u32, count: u32) -> Result<(), Refusal>;
+
+    fn reset(&mut self, id: u32, code: u32) -> Result<(), Refusal>;
+}
+
+/// Takes what has come from both peers, passes on what can go, and puts out what the queues have
+/// room for. Returns whether anything has moved: else the next step is made once more has come, or
+/// a peer has taken some of its queue.
+///
+/// # Errors
+///
+/// A connection has failed, and its GOAWAY is in its queue; or an allocation or a call was refused.
+/// Both connections are then closed.
+pub fn relay_step(relay: &mut Relay, front: &mut Wire, back: &mut Wire) -> Result<bool> {
+    let has_come = !front.input.is_empty() || !back.input.is_empty();
+    let passed = relay.pass(&front.input, &back.input);
+    front.input.clear();
+    back.input.clear();
+    let room = QUEUE.saturating_sub(front.output.len());
+    let to_front = relay.front.put_out(room, &mut front.output)?;
+    let room = QUEUE.saturating_sub(back.output.len());
+    let to_back = relay.back.put_out(room, &mut back.output)?;
+    passed?; // after a fault of a connection, once its GOAWAY is put out
+    Ok(has_come || to_front > 0 || to_back > 0)
+}
+
+impl Relay {
+    /// A relay of two new connections.
+    ///
+    /// # Errors
+    ///
+    /// An allocation was refused.
+    pub fn new(alloc: Global) -> Result<Relay> {
+        Ok(Relay {
+            alloc,
+            front: Server::new(alloc, Config::default())?,
+            back: Client::new(alloc, Config::default())?,
+            front_id: None,
+            back_id: None,
+            request: Passage::new(alloc),
+            response: Passage::new(alloc),
+        })
+    }
+
+    /// How many octets are kept here: of bodies, and of output that isn't put out.
+    pub fn kept(&self) -> usize {
+        let output = self.back.conn().waiting();
+        let output = output.saturating_add(self.front.conn().waiting());
+        output
+            .saturating_add(self.request.body.len())
+            .saturating_add(self.response.body.len())
+    }
+
+    /// Takes what has come, and passes on what can go. A reset of the request is passed on at once,
+    /// and one that follows a whole response once that was passed on (RFC 9113, section 8.1).
+    fn pass(&mut self, from_front: &[u8], from_back: &[u8]) -> Result<()> {
+        self.take_front(from_front)?;
+        self.take_back(from_back)?;
+        if let Some(code) = self.request.reset {
+            return reset(&mut self.back, self.back_id, code);
+        }
+        if self.response.reset.is_none() {
+            self.pass_request()?;
+        }
+        self.pass_response()?;
+        match self.response.reset {
+            Some(code) if !self.response.is_held() => reset(&mut self.front, self.front_id, code),
+            _ => Ok(()),
+        }
+    }
+
+    /// Takes octets of the client, and keeps what they add to the request, which is the only one:
+    /// later ones are ignored after GOAWAY, and may be made on another connection.
+    fn take_front(&mut self, piece: &[u8]) -> Result<()> {
+        let mut unused = piece;
+        for _ in 0..u64::MAX {
+            let taken = self.front.take(unused)?;
+            unused = &unused[taken.used..];
+            match taken.event {
+                Some(EndEvent::Head { id, list, end }) => {
+                    self.request.begin(list.to_vec(self.alloc)?, end);
+                    self.front_id = Some(id);
+                    self.front.go_away()?;
+                }
+                Some(EndEvent::Reset { id, .. }) if self.front_id != Some(id) => {}
+                Some(event) => self.request.keep(self.alloc, event)?,
+                None if unused.is_empty() => break, // an event need not use octets
+                None => {}
+            }
+        }
+        Ok(())
+    }
+
+    /// Takes octets of the other server, and keeps what they add to the response.
+    fn take_back(&mut self, piece: &[u8]) -> Result<()> {
+        let mut unused = piece;
+        for _ in 0..u64::MAX {
+            let taken = self.back.take(unused)?;
+            unused = &unused[taken.used..];
+            match taken.event {
+                Some(event) => self.response.keep(self.alloc, event)?,
+                None if unused.is_empty() => break, // an event need not use octets
+                None => {}
+            }
+        }
+        Ok(())
+    }
+
+    /// Passes on what can go of the request, and lets the client send as much again.
+    fn pass_request(&mut self) -> Result<()> {
+        if let Some(head) = &self.request.head
+            && !self.back.is_full()
+        {
+            self.back_id = Some(self.back.begin(head)?);
+            self.request.head = None;
+        }
+        if let Some(id) = self.back_id {
+            self.request.pass_on(&mut self.back, id)?;
+        }
+        if let Some(id) = self.front_id {
+            self.request.release(&mut self.front, id)?;
+        }
+        Ok(())
+    }
+
+    /// Passes on what can go of the response, and lets the other server send as much again.
+    fn pass_response(&mut self) -> Result<()> {
+        let (Some(front_id), Some(back_id)) = (self.front_id, self.back_id) else {
+            return Ok(());
+        };
+        if let Some(head) = &self.response.head
+            && !self.front.is_full()
+        {
+            self.front.begin(front_id, head)?;
+            self.response.head = None;
+        }
+        self.response.pass_on(&mut self.front, front_id)?;
+        self.response.release(&mut self.back, back_id)?;
+        Ok(())
+    }
+}
+
+impl Passage {
+    fn new(alloc: Global) -> Passage {
+        Passage {
+            head: None,
+            body: Vec::new(alloc),
+            ending: Ending::Open,
+            reset: None,
+        }
+    }
+
+    /// Whether it is whole and wasn't passed on.
+    fn is_held(&self) -> bool {
+        matches!(self.ending, Ending::Body | Ending::Trailers(_))
+    }
+
+    /// Keeps its head, which may be all of it.
+    fn begin(&mut self, head: Vec<Field>, end: bool) {
+        self.head = Some(head);
+        if end {
+            self.ending = Ending::Body;
+        }
+    }
+
+    /// Keeps what an event adds. Interim responses (1xx) aren't passed on.
+    fn keep(&mut self, alloc: Global, event: EndEvent<&FieldList, &[u8]>) -> Result<()> {
+        match event {
+            EndEvent::Head { list, end, .. } => self.begin(list.to_vec(alloc)?, end),
+            EndEvent::Body { bytes, end, .. } => {
+                self.body.extend_from_slice(bytes)?;
+                if end {
+                    self.ending = Ending::Body;
+                }
+            }
+            EndEvent::Trailers { list, .. } => {
+                self.ending = Ending::Trailers(list.to_vec(alloc)?);
+            }
+            EndEvent::Reset { code, .. } => self.stop(code),
+            EndEvent::Unprocessed { .. } => self.stop(Code::RefusedStream.number()),
+            _ => {}
+        }
+        Ok(())
+    }
+
+    /// Keeps the code of a reset, after which nothing more comes: what isn't whole is dropped.
+    fn stop(&mut self, code: u32) {
+        self.reset = Some(code);
+        if !self.is_held() {
+            self.head = None;
+            self.body.clear();
+        }
+    }
+
+    /// Passes on what the windows and the output let go of its body, and then its end.
+    fn pass_on<S: Side>(&mut self, to: &mut S, id: u32) -> Result<(), EndRefusal> {
+        if self.head.is_some() || to.is_full() {
+            return Ok(());
+        }
+        let ends = matches!(self.ending, Ending::Body);
+        if ends || !self.body.is_empty() {
+            let count = to.send_body(id, &self.body, ends)?;
+            self.body.drain(..count.min(self.body.len()));
+        }
+        if !self.body.is_empty() {
+            return Ok(());
+        }
+        let is_passed = match &self.ending {
+            Ending::Body => true,
+            Ending::Trailers(trailers) => end_with(to, id, trailers)?,
+            Ending::Open | Ending::Passed => false,
+        };
+        if is_passed {
+            self.ending = Ending::Passed;
+        }
+        Ok(())
+    }
+
+    /// Gives the side where it comes from credit for what was passed on: all that is owed, with the
+    /// padding of DATA, but what is kept.
+    fn release<S: Side>(&self, from: &mut S, id: u32) -> Result<(), Refusal> {
+        let kept = u32::try_from(self.body.len()).unwrap_or(u32::MAX);
+        let passed = from.conn().owed(id).saturating_sub(kept);
+        if passed == 0 || from.is_full() {
+            return Ok(());
+        }
+        from.release(id, passed)
+    }
+}
+
+// calling: h2_ends trailers
+/// Ends a message with trailers, whose body has gone. Returns whether that is done: where the output
+/// is full it is written, and the call made again.
+fn end_with<S: Side>(to: &mut S, id: u32, trailers: &[Field]) -> Result<bool, EndRefusal> {
+    match to.send_trailers(id, trailers) {
+        Ok(()) => Ok(true),
+        Err(EndRefusal::Conn(Refusal::OutputFull)) => Ok(false),
+        Err(refusal) => Err(refusal),
+    }
+}
+// end
+
+/// Resets a stream, if there is one and it isn't over; where the output is full, at the next step.
+fn reset<S: Side>(end: &mut S, id: Option<u32>, code: u32) -> Result<()> {
+    let Some(id) = id else {
+        return Ok(());
+    };
+    match end.reset(id, code) {
+        Ok(()) | Err(Refusal::NoSuchStream | Refusal::OutputFull) => Ok(()),
+        Err(refusal) => Err(refusal.into()),
+    }
+}
+
+impl Side for Server {
+    fn conn(&self) -> &Conn {
+        self.conn()
+    }
+
+    fn is_full(&self) -> bool {
+        self.is_full()
+    }
+
+    fn send_body(&mut self, id: u32, octets: &[u8], ends: bool) -> Result<usize, EndRefusal> {
+        self.send_body(id, octets, ends)
+    }
+
+    fn send_trailers(&mut self, id: u32, trailers: &[Field]) -> Result<(), EndRefusal> {
+        self.send_trailers(id, trailers)
+    }
+
+    fn release(&mut self, id: u32, count: u32) -> Result<(), Refusal> {
+        self.release(id, count)
+    }
+
+    fn reset(&mut self, id: u32, code: u32) -> Result<(), Refusal> {
+        self.reset(id, code)
+    }
+}
+
+impl Side for Client {
+    fn conn(&self) -> &Conn {
+        self.conn()
+    }
+
+    fn is_full(&self) -> bool {
+        self.is_full()
+    }
+
+    fn send_body(&mut self, id: u32, octets: &[u8], ends: bool) -> Result<usize, EndRefusal> {
+        self.send_body(id, octets, ends)
+    }
+
+    fn send_trailers(&mut self, id: u32, trailers: &[Field]) -> Result<(), EndRefusal> {
+        self.send_trailers(id, trailers)
+    }
+
+    fn release(&mut self, id: u32, count: u32) -> Result<(), Refusal> {
+        self.release(id, count)
+    }
+
+    fn reset(&mut self, id: u32, code: u32) -> Result<(), Refusal> {
+        self.reset(id, code)
+    }
+}

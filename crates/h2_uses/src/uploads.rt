@@ -1,0 +1,196 @@
+//! An upload over any reader and writer, with back-pressure.
+
+use anyhow::{Result, bail, ensure};
+use h2_ends::{Client, Code, Config, EndEvent, FieldList, Message, Refusal};
+use std::alloc::Global;
+use std::io::{BufRead, BufReader, Read, Write};
+
+/// How many octets of the source are kept at most.
+const PART: usize = 16_384;
+
+/// What a server has answered to an upload.
+#[derive(Drop)]
+pub struct Uploaded {
+    /// The status, as `200`.
+    pub status: Vec<u8>,
+    /// The octets of the body.
+    pub body: Vec<u8>,
+}
+
+/// An answer, as far as it has come.
+#[derive(Drop)]
+struct Coming {
+    uploaded: Uploaded,
+    /// How many octets the rest of the body may have.
+    room: usize,
+    is_whole: bool,
+}
+
+/// An upload under way: what was read of its source and isn't sent is in the reader's buffer.
+#[derive(Drop)]
+struct Sending<S> {
+    client: Client,
+    id: u32,
+    source: BufReader<S>,
+    is_sent: bool,
+    output: Vec<u8>,
+    coming: Coming,
+}
+
+/// Posts what a source gives, whose length need not be known, on a new connection, and returns the
+/// answer, whose body has at most `limit` octets. The source is read no faster than the server takes
+/// it, and what comes is read where nothing can go. A server may answer before it has read all
+/// (RFC 9113, section 8.1): then the rest is not sent.
+///
+/// # Errors
+///
+/// The connection has failed, the stream was reset or not processed, the input has ended before the
+/// answer, the answer is too long, or a read, a write or an allocation has failed. The server is
+/// told by a reset, where it can be.
+pub fn upload<R: Read, W: Write, S: Read + Drop>(
+    alloc: Global,
+    from: &mut R,
+    to: &mut W,
+    authority: &[u8],
+    path: &[u8],
+    source: S,
+    limit: usize,
+) -> Result<Uploaded> {
+    let mut input = vec![in alloc; 0u8; 16_384]?;
+    let mut client = Client::new(alloc, Config::default())?;
+    let request = Message::request(alloc, b"POST", authority, path)?;
+    let mut sending = Sending {
+        id: client.begin(&request.head)?,
+        client,
+        source: BufReader::with_capacity(alloc, PART, source)?,
+        is_sent: false,
+        output: Vec::new(alloc),
+        coming: Coming::new(alloc, limit),
+    };
+    match sending.exchange(from, to, &mut input) {
+        Ok(()) => {
+            sending.leave(to, Code::NoError)?;
+            Ok(sending.coming.uploaded)
+        }
+        Err(error) => {
+            let _ = sending.leave(to, Code::Cancel);
+            Err(error)
+        }
+    }
+}
+
+impl Coming {
+    fn new(alloc: Global, limit: usize) -> Coming {
+        Coming {
+            uploaded: Uploaded {
+                status: Vec::new(alloc),
+                body: Vec::new(alloc),
+            },
+            room: limit,
+            is_whole: false,
+        }
+    }
+
+    /// Keeps what an event adds. There is one stream.
+    fn keep(&mut self, event: EndEvent<&FieldList, &[u8]>) -> Result<()> {
+        match event {
+            EndEvent::Head { list, end, .. } => {
+                let status = list.value(b":status").unwrap_or(b"");
+                self.uploaded.status.extend_from_slice(status)?;
+                self.is_whole = end;
+            }
+            EndEvent::Body { bytes, end, .. } => {
+                ensure!(bytes.len() <= self.room, "the answer is too long");
+                self.room -= bytes.len();
+                self.uploaded.body.extend_from_slice(bytes)?;
+                self.is_whole = end;
+            }
+            EndEvent::Trailers { .. } => self.is_whole = true,
+            EndEvent::Reset { code, .. } => bail!("the stream was reset with code {code}"),
+            EndEvent::Unprocessed { .. } => bail!("the server has not processed the request"),
+            _ => {}
+        }
+        Ok(())
+    }
+}
+
+impl<S: Read + Drop> Sending<S> {
+    /// Sends and reads in turns, until the answer is whole.
+    fn exchange<R: Read, W: Write>(
+        &mut self,
+        from: &mut R,
+        to: &mut W,
+        input: &mut [u8],
+    ) -> Result<()> {
+        for _ in 0..u64::MAX {
+            self.send(to)?;
+            let count = from.read(input)?;
+            ensure!(count > 0, "the input has ended before the answer");
+            self.take_piece(&input[..count])?;
+            if self.coming.is_whole {
+                break;
+            }
+        }
+        Ok(())
+    }
+
+    /// Sends and writes until nothing can go.
+    fn send<W: Write>(&mut self, to: &mut W) -> Result<()> {
+        for _ in 0..u64::MAX {
+            self.send_part()?;
+            if self.write_out(to)? == 0 {
+                break;
+            }
+        }
+        Ok(())
+    }
+
+    /// Sends the next octets of the body, or its end, as far as the windows let them go.
+    fn send_part(&mut self) -> Result<()> {
+        if !self.is_sent {
+            let octets = self.source.fill_buf()?;
+            let is_end = octets.is_empty();
+            let count = self.client.send_body(self.id, octets, is_end)?;
+            self.source.consume(count);
+            self.is_sent = is_end;
+        }
+        Ok(())
+    }
+
+    /// Takes what was read, up to the end of the answer, and lets the server send as much again.
+    fn take_piece(&mut self, piece: &[u8]) -> Result<()> {
+        let mut unused = piece;
+        for _ in 0..u64::MAX {
+            let taken = self.client.take(unused)?;
+            unused = &unused[taken.used..];
+            match taken.event {
+                Some(event) => self.coming.keep(event)?,
+                None if unused.is_empty() => break, // an event need not use octets
+                None => {}
+            }
+            if self.coming.is_whole {
+                break;
+            }
+        }
+        Ok(self.client.release_all()?)
+    }
+
+    /// Resets the stream, unless both sides have ended it, and writes what waits.
+    fn leave<W: Write>(&mut self, to: &mut W, code: Code) -> Result<()> {
+        match self.client.reset(self.id, code.number()) {
+            Ok(()) | Err(Refusal::NoSuchStream | Refusal::Closed) => {}
+            Err(refusal) => return Err(refusal.into()),
+        }
+        self.write_out(to)?;
+        Ok(())
+    }
+
+    /// Writes all queued output, and returns how many octets that were.
+    fn write_out<W: Write>(&mut self, to: &mut W) -> Result<usize> {
+        self.output.clear();
+        let count = self.client.put_out(usize::MAX, &mut self.output)?;
+        to.write_all(&self.output)?;
+        to.flush()?;
+        Ok(count)
+    }
+}
