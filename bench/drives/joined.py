@@ -24,6 +24,7 @@ class Half:
         self.accepted = {}  # messages that were accepted, by stream
         self.open = {}  # of those that more may follow of, how many octets their heads say are left, or None
         self.waiting = {}  # of these, the bodies and trailers that were not sent yet
+        self.turn, self.rest = 0, 0  # with which stream the next pass of `pump_some` begins, and what its share has left
         self.handed = []  # lines of what was handed out and not shown yet
         self.count = 0  # how many events were handed out
         self.heads, self.whole = set(), set()  # streams whose head, or whose end, was handed out
@@ -154,6 +155,48 @@ class Half:
         del self.waiting[number]
         return count, False
 
+    def pump_some(self, most):
+        """Sends shares, one pass: the streams from the turn up, and then those below it. That at which it ended comes
+        first in the next one, with what is left of its share."""
+        most, count, first, rest, self.rest = max(most, 1), 0, self.turn, self.rest, 0
+        for number in sorted(self.waiting, key=lambda number: (number < first, number)):
+            size = min(rest, most) if number == first and rest else most
+            sent, halted = self.share(number, size)
+            count += sent
+            if halted is not None:
+                self.end.marks.reach("a pass that is cut short")
+                self.turn, self.rest = number, halted
+                break
+            if number == first and rest:
+                self.end.marks.reach("the rest of a share")
+            if number in self.waiting and number in self.end.streams:
+                self.end.marks.reach("a share of what waits")
+        self.forget_over()
+        return count
+
+    def share(self, number, most):
+        """The next octets of a body, so many at most, and the trailers once none are left; how many octets went, and
+        how many its share has left where the pass ends there, since no stream could send more."""
+        left, count, end, rest = self.waiting[number], 0, self.end, most
+        try:
+            if left[0]:
+                octets = left[0][:most]
+                ends = left[1] is None and octets == left[0]
+                count = calls.make(end, "data", number, octets, ends)
+                left[0] = left[0][count:]
+                if count < len(octets):
+                    return count, most - count if end.waiting >= 65_536 or end.send <= 0 else None
+                if left[0]:
+                    return count, None
+            rest = 0
+            if left[1] is not None:
+                calls.make(end, "fields", number, left[1], True)
+        except calls.Refused as refused:
+            assert refused.number == 7
+            return count, rest
+        del self.waiting[number]
+        return count, None
+
     def release_all(self):
         for number in list(self.end.streams):
             stream = self.end.streams.get(number)
@@ -238,7 +281,8 @@ class Joined:
         """Makes an act; EndRefused where it is refused."""
         half = self.half(side)
         match name:
-            case "request" | "respond" | "begin" | "begin_response" | "body" | "trailers" | "pump" | "release_all":
+            case ("request" | "respond" | "begin" | "begin_response" | "body" | "trailers" | "pump" | "pump_some"
+                  | "release_all"):
                 return getattr(half, name)(*words)
             case "move":
                 octets = half.put_out(*words)

@@ -8,10 +8,18 @@ from messages import ENDINGS, GOOD_ENDINGS, REQUESTS, RESPONSES, TRAILERS, any_b
 from model import FIRST_FRAME, Config
 from text import counted, fields_text, last_text
 
-KINDS = {"request": 70, "respond": 80, "begin": 60, "begin_response": 70, "body": 170, "trailers": 30, "pump": 100,
-         "move": 270, "deliver": 270, "release_all": 60, "reset": 20, "ping": 30, "go_away": 12, "change": 34}
+KINDS = {"request": 70, "respond": 80, "begin": 60, "begin_response": 70, "body": 170, "trailers": 30, "pump": 60,
+         "pump_some": 60, "move": 270, "deliver": 270, "release_all": 45, "release": 25, "reset": 20, "ping": 30,
+         "go_away": 12, "change": 34}
+# Lists in which long bodies of several streams are sent in shares.
+SHARED = {"request": 150, "respond": 200, "pump_some": 220, "move": 90, "deliver": 110, "release_all": 20,
+          "release": 100, "reset": 20, "change": 10}
+MOODS = {"light": 180, "heavy": 8, "shares": 12}
 PARTS = ("body", "trailers")  # acts of a message that was begun
 ALL = 1 << 40
+SHARES = [0, 1, 1, 3, 10, 100]
+LONG_SHARES = [1, 5_000, 16_384, 16_384, 60_000, 100_000]
+ROUND_SHARES = [5_000, 16_384, 30_000, 60_000]
 COUNTS = [0, 1, 1, 9, 50, 300, ALL, ALL, ALL, ALL, ALL, ALL]
 # What both ends do in a round: each moves all, returns credit, sends what it can and moves that.
 ROUND = [("move", "client"), ("release_all", "client"), ("pump", "client"), ("move", "client"),
@@ -35,15 +43,15 @@ class Play:
 
     def __init__(self, name, random, marks):
         self.random, self.marks = random, marks
-        self.is_heavy = random.below(25) == 0
+        self.mood = random.weighted(MOODS)
+        self.is_heavy = self.mood != "light"
         client, server = config(self.is_heavy, random), config(self.is_heavy, random)
         self.events = Marks()
         self.joined = Joined(client, server, self.events)
-        mood = "heavy" if self.is_heavy else "light"
         pieces = " pieces 997" if self.is_heavy else ""
-        self.lines = [f"case {name}: {mood}", f"> new client {client.text()} server {server.text()}{pieces}"]
+        self.lines = [f"case {name}: {self.mood}", f"> new client {client.text()} server {server.text()}{pieces}"]
         self.done = set()
-        marks.reach(mood)
+        marks.reach(self.mood)
 
     def command(self, words, answer=()):
         self.lines += ["> " + words, *answer]
@@ -81,8 +89,10 @@ class Play:
 
     def any_name(self):
         """Where no message is open one is begun, mostly, in place of a part."""
-        name = self.random.weighted(KINDS)
+        name = self.random.weighted(SHARED if self.mood == "shares" else KINDS)
         client, server = self.joined.halves.values()
+        if name == "release" and not self.owing("client") + self.owing("server") and self.random.percent(80):
+            return "deliver"
         if name not in PARTS or client.open or server.open or self.random.percent(10):
             return name
         return "begin_response" if server.heads - server.accepted.keys() else "begin"
@@ -108,6 +118,10 @@ class Play:
                 return name, side, self.part_stream(side), *any_list(ENDINGS, GOOD_ENDINGS, random)
             case "move" | "deliver":
                 return name, side, random.one_of(COUNTS)
+            case "pump_some":
+                return name, side, random.one_of(LONG_SHARES if self.is_heavy else SHARES)
+            case "release":
+                return name, side, *self.any_release(side)
             case "reset":
                 return name, side, self.stream(), random.below(16)
             case "ping":
@@ -115,6 +129,18 @@ class Play:
             case "change":
                 return name, side, config(self.is_heavy, random)
         return name, side
+
+    def owing(self, side):
+        """The streams of which something is owed."""
+        return [number for number, stream in self.joined.half(side).end.streams.items() if stream.owed]
+
+    def any_release(self, side):
+        """A stream that owes something, mostly, and some of it or more."""
+        random, streams, owing = self.random, self.joined.half(side).end.streams, self.owing(side)
+        if not owing or random.percent(20):
+            return self.stream(), random.below(3)
+        number = random.one_of(owing)
+        return number, random.one_of([1, streams[number].owed, streams[number].owed + 1])
 
     def side_of(self, name):
         random, joined = self.random, self.joined
@@ -125,6 +151,10 @@ class Play:
         open_at = [side for side, half in joined.halves.items() if half.open]
         if name in PARTS and open_at and random.percent(90):
             return random.one_of(open_at)
+        if name == "release":
+            owing = [side for side in joined.halves if self.owing(side)]
+            if owing and random.percent(90):
+                return random.one_of(owing)
         if name == "deliver":
             if len(joined.half("server").pipe) > len(joined.half("client").pipe):
                 return "server"
@@ -178,7 +208,10 @@ class Play:
             if self.joined.is_quiet():
                 return
             for name, side in ROUND:
-                self.make(name, side, *([ALL] if name in ("move", "deliver") else []))
+                if name == "pump" and self.mood == "shares":
+                    self.make("pump_some", side, self.random.one_of(ROUND_SHARES))
+                else:
+                    self.make(name, side, *([ALL] if name in ("move", "deliver") else []))
             self.command("ends", self.joined.lines())
         raise AssertionError("never quiet")
 
@@ -224,6 +257,8 @@ class Play:
         for act, what in (("reset", "a reset"), ("go_away", "a go_away"), ("change", "changed settings")):
             if act in self.done:
                 self.marks.reach(f"a list with {what}")
+        for mark in ("a pass that is cut short", "a share of what waits", "the rest of a share"):
+            self.marks.counts[mark] += self.events.counts[mark]
         if self.events.counts["long frame taken"]:
             self.marks.reach("a list with a long frame")
         for mark, count in self.events.counts.items():

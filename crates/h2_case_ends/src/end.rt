@@ -12,9 +12,9 @@
 //!   Fields are written as the head of a message. `body ID OCTETS` and `body ID OCTETS end`: how
 //!   many of the octets are sent; there may be none. `trailers ID FIELDS`.
 //! - `serve each N MESSAGE`, at a client `ask each N MESSAGE`: see [`crate::crowds`].
-//! - `pump`, `release_all`, `is_quiet`, `is_full`, `is_drained`; `active`: the numbers of all
-//!   active streams, and `count active`: their number; `count out`: the number of octets of output
-//!   that are taken away.
+//! - `pump`, `pump_some N`, `release_all`, `unsent ID`, `is_quiet`, `is_full`, `is_drained`;
+//!   `active`: the numbers of all active streams, and `count active`: their number; `count out`: the
+//!   number of octets of output that are taken away.
 //! - `other`: the commands that follow are for the other of two ends, which is new at first.
 //!   `exchange N`: octets go to the other end and back, N at once at most, until none are queued
 //!   ([`crate::joined`]).
@@ -247,6 +247,7 @@ fn answer_message(
         "respond" => respond(alloc, side, words, text),
         "serve" | "ask" => add_crowd(alloc, side, words, text),
         "pump" => add_answer(alloc, text, side.pump()),
+        "pump_some" => add_answer(alloc, text, side.pump_some(words.number())),
         "release_all" => add_done(alloc, text, side.release_all()),
         _ => answer_part(alloc, side, name, words, text),
     }
@@ -290,6 +291,7 @@ fn read(side: &Side, name: &str, words: &mut Words<'_>, text: &mut Text) {
         "active" => add_active(side, false, text),
         "room" => add_option(text, side.conn().room(words.number())),
         "owed" => add_value(text, side.conn().owed(words.number())),
+        "unsent" => add_value(text, side.unsent(words.number())),
         "next_live" => add_option(text, side.conn().next_live(words.number())),
         _ => words.unread(),
     }

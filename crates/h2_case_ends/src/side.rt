@@ -133,6 +133,20 @@ impl Side {
         }
     }
 
+    pub(crate) fn pump_some(&mut self, most: usize) -> Result<usize, EndRefusal> {
+        match self {
+            Side::Client(client) => client.pump_some(most),
+            Side::Server(server) => server.pump_some(most),
+        }
+    }
+
+    pub(crate) fn unsent(&self, id: u32) -> usize {
+        match self {
+            Side::Client(client) => client.unsent(id),
+            Side::Server(server) => server.unsent(id),
+        }
+    }
+
     pub(crate) fn release_all(&mut self) -> Result<(), EndRefusal> {
         match self {
             Side::Client(client) => client.release_all(),

@@ -14,6 +14,7 @@ none_in_step spans stream happened id still is =
       handed = is.handed;
       within = λ waiting waits. cc;
       owes = is.owes;
+      turn = is.turn;
     }
 
 -- So it may be forgotten.

@@ -48,22 +48,25 @@ new_sends role values i =
     }
 
 -- nothing was heard, and no stream is active.
-new_in_step : (spans : Spans) (role : Role) (values : Values) (i : ℕ)
+new_in_step : (spans : Spans) (role : Role) (values : Values) (i : ℕ) →
+    spans.turn ≡ record { id = 0; rest = 0 }
     → IsInStep spans None (new_end_log role values) i
 unfolding opened with_sent tokens_heard tokens_of_parts parts_on
-new_in_step spans role values i =
+new_in_step spans role values i turn =
     record {
       all = λ up alive. absurd (both_ways _ (none_active role values i) alive);
       handed = inl refl;
       within = λ waiting waits. cc;
       owes = λ some. absurd (some (owed_inactive (new_end_log role values).log i
           (none_active role values i)));
+      turn = turn;
     }
 
 pub starts : (role : Role) (values : Values) (end : End)
     → ConnRepresents values end.conn (opened role values) → end.role ≡ role
-    → end.streams.entries ≡ [] → EndRepresents values end (new_end_log role values)
-starts role values end conn is none =
+    → end.streams.entries ≡ [] → end.spans.turn ≡ record { id = 0; rest = 0 }
+    → EndRepresents values end (new_end_log role values)
+starts role values end conn is none turn =
     record {
       streams = record {
         conn = conn;
@@ -71,6 +74,6 @@ starts role values end conn is none =
         streams = λ i. inr (rw none (nothing_kept role values i));
         sent = new_sends role values;
       };
-      in_step = λ i. rw none (new_in_step end.spans role values i);
+      in_step = λ i. rw none (new_in_step end.spans role values i turn);
       active = λ i. rw none (λ some. absurd (some refl));
     }

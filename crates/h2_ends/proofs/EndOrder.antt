@@ -20,9 +20,15 @@ use Rattle.h2_ends.proofs.EndParts.{part_tokens, other_tokens}
 use Rattle.h2_ends.proofs.EndSteps.{passed_none, same_sent, same_taken, sent_handed}
 use Rattle.h2_ends.proofs.EndTokens.{SendsNoPart, refused_tokens, no_part_tokens, call_adds_none}
 use Rattle.h2_ends.proofs.InSteps.{tokens_reported, handed_called, handed_taken, handed_no_part}
+use Rattle.h2_ends.proofs.InSteps.{handed_by}
 use Rattle.h2_ends.proofs.PumpStuck.{out_after, data_none, fields_none}
 use Rattle.h2_ends.proofs.PumpTokens.{begun_more, data_tokens, fields_tokens, octets_split}
 use Rattle.h2_ends.proofs.PumpTokens.{octets_all}
+use Rattle.h2_ends.proofs.PumpWindows.{data_within}
+use Rattle.h2_ends.proofs.ShareSteps.{share_tokens}
+use Rattle.h2_ends.specs.Passes.{share_act}
+use Rattle.h2_ends.specs.declared.span.Turn.{Turn}
+use Rattle.std.specs.Prelude.{nat_le}
 use Rattle.h2_ends.proofs.RequestSent.{head_tokens, sent_in_order, sent_first, accepted_here}
 use Rattle.h2_ends.proofs.RequestSent.{accepted_elsewhere}
 use Rattle.h2_ends.proofs.TakeInStep.{up_before, handed_so_far, heard_then, handed_then}
@@ -84,6 +90,21 @@ data_next end id octets ends n waits i = elim (cases_eq i id) [
   | inr other ↦ none_first _ (tokens_waiting end i) (data_none i id octets ends (Count n) other)
 ]
 
+-- and a share of it,
+pub share_next : (end : EndLog) (most id : ℕ) (octets : List ℕ) (ends : Bool) (n : ℕ)
+    → BodyWaits end id octets ends → MayAnswer end.log (share_act most id octets ends) (Count n)
+    → SendsNext end (share_act most id octets ends) (Count n)
+share_next end most id octets ends n waits may i = elim (cases_eq i id) [
+  | inl here ↦ rw (
+    here,
+    share_tokens most id octets ends n (data_within end.log id
+        (take most octets) (ends && nat_le (length octets) most) n may),
+  )
+      (data_next end id octets ends n waits id)
+  | inr other ↦ none_first _ (tokens_waiting end i) (data_none i id (take most octets)
+      (ends && nat_le (length octets) most) (Count n) other)
+]
+
 -- and trailers where they wait.
 pub trailers_next : (end : EndLog) (id : ℕ) (list : List Field) → TrailersWait end id list
     → SendsNext end (SendFields id list true) Done
@@ -135,6 +156,21 @@ order_by_call end act answer is may next =
     record {
       sends = λ i. sends_called end act answer i (is.sends i) (next i);
       hands = λ i. handed_called end act answer end.accepted i may (is.hands i);
+    }
+
+-- It doesn't matter for it with which stream the next pass begins.
+pub order_turned : (end : EndLog) (turn : Turn) → KeepsOrder end
+    → KeepsOrder (record end { turn = turn })
+order_turned end turn is =
+    record {
+      sends = λ i. same_sent end (record end { turn = turn }) i (record {
+        handed = refl;
+        accepted = refl;
+        sent = refl;
+        role = refl;
+        used_still = λ was. was;
+      }) (is.sends i);
+      hands = λ i. handed_by end (record end { turn = turn }) i refl refl (is.hands i);
     }
 
 -- So does one that sends the head of what is given, where nothing was sent on its stream before.

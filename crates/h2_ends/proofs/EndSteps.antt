@@ -134,10 +134,9 @@ most_same values end new old happened id stream is conn role same_role keeps ove
 
 -- what has happened after a call of the connection, where these messages are accepted
 abbrev pub called_end : EndLog → Act → Answer → List (ℕ × Said) → EndLog
-called_end happened act answer accepted = record {
+called_end happened act answer accepted = record happened {
   log = with_call happened.log act answer;
   accepted = accepted;
-  handed = happened.handed;
 }
 
 module _ (values : Values) (end new : End) (happened : EndLog) (act : Act) (answer : Answer) where

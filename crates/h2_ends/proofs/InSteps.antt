@@ -83,6 +83,7 @@ in_step_called role values spans stream happened act answer accepted i came may 
       handed = handed_called happened act answer accepted i may is.handed;
       within = is.within;
       owes = owes_called role values spans.owing happened.log act answer i came may is.owes;
+      turn = is.turn;
     }
 
 -- A call that does not close the stream.
@@ -161,6 +162,7 @@ in_step_taken role values spans stream happened piece answer log i came may none
       within = is.within;
       owes = owes_taken role values spans.owing happened.log log piece answer i came may no_data
           is.owes;
+      turn = is.turn;
     }
 
 -- Octets that do not close it.
@@ -172,7 +174,7 @@ active_taken role values log after piece answer stream i is may stays keeps =
     λ some. active_by_take role values log after piece answer i is may (keeps some) stays
 
 -- Where the same was handed out of a stream, it is in order as before.
-handed_by : (old new : EndLog) (i : ℕ) → new.log ≡ old.log
+pub handed_by : (old new : EndLog) (i : ℕ) → new.log ≡ old.log
     → tokens_handed new i ≡ tokens_handed old i → HandsInOrder old i → HandsInOrder new i
 handed_by old new i log same (inl is) = inl (rw (log, same) is)
 handed_by old new i log same (inr cut) =
@@ -199,6 +201,7 @@ in_step_elsewhere spans stream happened handed i none is =
       handed = handed_no_part happened handed i none is.handed;
       within = is.within;
       owes = is.owes;
+      turn = is.turn;
     }
 
 -- Something else is kept, with the same message to send.
@@ -211,6 +214,7 @@ in_step_with spans stream other happened i keeps same is =
       handed = is.handed;
       within = λ waiting waits. is.within waiting (sym same ∙ waits);
       owes = is.owes;
+      turn = is.turn;
     }
 
 -- An end represents what has happened where what it keeps of the one stream is active too.

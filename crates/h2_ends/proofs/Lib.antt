@@ -41,6 +41,14 @@ mod SendingRelease
 mod SendingBody
 mod SendingStreams
 mod SendingPump
+mod ShareSteps
+mod ShareCases
+mod ShareIdle
+mod PassSteps
+mod PassEnds
+mod TurnOrder
+mod TurnShares
+mod TurnSends
 mod QuietOwes
 mod QuietRoom
 mod QuietSends

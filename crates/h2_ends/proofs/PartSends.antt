@@ -1,5 +1,6 @@
 -- What an end represents once it has sent a part of a message that was begun.
 use Rattle.h2_ends.proofs.Names
+use Names.{Spans}
 use Names.{◌≡◌, ◌≢◌, ◌⊎◌, ℕ, ◌+◌, ◌≤◌, Bool, true, false, if◌then◌else◌, List, [], ◌∷◌, ◌++◌}
 use Names.{length}
 use Names.{Option, Some, None, refl, sym, ap, ◌∙◌, inl, inr, arith, both_ways, eq-eqb, ne_eqb}
@@ -253,13 +254,15 @@ module _ (values : Values) (old mid new : End) (end : EndLog) (act : Act) (answe
       (is.in_step id) in
       stepped_but values old new end act answer id (Some given) after.accepted is more.may streams
       keeps (λ i within. more.gives.more i (rw more.spans within))
-      (rw more.spans at more.gives.owing) (λ i other. more.opens i) more.closes
+      (rw more.spans at more.gives.owing) (rw more.spans at more.gives.turn)
+      (λ i other. more.opens i) more.closes
       (record {
         all = λ up alive none. cc;
         handed = before.handed;
         within = within_given new.spans.waiting id left stream
             (λ waiting waits. absurd (more.waits waiting waits));
         owes = λ some. rw (more.gives.owing, more.spans) (before.owes some);
+        turn = more.gives.turn ∙ ap (λ (s : Spans). s.turn) more.spans ∙ before.turn;
       })
 
   -- Where the call does not close it, the end represents all of it.
@@ -271,7 +274,7 @@ module _ (values : Values) (old mid new : End) (end : EndLog) (act : Act) (answe
       more.represents.streams.conn.machine.came more.may more.alive stays)
 
 -- Octets without the end do not close the stream.
-data_stays : (id : ℕ) (octets : List ℕ) (ends : Bool) (n : ℕ)
+pub data_stays : (id : ℕ) (octets : List ℕ) (ends : Bool) (n : ℕ)
     → (ends && n == length octets) ≡ false
     → call_may_close id (SendData id octets ends) (Count n) ≡ false
 unfolding call_may_close

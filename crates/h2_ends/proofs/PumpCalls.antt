@@ -80,7 +80,7 @@ kept_waits None waits is = absurd (wrong is)
 kept_waits (Some stream) waits is = λ none. cc
 
 -- The stream is active then.
-active_waits : (log : Log) (i : ℕ) (stream : Option Stream) (waits : Waiting)
+pub active_waits : (log : Log) (i : ℕ) (stream : Option Stream) (waits : Waiting)
     → KeepsActive log stream i → outgoing_in stream ≡ outgoings.Waiting waits
     → active log i ≡ true
 active_waits log i stream waits keeps is = keeps (kept_waits stream waits is)
@@ -205,6 +205,7 @@ module _ (values : Values) (start : EndLog) where
                 waiting_is)
           ];
           owes = (is.in_step i).owes;
+          turn = (is.in_step i).turn;
         };
         active = active;
       }

@@ -86,7 +86,7 @@ unfolding reads_on
 reads_after end act answer i = rw ((grows_call end.log act answer).role) refl
 
 -- What is kept of a stream, with something else to send.
-stream_after : (end : EndLog) (act : Act) (answer : Answer) (id : ℕ) (stream : Stream)
+pub stream_after : (end : EndLog) (act : Act) (answer : Answer) (id : ℕ) (stream : Stream)
     (outgoing : Outgoing) → IsStream end id stream
     → IsOutgoing (end_after_call end act answer) id outgoing
     → IsStream (end_after_call end act answer) id (with_outgoing stream outgoing)

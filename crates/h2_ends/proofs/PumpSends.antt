@@ -67,6 +67,7 @@ in_step_here spans stream happened id waits outgoing is =
       handed = is.handed;
       within = λ other same. is.within waits refl;
       owes = is.owes;
+      turn = is.turn;
     }
 
 -- the call that sends what is left of the body

@@ -38,7 +38,7 @@ some_front : (tokens others : List Token) (token : Token)
 some_front [] others token = (token, others, refl)
 some_front (first ∷ tokens) others token = (first, tokens ++ token ∷ others, refl)
 
-some_kept : (waiting : Waiting)
+pub some_kept : (waiting : Waiting)
     → (first : Token) × (rest : List Token) × (tokens_kept waiting ≡ first ∷ rest)
 some_kept waiting =
     let body = each OctetToken (octets_left waiting) in

@@ -185,6 +185,7 @@ none_owing values end happened span is none =
         handed = (is.in_step i).handed;
         within = (is.in_step i).within;
         owes = λ some. absurd (some (none i));
+        turn = (is.in_step i).turn;
       };
       active = is.active;
     }

@@ -13,6 +13,7 @@ pub record IsWidened (old : End) (id : ℕ) (outgoing : Outgoing) (new : End) : 
   pub here : (waiting : Waiting) → outgoing ≡ outgoings.Waiting waiting
       → InSpan new.spans.waiting id
   pub owing : new.spans.owing ≡ old.spans.owing
+  pub turn : new.spans.turn ≡ old.spans.turn
 
 -- So it is by the test whether something waits.
 pub with_span : (old : End) (id : ℕ) (outgoing : Outgoing) (span : Span) → InSpan span id
@@ -26,6 +27,7 @@ with_span old id outgoing span here more =
       more = more;
       here = λ waiting waits. here;
       owing = refl;
+      turn = refl;
     }
 
 pub with_none : (old : End) (id : ℕ) (outgoing : Outgoing)
@@ -39,6 +41,7 @@ with_none old id outgoing none =
       more = λ i within. within;
       here = λ waiting waits. absurd (none waiting waits);
       owing = refl;
+      turn = refl;
     }
 
 -- This is given to the stream of which something is kept.
@@ -60,6 +63,7 @@ given_here old mid new id outgoing stream set widened was is conn role waiting c
       more = rw waiting widened.more;
       here = rw waiting widened.here;
       owing = rw waiting widened.owing;
+      turn = rw waiting widened.turn;
     }
 
 -- Where nothing is kept of the stream, all else is as before.
@@ -78,4 +82,5 @@ given_nowhere old mid new id outgoing widened none conn role same waiting =
       more = rw waiting widened.more;
       here = rw waiting widened.here;
       owing = rw waiting widened.owing;
+      turn = rw waiting widened.turn;
     }

@@ -1,5 +1,6 @@
 -- What an end represents once it has sent the head of what is given and keeps the rest of it.
 use Rattle.h2_ends.proofs.Names
+use Names.{Spans, ap}
 use Names.{◌≡◌, ◌≢◌, ◌⊎◌, ℕ, false, [], ◌∷◌, Option, Some, None, refl, sym, ◌∙◌, inl, inr}
 use Names.{both_ways, eq-eqb, ne_eqb, Client, Server, Values, Act, Answer, Number}
 use Names.{Done, Refusal, Malformed, RefusesMessage, MayAnswer, with_call}
@@ -140,7 +141,7 @@ request_given values old opened given end id said outgoing is opens gives left =
     represents_all values given after id
     (stepped_but values old given end act (Number id) id (Some stream) after.accepted is
     opens.answers streams keeps (λ i within. gives.more i (rw opens.spans within))
-    (rw opens.spans at gives.owing)
+    (rw opens.spans at gives.owing) (rw opens.spans at gives.turn)
     (λ i other. opens_one i id other)
     (λ i other. open_keeps i id said.message.head ends)
     (record {
@@ -150,6 +151,7 @@ request_given values old opened given end id said outgoing is opens gives left =
       within = within_given given.spans.waiting id outgoing empty gives.here;
       owes = λ some. rw (gives.owing, opens.spans) (owes_called _ values old.spans.owing end.log
           act (Number id) id is.streams.conn.machine.came opens.answers (is.in_step id).owes some);
+      turn = gives.turn ∙ ap (λ (s : Spans). s.turn) opens.spans ∙ (is.in_step id).turn;
     }))
     (λ some. active_by_open _ values end.log said.message.head ends id
     is.streams.conn.machine.came opens.answers)
@@ -212,12 +214,14 @@ module _ (values : Values) (old answered given : End) (end : EndLog) (id : ℕ) 
       stepped_but values old given end act Done id (Some (given_stream outgoing stream))
       after.accepted is answers.answers streams keeps
       (λ i within. gives.more i (rw answers.spans within)) (rw answers.spans at gives.owing)
+      (rw answers.spans at gives.turn)
       (λ i other same. cc) (λ i other. fields_keep i id said.message.head ends other)
       (record {
         all = λ up alive none. cc;
         handed = before.handed;
         within = within_given given.spans.waiting id outgoing stream gives.here;
         owes = λ some. rw (gives.owing, answers.spans) (before.owes some);
+        turn = gives.turn ∙ ap (λ (s : Spans). s.turn) answers.spans ∙ before.turn;
       })
 
   -- Where the head does not end it, the stream is active still.

@@ -56,7 +56,7 @@ begins_pump old failed reads up left last first = λ values start is.
     )
 
 -- No message waits where none did, or nothing is kept.
-forgets_none : (new forgotten : End) (id : ℕ)
+pub forgets_none : (new forgotten : End) (id : ℕ)
     → (keeps_of forgotten id ≡ keeps_of new id) ⊎ (keeps_of forgotten id ≡ None)
     → NoneWaits new id → NoneWaits forgotten id
 forgets_none new forgotten id (inl same) none waits is =

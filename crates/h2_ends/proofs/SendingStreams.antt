@@ -18,7 +18,7 @@ test_of : (id i : ℕ) → is_eq (nat_cmp id i) ≡ (i == id)
 test_of id i = (eq_by_cmp_equiv nat_cmp_total).symm id i ∙ unsigned_tied i id
 
 -- What the map keeps once a stream was written through what it lent.
-written : (old new : BTreeMap ℕ Stream) (id : ℕ) (one stream : Stream) (i : ℕ)
+pub written : (old new : BTreeMap ℕ Stream) (id : ℕ) (one stream : Stream) (i : ℕ)
     → get_by (nat_cmp id) old ≡ Some one → WritesThrough nat_cmp (nat_cmp id) old stream new
     → get_by (nat_cmp i) new ≡ keeps_with (λ j. get_by (nat_cmp j) old) id stream i
 written old new id one stream i here writes =

@@ -159,6 +159,7 @@ module _ (values : Values) (now : End) (end : EndLog) (piece : List ℕ) (count 
           handed = (reported.in_step i).handed;
           within = (reported.in_step i).within;
           owes = λ some. more i ((reported.in_step i).owes some);
+          turn = (reported.in_step i).turn;
         };
         active = reported.active;
       }
@@ -189,6 +190,7 @@ module _ (values : Values) (now : End) (end : EndLog) (piece : List ℕ) (count 
               (lasts i other) (reported.active i);
           within = (reported.in_step id).within;
           owes = owes;
+          turn = (reported.in_step id).turn;
         };
         kept = kept_still (IsOver end.log id) _ of.0 (reported.kept id);
         was_used = of.1;
@@ -223,6 +225,7 @@ in_step_here values end happened id part stream handed is here outgoing =
       handed = inl (is.heard ∙ sym (handed_then happened handed id part here));
       within = λ waiting waits. is.others.within waiting (sym outgoing ∙ waits);
       owes = is.others.owes;
+      turn = is.others.turn;
     }
 
 -- A part that a reading has taken is handed out, and only of its stream something may be kept that

@@ -53,6 +53,7 @@ must_refuse values end new happened id part is conn role waiting alike =
         active = λ i other. rw (alike i) (is.others.active i other);
         within = rw (alike id, waiting) is.others.within;
         owes = rw waiting is.others.owes;
+        turn = rw waiting is.others.turn;
       };
       was_used = is.was_used;
       prefix = (tokens_of_part part, is.heard);

@@ -82,6 +82,7 @@ refused_in_step values old id code one end is may =
       within = is.others.within;
       owes = owes_called _ values old.spans.owing end.log (Refuse id code) one id
           is.streams.conn.machine.came may is.others.owes;
+      turn = is.others.turn;
     }
 
 -- The end represents what has happened with the refusal, but for what is kept of that stream.

@@ -16,6 +16,7 @@ use Rattle.h2_message.specs.Reading.{Part, FieldsPart, OctetsPart}
 use Rattle.h2_message.specs.Phases.{place_after}
 use Rattle.h2_laws_pair.specs.Tokens.{Token, FieldsToken, OctetToken, end_tokens, tokens_sent}
 use Rattle.h2_laws_pair.specs.Tokens.{Said, said_tokens}
+use Rattle.h2_ends.specs.declared.span.Turn.{Turn}
 
 -- what an end hands out
 pub data Handed : Type 0 where
@@ -37,6 +38,8 @@ pub record EndLog : Type 0 where
   pub accepted : List (ℕ × Said)
   -- what was handed out, newest first
   pub handed : List Handed
+  -- with which stream the next pass of `pump_some` begins, and what that has left of its share
+  pub turn : Turn
 
 -- what was accepted for a stream
 unfoldable pub said_for : ℕ → List (ℕ × Said) → Option Said

@@ -1,6 +1,9 @@
 pub mod EndCalls
 pub mod EndTakes
 pub mod Quiet
+pub mod Passes
+pub mod Passing
+pub mod Turns
 pub mod Ends
 pub mod EndEvents
 pub mod Loans

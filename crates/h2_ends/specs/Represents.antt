@@ -40,13 +40,20 @@ use Rattle.h2_ends.specs.Ends.{tokens_handed}
 use Rattle.h2_ends.specs.EndTakes.{EndMayTake, end_with_log}
 use Rattle.h2_ends.specs.EndCalls.{MayRequest, MayRespond, MayPump, MayReleaseAll, MayBegin}
 use Rattle.h2_ends.specs.EndCalls.{MayBeginAnswer, MaySendBody, MaySendTrailers}
+use Rattle.h2_ends.specs.Passes.{MayPumpSome}
 use Rattle.h2_ends.specs.declared.event.EndTaken.{EndTaken}
 use Rattle.h2_ends.specs.Loans.{answer_handed, answer_of_taken}
 
 -- a new client or server
 -- rule: 8.1 (own) A new client or server is that end of a connection
 abbrev pub new_end_log : Role → Values → EndLog
-new_end_log role values = record { log = opened role values; accepted = []; handed = [] }
+new_end_log role values =
+    record {
+      log = opened role values;
+      accepted = [];
+      handed = [];
+      turn = record { id = 0; rest = 0 };
+    }
 
 -- what is read on a stream of which nothing has happened
 abbrev pub reads_of_new : Role → Reads
@@ -170,8 +177,8 @@ abbrev pub OwesWithin : Span → Log → ℕ → Type 0
 OwesWithin span log i = owed log i ≢ 0 → InSpan span i
 
 -- What is kept of a stream keeps step with what has happened: something is kept where it is active,
--- as long as the connection is up; parts are handed out in order; and where a message waits or
--- something is owed, that is found.
+-- as long as the connection is up; parts are handed out in order; where a message waits or
+-- something is owed, that is found; and a pass begins where it is to begin.
 -- rule: 8.1 (own) Something is kept of each active stream, and of no other
 pub record IsInStep (spans : Spans) (stream : Option Stream) (happened : EndLog) (i : ℕ) : Type 0
   where
@@ -179,6 +186,7 @@ pub record IsInStep (spans : Spans) (stream : Option Stream) (happened : EndLog)
     pub handed : HandsInOrder happened i
     pub within : WaitsWithin spans.waiting stream i
     pub owes : OwesWithin spans.owing happened.log i
+    pub turn : spans.turn ≡ happened.turn
 
 -- Something is kept only where the stream is active.
 -- rule: 8.1 (own) Something is kept of each active stream, and of no other
@@ -276,6 +284,11 @@ abbrev pub EndPumps : End → Result ℕ EndRefusal → End → Type 0
 EndPumps old result new =
     (values : Values) (end : EndLog) → EndRepresents values old end
     → (after : EndLog) × MayPump end result after × EndRepresents values new after
+
+abbrev pub EndPumpsSome : End → (most : ℕ) → Result ℕ EndRefusal → End → Type 0
+EndPumpsSome old most result new =
+    (values : Values) (end : EndLog) → EndRepresents values old end
+    → (after : EndLog) × MayPumpSome most end result after × EndRepresents values new after
 
 abbrev pub EndReleases : End → Result (Unit {0}) EndRefusal → End → Type 0
 EndReleases old result new =

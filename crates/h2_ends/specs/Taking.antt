@@ -32,13 +32,16 @@ use Rattle.h2_ends.specs.Represents.{RepresentsMessages, EndRepresents, IsKept, 
 use Rattle.h2_ends.specs.Represents.{KeepsActive, WaitsWithin, OwesWithin}
 
 -- What is kept of all streams but one keeps step with what has happened, and is of active streams;
--- where a message waits on that one, or something is owed, that is found.
+-- where a message waits on that one, or something is owed, that is found; and a pass begins where
+-- it
+-- is to begin.
 pub record IsInStepBut (end : End) (happened : EndLog) (id : ℕ) : Type 0 where
   pub others : (i : ℕ) → i ≢ id
       → IsInStep end.spans (kept_at i end.streams.entries) happened i
   pub active : (i : ℕ) → i ≢ id → KeepsActive happened.log (kept_at i end.streams.entries) i
   pub within : WaitsWithin end.spans.waiting (kept_at id end.streams.entries) id
   pub owes : OwesWithin end.spans.owing happened.log id
+  pub turn : end.spans.turn ≡ happened.turn
 
 -- A part of a message has come on the stream and isn't handed out yet. What is kept of the stream
 -- is so still, also where that part has closed it. Where nothing is kept it is the first part, at a

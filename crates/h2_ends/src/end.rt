@@ -9,7 +9,7 @@ ghost use Rattle.h2_ends.specs.Represents.{kept_at};
 ghost use Rattle.h2_ends.specs.Sends.{WaitsAsBefore};
 
 use crate::outgoing::Stream;
-use crate::span::{Span, Spans};
+use crate::span::{Span, Spans, Turn};
 use h2_conn::{Config, Conn, Refusal};
 use h2_message::Reads;
 use h2_spec_log::Role;
@@ -25,7 +25,7 @@ pub(crate) struct End {
     pub(crate) conn: Conn,
     /// The active streams, by number.
     pub(crate) streams: BTreeMap<u32, Stream>,
-    /// Where a message waits, and where octets are owed.
+    /// Where a message waits, where octets are owed, and with which stream a pass begins.
     pub(crate) spans: Spans,
 }
 
@@ -48,6 +48,7 @@ impl End {
             spans: Spans {
                 waiting: Span::none(),
                 owing: Span::none(),
+                turn: Turn { id: 0, rest: 0 },
             },
         })
     }

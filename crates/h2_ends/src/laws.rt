@@ -1,16 +1,20 @@
 //! Laws of messages at two ends. Each is the contract of a function that does nothing.
 
-ghost use Rattle.std.specs.Prelude.{◌≡◌, ℕ, Bool, List, Option};
+ghost use Rattle.std.specs.Prelude.{◌≡◌, ◌⊎◌, ◌<◌, ℕ, Bool, List, Option};
 ghost use Rattle.std.specs.List.{AllByRecursion};
 ghost use Rattle.h2_spec_log.specs.Acts.{Values};
 ghost use Rattle.h2_message.specs.declared.reading.Reads.{Reads};
 ghost use Rattle.h2_message.specs.Reading.{Part, IsReadable};
 ghost use Rattle.h2_laws_pair.specs.Tokens.{Said, IsPrefixOfTokens, said_tokens};
 ghost use Rattle.h2_ends.specs.Ends.{EndLog, IsNoEmptyPart, tokens_of_parts, tokens_out};
-ghost use Rattle.h2_ends.specs.EndCalls.{IsOpen};
+ghost use Rattle.h2_ends.specs.EndCalls.{BodyWaits, IsOpen};
 ghost use Rattle.h2_ends.specs.Represents.{EndRepresents};
 ghost use Rattle.h2_ends.specs.declared.end.End.{End};
+ghost use Rattle.h2_ends.specs.declared.span.Turn.{Turn};
 ghost use Rattle.h2_ends.specs.SoundSaid.{IsSoundSaid};
+ghost use Rattle.h2_ends.specs.Passes.{Halt, Shares, Waits, numbers, share_size};
+ghost use Rattle.h2_ends.specs.Turns.{ComesBefore, HasRoomFor, IsNotStopped, GetsShare, EndsAt};
+ghost use Rattle.h2_ends.specs.Turns.{Meanwhile, Pass, turn_after};
 
 // contract: 8.1 (own) What has come of a message that breaks no rule can be read
 /// What has come of a message that breaks no rule as it is sent, or none so far where it is given
@@ -30,4 +34,20 @@ pub fn parts_are_sent_at_once()
     ensures { (values : Values) (end : End) (happened : EndLog) (id : ℕ) (said : Said)
         (number : Option ℕ) → EndRepresents values end happened
         → IsOpen happened id said number → tokens_out happened id ≡ said_tokens said }
+{}
+
+// contract: 8.1 (own) Between two shares of a stream each other that waits gets one
+/// Between two shares of one stream each other one gets a share, if something waits on it as each
+/// of the passes begins: where it got none after the first of the two in the same pass, and none in
+/// the passes between, it gets one in the pass of the second, before that, even where that pass
+/// ends with a part of the second (RFC 9113, section 5.2.1). Whatever happens between passes. And
+/// where octets wait that have room, and the share is not refused, it sends one at least.
+pub fn shares_are_given_in_turn()
+    ensures turns { (i j : ℕ) → j < numbers → (first last : Pass) → GetsShare first i
+        → Waits first.end j → (GetsShare first j → ComesBefore first.end.turn.id j i)
+        → Meanwhile i j (turn_after first) last.end.turn → GetsShare last i ⊎ EndsAt last i
+        → Waits last.end j → GetsShare last j × ComesBefore last.end.turn.id j i }
+    ensures sends { (turn : Turn) (most id count : ℕ) (end after : EndLog) (halt : Option Halt)
+        (octets : List ℕ) (ends : Bool) → Shares (share_size turn most id) id end count halt after
+        → BodyWaits end id octets ends → HasRoomFor end id → IsNotStopped halt → 0 < count }
 {}

@@ -20,6 +20,7 @@ mod laws;
 mod lending;
 mod outgoing;
 mod parts;
+mod passing;
 mod quiet;
 mod readers;
 mod refusal;
@@ -36,6 +37,6 @@ pub use h2_message::{
     BodyLength, Field, FieldList, FieldRef, Malformed, Message, Octets, check_request,
     check_request_head, check_response, check_response_head,
 };
-pub use laws::{parts_are_sent_at_once, sent_parts_are_readable};
+pub use laws::{parts_are_sent_at_once, sent_parts_are_readable, shares_are_given_in_turn};
 pub use refusal::EndRefusal;
 pub use server::Server;

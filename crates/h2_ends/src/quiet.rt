@@ -85,7 +85,7 @@ impl End {
 }
 
 /// Whether a window lets an octet go: the connection's where `id` is 0, else an active stream's.
-fn has_room(conn: &Conn, id: u32) -> bool
+pub(crate) fn has_room(conn: &Conn, id: u32) -> bool
     ensures { (values : Values) (log : Log) → ConnRepresents values conn.now log
         → (result ≡ true) ↔ HasRoom (reader_room (log_view log) id) }
 {

@@ -27,14 +27,14 @@ use hpack::{Field, list_size};
 use std::ops::Bound;
 
 /// How sending what waits on a stream goes on.
-enum SendState {
+pub(crate) enum SendState {
     /// Nothing waited.
     Idle,
     /// All of it was sent.
     Sent,
-    /// Nothing more can go now.
+    /// No more of it can go now, or its share was given.
     Stuck,
-    /// The output is full.
+    /// The output is full, or a pass has used up the connection's window.
     Full,
 }
 
@@ -307,7 +307,7 @@ fn send(
 
 // rule: 8.1 (own) pump sends the lower streams first, and all that can go
 /// How sending goes on once a call of the connection is refused.
-fn stopped_by(refusal: Refusal) -> Result<SendState, Refusal>
+pub(crate) fn stopped_by(refusal: Refusal) -> Result<SendState, Refusal>
     ensures { StopsBy refusal result }
 {
     match refusal {

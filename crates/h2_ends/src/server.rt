@@ -18,7 +18,7 @@ ghost use Rattle.h2_ends.specs.EndCalls.{unsent_on};
 ghost use Rattle.h2_ends.specs.Quiet.{IsQuietEnd};
 ghost use Rattle.h2_ends.specs.Represents.{EndRepresents, EndAnswers, EndPumps, EndReleases};
 ghost use Rattle.h2_ends.specs.Represents.{EndResponds, new_end_log, EndBeginsAnswer, EndSendsBody};
-ghost use Rattle.h2_ends.specs.Represents.{EndSendsTrailers};
+ghost use Rattle.h2_ends.specs.Represents.{EndSendsTrailers, EndPumpsSome};
 
 use crate::end::End;
 use crate::refusal::EndRefusal;
@@ -156,10 +156,33 @@ impl Server {
         self.end.pump()
     }
 
+    // contract: 8.1 (own) pump_some gives each stream a share, in turn
+    /// Sends a share of what waits on each stream, in turn; answers how many octets of bodies were
+    /// sent. It makes one pass over the streams on which something waits, in rising order, from the
+    /// one with which it begins to the highest, and then from the lowest. Each gets the least of
+    /// `most` octets (0 counts as 1), what its window and the connection's let through, and what is
+    /// left of its body, whose trailers and end go with its last octet. Where a share is cut short,
+    /// since 65,536 octets wait or the connection's window is used up, the pass ends there, and
+    /// what waits on later streams stays for the next one, which begins with that stream and with
+    /// what is left of its share; otherwise it begins where this one did. So no long body keeps the
+    /// others waiting: between two shares of one stream each other one on which something waited
+    /// gets one. With [`Server::pump`] lower streams go first.
+    ///
+    /// # Errors
+    ///
+    /// [`EndRefusal::Conn`] (E2) with [`Refusal::Closed`] (C1), and with [`Refusal::Memory`] (C12):
+    /// what was sent stays sent, the rest waits, and the next pass begins with the stream at which
+    /// memory was refused, and with what is left of its share.
+    pub fn pump_some(&mut self, most: usize) -> Result<usize, EndRefusal>
+        ensures { EndPumpsSome self.old.end most result self.new.end }
+    {
+        self.end.pump_some(most)
+    }
+
     // contract: 8.1 What was sent on a stream is a prefix of its message
-    /// How many octets of the body that was given for a stream wait for [`Server::pump`]; 0 where
-    /// the stream isn't active, and of a message in parts, of which none waits. Trailers are not
-    /// counted: where they alone wait it is 0 too.
+    /// How many octets of the body that was given for a stream wait for [`Server::pump`] or
+    /// [`Server::pump_some`]; 0 where the stream isn't active, and of a message in parts, of
+    /// which none waits. Trailers are not counted: where they alone wait it is 0 too.
     pub fn unsent(&self, id: u32) -> usize
         ensures { (values : Values) (end : EndLog) → EndRepresents values self.now.end end
             → result ≡ unsent_on end id }

@@ -1,6 +1,6 @@
 //! Spans of stream numbers.
 
-ghost use Rattle.std.specs.Prelude.{ℕ};
+ghost use Rattle.std.specs.Prelude.{ℕ, ◌≤◌, ◌<◌, ◌^◌, ◌↔◌};
 ghost use Rattle.h2_ends.specs.Represents.{InSpan};
 
 /// The numbers from the first to the last one; none where the first is above the last.
@@ -17,6 +17,17 @@ pub(crate) struct Spans {
     pub(crate) waiting: Span,
     /// All on which octets are owed to the peer.
     pub(crate) owing: Span,
+    /// With which the next pass of `pump_some` begins.
+    pub(crate) turn: Turn,
+}
+
+/// With which stream a pass begins.
+#[derive(Clone, Copy, Debug)]
+pub(crate) struct Turn {
+    /// Its number; where nothing waits on it, the pass begins with the next one above.
+    pub(crate) id: u32,
+    /// How many octets of its share it has left, where that was cut short; else 0.
+    pub(crate) rest: usize,
 }
 
 impl Span {
@@ -39,5 +50,22 @@ impl Span {
             first: self.first.min(id),
             last: self.last.max(id),
         }
+    }
+
+    /// The numbers from one up, and those below it.
+    pub(crate) fn split(self, turn: u32) -> (Span, Span)
+        ensures above { (i : ℕ) → InSpan result.0 i ↔ (InSpan self i × (turn ≤ i)) }
+        ensures highest { result.0.last < 2 ^ 32 }
+        ensures below { (i : ℕ) → 0 < i → InSpan result.1 i ↔ (InSpan self i × (i < turn)) }
+    {
+        let above = Span {
+            first: self.first.max(turn),
+            last: self.last,
+        };
+        let below = Span {
+            first: self.first,
+            last: self.last.min(turn.saturating_sub(1)),
+        };
+        (above, below)
     }
 }

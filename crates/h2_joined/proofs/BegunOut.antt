@@ -1,13 +1,14 @@
 -- Of a message that was begun all that was given so far was sent, whatever call comes next.
 use Rattle.h2_joined.proofs.Names
-use Names.{◌≡◌, ◌≢◌, ℕ, List, Option, drop, length, cases_eq, true, [], ◌++◌, ◌∷◌, Some, None, refl}
+use Names.{◌≡◌, ◌≢◌, ℕ, List, Option, drop, length, cases_eq, true, [], ◌∷◌, Some, None, refl}
 use Names.{sym, ap, ◌∙◌, inl, inr, subst}
-use Names.{append-nil, Act, Answer, MayAnswer, with_call, Refuse, Refused, Said, is_begun}
-use Names.{said_tokens, drop-append_seam, tokens_sent, Took, Failed, FieldsEvent, Token, EndLog}
-use Names.{EndAnswer, EndMayTake, said_for, tokens_out, tokens_given}
+use Names.{append-nil, Act, Answer, with_call, Refuse, Said, is_begun}
+use Names.{said_tokens, drop-append_seam, tokens_sent, Took, Failed, FieldsEvent, EndLog}
+use Names.{EndAnswer, EndMayTake, said_for, tokens_out}
 use Names.{end_with_log, end_with_said, fails, hands_nothing, passes, hands_out, refuses}
 use Names.{refusal_fails, runs_out_of_memory}
 use Rattle.h2_laws_pair.specs.Tokens.{Begun, tokens_of_call}
+use Rattle.h2_ends.specs.declared.span.Turn.{Turn}
 use Rattle.h2_ends.specs.EndCalls.{end_with_more}
 use Rattle.h2_ends.specs.Ends.{tokens_waiting, replaced}
 use Rattle.h2_ends.proofs.EndOrder.{SendsNext, none_begins}
@@ -55,6 +56,12 @@ begun_by_call end act answer is next i said accepted begun =
     let none = none_begins (tokens_of_call i act answer) (next i).0
     (sym (none_waits end i said accepted was) ∙ (next i).1) in
     same_out end _ i said (call_adds_none i end.log act answer none) was
+
+-- It doesn't matter for it with which stream the next pass begins.
+pub begun_turned : (end : EndLog) (turn : Turn) → SendsBegun end
+    → SendsBegun (record end { turn = turn })
+begun_turned end turn is i said accepted begun =
+    same_out end (record end { turn = turn }) i said refl (is i said accepted begun)
 
 -- A call of `take` sends nothing.
 take_out : (end after : EndLog) (piece : List ℕ) (answer : EndAnswer) (i : ℕ)

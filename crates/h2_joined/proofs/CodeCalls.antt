@@ -3,9 +3,10 @@ use Rattle.h2_joined.proofs.Names.{Result, IsTypedAct, with_call, EndRefusal, En
 use Rattle.h2_joined.proofs.Names.{refl, sym, Act, Side, Calls, pumps, made, ◌≡◌, ℕ, subst, Answer}
 use Rattle.h2_joined.proofs.Names.{Acted, Joined, Doing, acted_as, MakesAct, end_at, end_with_log}
 use Rattle.h2_joined.proofs.Names.{EndPumps, EndReleases, IsControlCall, releases_all}
-use Rattle.h2_joined.specs.Joints.{Pumps, ReleasesAll, calls}
+use Rattle.h2_joined.specs.Joints.{Pumps, PumpsSome, ReleasesAll, calls, pumps_some}
+use Rattle.h2_ends.specs.Represents.{EndPumpsSome}
 use Rattle.h2_joined.proofs.KeptActs.{ChangesEnd, acts_on_end}
-use Rattle.h2_joined.proofs.KeptEnds.{pumped_says, released_says}
+use Rattle.h2_joined.proofs.KeptEnds.{pumped_says, passed_says, released_says}
 use Rattle.h2_joined.specs.declared.act.Acted.TheVariants as acted
 
 -- The answer is this one.
@@ -27,6 +28,24 @@ pump_acts side old new result answer same changes does =
     record {
       after = after;
       may = pumps result after may;
+      represents = now;
+      accepted = says.accepted;
+      handed = says.handed;
+    }))
+
+pub pump_some_acts : (side : Side) (old new : Joined) (most : ℕ) (result : Result ℕ EndRefusal)
+    (answer : Acted) → answer ≡ acted_by acted.Count result → ChangesEnd side old new
+    → EndPumpsSome (end_at side old) most result (end_at side new)
+    → MakesAct old (made side (PumpsSome most) answer) new
+pump_some_acts side old new most result answer same changes does =
+    answered_as side old new (PumpsSome most) answer _ same
+    (acts_on_end side old new (PumpsSome most) (acted_by acted.Count result) changes
+    (λ values one other represents.
+    let (after, may, now) = does values one.happened represents in
+    let says = passed_says most one.happened result after may in
+    record {
+      after = after;
+      may = pumps_some most result after may;
       represents = now;
       accepted = says.accepted;
       handed = says.handed;

@@ -2,10 +2,10 @@
 use Rattle.h2_joined.proofs.Names
 use Names.{true, ◌++◌, length, take, drop, Option, refl, sym, ap, ◌∙◌, subst, drop_min, length-take}
 use Names.{take-append-drop, drop-append-le, Code, Values, Log, End, EndLog, EndRepresents, Side}
-use Names.{Acted, Accepted, Kept, Pipe, Store, Joined, JointEnd, Delivers, MayDo, IsDelivered}
+use Names.{Acted, Kept, Pipe, Store, Joined, JointEnd, Delivers, MayDo, IsDelivered}
 use Names.{delivers, delivery_fails, delivery_stops, HoldsOctets, KeepsHanded, KeepsEnd, MakesAct}
 use Names.{made, end_at, kept_of, other_side, said_shown, PutsPipe, TakesDelivery, IsKeptAt}
-use Names.{◌≡◌, ℕ, Bool, false, List, reverse, Some, None, has_failed}
+use Names.{◌≡◌, ℕ, Bool, false, List, Some, None, has_failed}
 use Rattle.std.proofs.Common.{map as each}
 use Rattle.h2_conn.specs.Conn.{ConnRepresents}
 use Rattle.h2_joined.specs.declared.octets.Delivered.{Delivered}

@@ -1,15 +1,15 @@
 -- Calls that give an end something to say, a message or a part of one, are acts of two joined ends.
 use Rattle.h2_joined.proofs.Names
-use Names.{◌<◌, ◌^◌, ◌==◌, ◌++◌, ◌∷◌, [], ◌∙◌, ◌≡◌, ℕ, Bool, true, false, List, length, take, Err}
+use Names.{◌<◌, ◌^◌, ◌==◌, ◌++◌, ◌∷◌, [], ◌≡◌, ℕ, Bool, true, false, List, length, take, Err}
 use Names.{Ok, Joined, made, Client, Server, Side, EndRefusal, Accepted, Acted, Doing, MakesAct}
 use Names.{AreOctets, Said, Values, accepted_shown, said_shown, EndLog, EndRepresents, JointEnd}
 use Names.{MayDo, with_happened, end_at, kept_of, SentMessage, Field, EndRequests, EndResponds}
-use Names.{Requests, Responds, requests, responds, IsTypedAct, SendFields, is_begun, None, Some}
-use Names.{Option, refl, if◌then◌else◌, ap, sym}
+use Names.{Requests, Responds, requests, responds, IsTypedAct, SendFields, is_begun, None}
+use Names.{refl, sym}
 use Rattle.std.specs.Prelude.{◌&&◌}
 use Rattle.h2_spec_log.specs.Acts.{SendData}
 use Rattle.h2_message.specs.declared.message.Message.{Message}
-use Rattle.h2_laws_pair.specs.Tokens.{Form, Ended, at_once}
+use Rattle.h2_laws_pair.specs.Tokens.{at_once}
 use Rattle.h2_ends.specs.EndCalls.{MayRequest, MayRespond, MayBegin, MayBeginAnswer, MaySendBody}
 use Rattle.h2_ends.specs.EndCalls.{MaySendTrailers, with_octets, with_trailers, answer_reads, begun}
 use Rattle.h2_ends.specs.Represents.{EndBegins, EndBeginsAnswer, EndSendsBody, EndSendsTrailers}

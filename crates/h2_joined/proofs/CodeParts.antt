@@ -3,7 +3,7 @@ use Rattle.h2_joined.proofs.Names
 use Names.{◌≡◌, ◌≤◌, ◌+◌, ◌==◌, ℕ, Bool, true, List, length, take, Option, Some, None, Ok, Err}
 use Names.{refl}
 use Names.{sym, ap, ◌∙◌, subst, arith, Accepted, Side, Joined, End, Kept, Field, EndRefusal}
-use Names.{MakesAct, made, end_at, kept_of, other_side, IsTypedAct, SendFields, Shown, Acted, Doing}
+use Names.{MakesAct, made, end_at, IsTypedAct, SendFields, Shown}
 use Rattle.std.specs.Prelude.{◌&&◌, vec_len, IfSome}
 use Rattle.std.specs.Vec.{vec_capacity}
 use Rattle.h2_spec_log.specs.Acts.{SendData}

@@ -21,11 +21,13 @@ use Rattle.h2_joined.specs.Joints.{no_copy_of_trailers}
 use Rattle.h2_joined.proofs.BegunOut.{SendsBegun}
 use Rattle.h2_joined.proofs.JointSound.{StaysSound, sound_request, sound_response, sound_begun}
 use Rattle.h2_joined.proofs.JointSound.{sound_with_octets, sound_with_trailers}
+use Rattle.h2_joined.specs.Joints.{pumps_some}
 use Rattle.h2_joined.proofs.JointHolds.{JointHolds, accept_same, turned, HoldsAt, StaysAt, log_of}
-use Rattle.h2_joined.proofs.JointHolds.{stays_more}
+use Rattle.h2_joined.proofs.JointHolds.{stays_more, holds_turned, reported_by}
 use Rattle.h2_joined.proofs.JointCalls.{IsOfAct, IsOrdinary, ordinary_of_act, ordinary_stays_in}
 use Rattle.h2_joined.proofs.JointCalls.{called_at, called_within}
-use Rattle.h2_joined.proofs.JointChains.{KeptByCalls, holds_by_pump, holds_by_release}
+use Rattle.h2_joined.proofs.JointChains.{KeptByCalls, KeptByTurn, holds_by_pump}
+use Rattle.h2_joined.proofs.JointChains.{holds_by_pump_some, holds_by_release}
 use Rattle.h2_joined.proofs.JointChains.{holds_by_refused_ask, holds_by_refused_reply}
 use Rattle.h2_joined.proofs.JointChains.{holds_by_refused_body, holds_by_refused_trailers}
 use Rattle.h2_joined.proofs.JointAnswers.{request_accepted, response_accepted, part_accepted}
@@ -48,6 +50,24 @@ module _ (side : Side) (client_values server_values : Values) (made : List Made)
       answer end.accepted stays typed may (ordinary_of_act made side act answer ordinary)
       (ordinary_stays_in act ordinary)
       (λ had. accept_same side end _ other.happened refl (stays.calm had).accepted)
+
+  -- It doesn't matter with which stream the next pass begins.
+  turn_kept : KeptByTurn StaysWith
+  turn_kept end turn stays =
+      record {
+        lost = stays.lost;
+        other_lost = stays.other_lost;
+        pair = stays.pair;
+        calm = λ had. let calm = stays.calm had in record {
+          holds = holds_turned made side end turn calm.holds;
+          other_holds = calm.other_holds;
+          accepted = accept_same side end (record end { turn = turn }) other.happened refl
+              calm.accepted;
+          reported = reported_by side (with_happened one end) other
+              (with_happened one (record end { turn = turn })) other (λ is. is) (λ is. is)
+              calm.reported;
+        };
+      }
 
 -- A request at the client, whole or begun. A server makes none.
 requested : (side : Side) (client_values server_values : Values) (made : List Made) (did : Made)
@@ -216,6 +236,11 @@ module _ (side : Side) (client_values server_values : Values) (made : List Made)
   act_stays _ _ _ _ holds (pumps result after may) =
       holds_by_pump (StaysWith side client_values server_values _ one other)
       (call_kept side client_values server_values _ one other) one.happened after result may
+      (stays_more side client_values server_values made one other _ holds.stays)
+  act_stays _ _ _ _ holds (pumps_some most result after may) =
+      holds_by_pump_some (StaysWith side client_values server_values _ one other)
+      (call_kept side client_values server_values _ one other)
+      (turn_kept side client_values server_values _ one other) most one.happened after result may
       (stays_more side client_values server_values made one other _ holds.stays)
   act_stays _ _ _ _ holds (releases_all result after may) =
       holds_by_release (StaysWith side client_values server_values _ one other)

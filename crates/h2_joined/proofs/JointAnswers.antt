@@ -3,7 +3,7 @@
 use Rattle.h2_joined.proofs.Names
 use Names.{inl, inr, ◌==◌, true, [], ◌∷◌, Option, refl, sym, ap, ◌∙◌, subst, AllByRecursion}
 use Names.{both_ways, cases_Bool, cases_eq, Values, Act, Answer, Number, Done, MayAnswer}
-use Names.{is_number_used, opened_is_new, Said, asks_head, Field, Part, Reads, Responses}
+use Names.{is_number_used, opened_is_new, Said, asks_head, Field, Part, Responses}
 use Names.{FieldsPart, OctetsPart, IsPrefixOfTokens, parts_on, JointEnd, Made, end_tokens}
 use Names.{said_tokens, IsNoEmptyPart, said_for, tokens_given, tokens_of_part, IsSoundSaid}
 use Names.{tokens_of_parts, EndLog, Side, ◌≡◌, ◌≢◌, ℕ, Bool, false, List, Some, None, Server}

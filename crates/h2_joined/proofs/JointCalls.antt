@@ -18,10 +18,9 @@ use Rattle.h2_laws_pair.specs.Steps.{no_step, then_step}
 
 -- the end after a call of its connection, where this is accepted
 abbrev pub end_called : EndLog → Act → Answer → List (ℕ × Said) → EndLog
-end_called end act answer accepted = record {
+end_called end act answer accepted = record end {
   log = with_call end.log act answer;
   accepted = accepted;
-  handed = end.handed;
 }
 
 -- The call does not refuse a stream, and where it resets one, that is an act.

@@ -6,11 +6,18 @@ use Names.{true, Bool, List, Field, Said, MaySendBody, MaySendTrailers, Malforme
 use Names.{data_refused, releases_one, no_part_next, MayReleaseAll}
 use Names.{Option, Result, subst, Refusal, Answer, Refused, MayAnswer, with_call, Releases, MayPump}
 use Names.{Ok, Err, sym, Act, Open, Count, Done, EndLog, Pumps, ℕ, Some, None}
+use Rattle.h2_ends.specs.declared.span.Turn.{Turn}
 use Rattle.h2_ends.specs.EndCalls.{IsHeadCall}
 use Rattle.h2_spec_log.specs.declared.refusal.Refusal.TheVariants.{Closed, OutputFull, Memory}
 use Rattle.h2_spec_log.specs.Acts.{SendData, Release}
 use Rattle.h2_spec_log.specs.Log.{owed}
-use Rattle.h2_ends.proofs.EndOrder.{SendsNext, data_next, trailers_next, refused_next}
+use Rattle.h2_ends.proofs.EndOrder.{SendsNext, data_next, trailers_next, refused_next, share_next}
+use Rattle.std.specs.Prelude.{suc, length, false}
+use Rattle.h2_ends.specs.Passes.{Halt, Stopped, Shares, PassesOver, Passes, numbers, share_size}
+use Rattle.h2_ends.specs.Passes.{shares_octets, shares_some, share_is_cut, shares_rest, share_act}
+use Rattle.h2_ends.specs.Passes.{shares_trailers, octets_refused, list_refused, passes_no_more}
+use Rattle.h2_ends.specs.Passes.{passes_on, passes_halt, passes_part, passes_round, next_turn}
+unfoldable use Rattle.h2_ends.specs.Passes.{MayPumpSome}
 use Rattle.h2_joined.proofs.JointCalls.{IsOrdinary}
 use Rattle.h2_ends.specs.declared.refusal.EndRefusal.TheVariants as refusals
 
@@ -83,6 +90,80 @@ holds_by_pump Holds kept end after (Err (refusals.Conn Closed)) (failed, same) h
 holds_by_pump Holds kept end after (Err (refusals.Conn Memory)) (up, count, pumps) holds =
     holds_by_pumps Holds kept end after count (Some Memory) pumps holds
 holds_by_pump Holds kept end after (Err other) may holds = absurd may
+
+-- with a pass, where it doesn't matter with which stream the next one begins,
+abbrev pub KeptByTurn : (EndLog → Type 0) → Type 0
+KeptByTurn Holds = (end : EndLog) (turn : Turn) → Holds end → Holds (record end { turn = turn })
+
+holds_by_share : (Holds : EndLog → Type 0) → KeptByCalls Holds → (most id : ℕ)
+    (end : EndLog) (count : ℕ) (halt : Option Halt) (after : EndLog)
+    → Shares most id end count halt after → Holds end → Holds after
+holds_by_share Holds kept most id _ _ _ _
+    (shares_octets end octets ends sent typed waits may all more) holds =
+    kept end (share_act most id octets ends) (Count sent) holds tt typed may
+    (share_next end most id octets ends sent waits may)
+holds_by_share Holds kept most id _ _ _ _
+    (shares_some end octets ends sent typed waits may fewer not_over) holds =
+    kept end (share_act most id octets ends) (Count sent) holds tt typed may
+    (share_next end most id octets ends sent waits may)
+holds_by_share Holds kept most id _ _ _ _
+    (share_is_cut end octets ends sent typed waits may fewer over) holds =
+    kept end (share_act most id octets ends) (Count sent) holds tt typed may
+    (share_next end most id octets ends sent waits may)
+holds_by_share Holds kept most id _ _ _ after
+    (shares_rest end octets halt _ typed waits may few rest) holds =
+    holds_by_share Holds kept most id _ 0 halt after rest
+    (kept end (share_act most id octets false) (Count (length octets)) holds tt typed may
+    (share_next end most id octets false (length octets) waits may))
+holds_by_share Holds kept most id _ _ _ _ (shares_trailers end list typed wait may) holds =
+    kept end (SendFields id list true) Done holds tt typed may (trailers_next end id list wait)
+holds_by_share Holds kept most id _ _ _ _
+    (octets_refused end octets ends refusal typed waits may) holds =
+    kept end (share_act most id octets ends) (Refused refusal) holds tt typed may
+    (refused_next end (share_act most id octets ends) refusal)
+holds_by_share Holds kept most id _ _ _ _ (list_refused end list refusal typed wait may) holds =
+    kept end (SendFields id list true) (Refused refusal) holds tt typed may
+    (refused_next end (SendFields id list true) refusal)
+
+holds_by_span : (Holds : EndLog → Type 0) → KeptByCalls Holds → (sizes : ℕ → ℕ) (end : EndLog)
+    (low high count : ℕ) (halt : Option (ℕ × Halt)) (after : EndLog)
+    → PassesOver sizes end low high count halt after → Holds end → Holds after
+holds_by_span Holds kept sizes _ _ _ _ _ _ (passes_no_more end low high none) holds = holds
+holds_by_span Holds kept sizes _ _ _ _ _ after
+    (passes_on end between low high id sent more halt _ first share rest) holds =
+    holds_by_span Holds kept sizes between (suc id) high more halt after rest
+    (holds_by_share Holds kept (sizes id) id end sent None between share holds)
+holds_by_span Holds kept sizes _ _ _ _ _ after (passes_halt end low high id sent halt _ first share)
+    holds = holds_by_share Holds kept (sizes id) id end sent (Some halt) after share holds
+
+holds_by_pass : (Holds : EndLog → Type 0) → KeptByCalls Holds → (sizes : ℕ → ℕ) (end : EndLog)
+    (count : ℕ) (halt : Option (ℕ × Halt)) (after : EndLog) → Passes sizes end count halt after
+    → Holds end → Holds after
+holds_by_pass Holds kept sizes end _ _ after (passes_part count id halt _ part) holds =
+    holds_by_span Holds kept sizes end end.turn.id numbers count (Some (id, halt)) after part holds
+holds_by_pass Holds kept sizes end _ _ after (passes_round above below between halt _ one two)
+    holds =
+    holds_by_span Holds kept sizes between 0 end.turn.id below halt after two
+    (holds_by_span Holds kept sizes end end.turn.id numbers above None between one holds)
+
+pub holds_by_pump_some : (Holds : EndLog → Type 0) → KeptByCalls Holds → KeptByTurn Holds
+    → (most : ℕ) (end after : EndLog) (result : Result ℕ EndRefusal)
+    → MayPumpSome most end result after → Holds end → Holds after
+unfolding MayPumpSome
+holds_by_pump_some Holds kept turned most end after (Ok count)
+    (up, halt, passed, passes, calm, same) holds =
+    subst Holds (sym same) (turned passed (next_turn passed.turn halt)
+    (holds_by_pass Holds kept (share_size end.turn most) end count halt passed passes holds))
+holds_by_pump_some Holds kept turned most end after (Err (refusals.Conn Closed))
+    (down, same) holds =
+    subst Holds (sym same) holds
+holds_by_pump_some Holds kept turned most end after (Err (refusals.Conn Memory))
+    (up, count, id, rest, passed, passes, same) holds =
+    subst Holds (sym same) (turned passed (record { id = id; rest = rest })
+    (holds_by_pass Holds kept (share_size end.turn most) end count
+    (Some (id, Stopped Memory rest)) passed passes
+    holds))
+holds_by_pump_some Holds kept turned most end after (Err other) may holds = absurd may
 
 -- with a release of all that is owed,
 pub holds_by_release : (Holds : EndLog → Type 0) → KeptByCalls Holds → (end after : EndLog)

@@ -1,5 +1,6 @@
 -- What holds of two joined ends, whatever acts were made.
 use Rattle.h2_joined.proofs.Names
+use Rattle.h2_ends.specs.declared.span.Turn.{Turn}
 use Names.{InternalError, AllByRecursion, next_unprocessed, IsSoundSaid, Responses}
 use Names.{Contains, asks_head, WasAsked, said_for, parts_on, KeepsOrder, JointEnd, WasResetAt}
 use Names.{Values, Event, EndLog, Passed, Side, Made, half_of, Client, Server, Said}
@@ -40,6 +41,18 @@ end_holds_more act made side end holds =
       passed = holds.passed;
       reported = holds.reported;
       asked = λ id code was. Contains-append_right (act ∷ []) made _ (holds.asked id code was);
+    }
+
+-- It holds wherever the next pass begins.
+pub holds_turned : (made : List Made) (side : Side) (end : EndLog) (turn : Turn)
+    → EndHolds made side end → EndHolds made side (record end { turn = turn })
+holds_turned made side end turn holds =
+    record {
+      heard = holds.heard;
+      says = holds.says;
+      passed = holds.passed;
+      reported = holds.reported;
+      asked = holds.asked;
     }
 
 -- The server has accepted this for a stream: it answers what the client has accepted for it, and

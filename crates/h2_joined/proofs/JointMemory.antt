@@ -2,7 +2,7 @@
 -- was not in any act.
 use Rattle.h2_joined.proofs.Names
 use Names.{suc, take, drop, Result, Ok, Err, refl, ap, subst, ◌∙◌, Code, InternalError, Values, Act}
-use Names.{Answer, Number, Count, Done, OutOfMemory, Refused, Open, SendFields, Refuse, PutOut, Log}
+use Names.{Answer, Number, Count, Done, OutOfMemory, Refused, SendFields, Refuse, PutOut, Log}
 use Names.{MayAnswer, with_call, log_after_take, Took, FieldsEvent, Said, Malformed}
 use Names.{EndRefusal, EndLog, EndAnswer, EndFailed, EndMayTake, hands_nothing, hands_out}
 use Names.{refusal_fails, runs_out_of_memory, memory_fails, Side, Acted, Doing, JointEnd, Made}
@@ -17,7 +17,8 @@ use Rattle.h2_ends.specs.EndCalls.{opened_with, answered_with, answer_reads, beg
 use Rattle.h2_laws_pair.proofs.StepCalls.{call_failed}
 use Rattle.h2_joined.proofs.JointHolds.{ActHadMemory, AllHadMemory}
 use Rattle.h2_joined.proofs.JointCalls.{IsOrdinary, answers_in_memory}
-use Rattle.h2_joined.proofs.JointChains.{KeptByCalls, holds_by_pump, holds_by_release}
+use Rattle.h2_joined.proofs.JointChains.{KeptByCalls, holds_by_pump, holds_by_pump_some}
+use Rattle.h2_joined.proofs.JointChains.{holds_by_release}
 use Rattle.h2_joined.proofs.JointChains.{holds_by_refused_ask, holds_by_refused_reply}
 use Rattle.h2_joined.proofs.JointChains.{holds_by_refused_body, holds_by_refused_trailers}
 use Rattle.h2_joined.specs.declared.act.Acted.TheVariants as acted
@@ -102,6 +103,9 @@ act_keeps one other _ _ _ _ code (joints.sends_trailers id list result after typ
     trailers_keep code one.happened after id list result typed may failed
 act_keeps one other _ _ _ _ code (joints.pumps result after may) failed =
     holds_by_pump (HasFailed code) (failed_kept code) one.happened after result may failed
+act_keeps one other _ _ _ _ code (joints.pumps_some most result after may) failed =
+    holds_by_pump_some (HasFailed code) (failed_kept code) (λ end turn is. is) most one.happened
+    after result may failed
 act_keeps one other _ _ _ _ code (joints.releases_all result after may) failed =
     holds_by_release (HasFailed code) (failed_kept code) one.happened after result may failed
 act_keeps one other _ _ _ _ code (joints.calls act answer call typed may) failed =
@@ -133,6 +137,7 @@ other_stays one other _ _ _ _ (joints.begins_answer id head result after small t
 other_stays one other _ _ _ _ (joints.sends_body id octets ends result after typed may) = refl
 other_stays one other _ _ _ _ (joints.sends_trailers id list result after typed may) = refl
 other_stays one other _ _ _ _ (joints.pumps result after may) = refl
+other_stays one other _ _ _ _ (joints.pumps_some most result after may) = refl
 other_stays one other _ _ _ _ (joints.releases_all result after may) = refl
 other_stays one other _ _ _ _ (joints.calls act answer call typed may) = refl
 other_stays one other _ _ _ _ (joints.moves count answer typed may) = refl
@@ -232,6 +237,8 @@ act_fails one other _ _ _ _ code (joints.sends_body id octets ends result after 
 act_fails one other _ _ _ _ code (joints.sends_trailers id list result after typed may) is =
     absurd (done_is_none result code is)
 act_fails one other _ _ _ _ code (joints.pumps result after may) is =
+    absurd (count_is_none result code is)
+act_fails one other _ _ _ _ code (joints.pumps_some most result after may) is =
     absurd (count_is_none result code is)
 act_fails one other _ _ _ _ code (joints.releases_all result after may) is =
     absurd (done_is_none result code is)

@@ -27,7 +27,8 @@ use Rattle.h2_laws_pair.specs.Tokens.{at_once}
 use Rattle.h2_ends.specs.Ends.{replaced}
 use Rattle.h2_ends.specs.EndCalls.{answer_reads, begun, end_with_more}
 use Rattle.h2_ends.proofs.PartSends.{one_said, replaced_here, replaced_elsewhere}
-use Rattle.h2_joined.proofs.JointChains.{KeptByCalls, holds_by_pump, holds_by_release}
+use Rattle.h2_joined.proofs.JointChains.{KeptByCalls, KeptByTurn, holds_by_pump}
+use Rattle.h2_joined.proofs.JointChains.{holds_by_pump_some, holds_by_release}
 use Rattle.h2_joined.proofs.JointChains.{holds_by_refused_ask, holds_by_refused_reply}
 use Rattle.h2_joined.proofs.JointChains.{holds_by_refused_body, holds_by_refused_trailers}
 use Rattle.h2_joined.proofs.HoldsSides.{one_role}
@@ -68,6 +69,10 @@ places_with_log : (role : Role) (end : EndLog) (log : Log) → log.role ≡ end.
     → KeepsPlaces role end → KeepsPlaces role (end_with_log end log)
 places_with_log role end log same keeps =
     record { role_is = same ∙ keeps.role_is; placed = keeps.placed; final = keeps.final }
+
+places_turned : (role : Role) → KeptByTurn (KeepsPlaces role)
+places_turned role end turn keeps =
+    record { role_is = keeps.role_is; placed = keeps.placed; final = keeps.final }
 
 -- and where something is.
 places_with : (role : Role) (end : EndLog) (log : Log) (handed : Handed)
@@ -287,6 +292,11 @@ act_places role peer one other _ _ _ _ (joints.sends_trailers id list result aft
     there = (trailers_places role one.happened after id list result typed may keeps, there)
 act_places role peer one other _ _ _ _ (joints.pumps result after may) keeps there = (
   holds_by_pump (KeepsPlaces role) (call_places role) one.happened after result may keeps,
+  there,
+)
+act_places role peer one other _ _ _ _ (joints.pumps_some most result after may) keeps there = (
+  holds_by_pump_some (KeepsPlaces role) (call_places role) (places_turned role) most one.happened
+      after result may keeps,
   there,
 )
 act_places role peer one other _ _ _ _ (joints.releases_all result after may) keeps there = (

@@ -1,7 +1,7 @@
 -- What an end was given to say breaks no rule so far, as it is begun and with each part more.
 use Rattle.h2_joined.proofs.Names
-use Names.{◌≡◌, ◌≤◌, ◌+◌, ◌==◌, ℕ, Bool, true, false, List, [], ◌++◌, length, take, Option, Some}
-use Names.{None, refl, sym, ap, ◌∙◌, subst, arith, Field, Reads, Responses, Said}
+use Names.{◌≡◌, ◌≤◌, ◌+◌, ◌==◌, ℕ, Bool, true, false, List, ◌++◌, length, take, Option, Some}
+use Names.{None, refl, subst, arith, Field, Reads, Responses, Said}
 use Names.{broken_by_request, broken_by_response, take_all, length-take, SentMessage, IsSoundSaid}
 use Names.{length-append, if◌then◌else◌}
 use Rattle.std.specs.Prelude.{◌&&◌}
@@ -13,7 +13,7 @@ use Rattle.h2_message.specs.Lengths.{length_to_send, breaks_length, broken_by_he
 use Rattle.h2_message.specs.declared.reading.Reads.TheVariants.{Requests}
 use Rattle.h2_message.specs.Lengths.{broken_by_trailers}
 use Rattle.h2_message.specs.Messages.{first_broken, trailer_rules, trailer_fields}
-use Rattle.h2_laws_pair.specs.Tokens.{Form, AtOnce, Begun, Ended, at_once}
+use Rattle.h2_laws_pair.specs.Tokens.{Begun, Ended, at_once}
 use Rattle.h2_ends.specs.EndCalls.{begun, with_octets, with_trailers, breaks_with}
 use Rattle.h2_ends.specs.SoundSaid.{IsSoundForm}
 use Rattle.h2_message.proofs.ReadingRules.{none_hold, none_broken}

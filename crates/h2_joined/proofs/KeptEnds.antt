@@ -7,6 +7,13 @@ use Names.{hands_out, refusal_fails, runs_out_of_memory, pumps_no_more, pumps_da
 use Names.{data_refused, trailers_refused, Releases, releases_no_more, releases_one}
 use Names.{releases_refused, MayAsk, MayReply, MaySendBody, MaySendTrailers, MayPump, MayReleaseAll}
 use Names.{IsUnchanged, Pumps}
+use Rattle.std.specs.Prelude.{suc}
+use Rattle.h2_ends.specs.Passes.{Halt, Stopped, Shares, PassesOver, Passes, end_with_turn, numbers}
+use Rattle.h2_ends.specs.Passes.{share_size, shares_octets, shares_some, share_is_cut, shares_rest}
+use Rattle.h2_ends.specs.Passes.{shares_trailers, octets_refused, passes_no_more}
+use Rattle.h2_ends.specs.Passes as turns
+use Rattle.h2_ends.specs.Passes.{passes_on, passes_halt, passes_part, passes_round}
+unfoldable use Rattle.h2_ends.specs.Passes.{MayPumpSome}
 use Names.{◌≡◌, ◌==◌, ℕ, Bool, true, List, length, take, Some, None, fails, passes, refuses}
 use Names.{is_begun, said_for, SendFields, Refused, with_call, end_with_log}
 use Rattle.std.specs.Prelude.{◌&&◌}
@@ -59,6 +66,75 @@ pumped_says before (Ok count) after may =
 pumped_says before (Err (refusals.Conn reasons.Closed)) after may = says_itself _ _ may.1
 pumped_says before (Err (refusals.Conn reasons.Memory)) after may = pump_says _ may.1 _ _ may.2
 pumped_says before (Err other) after may = absurd may
+
+share_says : (most id : ℕ) (before : EndLog) (count : ℕ) (halt : Option Halt) (after : EndLog)
+    → Shares most id before count halt after → SaysNothing before after
+share_says most id _ _ _ _ (shares_octets end octets ends sent typed waits may all more) =
+    record { accepted = refl; handed = refl }
+share_says most id _ _ _ _ (shares_some end octets ends sent typed waits may fewer not_over) =
+    record { accepted = refl; handed = refl }
+share_says most id _ _ _ _ (share_is_cut end octets ends sent typed waits may fewer over) =
+    record { accepted = refl; handed = refl }
+share_says most id _ _ _ after (shares_rest end octets halt _ typed waits may few rest) =
+    let says = share_says most id _ 0 halt after rest in
+    record { accepted = says.accepted; handed = says.handed }
+share_says most id _ _ _ _ (shares_trailers end list typed wait may) =
+    record { accepted = refl; handed = refl }
+share_says most id _ _ _ _ (octets_refused end octets ends refusal typed waits may) =
+    record { accepted = refl; handed = refl }
+share_says most id _ _ _ _ (turns.list_refused end list refusal typed wait may) =
+    record { accepted = refl; handed = refl }
+
+span_says : (sizes : ℕ → ℕ) (before : EndLog) (low high count : ℕ) (halt : Option (ℕ × Halt))
+    (after : EndLog) → PassesOver sizes before low high count halt after → SaysNothing before after
+span_says sizes _ _ _ _ _ _ (passes_no_more end low high none) =
+    record { accepted = refl; handed = refl }
+span_says sizes _ _ _ _ _ after
+    (passes_on end between low high id sent more halt _ first share rest) =
+    let one = share_says (sizes id) id end sent None between share in
+    let others = span_says sizes between (suc id) high more halt after rest in
+    record {
+      accepted = others.accepted ∙ one.accepted;
+      handed = others.handed ∙ one.handed;
+    }
+span_says sizes _ _ _ _ _ after (passes_halt end low high id sent halt _ first share) =
+    share_says (sizes id) id end sent (Some halt) after share
+
+pass_says : (sizes : ℕ → ℕ) (before : EndLog) (count : ℕ) (halt : Option (ℕ × Halt))
+    (after : EndLog)
+    → Passes sizes before count halt after → SaysNothing before after
+pass_says sizes before _ _ after (passes_part count id halt _ part) =
+    span_says sizes before before.turn.id numbers count (Some (id, halt)) after part
+pass_says sizes before _ _ after (passes_round above below between halt _ one two) =
+    let first = span_says sizes before before.turn.id numbers above None between one in
+    let second = span_says sizes between 0 before.turn.id below halt after two in
+    record {
+      accepted = second.accepted ∙ first.accepted;
+      handed = second.handed ∙ first.handed;
+    }
+
+turned_says : (before passed after : EndLog) (halt : Option (ℕ × Halt))
+    → after ≡ end_with_turn passed halt → SaysNothing before passed → SaysNothing before after
+turned_says before passed after halt same says =
+    record {
+      accepted = ap (λ (end : EndLog). end.accepted) same ∙ says.accepted;
+      handed = ap (λ (end : EndLog). end.handed) same ∙ says.handed;
+    }
+
+pub passed_says : (most : ℕ) (before : EndLog) (result : Result ℕ EndRefusal) (after : EndLog)
+    → MayPumpSome most before result after → SaysNothing before after
+unfolding MayPumpSome
+passed_says most before (Ok count) after (up, halt, passed, went, calm, same) =
+    turned_says before passed after halt same
+    (pass_says (share_size before.turn most) before count halt passed went)
+passed_says most before (Err (refusals.Conn reasons.Closed)) after (down, same) =
+    says_itself _ _ same
+passed_says most before (Err (refusals.Conn reasons.Memory)) after
+    (up, count, id, rest, passed, went, same) =
+    turned_says before passed after (Some (id, Stopped reasons.Memory rest)) same
+    (pass_says (share_size before.turn most) before count
+    (Some (id, Stopped reasons.Memory rest)) passed went)
+passed_says most before (Err other) after may = absurd may
 
 release_says : (before : EndLog) (refused : Option Refusal) (after : EndLog)
     → Releases before refused after → SaysNothing before after

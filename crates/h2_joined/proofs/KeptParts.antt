@@ -1,8 +1,8 @@
 -- Where what was accepted for a stream is kept, and what is shown of it with a part more.
 use Rattle.h2_joined.proofs.Names
-use Names.{◌≡◌, ◌≢◌, ◌==◌, ◌+◌, ◌-◌, ◌<◌, ◌≤◌, ℕ, suc, Bool, List, [], ◌∷◌, ◌++◌, length, take}
+use Names.{◌≡◌, ◌≢◌, ◌-◌, ◌<◌, ◌≤◌, ℕ, Bool, List, [], ◌∷◌, ◌++◌, length, take}
 use Names.{drop}
-use Names.{reverse, Option, Some, None, refl, sym, ap, ap₂, ◌∙◌, subst, arith, inl, inr, cases_Bool}
+use Names.{reverse, Some, None, refl, sym, ap, ap₂, ◌∙◌, subst, arith}
 use Names.{AllByRecursion, Accepted, SentMessage, Shown, accepted_shown, take-append-drop}
 use Names.{reverse-append, map-append, append_assoc, length-append}
 use Names.{Result, Ok, Err, true, if◌then◌else◌}

@@ -4,7 +4,7 @@ use Names.{Result, Ok, Err, sym, subst, Role, Values, Act, ResetStream, SendPing
 use Names.{ChangeSettings, PutOut, Done, IsLog, opened_is_new, SentMessage, Option, Malformed}
 use Names.{EndRefusal, EndLog, EndTook, EndFailed, KeepsOrder, no_part_next, Acted, Doing, JointEnd}
 use Names.{Delivery, IsDelivered, MayDo, IsControlCall, MayAsk, MayReply, ℕ, List, Answer, Said}
-use Names.{◌≡◌, ◌≢◌, ◌==◌, ◌++◌, [], ◌∷◌, inl, inr, ap, ◌∙◌, refl, Bool, true, false, take, length}
+use Names.{◌≡◌, ◌≢◌, ◌==◌, ◌++◌, [], inl, inr, ap, ◌∙◌, refl, Bool, true, false, take, length}
 use Names.{append-nil, both_ways, cases_eq, Field, Token, Reads, Count, SendFields, IsTypedAct}
 use Names.{MaySendBody, MaySendTrailers, MayAnswer, with_call, tokens_out, said_for, said_tokens}
 use Names.{end_tokens, tokens_given, is_begun, SendsInOrder, end_with_log, end_with_said, EndAnswer}
@@ -12,7 +12,7 @@ use Names.{EndMayTake, Some, None}
 use Rattle.std.specs.Prelude.{◌&&◌}
 use Rattle.h2_message.specs.declared.reading.Reads.TheVariants.{Requests}
 use Rattle.h2_spec_log.specs.Acts.{SendData}
-use Rattle.h2_laws_pair.specs.Tokens.{Begun, at_once, tokens_of_call, trailers_tokens}
+use Rattle.h2_laws_pair.specs.Tokens.{at_once, tokens_of_call, trailers_tokens}
 use Rattle.h2_ends.specs.EndCalls.{answer_reads, begun, end_with_more, with_octets, with_trailers}
 use Rattle.h2_ends.proofs.EndOrder.{order_by_call, order_by_head, order_by_take, unsaid_unsent}
 use Rattle.h2_ends.proofs.EndTokens.{SendsNoPart, call_tokens, call_adds_none}
@@ -26,9 +26,13 @@ use Rattle.h2_ends.proofs.PartSends.{trailers_more}
 use Rattle.h2_joined.proofs.BegunOut.{SendsBegun, BeginsOut, begun_by_call, begun_by_head}
 use Rattle.h2_joined.proofs.BegunOut.{begun_by_more, begun_by_take, begun_by}
 use Rattle.h2_joined.proofs.JointChains.{KeptByCalls, holds_by_pump, holds_by_release}
+use Rattle.h2_joined.proofs.JointChains.{KeptByTurn, holds_by_pump_some}
+use Rattle.h2_joined.proofs.BegunOut.{begun_turned}
+use Rattle.h2_ends.proofs.EndOrder.{order_turned}
 use Rattle.h2_joined.proofs.JointChains.{holds_by_refused_ask, holds_by_refused_reply}
 use Rattle.h2_joined.proofs.JointChains.{holds_by_refused_body, holds_by_refused_trailers}
 use Rattle.h2_joined.proofs.JointOrder.{unused_unsent}
+use Rattle.h2_spec_log.specs.Acts.{Release}
 use Rattle.h2_joined.specs.Joints as joints
 
 -- What was sent and handed out at an end keeps the order, and of what was begun all was sent.
@@ -42,6 +46,14 @@ said_called end act answer is ordinary typed may next =
     record {
       order = order_by_call end act answer is.order may next;
       begun = begun_by_call end act answer is.begun next;
+    }
+
+-- wherever the next pass begins,
+said_turned : KeptByTurn KeepsSaid
+said_turned end turn is =
+    record {
+      order = order_turned end turn is.order;
+      begun = begun_turned end turn is.begun;
     }
 
 -- so does one that sends the head of what is given, where nothing was sent on its stream before,
@@ -183,6 +195,7 @@ said_trailers before after id list (Err refusal) is typed may =
 
 -- A call of the connection that is an act sends no part of a message.
 no_part_of_act : (act : Act) → IsControlCall act → SendsNoPart act
+no_part_of_act (Release id count) call = tt
 no_part_of_act (ResetStream id code) call = tt
 no_part_of_act (SendPing octets) call = tt
 no_part_of_act SendGoAway call = tt
@@ -251,6 +264,8 @@ act_keeps_said role values one other _ _ _ _ log is
     said_trailers one.happened after id list result is typed may
 act_keeps_said role values one other _ _ _ _ log is (joints.pumps result after may) =
     holds_by_pump KeepsSaid said_called one.happened after result may is
+act_keeps_said role values one other _ _ _ _ log is (joints.pumps_some most result after may) =
+    holds_by_pump_some KeepsSaid said_called said_turned most one.happened after result may is
 act_keeps_said role values one other _ _ _ _ log is (joints.releases_all result after may) =
     holds_by_release KeepsSaid said_called one.happened after result may is
 act_keeps_said role values one other _ _ _ _ log is (joints.calls act answer call typed may) =

@@ -9,7 +9,7 @@ use Rattle.h2_spec_log.specs.declared.role.Role.{Role}
 use Rattle.h2_spec_log.specs.declared.role.Role.TheVariants.{Client, Server}
 use Rattle.h2_spec_log.specs.Acts.{Values, AreInRange, Act, Answer, IsTypedAct, Number, Count, Done}
 use Rattle.h2_spec_log.specs.Acts.{OutOfMemory, Refused, ResetStream, SendPing, SendGoAway}
-use Rattle.h2_spec_log.specs.Acts.{ChangeSettings, PutOut, SendFields, SendData}
+use Rattle.h2_spec_log.specs.Acts.{ChangeSettings, PutOut, SendFields, SendData, Release}
 use Rattle.h2_spec_log.specs.LogCalls.{MayAnswer, with_call}
 use Rattle.h2_message.specs.Messages.{SentMessage}
 use Rattle.h2_laws_pair.specs.Pairs.{Half, given_since}
@@ -19,6 +19,7 @@ use Rattle.h2_ends.specs.Ends.{EndLog, Handed, EndTook, EndFailed}
 use Rattle.h2_ends.specs.EndTakes.{EndMayTake, end_with_log}
 use Rattle.h2_ends.specs.EndCalls.{MayRequest, MayRespond, MayPump, MayReleaseAll, MayBegin}
 use Rattle.h2_ends.specs.EndCalls.{MayBeginAnswer, MaySendBody, MaySendTrailers}
+use Rattle.h2_ends.specs.Passes.{MayPumpSome}
 use Rattle.hpack.specs.declared.types.field.Field.{Field}
 use Rattle.h2_ends.specs.Represents.{new_end_log}
 use Rattle.h2_joined.specs.declared.act.Side.{Side}
@@ -37,10 +38,11 @@ pub data Doing : Type 0 where
   -- octets of the body of a message that was begun are sent, with its end or without; or trailers
   SendsBody : (id : ℕ) (octets : List ℕ) (ends : Bool) → Doing
   SendsTrailers : (id : ℕ) (list : List Field) → Doing
-  -- `pump` and `release_all`
+  -- `pump`, `pump_some` and `release_all`
   Pumps : Doing
+  PumpsSome : (most : ℕ) → Doing
   ReleasesAll : Doing
-  -- a call of the connection: of `reset`, `ping`, `go_away` or `change_settings`
+  -- a call of the connection: of `release`, `reset`, `ping`, `go_away` or `change_settings`
   Calls : (act : Act) → Doing
   -- octets of its output are put on the pipe to the other end
   Moves : (count : ℕ) → Doing
@@ -91,8 +93,9 @@ acted_as Done = acted.Done
 acted_as OutOfMemory = acted.Done
 acted_as (Refused refusal) = acted.Refused (Conn refusal)
 
--- The call is one of `reset`, `ping`, `go_away` and `change_settings`.
+-- The call is one of `release`, `reset`, `ping`, `go_away` and `change_settings`.
 abbrev pub IsControlCall : Act → Type 0
+IsControlCall (Release id count) = Unit {0}
 IsControlCall (ResetStream id code) = Unit {0}
 IsControlCall (SendPing octets) = Unit {0}
 IsControlCall SendGoAway = Unit {0}
@@ -171,6 +174,10 @@ pub data MayDo (one other : JointEnd) : Doing → Acted → (new_one new_other :
         (with_happened one after) other
     pumps : (result : Result ℕ EndRefusal) (after : EndLog) → MayPump one.happened result after
         → MayDo one other Pumps (acted_by acted.Count result) (with_happened one after) other
+    pumps_some : (most : ℕ) (result : Result ℕ EndRefusal) (after : EndLog)
+        → MayPumpSome most one.happened result after
+        → MayDo one other (PumpsSome most) (acted_by acted.Count result) (with_happened one after)
+        other
     releases_all : (result : Result (Unit {0}) EndRefusal) (after : EndLog)
         → MayReleaseAll one.happened result after
         → MayDo one other ReleasesAll (acted_by (λ done. acted.Done) result)

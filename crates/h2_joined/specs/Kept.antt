@@ -20,7 +20,7 @@ use Rattle.h2_joined.specs.declared.pipe.Pipe.{Pipe}
 use Rattle.h2_joined.specs.declared.store.Store.{Store}
 use Rattle.h2_joined.specs.declared.joined.Joined.{Joined}
 use Rattle.h2_joined.specs.Joints.{Doing, Requests, Responds, Begins, BeginsAnswer, SendsBody}
-use Rattle.h2_joined.specs.Joints.{SendsTrailers, Pumps, ReleasesAll, Calls, Moves}
+use Rattle.h2_joined.specs.Joints.{SendsTrailers, Pumps, PumpsSome, ReleasesAll, Calls, Moves}
 use Rattle.h2_joined.specs.Joints.{Delivers, JointEnd, Made, IsJoint, IsNextAct}
 use Rattle.h2_joined.specs.Stored.{events_kept, AreStored}
 
@@ -45,9 +45,11 @@ side_of (acts.BeginResponse id head) = sides.Server
 side_of (acts.SendBody side id octets ends) = side
 side_of (acts.SendTrailers side id trailers) = side
 side_of (acts.Pump side) = side
+side_of (acts.PumpSome side most) = side
 side_of (acts.Move from count) = from
 side_of (acts.Deliver to count) = to
 side_of (acts.ReleaseAll side) = side
+side_of (acts.Release side id count) = side
 side_of (acts.Reset side id code) = side
 side_of (acts.Ping side octets) = side
 side_of (acts.GoAway side) = side
@@ -62,9 +64,11 @@ doing_of (acts.BeginResponse id head) = BeginsAnswer id head.items
 doing_of (acts.SendBody side id octets ends) = SendsBody id octets.items ends
 doing_of (acts.SendTrailers side id trailers) = SendsTrailers id trailers.items
 doing_of (acts.Pump side) = Pumps
+doing_of (acts.PumpSome side most) = PumpsSome most
 doing_of (acts.Move from count) = Moves count
 doing_of (acts.Deliver to count) = Delivers count
 doing_of (acts.ReleaseAll side) = ReleasesAll
+doing_of (acts.Release side id count) = Calls (log.Release id count)
 doing_of (acts.Reset side id code) = Calls (log.ResetStream id code)
 doing_of (acts.Ping side octets) = Calls (log.SendPing octets)
 doing_of (acts.GoAway side) = Calls log.SendGoAway

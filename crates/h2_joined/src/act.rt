@@ -56,6 +56,14 @@ pub enum JointAct {
     },
     /// An end sends what windows let through: [`Client::pump`](h2_ends::Client::pump).
     Pump(Side),
+    /// An end sends a share of each stream in turn:
+    /// [`Client::pump_some`](h2_ends::Client::pump_some).
+    PumpSome {
+        /// The end.
+        side: Side,
+        /// How many octets a share has at most.
+        most: usize,
+    },
     /// Octets of an end's output are put on the pipe to the other end.
     Move {
         /// The end whose output it is.
@@ -74,6 +82,15 @@ pub enum JointAct {
     /// An end returns the credit that it owes:
     /// [`Client::release_all`](h2_ends::Client::release_all).
     ReleaseAll(Side),
+    /// An end returns credit of one stream: [`Client::release`](h2_ends::Client::release).
+    Release {
+        /// The end.
+        side: Side,
+        /// The stream.
+        id: u32,
+        /// How many octets.
+        count: u32,
+    },
     /// An end resets a stream: [`Client::reset`](h2_ends::Client::reset).
     Reset {
         /// The end.
@@ -107,11 +124,11 @@ pub enum JointAct {
 pub enum Acted {
     /// A Request was sent, or its head by a Begin, on this stream.
     Id(u32),
-    /// How many octets a Pump or a SendBody has sent of bodies, a Move has put on the pipe, or a
-    /// Deliver has delivered.
+    /// How many octets a Pump, a PumpSome or a SendBody has sent of bodies, a Move has put on the
+    /// pipe, or a Deliver has delivered.
     Count(usize),
-    /// A Respond, BeginResponse, SendTrailers, ReleaseAll, Reset, Ping, GoAway or ChangeSettings
-    /// was done.
+    /// A Respond, BeginResponse, SendTrailers, ReleaseAll, Release, Reset, Ping, GoAway or
+    /// ChangeSettings was done.
     Done,
     /// The end has refused it: any act but a Deliver.
     Refused(EndRefusal),

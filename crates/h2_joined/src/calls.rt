@@ -3,12 +3,13 @@
 ghost use Rattle.std.specs.Prelude.{◌≡◌};
 ghost use Rattle.h2_flow.specs.ConfigValues.{values_of};
 ghost use Rattle.h2_spec_log.specs.Acts.{ResetStream, SendPing, SendGoAway, ChangeSettings, Done};
+ghost use Rattle.h2_spec_log.specs.Acts.{Release};
 ghost use Rattle.h2_conn.specs.Conn.{answer_by};
 ghost use Rattle.h2_message.specs.Values.{message_value};
 ghost use Rattle.h2_joined.specs.declared.act.Side.TheVariants.{Client, Server};
 ghost use Rattle.h2_joined.specs.declared.act.Acted.TheVariants as acted;
 ghost use Rattle.h2_joined.specs.Joints.{Requests, Responds, Pumps, ReleasesAll, Calls, acted_as};
-ghost use Rattle.h2_joined.specs.Joints.{acted_by};
+ghost use Rattle.h2_joined.specs.Joints.{acted_by, PumpsSome};
 ghost use Rattle.h2_joined.specs.Kept.{MakesAct, made};
 
 use crate::act::{Acted, Side};
@@ -78,6 +79,17 @@ impl Joined {
         })
     }
 
+    // rule: joined (own) An act is the call of its name at its end
+    /// An end sends a share of each stream in turn.
+    pub(crate) fn pump_some(&mut self, side: Side, most: usize) -> Acted
+        ensures { MakesAct self.old (made side (PumpsSome most) result) self.new }
+    {
+        counted(match side {
+            Side::Client => self.client.pump_some(most),
+            Side::Server => self.server.pump_some(most),
+        })
+    }
+
     /// An end returns the credit that it owes.
     pub(crate) fn release_all(&mut self, side: Side) -> Acted
         ensures { MakesAct self.old (made side ReleasesAll result) self.new }
@@ -85,6 +97,16 @@ impl Joined {
         released(match side {
             Side::Client => self.client.release_all(),
             Side::Server => self.server.release_all(),
+        })
+    }
+
+    /// An end returns credit of one stream.
+    pub(crate) fn release(&mut self, side: Side, id: u32, count: u32) -> Acted
+        ensures { MakesAct self.old (made side (Calls (Release id count)) result) self.new }
+    {
+        done(match side {
+            Side::Client => self.client.release(id, count),
+            Side::Server => self.server.release(id, count),
         })
     }
 

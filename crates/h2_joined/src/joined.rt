@@ -58,8 +58,8 @@ impl Joined {
     // contract: joined (own) A delivery without memory stops before a call and loses nothing
     /// Makes an act, and returns its result: that of the end's call of the same name; for
     /// [`JointAct::Move`] and [`JointAct::Deliver`] how many octets were moved and delivered. A
-    /// refused act has changed nothing, except what a `release_all` or a `pump` did before it was
-    /// refused.
+    /// refused act has changed nothing, except what a `release_all`, a `pump` or a `pump_some` did
+    /// before it was refused.
     ///
     /// A delivery makes room for the largest event that a call of `take` can return, and then calls
     /// it. Where memory is refused it stops before that call and returns [`Acted::Memory`]: the
@@ -84,9 +84,11 @@ impl Joined {
                 self.send_trailers(*side, *id, trailers)
             }
             JointAct::Pump(side) => self.pump(*side),
+            JointAct::PumpSome { side, most } => self.pump_some(*side, *most),
             JointAct::Move { from, count } => self.put_on_pipe(*from, *count),
             JointAct::Deliver { to, count } => self.deliver(*to, *count),
             JointAct::ReleaseAll(side) => self.release_all(*side),
+            JointAct::Release { side, id, count } => self.release(*side, *id, *count),
             JointAct::Reset { side, id, code } => self.reset(*side, *id, *code),
             JointAct::Ping { side, octets } => self.ping(*side, *octets),
             JointAct::GoAway(side) => self.go_away(*side),

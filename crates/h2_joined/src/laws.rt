@@ -13,7 +13,7 @@ ghost use Rattle.h2_ends.specs.Ends.{said_for};
 ghost use Rattle.h2_ends.specs.MessageTokens.{parts_heard, parts_said, IsPrefixOfParts};
 ghost use Rattle.h2_joined.specs.declared.act.Side.TheVariants.{Client, Server};
 ghost use Rattle.h2_joined.specs.Joints.{JointEnd, Made, IsJoint, MemorySufficed, half_of};
-ghost use Rattle.h2_joined.specs.Headline.{AreQuiet, WasResetIn, ReportsNoFault};
+ghost use Rattle.h2_joined.specs.Headline.{AreQuiet, WasResetIn, ReportsNoFault, HoldsTheRest};
 
 // contract: joined (own) What one end has handed out is a prefix of what the other accepted
 /// Two joined ends with their pipes are a pair that comes about, and so all laws of pairs hold of
@@ -118,6 +118,30 @@ pub fn connection_windows_are_conserved()
         → AreUnderWay client.happened.log server.happened.log back
         → BoundsStreams client.happened.log bound
         → ConservesConnection server.happened.log client.happened.log way back bound }
+{}
+
+// contract: joined (own) What slow readers hold of the window is all that others lack
+/// What slow readers hold is all that the others lack, both ways, as long as the reader has not
+/// failed: once nothing is under way between the ends and nothing is to be returned to the
+/// connection's window, what the writer may send on the connection and what the reader owes on its
+/// streams are 65,535 octets together (RFC 9113, section 6.9).
+pub fn held_credit()
+    ensures to_server { (client_values server_values : Values) (made : List Made)
+        (client server : JointEnd) (bound : ℕ)
+        → IsJoint client_values server_values made client server
+        → server.happened.log.failed ≡ None
+        → AreUnderWay client.happened.log server.happened.log []
+        → AreUnderWay server.happened.log client.happened.log []
+        → server.happened.log.unreturned ≡ 0 → BoundsStreams server.happened.log bound
+        → HoldsTheRest client.happened.log server.happened.log bound }
+    ensures to_client { (client_values server_values : Values) (made : List Made)
+        (client server : JointEnd) (bound : ℕ)
+        → IsJoint client_values server_values made client server
+        → client.happened.log.failed ≡ None
+        → AreUnderWay server.happened.log client.happened.log []
+        → AreUnderWay client.happened.log server.happened.log []
+        → client.happened.log.unreturned ≡ 0 → BoundsStreams client.happened.log bound
+        → HoldsTheRest server.happened.log client.happened.log bound }
 {}
 
 /// Nothing is lost of the window of a stream that is active at the writer, that the reader has not

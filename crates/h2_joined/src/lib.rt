@@ -28,7 +28,7 @@ pub use joined::Joined;
 pub use kept::Accepted;
 pub use laws::{
     connection_windows_are_conserved, handed_out_is_a_prefix, header_tables_are_in_step,
-    joined_ends_are_a_pair, no_fault_is_reported, quiet_ends_have_all, quiet_ends_hold_nothing,
-    stream_windows_are_conserved,
+    held_credit, joined_ends_are_a_pair, no_fault_is_reported, quiet_ends_have_all,
+    quiet_ends_hold_nothing, stream_windows_are_conserved,
 };
 pub use running::{headline, run};

@@ -54,6 +54,7 @@ pub(crate) enum Call {
         id: u32,
     },
     Pump,
+    PumpSome(usize),
     ReleaseAll,
 }
 
@@ -115,6 +116,7 @@ fn of_client(client: &mut Client, call: Call, given: &mut Given, record: &mut Re
             None => Err(EndRefusal::Answered),
         },
         Call::Pump => pumped(client.pump()),
+        Call::PumpSome(most) => pumped(client.pump_some(most)),
         Call::ReleaseAll => released(client.release_all()),
         _ => Err(EndRefusal::NotAsked),
     }
@@ -134,6 +136,7 @@ fn of_server(server: &mut Server, call: Call, given: &mut Given, record: &mut Re
             None => Err(EndRefusal::Answered),
         },
         Call::Pump => pumped(server.pump()),
+        Call::PumpSome(most) => pumped(server.pump_some(most)),
         Call::ReleaseAll => released(server.release_all()),
         _ => Err(EndRefusal::NotAsked),
     }
@@ -173,7 +176,7 @@ pub(crate) fn make(end: &mut End, call: Call, given: &mut Given, record: &mut Re
 
 /// Whether a call that is refused memory may have done a part of what it does.
 pub(crate) fn is_done_in_parts(call: Call) -> bool {
-    matches!(call, Call::Pump | Call::ReleaseAll)
+    matches!(call, Call::Pump | Call::PumpSome(_) | Call::ReleaseAll)
 }
 
 /// Whether a call is [`Conn::refuse`], which is never refused memory: the connection fails instead.

@@ -49,7 +49,10 @@ fn note_half(joined: &Joined, side: Side, record: &mut Record) {
 fn is_done_in_parts(act: &JointAct) -> bool {
     matches!(
         act,
-        JointAct::Pump(_) | JointAct::ReleaseAll(_) | JointAct::Deliver { .. }
+        JointAct::Pump(_)
+            | JointAct::PumpSome { .. }
+            | JointAct::ReleaseAll(_)
+            | JointAct::Deliver { .. }
     )
 }
 
@@ -238,7 +241,10 @@ fn answer_second(alloc: Global, acts: &mut Vec<JointAct>) -> Result<(), AllocErr
     let (client, server) = (Side::Client, Side::Server);
     respond(1, answer(alloc, 10)?, acts)?;
     respond(3, answer(alloc, 3_000)?, acts)?;
-    acts.push(JointAct::Pump(server))?;
+    acts.push(JointAct::PumpSome {
+        side: server,
+        most: 16_384,
+    })?;
     carry(server, client, usize::MAX, acts)?;
     acts.push(JointAct::ReleaseAll(client))?;
     acts.push(JointAct::Pump(client))?;

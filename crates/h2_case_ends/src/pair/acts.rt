@@ -90,7 +90,16 @@ fn read_body(alloc: Global, words: &mut Words<'_>) -> JointAct {
 fn read_call(alloc: Global, name: &str, words: &mut Words<'_>) -> Option<JointAct> {
     let act = match name {
         "pump" => JointAct::Pump(read_side(words)),
+        "pump_some" => JointAct::PumpSome {
+            side: read_side(words),
+            most: read_count(words),
+        },
         "release_all" => JointAct::ReleaseAll(read_side(words)),
+        "release" => JointAct::Release {
+            side: read_side(words),
+            id: words.number(),
+            count: words.number(),
+        },
         "reset" => JointAct::Reset {
             side: read_side(words),
             id: words.number(),

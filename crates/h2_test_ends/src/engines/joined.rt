@@ -4,8 +4,8 @@ use super::acts::acts;
 use h2_joined::{
     Acted, Code, Config, EndEvent, EndRefusal, HandedEvents, Joined, JointAct, Refusal, Side,
     connection_windows_are_conserved, handed_out_is_a_prefix, header_tables_are_in_step, headline,
-    joined_ends_are_a_pair, no_fault_is_reported, quiet_ends_have_all, quiet_ends_hold_nothing,
-    run, stream_windows_are_conserved,
+    held_credit, joined_ends_are_a_pair, no_fault_is_reported, quiet_ends_have_all,
+    quiet_ends_hold_nothing, run, stream_windows_are_conserved,
 };
 use std::alloc::{AllocError, Global};
 
@@ -119,7 +119,9 @@ fn side_of(act: &JointAct) -> Side {
         | JointAct::SendBody { side, .. }
         | JointAct::SendTrailers { side, .. }
         | JointAct::Pump(side)
+        | JointAct::PumpSome { side, .. }
         | JointAct::ReleaseAll(side)
+        | JointAct::Release { side, .. }
         | JointAct::Reset { side, .. }
         | JointAct::Ping { side, .. }
         | JointAct::GoAway(side)
@@ -174,11 +176,13 @@ fn a_refused_allocation_at_a_delivery(rt: HostRuntime) {
 }
 
 // rule: joined (own) The header tables of joined ends agree, no window is lost
+// rule: joined (own) What slow readers hold of the window is all that others lack
 #[test]
 fn laws_are_called() {
     connection_windows_are_conserved();
     handed_out_is_a_prefix();
     header_tables_are_in_step();
+    held_credit();
     headline();
     joined_ends_are_a_pair();
     no_fault_is_reported();

@@ -20,7 +20,8 @@ returns-then-is_err c =
 
 pub returns-in-Ok-request : goal.returns-in-Ok-request
 returns-in-Ok-request c =
-    let one : Accepted = record { id = c.in-Ok-request.id; message = c.in-Ok.kept; begun = false } in
+    let one : Accepted = record { id = c.in-Ok-request.id; message = c.in-Ok.kept; begun = false }
+    in
     request_is_accepted c.args.self.now _ (message_value c.args.message.now) c.in-Ok-request.id one
     (rw (← c.reserve.ensures.items) c.accept.ensures.accepted)
     (record {

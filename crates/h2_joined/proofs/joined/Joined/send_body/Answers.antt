@@ -1,6 +1,6 @@
 -- By the lemmas on octets that are sent.
 use Rattle.h2_joined.proofs.Names
-use Names.{◌≡◌, ◌==◌, ℕ, List, length, take, ap, ◌∙◌, refl, arith, all_octets, IsTypedAct}
+use Names.{◌≡◌, ◌==◌, ℕ, length, take, ap, ◌∙◌, refl, arith, all_octets, IsTypedAct}
 use Names.{kept_of, length-take}
 use Rattle.std.specs.Prelude.{◌&&◌}
 use Rattle.std.proofs.lemmas.List.{take_min}

@@ -1,5 +1,5 @@
 -- By the lemmas on what is kept at a place.
-use Rattle.h2_joined.proofs.Names.{◌≡◌, ◌≤◌, ◌+◌, ◌++◌, length, refl, ap, sym, ◌∙◌, arith}
+use Rattle.h2_joined.proofs.Names.{◌≤◌, ◌+◌, length, refl, sym, arith}
 use Rattle.std.specs.Prelude.{vec_len}
 use Rattle.std.specs.Vec.{vec_capacity}
 use Rattle.h2_joined.specs.Parts.{shown_with_octets}
